@@ -1,0 +1,5 @@
+pub mod Value
+pub mod Words
+pub mod Ranges
+pub mod Writing
+pub mod WordLaws

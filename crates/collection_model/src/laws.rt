@@ -1,0 +1,8 @@
+ghost use Rattle.std.specs.Prelude.{◌<◌, ◌^◌};
+ghost use Rattle.collection_model.specs.FormatNumbers.{FormatNumbers};
+ghost use Rattle.collection_model.specs.Laws.{OneCollection};
+
+/// Three byte strings spell at most one collection, in every format whose document numbers fit four bytes.
+pub fn files_spell_one_collection()
+    ensures { (format : FormatNumbers) → format.most_documents < 2 ^ 32 → OneCollection format }
+{}

@@ -1,0 +1,4 @@
+mod Rows
+pub mod Runs
+pub mod Decimals
+pub mod DigitCount

@@ -1,0 +1,50 @@
+// What a line asks.
+ghost use Rattle.std.specs.Prelude.{◌≡◌};
+ghost use Rattle.query_text.specs.Lines.{fields};
+ghost use Rattle.query_text.specs.Numbers.{numbers_of};
+ghost use Rattle.query_text.specs.Parse.{Parses, fields_query, next_query, parse_line};
+
+use crate::fields::next_field;
+use crate::numbers::next_number;
+use crate::query::{Bad, ParseError, Query};
+use std::alloc::Global;
+
+// The most bytes of a line.
+const LONGEST_LINE: usize = 65_535;
+
+// What `next` asks with the fields behind the verb.
+fn next_query(arguments: &[u8], terms: u32) -> Result<Query, Bad>
+    ensures { result ≡ next_query terms (numbers_of (fields arguments.now)) }
+{
+    let (term, arguments) = next_number(arguments).ok_or(Bad::Number)?;
+    let (doc, arguments) = next_number(arguments).ok_or(Bad::Number)?;
+    if next_field(arguments).is_some() {
+        return Err(Bad::Number);
+    }
+    if term < terms {
+        Ok(Query::Next { term, doc })
+    } else {
+        Err(Bad::Term)
+    }
+}
+
+// What the fields of a line ask.
+fn fields_query(line: &[u8], terms: u32) -> Result<Query, Bad>
+    ensures { result ≡ fields_query terms (fields line.now) }
+{
+    let (verb, arguments) = next_field(line).ok_or(Bad::Verb)?;
+    match verb {
+        b"next" => next_query(arguments, terms),
+        _ => Err(Bad::Verb),
+    }
+}
+
+/// What a line (without its newline) asks over so many terms, or the first rule that it breaks. Takes no memory.
+pub fn parse(alloc: Global, line: &[u8], terms: u32) -> Result<Query, ParseError>
+    ensures { Parses result (parse_line terms line.now) }
+{
+    if line.len() > LONGEST_LINE {
+        return Err(ParseError::Bad(Bad::Length));
+    }
+    fields_query(line, terms).map_err(ParseError::Bad)
+}
