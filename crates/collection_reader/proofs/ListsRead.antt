@@ -1,0 +1,181 @@
+-- Lemmas on the lists that were read so far: at the first, after one more, at the last, and at a refusal.
+use Rattle.std.proofs.Common.{◌≡◌, refl, sym, ap, ◌∙◌, subst, ℕ, List, [], ◌∷◌, ◌++◌, inl, inr, length, Bool, true, None, Result, Ok, Err, IfOk, Vec, arith, append_assoc}
+use Rattle.std.specs.declared.alloc.Global.{Global}
+use Rattle.std.proofs.lemmas.Result.{IfOk-at_ok}
+use Rattle.std.proofs.lemmas.List.{append-nil, length_push}
+use Rattle.std.proofs.lemmas.List.Concat.{flat_map-append}
+use Rattle.std.proofs.lemmas.List.Elements.{All-nil, All-push}
+use Rattle.collection_model.specs.FormatNumbers.{format_one}
+use Rattle.collection_model.specs.Bytes.{number_sequence}
+use Rattle.collection_model.specs.Collection.{Posting, docs_of, freqs_of, postings_of, IsPostingList}
+use Rattle.collection_model.specs.Spelling.{docs_bytes, freqs_bytes}
+use Rattle.collection_model.proofs.Lists.{docs-of_postings, freqs-of_postings}
+use Rattle.pef_io.specs.declared.fail.Slot.{Slot}
+use Rattle.pef_io.specs.Calls.{Rose}
+use Rattle.pef_io.specs.DepotState.{DepotState, OnlyReads}
+use Rattle.collection_reader.specs.declared.fault.CollError.{CollError}
+use Rattle.collection_reader.specs.declared.fault.CollError.TheVariants.{Read}
+use Rattle.collection_reader.specs.declared.phase.Phase.TheVariants.{Lists, Ended}
+use Rattle.collection_reader.specs.declared.whole.Lists.{Lists as ListVectors}
+use Rattle.collection_reader.specs.Held.{lists_held, AreAligned}
+use Rattle.collection_reader.specs.ReadCollection.{IsCollectionSlot}
+use Rattle.collection_reader.specs.Reading.{Reading, rests, AreStarted, IsReadFault, IsNextFault, OnlyReadsCollection, ReadsList, GivesList, EndsLists}
+use Rattle.collection_reader.specs.ReadLists.{AtFirstList, HaveBeenRead, ReadsLists}
+use Rattle.collection_reader.proofs.ReadsFrom.{OnlyReads-trans, OnlyReads-same}
+
+-- one more vector of documents, and one of frequencies
+pub held_push : (docs freqs : List (Vec ℕ Global)) (d f : Vec ℕ Global) → AreAligned docs freqs → lists_held (docs ++ d ∷ []) (freqs ++ f ∷ []) ≡ lists_held docs freqs ++ postings_of d.items f.items ∷ []
+held_push [] [] d f aligned = refl
+held_push [] (g ∷ freqs) d f aligned = absurd aligned
+held_push (e ∷ docs) [] d f aligned = absurd aligned
+held_push (e ∷ docs) (g ∷ freqs) d f aligned = ap (λ l. postings_of e.items g.items ∷ l) (held_push docs freqs d f aligned.1)
+
+pub aligned_push : (docs freqs : List (Vec ℕ Global)) (d f : Vec ℕ Global) → AreAligned docs freqs → length d.items ≡ length f.items → AreAligned (docs ++ d ∷ []) (freqs ++ f ∷ [])
+aligned_push [] [] d f aligned same = (same, tt)
+aligned_push [] (g ∷ freqs) d f aligned same = absurd aligned
+aligned_push (e ∷ docs) [] d f aligned same = absurd aligned
+aligned_push (e ∷ docs) (g ∷ freqs) d f aligned same = (aligned.0, aligned_push docs freqs d f aligned.1 same)
+
+pub docs_bytes-push : (lists : List (List Posting)) (docs freqs : List ℕ) → length docs ≡ length freqs → docs_bytes (lists ++ postings_of docs freqs ∷ []) ≡ docs_bytes lists ++ number_sequence docs
+docs_bytes-push lists docs freqs same =
+    flat_map-append (λ list. number_sequence (docs_of list)) lists (postings_of docs freqs ∷ [])
+    ∙ ap (λ b. docs_bytes lists ++ b) (append-nil (number_sequence (docs_of (postings_of docs freqs))) ∙ ap number_sequence (docs-of_postings docs freqs same))
+
+pub freqs_bytes-push : (lists : List (List Posting)) (docs freqs : List ℕ) → length docs ≡ length freqs → freqs_bytes (lists ++ postings_of docs freqs ∷ []) ≡ freqs_bytes lists ++ number_sequence freqs
+freqs_bytes-push lists docs freqs same =
+    flat_map-append (λ list. number_sequence (freqs_of list)) lists (postings_of docs freqs ∷ [])
+    ∙ ap (λ b. freqs_bytes lists ++ b) (append-nil (number_sequence (freqs_of (postings_of docs freqs))) ∙ ap number_sequence (freqs-of_postings docs freqs same))
+
+-- what holds each time before the next list is read
+pub record AreReadSoFar (first now : Reading) (before after : DepotState) (docs freqs : List (Vec ℕ Global)) : Type 0 where
+  pub aligned : AreAligned docs freqs
+  pub phase : now.phase ≡ Lists
+  pub started : AreStarted after
+  pub read : HaveBeenRead first now before after (lists_held docs freqs)
+
+pub none-read : (first : Reading) (before : DepotState) (docs freqs : List (Vec ℕ Global)) → AreStarted before → AtFirstList first → docs ≡ [] → freqs ≡ [] → AreReadSoFar first first before before docs freqs
+none-read first before docs freqs started at_first no_docs no_freqs =
+    let empty : AreReadSoFar first first before before [] [] = record {
+      aligned = tt;
+      phase = at_first.phase;
+      started = started;
+      read = record {
+        documents = refl;
+        refusal = at_first.refusal;
+        counted = at_first.lists;
+        within = omega arith;
+        each = All-nil (IsPostingList format_one first.documents);
+        docs_rest = λ told. refl;
+        freqs_rest = λ told. refl;
+        sizes_rest = λ told. refl;
+        no_fault = λ slot. refl;
+        reads = OnlyReads-same before;
+      };
+    } in
+    subst (λ d. AreReadSoFar first first before before d freqs) (sym no_docs) (subst (λ f. AreReadSoFar first first before before [] f) (sym no_freqs) empty)
+
+pub stay_started : (before after : DepotState) → AreStarted before → OnlyReads IsCollectionSlot before after → AreStarted after
+stay_started before after started reads = record {
+  docs = reads.stay_started _ started.docs;
+  freqs = reads.stay_started _ started.freqs;
+  sizes = reads.stay_started _ started.sizes;
+}
+
+-- an answer raises no count
+pub no_fault-at_ok : {A : Type 0} (before after : DepotState) (result : Result A CollError) (x : A) → result ≡ Ok x → OnlyReadsCollection before after result → (slot : Slot) → after.faults slot ≡ before.faults slot
+no_fault-at_ok before after result x is calls slot = elim (calls.count_rises_only_there slot) [ inl h ↦ absurd cc | inr same ↦ same ]
+
+-- a list that stands behind others in the same bytes
+bytes-behind : (all front list rest middle : List ℕ) → all ≡ front ++ middle → middle ≡ list ++ rest → all ≡ front ++ list ++ rest
+bytes-behind all front list rest middle is behind = is ∙ ap (λ m. front ++ m) behind ∙ sym (append_assoc front list rest)
+
+read-more : (first now new : Reading) (before between after : DepotState) (lists : List (List Posting)) (docs freqs : List ℕ) → HaveBeenRead first now before between lists
+    → GivesList now new between after docs freqs → new.documents ≡ now.documents → new.refusal ≡ None → ((slot : Slot) → after.faults slot ≡ between.faults slot) → OnlyReads IsCollectionSlot between after
+    → HaveBeenRead first new before after (lists ++ postings_of docs freqs ∷ [])
+read-more first now new before between after lists docs freqs read gives documents refusal no_fault reads = record {
+  documents = documents ∙ read.documents;
+  refusal = refusal;
+  counted = omega (arith, gives.counted, read.counted, length_push lists (postings_of docs freqs));
+  within = omega (arith, gives.counted, gives.within, read.counted, length_push lists (postings_of docs freqs));
+  each = All-push (IsPostingList format_one first.documents) lists (postings_of docs freqs) read.each (subst (λ n. IsPostingList format_one n (postings_of docs freqs)) read.documents gives.list);
+  docs_rest = λ told. bytes-behind _ (docs_bytes lists) (number_sequence docs) _ _ (read.docs_rest told) (gives.docs_rest (read.reads.tells ∙ told)) ∙ ap (λ b. b ++ (rests new after).docs) (sym (docs_bytes-push lists docs freqs gives.same_length));
+  freqs_rest = λ told. bytes-behind _ (freqs_bytes lists) (number_sequence freqs) _ _ (read.freqs_rest told) (gives.freqs_rest (read.reads.tells ∙ told)) ∙ ap (λ b. b ++ (rests new after).freqs) (sym (freqs_bytes-push lists docs freqs gives.same_length));
+  sizes_rest = λ told. gives.sizes_rest (read.reads.tells ∙ told) ∙ read.sizes_rest told;
+  no_fault = λ slot. no_fault slot ∙ read.no_fault slot;
+  reads = OnlyReads-trans read.reads reads;
+}
+
+answered-list : (now new : Reading) (between after : DepotState) (docs freqs : List ℕ) (result : Result Bool CollError) (b : Bool) → result ≡ Ok b → ReadsList now new between after docs freqs result → new.refusal ≡ None
+answered-list now new between after docs freqs result b is reads = (IfOk-at_ok (λ _. (now.refusal ≡ None) × (new.refusal ≡ None)) is reads.refusal.answer).1
+
+-- once a list was given, and pushed
+pub one-more : (first now new : Reading) (before between after : DepotState) (docs freqs docs' freqs' : List (Vec ℕ Global)) (d f : Vec ℕ Global) (result : Result Bool CollError)
+    → AreReadSoFar first now before between docs freqs → ReadsList now new between after d.items f.items result → result ≡ Ok true → docs' ≡ docs ++ d ∷ [] → freqs' ≡ freqs ++ f ∷ []
+    → AreReadSoFar first new before after docs' freqs'
+one-more first now new before between after docs freqs docs' freqs' d f result so_far reads is pushed_d pushed_f =
+    let gives = reads.list is in
+    let refusal = answered-list now new between after d.items f.items result true is reads in
+    let read = read-more first now new before between after (lists_held docs freqs) d.items f.items so_far.read gives reads.documents refusal (no_fault-at_ok between after result true is reads.depot) reads.depot.reads in
+    let pushed : AreReadSoFar first new before after (docs ++ d ∷ []) (freqs ++ f ∷ []) = record {
+      aligned = aligned_push docs freqs d f so_far.aligned gives.same_length;
+      phase = gives.phase ∙ so_far.phase;
+      started = stay_started between after so_far.started reads.depot.reads;
+      read = subst (λ l. HaveBeenRead first new before after l) (sym (held_push docs freqs d f so_far.aligned)) read;
+    } in
+    subst (λ x. AreReadSoFar first new before after x freqs') (sym pushed_d) (subst (λ y. AreReadSoFar first new before after (docs ++ d ∷ []) y) (sym pushed_f) pushed)
+
+-- where there is no more list
+read-end : (first now new : Reading) (before between after : DepotState) (lists : List (List Posting)) → HaveBeenRead first now before between lists
+    → EndsLists now new between after → new.documents ≡ now.documents → new.refusal ≡ None → ((slot : Slot) → after.faults slot ≡ between.faults slot) → OnlyReads IsCollectionSlot between after
+    → HaveBeenRead first new before after lists
+read-end first now new before between after lists read ends documents refusal no_fault reads = record {
+  documents = documents ∙ read.documents;
+  refusal = refusal;
+  counted = ends.lists ∙ read.counted;
+  within = read.within;
+  each = read.each;
+  docs_rest = λ told. read.docs_rest told ∙ ap (λ r. docs_bytes lists ++ r.docs) (sym (ends.same_rests (read.reads.tells ∙ told)));
+  freqs_rest = λ told. read.freqs_rest told ∙ ap (λ r. freqs_bytes lists ++ r.freqs) (sym (ends.same_rests (read.reads.tells ∙ told)));
+  sizes_rest = λ told. ap (λ r. r.sizes) (ends.same_rests (read.reads.tells ∙ told)) ∙ read.sizes_rest told;
+  no_fault = λ slot. no_fault slot ∙ read.no_fault slot;
+  reads = OnlyReads-trans read.reads reads;
+}
+
+-- the counts of all calls, where the last one gave what is answered
+pub calls-then : {A B : Type 0} (before between after : DepotState) (result : Result A CollError) (answer : Result B CollError) → ((slot : Slot) → between.faults slot ≡ before.faults slot) → OnlyReads IsCollectionSlot before between → OnlyReadsCollection between after result
+    → ((slot : Slot) → result ≡ Err (Read slot) → answer ≡ Err (Read slot)) → OnlyReadsCollection before after answer
+calls-then before between after result answer no_fault reads calls same = record {
+  count_rises_only_there = λ slot. elim (calls.count_rises_only_there slot) [ inl h ↦ inl (same slot h) | inr e ↦ inr (e ∙ no_fault slot) ];
+  reads = OnlyReads-trans reads calls.reads;
+}
+
+pub read_fault-then : (before between after : DepotState) (slot : Slot) → between.faults slot ≡ before.faults slot → IsReadFault between after slot → IsReadFault before after slot
+read_fault-then before between after slot same (is, rose) = (is, subst (λ n. Rose n (after.faults slot)) same rose)
+
+pub not-ok : {A : Type 0} (P : A → Type 0) (result : Result A CollError) (e : CollError) → result ≡ Err e → IfOk result P
+not-ok P result e is = subst (λ r. IfOk r P) (sym is) tt
+
+-- the answer where the next list is refused
+pub list-refused : (first now new : Reading) (before between after : DepotState) (docs freqs : List (Vec ℕ Global)) (d f : List ℕ) (result : Result Bool CollError) (e : CollError) (answer : Result ListVectors CollError)
+    → AreReadSoFar first now before between docs freqs → ReadsList now new between after d f result → result ≡ Err e → answer ≡ Err e → ReadsLists first new before after answer
+list-refused first now new before between after docs freqs d f result e answer so_far reads is answered = record {
+  aligned = not-ok (λ v. AreAligned v.docs.items v.freqs.items) answer e answered;
+  given = not-ok (λ v. HaveBeenRead first new before after (lists_held v.docs.items v.freqs.items)) answer e answered;
+  ended = λ told. not-ok (λ v. (rests new after).docs ≡ []) answer e answered;
+  phase = not-ok (λ v. new.phase ≡ Ended) answer e answered;
+  first_fault = λ told fault h. record {
+    lists = lists_held docs freqs;
+    docs_rest = (rests now between).docs;
+    freqs_rest = (rests now between).freqs;
+    within = so_far.read.within;
+    each = so_far.read.each;
+    docs = so_far.read.docs_rest told;
+    freqs = so_far.read.freqs_rest told;
+    next =
+        let found : IsNextFault format_one now.documents now.lists (rests now between) fault = reads.first_fault (so_far.read.reads.tells ∙ told) so_far.read.refusal fault cc in
+        subst (λ n. IsNextFault format_one n (length (lists_held docs freqs)) (rests now between) fault) so_far.read.documents
+        (subst (λ t. IsNextFault format_one now.documents t (rests now between) fault) so_far.read.counted found);
+  };
+  read_only_where_it_rose = λ slot h. read_fault-then before between after slot (so_far.read.no_fault slot) (reads.read_only_where_it_rose so_far.read.refusal slot cc);
+  depot = calls-then before between after result answer so_far.read.no_fault so_far.read.reads reads.depot (λ slot h. cc);
+}

@@ -1,0 +1,125 @@
+-- How the three files of a collection are started, and the head is read.
+use Rattle.std.proofs.Common.{◌≡◌, ◌∙◌, sym, ap, ℕ, ◌++◌, List, [], Ok, Err, Result}
+use Rattle.std.specs.Prelude.{unwrap_or, codes}
+use Rattle.pef_io.specs.declared.fail.Slot.{Slot}
+use Rattle.pef_io.specs.declared.fail.Slot.TheVariants.{Docs, Freqs, Sizes}
+use Rattle.pef_io.specs.DepotState.{DepotState}
+use Rattle.collection_reader.specs.declared.fault.Fault.{Fault}
+use Rattle.collection_reader.specs.declared.fault.CollError.{CollError}
+use Rattle.collection_reader.specs.declared.fault.CollError.TheVariants.{Broken}
+use Rattle.collection_reader.specs.ReadCollection.{IsCollectionSlot}
+use Rattle.collection_reader.specs.Reading.{Reading, StartsReading}
+use Rattle.collection_reader.specs.FirstFault.{head_fault}
+use Rattle.collection_model.specs.FormatNumbers.{format_one}
+use Rattle.collection_reader.specs.OneFile.{ReadsFrom}
+use Rattle.collection_reader.specs.OneSequence.{ReadsHead}
+use Rattle.collection_reader.specs.OneReader.{StartsFile, StartsFiles}
+use Rattle.collection_reader.proofs.SameAnswer.{same-fault}
+use Rattle.collection_reader.proofs.ReadsFrom.{reads-then, reads-wider, answers-err}
+
+-- the slots of a collection, and that they differ
+pub docs-is : (slot : Slot) → slot ≡ Docs → IsCollectionSlot slot
+docs-is slot is other = cc
+
+pub freqs-is : (slot : Slot) → slot ≡ Freqs → IsCollectionSlot slot
+freqs-is slot is other = cc
+
+pub sizes-is : (slot : Slot) → slot ≡ Sizes → IsCollectionSlot slot
+sizes-is slot is other = cc
+
+pub docs-not_freqs : Docs ≡ Freqs → ⊥
+docs-not_freqs e = cc
+
+pub docs-not_sizes : Docs ≡ Sizes → ⊥
+docs-not_sizes e = cc
+
+pub freqs-not_docs : Freqs ≡ Docs → ⊥
+freqs-not_docs e = cc
+
+pub freqs-not_sizes : Freqs ≡ Sizes → ⊥
+freqs-not_sizes e = cc
+
+pub sizes-not_docs : Sizes ≡ Docs → ⊥
+sizes-not_docs e = cc
+
+pub sizes-not_freqs : Sizes ≡ Freqs → ⊥
+sizes-not_freqs e = cc
+
+-- the answer is a failed call, after calls that did not fail
+start_refused : (base : List ℕ) (a b : DepotState) (e : CollError) → ((fault : Fault) → (let r : Result (Unit {0}) CollError = Err e in r ≡ Err (Broken fault)) → ⊥)
+    → (let r : Result (Unit {0}) CollError = Err e in ReadsFrom IsCollectionSlot a b r) → StartsFiles base a b (Err e)
+start_refused base a b e no_fault reads = record {
+  started = tt;
+  docs = λ t. tt;
+  freqs = λ t. tt;
+  sizes = λ t. tt;
+  no_fault = no_fault;
+  depot = reads;
+}
+
+pub docs_refused : (base docs : List ℕ) (a b : DepotState) (e : CollError) → StartsFile Docs docs a b (Err e) → StartsFiles base a b (Err e)
+docs_refused base docs a b e one = start_refused base a b e one.no_fault (reads-wider docs-is one.depot)
+
+pub freqs_refused : (base docs freqs : List ℕ) (a b c : DepotState) (e : CollError) → StartsFile Docs docs a b (Ok tt) → StartsFile Freqs freqs b c (Err e) → StartsFiles base a c (Err e)
+freqs_refused base docs freqs a b c e one two = start_refused base a c e two.no_fault (reads-then (reads-wider docs-is one.depot) (reads-wider freqs-is two.depot))
+
+-- the last file is started behind the other two
+pub all_started : (base : List ℕ) (a b c d : DepotState) (r : Result (Unit {0}) CollError) → StartsFile Docs (base ++ codes ".docs") a b (Ok tt) → StartsFile Freqs (base ++ codes ".freqs") b c (Ok tt)
+    → StartsFile Sizes (base ++ codes ".sizes") c d r → StartsFiles base a d r
+all_started base a b c d (Err e) one two three = start_refused base a d e three.no_fault (reads-then (reads-then (reads-wider docs-is one.depot) (reads-wider freqs-is two.depot)) (reads-wider sizes-is three.depot))
+all_started base a b c d (Ok x) one two three =
+    let p = one.depot.only in
+    let q = two.depot.only in
+    let s = three.depot.only in
+    record {
+      started = record {
+        docs = s.stay_started Docs (q.stay_started Docs one.started);
+        freqs = s.stay_started Freqs two.started;
+        sizes = three.started;
+      };
+      docs = λ t.
+          let u = p.tells ∙ t in
+          let v = q.tells ∙ u in
+          (s.other_slots Docs docs-not_sizes).1 v ∙ (q.other_slots Docs docs-not_freqs).1 u ∙ one.whole_file t;
+      freqs = λ t.
+          let u = p.tells ∙ t in
+          let v = q.tells ∙ u in
+          (s.other_slots Freqs freqs-not_sizes).1 v ∙ two.whole_file u ∙ ap (λ f. unwrap_or f []) (p.files t (base ++ codes ".freqs"));
+      sizes = λ t.
+          let u = p.tells ∙ t in
+          let v = q.tells ∙ u in
+          three.whole_file v ∙ ap (λ f. unwrap_or f []) (q.files u (base ++ codes ".sizes") ∙ p.files t (base ++ codes ".sizes"));
+      no_fault = three.no_fault;
+      depot = reads-then (reads-then (reads-wider docs-is one.depot) (reads-wider freqs-is two.depot)) (reads-wider sizes-is three.depot);
+    }
+
+-- a refusal before or in the head
+pub reading_refused : (base : List ℕ) (a b : DepotState) (e : CollError) → StartsFiles base a b (Err e) → StartsReading a b base (Err e)
+reading_refused base a b e starts = record {
+  started = tt;
+  within = tt;
+  no_list = tt;
+  none_kept = tt;
+  docs_rest = λ t. tt;
+  freqs_rest = λ t. tt;
+  sizes_rest = λ t. tt;
+  first_fault = λ t fault h. absurd (starts.no_fault fault (same-fault {A = Reading} {B = Unit {0}} e fault h));
+  read_only_where_it_rose = λ slot h. (answers-err {A = Unit {0}} {B = Reading} e starts.depot).read_only_where_it_rose slot h;
+  depot = record { count_rises_only_there = (answers-err {A = Unit {0}} {B = Reading} e starts.depot).count_rises_only_there; reads = starts.depot.only };
+}
+
+pub head_refused : (base held : List ℕ) (a b c : DepotState) (e : CollError) → StartsFiles base a b (Ok tt) → ReadsHead [] held b c (Err e) → StartsReading a c base (Err e)
+head_refused base held a b c e starts head =
+    let reads = reads-then starts.depot (reads-wider docs-is (answers-err {A = ℕ} {B = Reading} e head.depot)) in
+    record {
+      started = tt;
+      within = tt;
+      no_list = tt;
+      none_kept = tt;
+      docs_rest = λ t. tt;
+      freqs_rest = λ t. tt;
+      sizes_rest = λ t. tt;
+      first_fault = λ t fault h. ap (λ bytes. head_fault format_one bytes) (sym (starts.docs t)) ∙ head.first_fault (starts.depot.only.tells ∙ t) fault (same-fault {A = Reading} {B = ℕ} e fault h);
+      read_only_where_it_rose = reads.read_only_where_it_rose;
+      depot = record { count_rises_only_there = reads.count_rises_only_there; reads = reads.only };
+    }

@@ -1,0 +1,9 @@
+pub mod Held
+pub mod FirstFault
+pub mod ReadCollection
+pub mod Laws
+pub mod Reading
+pub mod OneFile
+pub mod OneSequence
+pub mod OneReader
+pub mod ReadLists

@@ -1,0 +1,53 @@
+use Rattle.std.specs.Prelude.{◌≡◌, ℕ, Bool, true, false, IsTrue, List, [], length, Result, Ok, Err, OnOk, Some}
+use Rattle.collection_model.specs.FormatNumbers.{format_one}
+use Rattle.collection_model.specs.Bytes.{number_sequence}
+use Rattle.pef_io.specs.declared.fail.Slot.{Slot}
+use Rattle.pef_io.specs.declared.fail.Slot.TheVariants.{Docs, Freqs, Sizes}
+use Rattle.pef_io.specs.DepotState.{DepotState, bytes_under}
+use Rattle.collection_reader.specs.declared.fault.Fault.{Fault}
+use Rattle.collection_reader.specs.declared.fault.CollError.{CollError}
+use Rattle.collection_reader.specs.declared.fault.CollError.TheVariants.{Broken}
+use Rattle.collection_reader.specs.FirstFault.{end_fault}
+use Rattle.collection_reader.specs.ReadCollection.{files_at, IsCollectionSlot}
+use Rattle.collection_reader.specs.Reading.{Reading, rests, AreStarted, IsNextFault, GivesList, EndsLists}
+use Rattle.collection_reader.specs.OneFile.{ReadsFrom}
+
+-- One file is started under this name.
+pub record StartsFile (slot : Slot) (name : List ℕ) (old new : DepotState) (result : Result (Unit {0}) CollError) : Type 0 where
+  pub started : OnOk result (IsTrue (new.started slot))
+  pub whole_file : IsTrue old.tells → OnOk result (new.left slot ≡ bytes_under old name)
+  pub no_fault : (fault : Fault) → result ≡ Err (Broken fault) → ⊥
+  pub depot : ReadsFrom (λ s. s ≡ slot) old new result
+
+-- The three files of a collection are started.
+pub record StartsFiles (base : List ℕ) (old new : DepotState) (result : Result (Unit {0}) CollError) : Type 0 where
+  pub started : OnOk result (AreStarted new)
+  pub docs : IsTrue old.tells → OnOk result (new.left Docs ≡ (files_at old base).docs)
+  pub freqs : IsTrue old.tells → OnOk result (new.left Freqs ≡ (files_at old base).freqs)
+  pub sizes : IsTrue old.tells → OnOk result (new.left Sizes ≡ (files_at old base).sizes)
+  pub no_fault : (fault : Fault) → result ≡ Err (Broken fault) → ⊥
+  pub depot : ReadsFrom IsCollectionSlot old new result
+
+-- The next list is tried, by a reader that keeps no refusal yet.
+pub record TriesList (old new : Reading) (before after : DepotState) (docs freqs : List ℕ) (result : Result Bool CollError) : Type 0 where
+  pub list : result ≡ Ok true → GivesList old new before after docs freqs
+  pub ended : result ≡ Ok false → EndsLists old new before after
+  pub none_lent : result ≡ Ok false → (docs ≡ []) × (freqs ≡ [])
+  pub documents : new.documents ≡ old.documents
+  pub refusal : new.refusal ≡ old.refusal
+  pub first_fault : IsTrue before.tells → (fault : Fault) → result ≡ Err (Broken fault) → IsNextFault format_one old.documents old.lists (rests old before) fault
+  pub depot : ReadsFrom IsCollectionSlot before after result
+
+-- The end is tried, by a reader that keeps no refusal yet.
+pub record TriesEnd (old new : Reading) (before after : DepotState) (sizes : List ℕ) (result : Result (Unit {0}) CollError) : Type 0 where
+  pub count : OnOk result (length sizes ≡ old.documents)
+  pub freqs_end : IsTrue before.tells → OnOk result ((rests old before).freqs ≡ [])
+  pub sizes_end : IsTrue before.tells → OnOk result ((rests old before).sizes ≡ number_sequence sizes)
+  pub docs_rest : IsTrue before.tells → OnOk result ((rests new after).docs ≡ (rests old before).docs)
+  pub freqs_rest : IsTrue before.tells → OnOk result ((rests new after).freqs ≡ [])
+  pub none_left : IsTrue before.tells → OnOk result ((rests new after).sizes ≡ [])
+  pub documents : new.documents ≡ old.documents
+  pub lists : new.lists ≡ old.lists
+  pub refusal : new.refusal ≡ old.refusal
+  pub first_fault : IsTrue before.tells → (fault : Fault) → result ≡ Err (Broken fault) → end_fault old.documents old.lists (rests old before).freqs (rests old before).sizes ≡ Some fault
+  pub depot : ReadsFrom IsCollectionSlot before after result

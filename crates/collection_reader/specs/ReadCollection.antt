@@ -1,0 +1,31 @@
+use Rattle.std.specs.Prelude.{◌≡◌, ◌≢◌, ◌⊎◌, ℕ, List, ◌++◌, IsTrue, codes, Some, Result, Ok, Err, IfOk}
+use Rattle.collection_model.specs.FormatNumbers.{format_one}
+use Rattle.collection_model.specs.Collection.{Collection, WellFormed}
+use Rattle.collection_model.specs.Spelling.{Files, spelled}
+use Rattle.pef_io.specs.declared.fail.Slot.{Slot}
+use Rattle.pef_io.specs.declared.fail.Slot.TheVariants.{Index}
+use Rattle.pef_io.specs.Calls.{Rose}
+use Rattle.pef_io.specs.DepotState.{DepotState, OnlyReads, bytes_under}
+use Rattle.collection_reader.specs.declared.fault.Fault.{Fault}
+use Rattle.collection_reader.specs.declared.fault.CollError.{CollError}
+use Rattle.collection_reader.specs.declared.fault.CollError.TheVariants.{Broken, Read}
+use Rattle.collection_reader.specs.FirstFault.{IsFirstFault}
+
+-- the bytes of the three files of a collection in a depot
+abbrev pub files_at : DepotState → List ℕ → Files
+files_at depot base = record { docs = bytes_under depot (base ++ codes ".docs"); freqs = bytes_under depot (base ++ codes ".freqs"); sizes = bytes_under depot (base ++ codes ".sizes") }
+
+-- the three slots from which a collection is read
+abbrev pub IsCollectionSlot : Slot → Type 0
+IsCollectionSlot slot = slot ≢ Index
+
+-- What reading a collection gives. Its answer is the collection that the files spell, or their first fault, or a failed call.
+pub record ReadsCollection (old new : DepotState) (base : List ℕ) (result : Result Collection CollError) : Type 0 where
+  pub well_formed : IfOk result (WellFormed format_one)
+  pub spelled_so : IsTrue old.tells → IfOk result (λ c. files_at old base ≡ spelled c)
+  pub no_fault : IsTrue old.tells → (c : Collection) → WellFormed format_one c → files_at old base ≡ spelled c → (fault : Fault) → result ≢ Err (Broken fault)
+  pub faulty_is_refused : IsTrue old.tells → (fault : Fault) → IsFirstFault format_one (files_at old base) (Some fault) → (c : Collection) → result ≢ Ok c
+  pub first_fault : IsTrue old.tells → (fault : Fault) → result ≡ Err (Broken fault) → IsFirstFault format_one (files_at old base) (Some fault)
+  pub read_only_where_it_rose : (slot : Slot) → result ≡ Err (Read slot) → IsCollectionSlot slot × Rose (old.faults slot) (new.faults slot)
+  pub count_rises_only_there : (slot : Slot) → (result ≡ Err (Read slot)) ⊎ (new.faults slot ≡ old.faults slot)
+  pub reads : OnlyReads IsCollectionSlot old new

@@ -1,0 +1,21 @@
+// Reads a collection from its three files.
+#![tactic(auto)]
+
+mod collection;
+mod fault;
+mod held;
+mod laws;
+mod phase;
+mod position;
+mod reader;
+mod sequences;
+mod start;
+#[cfg(test)]
+mod tests;
+mod whole;
+
+pub use collection::Collection;
+pub use fault::{CollError, Fault, Rule};
+pub use laws::{files_have_one_first_fault, no_fault_means_spelled, spelled_files_have_no_fault};
+pub use reader::ListReader;
+pub use whole::read_collection;

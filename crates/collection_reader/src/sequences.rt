@@ -1,0 +1,140 @@
+ghost use Rattle.std.specs.Prelude.{◌≡◌, ◌≤◌, [], IsTrue};
+ghost use Rattle.collection_model.specs.FormatNumbers.{format_one};
+ghost use Rattle.pef_io.specs.declared.fail.Slot.TheVariants.{Docs, Freqs, Sizes};
+ghost use Rattle.collection_reader.specs.OneSequence.{ReadsHead, ReadsDocuments, ReadsFrequencies, ReadsToEnd};
+
+use crate::fault::{CollError, Rule};
+use crate::held::Held;
+use crate::position::Position;
+use pef_io::{Depot, Slot};
+
+/// The greatest number of documents of a collection.
+const MOST_DOCUMENTS: u32 = 268_435_455;
+
+/// The greatest sum of the frequencies of a list.
+const MOST_SUM: u64 = 1 << 36;
+
+/// Reads the number of documents at the head of the file of documents.
+pub fn read_head<D: Depot>(held: &mut Held, depot: &mut D) -> Result<u32, CollError>
+    requires { IsTrue ((D.state depot.old).started Docs) }
+    ensures { ReadsHead held.old held.new (D.state depot.old) (D.state depot.new) result }
+{
+    let at = Position {
+        file: Slot::Docs,
+        term: 0,
+        place: 0,
+    };
+    if held.number(at, depot)? != 1 {
+        return Err(at.breaks(Rule::C2));
+    }
+    let documents = held.number(at, depot)?;
+    if documents > MOST_DOCUMENTS {
+        return Err(at.breaks(Rule::C3));
+    }
+    Ok(documents)
+}
+
+/// Reads the documents of a term, which lie below `documents`.
+pub fn read_documents<D: Depot>(
+    held: &mut Held,
+    depot: &mut D,
+    term: u32,
+    documents: u32,
+    docs: &mut Vec<u32>,
+) -> Result<(), CollError>
+    requires started { IsTrue ((D.state depot.old).started Docs) }
+    requires empty { docs.old.items ≡ [] }
+    ensures { ReadsDocuments documents term held.old held.new (D.state depot.old) (D.state depot.new) docs.new.items result }
+{
+    let head = Position {
+        file: Slot::Docs,
+        term,
+        place: 0,
+    };
+    let length = held.number(head, depot)?;
+    let mut last = 0;
+    for place in 0..length {
+        let at = Position { place, ..head };
+        let document = held.number(at, depot)?;
+        if document >= documents {
+            return Err(at.breaks(Rule::C4));
+        }
+        if place > 0 && document <= last {
+            return Err(at.breaks(Rule::C5));
+        }
+        docs.push(document)?;
+        last = document;
+    }
+    Ok(())
+}
+
+/// Reads the frequencies of a term, as many as it has documents.
+pub fn read_frequencies<D: Depot>(
+    held: &mut Held,
+    depot: &mut D,
+    term: u32,
+    expected: usize,
+    freqs: &mut Vec<u32>,
+) -> Result<(), CollError>
+    requires started { IsTrue ((D.state depot.old).started Freqs) }
+    requires empty { freqs.old.items ≡ [] }
+    ensures { ReadsFrequencies term expected held.old held.new (D.state depot.old) (D.state depot.new) freqs.new.items result }
+{
+    let head = Position {
+        file: Slot::Freqs,
+        term,
+        place: 0,
+    };
+    let length = held.number(head, depot)?;
+    if length as usize != expected {
+        return Err(head.breaks(Rule::C6));
+    }
+    let mut sum = 0;
+    for place in 0..length {
+        let at = Position { place, ..head };
+        let freq = held.number(at, depot)?;
+        if freq == 0 {
+            return Err(at.breaks(Rule::C7));
+        }
+        sum += u64::from(freq);
+        if sum > MOST_SUM {
+            return Err(at.breaks(Rule::C8));
+        }
+        freqs.push(freq)?;
+    }
+    Ok(())
+}
+
+/// Reads the sizes of all documents, behind the lists of `terms` terms, to the end of their file.
+pub fn read_sizes<D: Depot>(
+    held: &mut Held,
+    depot: &mut D,
+    terms: u32,
+    documents: u32,
+    sizes: &mut Vec<u32>,
+) -> Result<(), CollError>
+    requires started { IsTrue ((D.state depot.old).started Sizes) }
+    requires empty { sizes.old.items ≡ [] }
+    ensures { ReadsToEnd documents terms held.old held.new (D.state depot.old) (D.state depot.new) sizes.new.items result }
+{
+    let head = Position {
+        file: Slot::Sizes,
+        term: terms,
+        place: 0,
+    };
+    if held.number(head, depot)? != documents {
+        return Err(head.breaks(Rule::C11));
+    }
+    for place in 0..documents {
+        let size = held.number(Position { place, ..head }, depot)?;
+        sizes.push(size)?;
+    }
+    if held.has_byte(Slot::Sizes, depot)? {
+        let end = Position {
+            place: documents,
+            ..head
+        };
+        return Err(end.breaks(Rule::C12));
+    }
+    Ok(())
+}

@@ -1,0 +1,3 @@
+pub mod WindowEnds
+pub mod Windows
+pub mod EdgeFacts

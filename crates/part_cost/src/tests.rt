@@ -1,0 +1,98 @@
+ghost use Rattle.std.specs.Prelude.{◌≡◌, ◌+◌, ◌≤◌, ◌<◌, ◌^◌, length};
+ghost use Rattle.std.specs.List.{All};
+ghost use Rattle.std.specs.List.Sorted.{IsStrictlyIncreasing};
+ghost use Rattle.collection_model.specs.FormatNumbers.{format_one};
+ghost use Rattle.part_cost.specs.Payload.{widest_low};
+ghost use Rattle.part_cost.specs.Span.{cost_of_part};
+
+use super::*;
+use std::marker::Brand;
+use std::sync::ledger::{Blank, Ledger};
+use step_count::Steps;
+
+#[test]
+fn digits_of_numbers(rt: HostRuntime) {
+    for (n, count) in [
+        (0, 0),
+        (1, 1),
+        (2, 2),
+        (3, 2),
+        (387, 9),
+        (1 << 36, 37),
+        (u64::MAX, 64),
+    ] {
+        assert_eq!(rt; digits(n), count, "{n}");
+    }
+}
+
+#[test]
+fn parts_by_universe_and_count(rt: HostRuntime) {
+    let rows = [
+        (3, 2, Kind::Bitmap, 3),
+        (6, 2, Kind::Bitmap, 6),
+        (7, 7, Kind::Ones, 0),
+        (701, 2, Kind::Ef, 20),
+        (600, 599, Kind::Bitmap, 610),
+        (1281, 129, Kind::Ef, 685),
+        (900_001, 1, Kind::Ef, 21),
+        (1 << 36, 1, Kind::Ef, 37),
+    ];
+    for (u, m, form, bits) in rows {
+        assert!(rt; 1 <= m && m <= u && u <= 1 << 36);
+        assert_eq!(rt; kind(u, m), form, "{m} in {u}");
+        assert_eq!(rt; payload_bits(u, m), bits, "{m} in {u}");
+    }
+}
+
+#[test]
+fn low_widths(rt: HostRuntime) {
+    for (u, m, low) in [
+        (1, 1, 0),
+        (6, 2, 1),
+        (701, 2, 8),
+        (1281, 129, 3),
+        (900_001, 1, 19),
+        (1 << 36, 1, 35),
+    ] {
+        assert!(rt; 1 <= m && m <= u && u <= 1 << 36);
+        assert_eq!(rt; low_width(u, m), low, "{m} in {u}");
+    }
+}
+
+/// What a part costs, learned through the bound.
+fn cost_by<C: SpanCost, L: Ledger>(costs: &C, i: u64, j: u64, steps: &mut Steps<L>) -> u64
+    requires some { i < j }
+    requires within { j ≤ C.count costs.now }
+    ensures value { result ≡ C.cost_of costs.now i j }
+    ensures step { steps.new ≡ steps.old + 1 }
+{
+    costs.cost(i, j, steps)
+}
+
+/// What the part from i to j of a list of values costs.
+fn cost_of<L: Ledger>(blank: Blank, values: &[u64], i: u64, j: u64) -> u64
+    requires name { blank.name ≡ L.name }
+    requires parts { blank.parts ≡ L.parts }
+    requires ledger { 0 < L.parts }
+    requires rising { IsStrictlyIncreasing values.now }
+    requires below { All (λ x. x < 2 ^ widest_low) values.now }
+    requires few { length values.now < 2 ^ 32 }
+    requires some { i < j }
+    requires within { j ≤ length values.now }
+    ensures { result ≡ cost_of_part format_one.charge values.entry.now i j }
+{
+    let mut steps = Steps::<L>::new(blank);
+    cost_by(&ListCost::new(values), i, j, &mut steps)
+}
+
+#[test]
+fn costs_of_lists(rt: HostRuntime) {
+    assert_eq!(rt; cost_of::<Brand>(Blank::new(1), &[0, 2], 0, 2), 131);
+    assert_eq!(rt; cost_of::<Brand>(Blank::new(1), &[0, 5], 0, 2), 134);
+    assert_eq!(rt;
+        cost_of::<Brand>(Blank::new(1), &[68_719_476_735], 0, 1),
+        165
+    );
+    assert_eq!(rt; cost_of::<Brand>(Blank::new(1), &[0, 4, 9], 1, 3), 136);
+    assert_eq!(rt; ListCost::new(&[0, 4, 9]).len(), 3);
+}

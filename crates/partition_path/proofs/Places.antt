@@ -1,0 +1,166 @@
+use Rattle.std.proofs.Common.{◌≡◌, refl, sym, ◌∙◌, subst, ℕ, zero, suc, ◌+◌, ◌*◌, ◌≤◌, ◌<◌, ◌⊎◌, inl, inr, Bool, true, false, List, [], ◌∷◌, length, get_or, arith}
+use Rattle.std.specs.Prelude.{find, nat_le, IsSomeAnd}
+use Rattle.std.proofs.lemmas.Bool.{leb-true, cases_lt}
+use Rattle.std.proofs.Math.Nat.{mul-le-mul_left, eq-or-lt_of_le}
+use Rattle.part_cost.specs.Bounds.{Cover}
+use Rattle.cost_windows.specs.declared.bounds.TheConstants.{BOUNDS}
+use Rattle.cost_windows.specs.WindowEnds.{IsLongestEnd, StandsAt, AllStand}
+use Rattle.cost_windows.specs.Windows.{Windows, KeepCosts, AllAtLongest}
+use Rattle.partition_path.specs.Tables.{Tables, IsReached, HasLastPart, AreRoutes, IsSameAt, IsByWindow, AreExtended, unreached}
+use Rattle.partition_path.proofs.Near.{IsSettled, IsPassed}
+
+-- a window stands where its bound says, by its place in the list
+stands-at : (cost : ℕ → ℕ → ℕ) (n i : ℕ) (bounds ps : List ℕ) → AllStand cost n i bounds ps → (m : ℕ) → m < length bounds → StandsAt cost n (get_or bounds m 0) i (get_or ps m 0)
+stands-at cost n i [] ps h m l = absurd (omega arith)
+stands-at cost n i (b ∷ bounds) [] h m l = elim h [ ]
+stands-at cost n i (b ∷ bounds) (p ∷ ps) h zero l = h.0
+stands-at cost n i (b ∷ bounds) (p ∷ ps) h (suc m) l = stands-at cost n i bounds ps h.1 m (omega arith)
+
+longest-behind : (cost : ℕ → ℕ → ℕ) (n b i p : ℕ) → StandsAt cost n b i p → i < p → IsLongestEnd cost n b i p
+longest-behind cost n b i p (inl s) l = s
+longest-behind cost n b i p (inr s) l = absurd (omega (arith, s.0))
+
+-- the bound that is found is one of the list
+find-test : (c b : ℕ) (t : Bool) (bs : List ℕ) (P : ℕ → Type 0) → nat_le c b ≡ t → IsSomeAnd (find (λ x. nat_le c x) (b ∷ bs)) P → ((c ≤ b) × P b) ⊎ IsSomeAnd (find (λ x. nat_le c x) bs) P
+find-test c b true bs P e h = inl (leb-true _ _ e, rw e at h)
+find-test c b false bs P e h = inr (rw e at h)
+
+find-place : (c : ℕ) (bs : List ℕ) (P : ℕ → Type 0) → IsSomeAnd (find (λ x. nat_le c x) bs) P → (m : ℕ) × (m < length bs) × (c ≤ get_or bs m 0) × P (get_or bs m 0)
+find-place c [] P h = elim h [ ]
+find-place c (b ∷ bs) P h =
+    elim (find-test c b (nat_le c b) bs P refl h) [
+      | inl here ↦ (0, omega arith, here.0, here.1)
+      | inr later ↦ let more = find-place c bs P later in (suc more.0, omega (arith, more.1), more.2, more.3)
+    ]
+
+-- places up to where the windows are stay as they are
+same-before : (w : Windows) (k : ℕ) (old new : Tables) → AreExtended w k old new → (j : ℕ) → j ≤ w.place → IsSameAt old new j
+same-before w k old new x j l =
+    elim (x.each j) [
+      | inl s ↦ s
+      | inr by ↦ absurd (omega (arith, by.2.after))
+    ]
+
+module _ (limit : ℕ) (cost : ℕ → ℕ → ℕ) (n i before middle after : ℕ) (w : Windows) (old new : Tables) (here : w.place ≡ i) (below : i < n) (stand : AllAtLongest cost n w) (kept : KeepCosts cost n w) (within : (m : ℕ) → m < length BOUNDS → get_or BOUNDS m 0 ≤ limit) (x : AreExtended w (length BOUNDS) old new) where
+  -- a window that has an end has the longest, and its cost
+  longest-end : (m : ℕ) → m < length BOUNDS → w.place < get_or w.positions m 0 → IsLongestEnd cost n (get_or BOUNDS m 0) i (get_or w.positions m 0) × (get_or w.costs m 0 ≡ cost i (get_or w.positions m 0))
+  longest-end m l a =
+      let stands = subst (λ (p : ℕ). StandsAt cost n (get_or BOUNDS m 0) p (get_or w.positions m 0)) here (stands-at cost n w.place BOUNDS w.positions stand m l) in
+      let price = subst (λ (p : ℕ). get_or w.costs m 0 ≡ cost p (get_or w.positions m 0)) here (kept.costs m l a) in
+      (longest-behind cost n (get_or BOUNDS m 0) i (get_or w.positions m 0) stands (omega (arith, here)), price)
+
+  -- a route that ends with the part to a window's end
+  by-window : (m j : ℕ) → m < length BOUNDS → IsByWindow w old new j m → IsLongestEnd cost n (get_or BOUNDS m 0) i j × (get_or new.costs j 0 ≡ get_or old.costs i 0 + cost i j)
+  by-window m j l by =
+      let facts = longest-end m l (omega (arith, by.after, by.position)) in
+      let longest = subst (λ (p : ℕ). IsLongestEnd cost n (get_or BOUNDS m 0) i p) by.position facts.0 in
+      let price = subst (λ (p : ℕ). get_or w.costs m 0 ≡ cost i p) by.position facts.1 in
+      let sum = subst (λ (p : ℕ). get_or new.costs j 0 ≡ get_or old.costs p 0 + get_or w.costs m 0) here by.costs in
+      (longest, omega (arith, sum, price))
+
+  last-same : (routes : AreRoutes limit cost n i before middle old) (j : ℕ) → 0 < j → j ≤ n → IsSameAt old new j → IsReached new.costs j → HasLastPart limit cost (i + 1) new j
+  last-same routes j p l s reached =
+      let last = routes.last j p l (omega (arith, s.costs, reached)) in
+      let start = get_or old.starts j 0 in
+      let at = same-before w (length BOUNDS) old new x start (omega (arith, here, last.earlier)) in
+      let e : get_or new.starts j 0 ≡ start = s.starts in
+      let at_new = subst (λ (y : ℕ). IsSameAt old new y) (sym e) at in
+      record {
+        earlier = omega (arith, e, last.earlier);
+        before = omega (arith, e, last.before);
+        reached = subst (λ (y : ℕ). IsReached new.costs y) (sym e) (omega (arith, at.costs, last.reached));
+        sum = subst (λ (y : ℕ). get_or new.costs j 0 ≡ get_or new.costs y 0 + cost y j) (sym e) (omega (arith, s.costs, at.costs, last.sum));
+        allowed = subst (λ (y : ℕ). cost y j ≤ limit) (sym e) last.allowed;
+        one_more = subst (λ (y : ℕ). get_or new.parts j 0 ≡ get_or new.parts y 0 + 1) (sym e) (omega (arith, s.parts, at.parts, last.one_more));
+      }
+
+  last-by_window : IsReached old.costs i → (m j : ℕ) → m < length BOUNDS → IsByWindow w old new j m → HasLastPart limit cost (i + 1) new j
+  last-by_window reached m j l by =
+      let facts = by-window m j l by in
+      let at = same-before w (length BOUNDS) old new x i (omega (arith, here)) in
+      let e : get_or new.starts j 0 ≡ i = by.starts ∙ here in
+      let one = subst (λ (p : ℕ). get_or new.parts j 0 ≡ get_or old.parts p 0 + 1) here by.parts in
+      record {
+        earlier = omega (arith, e);
+        before = omega (arith, e, by.after, here);
+        reached = subst (λ (y : ℕ). IsReached new.costs y) (sym e) (omega (arith, at.costs, reached));
+        sum = subst (λ (y : ℕ). get_or new.costs j 0 ≡ get_or new.costs y 0 + cost y j) (sym e) (omega (arith, at.costs, facts.1));
+        allowed = subst (λ (y : ℕ). cost y j ≤ limit) (sym e) (let a = facts.0.affordable in let b = within m l in omega (arith, a, b));
+        one_more = subst (λ (y : ℕ). get_or new.parts j 0 ≡ get_or new.parts y 0 + 1) (sym e) (omega (arith, at.parts, one));
+      }
+
+  -- the routes with the parts from place i
+  pub routes-more : AreRoutes limit cost n i before middle old → IsReached old.costs i → middle + 1 ≤ after → AreRoutes limit cost n (i + 1) before after new
+  routes-more routes reached more =
+      let first = same-before w (length BOUNDS) old new x 0 (omega arith) in
+      record {
+        places = omega (arith, x.places, routes.places);
+        origin = omega (arith, first.costs, routes.origin);
+        no_parts = omega (arith, first.parts, routes.no_parts);
+        last = λ j p l r.
+            elim (x.each j) [
+              | inl s ↦ last-same routes j p l s r
+              | inr by ↦ last-by_window reached by.0 j by.1 by.2
+            ];
+        small = λ j l r.
+            elim (x.each j) [
+              | inl s ↦ omega (arith, s.costs, routes.small j l (omega (arith, s.costs, r)))
+              | inr by ↦
+                  let facts = by-window by.0 j by.1 by.2 in
+                  let start = routes.small i (omega arith) reached in
+                  let behind : i + 1 ≤ j = omega (arith, facts.0.after) in
+                  let grown = mul-le-mul_left limit behind in
+                  let a = facts.0.affordable in
+                  let b = within by.0 by.1 in
+                  omega (arith, facts.1, start, grown, a, b)
+            ];
+        counted = λ j l r.
+            elim (x.each j) [
+              | inl s ↦ omega (arith, s.parts, routes.counted j l (omega (arith, s.costs, r)))
+              | inr by ↦
+                  let one = subst (λ (p : ℕ). get_or new.parts j 0 ≡ get_or old.parts p 0 + 1) here by.2.parts in
+                  omega (arith, one, routes.counted i (omega arith) reached)
+            ];
+      }
+
+  -- Place i is settled: the least bound that covers a part has an end at or behind the part's end.
+  pub settled-here : (charge : ℕ) → Cover charge limit BOUNDS → ((e : ℕ) → i < e → e ≤ n → charge ≤ cost i e) → ((e : ℕ) → i < e → e ≤ n → cost i (i + 1) ≤ cost i e) → get_or old.costs i 0 + limit < unreached → IsSettled limit cost n new.costs i
+  settled-here charge cover least grows room e a l c =
+      let found = find-place (cost i e) BOUNDS (λ b. 100 * b ≤ 103 * cost i e) (cover (cost i e) (least e a l) c) in
+      let m = found.0 in
+      let at = same-before w (length BOUNDS) old new x i (omega (arith, here)) in
+      let stands = subst (λ (p : ℕ). StandsAt cost n (get_or BOUNDS m 0) p (get_or w.positions m 0)) here (stands-at cost n w.place BOUNDS w.positions stand m found.1) in
+      elim stands [
+        | inl s ↦
+            let j = get_or w.positions m 0 in
+            let after_place : w.place < j = omega (arith, here, s.after) in
+            let facts = longest-end m found.1 after_place in
+            let tried = subst (λ (p : ℕ). get_or new.costs j 0 ≤ get_or old.costs p 0 + get_or w.costs m 0) here (x.tried m found.1 after_place) in
+            let a2 = s.affordable in
+            let bound = within m found.1 in
+            let near : 100 * get_or BOUNDS m 0 ≤ 103 * cost i e = found.3 in
+            let behind : e ≤ j =
+            elim (cases_lt j e) [
+              | inl short ↦ let over = s.longest e short l in absurd (omega (arith, over, found.2))
+              | inr reach ↦ reach
+            ] in
+            (j, behind, s.within, omega (arith, tried, facts.1, a2, bound, room), omega (arith, tried, facts.1, a2, near, at.costs))
+        | inr s ↦ let one = grows e a l in absurd (omega (arith, s.1, one, found.2))
+      ]
+
+  -- places that were done stay done
+  pub done-more : ((r : ℕ) → r < i → IsReached old.costs r → IsSettled limit cost n old.costs r ⊎ IsPassed n old.costs r) → IsSettled limit cost n new.costs i → (r : ℕ) → r < i + 1 → IsReached new.costs r → IsSettled limit cost n new.costs r ⊎ IsPassed n new.costs r
+  done-more done settled r l reached =
+      let le : r ≤ i = omega arith in
+      elim (eq-or-lt_of_le le) [
+        | inl e ↦ inl (subst (λ (y : ℕ). IsSettled limit cost n new.costs y) (sym e) settled)
+        | inr earlier ↦
+            let at = same-before w (length BOUNDS) old new x r (omega (arith, here)) in
+            elim (done r earlier (omega (arith, at.costs, reached))) [
+              | inl s ↦ inl (λ e a m c.
+                  let t = s e a m c in
+                  let cheaper = x.cheaper t.0 in
+                  (t.0, t.1, t.2, omega (arith, t.3, cheaper), omega (arith, t.4, cheaper, at.costs)))
+              | inr p ↦ let cheaper = x.cheaper p.0 in inr (p.0, p.1, p.2, omega (arith, p.3, cheaper, at.costs))
+            ]
+      ]

@@ -1,0 +1,32 @@
+use Rattle.std.proofs.Common.{◌≡◌, ℕ, ◌-◌, length, get_or, ◌∙◌, ap, arith}
+use Rattle.collection_model.specs.FormatNumbers.{format_one}
+use Rattle.partition_path.proofs.Traces.{to-last, near, total, counted}
+use Rattle.partition_path.proofs.cuts.partition.Goals as goal
+
+pub returns-clause-near : goal.returns-clause-near
+returns-clause-near g c =
+    let cost = g.C.SpanCost.cost_of c.args.cost.now in
+    let n = g.C.SpanCost.count c.args.cost.now in
+    let t = c.in_ok-routes.routes in
+    let said = c.in_ok-routes.ensures in
+    let chain = to-last t.starts (length t.costs) n c.in_ok-ends.ends.items said.routes.places c.in_ok-ends.ensures in
+    near format_one.limit cost n c.args.steps.now c.found.new.steps t said.routes said.reached c.in_ok-ends.ends.items chain said.near
+
+pub returns-clause-total : goal.returns-clause-total
+returns-clause-total g c =
+    let cost = g.C.SpanCost.cost_of c.args.cost.now in
+    let n = g.C.SpanCost.count c.args.cost.now in
+    let t = c.in_ok-routes.routes in
+    let said = c.in_ok-routes.ensures in
+    let chain = to-last t.starts (length t.costs) n c.in_ok-ends.ends.items said.routes.places c.in_ok-ends.ensures in
+    let last : length t.costs - 1 ≡ n = omega (arith, said.routes.places) in
+    c.total-total.ensures ∙ ap (λ (x : ℕ). get_or t.costs x 0) last ∙ total format_one.limit cost n c.args.steps.now c.found.new.steps t said.routes said.reached c.in_ok-ends.ends.items chain
+
+pub returns-clause-counted : goal.returns-clause-counted
+returns-clause-counted g c =
+    let cost = g.C.SpanCost.cost_of c.args.cost.now in
+    let n = g.C.SpanCost.count c.args.cost.now in
+    let t = c.in_ok-routes.routes in
+    let said = c.in_ok-routes.ensures in
+    let chain = to-last t.starts (length t.costs) n c.in_ok-ends.ends.items said.routes.places c.in_ok-ends.ensures in
+    counted format_one.limit cost n c.args.steps.now c.found.new.steps t said.routes said.reached c.in_ok-ends.ends.items chain

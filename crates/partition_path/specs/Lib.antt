@@ -1,0 +1,3 @@
+pub mod FoundCuts
+pub mod Tables
+pub mod Chains

@@ -1,0 +1,65 @@
+ghost use Rattle.std.specs.Prelude.{◌≡◌, ℕ, ◌≤◌, ◌<◌, ◌+◌, ◌-◌, ◌*◌, length, IfOk};
+ghost use Rattle.collection_model.specs.FormatNumbers.{format_one};
+ghost use Rattle.part_cost.specs.Partition.{IsNear, partition_cost};
+
+use crate::routes::Routes;
+use part_cost::SpanCost;
+use std::alloc::Global;
+use std::marker::Model;
+use std::sync::ledger::Ledger;
+use step_count::Steps;
+
+/// Memory was refused.
+#[derive(Clone, Copy, Debug, PartialEq, Eq)]
+pub struct NoMemory;
+
+/// A partition, with its cost.
+#[derive(Drop)]
+pub struct Cuts {
+    ends: Vec<u64>,
+    total: u64,
+}
+
+impl Model for Cuts {
+    ghost use Rattle.partition_path.specs.FoundCuts.{FoundCuts};
+
+    ghost Value = { FoundCuts };
+
+    ghost view = { λ c. record { ends = c.ends.items; total = c.total } };
+}
+
+impl Cuts {
+    /// The ends of the parts, each the place after the part's last number; none of an empty sequence.
+    pub fn ends(&self) -> &[u64]
+        ensures { result.now ≡ self.now.ends }
+    {
+        self.ends.as_slice()
+    }
+
+    /// The sum of the costs of the parts, in bits.
+    pub fn total(&self) -> u64
+        ensures { result ≡ self.now.total }
+    {
+        self.total
+    }
+}
+
+/// A partition into allowed parts that costs at most 103/100 of the cheapest such, after the approximation of Ottaviano
+/// and Venturini (Partitioned Elias-Fano Indexes, SIGIR 2014): for each bound a window slides over the sequence, and the
+/// parts that are tried are those to the windows' ends. It counts at most 3 * 114 costs for each number and one more,
+/// and takes room for a few numbers at each place. An `Err` comes only where memory is refused.
+pub fn partition<C: SpanCost, L: Ledger>(
+    alloc: Global,
+    cost: &C,
+    steps: &mut Steps<L>,
+) -> Result<Cuts, NoMemory>
+    ensures near { IfOk result (λ cuts. IsNear format_one.limit (C.cost_of cost.now) (C.count cost.now) cuts.ends) }
+    ensures total { IfOk result (λ cuts. cuts.total ≡ partition_cost (C.cost_of cost.now) cuts.ends) }
+    ensures counted { IfOk result (λ cuts. steps.old + length cuts.ends ≤ steps.new) }
+    ensures bounded { steps.new ≤ steps.old + 3 * 114 * (C.count cost.now + 1) }
+{
+    let routes = Routes::found(alloc, cost, steps)?;
+    let ends = routes.ends(alloc)?;
+    let total = routes.total();
+    Ok(Cuts { ends, total })
+}

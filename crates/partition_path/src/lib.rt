@@ -1,0 +1,9 @@
+// A near-cheapest partition.
+#![tactic(auto)]
+
+mod cuts;
+mod routes;
+#[cfg(test)]
+mod tests;
+
+pub use cuts::{Cuts, NoMemory, partition};

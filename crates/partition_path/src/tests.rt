@@ -1,0 +1,86 @@
+ghost use Rattle.std.specs.Prelude.{◌≡◌, ◌<◌, ◌^◌, length, IsTrue};
+ghost use Rattle.std.specs.List.{All};
+ghost use Rattle.std.specs.List.Sorted.{IsStrictlyIncreasing};
+
+use crate::{Cuts, NoMemory, partition};
+use part_cost::ListCost;
+use std::alloc::{AllocError, Global};
+use std::marker::Brand;
+use std::sync::ledger::{Blank, Ledger};
+use std::test::Fail;
+use step_count::Steps;
+
+/// The numbers below a count but for one, and then a last one.
+fn numbers(
+    alloc: Global,
+    count: u64,
+    without: u64,
+    last: Option<u64>,
+) -> Result<Vec<u64>, AllocError> {
+    let mut values = Vec::new(alloc);
+    for x in 0..count {
+        if x != without {
+            values.push(x)?;
+        }
+    }
+    if let Some(last) = last {
+        values.push(last)?;
+    }
+    Ok(values)
+}
+
+/// Whether the values are a sequence: they rise, and lie below 2^36.
+fn is_sequence(values: &[u64]) -> bool
+    ensures rising { IsTrue result → IsStrictlyIncreasing values.now }
+    ensures below { IsTrue result → All (λ x. x < 2 ^ 36) values.now }
+    ensures few { IsTrue result → length values.now < 2 ^ 32 }
+{
+    for i in 0..values.len() {
+        if values[i] >= 1 << 36 || (i > 0 && values[i] <= values[i - 1]) {
+            return false;
+        }
+    }
+    values.len() < 1 << 32
+}
+
+/// The cuts of a sequence of values.
+fn cuts<L: Ledger>(alloc: Global, blank: Blank, values: &[u64]) -> Result<Cuts, NoMemory>
+    requires name { blank.name ≡ L.name }
+    requires parts { blank.parts ≡ L.parts }
+    requires some { 0 < L.parts }
+    requires rising { IsStrictlyIncreasing values.now }
+    requires below { All (λ x. x < 2 ^ 36) values.now }
+    requires few { length values.now < 2 ^ 32 }
+{
+    let mut steps = Steps::<L>::new(blank);
+    partition(alloc, &ListCost::new(values), &mut steps)
+}
+
+#[test]
+fn near_the_cheapest(rt: HostRuntime) -> Result<(), Fail> {
+    // A count, a number below it that is left out, a last number; the cheapest total, and 103/100 of it.
+    let rows = [
+        (0, 0, None, 0, 0),
+        (1_000, 1_000, None, 128, 131),
+        (0, 0, Some(68_719_476_735), 165, 169),
+        (600, 300, None, 386, 397),
+        (100_000, 100_000, Some(1_000_000), 277, 285),
+    ];
+    for (count, without, last, least, most) in rows {
+        let values = numbers(rt.alloc(), count, without, last)?;
+        assert!(rt; is_sequence(&values));
+        let found = cuts::<Brand>(rt.alloc(), Blank::new(1), &values)?;
+        assert!(rt; least <= found.total() && found.total() <= most, "{count}");
+    }
+    Ok(())
+}
+
+#[test]
+fn all_numbers_are_one_part(rt: HostRuntime) -> Result<(), Fail> {
+    let values = numbers(rt.alloc(), 1_000, 1_000, None)?;
+    assert!(rt; is_sequence(&values));
+    let found = cuts::<Brand>(rt.alloc(), Blank::new(1), &values)?;
+    assert_eq!(rt; found.ends(), [1_000].as_slice());
+    assert_eq!(rt; found.total(), 128);
+    Ok(())
+}

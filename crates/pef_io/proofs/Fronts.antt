@@ -1,0 +1,24 @@
+use Rattle.std.proofs.Common.{◌≡◌, ℕ, ◌-◌, ◌≤◌, arith, sym, ◌∙◌, ap, ◌++◌, take, drop, ◌+◌, length, List, subst}
+use Rattle.std.specs.Prelude.{Result, Ok, IfOk}
+use Rattle.std.proofs.Math.Seq.{take-add, take-append_seam}
+use Rattle.std.proofs.lemmas.List.{append_assoc, length-drop, take_all, take-append-drop}
+
+-- what holds of the value of a result that is Ok
+pub at_ok : {A E : Type 0} (P : A → Type 0) (r : Result A E) (x : A) → r ≡ Ok x → IfOk r P → P x
+at_ok {A} {E} P r x e h = let Q : Result A E → Type 0 = λ r. IfOk r P in subst Q e h
+
+-- a front, and then a front of the rest
+pub one_front : (old mid new piece : List ℕ) (at n : ℕ) → at ≤ length piece → mid ≡ old ++ take at piece →
+    new ≡ mid ++ take n (take (length piece - at) (drop at piece)) → new ≡ old ++ take (at + n) piece
+one_front old mid new piece at n within m e =
+    e ∙ ap (λ xs. mid ++ take n xs) (take_all (length piece - at) (drop at piece) (omega (arith, length-drop at piece)))
+    ∙ ap (λ xs. xs ++ take n (drop at piece)) m
+    ∙ append_assoc old (take at piece) (take n (drop at piece))
+    ∙ ap (λ xs. old ++ xs) (sym (take-add at n piece))
+
+-- what was moved into the front of a buffer, and the rest, are what was left
+pub moved_front : (left buf moved : List ℕ) (n : ℕ) → length moved ≡ n → moved ≡ take n left →
+    left ≡ take n (moved ++ drop n buf) ++ drop n left
+moved_front left buf moved n l e =
+    sym (take-append-drop n left)
+    ∙ ap (λ xs. xs ++ drop n left) (sym e ∙ sym (take-append_seam moved (drop n buf)) ∙ ap (λ k. take k (moved ++ drop n buf)) l)

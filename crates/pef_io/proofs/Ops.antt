@@ -1,0 +1,36 @@
+use Rattle.std.proofs.Common.{◌≡◌, ℕ, Bool, true, false, refl, ap, Decides, ◌&&◌, nat_eq}
+use Rattle.std.proofs.lemmas.Bool.Decides.{Decides-eqb}
+use Rattle.pef_io.specs.declared.fail.Slot.{Slot}
+use Rattle.pef_io.specs.declared.fail.Slot.TheVariants.{Docs, Freqs, Sizes, Index}
+use Rattle.pef_io.specs.declared.calls.Op.{Op}
+use Rattle.pef_io.specs.declared.calls.Op.TheVariants.{Start, Read, Create, Write, Finish}
+use Rattle.pef_io.specs.contracts.fail.SlotPartialEq.TheImpl as slot
+use Rattle.pef_io.specs.contracts.calls.OpPartialEq.TheImpl as op
+
+-- `==` of slots is equality
+pub slot_eq : (a b : Slot) → Decides (slot.ghosts.eq a b) (a ≡ b)
+slot_eq Docs Docs = (λ _. refl, λ _. refl)
+slot_eq Freqs Freqs = (λ _. refl, λ _. refl)
+slot_eq Sizes Sizes = (λ _. refl, λ _. refl)
+slot_eq Index Index = (λ _. refl, λ _. refl)
+slot_eq a b = (λ e. cc, λ e. cc)
+
+-- `==` of kinds of call is equality
+pub op_eq : (a b : Op) → Decides (op.ghosts.eq a b) (a ≡ b)
+op_eq (Start s) (Start t) = (λ e. ap Start ((slot_eq s t).0 e), λ e. let same : s ≡ t = cc in (slot_eq s t).1 same)
+op_eq (Read s) (Read t) = (λ e. ap Read ((slot_eq s t).0 e), λ e. let same : s ≡ t = cc in (slot_eq s t).1 same)
+op_eq Create Create = (λ _. refl, λ _. refl)
+op_eq Write Write = (λ _. refl, λ _. refl)
+op_eq Finish Finish = (λ _. refl, λ _. refl)
+op_eq a b = (λ e. cc, λ e. cc)
+
+-- `==` of numbered calls is equality
+pub numbered_eq : (a b : Op × ℕ) → Decides (op.ghosts.eq a.0 b.0 && nat_eq a.1 b.1) (a ≡ b)
+numbered_eq (o, m) (p, n) = both (op.ghosts.eq o p) (nat_eq m n) (op_eq o p) (Decides-eqb m n)
+  where
+    pair_of : o ≡ p → m ≡ n → ◌≡◌ {A = Op × ℕ} (o, m) (p, n)
+    pair_of e f = cc
+
+    both : (s t : Bool) → Decides s (o ≡ p) → Decides t (m ≡ n) → Decides (s && t) (◌≡◌ {A = Op × ℕ} (o, m) (p, n))
+    both true t h k = (λ e. pair_of (h.0 refl) (k.0 e), λ e. k.1 (ap (λ x. x.1) e))
+    both false t h k = (λ e. cc, λ e. h.1 (ap (λ x. x.0) e))

@@ -1,0 +1,19 @@
+use Rattle.std.proofs.Common.{◌≡◌, ◌-◌, ◌≤◌, ◌++◌, [], length, take, unwrap_or, IsTrue}
+use Rattle.pef_io.specs.DepotState.{SameFilesBut, SameSlots, SameWriting}
+use Rattle.pef_io.proofs.helpers.depot_write_all.Given as goal
+
+abbrev pub invariant-loop-at : goal.invariant-loop-at
+invariant-loop-at g l =
+    let old = g.D.Depot.state l.fn.depot in
+    let now = g.D.Depot.state l.depot in
+    (l.at ≤ length l.piece)
+    × (now.tells ≡ old.tells)
+    × (IsTrue old.tells → unwrap_or (now.file old.name) [] ≡ unwrap_or (old.file old.name) [] ++ take l.at l.piece)
+    × (IsTrue old.tells → SameFilesBut old.name old now)
+    × SameSlots old now
+    × SameWriting old now
+    × (now.writing_faults ≡ old.writing_faults)
+    × ((slot : _) → now.faults slot ≡ old.faults slot)
+
+abbrev pub decreases-loop-at : goal.decreases-loop-at
+decreases-loop-at g l = length l.piece - l.at

@@ -1,0 +1,13 @@
+pub mod Calls
+pub mod SourceState
+pub mod SinkState
+pub mod DepotState
+pub mod Helpers
+pub mod PerSlot
+pub mod Opened
+pub mod Files
+pub mod DepotCalls
+pub mod SteadyDepot
+pub mod MemDepot
+pub mod Standard
+pub mod InMemory

@@ -1,0 +1,10 @@
+use Rattle.std.specs.Prelude.{◌≡◌, false}
+use Rattle.pef_io.specs.declared.fail.Slot.{Slot}
+use Rattle.pef_io.specs.DepotState.{DepotState}
+
+-- a depot of which nothing was called
+pub record IsUntouched (state : DepotState) : Type 0 where
+  pub none_started : (slot : Slot) → state.started slot ≡ false
+  pub none_created : state.created ≡ false
+  pub no_faults : (slot : Slot) → state.faults slot ≡ 0
+  pub no_writing_faults : state.writing_faults ≡ 0

@@ -1,0 +1,32 @@
+use Rattle.std.specs.Prelude.{ℕ, true, List, [], Option, None, Some, Vec, String, is_some}
+use Rattle.std.specs.declared.alloc.Global.{Global}
+use Rattle.pef_io.specs.declared.opened.Opened.{Opened}
+use Rattle.pef_io.specs.declared.steady_depot.SteadyDepot.{SteadyDepot}
+use Rattle.pef_io.specs.DepotState.{DepotState}
+use Rattle.pef_io.specs.InMemory.{file_in}
+use Rattle.pef_io.specs.Files.{name_at}
+use Rattle.pef_io.specs.Opened.{rest}
+use Rattle.pef_io.specs.PerSlot.{at_slot}
+
+-- the bytes that a slot has left, none where it is not started
+abbrev pub left_in : Option Opened → List ℕ
+left_in None = []
+left_in (Some opened) = rest opened
+
+-- the name that is written, none where no name is created
+abbrev pub written_name : List (String Global × Vec ℕ Global) → Option ℕ → List ℕ
+written_name files None = []
+written_name files (Some at) = name_at files at
+
+-- what is known of a depot in memory where no call fails
+abbrev pub steady_state : SteadyDepot → DepotState
+steady_state d = record {
+  tells = true;
+  file = file_in d.files.list.items;
+  left = λ slot. left_in (at_slot d.opened slot);
+  name = written_name d.files.list.items d.created;
+  started = λ slot. is_some (at_slot d.opened slot);
+  created = is_some d.created;
+  faults = λ _. 0;
+  writing_faults = 0;
+}

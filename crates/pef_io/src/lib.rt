@@ -1,0 +1,27 @@
+// What the program knows of the outside: sources, sinks and files under names.
+#![tactic(auto)]
+
+mod calls;
+mod fail;
+mod failing;
+mod failing_depot;
+mod files;
+mod helpers;
+mod opened;
+mod per_slot;
+mod standard;
+mod steady;
+mod steady_depot;
+#[cfg(test)]
+mod tests;
+mod traits;
+
+pub use calls::Op;
+pub use fail::{IoFail, Slot};
+pub use failing::{MemSink, MemSource};
+pub use failing_depot::MemDepot;
+pub use helpers::{depot_write_all, write_all_own};
+pub use standard::{StdDepot, StdSink, StdSource};
+pub use steady::{NoMemory, SteadySink, SteadySource};
+pub use steady_depot::SteadyDepot;
+pub use traits::{Depot, Sink, Source};

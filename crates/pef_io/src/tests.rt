@@ -1,0 +1,142 @@
+use crate::{
+    Depot, IoFail, MemDepot, MemSink, MemSource, Op, Sink, Slot, Source, StdDepot, StdSink,
+    StdSource, SteadyDepot, SteadySink, SteadySource, depot_write_all, write_all_own,
+};
+use std::alloc::{AllocError, Global};
+use std::io;
+
+/// The bytes of this text.
+fn bytes(alloc: Global, text: &str) -> Result<Vec<u8>, AllocError> {
+    Vec::from_slice(alloc, text.as_bytes())
+}
+
+/// Files of these names and texts.
+fn files(alloc: Global, all: &[(&str, &str)]) -> Result<Vec<(String, Vec<u8>)>, AllocError> {
+    let mut list = Vec::new(alloc);
+    for (name, text) in all {
+        list.push((String::from_str(alloc, name)?, bytes(alloc, text)?))?;
+    }
+    Ok(list)
+}
+
+#[test]
+fn sources_give_their_bytes(rt: HostRuntime) {
+    let alloc = rt.alloc();
+    let mut buf = [0u8; 8];
+    let mut steady = SteadySource::new(bytes(alloc, "abcde").expect(&rt, ""), 2);
+    for want in ["ab", "cd", "e", ""] {
+        assert_eq!(rt; steady.read(&mut buf), Ok(want.len()));
+        assert_eq!(rt; &buf[..want.len()], want.as_bytes());
+    }
+    assert_eq!(rt; steady.calls(), 4);
+
+    let fails = vec![in alloc; 1, 3].expect(&rt, "");
+    let mut failing = MemSource::new(bytes(alloc, "abcde").expect(&rt, ""), 8, fails);
+    assert_eq!(rt; failing.read(&mut buf), Err(IoFail::Failed));
+    assert_eq!(rt; failing.read(&mut buf[..3]), Ok(3));
+    assert_eq!(rt; failing.read(&mut buf), Err(IoFail::Failed));
+    assert_eq!(rt; failing.read(&mut buf), Ok(2));
+    assert_eq!(rt; &buf[..3], b"dec".as_slice());
+    assert_eq!(rt; failing.calls(), 4);
+}
+
+#[test]
+fn sinks_keep_what_is_written(rt: HostRuntime) {
+    let alloc = rt.alloc();
+    let mut steady = SteadySink::new(alloc, 2).expect(&rt, "");
+    assert_eq!(rt; write_all_own(&mut steady, b"abcde"), Ok(()));
+    assert_eq!(rt; steady.bytes(), b"abcde".as_slice());
+    assert_eq!(rt; steady.calls(), 3);
+
+    let fails = vec![in alloc; 2].expect(&rt, "");
+    let mut failing = MemSink::new(alloc, 2, fails).expect(&rt, "");
+    assert_eq!(rt; write_all_own(&mut failing, b"abcde"), Err(IoFail::Failed));
+    assert_eq!(rt; failing.bytes(), b"ab".as_slice());
+    assert_eq!(rt; failing.write(b"c"), Ok(1));
+    assert_eq!(rt; failing.bytes(), b"abc".as_slice());
+    assert_eq!(rt; failing.calls(), 3);
+}
+
+/// Starts the name and reads it by two calls, the first into three bytes.
+fn read_twice<D: Depot>(depot: &mut D, name: &str, buf: &mut [u8; 8]) -> Result<usize, IoFail> {
+    depot.start(Slot::Docs, name)?;
+    let first = depot.read(Slot::Docs, &mut buf[..3])?;
+    let second = depot.read(Slot::Docs, &mut buf[3..])?;
+    Ok(first + second)
+}
+
+/// Writes a file of this name.
+fn put<D: Depot>(depot: &mut D, name: &str, text: &[u8]) -> Result<(), IoFail> {
+    depot.create(name)?;
+    depot_write_all(depot, text)?;
+    depot.finish()
+}
+
+/// Reads the file `a` and writes the file `b`.
+fn read_and_put<D: Depot>(depot: &mut D) -> Result<(), IoFail> {
+    let mut buf = [0u8; 8];
+    read_twice(depot, "a", &mut buf)?;
+    put(depot, "b", b"12345")
+}
+
+#[test]
+fn depots_read_and_write(rt: HostRuntime) {
+    let alloc = rt.alloc();
+    let held = files(alloc, &[("a", "abcde"), ("a", "x")]).expect(&rt, "");
+    let mut depot = SteadyDepot::new(alloc, held, 4).expect(&rt, "");
+    let mut buf = [0u8; 8];
+    assert_eq!(rt; read_twice(&mut depot, "a", &mut buf), Ok(5));
+    assert_eq!(rt; buf, *b"abcde\0\0\0");
+    assert_eq!(rt; read_twice(&mut depot, "none", &mut buf), Ok(0));
+    assert_eq!(rt; put(&mut depot, "a", b"12345"), Ok(()));
+    assert_eq!(rt; depot.file("a").unwrap_or_default(), b"12345".as_slice());
+    assert_eq!(rt; depot.calls(Op::Write), 2);
+    assert_eq!(rt; depot.calls(Op::Start(Slot::Docs)), 2);
+}
+
+#[test]
+fn depots_fail_where_they_are_told_to(rt: HostRuntime) {
+    let alloc = rt.alloc();
+    for (op, number, result, written) in [
+        (Op::Start(Slot::Docs), 1, Err(IoFail::Failed), None),
+        (Op::Start(Slot::Docs), 2, Ok(()), Some("12345")),
+        (Op::Start(Slot::Freqs), 1, Ok(()), Some("12345")),
+        (Op::Read(Slot::Docs), 2, Err(IoFail::Failed), None),
+        (Op::Read(Slot::Docs), 3, Ok(()), Some("12345")),
+        (Op::Create, 1, Err(IoFail::Failed), None),
+        (Op::Write, 1, Err(IoFail::Failed), Some("")),
+        (Op::Write, 2, Err(IoFail::Failed), Some("12")),
+        (Op::Write, 4, Ok(()), Some("12345")),
+        (Op::Finish, 1, Err(IoFail::Failed), Some("12345")),
+    ] {
+        let held = files(alloc, &[("a", "abcde")]).expect(&rt, "");
+        let fails = vec![in alloc; (op, number)].expect(&rt, "");
+        let mut depot = MemDepot::new(alloc, held, 2, fails).expect(&rt, "");
+        assert_eq!(rt; read_and_put(&mut depot), result, "{op:?} {number}");
+        let wanted = written.map(|text| text.as_bytes());
+        assert_eq!(rt; depot.file("b"), wanted, "{op:?} {number}");
+        assert_eq!(rt; depot.start(Slot::Index, "none"), Err(IoFail::Failed));
+    }
+}
+
+#[test]
+fn the_system_keeps_files(rt: HostRuntime) {
+    let mut depot = StdDepot::new(rt);
+    let mut buf = [0u8; 8];
+    assert_eq!(rt;
+        read_twice(&mut depot, "written", &mut buf),
+        Err(IoFail::Failed)
+    );
+    assert_eq!(rt; put(&mut depot, "written", b"abcde"), Ok(()));
+    assert_eq!(rt; read_twice(&mut depot, "written", &mut buf), Ok(5));
+    assert_eq!(rt; buf, *b"abcde\0\0\0");
+    assert_eq!(rt;
+        put(&mut depot, "no/such/folder", b"a"),
+        Err(IoFail::Failed)
+    );
+
+    let mut input = StdSource::new(io::empty());
+    assert_eq!(rt; input.read(&mut buf), Ok(0));
+    let mut out = StdSink::new(rt.stderr());
+    assert_eq!(rt; write_all_own(&mut out, b"written whole\n"), Ok(()));
+}

@@ -1,0 +1,14 @@
+use Rattle.std.proofs.Common.{◌≡◌, ℕ, ◌+◌, List, length, Ok}
+use Rattle.pef_top.specs.AnswersEnded.{HasRead}
+use Rattle.pef_top.specs.Unended.{AnswersBytes}
+use Rattle.pef_top.proofs.text.answer_ended_lines.Given as goal
+
+abbrev pub invariant-pieces : goal.invariant-pieces
+invariant-pieces g l =
+    (bytes : List ℕ)
+    × HasRead bytes (g.I.Source.state l.fn.input) (g.I.Source.state l.input)
+    × (length bytes + l.rest ≡ l.limit)
+    × AnswersBytes l.collection bytes l.held.items (g.O.Sink.state l.fn.out) (g.O.Sink.state l.out) (Ok tt)
+
+abbrev pub decreases-pieces : goal.decreases-pieces
+decreases-pieces g l = l.rest

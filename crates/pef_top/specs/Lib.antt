@@ -1,0 +1,16 @@
+pub mod StatusNumber
+pub mod Command
+pub mod Asked
+pub mod Replies
+pub mod GotReplies
+pub mod AnswerText
+pub mod AnswersLines
+pub mod Unended
+pub mod AnswersEnded
+pub mod Faults
+pub mod Outside
+pub mod ErrLines
+pub mod ErrPieces
+pub mod Stops
+pub mod AnswerRun
+pub mod Ending

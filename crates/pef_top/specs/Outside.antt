@@ -1,0 +1,48 @@
+use Rattle.std.specs.Prelude.{◌≡◌, ℕ, ◌⊎◌, ◌++◌, IsTrue, List}
+use Rattle.pef_io.specs.declared.fail.Slot.{Slot}
+use Rattle.pef_io.specs.Calls.{Rose}
+use Rattle.pef_io.specs.SourceState.{SourceState}
+use Rattle.pef_io.specs.SinkState.{SinkState}
+use Rattle.pef_io.specs.DepotState.{DepotState}
+use Rattle.pef_io.specs.Helpers.{AppendsFront}
+
+-- all that a run has outside
+pub record Outside : Type 0 where
+  pub depot : DepotState
+  pub input : SourceState
+  pub out : SinkState
+  pub err : SinkState
+
+-- one put together
+abbrev pub outside : DepotState → SourceState → SinkState → SinkState → Outside
+outside depot input out err = record { depot = depot; input = input; out = out; err = err }
+
+-- The depot, the input and out tell their bytes.
+pub record Told (old : Outside) : Type 0 where
+  pub depot : IsTrue old.depot.tells
+  pub input : IsTrue old.input.tells
+  pub out : IsTrue old.out.tells
+
+-- What told its bytes goes on to tell them.
+pub record KeepsTelling (old new : Outside) : Type 0 where
+  pub depot : new.depot.tells ≡ old.depot.tells
+  pub input : new.input.tells ≡ old.input.tells
+  pub out : new.out.tells ≡ old.out.tells
+  pub err : new.err.tells ≡ old.err.tells
+
+-- No call on the depot, the input or out failed.
+pub record NoCallFailed (old new : Outside) : Type 0 where
+  pub slots : (slot : Slot) → ¬ Rose (old.depot.faults slot) (new.depot.faults slot)
+  pub writing : ¬ Rose old.depot.writing_faults new.depot.writing_faults
+  pub input : ¬ Rose old.input.faults new.input.faults
+  pub out : ¬ Rose old.out.faults new.out.faults
+
+-- The input and out are as they were: no byte was read, and none was written.
+pub record IsUnanswered (old new : Outside) : Type 0 where
+  pub input : new.input ≡ old.input
+  pub out : new.out ≡ old.out
+
+-- A sink got a text whole, or, only where it failed or was refused memory, a front of it.
+abbrev pub GotText : SinkState → SinkState → List ℕ → Type 0
+GotText old new text =
+    IsTrue old.tells → (new.written ≡ old.written ++ text) ⊎ ((Rose old.faults new.faults ⊎ Rose old.refusals new.refusals) × AppendsFront old.written new.written text)

@@ -1,0 +1,41 @@
+ghost use Rattle.std.specs.Prelude.{◌≡◌};
+ghost use Rattle.pef_top.specs.StatusNumber.{status_number};
+
+/// How a run ended.
+#[derive(Clone, Copy, Debug, PartialEq, Eq)]
+pub enum Status {
+    /// All is done, and nothing is written on err.
+    Done,
+    /// The words of the command line are no command.
+    Usage,
+    /// The files of the collection break a rule.
+    Collection,
+    /// A file is no index.
+    Index,
+    /// A start or a read of a file, or a read of the input, failed.
+    Read,
+    /// A write of a file or on out failed.
+    Write,
+    /// Memory was refused.
+    NoMemory,
+    /// The query text is longer than the limit.
+    TooLarge,
+}
+
+impl Status {
+    /// The number with which the process ends.
+    pub fn number(self) -> u8
+        ensures { result ≡ status_number self }
+    {
+        match self {
+            Status::Done => 0,
+            Status::Usage => 2,
+            Status::Collection => 3,
+            Status::Index => 4,
+            Status::Read => 5,
+            Status::Write => 6,
+            Status::NoMemory => 7,
+            Status::TooLarge => 8,
+        }
+    }
+}

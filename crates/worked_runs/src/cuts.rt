@@ -1,0 +1,68 @@
+// Each file of the three lists is cut at each byte.
+use crate::collections::{THREE_LISTS, cut_files};
+use crate::runs::run_words;
+use pef_io::{MemSink, Slot, SteadyDepot, SteadySink, SteadySource};
+use pef_top::Status;
+use std::alloc::Global;
+
+/// The fault of the collection whose file of this slot is cut to so many bytes.
+fn fault_of_cut(cut: Slot, length: usize) -> &'static str {
+    match (cut, length) {
+        (Slot::Docs, 8) => "collection C10 freqs term 0 place 0\n",
+        (Slot::Docs, 0..=15) => "collection C1 docs term 0 place 0\n",
+        (Slot::Docs, 16) => "collection C10 freqs term 1 place 0\n",
+        (Slot::Docs, 17..=19) => "collection C1 docs term 1 place 0\n",
+        (Slot::Docs, 20) => "collection C10 freqs term 2 place 0\n",
+        (Slot::Docs, _) => "collection C1 docs term 2 place 0\n",
+        (Slot::Freqs, 0..=7) => "collection C1 freqs term 0 place 0\n",
+        (Slot::Freqs, 8..=11) => "collection C1 freqs term 1 place 0\n",
+        (Slot::Freqs, _) => "collection C1 freqs term 2 place 0\n",
+        (_, 0..=7) => "collection C1 sizes term 3 place 0\n",
+        (_, _) => "collection C1 sizes term 3 place 1\n",
+    }
+}
+
+/// Answers the cut collection, where the write on err of this number fails: the status and err. None
+/// where anything was called on input or out.
+fn run_cut(alloc: Global, cut: Slot, length: usize, failing: u64) -> Option<(Status, MemSink)> {
+    let files = cut_files(alloc, THREE_LISTS, cut, length)?;
+    let mut depot = SteadyDepot::new(alloc, files, 4).ok()?;
+    let mut input = SteadySource::new(Vec::new(alloc), 4);
+    let mut out = SteadySink::new(alloc, 4).ok()?;
+    let mut err = MemSink::new(alloc, 4, vec![in alloc; failing].ok()?).ok()?;
+    let words = ["pefidx", "answer", "x"];
+    let status = run_words(alloc, &words, &mut depot, &mut input, &mut out, &mut err)?;
+    if input.calls() > 0 || out.calls() > 0 {
+        return None;
+    }
+    Some((status, err))
+}
+
+#[test]
+fn each_cut_has_its_fault_and_err_may_fail(rt: HostRuntime) {
+    for (cut, whole) in [(Slot::Docs, 28), (Slot::Freqs, 20), (Slot::Sizes, 12)] {
+        for length in 0..whole {
+            let line = fault_of_cut(cut, length).as_bytes();
+            let mut failed = 0;
+            for failing in 1..100 {
+                let run = run_cut(rt.alloc(), cut, length, failing);
+                let (status, err) = run.expect(&rt, "nothing is called on input or out");
+                assert_eq!(rt; status, Status::Collection, "{cut:?} {length}");
+                if err.calls() < failing {
+                    assert_eq!(rt; err.bytes(), line, "{cut:?} {length}");
+                    break;
+                }
+                assert!(rt; line.starts_with(err.bytes()), "{cut:?} {length} {failing}");
+                assert!(rt;
+                    err.bytes().len() < line.len(),
+                    "{cut:?} {length} {failing}"
+                );
+                failed = failing;
+            }
+            assert!(rt;
+                line.len() / 4 <= failed as usize && failed < 99,
+                "{cut:?} {length}"
+            );
+        }
+    }
+}

@@ -1,0 +1,16 @@
+//! Whole runs over inputs, outputs and files in memory, against replies, refusals and faults that
+//! were worked out by hand.
+#![tactic(auto)]
+
+#[cfg(test)]
+mod answers;
+#[cfg(test)]
+mod collections;
+#[cfg(test)]
+mod cuts;
+#[cfg(test)]
+mod failures;
+#[cfg(test)]
+mod faults;
+#[cfg(test)]
+mod runs;

@@ -1,0 +1,94 @@
+// One run.
+ghost use Rattle.std.specs.Prelude.{◌≡◌, ◌<◌};
+
+use pef_io::{Depot, Op, Sink, Slot, Source, SteadyDepot, SteadySink, SteadySource};
+use pef_top::{Status, run};
+use std::alloc::Global;
+use std::marker::Brand;
+use std::sync::ledger::{Blank, Ledger};
+use step_count::Steps;
+
+/// Files by name.
+pub(crate) type FileList = Vec<(String, Vec<u8>)>;
+
+/// The kinds of call of a depot.
+pub(crate) const OPS: [Op; 11] = [
+    Op::Start(Slot::Docs),
+    Op::Start(Slot::Freqs),
+    Op::Start(Slot::Sizes),
+    Op::Start(Slot::Index),
+    Op::Read(Slot::Docs),
+    Op::Read(Slot::Freqs),
+    Op::Read(Slot::Sizes),
+    Op::Read(Slot::Index),
+    Op::Create,
+    Op::Write,
+    Op::Finish,
+];
+
+/// What stands after a run over objects that never fail.
+#[derive(Drop)]
+pub(crate) struct Outcome {
+    pub(crate) status: Status,
+    pub(crate) out: SteadySink,
+    pub(crate) err: SteadySink,
+    pub(crate) input: SteadySource,
+    pub(crate) depot: SteadyDepot,
+}
+
+/// Runs these words, the program's name first; none where memory for them is wanting.
+pub(crate) fn run_words<D: Depot, I: Source, O: Sink, E: Sink>(
+    alloc: Global,
+    words: &[&str],
+    depot: &mut D,
+    input: &mut I,
+    out: &mut O,
+    err: &mut E,
+) -> Option<Status> {
+    let mut texts = Vec::new(alloc);
+    for word in words {
+        texts.push(String::from_str(alloc, word).ok()?).ok()?;
+    }
+    let words = texts.as_slice();
+    let blank = Blank::new(1);
+    Some(run_counted::<_, _, _, _, Brand>(alloc, words, depot, input, out, err, blank))
+}
+
+/// Runs the words with a counter of their own.
+fn run_counted<D: Depot, I: Source, O: Sink, E: Sink, L: Ledger>(
+    alloc: Global,
+    words: &[String],
+    depot: &mut D,
+    input: &mut I,
+    out: &mut O,
+    err: &mut E,
+    blank: Blank,
+) -> Status
+    requires name { blank.name ≡ L.name }
+    requires parts { blank.parts ≡ L.parts }
+    requires some { 0 < L.parts }
+{
+    let mut steps = Steps::<L>::new(blank);
+    run(alloc, words, depot, input, out, err, &mut steps)
+}
+
+/// Runs the words over these files and this query text, where no call fails.
+pub(crate) fn steady_run(
+    alloc: Global,
+    words: &[&str],
+    files: FileList,
+    text: &[u8],
+) -> Option<Outcome> {
+    let mut depot = SteadyDepot::new(alloc, files, 8192).ok()?;
+    let mut input = SteadySource::new(Vec::from_slice(alloc, text).ok()?, 8192);
+    let mut out = SteadySink::new(alloc, 8192).ok()?;
+    let mut err = SteadySink::new(alloc, 8192).ok()?;
+    let status = run_words(alloc, words, &mut depot, &mut input, &mut out, &mut err)?;
+    Some(Outcome {
+        status,
+        out,
+        err,
+        input,
+        depot,
+    })
+}
