@@ -6,6 +6,7 @@ pub mod Held
 pub mod Answered
 pub mod Taken
 pub mod TermLists
+pub mod CursorLists
 pub mod Parsed
 pub mod TextEnds
 pub mod WholeText

@@ -5,10 +5,11 @@ use Rattle.std.specs.List.{All}
 use Rattle.std.specs.List.Sorted.{IsStrictlyIncreasing}
 use Rattle.std.proofs.Math.ListN.{get_or-eq_default}
 use Rattle.std.proofs.lemmas.Bool.{le-leb, lt-leb}
-use Rattle.std.proofs.lemmas.List.Elements.{All-get_or}
+use Rattle.std.proofs.lemmas.List.Elements.{All-get_or, All-weaker}
 use Rattle.collection_model.specs.FormatNumbers.{format_one}
 use Rattle.collection_model.specs.Collection.{Posting, IsPostingList, postings_of, first_at_least, docs_of}
 use Rattle.collection_reader.specs.Held.{lists_held, AreAligned}
+use Rattle.cursor_api.specs.NextGeq.{IsCursorList}
 
 abbrev Numbers : Type 0
 Numbers = Vec ℕ Global
@@ -96,3 +97,18 @@ pub beyond : (lists : List (List Posting)) (docs freqs : List Numbers) (t x : �
 beyond lists docs freqs t x a e le =
     let none : get_or lists t [] ≡ [] = get_or-eq_default lists [] (omega (arith, ap length e, held-length docs freqs a)) in
     ap (λ list. found list x) none
+
+-- a term's list is one that a cursor may have
+pub cursor-list-at : (n : ℕ) (lists : List (List Posting)) (docs freqs : List Numbers) (t : ℕ) (d f : Numbers) (ds fs : List ℕ) → AreAligned docs freqs → lists_held docs freqs ≡ lists → t < length docs →
+    n ≤ 268435455 → All (IsPostingList format_one n) lists →
+    ds ≡ (get_or docs t d).items → fs ≡ (get_or freqs t f).items → IsCursorList (postings_of ds fs)
+cursor-list-at n lists docs freqs t d f ds fs a e lt most all de fe =
+    let within : t < length lists = omega (arith, ap length e, held-length docs freqs a) in
+    let list = All-get_or (IsPostingList format_one n) lists t [] within all in
+    let made : IsCursorList (get_or lists t []) = record {
+      rising = list.rising;
+      docs = All-weaker (λ d. d < n) (λ d. d < 4294967295) (λ d lt. omega arith) (docs_of (get_or lists t [])) list.in_range;
+      not_zero = list.not_zero;
+      fit = list.fit;
+    } in
+    subst IsCursorList (sym (made-at lists docs freqs t d f ds fs a e lt de fe)) made

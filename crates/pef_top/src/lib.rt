@@ -8,6 +8,7 @@ mod lines;
 mod reply;
 mod status;
 mod stop;
+mod term_cursors;
 mod text;
 mod top;
 mod words;

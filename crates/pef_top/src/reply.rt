@@ -2,12 +2,20 @@ ghost use Rattle.std.specs.Prelude.{◌≡◌, length, [], ◌∷◌, option_map
 ghost use Rattle.std.specs.List.Sorted.{IsStrictlyIncreasing};
 ghost use Rattle.collection_model.specs.FormatNumbers.{format_one};
 ghost use Rattle.collection_model.specs.Collection.{WellFormed, postings_of, list_of, first_at_least};
-ghost use Rattle.pef_top.specs.Replies.{IsAnswer};
+ghost use Rattle.query_text.specs.Parse.{NamesTerms};
+ghost use Rattle.query_text.specs.TermSet.{AreTerms};
+ghost use Rattle.query_text.specs.Texts.{list_text};
+ghost use Rattle.scan_plans.specs.Matches.{in_all, in_any};
+ghost use Rattle.pef_top.specs.Replies.{IsAnswer, IsTopReply, lists_of};
 ghost use Rattle.pef_top.specs.AnswersLines.{AnswersLines};
 
+use crate::term_cursors::cursors_of;
 use collection_reader::Collection;
 use pef_io::{IoFail, Sink, write_all_own};
-use query_text::{NoMemory, ParseError, Query, bad_reply, next_reply, parse};
+use query_text::{
+    NoMemory, ParseError, Query, bad_reply, list_reply, next_reply, parse, top_reply,
+};
+use scan_plans::{and_docs, or_docs, top_exhaustive};
 use std::alloc::Global;
 
 /// Answers one line: its reply, with the newline, is one piece.
@@ -40,12 +48,56 @@ fn terms(collection: &Collection) -> u32
 
 /// The reply to what a line asks.
 fn answer(alloc: Global, collection: &Collection, query: Query) -> Result<Vec<u8>, NoMemory>
-    requires { WellFormed format_one collection.now }
+    requires well_formed { WellFormed format_one collection.now }
+    requires named { NamesTerms (length collection.now.lists) query }
     ensures { IfOk result (λ text. IsAnswer collection.now query text.items) }
 {
     match query {
         Query::Next { term, doc } => next_reply(alloc, next_posting(collection, term, doc)),
+        Query::And(terms) => and_answer(alloc, collection, terms.as_slice()),
+        Query::Or(terms) => or_answer(alloc, collection, terms.as_slice()),
+        Query::Top { k, terms } => top_answer(alloc, collection, k, terms.as_slice()),
     }
+}
+
+/// The reply with the documents that are in the lists of all these terms.
+fn and_answer(alloc: Global, collection: &Collection, terms: &[u32]) -> Result<Vec<u8>, NoMemory>
+    requires well_formed { WellFormed format_one collection.now }
+    requires terms { AreTerms (length collection.now.lists) terms.now }
+    ensures { IfOk result (λ text. text.items ≡ list_text (in_all collection.now.documents (lists_of collection.now terms.now))) }
+{
+    let mut cursors = cursors_of(alloc, collection, terms).map_err(|_| NoMemory)?;
+    let docs = and_docs(alloc, cursors.as_mut_slice()).map_err(|_| NoMemory)?;
+    list_reply(alloc, docs.as_slice())
+}
+
+/// The reply with the documents that are in the list of any of these terms.
+fn or_answer(alloc: Global, collection: &Collection, terms: &[u32]) -> Result<Vec<u8>, NoMemory>
+    requires well_formed { WellFormed format_one collection.now }
+    requires terms { AreTerms (length collection.now.lists) terms.now }
+    ensures { IfOk result (λ text. text.items ≡ list_text (in_any collection.now.documents (lists_of collection.now terms.now))) }
+{
+    let mut cursors = cursors_of(alloc, collection, terms).map_err(|_| NoMemory)?;
+    let docs = or_docs(alloc, cursors.as_mut_slice()).map_err(|_| NoMemory)?;
+    list_reply(alloc, docs.as_slice())
+}
+
+/// The reply with the first k documents of any of these terms.
+fn top_answer(
+    alloc: Global,
+    collection: &Collection,
+    k: u32,
+    terms: &[u32],
+) -> Result<Vec<u8>, NoMemory>
+    requires well_formed { WellFormed format_one collection.now }
+    requires terms { AreTerms (length collection.now.lists) terms.now }
+    ensures { IfOk result (λ text. IsTopReply collection.now k terms.now text.items) }
+{
+    let mut cursors = cursors_of(alloc, collection, terms).map_err(|_| NoMemory)?;
+    let top = top_exhaustive(alloc, cursors.as_mut_slice(), k, collection.documents).map_err(
+        |_| NoMemory,
+    )?;
+    top_reply(alloc, top.as_slice())
 }
 
 /// The first posting of a term whose document is at least this one, as document and frequency.

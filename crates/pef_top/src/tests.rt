@@ -82,7 +82,7 @@ fn texts_are_answered(rt: HostRuntime) -> Result<(), Fail> {
             writes: &[],
             limit: FAR,
             want: Ok(()),
-            out: "2 5\nend\nbad verb\nbad verb\n1 7\n",
+            out: "2 5\nend\n2 0 2\nbad verb\n1 7\n",
         },
         Case {
             text: FIVE_LINES,
@@ -91,7 +91,7 @@ fn texts_are_answered(rt: HostRuntime) -> Result<(), Fail> {
             writes: &[],
             limit: FAR,
             want: Ok(()),
-            out: "2 5\nend\nbad verb\nbad verb\n1 7\n",
+            out: "2 5\nend\n2 0 2\nbad verb\n1 7\n",
         },
         Case {
             text: "",
@@ -101,6 +101,15 @@ fn texts_are_answered(rt: HostRuntime) -> Result<(), Fail> {
             limit: 0,
             want: Ok(()),
             out: "",
+        },
+        Case {
+            text: "and 0 1\nor 1 0\ntop 2 0 1\n",
+            most: 100,
+            reads: &[],
+            writes: &[],
+            limit: FAR,
+            want: Ok(()),
+            out: "0\n3 0 1 2\n2 1:7 2:5\n",
         },
         Case {
             text: "next 2 0\nnext 0\n",

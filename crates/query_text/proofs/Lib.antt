@@ -2,3 +2,6 @@ mod Rows
 pub mod Runs
 pub mod Decimals
 pub mod DigitCount
+pub mod TermSets
+pub mod NumbersSeen
+pub mod Named

@@ -6,10 +6,11 @@ mod numbers;
 mod parsing;
 mod query;
 mod replies;
+mod term_lists;
 
 pub use parsing::parse;
-pub use query::{Bad, NoMemory, ParseError, Query};
-pub use replies::{bad_reply, next_reply};
+pub use query::{Bad, NoMemory, ParseError, Query, Terms};
+pub use replies::{bad_reply, list_reply, next_reply, top_reply};
 
 #[cfg(test)]
 mod tests;

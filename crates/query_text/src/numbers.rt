@@ -28,6 +28,7 @@ pub fn next_number(text: &[u8]) -> Option<(u32, &[u8])>
     ensures first { MatchOption result
         ((numbers_of (fields text.now) ≡ Some []) ⊎ (numbers_of (fields text.now) ≡ None))
         (λ cut. numbers_of (fields text.now) ≡ number_before (Some cut.0) (numbers_of (fields cut.1.now))) }
+    ensures shorter { IfSome result (λ cut. length cut.1.now < length text.now) }
 {
     let (field, rest) = next_field(text)?;
     Some((number(field)?, rest))

@@ -1,6 +1,6 @@
 // The texts of replies, each with its newline.
 ghost use Rattle.std.specs.Prelude.{◌≡◌, ◌+◌, ◌<◌, ◌≤◌, ◌++◌, length, decimal, IfOk, OnOk};
-ghost use Rattle.query_text.specs.Texts.{next_text, bad_text};
+ghost use Rattle.query_text.specs.Texts.{next_text, list_text, top_text, bad_text};
 
 use crate::query::{Bad, NoMemory};
 use itoa::write_digits;
@@ -46,6 +46,48 @@ pub fn next_reply(alloc: Global, posting: Option<(u32, u32)>) -> Result<Vec<u8>,
     ensures { IfOk result (λ text. text.items ≡ next_text posting) }
 {
     spell_next(alloc, posting).map_err(|_| NoMemory)
+}
+
+fn spell_list(alloc: Global, docs: &[u32]) -> Result<Vec<u8>, AllocError>
+    ensures { IfOk result (λ text. text.items ≡ list_text docs.now) }
+{
+    let mut text = Vec::new(alloc);
+    push_decimal(&mut text, docs.len() as u64)?;
+    for doc in docs {
+        text.push(b' ')?;
+        push_decimal(&mut text, u64::from(*doc))?;
+    }
+    text.push(b'\n')?;
+    Ok(text)
+}
+
+/// The reply to `and` and `or`: how many documents, and each.
+pub fn list_reply(alloc: Global, docs: &[u32]) -> Result<Vec<u8>, NoMemory>
+    ensures { IfOk result (λ text. text.items ≡ list_text docs.now) }
+{
+    spell_list(alloc, docs).map_err(|_| NoMemory)
+}
+
+fn spell_top(alloc: Global, top: &[(u32, u64)]) -> Result<Vec<u8>, AllocError>
+    ensures { IfOk result (λ text. text.items ≡ top_text top.now) }
+{
+    let mut text = Vec::new(alloc);
+    push_decimal(&mut text, top.len() as u64)?;
+    for (doc, score) in top {
+        text.push(b' ')?;
+        push_decimal(&mut text, u64::from(*doc))?;
+        text.push(b':')?;
+        push_decimal(&mut text, *score)?;
+    }
+    text.push(b'\n')?;
+    Ok(text)
+}
+
+/// The reply to `top`: how many documents, and each with its score.
+pub fn top_reply(alloc: Global, top: &[(u32, u64)]) -> Result<Vec<u8>, NoMemory>
+    ensures { IfOk result (λ text. text.items ≡ top_text top.now) }
+{
+    spell_top(alloc, top).map_err(|_| NoMemory)
 }
 
 /// The reply to a line that breaks a rule.

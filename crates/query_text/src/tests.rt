@@ -1,72 +1,164 @@
-use crate::{Bad, ParseError, Query, bad_reply, next_reply, parse};
+use crate::{Bad, ParseError, Query, bad_reply, list_reply, next_reply, parse, top_reply};
+use std::alloc::{AllocError, Global};
 use std::test::Fail;
 
+// The verb of a query and its numbers.
+fn spelled(alloc: Global, query: &Query) -> Result<(&'static str, Vec<u32>), AllocError> {
+    match query {
+        Query::Next { term, doc } => Ok(("next", Vec::from_slice(alloc, &[*term, *doc])?)),
+        Query::And(terms) => Ok(("and", Vec::from_slice(alloc, terms.as_slice())?)),
+        Query::Or(terms) => Ok(("or", Vec::from_slice(alloc, terms.as_slice())?)),
+        Query::Top { k, terms } => {
+            let mut numbers = Vec::from_slice(alloc, &[*k])?;
+            numbers.extend_from_slice(terms.as_slice())?;
+            Ok(("top", numbers))
+        }
+    }
+}
+
 #[test]
-fn lines_ask_or_break_a_rule(rt: HostRuntime) {
-    let next = |term: u32, doc: u32| Ok(Query::Next { term, doc });
-    let bad = |rule: Bad| Err(ParseError::Bad(rule));
+fn lines_ask(rt: HostRuntime) -> Result<(), Fail> {
     let cases = [
-        ("next 0 1", next(0, 1)),
-        ("  next   001 4294967295 ", next(1, 4_294_967_295)),
-        ("next 2 0", bad(Bad::Term)),
-        ("next 4294967295 0", bad(Bad::Term)),
-        ("next 0", bad(Bad::Number)),
-        ("next", bad(Bad::Number)),
-        ("next 0 1 2", bad(Bad::Number)),
-        ("next 0 4294967296", bad(Bad::Number)),
-        ("next 0 18446744073709551616", bad(Bad::Number)),
-        ("next 7 x", bad(Bad::Number)),
-        ("next 0 +1", bad(Bad::Number)),
-        ("next 0 1\r", bad(Bad::Number)),
-        ("next 0\t1", bad(Bad::Number)),
-        ("next\t0 1", bad(Bad::Verb)),
-        ("near 0", bad(Bad::Verb)),
-        ("Next 0 1", bad(Bad::Verb)),
-        ("   ", bad(Bad::Verb)),
-        ("", bad(Bad::Verb)),
+        ("next 0 1", "next", [0, 1].as_slice()),
+        (
+            "  next   009 4294967295 ",
+            "next",
+            [9, 4_294_967_295].as_slice(),
+        ),
+        ("and", "and", [].as_slice()),
+        ("and 1 0", "and", [0, 1].as_slice()),
+        ("or 0 0", "or", [0].as_slice()),
+        (
+            "or 9 8 7 6 5 4 3 2 1 0 9 0 5",
+            "or",
+            [0, 1, 2, 3, 4, 5, 6, 7, 8, 9].as_slice(),
+        ),
+        ("top 2 0 1", "top", [2, 0, 1].as_slice()),
+        ("top 9 0 0", "top", [9, 0].as_slice()),
+        ("top 4294967295", "top", [4_294_967_295].as_slice()),
+    ];
+    for (line, verb, numbers) in cases {
+        let query = parse(rt.alloc(), line.as_bytes(), 10)?;
+        let (found_verb, found) = spelled(rt.alloc(), &query)?;
+        assert_eq!(rt; found_verb, verb, "at {line}");
+        assert_eq!(rt; found.as_slice(), numbers, "at {line}");
+    }
+    Ok(())
+}
+
+#[test]
+fn lines_break_rules(rt: HostRuntime) {
+    let cases = [
+        ("next 2 0", Bad::Term),
+        ("next 0", Bad::Number),
+        ("next", Bad::Number),
+        ("next 0 1 2", Bad::Number),
+        ("next 0 4294967296", Bad::Number),
+        ("next 0 18446744073709551616", Bad::Number),
+        ("next 7 x", Bad::Number),
+        ("next 0 +1", Bad::Number),
+        ("next 0 1\r", Bad::Number),
+        ("next 0\t1", Bad::Number),
+        ("and 7", Bad::Term),
+        ("or 0 7 x", Bad::Number),
+        ("top x 0", Bad::Number),
+        ("top 4294967296 0", Bad::Number),
+        ("top 1 0 2", Bad::Term),
+        ("top", Bad::Number),
+        ("next\t0 1", Bad::Verb),
+        ("near 0", Bad::Verb),
+        ("And 0", Bad::Verb),
+        ("   ", Bad::Verb),
+        ("", Bad::Verb),
     ];
     for (line, want) in cases {
-        assert_eq!(rt; parse(rt.alloc(), line.as_bytes(), 2), want, "at {line}");
+        assert_eq!(rt;
+            parse(rt.alloc(), line.as_bytes(), 2).err(),
+            Some(ParseError::Bad(want)),
+            "at {line}"
+        );
     }
+}
+
+#[test]
+fn terms_are_counted_as_written(rt: HostRuntime) -> Result<(), Fail> {
+    let mut line = Vec::from_slice(rt.alloc(), b"or")?;
+    for _ in 0..1024 {
+        line.extend_from_slice(b" 0")?;
+    }
+    let query = parse(rt.alloc(), &line, 1)?;
+    let (verb, terms) = spelled(rt.alloc(), &query)?;
+    assert_eq!(rt; verb, "or");
+    assert_eq!(rt; terms.as_slice(), [0].as_slice());
+    line.extend_from_slice(b" 7")?;
+    assert_eq!(rt;
+        parse(rt.alloc(), &line, 1).err(),
+        Some(ParseError::Bad(Bad::Terms))
+    );
+    Ok(())
 }
 
 #[test]
 fn the_longest_line_is_read(rt: HostRuntime) -> Result<(), Fail> {
     let mut line = Vec::from_slice(rt.alloc(), b"next 0 1")?;
     line.resize(65_535, b' ')?;
-    assert_eq!(rt;
-        parse(rt.alloc(), &line, 1),
-        Ok(Query::Next { term: 0, doc: 1 })
-    );
+    let query = parse(rt.alloc(), &line, 1)?;
+    let (verb, numbers) = spelled(rt.alloc(), &query)?;
+    assert_eq!(rt; verb, "next");
+    assert_eq!(rt; numbers.as_slice(), [0, 1].as_slice());
     line.push(b' ')?;
     assert_eq!(rt;
-        parse(rt.alloc(), &line, 1),
-        Err(ParseError::Bad(Bad::Length))
+        parse(rt.alloc(), &line, 1).err(),
+        Some(ParseError::Bad(Bad::Length))
     );
     Ok(())
 }
 
 #[test]
 fn replies_end_with_a_newline(rt: HostRuntime) -> Result<(), Fail> {
-    let cases = [
+    let postings = [
         (Some((2, 5)), "2 5\n"),
-        (Some((0, 10)), "0 10\n"),
         (Some((4_294_967_295, 1_000)), "4294967295 1000\n"),
         (None, "end\n"),
     ];
-    for (posting, want) in cases {
-        let reply = next_reply(rt.alloc(), posting).map_err(|_| "no memory")?;
-        assert_eq!(rt; reply.as_slice(), want.as_bytes());
+    for (posting, want) in postings {
+        assert_eq!(rt;
+            next_reply(rt.alloc(), posting)?.as_slice(),
+            want.as_bytes()
+        );
     }
-    let refusals = [
+    let lists = [
+        ([0, 2].as_slice(), "2 0 2\n"),
+        ([1, 2, 4].as_slice(), "3 1 2 4\n"),
+        ([].as_slice(), "0\n"),
+    ];
+    for (docs, want) in lists {
+        assert_eq!(rt; list_reply(rt.alloc(), docs)?.as_slice(), want.as_bytes());
+    }
+    let tops = [
+        ([(4, 4), (1, 3)].as_slice(), "2 4:4 1:3\n"),
+        (
+            [(10, 18_446_744_073_709_551_615)].as_slice(),
+            "1 10:18446744073709551615\n",
+        ),
+        ([].as_slice(), "0\n"),
+    ];
+    for (top, want) in tops {
+        assert_eq!(rt; top_reply(rt.alloc(), top)?.as_slice(), want.as_bytes());
+    }
+    Ok(())
+}
+
+#[test]
+fn refusals_are_told(rt: HostRuntime) {
+    let cases = [
         (Bad::Length, "bad length\n"),
         (Bad::Verb, "bad verb\n"),
         (Bad::Number, "bad number\n"),
         (Bad::Terms, "bad terms\n"),
         (Bad::Term, "bad term\n"),
     ];
-    for (rule, want) in refusals {
+    for (rule, want) in cases {
         assert_eq!(rt; bad_reply(rule), want.as_bytes());
     }
-    Ok(())
 }

@@ -1,5 +1,5 @@
 // Answers and usage.
-use crate::collections::{Numbers, ONE_LIST, THREE_LISTS, files};
+use crate::collections::{NINE_LISTS, Numbers, ONE_LIST, THREE_LISTS, TWO_LISTS, files};
 use crate::runs::{OPS, steady_run};
 use pef_top::Status;
 
@@ -49,7 +49,7 @@ fn lines_are_answered(rt: HostRuntime) {
         (
             ONE_LIST,
             "next 0 1\nnext 0 3\nand 0\nor 0 0\ntop 1 0",
-            "2 5\nend\nbad verb\nbad verb\nbad verb\n",
+            "2 5\nend\n2 0 2\n2 0 2\n1 2:5\n",
         ),
         (ONE_LIST, "next 0 0\nnext 0 2\n", "0 1\n2 5\n"),
         (
@@ -90,6 +90,65 @@ fn lines_are_answered(rt: HostRuntime) {
         assert_eq!(rt; run.status, Status::Done, "{text:?}");
         assert_eq!(rt; run.out.bytes(), replies.as_bytes(), "{text:?}");
         assert_eq!(rt; run.err.calls(), 0, "{text:?}");
+    }
+}
+
+#[test]
+fn documents_of_terms_are_found(rt: HostRuntime) {
+    for (numbers, text, replies) in [
+        (
+            ONE_LIST,
+            "top 0 0\nand\nor\ntop 5\ntop 9 0 0\ntop 4294967295 0\n",
+            "0\n0\n0\n0\n2 2:5 0:1\n2 2:5 0:1\n",
+        ),
+        (
+            TWO_LISTS,
+            "top 2 0 1\nand 1 0\nor 0 1\n",
+            "2 4:4 1:3\n2 1 4\n3 1 2 4\n",
+        ),
+        (
+            TWO_LISTS,
+            "top 3 1 0 1\nand 1 1\ntop 1 1\n",
+            "3 4:4 1:3 2:3\n3 1 2 4\n1 2:3\n",
+        ),
+        (
+            TWO_LISTS,
+            "and 7\ntop x 0\nnext 0\ntop\nnext 0 4294967296\n\nnear 0\nnext 0 2",
+            "bad term\nbad number\nbad number\nbad number\nbad number\nbad verb\nbad verb\n4 3\n",
+        ),
+        (
+            THREE_LISTS,
+            "and 0 1\nor 1\nor 0 1 2\ntop 1 1 2\n",
+            "0\n0\n2 0 1\n1 1:3\n",
+        ),
+        (
+            NINE_LISTS,
+            "and 0 1 2 3 4 5 6 7 8\nor 8 7 6 5 4 3 2 1 0\ntop 2 0 1 2 3 4 5 6 7 8\n",
+            "1 1\n1 1\n1 1:9\n",
+        ),
+    ] {
+        let alloc = rt.alloc();
+        let files = files(alloc, numbers).expect(&rt, "memory");
+        let run = steady_run(alloc, &ANSWER, files, text.as_bytes()).expect(&rt, "memory");
+        assert_eq!(rt; run.status, Status::Done, "{text:?}");
+        assert_eq!(rt; run.out.bytes(), replies.as_bytes(), "{text:?}");
+        assert_eq!(rt; run.err.calls(), 0, "{text:?}");
+    }
+}
+
+#[test]
+fn a_line_has_at_most_1024_terms(rt: HostRuntime) {
+    for (terms, replies) in [(1_024, "2 1 4\n4 3\n"), (1_025, "bad terms\n4 3\n")] {
+        let alloc = rt.alloc();
+        let mut text = Vec::from_slice(alloc, b"or").expect(&rt, "memory");
+        for _ in 0..terms {
+            text.extend_from_slice(b" 0").expect(&rt, "memory");
+        }
+        text.extend_from_slice(b"\nnext 0 2").expect(&rt, "memory");
+        let files = files(alloc, TWO_LISTS).expect(&rt, "memory");
+        let run = steady_run(alloc, &ANSWER, files, text.as_slice()).expect(&rt, "memory");
+        assert_eq!(rt; run.status, Status::Done, "{terms}");
+        assert_eq!(rt; run.out.bytes(), replies.as_bytes(), "{terms}");
     }
 }
 

@@ -25,6 +25,21 @@ pub(crate) const THREE_LISTS: Numbers<'static> = Numbers {
     sizes: &[2, 1, 1],
 };
 
+/// Five documents of size 1, and two lists: document 1 twice and 4 three times; document 1 once, 2 three
+/// times and 4 once.
+pub(crate) const TWO_LISTS: Numbers<'static> = Numbers {
+    docs: &[1, 5, 2, 1, 4, 3, 1, 2, 4],
+    freqs: &[2, 2, 3, 3, 1, 3, 1],
+    sizes: &[5, 1, 1, 1, 1, 1],
+};
+
+/// Two documents of size 1, and nine lists: document 1 once in each.
+pub(crate) const NINE_LISTS: Numbers<'static> = Numbers {
+    docs: &[1, 2, 1, 1, 1, 1, 1, 1, 1, 1, 1, 1, 1, 1, 1, 1, 1, 1, 1, 1],
+    freqs: &[1, 1, 1, 1, 1, 1, 1, 1, 1, 1, 1, 1, 1, 1, 1, 1, 1, 1],
+    sizes: &[2, 1, 1],
+};
+
 /// The bytes of these numbers.
 fn spelled(alloc: Global, numbers: &[u32]) -> Option<Vec<u8>> {
     let mut bytes = Vec::new(alloc);

@@ -8,9 +8,9 @@ use pef_top::Status;
 use std::alloc::Global;
 
 /// Four lines over the three lists, and their replies.
-const TEXT: &[u8] = b"next 1 0\nnext 2 0\nand 0\nnext 0 0";
+const TEXT: &[u8] = b"next 1 0\nor 0 1 2\nand 0\nnext 0 0";
 
-const REPLIES: &[u8] = b"end\n1 3\nbad verb\n0 1\n";
+const REPLIES: &[u8] = b"end\n2 0 1\n1 0\n0 1\n";
 
 /// What stands after a run where calls fail.
 #[derive(Drop)]
@@ -103,18 +103,17 @@ fn reads_of_the_input_and_writes_on_out_fail_in_turn(rt: HostRuntime) {
         (3, 0, read, ""),
         (4, 0, read, "end\n"),
         (5, 0, read, "end\n"),
-        (6, 0, read, "end\n1 3\n"),
-        (7, 0, read, "end\n1 3\nbad verb\n"),
-        (8, 0, read, "end\n1 3\nbad verb\n"),
-        (9, 0, read, "end\n1 3\nbad verb\n"),
-        (10, 0, done, "end\n1 3\nbad verb\n0 1\n"),
+        (6, 0, read, "end\n2 0 1\n"),
+        (7, 0, read, "end\n2 0 1\n1 0\n"),
+        (8, 0, read, "end\n2 0 1\n1 0\n"),
+        (9, 0, read, "end\n2 0 1\n1 0\n"),
+        (10, 0, done, "end\n2 0 1\n1 0\n0 1\n"),
         (0, 1, write, ""),
         (0, 2, write, "end\n"),
-        (0, 3, write, "end\n1 3\n"),
-        (0, 4, write, "end\n1 3\nbad "),
-        (0, 5, write, "end\n1 3\nbad verb"),
-        (0, 6, write, "end\n1 3\nbad verb\n"),
-        (0, 7, done, "end\n1 3\nbad verb\n0 1\n"),
+        (0, 3, write, "end\n2 0 "),
+        (0, 4, write, "end\n2 0 1\n"),
+        (0, 5, write, "end\n2 0 1\n1 0\n"),
+        (0, 6, done, "end\n2 0 1\n1 0\n0 1\n"),
     ] {
         let alloc = rt.alloc();
         let held = files(alloc, THREE_LISTS).expect(&rt, "memory");

@@ -1,0 +1,3 @@
+pub mod NextGeq
+pub mod Laws
+pub mod Postings

@@ -1,0 +1,13 @@
+// A cursor over a posting list.
+#![tactic(auto)]
+
+mod cursor;
+mod laws;
+mod plain;
+
+pub use cursor::DocCursor;
+pub use laws::next_geq_is_first;
+pub use plain::PlainCursor;
+
+#[cfg(test)]
+mod tests;

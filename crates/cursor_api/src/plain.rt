@@ -1,0 +1,71 @@
+ghost use Rattle.std.specs.Prelude.{◌≡◌, ◌≤◌, [], length};
+ghost use Rattle.collection_model.specs.Collection.{postings_of};
+ghost use Rattle.cursor_api.specs.NextGeq.{IsCursorList, IsCursorAt};
+ghost use Rattle.cursor_api.specs.Postings.{postings-stand_at};
+
+use crate::cursor::DocCursor;
+
+/// A cursor over lent documents and their frequencies.
+#[derive(Clone, Copy)]
+pub struct PlainCursor<'a> {
+    docs: &'a [u32],
+    freqs: &'a [u32],
+    at: usize,
+    ghost same_length: { length docs.now ≡ length freqs.now },
+    ghost lent: { IsCursorList (postings_of docs.now freqs.now) },
+    ghost within: { at ≤ length docs.now },
+}
+
+impl<'a> PlainCursor<'a> {
+    /// A cursor at the start of the list: the document at each place has the frequency at that place.
+    pub fn new(docs: &'a [u32], freqs: &'a [u32]) -> PlainCursor<'a>
+        requires same_length { length docs.now ≡ length freqs.now }
+        requires list { IsCursorList (postings_of docs.now freqs.now) }
+        ensures list { ⟦<PlainCursor<'a> as DocCursor>⟧.list result ≡ postings_of docs.entry.now freqs.entry.now }
+        ensures start { ⟦<PlainCursor<'a> as DocCursor>⟧.place result ≡ 0 }
+    {
+        PlainCursor { docs, freqs, at: 0 }
+    }
+}
+
+/// At an empty list.
+impl<'a> Default for PlainCursor<'a> {
+    ghost is_default = { λ c. (postings_of c.docs.now c.freqs.now ≡ []) × (c.at ≡ 0) };
+
+    fn default() -> PlainCursor<'a> {
+        PlainCursor::new(&[], &[])
+    }
+}
+
+impl<'a> DocCursor for PlainCursor<'a> {
+    ghost list = { λ c. postings_of c.docs.now c.freqs.now };
+
+    ghost place = { λ c. c.at };
+
+    fn doc(&self) -> Option<u32> {
+        self.docs.get(self.at).copied()
+    }
+
+    fn freq(&self) -> u32 {
+        self.freqs[self.at]
+    }
+
+    fn advance(&mut self) {
+        self.at += 1;
+    }
+
+    fn next_geq(&mut self, d: u32) {
+        let rest = &self.docs[self.at..];
+        self.at += rest.partition_point(|doc| *doc < d);
+    }
+
+    fn max_freq(&self) -> u32 {
+        self.freqs.iter().max().copied().unwrap_or(0)
+    }
+
+    fn len(&self) -> u32 {
+        self.docs.len() as u32
+    }
+
+    ghost well_formed = { λ c. postings-stand_at c.docs.now c.freqs.now c.at c.same_length c.lent c.within };
+}

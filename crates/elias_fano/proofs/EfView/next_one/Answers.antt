@@ -1,0 +1,24 @@
+use Rattle.std.proofs.Common.{◌+◌, ◌-◌, ◌/◌, ◌^◌, arith}
+use Rattle.bit_words.specs.Bits.{bits_of, IsFirstOne, HasNoOne}
+use Rattle.elias_fano.proofs.Lookups.{some-from, at-some, one-found, one-there, place-below}
+use Rattle.elias_fano.proofs.EfView.next_one.Goals as goal
+
+pub one_from-requires : goal.one_from-requires
+one_from-requires g c =
+    let ys = c.requires.held.0 in
+    let h = c.requires.held.1 in
+    (omega arith, (c.requires.bits, (c.requires.within, omega (arith, c.requires.not_past ys h, place-below g.row.Q c.args.self.now ys c.args.low c.args.k h c.requires.within))))
+
+pub unwrap-requires : goal.unwrap-requires
+unwrap-requires g c =
+    let v = c.args.self.now in
+    let ys = c.requires.held.0 in
+    let h = c.requires.held.1 in
+    some-from c.one_from.result (HasNoOne (bits_of v.bits.words.now) c.args.from (v.place + c.args.k + (v.u - 1) / 2 ^ c.args.low + 1)) c.one_from.ensures.none
+    (λ none. one-there g.row.Q v ys c.args.low c.args.k c.args.from c.requires.bits h c.requires.within (c.requires.not_past ys h) none)
+
+pub returns : goal.returns
+returns g c = λ ys h.
+    let v = c.args.self.now in
+    one-found g.row.Q v ys c.args.low c.args.k c.args.from c.unwrap.result c.requires.bits h c.requires.within (c.requires.past ys h) (c.requires.not_past ys h)
+    (at-some c.one_from.result (λ p. IsFirstOne (bits_of v.bits.words.now) c.args.from (v.place + c.args.k + (v.u - 1) / 2 ^ c.args.low + 1) p) c.unwrap.result c.unwrap.ensures c.one_from.ensures.first)

@@ -1,0 +1,10 @@
+mod Rows
+pub mod Pieces
+pub mod HighBits
+pub mod Rising
+pub mod Reading
+pub mod Scanning
+pub mod Views
+pub mod Checking
+pub mod Lookups
+pub mod Writing

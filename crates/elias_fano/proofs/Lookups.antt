@@ -1,0 +1,104 @@
+use Rattle.std.proofs.Common.{◌≡◌, ◌≢◌, ℕ, zero, suc, ◌+◌, ◌-◌, ◌*◌, ◌/◌, ◌%◌, ◌^◌, ◌<◌, ◌≤◌, List, get_or, Option, Some, None, refl, sym, ap, ◌∙◌, subst, arith, add-one, inl, inr, rules}
+use Rattle.std.specs.Option.{IfSome, IfNone, IsSome}
+use Rattle.std.proofs.lemmas.Bool.{cases_lt}
+use Rattle.std.proofs.lemmas.Nat.{pow_pos, mod_below}
+use Rattle.std.proofs.Math.Nat.{mul-div_cancel_left, mul-mod_right, div-mul-le_self, mul-le-mul_right, div-add-mod}
+use Rattle.bit_words.specs.Bits.{bits_of, field_at, IsFirstOne, HasNoOne}
+use Rattle.bit_words.proofs.Value.{EachBit, bits-bits_of}
+use Rattle.elias_fano.specs.declared.EfView.{EfView}
+use Rattle.elias_fano.specs.EfBits.{high_place}
+use Rattle.elias_fano.specs.EfPlaces.{low_field, sample_at, past_place}
+use Rattle.elias_fano.specs.EfView.{Holds, IsWithin}
+use Rattle.elias_fano.specs.Laws.{PlacesFit}
+use Rattle.elias_fano.proofs.Pieces.{field-fits}
+use Rattle.elias_fano.proofs.Rising.{place-within, places-rise}
+use Rattle.elias_fano.proofs.Scanning.{found-number, some-found, number-read, sample-read}
+use Rattle.elias_fano.proofs.Views.{view-read-at, places-fit-at}
+
+-- an option whose absence cannot be
+pub some-from : (o : Option ℕ) (P : Type 0) → IfNone o P → (P → ⊥) → IsSome o
+some-from None P h never = absurd (never h)
+some-from (Some x) P h never = search rules
+
+pub at-some : (o : Option ℕ) (P : ℕ → Type 0) (x : ℕ) → o ≡ Some x → IfSome o P → P x
+at-some o P x e h = subst (λ v. IfSome v P) e h
+
+-- a field is below the power of its width
+pub field-below : (bits : List ℕ) (at width : ℕ) → EachBit bits → field_at bits at width < 2 ^ width
+field-below bits at width each = subst (λ n. n < 2 ^ width) (field-fits bits at width each) (mod_below (field_at bits at width) (2 ^ width) (pow_pos width))
+
+-- a high part that is not past the last, shifted back
+pub shifted-back : (high v l : ℕ) → high ≤ v / 2 ^ l → high * 2 ^ l ≤ v
+shifted-back high v l h = omega (arith, mul-le-mul_right (2 ^ l) h, div-mul-le_self v (2 ^ l))
+
+-- the numbers that have a sample
+pub no-sample-first : (q k j : ℕ) → k < q → q * (j + 1) ≡ k → ⊥
+no-sample-first q k j h e = omega arith
+
+pub no-sample-between : (q k j : ℕ) → k % q ≢ 0 → q * (j + 1) ≡ k → ⊥
+no-sample-between q k j h e = h (ap (λ n. n % q) (sym e) ∙ mul-mod_right q (j + 1))
+
+pub sample-number : (q k j : ℕ) → 1 ≤ q → q * (j + 1) ≡ k → k / q - 1 ≡ j
+sample-number q k j some e =
+    let run : k / q ≡ j + 1 = ap (λ n. n / q) (sym e) ∙ mul-div_cancel_left (j + 1) some in
+    omega arith
+
+pub sampled-number : (q k : ℕ) → 1 ≤ q → q ≤ k → k % q ≡ 0 → q * (k / q - 1 + 1) ≡ k
+sampled-number q k some fit none =
+    let whole : q * (k / q) ≡ k = omega (arith, div-add-mod k q) in
+    ap (λ n. q * n) (let e : k / q - 1 + 1 ≡ k / q = positive (k / q) (λ z. omega (arith, ap (λ n. q * n) z)) in e) ∙ whole
+  where
+    positive : (n : ℕ) → (n ≡ 0 → ⊥) → n - 1 + 1 ≡ n
+    positive zero h = absurd (h refl)
+    positive (suc n) h = omega arith
+
+-- the sample of the first number of a run is its place
+pub run-sample : PlacesFit → (q : ℕ) (v : EfView q) (ys : List ℕ) (l : ℕ) → IsWithin q v l → Holds q v ys
+    → (run : ℕ) → 1 ≤ run → q * run < v.m → sample_at (bits_of v.bits.words.now) v.place v.u v.m l (run - 1) ≡ high_place l (q * run) (get_or ys (q * run) 0)
+run-sample fit q v ys l within h run some lt =
+    let next : run - 1 + 1 ≡ run = omega arith in
+    let here : q * (run - 1 + 1) ≡ q * run = ap (λ n. q * n) next in
+    sample-read (bits_of v.bits.words.now) v.place v.u v.m l q ys (view-read-at q v ys l within h) v.spacing (run - 1) (omega arith)
+    (places-fit-at fit q v ys l within h (q * (run - 1 + 1)) (omega arith))
+    ∙ ap (λ n. high_place l n (get_or ys n 0)) here
+
+-- the one of number k is where the search for it ends
+pub one-found : (q : ℕ) (v : EfView q) (ys : List ℕ) (l k from p : ℕ) → IsWithin q v l → Holds q v ys → k < v.m
+    → v.place + past_place l ys k ≤ from → from ≤ v.place + high_place l k (get_or ys k 0) → IsFirstOne (bits_of v.bits.words.now) from (v.place + k + (v.u - 1) / 2 ^ l + 1) p
+    → p ≡ v.place + high_place l k (get_or ys k 0)
+one-found q v ys l k from p within h lt past not_past first =
+    found-number (bits_of v.bits.words.now) v.place v.u v.m l q ys (bits-bits_of v.bits.words.now) (view-read-at q v ys l within h) k from p lt past not_past first
+
+pub one-there : (q : ℕ) (v : EfView q) (ys : List ℕ) (l k from : ℕ) → IsWithin q v l → Holds q v ys → k < v.m
+    → from ≤ v.place + high_place l k (get_or ys k 0) → HasNoOne (bits_of v.bits.words.now) from (v.place + k + (v.u - 1) / 2 ^ l + 1) → ⊥
+one-there q v ys l k from within h lt not_past none =
+    some-found (bits_of v.bits.words.now) v.place v.u v.m l q ys (view-read-at q v ys l within h) k from lt not_past none
+
+pub number-is : (q : ℕ) (v : EfView q) (ys : List ℕ) (l k one : ℕ) → IsWithin q v l → Holds q v ys → k < v.m → one ≡ v.place + high_place l k (get_or ys k 0)
+    → (one - v.place - k) * 2 ^ l + low_field (bits_of v.bits.words.now) v.place v.u v.m l k ≡ get_or ys k 0
+number-is q v ys l k one within h lt e = number-read (bits_of v.bits.words.now) v.place v.u v.m l q ys (view-read-at q v ys l within h) k one lt e
+
+pub number-got : (q : ℕ) (v : EfView q) (ys : List ℕ) (l k one number : ℕ) → IsWithin q v l → Holds q v ys → k < v.m → one ≡ v.place + high_place l k (get_or ys k 0)
+    → number ≡ (one - v.place - k) * 2 ^ l + low_field (bits_of v.bits.words.now) v.place v.u v.m l k → number ≡ get_or ys k 0
+number-got q v ys l k one number within h lt e is = is ∙ number-is q v ys l k one within h lt e
+
+-- where the search for the next one begins
+pub past-next : (l k : ℕ) (ys : List ℕ) → past_place l ys (k + 1) ≡ high_place l k (get_or ys k 0) + 1
+past-next l k ys = ap (λ n. past_place l ys n) (add-one k)
+
+pub next-after : (q : ℕ) (v : EfView q) (ys : List ℕ) (l k : ℕ) → Holds q v ys → k + 1 < v.m → high_place l k (get_or ys k 0) < high_place l (k + 1) (get_or ys (k + 1) 0)
+next-after q v ys l k h lt = omega (arith, places-rise ys l h.values.rising k (k + 1) (omega arith) (omega (arith, h.values.count)))
+
+pub place-below : (q : ℕ) (v : EfView q) (ys : List ℕ) (l k : ℕ) → Holds q v ys → k < v.m → high_place l k (get_or ys k 0) ≤ k + (v.u - 1) / 2 ^ l
+place-below q v ys l k h lt = place-within v.u v.m l ys h.values k lt
+
+-- a number below what is asked is not the last
+pub not-last : (q : ℕ) (v : EfView q) (ys : List ℕ) (k number x : ℕ) → Holds q v ys → k < v.m → number ≡ get_or ys k 0 → number < x → x < v.u → k + 1 < v.m
+not-last q v ys k number x h lt is below reached =
+    elim (cases_lt (k + 1) v.m) [
+      | inl less ↦ less
+      | inr more ↦
+          let last : k ≡ v.m - 1 = omega arith in
+          let here : number ≡ get_or ys (v.m - 1) 0 = is ∙ ap (λ n. get_or ys n 0) last in
+          absurd (omega (arith, here, h.values.last))
+    ]

@@ -1,0 +1,40 @@
+use Rattle.std.proofs.Common.{◌≡◌, refl, ℕ, List, [], ◌∷◌, length, map, ◌*◌}
+use Rattle.std.specs.List.{range_with_len}
+use Rattle.bit_words.specs.Bits.{field_at, words_of}
+use Rattle.part_cost.specs.Payload.{low_width_of}
+use Rattle.elias_fano.specs.EfBits.{ef_bits, high_bits, low_fields}
+
+-- 3, 700: four high bits and two low fields
+bits-701 : words_of (ef_bits 128 (3 ∷ 700 ∷ []) 701) ≡ 770105 ∷ []
+unfolding ef_bits low_width_of
+bits-701 = refl
+
+high-701 : high_bits 8 701 (3 ∷ 700 ∷ []) ≡ 1 ∷ 0 ∷ 0 ∷ 1 ∷ []
+high-701 = refl
+
+-- 0, 10, 20 with a sample every two numbers
+length-21 : length (ef_bits 2 (0 ∷ 10 ∷ 20 ∷ []) 21) ≡ 18
+unfolding ef_bits low_width_of lib.Count.count_leading_zeros
+length-21 = refl
+
+word-21 : words_of (ef_bits 2 (0 ∷ 10 ∷ 20 ∷ []) 21) ≡ 116873 ∷ []
+unfolding ef_bits low_width_of lib.Count.count_leading_zeros
+word-21 = refl
+
+-- 0, 10, 20, .., 1280
+abbrev tens : List ℕ
+tens = map (λ k. 10 * k) (range_with_len 0 129)
+
+length-1281 : length (ef_bits 128 tens 1281) ≡ 685
+unfolding ef_bits low_width_of lib.Count.count_leading_zeros
+length-1281 = refl
+
+sample-1281 : field_at (ef_bits 128 tens 1281) 676 9 ≡ 288
+unfolding ef_bits low_width_of lib.Count.count_leading_zeros
+sample-1281 = refl
+
+high-1281 : length (high_bits 3 1281 tens) ≡ 289
+high-1281 = refl
+
+low-1281 : length (low_fields 3 tens) ≡ 387
+low-1281 = refl

@@ -1,0 +1,88 @@
+use Rattle.std.proofs.Common.{◌≡◌, ℕ, ◌+◌, ◌-◌, ◌*◌, ◌/◌, ◌^◌, ◌<◌, ◌≤◌, Bool, true, false, cond, List, [], ◌∷◌, ◌++◌, length, get_or, sym, ap, ◌∙◌, subst, arith}
+use Rattle.std.specs.Int.{bit_at}
+use Rattle.std.specs.List.{range_with_len, flat_map}
+use Rattle.std.proofs.lemmas.Nat.Bits.{bit_at-lt}
+use Rattle.std.proofs.lemmas.List.Elements.{All-nil, All-append, All-map}
+use Rattle.bit_words.specs.Bits.{AreBits, field_bits, bits_of}
+use Rattle.bit_words.proofs.Value.{bits-bits_of, length-bits_of}
+use Rattle.part_cost.specs.Payload.{digits, widest_low, ef_spacing, low_width_of}
+use Rattle.part_cost.specs.Laws.{LowWidthIsBest, DigitsHold}
+use Rattle.elias_fano.specs.declared.EfView.{EfView}
+use Rattle.elias_fano.specs.EfBits.{high_place, high_bits, low_fields, ef_samples}
+use Rattle.elias_fano.specs.EfPlaces.{ef_length, ef_length_at}
+use Rattle.elias_fano.specs.EfView.{Holds, IsWithin}
+use Rattle.elias_fano.specs.Laws.{OneList, PartIsBits, TakesItsPayload, PlacesFit}
+use Rattle.elias_fano.proofs.HighBits.{has_one}
+use Rattle.elias_fano.proofs.Rising.{place-within, relative-fit}
+use Rattle.elias_fano.proofs.Reading.{IsRead, low_parts, sampled_places, low_fields-are, samples-are, pieces, part-is, length-part, read-held, held-read}
+use Rattle.elias_fano.proofs.Scanning.{one_list-read}
+
+-- what a view holds is read from its words
+pub view-read : (q : ℕ) (v : EfView q) (ys : List ℕ) → Holds q v ys → IsRead (bits_of v.bits.words.now) v.place v.u v.m (low_width_of v.u v.m) q ys
+view-read q v ys h = read-held (bits_of v.bits.words.now) v.place v.u v.m q ys (omega (arith, length-bits_of v.bits.words.now, v.placed)) h
+
+pub read-view : (q : ℕ) (v : EfView q) (ys : List ℕ) → IsRead (bits_of v.bits.words.now) v.place v.u v.m (low_width_of v.u v.m) q ys → Holds q v ys
+read-view q v ys h = held-read (bits_of v.bits.words.now) v.place v.u v.m q ys (bits-bits_of v.bits.words.now) h
+
+pub one-list : OneList
+one-list q v xs ys h g =
+    one_list-read (bits_of v.bits.words.now) v.place v.u v.m (low_width_of v.u v.m) q xs ys (bits-bits_of v.bits.words.now) (view-read q v xs h) (view-read q v ys g)
+
+-- all pieces are bits
+bits-field : (width value : ℕ) → AreBits (field_bits width value)
+bits-field width value = All-map (λ b. b < 2) (λ i. bit_at value i) (range_with_len 0 width) (λ k d lt. bit_at-lt value (get_or (range_with_len 0 width) k d))
+
+bits-fields : (width : ℕ) (xs : List ℕ) → AreBits (flat_map (field_bits width) xs)
+bits-fields width [] = All-nil (λ b. b < 2)
+bits-fields width (x ∷ xs) = All-append (λ b. b < 2) (field_bits width x) (flat_map (field_bits width) xs) (bits-field width x) (bits-fields width xs)
+
+one_or_zero : (b : Bool) → cond b 1 0 < 2
+one_or_zero true = omega arith
+one_or_zero false = omega arith
+
+bits-high : (l u : ℕ) (ys : List ℕ) → AreBits (high_bits l u ys)
+bits-high l u ys =
+    All-map (λ b. b < 2) (λ q. cond (has_one l 0 q ys) 1 0) (range_with_len 0 (length ys + (u - 1) / 2 ^ l))
+    (λ k d lt. one_or_zero (has_one l 0 (get_or (range_with_len 0 (length ys + (u - 1) / 2 ^ l)) k d) ys))
+
+bits-pieces : (q l u : ℕ) (ys : List ℕ) → AreBits (pieces q l ys u)
+bits-pieces q l u ys =
+    All-append (λ b. b < 2) (high_bits l u ys ++ low_fields l ys) (ef_samples q l ys)
+    (All-append (λ b. b < 2) (high_bits l u ys) (low_fields l ys) (bits-high l u ys)
+    (subst (λ xs. AreBits xs) (low_fields-are l ys) (bits-fields l (low_parts l ys))))
+    (subst (λ xs. AreBits xs) (samples-are q l ys) (bits-fields (digits (3 * length ys)) (sampled_places q l ys)))
+
+pub part-is-bits : PartIsBits
+part-is-bits q u ys = subst (λ xs. AreBits xs) (sym (part-is q u ys)) (bits-pieces q (low_width_of u (length ys)) u ys)
+
+pub takes-its-payload : LowWidthIsBest → TakesItsPayload
+unfolding ef_length
+takes-its-payload best u m ys fit h =
+    length-part ef_spacing u ys ∙ ap (λ n. ef_length ef_spacing u n) h.count
+    ∙ sym (best u m (let some : 1 ≤ u = omega (arith, relative-fit u m ys h, h.some) in some) fit).takes
+
+pub places-fit : LowWidthIsBest → DigitsHold → PlacesFit
+places-fit best hold u m ys fit h k lt =
+    let few = (best u m (let some : 1 ≤ u = omega (arith, relative-fit u m ys h, h.some) in some) fit).few in
+    let below = hold (3 * m) (omega (arith, relative-fit u m ys h)) in
+    omega (arith, place-within u m (low_width_of u m) ys h k lt)
+
+-- what is held lies within the words
+pub within-held : (q : ℕ) (v : EfView q) (ys : List ℕ) (l : ℕ) → Holds q v ys → l ≡ low_width_of v.u v.m → l ≤ widest_low → IsWithin q v l
+within-held q v ys l h low narrow = record {
+  low = low;
+  narrow = narrow;
+  room = subst (λ n. v.place + ef_length_at q v.u v.m n ≤ 64 * length v.bits.words.now) (sym low) (omega (arith, (view-read q v ys h).room, length-bits_of v.bits.words.now));
+}
+
+-- at its low width
+pub view-read-at : (q : ℕ) (v : EfView q) (ys : List ℕ) (l : ℕ) → IsWithin q v l → Holds q v ys → IsRead (bits_of v.bits.words.now) v.place v.u v.m l q ys
+view-read-at q v ys l within h = subst (λ n. IsRead (bits_of v.bits.words.now) v.place v.u v.m n q ys) (sym within.low) (view-read q v ys h)
+
+pub places-fit-at : PlacesFit → (q : ℕ) (v : EfView q) (ys : List ℕ) (l : ℕ) → IsWithin q v l → Holds q v ys
+    → (k : ℕ) → k < v.m → high_place l k (get_or ys k 0) < 2 ^ digits (3 * v.m)
+places-fit-at fit q v ys l within h k lt =
+    subst (λ n. high_place n k (get_or ys k 0) < 2 ^ digits (3 * v.m)) (sym within.low) (fit v.u v.m ys v.in_range h.values k lt)
+
+pub read-view-at : (q : ℕ) (v : EfView q) (ys : List ℕ) (l : ℕ) → IsWithin q v l → IsRead (bits_of v.bits.words.now) v.place v.u v.m l q ys → Holds q v ys
+read-view-at q v ys l within h = read-view q v ys (subst (λ n. IsRead (bits_of v.bits.words.now) v.place v.u v.m n q ys) within.low h)

@@ -1,0 +1,87 @@
+use Rattle.std.proofs.Common.{◌≡◌, ℕ, ◌+◌, List, ◌++◌, length, sym, ap, ◌∙◌, subst, append_assoc, arith}
+use Rattle.std.proofs.lemmas.List.{length-append}
+use Rattle.bit_words.specs.Bits.{AppendsBits}
+use Rattle.part_cost.specs.Payload.{low_width_of}
+use Rattle.elias_fano.specs.EfBits.{high_bits, low_fields, ef_samples, ef_bits}
+use Rattle.elias_fano.proofs.Rising.{relative-fit}
+use Rattle.elias_fano.proofs.Reading.{pieces, part-is}
+use Rattle.elias_fano.proofs.Writing.{appends-front, appends-behind, on-err, on-ok-map, on-err-map}
+use Rattle.elias_fano.proofs.writer.ef_write.Goals as goal
+
+pub low_width-low-requires-clause-fit : goal.low_width-low-requires-clause-fit
+low_width-low-requires-clause-fit g c = relative-fit c.args.u (length c.args.values.now) c.args.values.now c.requires.values
+
+whole : (q u low : ℕ) (ys : List ℕ) → low ≡ low_width_of u (length ys) → ef_bits q ys u ≡ pieces q low ys u
+whole q u low ys e = part-is q u ys ∙ ap (λ l. pieces q l ys u) (sym e)
+
+rooms : (q u low : ℕ) (ys : List ℕ) → low ≡ low_width_of u (length ys)
+    → length (ef_bits q ys u) ≡ length (high_bits low u ys) + length (low_fields low ys) + length (ef_samples q low ys)
+rooms q u low ys e =
+    omega (arith, ap length (whole q u low ys e), length-append (high_bits low u ys ++ low_fields low ys) (ef_samples q low ys), length-append (high_bits low u ys) (low_fields low ys))
+
+pub write_high_bits-requires-clause-room : goal.write_high_bits-requires-clause-room
+write_high_bits-requires-clause-room g c = omega (arith, c.requires.room, rooms g.row.Q c.args.u c.low_width-low.result c.args.values.now c.low_width-low.ensures.value)
+
+pub returns-in_err-write_high_bits-clause-err : goal.returns-in_err-write_high_bits-clause-err
+returns-in_err-write_high_bits-clause-err g c =
+    let l = c.low_width-low.result in
+    let ys = c.args.values.now in
+    on-err _ _
+    (subst (λ xs. AppendsBits c.args.to.now c.write_high_bits.new.to xs) (sym (whole g.row.Q c.args.u c.low_width-low.result c.args.values.now c.low_width-low.ensures.value))
+    (appends-front c.args.to.now c.write_high_bits.new.to (high_bits l c.args.u ys ++ low_fields l ys) (ef_samples g.row.Q l ys)
+    (appends-front c.args.to.now c.write_high_bits.new.to (high_bits l c.args.u ys) (low_fields l ys) c.in_err-write_high_bits.ensures.err)))
+
+pub write_low_fields-requires-clause-room : goal.write_low_fields-requires-clause-room
+write_low_fields-requires-clause-room g c =
+    let l = c.low_width-low.result in
+    let ys = c.args.values.now in
+    omega (arith, c.requires.room, rooms g.row.Q c.args.u l ys c.low_width-low.ensures.value, ap length c.in_ok-write_high_bits.ensures.ok, length-append c.args.to.now (high_bits l c.args.u ys))
+
+pub returns-in_err-write_low_fields-clause-err : goal.returns-in_err-write_low_fields-clause-err
+returns-in_err-write_low_fields-clause-err g c =
+    let l = c.low_width-low.result in
+    let ys = c.args.values.now in
+    on-err _ _
+    (subst (λ xs. AppendsBits c.args.to.now c.write_low_fields.new.to xs) (sym (whole g.row.Q c.args.u l ys c.low_width-low.ensures.value))
+    (appends-front c.args.to.now c.write_low_fields.new.to (high_bits l c.args.u ys ++ low_fields l ys) (ef_samples g.row.Q l ys)
+    (appends-behind c.args.to.now c.write_high_bits.new.to c.write_low_fields.new.to (high_bits l c.args.u ys) (low_fields l ys) c.in_ok-write_high_bits.ensures.ok c.in_err-write_low_fields.ensures.err)))
+
+-- the first two pieces stand
+both : (old mid new high low : List ℕ) → mid ≡ old ++ high → new ≡ mid ++ low → new ≡ old ++ (high ++ low)
+both old mid new high low e f = f ∙ ap (λ xs. xs ++ low) e ∙ append_assoc old high low
+
+pub write_samples-requires-clause-room : goal.write_samples-requires-clause-room
+write_samples-requires-clause-room g c =
+    let l = c.low_width-low.result in
+    let ys = c.args.values.now in
+    omega (
+      arith,
+      c.requires.room,
+      rooms g.row.Q c.args.u l ys c.low_width-low.ensures.value,
+      ap length c.in_ok-write_high_bits.ensures.ok,
+      length-append c.args.to.now (high_bits l c.args.u ys),
+      ap length c.in_ok-write_low_fields.ensures.ok,
+      length-append c.write_high_bits.new.to (low_fields l ys),
+    )
+
+pub returns-clause-ok : goal.returns-clause-ok
+returns-clause-ok g c =
+    let l = c.low_width-low.result in
+    let ys = c.args.values.now in
+    on-ok-map c.write_samples.result (c.write_samples.new.to ≡ c.write_low_fields.new.to ++ ef_samples g.row.Q c.low_width-low.result c.args.values.now) (c.write_samples.new.to ≡ c.args.to.now ++ ef_bits g.row.Q c.args.values.now c.args.u)
+    (λ e.
+    both c.args.to.now c.write_low_fields.new.to c.write_samples.new.to (high_bits l c.args.u ys ++ low_fields l ys) (ef_samples g.row.Q l ys)
+    (both c.args.to.now c.write_high_bits.new.to c.write_low_fields.new.to (high_bits l c.args.u ys) (low_fields l ys) c.in_ok-write_high_bits.ensures.ok c.in_ok-write_low_fields.ensures.ok) e
+    ∙ ap (λ xs. c.args.to.now ++ xs) (sym (whole g.row.Q c.args.u l ys c.low_width-low.ensures.value)))
+    c.write_samples.ensures.ok
+
+pub returns-clause-err : goal.returns-clause-err
+returns-clause-err g c =
+    let l = c.low_width-low.result in
+    let ys = c.args.values.now in
+    on-err-map c.write_samples.result (AppendsBits c.write_low_fields.new.to c.write_samples.new.to (ef_samples g.row.Q c.low_width-low.result c.args.values.now)) (AppendsBits c.args.to.now c.write_samples.new.to (ef_bits g.row.Q c.args.values.now c.args.u))
+    (λ e.
+    subst (λ xs. AppendsBits c.args.to.now c.write_samples.new.to xs) (sym (whole g.row.Q c.args.u l ys c.low_width-low.ensures.value))
+    (appends-behind c.args.to.now c.write_low_fields.new.to c.write_samples.new.to (high_bits l c.args.u ys ++ low_fields l ys) (ef_samples g.row.Q l ys)
+    (both c.args.to.now c.write_high_bits.new.to c.write_low_fields.new.to (high_bits l c.args.u ys) (low_fields l ys) c.in_ok-write_high_bits.ensures.ok c.in_ok-write_low_fields.ensures.ok) e))
+    c.write_samples.ensures.err

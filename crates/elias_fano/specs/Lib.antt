@@ -1,0 +1,4 @@
+pub mod EfBits
+pub mod EfPlaces
+pub mod EfView
+pub mod Laws

@@ -1,0 +1,5 @@
+pub mod PartBits
+pub mod PartView
+pub mod PartValues
+pub mod Relative
+pub mod Laws

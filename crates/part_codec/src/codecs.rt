@@ -1,0 +1,126 @@
+use crate::codec::PartCodec;
+use crate::views::{OnesView, PartView};
+use elias_fano::EfView;
+use ranked_bitmap::MapView;
+
+impl<'a, const Q: u64> PartCodec<'a> for EfView<'a, Q> {
+    ghost use Rattle.elias_fano.proofs.Views.{one-list};
+    ghost use Rattle.elias_fano.specs.EfView.{Holds};
+
+    ghost u = { λ v. v.u };
+
+    ghost m = { λ v. v.m };
+
+    ghost holds = { λ v ys. Holds Q v ys };
+
+    fn check(&self) -> bool {
+        EfView::check(self)
+    }
+
+    fn get(&self, k: u64) -> u64 {
+        EfView::get(self, k)
+    }
+
+    fn next_geq(&self, x: u64, from: u64) -> (u64, u64) {
+        EfView::next_geq(self, x, from)
+    }
+
+    ghost relative = { λ v ys h. h.values };
+
+    ghost one_list = { one-list Q };
+}
+
+impl<'a, const B: u64> PartCodec<'a> for MapView<'a, B> {
+    ghost use Rattle.ranked_bitmap.proofs.Views.{one-list};
+    ghost use Rattle.ranked_bitmap.specs.MapView.{Holds};
+
+    ghost u = { λ v. v.u };
+
+    ghost m = { λ v. v.m };
+
+    ghost holds = { λ v ys. Holds B v ys };
+
+    fn check(&self) -> bool {
+        MapView::check(self)
+    }
+
+    fn get(&self, k: u64) -> u64 {
+        MapView::get(self, k)
+    }
+
+    fn next_geq(&self, x: u64, from: u64) -> (u64, u64) {
+        MapView::next_geq(self, x, from)
+    }
+
+    ghost relative = { λ v ys h. h.values };
+
+    ghost one_list = { one-list B };
+}
+
+impl<'a> PartCodec<'a> for OnesView {
+    ghost use Rattle.std.proofs.Common.{◌≡◌, sym, ◌∙◌};
+    ghost use Rattle.part_codec.specs.PartView.{all_ones};
+    ghost use Rattle.part_codec.specs.Relative.{AreRelative-all_ones};
+
+    ghost u = { λ v. v.u };
+
+    ghost m = { λ v. v.u };
+
+    ghost holds = { λ v ys. ys ≡ all_ones v.u };
+
+    fn check(&self) -> bool {
+        true
+    }
+
+    fn get(&self, k: u64) -> u64 {
+        k
+    }
+
+    fn next_geq(&self, x: u64, from: u64) -> (u64, u64) {
+        let at = x.max(from);
+        (at, at)
+    }
+
+    ghost relative = { λ v ys h. AreRelative-all_ones v.u ys v.some h };
+
+    ghost one_list = { λ v xs ys h k. h ∙ sym k };
+}
+
+impl<'a> PartCodec<'a> for PartView<'a> {
+    ghost use Rattle.part_codec.specs.PartView.{Holds, universe_of, count_of};
+    ghost use Rattle.part_codec.specs.Relative.{AreRelative-held, one_list-held};
+
+    ghost u = { universe_of };
+
+    ghost m = { count_of };
+
+    ghost holds = { Holds };
+
+    fn check(&self) -> bool {
+        match self {
+            PartView::Ones(v) => v.check(),
+            PartView::Bitmap(v) => v.check(),
+            PartView::Ef(v) => v.check(),
+        }
+    }
+
+    fn get(&self, k: u64) -> u64 {
+        match self {
+            PartView::Ones(v) => v.get(k),
+            PartView::Bitmap(v) => v.get(k),
+            PartView::Ef(v) => v.get(k),
+        }
+    }
+
+    fn next_geq(&self, x: u64, from: u64) -> (u64, u64) {
+        match self {
+            PartView::Ones(v) => v.next_geq(x, from),
+            PartView::Bitmap(v) => v.next_geq(x, from),
+            PartView::Ef(v) => v.next_geq(x, from),
+        }
+    }
+
+    ghost relative = { AreRelative-held };
+
+    ghost one_list = { one_list-held };
+}

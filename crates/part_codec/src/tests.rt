@@ -1,0 +1,126 @@
+ghost use Rattle.std.specs.Prelude.{◌≡◌, ℕ, ◌*◌, ◌≤◌, ◌<◌, ◌^◌, length, slice_index};
+
+use super::*;
+use elias_fano::EfView;
+use ranked_bitmap::MapView;
+use std::test::Fail;
+
+// 3, 700 in Elias-Fano form: 20 bits, as one word.
+#[test]
+fn writes_far_numbers(rt: HostRuntime) -> Result<(), Fail> {
+    let mut writer = BitWriter::new(rt.alloc()).expect(&rt, "memory");
+    write_part(&[3, 700], 701, &mut writer).expect(&rt, "memory");
+    assert_eq!(rt; writer.len(), 20);
+    assert_eq!(rt; writer.into_words().as_slice(), [770_105].as_slice());
+    Ok(())
+}
+
+// 0, 5 as a bitmap: 6 bits.
+#[test]
+fn writes_near_numbers(rt: HostRuntime) -> Result<(), Fail> {
+    let mut writer = BitWriter::new(rt.alloc()).expect(&rt, "memory");
+    write_part(&[0, 5], 6, &mut writer).expect(&rt, "memory");
+    assert_eq!(rt; writer.len(), 6);
+    assert_eq!(rt; writer.into_words().as_slice(), [33].as_slice());
+    Ok(())
+}
+
+// 0, 1, 2 take no bits.
+#[test]
+fn writes_all_numbers(rt: HostRuntime) -> Result<(), Fail> {
+    let mut writer = BitWriter::new(rt.alloc()).expect(&rt, "memory");
+    write_part(&[0, 1, 2], 3, &mut writer).expect(&rt, "memory");
+    assert_eq!(rt; writer.len(), 0);
+    Ok(())
+}
+
+// 0, 10, .., 1280
+fn tens() -> [u64; 129]
+    ensures count { length result ≡ 129 }
+    ensures values { (k : ℕ) → k < 129 → slice_index result k ≡ 10 * k }
+{
+    let mut tens = [0; 129];
+    for k in 0..129 {
+        tens[k] = 10 * k as u64;
+    }
+    tens
+}
+
+// 0, 10, .., 1280: 685 bits, and read back.
+#[test]
+fn reads_what_was_written(rt: HostRuntime) -> Result<(), Fail> {
+    part_takes_its_payload();
+    let values = tens();
+    let mut writer = BitWriter::new(rt.alloc()).expect(&rt, "memory");
+    write_part(&values, 1281, &mut writer).expect(&rt, "memory");
+    assert_eq!(rt; writer.len(), 685);
+    let words = writer.into_words();
+    assert_eq!(rt; words.len(), 11);
+    let view = PartView::at(Bits { words: &words }, 0, 1281, 129);
+    assert!(rt; view.check());
+    for k in 0..129 {
+        assert_eq!(rt; view.get(k as u64), values[k]);
+    }
+    Ok(())
+}
+
+// Whether a view accepts its bits, and then finds this value at this place.
+fn finds<'a, C: PartCodec<'a>>(view: &C, x: u64, from: u64, place: u64, value: u64) -> bool
+    requires reached { x < C.u view.now }
+    requires from { from < C.m view.now }
+    requires place { place < C.m view.now }
+{
+    view.check() && view.next_geq(x, from) == (place, value) && view.get(place) == value
+}
+
+// Each form of a view, by itself and by its kind.
+#[test]
+fn finds_numbers(rt: HostRuntime) {
+    let far = [770_105];
+    let bits = Bits { words: &far };
+    assert!(rt; finds(&EfView::<128>::at(bits, 0, 701, 2), 4, 0, 1, 700));
+    assert!(rt; finds(&PartView::at(bits, 0, 701, 2), 3, 0, 0, 3));
+    let near = [33];
+    let bits = Bits { words: &near };
+    assert!(rt; finds(&MapView::<512>::at(bits, 0, 6, 2), 1, 0, 1, 5));
+    assert!(rt; finds(&PartView::at(bits, 0, 6, 2), 0, 1, 1, 5));
+    assert!(rt; finds(&OnesView::at(3), 1, 0, 1, 1));
+    assert!(rt; finds(&PartView::at(bits, 0, 3, 3), 1, 2, 2, 2));
+}
+
+// How many patterns of so many bits are those of a part.
+fn patterns(u: u64, m: u64, bits: u32) -> u64
+    requires some { 1 ≤ m }
+    requires fit { m ≤ u }
+    requires in_range { u ≤ 2 ^ 36 }
+    requires few { bits < 64 }
+{
+    let mut count = 0;
+    for pattern in 0..1_u64 << bits {
+        if check_part(Bits { words: &[pattern] }, 0, u, m) {
+            count += 1;
+        }
+    }
+    count
+}
+
+// As many patterns are accepted as there are places below u - 1 to choose the other numbers from; of parts that take as many
+// bits in both forms, those of bitmaps.
+#[test]
+fn accepts_each_part_and_nothing_else(rt: HostRuntime) {
+    for (u, m, bits, count) in [
+        (3, 3, 0, 1),
+        (5, 1, 4, 1),
+        (3, 2, 3, 2),
+        (7, 2, 7, 6),
+        (9, 2, 8, 8),
+        (10, 3, 10, 36),
+        (12, 3, 11, 55),
+    ] {
+        assert!(rt; 1 <= m && m <= u && u <= 1 << 36 && bits < 64);
+        assert_eq!(rt; patterns(u, m, bits), count, "{m} in {u}");
+    }
+    assert!(rt; check_part(Bits { words: &[65] }, 0, 7, 2));
+    assert!(rt; check_part(Bits { words: &[130] }, 1, 7, 2));
+    assert!(rt; !check_part(Bits { words: &[130] }, 0, 7, 2));
+}

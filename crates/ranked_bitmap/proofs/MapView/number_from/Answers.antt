@@ -1,0 +1,19 @@
+use Rattle.std.proofs.Common.{◌+◌, arith}
+use Rattle.bit_words.specs.Bits.{bits_of, IsFirstOne, HasNoOne}
+use Rattle.ranked_bitmap.proofs.Views.{within-held, some-from, at-some, number-found, number-there}
+use Rattle.ranked_bitmap.proofs.MapView.number_from.Goals as goal
+
+pub next_one-requires-clause-range : goal.next_one-requires-clause-range
+next_one-requires-clause-range g c = omega (arith, within-held g.row.B c.args.self.now c.requires.held.0 c.requires.held.1)
+
+pub unwrap-one-requires : goal.unwrap-one-requires
+unwrap-one-requires g c =
+    let v = c.args.self.now in
+    some-from c.next_one.result (HasNoOne (bits_of v.bits.words.now) (v.place + c.args.least) (v.place + v.u)) c.next_one.ensures.none
+    (λ none. number-there g.row.B v c.requires.held.0 c.requires.held.1 c.args.least c.requires.within none)
+
+pub returns : goal.returns
+returns g c = λ ys h.
+    let v = c.args.self.now in
+    number-found g.row.B v ys h c.args.least c.unwrap-one.result c.requires.within
+    (at-some c.next_one.result (λ p. IsFirstOne (bits_of v.bits.words.now) (v.place + c.args.least) (v.place + v.u) p) c.unwrap-one.result c.unwrap-one.ensures c.next_one.ensures.first)

@@ -1,0 +1,116 @@
+use Rattle.std.proofs.Common.{◌≡◌, ℕ, ◌+◌, ◌-◌, ◌<◌, ◌≤◌, Bool, true, false, cond, List, [], ◌∷◌, length, get_or, sym, ap, ◌∙◌, subst, arith, rules, Option, Some, None}
+use Rattle.std.specs.Option.{IfSome, IfNone, IsSome}
+use Rattle.std.specs.Int.{bit_at}
+use Rattle.std.specs.List.{range_with_len, flat_map}
+use Rattle.std.proofs.lemmas.Nat.Bits.{bit_at-lt}
+use Rattle.std.proofs.lemmas.List.Elements.{All-nil, All-append, All-map}
+use Rattle.bit_words.specs.Bits.{AreBits, field_bits, bits_of, ones_between, IsFirstOne, HasNoOne}
+use Rattle.bit_words.proofs.Value.{bits-bits_of, length-bits_of}
+use Rattle.part_cost.specs.Payload.{digits, bitmap_spacing, bitmap_payload}
+use Rattle.part_cost.specs.Stored.{IsFirstAtLeast}
+use Rattle.part_cost.specs.Laws.{DigitsHold}
+use Rattle.ranked_bitmap.specs.declared.MapView.{MapView}
+use Rattle.ranked_bitmap.specs.MapBits.{marks, map_samples}
+use Rattle.ranked_bitmap.specs.MapPlaces.{map_length, AreSampled}
+use Rattle.ranked_bitmap.specs.MapView.{Holds, IsWithin}
+use Rattle.ranked_bitmap.specs.Laws.{OneList, PartIsBits, TakesItsPayload}
+use Rattle.ranked_bitmap.proofs.Ones.{rises}
+use Rattle.ranked_bitmap.proofs.Marks.{has_number}
+use Rattle.ranked_bitmap.proofs.Reading.{IsRead, counts, samples-are, part-is, length-part, read-held, held-read, one_list-read, below-universe, first-number, some-number, count-next, next-is, read-checked, counted-all, last-set, samples-read}
+
+-- what a view holds is read from its words
+pub view-read : (q : ℕ) (v : MapView q) (ys : List ℕ) → Holds q v ys → IsRead (bits_of v.bits.words.now) v.place v.u v.m q ys
+view-read q v ys h = read-held (bits_of v.bits.words.now) v.place v.u v.m q ys (omega (arith, length-bits_of v.bits.words.now, v.placed)) v.spacing h
+
+pub read-view : (q : ℕ) (v : MapView q) (ys : List ℕ) → IsRead (bits_of v.bits.words.now) v.place v.u v.m q ys → Holds q v ys
+read-view q v ys h = held-read (bits_of v.bits.words.now) v.place v.u v.m q ys (bits-bits_of v.bits.words.now) v.spacing h
+
+pub one-list : OneList
+one-list q v xs ys h g =
+    one_list-read (bits_of v.bits.words.now) v.place v.u v.m q xs ys (bits-bits_of v.bits.words.now) (view-read q v xs h) (view-read q v ys g)
+
+-- what is held lies within the words
+pub within-held : (q : ℕ) (v : MapView q) (ys : List ℕ) → Holds q v ys → IsWithin q v
+within-held q v ys h = omega (arith, (view-read q v ys h).room, length-bits_of v.bits.words.now)
+
+-- all pieces are bits
+bits-field : (width value : ℕ) → AreBits (field_bits width value)
+bits-field width value = All-map (λ b. b < 2) (λ i. bit_at value i) (range_with_len 0 width) (λ k d lt. bit_at-lt value (get_or (range_with_len 0 width) k d))
+
+bits-fields : (width : ℕ) (xs : List ℕ) → AreBits (flat_map (field_bits width) xs)
+bits-fields width [] = All-nil (λ b. b < 2)
+bits-fields width (x ∷ xs) = All-append (λ b. b < 2) (field_bits width x) (flat_map (field_bits width) xs) (bits-field width x) (bits-fields width xs)
+
+one_or_zero : (b : Bool) → cond b 1 0 < 2
+one_or_zero true = omega arith
+one_or_zero false = omega arith
+
+bits-marks : (ys : List ℕ) (u : ℕ) → AreBits (marks ys u)
+bits-marks ys u =
+    All-map (λ b. b < 2) (λ r. cond (has_number r ys) 1 0) (range_with_len 0 u) (λ k d lt. one_or_zero (has_number (get_or (range_with_len 0 u) k d) ys))
+
+pub part-is-bits : PartIsBits
+part-is-bits q u ys =
+    subst (λ xs. AreBits xs) (sym (part-is q u ys))
+    (All-append (λ b. b < 2) (marks ys u) (map_samples q ys u) (bits-marks ys u)
+    (subst (λ xs. AreBits xs) (samples-are q ys u) (bits-fields (digits (length ys)) (counts q ys u))))
+
+pub takes-its-payload : TakesItsPayload
+unfolding bitmap_payload
+takes-its-payload u m ys h = length-part bitmap_spacing u ys ∙ ap (λ n. map_length bitmap_spacing u n) h.count
+
+-- an option whose absence cannot be
+pub some-from : (o : Option ℕ) (P : Type 0) → IfNone o P → (P → ⊥) → IsSome o
+some-from None P h never = absurd (never h)
+some-from (Some x) P h never = search rules
+
+pub at-some : (o : Option ℕ) (P : ℕ → Type 0) (x : ℕ) → o ≡ Some x → IfSome o P → P x
+at-some o P x e h = subst (λ v. IfSome v P) e h
+
+-- what is read of the numbers that a view holds
+pub number-found : (q : ℕ) (v : MapView q) (ys : List ℕ) → Holds q v ys → (least p : ℕ) → least < v.u
+    → IsFirstOne (bits_of v.bits.words.now) (v.place + least) (v.place + v.u) p → p - v.place ≡ get_or ys (ones_between (bits_of v.bits.words.now) v.place (v.place + least)) 0
+number-found q v ys h least p lt first =
+    first-number (bits_of v.bits.words.now) v.place v.u v.m q ys (bits-bits_of v.bits.words.now) (view-read q v ys h) least p first (omega arith)
+
+pub number-there : (q : ℕ) (v : MapView q) (ys : List ℕ) → Holds q v ys → (least : ℕ) → least < v.u
+    → HasNoOne (bits_of v.bits.words.now) (v.place + least) (v.place + v.u) → ⊥
+number-there q v ys h least lt none = some-number (bits_of v.bits.words.now) v.place v.u v.m q ys (view-read q v ys h) least lt none
+
+pub number-below : (q : ℕ) (v : MapView q) (ys : List ℕ) → Holds q v ys → (k : ℕ) → k < v.m → get_or ys k 0 < v.u
+number-below q v ys h k lt = below-universe v.u v.m ys h.values k lt
+
+pub next-below : (q : ℕ) (v : MapView q) (ys : List ℕ) → Holds q v ys → (k : ℕ) → k + 1 < v.m → get_or ys k 0 + 1 < v.u
+next-below q v ys h k lt =
+    omega (arith, rises ys h.values.rising k (k + 1) (omega arith) (omega (arith, h.values.count)), number-below q v ys h (k + 1) lt)
+
+pub next-number : (q : ℕ) (v : MapView q) (ys : List ℕ) → Holds q v ys → (k number : ℕ) → k < v.m → number ≡ get_or ys k 0
+    → ones_between (bits_of v.bits.words.now) v.place (v.place + (number + 1)) ≡ k + 1
+next-number q v ys h k number lt is =
+    ap (λ n. ones_between (bits_of v.bits.words.now) v.place (v.place + (n + 1))) is
+    ∙ count-next (bits_of v.bits.words.now) v.place v.u v.m q ys (bits-bits_of v.bits.words.now) (view-read q v ys h) k lt
+
+pub first-at-least : (q : ℕ) (v : MapView q) (ys : List ℕ) → Holds q v ys → (from x : ℕ) → x < v.u → from < v.m → get_or ys from 0 < x
+    → IsFirstAtLeast ys from x (ones_between (bits_of v.bits.words.now) v.place (v.place + x))
+first-at-least q v ys h from x reached within before =
+    next-is (bits_of v.bits.words.now) v.place v.u v.m q ys (bits-bits_of v.bits.words.now) (view-read q v ys h) from x reached within before
+
+-- a view whose bits pass the check holds some numbers
+pub checked-holds : (q : ℕ) (v : MapView q) → IsWithin q v → ones_between (bits_of v.bits.words.now) v.place (v.place + v.u) ≡ v.m
+    → get_or (bits_of v.bits.words.now) (v.place + (v.u - 1)) 0 ≡ 1 → AreSampled q (bits_of v.bits.words.now) v.place v.u v.m
+    → (ys : List ℕ) × Holds q v ys
+checked-holds q v within all last sampled =
+    let found = read-checked (bits_of v.bits.words.now) v.place v.u v.m q (bits-bits_of v.bits.words.now) v.some (let e : 1 ≤ v.u = omega (arith, v.some, v.fit) in e)
+    (omega (arith, within, length-bits_of v.bits.words.now)) all last sampled in
+    (found.0, read-view q v found.0 found.1)
+
+-- and what holds some numbers passes it
+pub held-all : (q : ℕ) (v : MapView q) (ys : List ℕ) → Holds q v ys → ones_between (bits_of v.bits.words.now) v.place (v.place + v.u) ≡ v.m
+held-all q v ys h = counted-all (bits_of v.bits.words.now) v.place v.u v.m q ys (bits-bits_of v.bits.words.now) (view-read q v ys h)
+
+pub held-last : (q : ℕ) (v : MapView q) (ys : List ℕ) → Holds q v ys → get_or (bits_of v.bits.words.now) (v.place + (v.u - 1)) 0 ≡ 1
+held-last q v ys h = last-set (bits_of v.bits.words.now) v.place v.u v.m q ys (view-read q v ys h)
+
+pub held-samples : DigitsHold → (q : ℕ) (v : MapView q) (ys : List ℕ) → Holds q v ys → AreSampled q (bits_of v.bits.words.now) v.place v.u v.m
+held-samples hold q v ys h =
+    samples-read hold (bits_of v.bits.words.now) v.place v.u v.m q ys (bits-bits_of v.bits.words.now) v.spacing (omega (arith, v.fit, v.in_range)) (view-read q v ys h)

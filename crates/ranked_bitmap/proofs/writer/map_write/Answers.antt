@@ -1,0 +1,32 @@
+use Rattle.std.proofs.Common.{◌≡◌, ◌++◌, ap, arith, length}
+use Rattle.std.proofs.lemmas.List.{length-append}
+use Rattle.bit_words.specs.Bits.{AppendsBits}
+use Rattle.ranked_bitmap.specs.MapBits.{marks, map_samples, map_bits}
+use Rattle.ranked_bitmap.proofs.Writing.{length-both, part-whole, part-front, part-behind, on-err, ok-also, err-also}
+use Rattle.ranked_bitmap.proofs.writer.map_write.Goals as goal
+
+pub write_marks-requires-clause-room : goal.write_marks-requires-clause-room
+write_marks-requires-clause-room g c = omega (arith, length-both g.row.B c.args.u c.args.values.now, c.requires.room)
+
+pub returns-in_err-write_marks-clause-err : goal.returns-in_err-write_marks-clause-err
+returns-in_err-write_marks-clause-err g c =
+    on-err c.from_residual.result (AppendsBits c.args.to.now c.write_marks.new.to (map_bits g.row.B c.args.values.now c.args.u))
+    (part-front g.row.B c.args.u c.args.to.now c.write_marks.new.to c.args.values.now c.in_err-write_marks.ensures.err)
+
+pub write_samples-requires-clause-room : goal.write_samples-requires-clause-room
+write_samples-requires-clause-room g c =
+    omega (arith, length-both g.row.B c.args.u c.args.values.now, c.requires.room, ap length c.in_ok-write_marks.ensures.ok, length-append c.args.to.now (marks c.args.values.now c.args.u))
+
+pub returns-clause-ok : goal.returns-clause-ok
+returns-clause-ok g c =
+    ok-also c.write_samples.result (c.write_samples.new.to ≡ c.write_marks.new.to ++ map_samples g.row.B c.args.values.now c.args.u)
+    (c.write_samples.new.to ≡ c.args.to.now ++ map_bits g.row.B c.args.values.now c.args.u)
+    (λ e. part-whole g.row.B c.args.u c.args.to.now c.write_marks.new.to c.write_samples.new.to c.args.values.now c.in_ok-write_marks.ensures.ok e)
+    c.write_samples.ensures.ok
+
+pub returns-clause-err : goal.returns-clause-err
+returns-clause-err g c =
+    err-also c.write_samples.result (AppendsBits c.write_marks.new.to c.write_samples.new.to (map_samples g.row.B c.args.values.now c.args.u))
+    (AppendsBits c.args.to.now c.write_samples.new.to (map_bits g.row.B c.args.values.now c.args.u))
+    (λ h. part-behind g.row.B c.args.u c.args.to.now c.write_marks.new.to c.write_samples.new.to c.args.values.now c.in_ok-write_marks.ensures.ok h)
+    c.write_samples.ensures.err

@@ -1,0 +1,4 @@
+pub mod MapBits
+pub mod MapPlaces
+pub mod MapView
+pub mod Laws

@@ -1,0 +1,19 @@
+use Rattle.std.proofs.Common.{◌≡◌, ℕ, ◌-◌, map, length}
+use Rattle.std.specs.List.{All, sum_by}
+use Rattle.scan_plans.specs.Matches.{in_any}
+use Rattle.scan_plans.specs.Scan.{StandsFrom}
+use Rattle.scan_plans.proofs.Bests.{IsBest}
+use Rattle.scan_plans.proofs.top.top_exhaustive.Given as goal
+
+abbrev pub invariant-loop-doc : goal.invariant-loop-doc
+invariant-loop-doc g l = record {
+  low : ℕ;
+  lists : map g.C.DocCursor.list l.cursors ≡ map g.C.DocCursor.list l.initial.cursors;
+  stand : All (λ c. StandsFrom low (g.C.DocCursor.list c) (g.C.DocCursor.place c)) l.cursors;
+  k : l.top.k ≡ l.fn.k;
+  n : l.top.n ≡ l.fn.n;
+  best : IsBest l.fn.k (map g.C.DocCursor.list l.initial.cursors) (in_any low (map g.C.DocCursor.list l.initial.cursors)) l.top.held;
+}
+
+abbrev pub decreases-loop-doc : goal.decreases-loop-doc
+decreases-loop-doc g l = sum_by (λ c. length (g.C.DocCursor.list c) - g.C.DocCursor.place c) l.cursors

@@ -1,0 +1,5 @@
+pub mod Matches
+pub mod IsTop
+pub mod Ranking
+pub mod Scan
+pub mod Held

@@ -1,0 +1,61 @@
+use super::*;
+use cursor_api::PlainCursor;
+
+// Five documents; a list has the documents 1 and 4, another 1, 2 and 4.
+#[test]
+fn two_lists(rt: HostRuntime) {
+    let starts = [
+        PlainCursor::new(&[1, 4], &[2, 3]),
+        PlainCursor::new(&[1, 2, 4], &[1, 3, 1]),
+    ];
+    let mut cursors = starts;
+    let both = and_docs(rt.alloc(), &mut cursors).expect(&rt, "memory");
+    assert_eq!(rt; both.as_slice(), [1, 4].as_slice());
+    let mut cursors = starts;
+    let any = or_docs(rt.alloc(), &mut cursors).expect(&rt, "memory");
+    assert_eq!(rt; any.as_slice(), [1, 2, 4].as_slice());
+    let mut cursors = starts;
+    let top = top_exhaustive(rt.alloc(), &mut cursors, 2, 5).expect(&rt, "memory");
+    assert_eq!(rt; top.as_slice(), [(4, 4), (1, 3)].as_slice());
+    let mut cursors = starts;
+    let all = top_exhaustive(rt.alloc(), &mut cursors, 9, 5).expect(&rt, "memory");
+    assert_eq!(rt; all.as_slice(), [(4, 4), (1, 3), (2, 3)].as_slice());
+}
+
+#[test]
+fn one_list(rt: HostRuntime) {
+    let starts = [PlainCursor::new(&[0, 2], &[1, 5])];
+    let mut cursors = starts;
+    let both = and_docs(rt.alloc(), &mut cursors).expect(&rt, "memory");
+    assert_eq!(rt; both.as_slice(), [0, 2].as_slice());
+    let mut cursors = starts;
+    let any = or_docs(rt.alloc(), &mut cursors).expect(&rt, "memory");
+    assert_eq!(rt; any.as_slice(), [0, 2].as_slice());
+    let mut cursors = starts;
+    let top = top_exhaustive(rt.alloc(), &mut cursors, 1, 3).expect(&rt, "memory");
+    assert_eq!(rt; top.as_slice(), [(2, 5)].as_slice());
+    let mut cursors = starts;
+    let none = top_exhaustive(rt.alloc(), &mut cursors, 0, 3).expect(&rt, "memory");
+    assert!(rt; none.is_empty());
+}
+
+#[test]
+fn no_list(rt: HostRuntime) {
+    let mut none: [PlainCursor; 0] = [];
+    let both = and_docs(rt.alloc(), &mut none).expect(&rt, "memory");
+    assert!(rt; both.is_empty());
+    let any = or_docs(rt.alloc(), &mut none).expect(&rt, "memory");
+    assert!(rt; any.is_empty());
+    let top = top_exhaustive(rt.alloc(), &mut none, 3, 5).expect(&rt, "memory");
+    assert!(rt; top.is_empty());
+}
+
+#[test]
+fn room_for_one(rt: HostRuntime) {
+    let mut top = TopK::new(rt.alloc(), 1, 5).expect(&rt, "memory");
+    assert_eq!(rt; top.threshold(), None);
+    top.offer(3, 7);
+    assert_eq!(rt; top.threshold(), Some(7));
+    let list = top.into_list().expect(&rt, "memory");
+    assert_eq!(rt; list.as_slice(), [(3, 7)].as_slice());
+}
