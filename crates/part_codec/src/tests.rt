@@ -1,8 +1,11 @@
-ghost use Rattle.std.specs.Prelude.{◌≡◌, ℕ, ◌*◌, ◌≤◌, ◌<◌, ◌^◌, length, slice_index};
+ghost use Rattle.std.specs.Prelude.{◌≡◌, ℕ, ◌*◌, ◌≤◌, ◌<◌, ◌^◌, length, slice_index, IsTrue};
+ghost use Rattle.part_cost.specs.Span.{AreRelative};
 
 use super::*;
 use elias_fano::EfView;
+use part_cost::payload_bits;
 use ranked_bitmap::MapView;
+use std::alloc::{AllocError, Global};
 use std::test::Fail;
 
 // 3, 700 in Elias-Fano form: 20 bits, as one word.
@@ -102,6 +105,87 @@ fn patterns(u: u64, m: u64, bits: u32) -> u64
         }
     }
     count
+}
+
+// Whether the values rise, and the last is u - 1.
+fn is_relative(values: &[u64], u: u64) -> bool
+    ensures { IsTrue result → AreRelative u (length values.now) values.now }
+{
+    for i in 1..values.len() {
+        if values[i] <= values[i - 1] {
+            return false;
+        }
+    }
+    match values.last() {
+        Some(last) => *last < u && *last + 1 == u,
+        None => false,
+    }
+}
+
+// Whether a list is written, accepted and read back.
+fn reads_back(alloc: Global, values: &[u64], u: u64) -> Result<bool, NoMemory>
+    requires in_range { u ≤ 2 ^ 36 }
+{
+    part_takes_its_payload();
+    let m = values.len() as u64;
+    if !is_relative(values, u) || m > u || payload_bits(u, m) > 64 {
+        return Ok(false);
+    }
+    let Ok(mut writer) = BitWriter::new(alloc) else {
+        return Err(NoMemory);
+    };
+    write_part(values, u, &mut writer)?;
+    let words = writer.into_words();
+    if words.len() > 1 {
+        return Ok(false);
+    }
+    let view = PartView::at(Bits { words: &words }, 0, u, m);
+    if !view.check() {
+        return Ok(false);
+    }
+    for k in 0..values.len() {
+        if view.get(k as u64) != values[k] {
+            return Ok(false);
+        }
+    }
+    Ok(true)
+}
+
+// The numbers below u - 1 whose bit is set in a choice, and then u - 1.
+fn chosen(alloc: Global, choice: u64, u: u64) -> Result<Vec<u64>, AllocError>
+    requires small { u ≤ 10 }
+{
+    let mut values = Vec::new(alloc);
+    for r in 0..u {
+        if r + 1 == u || choice >> r & 1 == 1 {
+            values.push(r)?;
+        }
+    }
+    Ok(values)
+}
+
+// Every list in a universe up to 10 is read back, and as many patterns of its number of bits are accepted as there are lists.
+#[test]
+fn small_lists_and_nothing_else(rt: HostRuntime) {
+    for u in 1..11_u64 {
+        let mut lists = [0_u64; 11];
+        for choice in 0..1_u64 << (u - 1) {
+            let values = chosen(rt.alloc(), choice, u).expect(&rt, "memory");
+            let read = reads_back(rt.alloc(), &values, u).expect(&rt, "memory");
+            assert!(rt; read, "{choice} in {u}");
+            assert!(rt; values.len() <= 10 && lists[values.len()] < 1000);
+            lists[values.len()] += 1;
+        }
+        for m in 1..u + 1 {
+            let bits = payload_bits(u, m);
+            assert!(rt; bits < 64);
+            assert_eq!(rt;
+                patterns(u, m, bits as u32),
+                lists[m as usize],
+                "{m} in {u}"
+            );
+        }
+    }
 }
 
 // As many patterns are accepted as there are places below u - 1 to choose the other numbers from; of parts that take as many

@@ -1,0 +1,313 @@
+use Rattle.std.proofs.Common.{◌≡◌, ℕ, zero, suc, ◌+◌, ◌-◌, ◌*◌, ◌/◌, ◌%◌, ◌^◌, ◌<◌, ◌≤◌, Bool, true, false, List, [], ◌∷◌, ◌++◌, length, take, drop, replicate, get_or, refl, inl, inr, sym, ap, ◌∙◌, subst, arith}
+use Rattle.std.specs.Prelude.{◌||◌, ◌&&◌, ◌==◌, not, nat_le, nat_lt, MatchBool}
+use Rattle.std.specs.List.{All}
+use Rattle.std.proofs.lemmas.Bool.Decides.{nat_tests}
+use Rattle.std.proofs.lemmas.List.{length-replicate, get_or-append_right, get_or_append_left, get_or-replicate, length-take-le}
+use Rattle.collection_model.specs.FormatNumbers.{format_one}
+use Rattle.bit_words.specs.Bits.{bits_of, padding, words_of, HasNoOne}
+use Rattle.bit_words.specs.Laws.{BitsOfAppended, BitsOfWords}
+use Rattle.part_cost.specs.Span.{past, universe, payload_of_part, relative_values}
+use Rattle.part_cost.specs.Partition.{IsPartitionFrom, cost_from}
+use Rattle.part_cost.specs.Stored.{HoldsPart}
+use Rattle.part_codec.specs.PartBits.{part_bits}
+use Rattle.two_level.specs.declared.check.Check.{Check}
+use Rattle.two_level.specs.declared.check.Check.TheVariants.{K6, K7, K8, K9}
+use Rattle.two_level.specs.SequenceWords.{directory_from, payload_from, BeginsSequence}
+use Rattle.two_level.specs.SequenceFault.{OrElse, FirstOf, stated_last, stated_end, stated_offset, end_before, past_before, stated_count, stated_universe, payload_before, word_behind, first_bit, parts_fit, cannot_follow, entry_breaks, IsPartStored, PassChecks, IsSequenceFault}
+use Rattle.two_level.proofs.Lengths.{PartLaws, AreValues, ends-within, length-payload, bits-payload, length-directory, length-sequence}
+use Rattle.two_level.proofs.Pieces.{length-bits_of}
+use Rattle.two_level.proofs.Stated.{EntryIs, StandsFrom, past-part, past-bounded, entry-is, stands-next, payload-all, holds-part, split-bits, values-of, begins-split, stands-whole}
+
+-- tests that are false
+pub or-none : (a b : Bool) → (a || b) ≡ false → (a ≡ false) × (b ≡ false)
+or-none true b h = cc
+or-none false b h = (refl, h)
+
+pub or-both : (a b : Bool) → a ≡ false → b ≡ false → (a || b) ≡ false
+or-both true b h k = cc
+or-both false b h k = k
+
+pub le-false : (a b : ℕ) → nat_le a b ≡ false → b < a
+le-false a b h = grind (arith, nat_tests)
+
+pub lt-false : (a b : ℕ) → nat_lt a b ≡ false → b ≤ a
+lt-false a b h = grind (arith, nat_tests)
+
+pub same-true : (a b : ℕ) → (a == b) ≡ true → a ≡ b
+same-true a b h = grind (arith, nat_tests)
+
+pub false-le : (a b : ℕ) → b < a → nat_le a b ≡ false
+false-le a b h = grind (arith, nat_tests)
+
+pub false-lt : (a b : ℕ) → b ≤ a → nat_lt a b ≡ false
+false-lt a b h = grind (arith, nat_tests)
+
+pub true-same : (a b : ℕ) → a ≡ b → (a == b) ≡ true
+true-same a b h = grind (arith, nat_tests)
+
+pub not-false : (a : Bool) → not a ≡ false → a ≡ true
+not-false true h = refl
+not-false false h = cc
+
+pub false-not : (a : Bool) → a ≡ true → not a ≡ false
+false-not true h = refl
+false-not false h = cc
+
+pub and-false : (a b : Bool) → (a && not b) ≡ false → a ≡ true → b ≡ true
+and-false true b h k = not-false b h
+and-false false b h k = cc
+
+pub false-and : (a b : Bool) → (a ≡ true → b ≡ true) → (a && not b) ≡ false
+false-and true b h = false-not b (h refl)
+false-and false b h = refl
+
+-- an entry that follows what is before it
+pub record Follows (m bound before past bits : ℕ) (is_last : Bool) (end last offset : ℕ) : Type 0 where
+  pub up : before < end
+  pub within : end ≤ m
+  pub below : last < bound
+  pub above : past ≤ last
+  pub room : end - before ≤ last + 1 - past
+  pub offsets : offset ≡ bits
+  pub whole : is_last ≡ true → end ≡ m
+
+pub follows-from : (m bound before past bits : ℕ) (is_last : Bool) (end last offset : ℕ) → cannot_follow m bound before past bits is_last end last offset ≡ false
+    → Follows m bound before past bits is_last end last offset
+follows-from m bound before past bits is_last end last offset h =
+    let a = nat_le end before in
+    let b = nat_lt m end in
+    let c = nat_le bound last in
+    let d = nat_lt last past in
+    let e = nat_lt (last + 1 - past) (end - before) in
+    let f = not (offset == bits) in
+    let g = is_last && not (end == m) in
+    let g7 = or-none (a || b || c || d || e || f) g h in
+    let g6 = or-none (a || b || c || d || e) f g7.0 in
+    let g5 = or-none (a || b || c || d) e g6.0 in
+    let g4 = or-none (a || b || c) d g5.0 in
+    let g3 = or-none (a || b) c g4.0 in
+    let g2 = or-none a b g3.0 in
+    record {
+      up = le-false end before g2.0;
+      within = lt-false m end g2.1;
+      below = le-false bound last g3.1;
+      above = lt-false last past g4.1;
+      room = lt-false (last + 1 - past) (end - before) g5.1;
+      offsets = same-true offset bits (not-false (offset == bits) g6.1);
+      whole = λ k. same-true end m (and-false is_last (end == m) g7.1 k);
+    }
+
+pub follows-test : (m bound before past bits : ℕ) (is_last : Bool) (end last offset : ℕ) → Follows m bound before past bits is_last end last offset
+    → cannot_follow m bound before past bits is_last end last offset ≡ false
+follows-test m bound before past bits is_last end last offset h =
+    let a = nat_le end before in
+    let b = nat_lt m end in
+    let c = nat_le bound last in
+    let d = nat_lt last past in
+    let e = nat_lt (last + 1 - past) (end - before) in
+    let f = not (offset == bits) in
+    let g = is_last && not (end == m) in
+    or-both (a || b || c || d || e || f) g
+    (or-both (a || b || c || d || e) f
+    (or-both (a || b || c || d) e
+    (or-both (a || b || c) d
+    (or-both (a || b) c (or-both a b (false-le end before h.up) (false-lt m end h.within)) (false-le bound last h.below))
+    (false-lt last past h.above))
+    (false-lt (last + 1 - past) (end - before) h.room))
+    (false-not (offset == bits) (true-same offset bits h.offsets)))
+    (false-and is_last (end == m) (λ k. true-same end m (h.whole k)))
+
+-- entry q of the words follows the entries before it
+abbrev pub FollowsAt : List ℕ → ℕ → ℕ → ℕ → ℕ → Type 0
+FollowsAt words parts m bound q =
+    Follows m bound (end_before format_one words 0 q) (past_before format_one words 0 q) (payload_before format_one words 0 q) (q + 1 == parts)
+    (stated_end format_one words 0 q) (stated_last format_one words 0 q) (stated_offset format_one words 0 q)
+
+pub follows-at : (words : List ℕ) (parts m bound q : ℕ) → entry_breaks format_one words 0 parts m bound q ≡ false → FollowsAt words parts m bound q
+follows-at words parts m bound q h =
+    follows-from m bound (end_before format_one words 0 q) (past_before format_one words 0 q) (payload_before format_one words 0 q) (q + 1 == parts)
+    (stated_end format_one words 0 q) (stated_last format_one words 0 q) (stated_offset format_one words 0 q) h
+
+pub at-follows : (words : List ℕ) (parts m bound q : ℕ) → FollowsAt words parts m bound q → entry_breaks format_one words 0 parts m bound q ≡ false
+at-follows words parts m bound q h =
+    follows-test m bound (end_before format_one words 0 q) (past_before format_one words 0 q) (payload_before format_one words 0 q) (q + 1 == parts)
+    (stated_end format_one words 0 q) (stated_last format_one words 0 q) (stated_offset format_one words 0 q) h
+
+-- the checks, from the last one
+abbrev pub Found : Check → ℕ → Check → ℕ → Type 0
+Found check part k q = (check ≡ k) × (part ≡ q)
+
+abbrev pub PaddingStep : List ℕ → ℕ → Check → ℕ → Type 0
+PaddingStep words parts check part =
+    OrElse (¬ HasNoOne (bits_of words) (first_bit format_one 0 parts + payload_before format_one words 0 parts) (64 * word_behind format_one words 0 parts)) (Found check part K9 0) ⊥
+
+abbrev pub PartsStep : List ℕ → ℕ → Check → ℕ → Type 0
+PartsStep words parts check part = FirstOf (λ q. ¬ IsPartStored format_one words 0 parts q) parts (Found check part K8) (PaddingStep words parts check part)
+
+abbrev pub BehindStep : List ℕ → ℕ → Check → ℕ → Type 0
+BehindStep words parts check part =
+    MatchBool (nat_lt (length words) (word_behind format_one words 0 parts)) (Found check part K7 parts) (PartsStep words parts check part)
+
+abbrev pub EntriesStep : List ℕ → ℕ → ℕ → ℕ → Check → ℕ → Type 0
+EntriesStep words parts m bound check part =
+    FirstOf (λ q. entry_breaks format_one words 0 parts m bound q ≡ true) parts (Found check part K7) (BehindStep words parts check part)
+
+pub unmatch : (b : Bool) (P Q : Type 0) → b ≡ false → MatchBool b P Q → Q
+unmatch true P Q e h = cc
+unmatch false P Q e h = h
+
+pub match-true : (b : Bool) (P Q : Type 0) → b ≡ true → P → MatchBool b P Q
+match-true true P Q e h = h
+match-true false P Q e h = cc
+
+pub match-false : (b : Bool) (P Q : Type 0) → b ≡ false → Q → MatchBool b P Q
+match-false true P Q e h = cc
+match-false false P Q e h = h
+
+pub front-test : (words : List ℕ) (parts m : ℕ) → parts_fit m parts ≡ true → 2 * parts ≤ length words → (not (parts_fit m parts) || nat_lt (length words) (2 * parts)) ≡ false
+front-test words parts m h k = or-both (not (parts_fit m parts)) (nat_lt (length words) (2 * parts)) (false-not (parts_fit m parts) h) (false-lt (length words) (2 * parts) k)
+
+differ : (b : Bool) → b ≡ true → b ≡ false → ⊥
+differ true h k = cc
+differ false h k = cc
+
+pub no-fault : (words : List ℕ) (parts m bound : ℕ) (check : Check) (part : ℕ) → PassChecks words parts m bound → IsSequenceFault format_one words parts m bound check part → ⊥
+no-fault words parts m bound check part fit h =
+    let first : EntriesStep words parts m bound check part =
+    unmatch (not (parts_fit m parts) || nat_lt (length words) (2 * parts)) ((check ≡ K6) × (part ≡ 0)) (EntriesStep words parts m bound check part) (front-test words parts m fit.parts_are fit.room) h in
+    elim first [
+      | inl (q, lt, breaks, before, found) ↦ differ (entry_breaks format_one words 0 parts m bound q) breaks (fit.entries q lt)
+      | inr (none, later) ↦
+          let parts_step : PartsStep words parts check part =
+          unmatch (nat_lt (length words) (word_behind format_one words 0 parts)) (Found check part K7 parts) (PartsStep words parts check part) (false-lt (length words) (word_behind format_one words 0 parts) fit.within) later in
+          elim parts_step [
+            | inl (q, lt, missing, before, found) ↦ missing (fit.stored q lt)
+            | inr (none, later) ↦ elim later [ inl (ones, found) ↦ ones fit.filled | inr (zeros, nothing) ↦ nothing ]
+          ]
+    ]
+
+-- how many parts there are
+pub few-parts : (i n : ℕ) (ends : List ℕ) → IsPartitionFrom i n ends → i + length ends ≤ n
+few-parts i n [] h = omega (arith, h)
+few-parts i n (end ∷ ends) h = omega (arith, h.0, few-parts end n ends h.1)
+
+pub some-parts : (n : ℕ) (ends : List ℕ) → IsPartitionFrom 0 n ends → length ends ≡ 0 → n ≡ 0
+some-parts n [] h e = sym h
+some-parts n (end ∷ ends) h e = absurd (omega (arith, e))
+
+pub count-fits : (m parts : ℕ) → parts ≤ m → (parts ≡ 0 → m ≡ 0) → parts_fit m parts ≡ true
+count-fits zero zero h k = refl
+count-fits zero (suc parts) h k = absurd (omega (arith, h))
+count-fits (suc m) zero h k = absurd (let e : suc m ≡ 0 = k refl in omega (arith, e))
+count-fits (suc m) (suc parts) h k = grind (arith, nat_tests)
+
+pub last-end : (end n : ℕ) (ends : List ℕ) → length ends ≡ 0 → IsPartitionFrom end n ends → end ≡ n
+last-end end n [] e h = h
+last-end end n (next ∷ ends) e h = absurd (omega (arith, e))
+
+-- the entries of a sequence follow each other
+pub entry-follows : PartLaws → (words xs : List ℕ) → AreValues xs → (bound : ℕ) → All (λ x. x < bound) xs → (base parts q i end : ℕ) (ends : List ℕ) → q + suc (length ends) ≡ parts
+    → StandsFrom words xs base q i (end ∷ ends) → FollowsAt words parts (length xs) bound q
+entry-follows laws words xs v bound below base parts q i end ends count h =
+    let k : EntryIs words xs q i end = entry-is laws words xs v base q i end ends h in
+    let fit : end ≤ length xs = ends-within end (length xs) ends h.parts.1 in
+    let lt : i < end = h.parts.0 in
+    let less : past xs i < past xs end = past-part laws xs v i end lt fit in
+    let most : past xs end ≤ bound = past-bounded laws bound xs below end (omega arith) fit in
+    let room : end - i ≤ universe xs i end = laws.room xs v.rising i end lt fit in
+    record {
+      up = omega (arith, h.start, k.ends, lt);
+      within = omega (arith, k.ends, fit);
+      below = omega (arith, k.lasts, most);
+      above = omega (arith, k.lasts, h.begins, less);
+      room = omega (arith, k.lasts, h.begins, k.ends, h.start, room);
+      offsets = k.offsets;
+      whole =
+          λ t.
+          let last : q + 1 ≡ parts = same-true (q + 1) parts t in
+          k.ends ∙ last-end end (length xs) ends (omega (arith, last, count)) h.parts.1;
+    }
+
+pub entries-follow : PartLaws → (words xs : List ℕ) → AreValues xs → (bound : ℕ) → All (λ x. x < bound) xs → (base parts q i : ℕ) (ends : List ℕ) → q + length ends ≡ parts
+    → StandsFrom words xs base q i ends → (j : ℕ) → j < length ends → FollowsAt words parts (length xs) bound (q + j)
+entries-follow laws words xs v bound below base parts q i [] count h j lt = absurd (omega (arith, lt))
+entries-follow laws words xs v bound below base parts q i (end ∷ ends) count h zero lt =
+    subst (FollowsAt words parts (length xs) bound) (let e : q ≡ q + 0 = omega arith in e) (entry-follows laws words xs v bound below base parts q i end ends count h)
+entries-follow laws words xs v bound below base parts q i (end ∷ ends) count h (suc j) lt =
+    let k : EntryIs words xs q i end = entry-is laws words xs v base q i end ends h in
+    subst (FollowsAt words parts (length xs) bound) (let e : suc q + j ≡ q + suc j = omega arith in e)
+    (entries-follow laws words xs v bound below base parts (suc q) end ends (omega (arith, count)) (stands-next laws words xs v base q i end ends h k) j (omega (arith, lt)))
+
+-- the parts of a sequence are stored
+pub parts-stored : PartLaws → (words xs : List ℕ) → AreValues xs → (parts q i : ℕ) (ends : List ℕ) → StandsFrom words xs (first_bit format_one 0 parts) q i ends
+    → (j : ℕ) → j < length ends → IsPartStored format_one words 0 parts (q + j)
+parts-stored laws words xs v parts q i [] h j lt = absurd (omega (arith, lt))
+parts-stored laws words xs v parts q i (end ∷ ends) h zero lt =
+    let base : ℕ = first_bit format_one 0 parts in
+    let k : EntryIs words xs q i end = entry-is laws words xs v base q i end ends h in
+    let ys : List ℕ = relative_values xs i end in
+    let place : ℕ = base + payload_before format_one words 0 q in
+    let held : HoldsPart part_bits (bits_of words) place (universe xs i end) (end - i) ys = holds-part laws words xs v base q i end ends h in
+    let stated : HoldsPart part_bits (bits_of words) place (stated_universe format_one words 0 q) (stated_count format_one words 0 q) ys =
+    subst (λ u. HoldsPart part_bits (bits_of words) place u (stated_count format_one words 0 q) ys) (sym k.universes)
+    (subst (λ n. HoldsPart part_bits (bits_of words) place (universe xs i end) n ys) (sym k.counts) held) in
+    subst (IsPartStored format_one words 0 parts) (let e : q ≡ q + 0 = omega arith in e) (ys, stated)
+parts-stored laws words xs v parts q i (end ∷ ends) h (suc j) lt =
+    let base : ℕ = first_bit format_one 0 parts in
+    let k : EntryIs words xs q i end = entry-is laws words xs v base q i end ends h in
+    subst (IsPartStored format_one words 0 parts) (let e : suc q + j ≡ q + suc j = omega arith in e)
+    (parts-stored laws words xs v parts (suc q) end ends (stands-next laws words xs v base q i end ends h k) j (omega (arith, lt)))
+
+-- behind bits and others, zeros up to the end of a word
+pub zeros-behind : (before payload rest : List ℕ) (q from : ℕ) → from ≡ length before + length payload → from ≤ q → q < from + padding (length payload)
+    → get_or (before ++ (payload ++ (replicate (padding (length payload)) 0 ++ rest))) q 0 ≡ 0
+zeros-behind before payload rest q from e le lt =
+    let k : ℕ = padding (length payload) in
+    let zeros : List ℕ = replicate k 0 in
+    get_or-append_right before (payload ++ (zeros ++ rest)) (length before) q 0 refl (omega (arith, e, le))
+    ∙ get_or-append_right payload (zeros ++ rest) (length payload) (q - length before) 0 refl (omega (arith, e, le))
+    ∙ get_or_append_left zeros rest 0 (q - length before - length payload) (omega (arith, e, le, lt, length-replicate {A = ℕ} k 0))
+    ∙ get_or-replicate k (q - length before - length payload) 0 0 (omega (arith, e, le, lt))
+
+word-end : (n p q : ℕ) → q < 64 * (0 + n + (p + 63) / 64) → q < 64 * n + p + (64 - p % 64) % 64
+word-end n p q h = omega (arith, h)
+
+-- words that begin with a sequence pass every check
+pub fits-begun : PartLaws → BitsOfAppended → BitsOfWords → (m bound parts used : ℕ) (xs ends words : List ℕ) → bound ≤ 2 ^ 36
+    → BeginsSequence format_one m bound parts xs ends words used → PassChecks words parts m bound
+fits-begun laws appended filled m bound parts used xs ends words fits b =
+    let s = b.sequence in
+    let v : AreValues xs = values-of m bound parts xs ends (take used words) fits s in
+    let whole = stands-whole laws appended filled m bound parts used xs ends words fits b in
+    let base : ℕ = first_bit format_one 0 parts in
+    let directory : List ℕ = directory_from format_one xs 0 0 ends in
+    let payload : List ℕ = payload_from xs 0 ends in
+    let behind : List ℕ = drop used words in
+    let total : payload_before format_one words 0 (0 + length ends) ≡ 0 + cost_from (payload_of_part xs) 0 ends = payload-all laws words xs v base 0 0 ends whole in
+    let count : 0 + length ends ≡ parts = omega (arith, s.parts_count) in
+    let takes : length payload ≡ payload_before format_one words 0 parts = omega (arith, length-payload laws xs v 0 ends whole.parts, total, ap (payload_before format_one words 0) count) in
+    let long : used ≡ 2 * parts + (payload_before format_one words 0 parts + 63) / 64 =
+    omega (arith, length-take-le used words b.within, ap length s.spelled, length-sequence laws xs v ends whole.parts, length-payload laws xs v 0 ends whole.parts, takes, s.parts_count) in
+    let bits : bits_of words ≡ bits_of directory ++ (payload ++ (replicate (padding (length payload)) 0 ++ bits_of behind)) =
+    split-bits laws appended filled words directory payload behind (bits-payload laws xs 0 ends) (begins-split words (directory ++ words_of payload) used s.spelled) in
+    let from : base + payload_before format_one words 0 parts ≡ length (bits_of directory) + length payload =
+    omega (arith, length-bits_of directory, length-directory xs 0 0 ends, s.parts_count, takes) in
+    record {
+      parts_are = count-fits m parts (omega (arith, few-parts 0 m ends s.partition, s.parts_count)) (λ e. some-parts m ends s.partition (s.parts_count ∙ e));
+      room = omega (arith, b.within, long);
+      entries =
+          λ q lt.
+          at-follows words parts m bound q
+          (subst (λ n. FollowsAt words parts n bound q) s.count
+          (subst (FollowsAt words parts (length xs) bound) (let e : 0 + q ≡ q = omega arith in e)
+          (entries-follow laws words xs v bound s.below base parts 0 0 ends count whole q (omega (arith, lt, count)))));
+      within = omega (arith, b.within, long);
+      stored = λ q lt. subst (IsPartStored format_one words 0 parts) (let e : 0 + q ≡ q = omega arith in e) (parts-stored laws words xs v parts 0 0 ends whole q (omega (arith, lt, count)));
+      filled =
+          λ q le lt.
+          ap (λ xs. get_or xs q 0) bits
+          ∙ zeros-behind (bits_of directory) payload (bits_of behind) q (base + payload_before format_one words 0 parts) from le
+          (let e : q < 64 * (2 * parts) + payload_before format_one words 0 parts + (64 - payload_before format_one words 0 parts % 64) % 64 =
+          word-end (2 * parts) (payload_before format_one words 0 parts) q lt in
+          subst (λ n. q < base + payload_before format_one words 0 parts + padding n) (sym takes) (omega (arith, e)));
+    }

@@ -1,0 +1,130 @@
+use Rattle.std.proofs.Common.{◌≡◌, ℕ, zero, suc, ◌+◌, ◌-◌, ◌*◌, ◌/◌, ◌^◌, ◌<◌, ◌≤◌, min, cond, true, false, List, [], ◌∷◌, ◌++◌, length, take, drop, map, get_or, slice_index, sym, ap, ◌∙◌, subst, arith, append_assoc}
+use Rattle.std.specs.Prelude.{◌==◌}
+use Rattle.std.specs.List.{All, slice_range}
+use Rattle.std.specs.List.Sorted.{IsStrictlyIncreasing}
+use Rattle.std.proofs.lemmas.List.{length-append, length-take-le, length-drop, append-nil, drop_more, drop_all, get_or-take, get_or-drop, take_more, map-append}
+use Rattle.std.proofs.lemmas.Nat.{mul-le}
+use Rattle.std.proofs.Math.Nat.{min-le_right}
+use Rattle.collection_model.specs.FormatNumbers.{format_one}
+use Rattle.part_cost.specs.Payload.{digits, bitmap_spacing, ef_payload, bitmap_payload, payload}
+use Rattle.part_cost.specs.Span.{past, universe, payload_of_part, relative_values, AreRelative}
+use Rattle.part_cost.specs.Partition.{IsPartitionFrom, cost_from}
+use Rattle.part_cost.specs.Laws.{PartHasRoom, PartIsWithin, PartIsRelative}
+use Rattle.part_codec.specs.PartBits.{part_bits}
+use Rattle.two_level.specs.SequenceWords.{directory_from, payload_from}
+use Rattle.two_level.proofs.Lengths.{PartLaws, AreValues, ends-within, length-payload}
+
+-- a part takes at most two bits for each of its places
+pub payload-at_most : (u m : ℕ) → payload u m ≤ 2 * u
+unfolding payload bitmap_payload
+payload-at_most u m =
+    elim (m == u) as (λ b. cond b 0 (min (ef_payload u m) (bitmap_payload u m)) ≤ 2 * u) [
+      | true ↦ omega arith
+      | false ↦
+          let samples : (u - 1) / bitmap_spacing * digits m ≤ (u - 1) / bitmap_spacing * 64 =
+          mul-le ((u - 1) / bitmap_spacing) (digits m) ((u - 1) / bitmap_spacing) 64 (omega arith) (omega arith) in
+          omega (arith, min-le_right (ef_payload u m) (bitmap_payload u m), samples)
+    ]
+
+-- one more than the value before a place that is not the first
+pub past-at : (xs : List ℕ) (j : ℕ) → (j ≡ 0 → Unit {0}) → 0 < j → past xs j ≡ slice_index xs (j - 1) + 1
+past-at xs zero _ h = absurd (omega arith)
+past-at xs (suc k) _ h = ap (λ x. slice_index xs x + 1) (let e : k ≡ suc k - 1 = omega arith in e)
+
+-- a part ends past the value before it, and no further than the bound
+pub past-less : PartHasRoom → (xs : List ℕ) → IsStrictlyIncreasing xs → (i end : ℕ) → i < end → end ≤ length xs → past xs i + (end - i) ≤ past xs end
+past-less room xs up i end lt fit = omega (arith, room xs up i end lt fit)
+
+pub past-most : PartIsWithin → (xs : List ℕ) → All (λ x. x < 2 ^ 36) xs → (end : ℕ) → end ≤ length xs → past xs end ≤ 2 ^ 36
+past-most within xs below zero fit = omega arith
+past-most within xs below (suc k) fit = omega (arith, within (2 ^ 36) xs below 0 (suc k) (omega arith) fit)
+
+-- each value of a part lies past the value before it
+pub above-part : PartHasRoom → (xs : List ℕ) → IsStrictlyIncreasing xs → (i end k : ℕ) → k < end - i → end ≤ length xs → past xs i ≤ get_or (slice_range xs i end) k 0
+above-part room xs up i end k lt fit =
+    let at : get_or (slice_range xs i end) k 0 ≡ get_or xs (i + k) 0 = get_or-take (end - i) (drop i xs) k 0 lt ∙ get_or-drop i xs k 0 in
+    let less : past xs i + (suc (i + k) - i) ≤ past xs (suc (i + k)) = past-less room xs up i (suc (i + k)) (omega arith) (omega arith) in
+    omega (arith, at, less)
+
+pub length-part : (xs : List ℕ) (i end : ℕ) → i < end → end ≤ length xs → length (slice_range xs i end) ≡ end - i
+length-part xs i end lt fit = length-take-le (end - i) (drop i xs) (omega (arith, length-drop i xs))
+
+-- one more relative value
+pub relative-more : (span : List ℕ) (past k : ℕ) (part : List ℕ) → k < length span → part ≡ map (λ x. x - past) (take k span)
+    → part ++ (get_or span k 0 - past) ∷ [] ≡ map (λ x. x - past) (take (k + 1) span)
+relative-more span past k part lt e =
+    ap (λ ys. ys ++ (get_or span k 0 - past) ∷ []) e
+    ∙ sym (ap (map (λ x. x - past)) (take_more span k 0 lt) ∙ map-append (λ x. x - past) (take k span) (get_or span k 0 ∷ []))
+
+-- what a loop over the ends meets at its end k
+pub record NextPart (xs ends : List ℕ) (from end k : ℕ) : Type 0 where
+  pub some : from < end
+  pub within : end ≤ length xs
+  pub rest : IsPartitionFrom end (length xs) (drop (k + 1) ends)
+
+pub next-part : (xs ends : List ℕ) (from k : ℕ) → k < length ends → IsPartitionFrom from (length xs) (drop k ends) → NextPart xs ends from (get_or ends k 0) k
+next-part xs ends from k lt h =
+    let both = subst (IsPartitionFrom from (length xs)) (drop_more ends k 0 lt) h in
+    record { some = both.0; within = ends-within (get_or ends k 0) (length xs) (drop (k + 1) ends) both.1; rest = both.1 }
+
+-- an entry more
+pub two-more : (words : List ℕ) (w o : ℕ) (rest : List ℕ) → ((words ++ w ∷ []) ++ o ∷ []) ++ rest ≡ words ++ w ∷ o ∷ rest
+two-more words w o rest = append_assoc (words ++ w ∷ []) (o ∷ []) rest ∙ append_assoc words (w ∷ []) (o ∷ rest)
+
+pub directory-more : (xs ends words whole : List ℕ) (from offset w k : ℕ) → k < length ends → w ≡ past xs (get_or ends k 0) - 1 + 2 ^ 36 * get_or ends k 0
+    → words ++ directory_from format_one xs from offset (drop k ends) ≡ whole
+    → ((words ++ w ∷ []) ++ offset ∷ []) ++ directory_from format_one xs (get_or ends k 0) (offset + payload_of_part xs from (get_or ends k 0)) (drop (k + 1) ends) ≡ whole
+directory-more xs ends words whole from offset w k lt e h =
+    let end : ℕ = get_or ends k 0 in
+    let rest : List ℕ = directory_from format_one xs end (offset + payload_of_part xs from end) (drop (k + 1) ends) in
+    two-more words w offset rest
+    ∙ ap (λ v. words ++ v ∷ offset ∷ rest) e
+    ∙ sym (ap (λ es. words ++ directory_from format_one xs from offset es) (drop_more ends k 0 lt))
+    ∙ h
+
+pub directory-all : (xs ends words whole : List ℕ) (from offset k : ℕ) → length ends ≤ k → words ++ directory_from format_one xs from offset (drop k ends) ≡ whole → words ≡ whole
+directory-all xs ends words whole from offset k le h =
+    sym (append-nil words) ∙ sym (ap (λ es. words ++ directory_from format_one xs from offset es) (drop_all k ends le)) ∙ h
+
+-- a part's payload more
+pub payload-more : (xs ends bits whole : List ℕ) (from k : ℕ) → k < length ends → bits ++ payload_from xs from (drop k ends) ≡ whole
+    → (bits ++ part_bits (relative_values xs from (get_or ends k 0)) (universe xs from (get_or ends k 0))) ++ payload_from xs (get_or ends k 0) (drop (k + 1) ends) ≡ whole
+payload-more xs ends bits whole from k lt h =
+    let end : ℕ = get_or ends k 0 in
+    append_assoc bits (part_bits (relative_values xs from end) (universe xs from end)) (payload_from xs end (drop (k + 1) ends))
+    ∙ sym (ap (λ es. bits ++ payload_from xs from es) (drop_more ends k 0 lt)) ∙ h
+
+pub payload-all : (xs ends bits whole : List ℕ) (from k : ℕ) → length ends ≤ k → bits ++ payload_from xs from (drop k ends) ≡ whole → bits ≡ whole
+payload-all xs ends bits whole from k le h =
+    sym (append-nil bits) ∙ sym (ap (λ es. bits ++ payload_from xs from es) (drop_all k ends le)) ∙ h
+
+-- the payload of all parts from a place on takes at most two bits for each place behind it
+pub payloads-at_most : PartHasRoom → (xs : List ℕ) → IsStrictlyIncreasing xs → (i : ℕ) (ends : List ℕ) → IsPartitionFrom i (length xs) ends
+    → cost_from (payload_of_part xs) i ends + 2 * past xs i ≤ 2 * past xs (length xs)
+payloads-at_most room xs up i [] h = omega (arith, ap (past xs) h)
+payloads-at_most room xs up i (end ∷ ends) h =
+    let fit : end ≤ length xs = ends-within end (length xs) ends h.1 in
+    omega (arith, payload-at_most (universe xs i end) (end - i), past-less room xs up i end h.0 fit, payloads-at_most room xs up end ends h.1)
+
+-- so all bits of a sequence are few
+pub whole-short : PartLaws → (xs : List ℕ) → IsStrictlyIncreasing xs → All (λ x. x < 2 ^ 36) xs → (ends : List ℕ) → IsPartitionFrom 0 (length xs) ends → length (payload_from xs 0 ends) ≤ 2 ^ 37
+whole-short laws xs up below ends h =
+    let v : AreValues xs = record { rising = up; below = below } in
+    omega (arith, length-payload laws xs v 0 ends h, payloads-at_most laws.room xs up 0 ends h, past-most laws.within xs below (length xs) (omega arith))
+
+-- and a part of them fits behind those before it
+pub part-fits : (xs ends bits whole : List ℕ) (from k : ℕ) → k < length ends → bits ++ payload_from xs from (drop k ends) ≡ whole → length whole ≤ 2 ^ 37
+    → length bits + length (part_bits (relative_values xs from (get_or ends k 0)) (universe xs from (get_or ends k 0))) < 2 ^ 63
+part-fits xs ends bits whole from k lt h short =
+    let end : ℕ = get_or ends k 0 in
+    let piece : List ℕ = part_bits (relative_values xs from end) (universe xs from end) in
+    omega (arith, ap length (payload-more xs ends bits whole from k lt h), length-append (bits ++ piece) (payload_from xs end (drop (k + 1) ends)), length-append bits piece)
+
+-- the relative values that a part is written from
+pub relative-given : PartIsRelative → (xs : List ℕ) → IsStrictlyIncreasing xs → (i end u : ℕ) (ys : List ℕ) → i < end → end ≤ length xs → u ≡ universe xs i end → ys ≡ relative_values xs i end
+    → AreRelative u (length ys) ys
+relative-given relative xs up i end u ys lt fit eu ey =
+    let r : AreRelative (universe xs i end) (end - i) (relative_values xs i end) = relative xs up i end lt fit in
+    let base : AreRelative (universe xs i end) (length (relative_values xs i end)) (relative_values xs i end) =
+    subst (λ n. AreRelative (universe xs i end) n (relative_values xs i end)) (sym r.count) r in
+    subst (λ w. AreRelative w (length ys) ys) (sym eu) (subst (λ zs. AreRelative (universe xs i end) (length zs) zs) (sym ey) base)

@@ -1,0 +1,14 @@
+use Rattle.two_level.proofs.Accepting.{accepted-begins}
+use Rattle.two_level.proofs.laws.checks_accept_a_sequence.Goals as goal
+
+pub returns : goal.returns
+returns c m bound parts words fits are pass =
+    accepted-begins
+    (record {
+      bits = c.part_takes_its_payload.ensures.bits;
+      takes = c.part_takes_its_payload.ensures.payload;
+      room = c.part_is_relative.ensures.room;
+      within = c.part_is_relative.ensures.within;
+      relative = c.part_is_relative.ensures.relative;
+    })
+    c.words_are_bits.ensures.appended c.words_are_bits.ensures.words c.words_are_bits.ensures.padded words parts m bound fits are pass

@@ -1,0 +1,15 @@
+use Rattle.two_level.proofs.Follows.{fits-begun, no-fault}
+use Rattle.two_level.proofs.laws.checks_refuse_no_sequence.Goals as goal
+
+pub returns : goal.returns
+returns c m bound parts used part check xs ends words fits b =
+    no-fault words parts m bound check part
+    (fits-begun
+    (record {
+      bits = c.part_takes_its_payload.ensures.bits;
+      takes = c.part_takes_its_payload.ensures.payload;
+      room = c.part_is_relative.ensures.room;
+      within = c.part_is_relative.ensures.within;
+      relative = c.part_is_relative.ensures.relative;
+    })
+    c.words_are_bits.ensures.appended c.words_are_bits.ensures.bits m bound parts used xs ends words fits b)

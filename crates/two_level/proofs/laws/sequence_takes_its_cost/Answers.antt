@@ -1,0 +1,13 @@
+use Rattle.two_level.proofs.Lengths.{takes-its-cost}
+use Rattle.two_level.proofs.laws.sequence_takes_its_cost.Goals as goal
+
+pub returns : goal.returns
+returns c =
+    takes-its-cost
+    (record {
+      bits = c.part_takes_its_payload.ensures.bits;
+      takes = c.part_takes_its_payload.ensures.payload;
+      room = c.part_is_relative.ensures.room;
+      within = c.part_is_relative.ensures.within;
+      relative = c.part_is_relative.ensures.relative;
+    })

@@ -1,0 +1,44 @@
+use Rattle.std.proofs.Common.{◌≡◌, ℕ, ◌<◌, ◌≤◌, ◌^◌, List, Result, Err, sym, subst, arith, rules}
+use Rattle.std.specs.List.{All}
+use Rattle.std.specs.Result.{IfErr}
+use Rattle.std.proofs.lemmas.Result.{IfErr-weaker, IfErr-at_err}
+use Rattle.std.proofs.lemmas.List.{get_or_default}
+use Rattle.collection_model.specs.FormatNumbers.{format_one}
+use Rattle.two_level.specs.declared.checking.SeqFault.{SeqFault}
+use Rattle.two_level.specs.SequenceWords.{BeginsSequence}
+use Rattle.two_level.specs.SequenceFault.{word_behind, PassChecks, IsSequenceFault}
+use Rattle.two_level.specs.SequenceView.{SequenceView, sequence_stated}
+use Rattle.two_level.specs.Laws.{ChecksAcceptASequence, WordsState}
+use Rattle.two_level.proofs.view.SeqView.check.Goals as goal
+
+-- words that pass every check state a sequence with which they begin
+stated-begins : ChecksAcceptASequence → WordsState → (m bound parts : ℕ) (words : List ℕ) → bound ≤ 2 ^ 36 → All (λ w. w < 2 ^ 64) words → PassChecks words parts m bound
+    → (used : ℕ) × BeginsSequence format_one m bound parts (sequence_stated words parts).values (sequence_stated words parts).ends words used
+stated-begins accept state m bound parts words fits are pass =
+    let a = accept m bound parts words fits are pass in
+    let v : SequenceView = record { values = a.0; ends = a.1 } in
+    (word_behind format_one words 0 parts, subst (λ s. BeginsSequence format_one m bound parts s.values s.ends words (word_behind format_one words 0 parts)) (sym (state m bound parts (word_behind format_one words 0 parts) v words fits a.2)) a.2)
+
+from-err : {T U : Type 0} (r : Result T SeqFault) (s : Result U SeqFault) (e : SeqFault) (P : SeqFault → Type 0) → r ≡ Err e → s ≡ Err e → IfErr r P → IfErr s P
+from-err r s e P a b h = subst (λ x. IfErr x P) (sym b) (IfErr-at_err P a h)
+
+pub returns-in_err-check_words-clause-none : goal.returns-in_err-check_words-clause-none
+returns-in_err-check_words-clause-none c =
+    from-err c.check_words.result c.from_residual.result c.in_err-check_words.field-0.0
+    (λ f. (xs : List ℕ) → (ends : List ℕ) → (used : ℕ) → ¬ (BeginsSequence format_one c.args.m c.args.bound c.args.parts xs ends c.args.words.now used))
+    (first_of (search rules, cc)) (first_of (search rules, cc))
+    (IfErr-weaker c.check_words.result (λ f. IsSequenceFault format_one c.args.words.now c.args.parts c.args.m c.args.bound f.check f.part)
+    (λ f. (xs : List ℕ) → (ends : List ℕ) → (used : ℕ) → ¬ (BeginsSequence format_one c.args.m c.args.bound c.args.parts xs ends c.args.words.now used))
+    (λ f h xs ends used b. c.checks_refuse_no_sequence.ensures c.args.m c.args.bound c.args.parts used f.part f.check xs ends c.args.words.now c.requires.bound b h)
+    c.check_words.ensures.first)
+
+pub invariant_of-result : goal.invariant_of-result
+invariant_of-result c =
+    let are : All (λ w. w < 2 ^ 64) c.args.words.now = λ k d lt. omega (arith, get_or_default c.args.words.now k d 0 lt, c.type_inv.words k) in
+    let s = stated-begins c.checks_accept_a_sequence.ensures c.words_state_their_sequence.ensures c.args.m c.args.bound c.args.parts c.args.words.now c.requires.bound are c.in_ok-check_words.ensures.ok in
+    ((c.args.bound, s.0, c.requires.bound, s.1), c.requires.words)
+
+pub returns-clause-ok : goal.returns-clause-ok
+returns-clause-ok c =
+    let are : All (λ w. w < 2 ^ 64) c.args.words.now = λ k d lt. omega (arith, get_or_default c.args.words.now k d 0 lt, c.type_inv.words k) in
+    stated-begins c.checks_accept_a_sequence.ensures c.words_state_their_sequence.ensures c.args.m c.args.bound c.args.parts c.args.words.now c.requires.bound are c.in_ok-check_words.ensures.ok

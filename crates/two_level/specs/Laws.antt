@@ -1,0 +1,41 @@
+use Rattle.std.specs.Prelude.{◌≡◌, ℕ, ◌+◌, ◌/◌, ◌^◌, ◌<◌, ◌≤◌, List, length}
+use Rattle.std.specs.List.{All}
+use Rattle.std.specs.List.Sorted.{IsStrictlyIncreasing}
+use Rattle.collection_model.specs.FormatNumbers.{FormatNumbers, format_one}
+use Rattle.part_cost.specs.Span.{cost_of_part}
+use Rattle.part_cost.specs.Partition.{IsPartition, partition_cost}
+use Rattle.two_level.specs.declared.check.Check.{Check}
+use Rattle.two_level.specs.SequenceWords.{sequence_words, BeginsSequence}
+use Rattle.two_level.specs.SequenceView.{SequenceView, sequence_stated}
+use Rattle.two_level.specs.SequenceFault.{word_behind, PassChecks, IsSequenceFault}
+
+-- Words begin with one sequence of m values in so many parts only, in one partition.
+abbrev pub OneSequence : FormatNumbers → Type 0
+OneSequence format =
+    (m bound other parts used taken : ℕ) (xs ys ends cuts words : List ℕ) → bound ≤ format.most_sum → other ≤ format.most_sum
+    → BeginsSequence format m bound parts xs ends words used → BeginsSequence format m other parts ys cuts words taken
+    → (xs ≡ ys) × (ends ≡ cuts) × (used ≡ taken)
+
+-- A sequence takes exactly the cost of its partition, in words that are begun.
+abbrev pub TakesItsCost : FormatNumbers → Type 0
+TakesItsCost format =
+    (xs ends : List ℕ) → IsStrictlyIncreasing xs → All (λ x. x < format.most_sum) xs → IsPartition (length xs) ends
+    → length (sequence_words format xs ends) ≡ (partition_cost (cost_of_part format.charge xs) ends + 63) / 64
+
+-- Words that begin with a sequence below a bound of the format break no check.
+abbrev pub ChecksRefuseNoSequence : FormatNumbers → Type 0
+ChecksRefuseNoSequence format =
+    (m bound parts used part : ℕ) (check : Check) (xs ends words : List ℕ) → bound ≤ format.most_sum
+    → BeginsSequence format m bound parts xs ends words used → ¬ IsSequenceFault format words parts m bound check part
+
+-- Words of 64 bits that pass every check begin with a sequence.
+abbrev pub ChecksAcceptASequence : Type 0
+ChecksAcceptASequence =
+    (m bound parts : ℕ) (words : List ℕ) → bound ≤ format_one.most_sum → All (λ w. w < 2 ^ 64) words → PassChecks words parts m bound
+    → (xs ends : List ℕ) × BeginsSequence format_one m bound parts xs ends words (word_behind format_one words 0 parts)
+
+-- The values and the ends that words state are those of the sequence with which they begin.
+abbrev pub WordsState : Type 0
+WordsState =
+    (m bound parts used : ℕ) (v : SequenceView) (words : List ℕ) → bound ≤ format_one.most_sum
+    → BeginsSequence format_one m bound parts v.values v.ends words used → sequence_stated words parts ≡ v

@@ -1,0 +1,186 @@
+ghost use Rattle.std.specs.Prelude.{◌≡◌, ℕ, ◌≤◌, ◌<◌, ◌+◌, ◌*◌, ◌^◌, true, false, length, IsTrue, ◌↔◌, IfOk, IfErr, OnOk};
+ghost use Rattle.collection_model.specs.FormatNumbers.{format_one};
+ghost use Rattle.bit_words.specs.Bits.{bits_of, HasNoOne};
+ghost use Rattle.two_level.specs.SequenceFault.{stated_last, stated_end, stated_offset, payload_before, word_behind, first_bit, parts_fit, cannot_follow, entry_breaks, IsPartStored, PassChecks, IsSequenceFault};
+
+use crate::check::Check;
+use crate::write::MOST_SUM;
+use bit_words::Bits;
+use part_codec::check_part;
+use part_cost::payload_bits;
+
+/// The first check of a sequence's words that breaks, and its part.
+#[derive(Clone, Copy, Debug, PartialEq, Eq)]
+pub struct SeqFault {
+    pub check: Check,
+    pub part: u32,
+}
+
+// An entry of a directory.
+#[derive(Clone, Copy)]
+pub(crate) struct Entry {
+    pub(crate) last: u64,
+    pub(crate) end: u64,
+    pub(crate) offset: u64,
+}
+
+// Looks for the first check that breaks.
+pub(crate) fn check_words(words: &[u64], parts: u32, m: u32, bound: u64) -> Result<(), SeqFault>
+    requires words { length words.now < 2 ^ 57 }
+    requires bound { bound ≤ 2 ^ 36 }
+    ensures ok { OnOk result (PassChecks words.now parts m bound) }
+    ensures first { IfErr result (λ f. IsSequenceFault format_one words.now parts m bound f.check f.part) }
+{
+    if !parts_fit(m, parts) || (words.len() as u64) < 2 * parts as u64 {
+        return Err(SeqFault {
+            check: Check::K6,
+            part: 0,
+        });
+    }
+    let payload = check_directory(words, parts, m, bound)?;
+    if (words.len() as u64) < 2 * parts as u64 + payload.div_ceil(64) {
+        return Err(SeqFault {
+            check: Check::K7,
+            part: parts,
+        });
+    }
+    check_parts(words, parts, m, bound)?;
+    check_padding(words, parts, payload)?;
+    Ok(())
+}
+
+// Whether m values can have so many parts.
+fn parts_fit(m: u32, parts: u32) -> bool
+    ensures { result ≡ parts_fit m parts }
+{
+    if m == 0 {
+        parts == 0
+    } else {
+        1 <= parts && parts <= m
+    }
+}
+
+// The entry of a part.
+pub(crate) fn entry_at(words: &[u64], part: u32) -> Entry
+    requires within { 2 * part + 2 ≤ length words.now }
+    ensures last { result.last ≡ stated_last format_one words.now 0 part }
+    ensures end { result.end ≡ stated_end format_one words.now 0 part }
+    ensures offset { result.offset ≡ stated_offset format_one words.now 0 part }
+    ensures small { result.last < 2 ^ 36 }
+{
+    let at = 2 * part as usize;
+    Entry {
+        last: words[at] % MOST_SUM,
+        end: words[at] / MOST_SUM,
+        offset: words[at + 1],
+    }
+}
+
+// Whether an entry is none that could follow so many values, one past the value before, and so many payload bits.
+fn cannot_follow(
+    entry: Entry,
+    before: u64,
+    past: u64,
+    bits: u64,
+    m: u32,
+    bound: u64,
+    is_last: bool,
+) -> bool
+    requires last { entry.last < 2 ^ 36 }
+    ensures { result ≡ cannot_follow m bound before past bits is_last entry.end entry.last entry.offset }
+{
+    entry.end <= before
+        || (m as u64) < entry.end
+        || bound <= entry.last
+        || entry.last < past
+        || entry.last + 1 - past < entry.end - before
+        || entry.offset != bits
+        || is_last && entry.end != m as u64
+}
+
+// Goes through the entries, and answers the payload bits of all parts.
+fn check_directory(words: &[u64], parts: u32, m: u32, bound: u64) -> Result<u64, SeqFault>
+    requires bound { bound ≤ 2 ^ 36 }
+    requires room { 2 * parts ≤ length words.now }
+    ensures entries { IfOk result (λ bits. (q : ℕ) → q < parts → entry_breaks format_one words.now 0 parts m bound q ≡ false) }
+    ensures bits { IfOk result (λ bits. bits ≡ payload_before format_one words.now 0 parts) }
+    ensures few { IfOk result (λ bits. bits ≤ 2 ^ 37) }
+    ensures check { IfErr result (λ f. f.check ≡ Check.K7) }
+    ensures part { IfErr result (λ f. f.part < parts) }
+    ensures breaks { IfErr result (λ f. entry_breaks format_one words.now 0 parts m bound f.part ≡ true) }
+    ensures first { IfErr result (λ f. (q : ℕ) → q < f.part → entry_breaks format_one words.now 0 parts m bound q ≡ false) }
+{
+    let mut before = 0;
+    let mut past = 0;
+    let mut bits = 0;
+    for part in 0..parts {
+        let entry = entry_at(words, part);
+        if cannot_follow(entry, before, past, bits, m, bound, part + 1 == parts) {
+            return Err(SeqFault {
+                check: Check::K7,
+                part,
+            });
+        }
+        bits += payload_bits(entry.last + 1 - past, entry.end - before);
+        before = entry.end;
+        past = entry.last + 1;
+    }
+    Ok(bits)
+}
+
+// Goes through the parts of a directory whose entries stand.
+fn check_parts(words: &[u64], parts: u32, m: u32, bound: u64) -> Result<(), SeqFault>
+    requires words { length words.now < 2 ^ 57 }
+    requires bound { bound ≤ 2 ^ 36 }
+    requires room { 2 * parts ≤ length words.now }
+    requires entries { (q : ℕ) → q < parts → entry_breaks format_one words.now 0 parts m bound q ≡ false }
+    requires within { word_behind format_one words.now 0 parts ≤ length words.now }
+    ensures ok { OnOk result ((q : ℕ) → q < parts → IsPartStored format_one words.now 0 parts q) }
+    ensures check { IfErr result (λ f. f.check ≡ Check.K8) }
+    ensures part { IfErr result (λ f. f.part < parts) }
+    ensures breaks { IfErr result (λ f. ¬ IsPartStored format_one words.now 0 parts f.part) }
+    ensures first { IfErr result (λ f. (q : ℕ) → q < f.part → ¬ (¬ IsPartStored format_one words.now 0 parts q)) }
+    ensures none { OnOk result ((q : ℕ) → q < parts → ¬ (¬ IsPartStored format_one words.now 0 parts q)) }
+{
+    let mut before = 0;
+    let mut past = 0;
+    for part in 0..parts {
+        let entry = entry_at(words, part);
+        let place = 128 * parts as u64 + entry.offset;
+        if !check_part(
+            Bits { words },
+            place,
+            entry.last + 1 - past,
+            entry.end - before,
+        ) {
+            return Err(SeqFault {
+                check: Check::K8,
+                part,
+            });
+        }
+        before = entry.end;
+        past = entry.last + 1;
+    }
+    Ok(())
+}
+
+// Looks for a one behind the payload.
+fn check_padding(words: &[u64], parts: u32, bits: u64) -> Result<(), SeqFault>
+    requires words { length words.now < 2 ^ 57 }
+    requires bits { bits ≡ payload_before format_one words.now 0 parts }
+    requires within { word_behind format_one words.now 0 parts ≤ length words.now }
+    ensures ok { OnOk result (HasNoOne (bits_of words.now) (first_bit format_one 0 parts + payload_before format_one words.now 0 parts) (64 * word_behind format_one words.now 0 parts)) }
+    ensures check { IfErr result (λ f. f.check ≡ Check.K9) }
+    ensures part { IfErr result (λ f. f.part ≡ 0) }
+    ensures breaks { IfErr result (λ f. ¬ HasNoOne (bits_of words.now) (first_bit format_one 0 parts + payload_before format_one words.now 0 parts) (64 * word_behind format_one words.now 0 parts)) }
+{
+    let from = 128 * parts as u64 + bits;
+    let end = from.div_ceil(64) * 64;
+    match (Bits { words }).next_one(from, end) {
+        Some(_) => Err(SeqFault {
+            check: Check::K9,
+            part: 0,
+        }),
+        None => Ok(()),
+    }
+}

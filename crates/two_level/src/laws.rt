@@ -1,0 +1,52 @@
+ghost use Rattle.collection_model.specs.FormatNumbers.{format_one};
+ghost use Rattle.two_level.specs.Laws.{ChecksAcceptASequence, ChecksRefuseNoSequence, OneSequence, TakesItsCost, WordsState};
+
+use bit_words::words_are_bits;
+use part_codec::{one_list_at_place, part_takes_its_payload};
+use part_cost::part_is_relative;
+
+/// A sequence takes exactly what its partition costs, in whole words.
+pub fn sequence_takes_its_cost()
+    ensures { TakesItsCost format_one }
+{
+    part_takes_its_payload();
+    part_is_relative();
+}
+
+/// Words begin with one sequence of so many values in so many parts only.
+pub fn one_sequence()
+    ensures { OneSequence format_one }
+{
+    words_are_bits();
+    part_takes_its_payload();
+    one_list_at_place();
+    part_is_relative();
+}
+
+/// Words that begin with a sequence break no check.
+pub fn checks_refuse_no_sequence()
+    ensures { ChecksRefuseNoSequence format_one }
+{
+    words_are_bits();
+    part_takes_its_payload();
+    part_is_relative();
+}
+
+/// Words that pass every check begin with a sequence.
+pub fn checks_accept_a_sequence()
+    ensures { ChecksAcceptASequence }
+{
+    words_are_bits();
+    part_takes_its_payload();
+    part_is_relative();
+}
+
+/// The values and the ends that words state are those of the sequence with which they begin.
+pub fn words_state_their_sequence()
+    ensures { WordsState }
+{
+    words_are_bits();
+    part_takes_its_payload();
+    one_list_at_place();
+    part_is_relative();
+}

@@ -1,0 +1,21 @@
+// Sequences in parts, with a directory of the parts.
+#![tactic(auto)]
+
+mod check;
+mod checking;
+mod laws;
+mod part;
+#[cfg(test)]
+mod tests;
+mod view;
+mod write;
+
+pub use check::Check;
+pub use checking::SeqFault;
+pub use laws::{
+    checks_accept_a_sequence, checks_refuse_no_sequence, one_sequence, sequence_takes_its_cost,
+    words_state_their_sequence,
+};
+pub use part::Part;
+pub use view::SeqView;
+pub use write::{NoMemory, write_seq};

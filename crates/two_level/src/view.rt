@@ -1,0 +1,65 @@
+ghost use Rattle.std.specs.Prelude.{◌≡◌, ℕ, ◌≤◌, ◌<◌, ◌^◌, List, length, IfOk, IfErr};
+ghost use Rattle.collection_model.specs.FormatNumbers.{format_one};
+ghost use Rattle.two_level.specs.SequenceWords.{BeginsSequence};
+ghost use Rattle.two_level.specs.SequenceFault.{IsSequenceFault};
+ghost use Rattle.two_level.specs.SequenceView.{SequenceView, BeginWith};
+
+use crate::checking::{SeqFault, check_words};
+use crate::laws::{
+    checks_accept_a_sequence, checks_refuse_no_sequence, words_state_their_sequence,
+};
+use std::marker::Model;
+
+/// A sequence of m values in parts, at the front of lent words.
+#[derive(Drop)]
+pub struct SeqView<'a> {
+    words: &'a [u64],
+    parts: u32,
+    m: u32,
+}
+
+impl<'a> Model for SeqView<'a> {
+    ghost use Rattle.std.specs.Prelude.{◌<◌, ◌^◌, length};
+    ghost use Rattle.two_level.specs.SequenceView.{SequenceView, BeginWith, sequence_stated};
+
+    ghost Value = { SequenceView };
+
+    ghost view = { λ v. sequence_stated v.words.now v.parts };
+
+    ghost invariant = { λ v. BeginWith v.words.now v.parts v.m (sequence_stated v.words.now v.parts) × (length v.words.now < 2 ^ 57) };
+}
+
+impl<'a> SeqView<'a> {
+    /// The sequence of m values below the bound in so many parts with which the words begin. The refusal is the first check
+    /// that breaks: of the counts, of the entries, of where they end, of the parts, of the padding.
+    pub fn check(words: &'a [u64], parts: u32, m: u32, bound: u64) -> Result<SeqView<'a>, SeqFault>
+        requires words { length words.now < 2 ^ 57 }
+        requires bound { bound ≤ format_one.most_sum }
+        ensures ok { IfOk result (λ v. (used : ℕ) × BeginsSequence format_one m bound parts v.values v.ends words.entry.now used) }
+        ensures none { IfErr result (λ f. (xs ends : List ℕ) (used : ℕ) → ¬ BeginsSequence format_one m bound parts xs ends words.entry.now used) }
+        ensures first { IfErr result (λ f. IsSequenceFault format_one words.entry.now parts m bound f.check f.part) }
+    {
+        checks_accept_a_sequence();
+        checks_refuse_no_sequence();
+        words_state_their_sequence();
+        check_words(words, parts, m, bound)?;
+        Ok(SeqView { words, parts, m })
+    }
+
+    /// The same view of words that were checked, without looking at them.
+    pub fn known(words: &'a [u64], parts: u32, m: u32) -> SeqView<'a>
+        requires words { length words.now < 2 ^ 57 }
+        requires checked { (v : SequenceView) × BeginWith words.now parts m v }
+        ensures { (v : SequenceView) → BeginWith words.entry.now parts m v → result ≡ v }
+    {
+        words_state_their_sequence();
+        SeqView { words, parts, m }
+    }
+
+    /// How many parts there are.
+    pub fn parts(&self) -> u32
+        ensures { result ≡ length self.now.ends }
+    {
+        self.parts
+    }
+}

@@ -1,0 +1,161 @@
+ghost use Rattle.std.specs.Prelude.{◌≡◌, ℕ, ◌+◌, ◌<◌, ◌≤◌, ◌^◌, [], ◌∷◌, ◌++◌, length, IfOk, OnOk, OnErr};
+ghost use Rattle.std.specs.List.{All};
+ghost use Rattle.std.specs.List.Sorted.{IsStrictlyIncreasing};
+ghost use Rattle.collection_model.specs.FormatNumbers.{format_one};
+ghost use Rattle.bit_words.specs.Bits.{words_of};
+ghost use Rattle.part_cost.specs.Partition.{IsPartition};
+ghost use Rattle.part_cost.specs.Span.{past, universe, relative_values};
+ghost use Rattle.two_level.specs.SequenceWords.{directory_from, payload_from, sequence_words};
+
+use bit_words::BitWriter;
+use part_codec::{part_takes_its_payload, write_part};
+use part_cost::{part_is_relative, payload_bits};
+use std::alloc::{AllocError, Global};
+
+/// The ends in a directory count so many times; every value of a sequence is below it.
+pub(crate) const MOST_SUM: u64 = 68_719_476_736;
+
+/// Memory was refused.
+#[derive(Clone, Copy, Debug, PartialEq, Eq)]
+pub struct NoMemory;
+
+impl From<AllocError> for NoMemory {
+    ghost from_gives = { λ _ _. Unit {0} };
+
+    fn from(_refused: AllocError) -> NoMemory {
+        NoMemory
+    }
+}
+
+impl From<bit_words::NoMemory> for NoMemory {
+    ghost from_gives = { λ _ _. Unit {0} };
+
+    fn from(_refused: bit_words::NoMemory) -> NoMemory {
+        NoMemory
+    }
+}
+
+impl From<part_codec::NoMemory> for NoMemory {
+    ghost from_gives = { λ _ _. Unit {0} };
+
+    fn from(_refused: part_codec::NoMemory) -> NoMemory {
+        NoMemory
+    }
+}
+
+/// Appends the words of a sequence in parts: its directory, and then the payload of its parts from a fresh word on. A refusal
+/// leaves the words as they were.
+pub fn write_seq(
+    alloc: Global,
+    values: &[u64],
+    ends: &[u64],
+    to: &mut Vec<u64>,
+) -> Result<(), NoMemory>
+    requires rising { IsStrictlyIncreasing values.now }
+    requires below { All (λ x. x < 2 ^ 36) values.now }
+    requires few { length values.now < 2 ^ 28 }
+    requires partition { IsPartition (length values.now) ends.now }
+    ensures ok { OnOk result (to.new.items ≡ to.old.items ++ sequence_words format_one values.now ends.now) }
+    ensures err { OnErr result (to.new.items ≡ to.old.items) }
+{
+    let mut words = directory(alloc, values, ends)?;
+    let parts = payload(alloc, values, ends)?;
+    words.extend_from_slice(&parts)?;
+    to.extend_from_slice(&words)?;
+    Ok(())
+}
+
+// Appends a word.
+fn push(words: &mut Vec<u64>, word: u64) -> Result<(), NoMemory>
+    ensures { OnOk result (words.new.items ≡ words.old.items ++ word ∷ []) }
+{
+    match words.push(word) {
+        Ok(()) => Ok(()),
+        Err(_) => Err(NoMemory),
+    }
+}
+
+// One more than the value before a place, 0 at the start.
+fn past_value(values: &[u64], place: u64) -> u64
+    requires below { All (λ x. x < 2 ^ 36) values.now }
+    requires within { place ≤ length values.now }
+    ensures { result ≡ past values.now place }
+{
+    if place == 0 {
+        0
+    } else {
+        values[place as usize - 1] + 1
+    }
+}
+
+// How far the last value of a part lies past the value before it.
+fn universe_of_part(values: &[u64], from: u64, end: u64) -> u64
+    requires rising { IsStrictlyIncreasing values.now }
+    requires below { All (λ x. x < 2 ^ 36) values.now }
+    requires some { from < end }
+    requires within { end ≤ length values.now }
+    ensures { result ≡ universe values.now from end }
+{
+    part_is_relative();
+    past_value(values, end) - past_value(values, from)
+}
+
+// The values of a part, counted from the first place past the value before it.
+fn relative_part(alloc: Global, values: &[u64], from: u64, end: u64) -> Result<Vec<u64>, NoMemory>
+    requires rising { IsStrictlyIncreasing values.now }
+    requires below { All (λ x. x < 2 ^ 36) values.now }
+    requires some { from < end }
+    requires within { end ≤ length values.now }
+    ensures { IfOk result (λ part. part.items ≡ relative_values values.now from end) }
+{
+    part_is_relative();
+    let past = past_value(values, from);
+    let span = &values[from as usize..end as usize];
+    let mut part = Vec::new(alloc);
+    for value in span {
+        push(&mut part, *value - past)?;
+    }
+    Ok(part)
+}
+
+// The entries of the parts.
+fn directory(alloc: Global, values: &[u64], ends: &[u64]) -> Result<Vec<u64>, NoMemory>
+    requires rising { IsStrictlyIncreasing values.now }
+    requires below { All (λ x. x < 2 ^ 36) values.now }
+    requires few { length values.now < 2 ^ 28 }
+    requires partition { IsPartition (length values.now) ends.now }
+    ensures { IfOk result (λ words. words.items ≡ directory_from format_one values.now 0 0 ends.now) }
+{
+    part_is_relative();
+    let mut words = Vec::new(alloc);
+    let mut from = 0;
+    let mut offset = 0;
+    for end in ends {
+        let universe = universe_of_part(values, from, *end);
+        push(&mut words, past_value(values, *end) - 1 + MOST_SUM * *end)?;
+        push(&mut words, offset)?;
+        offset += payload_bits(universe, *end - from);
+        from = *end;
+    }
+    Ok(words)
+}
+
+// The words of the payload of the parts.
+fn payload(alloc: Global, values: &[u64], ends: &[u64]) -> Result<Vec<u64>, NoMemory>
+    requires rising { IsStrictlyIncreasing values.now }
+    requires below { All (λ x. x < 2 ^ 36) values.now }
+    requires few { length values.now < 2 ^ 28 }
+    requires partition { IsPartition (length values.now) ends.now }
+    ensures { IfOk result (λ words. words.items ≡ words_of (payload_from values.now 0 ends.now)) }
+{
+    part_takes_its_payload();
+    part_is_relative();
+    let mut bits = BitWriter::new(alloc)?;
+    let mut from = 0;
+    for end in ends {
+        let part = relative_part(alloc, values, from, *end)?;
+        write_part(&part, universe_of_part(values, from, *end), &mut bits)?;
+        from = *end;
+    }
+    Ok(bits.into_words())
+}
