@@ -5,3 +5,5 @@ pub mod Writing
 pub mod Follows
 pub mod Accepting
 pub mod Entries
+pub mod Parts
+pub mod Places

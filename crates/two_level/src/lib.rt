@@ -3,6 +3,8 @@
 
 mod check;
 mod checking;
+mod cursor;
+mod finding;
 mod laws;
 mod part;
 #[cfg(test)]
@@ -12,6 +14,7 @@ mod write;
 
 pub use check::Check;
 pub use checking::SeqFault;
+pub use cursor::SeqCursor;
 pub use laws::{
     checks_accept_a_sequence, checks_refuse_no_sequence, one_sequence, sequence_takes_its_cost,
     words_state_their_sequence,

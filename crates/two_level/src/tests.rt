@@ -1,4 +1,7 @@
+ghost use Rattle.std.specs.Prelude.{ℕ, ◌<◌, ◌^◌, length};
+
 use super::*;
+use std::process::Abort;
 use std::test::Fail;
 
 // 0, 2 in one part and in two, and what was written is accepted.
@@ -62,6 +65,40 @@ fn counts_and_ends_have_checks(rt: HostRuntime) -> Result<(), Fail> {
                 part: want.1
             })
         );
+    }
+    Ok(())
+}
+
+// What a cursor over 0, 2 answers, which goes forward alone.
+fn goes_forward(rt: &impl Abort, words: &[u64], parts: u32) -> Result<(), Fail>
+    requires words { length words.now < 2 ^ 57 }
+{
+    let view = SeqView::check(words, parts, 2, 3).expect(rt, "a sequence");
+    assert_eq!(rt; view.used(), words.len() as u64);
+    let mut cursor = view.cursor();
+    for (x, want) in [(0, 0), (1, 1), (0, 1), (2, 1), (3, 2), (0, 2)] {
+        cursor.next_geq(x);
+        assert_eq!(rt; cursor.place(), want);
+    }
+    Ok(())
+}
+
+// The places of a cursor over one part and over two.
+#[test]
+fn cursors_go_forward(rt: HostRuntime) -> Result<(), Fail> {
+    goes_forward(&rt, &[137_438_953_474, 0, 5], 1)?;
+    goes_forward(&rt, &[68_719_476_736, 0, 137_438_953_474, 0, 2], 2)
+}
+
+// The values 0 to 999 in one part, which has no payload.
+#[test]
+fn all_of_a_range_take_two_words(rt: HostRuntime) -> Result<(), Fail> {
+    let view = SeqView::check(&[68_719_476_736_999, 0], 1, 1_000, 1_000).expect(&rt, "a sequence");
+    assert_eq!(rt; view.used(), 2);
+    let mut cursor = view.cursor();
+    for (x, want) in [(0, 0), (500, 500), (499, 500), (999, 999), (1_000, 1_000)] {
+        cursor.next_geq(x);
+        assert_eq!(rt; cursor.place(), want);
     }
     Ok(())
 }

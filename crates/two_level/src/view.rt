@@ -1,13 +1,16 @@
-ghost use Rattle.std.specs.Prelude.{◌≡◌, ℕ, ◌≤◌, ◌<◌, ◌^◌, List, length, IfOk, IfErr};
+ghost use Rattle.std.specs.Prelude.{◌≡◌, ℕ, ◌≤◌, ◌<◌, ◌^◌, List, length, slice_index, IfOk, IfErr};
 ghost use Rattle.collection_model.specs.FormatNumbers.{format_one};
 ghost use Rattle.two_level.specs.SequenceWords.{BeginsSequence};
 ghost use Rattle.two_level.specs.SequenceFault.{IsSequenceFault};
-ghost use Rattle.two_level.specs.SequenceView.{SequenceView, BeginWith};
+ghost use Rattle.two_level.specs.SequenceView.{SequenceView, BeginWith, words_used, IsPartOf};
 
 use crate::checking::{SeqFault, check_words};
+use crate::cursor::SeqCursor;
+use crate::finding::{part_at, value_at, words_taken};
 use crate::laws::{
     checks_accept_a_sequence, checks_refuse_no_sequence, words_state_their_sequence,
 };
+use crate::part::Part;
 use std::marker::Model;
 
 /// A sequence of m values in parts, at the front of lent words.
@@ -56,10 +59,41 @@ impl<'a> SeqView<'a> {
         SeqView { words, parts, m }
     }
 
+    /// How many words the sequence takes.
+    pub fn used(&self) -> u64
+        ensures { result ≡ words_used self.now }
+    {
+        words_taken(self.words, self.parts)
+    }
+
+    /// Value k.
+    pub fn get(&self, k: u32) -> u64
+        requires within { k < length self.now.values }
+        ensures { result ≡ slice_index self.now.values k }
+    {
+        value_at(self.words, self.parts, k)
+    }
+
     /// How many parts there are.
     pub fn parts(&self) -> u32
         ensures { result ≡ length self.now.ends }
     {
         self.parts
+    }
+
+    /// Part i.
+    pub fn part(&self, i: u32) -> Part
+        requires within { i < length self.now.ends }
+        ensures { IsPartOf self.now i result }
+    {
+        part_at(self.words, self.parts, i)
+    }
+
+    /// A cursor at the start of the sequence.
+    pub fn cursor(&self) -> SeqCursor<'a>
+        ensures sequence { result.sequence ≡ self.now }
+        ensures start { result.place ≡ 0 }
+    {
+        SeqCursor::at_start(self.words, self.parts, self.m)
     }
 }

@@ -1,0 +1,226 @@
+use Rattle.std.proofs.Common.{◌≡◌, ℕ, zero, suc, ◌+◌, ◌-◌, ◌*◌, ◌^◌, ◌<◌, ◌≤◌, List, [], ◌∷◌, length, take, drop, get_or, slice_index, refl, sym, ap, ◌∙◌, subst, arith, add-one}
+use Rattle.std.specs.List.{slice_range}
+use Rattle.std.proofs.lemmas.List.{length-take-le, length-drop, get_or-take, get_or-drop, get_or-map}
+use Rattle.std.proofs.lemmas.List.FromFn.{get_or-map-range_with_len}
+use Rattle.collection_model.specs.FormatNumbers.{format_one}
+use Rattle.bit_words.specs.Bits.{bits_of}
+use Rattle.bit_words.specs.Laws.{BitsOfAppended, BitsOfWords}
+use Rattle.part_cost.specs.Payload.{payload}
+use Rattle.part_cost.specs.Span.{past, universe, relative_values, payload_of_part}
+use Rattle.part_cost.specs.Partition.{cost_from}
+use Rattle.part_cost.specs.Stored.{HoldsPart}
+use Rattle.part_codec.specs.PartBits.{part_bits}
+use Rattle.two_level.specs.SequenceFault.{stated_last, stated_end, stated_offset, end_before, past_before, stated_count, stated_universe, payload_before, word_behind, first_bit, PassChecks}
+use Rattle.two_level.specs.SequenceView.{SequenceView, BeginWith, sequence_stated, words_used, start_of_part, IsPartOf}
+use Rattle.two_level.specs.declared.part.Part.{Part}
+use Rattle.two_level.proofs.Lengths.{PartLaws, AreValues, ends-within, length-sequence}
+use Rattle.two_level.proofs.Stated.{EntryIs, StandsFrom, past-part, past-bounded, entry-is, stands-next, payload-all, holds-part, values-of, stands-whole}
+use Rattle.two_level.proofs.Follows.{fits-begun, some-parts, follows-at, true-same}
+use Rattle.two_level.proofs.Entries.{payload-rises, bits-next}
+
+-- part q stands from where the entry before it says up to where its own says
+pub record PartStands (words xs : List ℕ) (parts q : ℕ) : Type 0 where
+  pub rest : List ℕ
+  pub stands : StandsFrom words xs (first_bit format_one 0 parts) q (end_before format_one words 0 q) (stated_end format_one words 0 q ∷ rest)
+
+pub part-stands : PartLaws → (words xs : List ℕ) → AreValues xs → (parts q i : ℕ) (ends : List ℕ) → StandsFrom words xs (first_bit format_one 0 parts) q i ends
+    → (j : ℕ) → j < length ends → PartStands words xs parts (q + j)
+part-stands laws words xs v parts q i [] h j lt = absurd (omega (arith, lt))
+part-stands laws words xs v parts q i (end ∷ ends) h zero lt =
+    let base : ℕ = first_bit format_one 0 parts in
+    let k : EntryIs words xs q i end = entry-is laws words xs v base q i end ends h in
+    let here : PartStands words xs parts q =
+    record {
+      rest = ends;
+      stands =
+          subst (λ e. StandsFrom words xs base q (end_before format_one words 0 q) (e ∷ ends)) (sym k.ends)
+          (subst (λ b. StandsFrom words xs base q b (end ∷ ends)) (sym h.start) h);
+    } in
+    subst (PartStands words xs parts) (let e : q ≡ q + 0 = omega arith in e) here
+part-stands laws words xs v parts q i (end ∷ ends) h (suc j) lt =
+    let base : ℕ = first_bit format_one 0 parts in
+    let k : EntryIs words xs q i end = entry-is laws words xs v base q i end ends h in
+    subst (PartStands words xs parts) (let e : suc q + j ≡ q + suc j = omega arith in e)
+    (part-stands laws words xs v parts (suc q) end ends (stands-next laws words xs v base q i end ends h k) j (omega (arith, lt)))
+
+-- a value of a part, by its relative value
+pub restored-at : PartLaws → (xs : List ℕ) → AreValues xs → (i end j : ℕ) → i + j < end → end ≤ length xs
+    → slice_index (relative_values xs i end) j + past xs i ≡ slice_index xs (i + j)
+restored-at laws xs v i end k h fit =
+    let part : List ℕ = slice_range xs i end in
+    let count : length part ≡ end - i = length-take-le (end - i) (drop i xs) (omega (arith, length-drop i xs)) in
+    let short : k < length part = omega arith in
+    let at : get_or part k 0 ≡ get_or xs (i + k) 0 = get_or-take (end - i) (drop i xs) k 0 (omega arith) ∙ get_or-drop i xs k 0 in
+    let above : past xs i < past xs (suc (i + k)) = past-part laws xs v i (suc (i + k)) (omega arith) (omega arith) in
+    omega (arith, get_or-map (λ x. x - past xs i) part k 0 0 short, at, above)
+
+-- what is known of part q of a sequence with which words begin
+pub record PartIs (words xs : List ℕ) (parts q : ℕ) : Type 0 where
+  pub directory : 2 * parts ≤ length words
+  pub some : end_before format_one words 0 q < stated_end format_one words 0 q
+  pub within : stated_end format_one words 0 q ≤ length xs
+  pub entry : EntryIs words xs q (end_before format_one words 0 q) (stated_end format_one words 0 q)
+  pub past_is : past_before format_one words 0 q ≡ past xs (end_before format_one words 0 q)
+  pub room : stated_end format_one words 0 q - end_before format_one words 0 q ≤ stated_last format_one words 0 q + 1 - past_before format_one words 0 q
+  pub above : past_before format_one words 0 q ≤ stated_last format_one words 0 q
+  pub in_range : stated_last format_one words 0 q < 2 ^ 36
+  pub payload_rises : payload_before format_one words 0 (suc q) ≤ payload_before format_one words 0 parts
+  pub place : 128 * parts + payload_before format_one words 0 parts ≤ 64 * length words
+  pub small : (k : ℕ) → k < length xs → slice_index xs k < 2 ^ 36
+  pub held : HoldsPart part_bits (bits_of words) (first_bit format_one 0 parts + payload_before format_one words 0 q) (stated_universe format_one words 0 q) (stated_count format_one words 0 q)
+      (relative_values xs (end_before format_one words 0 q) (stated_end format_one words 0 q))
+  pub values : (j : ℕ) → end_before format_one words 0 q + j < stated_end format_one words 0 q
+      → slice_index (relative_values xs (end_before format_one words 0 q) (stated_end format_one words 0 q)) j + past_before format_one words 0 q ≡ slice_index xs (end_before format_one words 0 q + j)
+
+pub part-is : PartLaws → BitsOfAppended → BitsOfWords → (words : List ℕ) (parts m : ℕ) (v : SequenceView) → BeginWith words parts m v → (q : ℕ) → q < parts → PartIs words v.values parts q
+part-is laws appended filled words parts m v b q lt =
+    let bound = b.0 in
+    let used = b.1 in
+    let begins = b.3 in
+    let s = begins.sequence in
+    let xs : List ℕ = v.values in
+    let base : ℕ = first_bit format_one 0 parts in
+    let a : AreValues xs = values-of m bound parts xs v.ends (take used words) b.2 s in
+    let whole = stands-whole laws appended filled m bound parts used xs v.ends words b.2 begins in
+    let pass : PassChecks words parts m bound = fits-begun laws appended filled m bound parts used xs v.ends words b.2 begins in
+    let p : PartStands words xs parts (0 + q) = part-stands laws words xs a parts 0 0 v.ends whole q (omega (arith, lt, s.parts_count)) in
+    let p : PartStands words xs parts q = subst (PartStands words xs parts) (let e : 0 + q ≡ q = omega arith in e) p in
+    let i : ℕ = end_before format_one words 0 q in
+    let end : ℕ = stated_end format_one words 0 q in
+    let h = p.stands in
+    let k : EntryIs words xs q i end = entry-is laws words xs a base q i end p.rest h in
+    let some : i < end = h.parts.0 in
+    let fit : end ≤ length xs = ends-within end (length xs) p.rest h.parts.1 in
+    let less : past xs i < past xs end = past-part laws xs a i end some fit in
+    let most : past xs end ≤ 2 ^ 36 = past-bounded laws (2 ^ 36) xs a.below end (omega arith) fit in
+    let room : end - i ≤ universe xs i end = laws.room xs a.rising i end some fit in
+    let held : HoldsPart part_bits (bits_of words) (base + payload_before format_one words 0 q) (universe xs i end) (end - i) (relative_values xs i end) = holds-part laws words xs a base q i end p.rest h in
+    record {
+      directory = pass.room;
+      some = some;
+      within = fit;
+      entry = k;
+      past_is = h.begins;
+      room = omega (arith, k.lasts, h.begins, room);
+      above = omega (arith, k.lasts, h.begins, less);
+      in_range = omega (arith, k.lasts, most);
+      payload_rises = omega (arith, payload-rises words (suc q) (parts - suc q), ap (payload_before format_one words 0) (let e : suc q + (parts - suc q) ≡ parts = omega (arith, lt) in e));
+      place = omega (arith, pass.within);
+      small = λ k lt. a.below k 0 lt;
+      held =
+          subst (λ u. HoldsPart part_bits (bits_of words) (base + payload_before format_one words 0 q) u (end - i) (relative_values xs i end)) (sym k.universes) held;
+      values = λ j less. ap (λ n. slice_index (relative_values xs i end) j + n) h.begins ∙ restored-at laws xs a i end j less fit;
+    }
+
+-- the ends that words state, by index
+pub stated-ends : (words : List ℕ) (parts q : ℕ) → q < parts → slice_index (sequence_stated words parts).ends q ≡ stated_end format_one words 0 q
+unfolding sequence_stated
+stated-ends words parts q lt = get_or-map-range_with_len (stated_end format_one words 0) 0 parts q q 0 lt (omega arith)
+
+pub stated-start : (words : List ℕ) (parts q : ℕ) → q < parts → start_of_part (sequence_stated words parts).ends q ≡ end_before format_one words 0 q
+stated-start words parts zero lt = refl
+stated-start words parts (suc q) lt = stated-ends words parts q (omega (arith, lt))
+
+-- how many words a sequence takes
+pub used-is : PartLaws → BitsOfAppended → BitsOfWords → (words : List ℕ) (parts m : ℕ) (v : SequenceView) → BeginWith words parts m v → words_used v ≡ word_behind format_one words 0 parts
+used-is laws appended filled words parts m v b =
+    let bound = b.0 in
+    let used = b.1 in
+    let begins = b.3 in
+    let s = begins.sequence in
+    let xs : List ℕ = v.values in
+    let a : AreValues xs = values-of m bound parts xs v.ends (take used words) b.2 s in
+    let whole = stands-whole laws appended filled m bound parts used xs v.ends words b.2 begins in
+    let total : payload_before format_one words 0 (0 + length v.ends) ≡ 0 + cost_from (payload_of_part xs) 0 v.ends = payload-all laws words xs a (first_bit format_one 0 parts) 0 0 v.ends whole in
+    let count : 0 + length v.ends ≡ parts = omega (arith, s.parts_count) in
+    let same : payload_before format_one words 0 parts ≡ cost_from (payload_of_part xs) 0 v.ends = omega (arith, total, ap (payload_before format_one words 0) count) in
+    omega (arith, length-sequence laws xs a v.ends whole.parts, same, s.parts_count)
+
+-- the laws of the layers below, and that words begin with a sequence
+pub record Begun (words : List ℕ) (parts : ℕ) : Type 0 where
+  pub laws : PartLaws
+  pub appended : BitsOfAppended
+  pub filled : BitsOfWords
+  pub begun : (m : ℕ) × BeginWith words parts m (sequence_stated words parts)
+
+pub begun-part : (words : List ℕ) (parts : ℕ) → Begun words parts → (q : ℕ) → q < parts → PartIs words (sequence_stated words parts).values parts q
+begun-part words parts h q lt = part-is h.laws h.appended h.filled words parts h.begun.0 (sequence_stated words parts) h.begun.1 q lt
+
+pub begun-used : (words : List ℕ) (parts : ℕ) → Begun words parts → words_used (sequence_stated words parts) ≡ word_behind format_one words 0 parts
+begun-used words parts h = used-is h.laws h.appended h.filled words parts h.begun.0 (sequence_stated words parts) h.begun.1
+
+-- the payload up to behind a part
+pub payload-behind : (words : List ℕ) (parts q from past last to offset : ℕ) → suc q ≡ parts → from ≡ end_before format_one words 0 q → past ≡ past_before format_one words 0 q
+    → last ≡ stated_last format_one words 0 q → to ≡ stated_end format_one words 0 q → offset ≡ payload_before format_one words 0 q
+    → offset + payload (last + 1 - past) (to - from) ≡ payload_before format_one words 0 parts
+payload-behind words parts q from past last to offset e f p l t o =
+    bits-next words q from past last to (stated_offset format_one words 0 q) offset (record { before_is = f; past_is = p }) (record { last_is = l; end_is = t; offset_is = refl }) o
+    ∙ ap (payload_before format_one words 0) (let k : q + 1 ≡ parts = omega (arith, e) in k)
+
+-- what a part of the sequence is
+pub part-of : (words : List ℕ) (parts : ℕ) → Begun words parts → (q : ℕ) → q < parts → (part : Part) → part.from ≡ end_before format_one words 0 q → part.to ≡ stated_end format_one words 0 q
+    → part.last ≡ stated_last format_one words 0 q → part.u ≡ stated_universe format_one words 0 q → IsPartOf (sequence_stated words parts) q part
+part-of words parts h q lt part f t l u =
+    let xs : List ℕ = (sequence_stated words parts).values in
+    let p : PartIs words xs parts q = begun-part words parts h q lt in
+    record {
+      start = f ∙ sym (stated-start words parts q lt);
+      end = t ∙ sym (stated-ends words parts q lt);
+      last = ap (λ n. n + 1) l ∙ p.entry.lasts ∙ ap (past xs) (sym t);
+      universe_of_part = u ∙ p.entry.universes ∙ ap (λ n. universe xs n (stated_end format_one words 0 q)) (sym f) ∙ ap (universe xs part.from) (sym t);
+    }
+
+-- a place before the end of the last part
+pub some-part : (words : List ℕ) (parts place : ℕ) → place < end_before format_one words 0 parts → 1 ≤ parts
+some-part words zero place h = absurd (omega (arith, h))
+some-part words (suc q) place h = omega arith
+
+pub last-part : (words : List ℕ) (parts place : ℕ) → place < end_before format_one words 0 parts → place < stated_end format_one words 0 (parts - 1)
+last-part words zero place h = absurd (omega (arith, h))
+last-part words (suc q) place h = subst (λ n. place < stated_end format_one words 0 n) (let e : q ≡ suc q - 1 = omega arith in e) h
+
+pub end-before-next : (words : List ℕ) (q : ℕ) → end_before format_one words 0 (q + 1) ≡ stated_end format_one words 0 q
+end-before-next words q = ap (end_before format_one words 0) (add-one q)
+
+end-whole : (words : List ℕ) (parts m bound : ℕ) → PassChecks words parts m bound → (ends : List ℕ) → (length ends ≡ 0 → m ≡ 0) → length ends ≡ parts → end_before format_one words 0 parts ≡ m
+end-whole words zero m bound pass ends none count = sym (none count)
+end-whole words (suc q) m bound pass ends none count = (follows-at words (suc q) m bound q (pass.entries q (omega arith))).whole (true-same (q + 1) (suc q) (omega arith))
+
+-- all parts end behind the last value
+pub begun-end : (words : List ℕ) (parts : ℕ) → Begun words parts → end_before format_one words 0 parts ≡ length (sequence_stated words parts).values
+begun-end words parts h =
+    let m = h.begun.0 in
+    let b = h.begun.1 in
+    let bound = b.0 in
+    let s = b.3.sequence in
+    let v : SequenceView = sequence_stated words parts in
+    let pass : PassChecks words parts m bound = fits-begun h.laws h.appended h.filled m bound parts b.1 v.values v.ends words b.2 b.3 in
+    end-whole words parts m bound pass v.ends (some-parts m v.ends s.partition) s.parts_count ∙ sym s.count
+
+pub begun-room : (words : List ℕ) (parts : ℕ) → Begun words parts → 2 * parts ≤ length words
+begun-room words parts h =
+    let b = h.begun.1 in
+    let v : SequenceView = sequence_stated words parts in
+    let pass : PassChecks words parts h.begun.0 b.0 = fits-begun h.laws h.appended h.filled h.begun.0 b.0 parts b.1 v.values v.ends words b.2 b.3 in
+    pass.room
+
+-- the values that stand where a part is said to stand
+pub held-here : (words xs : List ℕ) (parts q from past last to offset : ℕ) → PartIs words xs parts q → from ≡ end_before format_one words 0 q → past ≡ past_before format_one words 0 q
+    → last ≡ stated_last format_one words 0 q → to ≡ stated_end format_one words 0 q → offset ≡ payload_before format_one words 0 q
+    → HoldsPart part_bits (bits_of words) (128 * parts + offset) (last + 1 - past) (to - from) (relative_values xs (end_before format_one words 0 q) (stated_end format_one words 0 q))
+held-here words xs parts q from past last to offset p f b l t o =
+    let ys : List ℕ = relative_values xs (end_before format_one words 0 q) (stated_end format_one words 0 q) in
+    let place : first_bit format_one 0 parts + payload_before format_one words 0 q ≡ 128 * parts + offset = omega (arith, o) in
+    let universe_is : stated_universe format_one words 0 q ≡ last + 1 - past = omega (arith, l, b) in
+    let count_is : stated_count format_one words 0 q ≡ to - from = omega (arith, t, f) in
+    subst (λ n. HoldsPart part_bits (bits_of words) n (last + 1 - past) (to - from) ys) place
+    (subst (λ n. HoldsPart part_bits (bits_of words) (first_bit format_one 0 parts + payload_before format_one words 0 q) n (to - from) ys) universe_is
+    (subst (λ n. HoldsPart part_bits (bits_of words) (first_bit format_one 0 parts + payload_before format_one words 0 q) (stated_universe format_one words 0 q) n ys) count_is p.held))
+
+pub value-here : (words xs : List ℕ) (parts q place from past : ℕ) → PartIs words xs parts q → from ≡ end_before format_one words 0 q → past ≡ past_before format_one words 0 q → from ≤ place
+    → place < stated_end format_one words 0 q
+    → slice_index (relative_values xs (end_before format_one words 0 q) (stated_end format_one words 0 q)) (place - from) + past ≡ slice_index xs place
+value-here words xs parts q place from past p f b le lt =
+    let ys : List ℕ = relative_values xs (end_before format_one words 0 q) (stated_end format_one words 0 q) in
+    ap (λ n. slice_index ys (place - from) + n) b ∙ p.values (place - from) (omega (arith, f, le, lt))
+    ∙ ap (slice_index xs) (let e : end_before format_one words 0 q + (place - from) ≡ place = omega (arith, f, le) in e)
