@@ -167,7 +167,7 @@ match-false false P Q e h = h
 pub front-test : (words : List ℕ) (parts m : ℕ) → parts_fit m parts ≡ true → 2 * parts ≤ length words → (not (parts_fit m parts) || nat_lt (length words) (2 * parts)) ≡ false
 front-test words parts m h k = or-both (not (parts_fit m parts)) (nat_lt (length words) (2 * parts)) (false-not (parts_fit m parts) h) (false-lt (length words) (2 * parts) k)
 
-differ : (b : Bool) → b ≡ true → b ≡ false → ⊥
+pub differ : (b : Bool) → b ≡ true → b ≡ false → ⊥
 differ true h k = cc
 differ false h k = cc
 

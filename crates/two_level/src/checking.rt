@@ -1,10 +1,10 @@
 ghost use Rattle.std.specs.Prelude.{◌≡◌, ℕ, ◌≤◌, ◌<◌, ◌+◌, ◌*◌, ◌^◌, true, false, length, IsTrue, ◌↔◌, IfOk, IfErr, OnOk};
 ghost use Rattle.collection_model.specs.FormatNumbers.{format_one};
 ghost use Rattle.bit_words.specs.Bits.{bits_of, HasNoOne};
-ghost use Rattle.two_level.specs.SequenceFault.{stated_last, stated_end, stated_offset, payload_before, word_behind, first_bit, parts_fit, cannot_follow, entry_breaks, IsPartStored, PassChecks, IsSequenceFault};
+ghost use Rattle.two_level.specs.SequenceFault.{payload_before, word_behind, first_bit, parts_fit, cannot_follow, entry_breaks, IsPartStored, PassChecks, IsSequenceFault};
 
 use crate::check::Check;
-use crate::write::MOST_SUM;
+use crate::entry::{ENTRY_BITS, ENTRY_WORDS, Entry, entry_at};
 use bit_words::Bits;
 use part_codec::check_part;
 use part_cost::payload_bits;
@@ -16,14 +16,6 @@ pub struct SeqFault {
     pub part: u32,
 }
 
-// An entry of a directory.
-#[derive(Clone, Copy)]
-pub(crate) struct Entry {
-    pub(crate) last: u64,
-    pub(crate) end: u64,
-    pub(crate) offset: u64,
-}
-
 // Looks for the first check that breaks.
 pub(crate) fn check_words(words: &[u64], parts: u32, m: u32, bound: u64) -> Result<(), SeqFault>
     requires words { length words.now < 2 ^ 57 }
@@ -31,20 +23,20 @@ pub(crate) fn check_words(words: &[u64], parts: u32, m: u32, bound: u64) -> Resu
     ensures ok { OnOk result (PassChecks words.now parts m bound) }
     ensures first { IfErr result (λ f. IsSequenceFault format_one words.now parts m bound f.check f.part) }
 {
-    if !parts_fit(m, parts) || (words.len() as u64) < 2 * parts as u64 {
+    if !parts_fit(m, parts) || (words.len() as u64) < ENTRY_WORDS * parts as u64 {
         return Err(SeqFault {
             check: Check::K6,
             part: 0,
         });
     }
     let payload = check_directory(words, parts, m, bound)?;
-    if (words.len() as u64) < 2 * parts as u64 + payload.div_ceil(64) {
+    if (words.len() as u64) < ENTRY_WORDS * parts as u64 + payload.div_ceil(64) {
         return Err(SeqFault {
             check: Check::K7,
             part: parts,
         });
     }
-    check_parts(words, parts, m, bound)?;
+    check_parts(words, parts)?;
     check_padding(words, parts, payload)?;
     Ok(())
 }
@@ -57,22 +49,6 @@ fn parts_fit(m: u32, parts: u32) -> bool
         parts == 0
     } else {
         1 <= parts && parts <= m
-    }
-}
-
-// The entry of a part.
-pub(crate) fn entry_at(words: &[u64], part: u32) -> Entry
-    requires within { 2 * part + 2 ≤ length words.now }
-    ensures last { result.last ≡ stated_last format_one words.now 0 part }
-    ensures end { result.end ≡ stated_end format_one words.now 0 part }
-    ensures offset { result.offset ≡ stated_offset format_one words.now 0 part }
-    ensures small { result.last < 2 ^ 36 }
-{
-    let at = 2 * part as usize;
-    Entry {
-        last: words[at] % MOST_SUM,
-        end: words[at] / MOST_SUM,
-        offset: words[at + 1],
     }
 }
 
@@ -129,24 +105,22 @@ fn check_directory(words: &[u64], parts: u32, m: u32, bound: u64) -> Result<u64,
 }
 
 // Goes through the parts of a directory whose entries stand.
-fn check_parts(words: &[u64], parts: u32, m: u32, bound: u64) -> Result<(), SeqFault>
+fn check_parts(words: &[u64], parts: u32) -> Result<(), SeqFault>
     requires words { length words.now < 2 ^ 57 }
-    requires bound { bound ≤ 2 ^ 36 }
     requires room { 2 * parts ≤ length words.now }
-    requires entries { (q : ℕ) → q < parts → entry_breaks format_one words.now 0 parts m bound q ≡ false }
+    requires entries { (m bound : ℕ) × (bound ≤ 2 ^ 36) × ((q : ℕ) → q < parts → entry_breaks format_one words.now 0 parts m bound q ≡ false) }
     requires within { word_behind format_one words.now 0 parts ≤ length words.now }
     ensures ok { OnOk result ((q : ℕ) → q < parts → IsPartStored format_one words.now 0 parts q) }
     ensures check { IfErr result (λ f. f.check ≡ Check.K8) }
     ensures part { IfErr result (λ f. f.part < parts) }
     ensures breaks { IfErr result (λ f. ¬ IsPartStored format_one words.now 0 parts f.part) }
-    ensures first { IfErr result (λ f. (q : ℕ) → q < f.part → ¬ (¬ IsPartStored format_one words.now 0 parts q)) }
-    ensures none { OnOk result ((q : ℕ) → q < parts → ¬ (¬ IsPartStored format_one words.now 0 parts q)) }
+    ensures first { IfErr result (λ f. (q : ℕ) → q < f.part → IsPartStored format_one words.now 0 parts q) }
 {
     let mut before = 0;
     let mut past = 0;
     for part in 0..parts {
         let entry = entry_at(words, part);
-        let place = 128 * parts as u64 + entry.offset;
+        let place = ENTRY_BITS * parts as u64 + entry.offset;
         if !check_part(
             Bits { words },
             place,
@@ -174,7 +148,7 @@ fn check_padding(words: &[u64], parts: u32, bits: u64) -> Result<(), SeqFault>
     ensures part { IfErr result (λ f. f.part ≡ 0) }
     ensures breaks { IfErr result (λ f. ¬ HasNoOne (bits_of words.now) (first_bit format_one 0 parts + payload_before format_one words.now 0 parts) (64 * word_behind format_one words.now 0 parts)) }
 {
-    let from = 128 * parts as u64 + bits;
+    let from = ENTRY_BITS * parts as u64 + bits;
     let end = from.div_ceil(64) * 64;
     match (Bits { words }).next_one(from, end) {
         Some(_) => Err(SeqFault {

@@ -4,7 +4,7 @@ ghost use Rattle.collection_model.specs.FormatNumbers.{format_one};
 ghost use Rattle.two_level.specs.SequenceFault.{stated_last, stated_end, end_before, past_before, payload_before};
 ghost use Rattle.two_level.specs.SequenceView.{BeginWith, sequence_stated, words_used, IsPartOf, place_at_least};
 
-use crate::checking::entry_at;
+use crate::entry::{ENTRY_BITS, ENTRY_WORDS, entry_at};
 use crate::part::Part;
 use bit_words::{Bits, words_are_bits};
 use part_codec::{PartCodec, PartView, part_takes_its_payload};
@@ -91,7 +91,7 @@ pub(crate) fn words_taken(words: &[u64], parts: u32) -> u64
     words_are_bits();
     part_takes_its_payload();
     part_is_relative();
-    2 * parts as u64 + payload_taken(words, parts).div_ceil(64)
+    ENTRY_WORDS * parts as u64 + payload_taken(words, parts).div_ceil(64)
 }
 
 // A part of the sequence with which the words begin.
@@ -156,7 +156,7 @@ pub(crate) fn value_at(words: &[u64], parts: u32, place: u32) -> u64
     let stretch = stretch_at(words, parts, part);
     let view = PartView::at(
         Bits { words },
-        128 * parts as u64 + stretch.offset,
+        ENTRY_BITS * parts as u64 + stretch.offset,
         stretch.last + 1 - stretch.past,
         stretch.to - stretch.from,
     );

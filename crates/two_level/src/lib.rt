@@ -4,6 +4,7 @@
 mod check;
 mod checking;
 mod cursor;
+mod entry;
 mod finding;
 mod laws;
 mod part;

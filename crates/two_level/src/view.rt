@@ -39,6 +39,8 @@ impl<'a> SeqView<'a> {
         requires words { length words.now < 2 ^ 57 }
         requires bound { bound ≤ format_one.most_sum }
         ensures ok { IfOk result (λ v. (used : ℕ) × BeginsSequence format_one m bound parts v.values v.ends words.entry.now used) }
+        ensures count { IfOk result (λ v. length v.values ≡ m) }
+        ensures parts { IfOk result (λ v. length v.ends ≡ parts) }
         ensures none { IfErr result (λ f. (xs ends : List ℕ) (used : ℕ) → ¬ BeginsSequence format_one m bound parts xs ends words.entry.now used) }
         ensures first { IfErr result (λ f. IsSequenceFault format_one words.entry.now parts m bound f.check f.part) }
     {
@@ -53,7 +55,9 @@ impl<'a> SeqView<'a> {
     pub fn known(words: &'a [u64], parts: u32, m: u32) -> SeqView<'a>
         requires words { length words.now < 2 ^ 57 }
         requires checked { (v : SequenceView) × BeginWith words.now parts m v }
-        ensures { (v : SequenceView) → BeginWith words.entry.now parts m v → result ≡ v }
+        ensures same { (v : SequenceView) → BeginWith words.entry.now parts m v → result ≡ v }
+        ensures count { length result.values ≡ m }
+        ensures parts { length result.ends ≡ parts }
     {
         words_state_their_sequence();
         SeqView { words, parts, m }

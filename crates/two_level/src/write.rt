@@ -7,13 +7,11 @@ ghost use Rattle.part_cost.specs.Partition.{IsPartition};
 ghost use Rattle.part_cost.specs.Span.{past, universe, relative_values};
 ghost use Rattle.two_level.specs.SequenceWords.{directory_from, payload_from, sequence_words};
 
+use crate::entry::MOST_SUM;
 use bit_words::BitWriter;
 use part_codec::{part_takes_its_payload, write_part};
 use part_cost::{part_is_relative, payload_bits};
 use std::alloc::{AllocError, Global};
-
-/// The ends in a directory count so many times; every value of a sequence is below it.
-pub(crate) const MOST_SUM: u64 = 68_719_476_736;
 
 /// Memory was refused.
 #[derive(Clone, Copy, Debug, PartialEq, Eq)]

@@ -8,5 +8,4 @@ abbrev pub invariant-loop-part : goal.invariant-loop-part
 invariant-loop-part l = record {
   reached : Reached l.words l.part l.before l.past;
   stored : (q : ℕ) → q < l.part → IsPartStored format_one l.words 0 l.parts q;
-  none : (q : ℕ) → q < l.part → ¬ (¬ IsPartStored format_one l.words 0 l.parts q);
 }

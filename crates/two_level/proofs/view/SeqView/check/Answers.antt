@@ -1,4 +1,4 @@
-use Rattle.std.proofs.Common.{◌≡◌, ℕ, ◌<◌, ◌≤◌, ◌^◌, List, Result, Err, sym, subst, arith, rules}
+use Rattle.std.proofs.Common.{◌≡◌, ℕ, ◌<◌, ◌≤◌, ◌^◌, List, get_or, Fits, w64, Result, Err, sym, subst, arith, rules}
 use Rattle.std.specs.List.{All}
 use Rattle.std.specs.Result.{IfErr}
 use Rattle.std.proofs.lemmas.Result.{IfErr-weaker, IfErr-at_err}
@@ -10,6 +10,10 @@ use Rattle.two_level.specs.SequenceFault.{word_behind, PassChecks, IsSequenceFau
 use Rattle.two_level.specs.SequenceView.{SequenceView, sequence_stated}
 use Rattle.two_level.specs.Laws.{ChecksAcceptASequence, WordsState}
 use Rattle.two_level.proofs.view.SeqView.check.Goals as goal
+
+-- words are below 2^64
+words-below : (words : List ℕ) → ((k : ℕ) → Fits w64 (get_or words k 0)) → All (λ w. w < 2 ^ 64) words
+words-below words type_inv k d lt = omega (arith, get_or_default words k d 0 lt, type_inv k)
 
 -- words that pass every check state a sequence with which they begin
 stated-begins : ChecksAcceptASequence → WordsState → (m bound parts : ℕ) (words : List ℕ) → bound ≤ 2 ^ 36 → All (λ w. w < 2 ^ 64) words → PassChecks words parts m bound
@@ -34,11 +38,19 @@ returns-in_err-check_words-clause-none c =
 
 pub invariant_of-result : goal.invariant_of-result
 invariant_of-result c =
-    let are : All (λ w. w < 2 ^ 64) c.args.words.now = λ k d lt. omega (arith, get_or_default c.args.words.now k d 0 lt, c.type_inv.words k) in
-    let s = stated-begins c.checks_accept_a_sequence.ensures c.words_state_their_sequence.ensures c.args.m c.args.bound c.args.parts c.args.words.now c.requires.bound are c.in_ok-check_words.ensures.ok in
+    let s = stated-begins c.checks_accept_a_sequence.ensures c.words_state_their_sequence.ensures c.args.m c.args.bound c.args.parts c.args.words.now c.requires.bound (words-below c.args.words.now c.type_inv.words) c.in_ok-check_words.ensures.ok in
     ((c.args.bound, s.0, c.requires.bound, s.1), c.requires.words)
 
 pub returns-clause-ok : goal.returns-clause-ok
 returns-clause-ok c =
-    let are : All (λ w. w < 2 ^ 64) c.args.words.now = λ k d lt. omega (arith, get_or_default c.args.words.now k d 0 lt, c.type_inv.words k) in
-    stated-begins c.checks_accept_a_sequence.ensures c.words_state_their_sequence.ensures c.args.m c.args.bound c.args.parts c.args.words.now c.requires.bound are c.in_ok-check_words.ensures.ok
+    stated-begins c.checks_accept_a_sequence.ensures c.words_state_their_sequence.ensures c.args.m c.args.bound c.args.parts c.args.words.now c.requires.bound (words-below c.args.words.now c.type_inv.words) c.in_ok-check_words.ensures.ok
+
+pub returns-clause-count : goal.returns-clause-count
+returns-clause-count c =
+    let s = stated-begins c.checks_accept_a_sequence.ensures c.words_state_their_sequence.ensures c.args.m c.args.bound c.args.parts c.args.words.now c.requires.bound (words-below c.args.words.now c.type_inv.words) c.in_ok-check_words.ensures.ok in
+    s.1.sequence.count
+
+pub returns-clause-parts : goal.returns-clause-parts
+returns-clause-parts c =
+    let s = stated-begins c.checks_accept_a_sequence.ensures c.words_state_their_sequence.ensures c.args.m c.args.bound c.args.parts c.args.words.now c.requires.bound (words-below c.args.words.now c.type_inv.words) c.in_ok-check_words.ensures.ok in
+    s.1.sequence.parts_count
