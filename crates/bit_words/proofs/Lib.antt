@@ -3,3 +3,8 @@ pub mod Words
 pub mod Ranges
 pub mod Writing
 pub mod WordLaws
+pub mod Pieces
+pub mod Fronts
+pub mod AllBits
+pub mod Numbers
+pub mod Outcomes

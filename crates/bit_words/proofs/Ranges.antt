@@ -1,7 +1,6 @@
 use Rattle.std.proofs.Common.{◌≡◌, ◌≢◌, ℕ, zero, suc, ◌+◌, ◌-◌, ◌<◌, ◌≤◌, List, [], ◌∷◌, length, take, drop, get_or, refl, sym, ap, ◌∙◌, arith, sum, slice_index, inl, inr}
 use Rattle.std.proofs.lemmas.Bool.{cases_lt}
-use Rattle.std.proofs.lemmas.List.Sums.{fold-append}
-use Rattle.std.proofs.Math.Seq.{take-suc}
+use Rattle.std.proofs.lemmas.List.Sums.{sum_by_more}
 use Rattle.std.proofs.lemmas.List.{get_or-drop, length-drop}
 use Rattle.bit_words.specs.Bits.{field_at, ones_between, HasNoOne, bits_of}
 use Rattle.bit_words.proofs.Value.{EachBit, bits-bits_of}
@@ -10,10 +9,6 @@ pub bit-below : (bits : List ℕ) (q : ℕ) → EachBit bits → get_or bits q 0
 bit-below [] q h = omega arith
 bit-below (b ∷ bits) zero h = h.0
 bit-below (b ∷ bits) (suc q) h = bit-below bits q h.1
-
--- one more of some numbers
-pub sum-take-suc : (n : ℕ) (xs : List ℕ) → n < length xs → sum (take (suc n) xs) ≡ sum (take n xs) + get_or xs n 0
-sum-take-suc n xs h = ap sum (take-suc xs n 0 h) ∙ fold-append (λ a b. a + b) 0 (take n xs) (get_or xs n 0 ∷ [])
 
 -- a field of one bit is that bit
 pub field-one : (bits : List ℕ) (at : ℕ) → field_at bits at 1 ≡ get_or bits at 0
@@ -25,8 +20,8 @@ field-one (b ∷ bits) (suc at) = field-one bits at
 -- one more bit of a range
 pub ones_between-more : (bits : List ℕ) (from p : ℕ) → from ≤ p → p < length bits → ones_between bits from (p + 1) ≡ ones_between bits from p + field_at bits p 1
 ones_between-more bits from p h w =
-    ap (λ n. sum (take n (drop from bits))) (let e : p + 1 - from ≡ suc (p - from) = omega arith in e)
-    ∙ sum-take-suc (p - from) (drop from bits) (omega (arith, length-drop from bits))
+    ap (λ n. sum (take n (drop from bits))) (let e : p + 1 - from ≡ p - from + 1 = omega arith in e)
+    ∙ sum_by_more (λ b. b) (drop from bits) (p - from) 0 (omega (arith, length-drop from bits))
     ∙ ap (λ v. sum (take (p - from) (drop from bits)) + v)
     (get_or-drop from bits (p - from) 0 ∙ ap (λ i. get_or bits i 0) (let e : from + (p - from) ≡ p = omega arith in e) ∙ sym (field-one bits p))
 

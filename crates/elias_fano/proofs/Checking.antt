@@ -2,16 +2,16 @@ use Rattle.std.proofs.Common.{◌≡◌, ℕ, zero, suc, ◌+◌, ◌-◌, ◌*�
 use Rattle.std.specs.List.Sorted.{IsStrictlyIncreasing}
 use Rattle.std.proofs.lemmas.Bool.{cases_lt}
 use Rattle.std.proofs.lemmas.List.{length_push, get_or_push, get_or_append_left}
-use Rattle.std.proofs.lemmas.Nat.{pow_pos, div-mul-add, mod-mul-add, mod_below}
+use Rattle.std.proofs.lemmas.Nat.{div-mul-add, mod-mul-add}
 use Rattle.bit_words.specs.Bits.{IsFirstOne}
 use Rattle.bit_words.proofs.Value.{EachBit}
+use Rattle.bit_words.proofs.Pieces.{field-fits, field-below}
+use Rattle.bit_words.proofs.Numbers.{sampled-within}
 use Rattle.part_cost.specs.Payload.{digits}
 use Rattle.part_cost.specs.Span.{past}
 use Rattle.elias_fano.specs.EfBits.{high_place}
 use Rattle.elias_fano.specs.EfPlaces.{ef_length_at, low_fields_at, low_field, sample_at, past_place}
-use Rattle.elias_fano.proofs.Pieces.{field-fits}
 use Rattle.elias_fano.proofs.Reading.{IsRead}
-use Rattle.elias_fano.proofs.Scanning.{sampled-within}
 
 -- The first k numbers of a part, read up to this place; the next is at least this one.
 pub record AreBegun (bits : List ℕ) (place u m l q k from least : ℕ) (ys : List ℕ) : Type 0 where
@@ -37,34 +37,26 @@ begun-none bits place u m l q = record {
 }
 
 -- a number pushed behind others
-pub pushed-before : (ys : List ℕ) (y i k : ℕ) → length ys ≡ k → i < k → get_or (ys ++ y ∷ []) i 0 ≡ get_or ys i 0
-pushed-before ys y i k count lt = get_or_append_left ys (y ∷ []) 0 i (omega arith)
-
-pub pushed-at : (ys : List ℕ) (y i k : ℕ) → length ys ≡ k → i ≡ k → get_or (ys ++ y ∷ []) i 0 ≡ y
-pushed-at ys y i k count same = get_or_push ys y 0 i (count ∙ sym same)
-
 pub rising-pushed : (ys : List ℕ) (y k : ℕ) → IsStrictlyIncreasing ys → length ys ≡ k → past ys k ≤ y → IsStrictlyIncreasing (ys ++ y ∷ [])
 rising-pushed ys y k up count above i lt =
     let longer : length (ys ++ y ∷ []) ≡ length ys + 1 = length_push ys y in
     elim (cases_lt (i + 1) k) [
-      | inl less ↦ omega (arith, pushed-before ys y i k count (omega arith), pushed-before ys y (i + 1) k count less, up i (omega arith))
+      | inl less ↦ omega (arith, get_or_append_left ys (y ∷ []) 0 i (omega arith), get_or_append_left ys (y ∷ []) 0 (i + 1) (omega arith), up i (omega arith))
       | inr more ↦
           let last : k ≡ suc i = omega arith in
           let floor : get_or ys i 0 + 1 ≤ y = subst (λ n. past ys n ≤ y) last above in
-          omega (arith, pushed-before ys y i k count (omega arith), pushed-at ys y (i + 1) k count (omega arith))
+          omega (arith, get_or_append_left ys (y ∷ []) 0 i (omega arith), get_or_push ys y 0 (i + 1) (omega arith))
     ]
 
 -- the parts of a number that was put together
 pub high-part : (bits : List ℕ) (place u m l k high number : ℕ) → EachBit bits → number ≡ high * 2 ^ l + low_field bits place u m l k → number / 2 ^ l ≡ high
 high-part bits place u m l k high number each e =
-    let fits = field-fits bits (place + low_fields_at u m l + l * k) l each in
-    let below : low_field bits place u m l k < 2 ^ l = subst (λ n. n < 2 ^ l) fits (mod_below (low_field bits place u m l k) (2 ^ l) (pow_pos l)) in
+    let below : low_field bits place u m l k < 2 ^ l = field-below bits (place + low_fields_at u m l + l * k) l each in
     ap (λ n. n / 2 ^ l) e ∙ div-mul-add high (2 ^ l) (low_field bits place u m l k) below
 
 pub low-part : (bits : List ℕ) (place u m l k high number : ℕ) → EachBit bits → number ≡ high * 2 ^ l + low_field bits place u m l k → number % 2 ^ l ≡ low_field bits place u m l k
 low-part bits place u m l k high number each e =
-    let fits = field-fits bits (place + low_fields_at u m l + l * k) l each in
-    let below : low_field bits place u m l k < 2 ^ l = subst (λ n. n < 2 ^ l) fits (mod_below (low_field bits place u m l k) (2 ^ l) (pow_pos l)) in
+    let below : low_field bits place u m l k < 2 ^ l = field-below bits (place + low_fields_at u m l + l * k) l each in
     ap (λ n. n % 2 ^ l) e ∙ mod-mul-add high (2 ^ l) (low_field bits place u m l k) below
 
 -- one more number
@@ -76,8 +68,8 @@ begun-more bits place u m l q k from least to one number ys each h first above i
     let more : List ℕ = ys ++ number ∷ [] in
     let high : number / 2 ^ l ≡ one - place - k = high-part bits place u m l k (one - place - k) number each is in
     let low : number % 2 ^ l ≡ low_field bits place u m l k = low-part bits place u m l k (one - place - k) number each is in
-    let before = λ (i : ℕ) (lt : i < k). pushed-before ys number i k h.count lt in
-    let at = λ (i : ℕ) (same : i ≡ k). pushed-at ys number i k h.count same in
+    let before = λ (i : ℕ) (lt : i < k). get_or_append_left ys (number ∷ []) 0 i (omega (arith, h.count)) in
+    let at = λ (i : ℕ) (same : i ≡ k). get_or_push ys number 0 i (h.count ∙ sym same) in
     let place_is : high_place l k (get_or more k 0) ≡ one - place = omega (arith, ap (λ n. n / 2 ^ l) (at k refl)) in
     record {
       rising = rising-pushed ys number k h.rising h.count (omega (arith, h.least_is));

@@ -1,5 +1,4 @@
 mod Rows
-pub mod Pieces
 pub mod HighBits
 pub mod Rising
 pub mod Reading

@@ -1,31 +1,16 @@
-use Rattle.std.proofs.Common.{◌≡◌, ◌≢◌, ℕ, zero, suc, ◌+◌, ◌-◌, ◌*◌, ◌/◌, ◌%◌, ◌^◌, ◌<◌, ◌≤◌, List, get_or, Option, Some, None, refl, sym, ap, ◌∙◌, subst, arith, add-one, inl, inr, rules}
-use Rattle.std.specs.Option.{IfSome, IfNone, IsSome}
+use Rattle.std.proofs.Common.{◌≡◌, ◌≢◌, ℕ, zero, suc, ◌+◌, ◌-◌, ◌*◌, ◌/◌, ◌%◌, ◌^◌, ◌<◌, ◌≤◌, List, get_or, refl, sym, ap, ◌∙◌, arith, add-one, inl, inr}
 use Rattle.std.proofs.lemmas.Bool.{cases_lt}
-use Rattle.std.proofs.lemmas.Nat.{pow_pos, mod_below}
 use Rattle.std.proofs.Math.Nat.{mul-div_cancel_left, mul-mod_right, div-mul-le_self, mul-le-mul_right, div-add-mod}
-use Rattle.bit_words.specs.Bits.{bits_of, field_at, IsFirstOne, HasNoOne}
-use Rattle.bit_words.proofs.Value.{EachBit, bits-bits_of}
+use Rattle.bit_words.specs.Bits.{bits_of, IsFirstOne, HasNoOne}
+use Rattle.bit_words.proofs.Value.{bits-bits_of}
 use Rattle.elias_fano.specs.declared.EfView.{EfView}
 use Rattle.elias_fano.specs.EfBits.{high_place}
 use Rattle.elias_fano.specs.EfPlaces.{low_field, sample_at, past_place}
 use Rattle.elias_fano.specs.EfView.{Holds, IsWithin}
 use Rattle.elias_fano.specs.Laws.{PlacesFit}
-use Rattle.elias_fano.proofs.Pieces.{field-fits}
 use Rattle.elias_fano.proofs.Rising.{place-within, places-rise}
 use Rattle.elias_fano.proofs.Scanning.{found-number, some-found, number-read, sample-read}
 use Rattle.elias_fano.proofs.Views.{view-read-at, places-fit-at}
-
--- an option whose absence cannot be
-pub some-from : (o : Option ℕ) (P : Type 0) → IfNone o P → (P → ⊥) → IsSome o
-some-from None P h never = absurd (never h)
-some-from (Some x) P h never = search rules
-
-pub at-some : (o : Option ℕ) (P : ℕ → Type 0) (x : ℕ) → o ≡ Some x → IfSome o P → P x
-at-some o P x e h = subst (λ v. IfSome v P) e h
-
--- a field is below the power of its width
-pub field-below : (bits : List ℕ) (at width : ℕ) → EachBit bits → field_at bits at width < 2 ^ width
-field-below bits at width each = subst (λ n. n < 2 ^ width) (field-fits bits at width each) (mod_below (field_at bits at width) (2 ^ width) (pow_pos width))
 
 -- a high part that is not past the last, shifted back
 pub shifted-back : (high v l : ℕ) → high ≤ v / 2 ^ l → high * 2 ^ l ≤ v

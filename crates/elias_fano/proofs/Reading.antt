@@ -1,4 +1,4 @@
-use Rattle.std.proofs.Common.{◌≡◌, ℕ, zero, suc, ◌+◌, ◌-◌, ◌*◌, ◌/◌, ◌%◌, ◌^◌, ◌<◌, ◌≤◌, Bool, true, false, cond, List, ◌++◌, length, map, get_or, slice_index, refl, sym, ap, ◌∙◌, subst, arith}
+use Rattle.std.proofs.Common.{◌≡◌, ℕ, ◌+◌, ◌-◌, ◌*◌, ◌/◌, ◌%◌, ◌^◌, ◌<◌, ◌≤◌, Bool, true, false, cond, List, ◌++◌, length, map, get_or, slice_index, refl, sym, ap, ◌∙◌, subst, arith}
 use Rattle.std.specs.List.{range_with_len, flat_map}
 use Rattle.std.proofs.lemmas.List.{length-append, length-map, get_or-map}
 use Rattle.std.proofs.lemmas.List.Folds.{flat_map-map}
@@ -7,12 +7,13 @@ use Rattle.std.proofs.Math.Nat.{mod-mod}
 use Rattle.bit_words.specs.Bits.{field_bits, field_at}
 use Rattle.bit_words.proofs.Value.{EachBit}
 use Rattle.bit_words.proofs.Ranges.{bit-below}
+use Rattle.bit_words.proofs.AllBits.{set_bit, unset_bit}
+use Rattle.bit_words.proofs.Pieces.{StandAt, stands-first, stands-second, stands-both, stands-at, stands-from, stands-within, length-fields, fields-stand, stands-fields}
 use Rattle.part_cost.specs.Payload.{digits, low_width_of}
 use Rattle.part_cost.specs.Span.{AreRelative}
 use Rattle.part_cost.specs.Stored.{HoldsPart}
 use Rattle.elias_fano.specs.EfBits.{high_place, high_bits, low_fields, ef_samples, ef_bits}
 use Rattle.elias_fano.specs.EfPlaces.{ef_length, ef_length_at, low_fields_at, low_field, sample_at}
-use Rattle.elias_fano.proofs.Pieces.{StandAt, stands-first, stands-second, stands-both, stands-at, stands-from, stands-within, length-fields, fields-stand, stands-fields}
 use Rattle.elias_fano.proofs.HighBits.{has_one, has_one-at, one_of-has_one, length-high_bits, high_bit}
 use Rattle.elias_fano.proofs.Rising.{place-within}
 
@@ -72,10 +73,6 @@ pub record IsRead (bits : List ℕ) (place u m l q : ℕ) (ys : List ℕ) : Type
   pub low : (k : ℕ) → k < m → low_field bits place u m l k ≡ get_or ys k 0 % 2 ^ l
   pub sample : (j : ℕ) → j < (m - 1) / q → sample_at bits place u m l j ≡ high_place l (q * (j + 1)) (get_or ys (q * (j + 1)) 0) % 2 ^ digits (3 * m)
 
-set_bit : (b : Bool) → ◌≡◌ {A = ℕ} (cond b 1 0) 1 → b ≡ true
-set_bit true h = refl
-set_bit false h = absurd (omega arith)
-
 -- bits that are a part's are read so
 pub read-pieces : (bits : List ℕ) (place u l q : ℕ) (ys : List ℕ) → place ≤ length bits → AreRelative u (length ys) ys
     → StandAt bits place (pieces q l ys u) → IsRead bits place u (length ys) l q ys
@@ -116,10 +113,6 @@ read-pieces bits place u l q ys placed h stands =
           (let count : j < length (sampled_places q l ys) = omega (arith, length-map-range_with_len (λ i. high_place l (q * i) (slice_index ys (q * i))) 1 ((length ys - 1) / q)) in count)
           ∙ ap (λ v. v % 2 ^ width) (get_or-map-range_with_len (λ i. high_place l (q * i) (slice_index ys (q * i))) 1 ((length ys - 1) / q) j (j + 1) 0 lt (omega arith));
     }
-
-pub unset_bit : (n : ℕ) → n < 2 → (n ≡ 1 → ⊥) → n ≡ 0
-unset_bit zero h no_one = refl
-unset_bit (suc n) h no_one = absurd (no_one (omega arith))
 
 -- a place that is read so holds the high bit
 pub high-bit-read : (bits : List ℕ) (place u l q : ℕ) (ys : List ℕ) → EachBit bits → IsRead bits place u (length ys) l q ys

@@ -1,24 +1,11 @@
-use Rattle.std.proofs.Common.{◌≡◌, ℕ, zero, suc, ◌+◌, ◌-◌, ◌/◌, ◌^◌, ◌<◌, ◌≤◌, List, length, get_or, refl, ap, arith}
+use Rattle.std.proofs.Common.{◌≡◌, ℕ, zero, suc, ◌+◌, ◌-◌, ◌/◌, ◌^◌, ◌<◌, ◌≤◌, List, length, get_or, arith}
 use Rattle.std.specs.List.Sorted.{IsStrictlyIncreasing}
 use Rattle.std.proofs.lemmas.Nat.{pow_pos, le-div}
 use Rattle.std.proofs.Math.Nat.{div-mul-le_self}
+use Rattle.bit_words.proofs.Numbers.{rises}
 use Rattle.part_cost.specs.Span.{past, AreRelative}
 use Rattle.elias_fano.specs.EfBits.{high_place}
 use Rattle.elias_fano.specs.EfPlaces.{past_place}
-
--- numbers that rise lie as far apart as their places at least
-rises-by : (ys : List ℕ) → IsStrictlyIncreasing ys → (i d j : ℕ) → j ≡ i + d → j < length ys → get_or ys i 0 + d ≤ get_or ys j 0
-rises-by ys up i zero j e lt =
-    let same : get_or ys j 0 ≡ get_or ys i 0 = ap (λ k. get_or ys k 0) (let k : j ≡ i = omega arith in k) in
-    omega arith
-rises-by ys up i (suc d) j e lt =
-    let before = rises-by ys up i d (i + d) refl (omega arith) in
-    let step : get_or ys (i + d) 0 < get_or ys (i + d + 1) 0 = up (i + d) (omega arith) in
-    let same : get_or ys j 0 ≡ get_or ys (i + d + 1) 0 = ap (λ k. get_or ys k 0) (let k : j ≡ i + d + 1 = omega arith in k) in
-    omega arith
-
-pub rises : (ys : List ℕ) → IsStrictlyIncreasing ys → (i j : ℕ) → i ≤ j → j < length ys → get_or ys i 0 + (j - i) ≤ get_or ys j 0
-rises ys up i j h lt = rises-by ys up i (j - i) j (omega arith) lt
 
 -- shifted numbers keep their order
 pub shift-rises : (a b l : ℕ) → a ≤ b → a / 2 ^ l ≤ b / 2 ^ l

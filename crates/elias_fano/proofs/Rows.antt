@@ -13,7 +13,7 @@ high-701 : high_bits 8 701 (3 ∷ 700 ∷ []) ≡ 1 ∷ 0 ∷ 0 ∷ 1 ∷ []
 high-701 = refl
 
 -- 0, 10, 20 with a sample every two numbers
-length-21 : length (ef_bits 2 (0 ∷ 10 ∷ 20 ∷ []) 21) ≡ 18
+pub length-21 : length (ef_bits 2 (0 ∷ 10 ∷ 20 ∷ []) 21) ≡ 18
 unfolding ef_bits low_width_of lib.Count.count_leading_zeros
 length-21 = refl
 

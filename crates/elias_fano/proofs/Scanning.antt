@@ -2,23 +2,19 @@ use Rattle.std.proofs.Common.{◌≡◌, ℕ, zero, suc, ◌+◌, ◌-◌, ◌*�
 use Rattle.std.proofs.lemmas.Bool.{cases_lt}
 use Rattle.std.proofs.lemmas.List.{ext_get_or}
 use Rattle.std.proofs.lemmas.Nat.{le-div}
-use Rattle.std.proofs.Math.Nat.{le-div_iff_mul-le, mod-eq_of_lt, div-add-mod}
+use Rattle.std.proofs.Math.Nat.{mod-eq_of_lt, div-add-mod}
 use Rattle.bit_words.specs.Bits.{IsFirstOne, HasNoOne}
 use Rattle.bit_words.proofs.Value.{EachBit}
 use Rattle.bit_words.proofs.Ranges.{bit-below}
+use Rattle.bit_words.proofs.AllBits.{unset_bit}
 use Rattle.part_cost.specs.Payload.{digits}
 use Rattle.part_cost.specs.Span.{past}
 use Rattle.elias_fano.specs.EfBits.{high_place}
 use Rattle.elias_fano.specs.EfPlaces.{low_field, sample_at, past_place}
 use Rattle.elias_fano.proofs.Rising.{places-rise, place-within, past-before, before-past}
-use Rattle.elias_fano.proofs.Reading.{IsRead, unset_bit}
+use Rattle.elias_fano.proofs.Reading.{IsRead}
 
 -- which samples there are
-pub sampled-within : (q m j : ℕ) → 1 ≤ q → 1 ≤ m → j < (m - 1) / q → q * (j + 1) < m
-sampled-within q m j some any lt =
-    let product : (j + 1) * q ≤ m - 1 = (le-div_iff_mul-le {k = q} {x = j + 1} {y = m - 1} some).0 (omega arith) in
-    omega arith
-
 pub within-sampled : (q m j : ℕ) → 1 ≤ q → q * (j + 1) < m → j < (m - 1) / q
 within-sampled q m j some lt =
     let least : j + 1 ≤ (m - 1) / q = le-div (j + 1) (m - 1) q some (omega arith) in

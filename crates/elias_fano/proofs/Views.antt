@@ -1,10 +1,9 @@
-use Rattle.std.proofs.Common.{◌≡◌, ℕ, ◌+◌, ◌-◌, ◌*◌, ◌/◌, ◌^◌, ◌<◌, ◌≤◌, Bool, true, false, cond, List, [], ◌∷◌, ◌++◌, length, get_or, sym, ap, ◌∙◌, subst, arith}
-use Rattle.std.specs.Int.{bit_at}
-use Rattle.std.specs.List.{range_with_len, flat_map}
-use Rattle.std.proofs.lemmas.Nat.Bits.{bit_at-lt}
-use Rattle.std.proofs.lemmas.List.Elements.{All-nil, All-append, All-map}
-use Rattle.bit_words.specs.Bits.{AreBits, field_bits, bits_of}
+use Rattle.std.proofs.Common.{◌≡◌, ℕ, ◌+◌, ◌-◌, ◌*◌, ◌/◌, ◌^◌, ◌<◌, ◌≤◌, List, ◌++◌, length, get_or, sym, ap, ◌∙◌, subst, arith}
+use Rattle.std.specs.List.{range_with_len}
+use Rattle.std.proofs.lemmas.List.Elements.{All-append}
+use Rattle.bit_words.specs.Bits.{AreBits, bits_of}
 use Rattle.bit_words.proofs.Value.{bits-bits_of, length-bits_of}
+use Rattle.bit_words.proofs.AllBits.{bits-test, bits-fields}
 use Rattle.part_cost.specs.Payload.{digits, widest_low, ef_spacing, low_width_of}
 use Rattle.part_cost.specs.Laws.{LowWidthIsBest, DigitsHold}
 use Rattle.elias_fano.specs.declared.EfView.{EfView}
@@ -29,21 +28,8 @@ one-list q v xs ys h g =
     one_list-read (bits_of v.bits.words.now) v.place v.u v.m (low_width_of v.u v.m) q xs ys (bits-bits_of v.bits.words.now) (view-read q v xs h) (view-read q v ys g)
 
 -- all pieces are bits
-bits-field : (width value : ℕ) → AreBits (field_bits width value)
-bits-field width value = All-map (λ b. b < 2) (λ i. bit_at value i) (range_with_len 0 width) (λ k d lt. bit_at-lt value (get_or (range_with_len 0 width) k d))
-
-bits-fields : (width : ℕ) (xs : List ℕ) → AreBits (flat_map (field_bits width) xs)
-bits-fields width [] = All-nil (λ b. b < 2)
-bits-fields width (x ∷ xs) = All-append (λ b. b < 2) (field_bits width x) (flat_map (field_bits width) xs) (bits-field width x) (bits-fields width xs)
-
-one_or_zero : (b : Bool) → cond b 1 0 < 2
-one_or_zero true = omega arith
-one_or_zero false = omega arith
-
 bits-high : (l u : ℕ) (ys : List ℕ) → AreBits (high_bits l u ys)
-bits-high l u ys =
-    All-map (λ b. b < 2) (λ q. cond (has_one l 0 q ys) 1 0) (range_with_len 0 (length ys + (u - 1) / 2 ^ l))
-    (λ k d lt. one_or_zero (has_one l 0 (get_or (range_with_len 0 (length ys + (u - 1) / 2 ^ l)) k d) ys))
+bits-high l u ys = bits-test (λ q. has_one l 0 q ys) (range_with_len 0 (length ys + (u - 1) / 2 ^ l))
 
 bits-pieces : (q l u : ℕ) (ys : List ℕ) → AreBits (pieces q l ys u)
 bits-pieces q l u ys =

@@ -1,57 +1,18 @@
-use Rattle.std.proofs.Common.{◌≡◌, ℕ, ◌+◌, ◌-◌, ◌*◌, ◌/◌, ◌%◌, ◌^◌, ◌<◌, ◌≤◌, true, false, cond, List, [], ◌∷◌, ◌++◌, length, take, drop, get_or, slice_index, Result, Ok, Err, bit_and, refl, sym, ap, ◌∙◌, arith, inl, inr, append_assoc, rules}
+use Rattle.std.proofs.Common.{◌≡◌, ℕ, ◌+◌, ◌-◌, ◌*◌, ◌/◌, ◌%◌, ◌^◌, ◌<◌, ◌≤◌, true, false, cond, List, [], ◌∷◌, ◌++◌, length, take, get_or, slice_index, bit_and, sym, ap, ◌∙◌, arith, inl, inr, append_assoc}
 use Rattle.std.specs.List.{range_with_len, flat_map}
 use Rattle.std.specs.List.Sorted.{IsStrictlyIncreasing}
 use Rattle.std.proofs.lemmas.Bool.{cases_lt, false_from_ne_true}
-use Rattle.std.proofs.lemmas.List.{length-append, length-take, take-append-le, take_more, take_at, take-append-drop, take_all}
-use Rattle.std.proofs.lemmas.List.Concat.{flat_map-append}
+use Rattle.std.proofs.lemmas.List.{length-append, length-take, take_more, take_all}
 use Rattle.std.proofs.lemmas.List.Folds.{length-flat_map-take}
 use Rattle.std.proofs.lemmas.List.FromFn.{length-range_with_len, get_or-range_with_len}
 use Rattle.std.proofs.lemmas.Nat.{one_shl, and_mask}
-use Rattle.std.proofs.Math.Seq.{take-append-add}
-use Rattle.std.specs.Result.{OnOk, OnErr}
 use Rattle.bit_words.specs.Bits.{AppendsBits, field_bits}
 use Rattle.bit_words.proofs.Value.{length-field_bits}
+use Rattle.bit_words.proofs.Fronts.{pieces-more, pieces-front}
 use Rattle.part_cost.specs.Payload.{digits}
 use Rattle.elias_fano.specs.EfBits.{high_place, high_bits, low_fields, ef_samples}
 use Rattle.elias_fano.proofs.HighBits.{has_one, has_one-at, one_of-has_one, length-high_bits, high_bit}
 use Rattle.elias_fano.proofs.Rising.{places-rise}
-
--- a front of a piece is a front of it with another behind it
-pub appends-front : (old new a b : List ℕ) → AppendsBits old new a → AppendsBits old new (a ++ b)
-appends-front old new a b h = (h.0, omega (arith, h.1, length-append a b), h.2 ∙ ap (λ xs. old ++ xs) (sym (take-append-le h.0 a b h.1)))
-
--- and with one before it that was appended whole
-pub appends-behind : (old mid new a b : List ℕ) → mid ≡ old ++ a → AppendsBits mid new b → AppendsBits old new (a ++ b)
-appends-behind old mid new a b e h = (
-  length a + h.0,
-  omega (arith, h.1, length-append a b),
-  h.2 ∙ ap (λ xs. xs ++ take h.0 b) e ∙ append_assoc old a (take h.0 b) ∙ ap (λ xs. old ++ xs) (sym (take-append-add a b h.0)),
-)
-
-nothing_behind : (xs : List ℕ) → xs ++ [] ≡ xs
-nothing_behind [] = refl
-nothing_behind (x ∷ xs) = ap (λ ys. x ∷ ys) (nothing_behind xs)
-
-last_piece : {X : Type 0} (f : X → List ℕ) (xs : List X) (x : X) → flat_map f xs ++ f x ≡ flat_map f (xs ++ x ∷ [])
-last_piece f xs x = sym (flat_map-append f xs (x ∷ []) ∙ ap (λ ys. flat_map f xs ++ ys) (nothing_behind (f x)))
-
--- pieces, one for each element
-pub pieces-more : {X : Type 0} (f : X → List ℕ) (old to : List ℕ) (xs : List X) (i : ℕ) (d : X) → i < length xs
-    → to ≡ old ++ flat_map f (take i xs) → to ++ f (get_or xs i d) ≡ old ++ flat_map f (take (i + 1) xs)
-pieces-more f old to xs i d lt e =
-    ap (λ ys. ys ++ f (get_or xs i d)) e ∙ append_assoc old (flat_map f (take i xs)) (f (get_or xs i d))
-    ∙ ap (λ ys. old ++ ys) (last_piece f (take i xs) (get_or xs i d) ∙ sym (ap (flat_map f) (take_more xs i d lt)))
-
--- the pieces of the first elements are a front of all
-pub pieces-front : {X : Type 0} (f : X → List ℕ) (old to : List ℕ) (xs : List X) (i : ℕ) → to ≡ old ++ flat_map f (take i xs) → AppendsBits old to (flat_map f xs)
-pieces-front f old to xs i e =
-    let front = flat_map f (take i xs) in
-    let back = flat_map f (drop i xs) in
-    let whole : flat_map f xs ≡ front ++ back = sym (ap (flat_map f) (take-append-drop i xs)) ∙ flat_map-append f (take i xs) (drop i xs) in (
-      length front,
-      omega (arith, ap length whole, length-append front back),
-      e ∙ ap (λ ys. old ++ ys) (sym (ap (take (length front)) whole ∙ take_at front back (length front) refl)),
-    )
 
 -- one more high bit
 pub high-more : (old to ys : List ℕ) (l u q : ℕ) (bit : List ℕ) → q < length ys + (u - 1) / 2 ^ l → bit ≡ cond (has_one l 0 q ys) 1 0 ∷ []
@@ -127,19 +88,6 @@ high-front l u ys q k old to new h lt e = (q, omega (arith, length-high_bits l u
 
 pub high-all : (l u : ℕ) (ys : List ℕ) (q k : ℕ) (old to : List ℕ) → AreWritten l u ys q k old to → length ys + (u - 1) / 2 ^ l ≤ q → to ≡ old ++ high_bits l u ys
 high-all l u ys q k old to h all = h.written ∙ ap (λ xs. old ++ xs) (take_all q (high_bits l u ys) (omega (arith, length-high_bits l u ys)))
-
--- a fact that holds where an error is given
-pub on-err : {T E : Type 0} (r : Result T E) (P : Type 0) → P → OnErr r P
-on-err (Ok x) P h = search rules
-on-err (Err e) P h = h
-
-pub on-ok-map : {T E : Type 0} (r : Result T E) (P Q : Type 0) → (P → Q) → OnOk r P → OnOk r Q
-on-ok-map (Ok x) P Q f h = f h
-on-ok-map (Err e) P Q f h = h
-
-pub on-err-map : {T E : Type 0} (r : Result T E) (P Q : Type 0) → (P → Q) → OnErr r P → OnErr r Q
-on-err-map (Ok x) P Q f h = h
-on-err-map (Err e) P Q f h = f h
 
 -- the samples of the first runs
 abbrev pub samples_before : ℕ → ℕ → List ℕ → ℕ → List ℕ

@@ -3,12 +3,12 @@ use Rattle.std.specs.Prelude.{nat_le}
 use Rattle.std.proofs.lemmas.Bool.{eqb-true}
 use Rattle.std.proofs.lemmas.List.{ext_get_or}
 use Rattle.std.proofs.lemmas.List.FromFn.{length-range_with_len, get_or-range_with_len}
+use Rattle.bit_words.proofs.Numbers.{rises}
 use Rattle.part_cost.specs.declared.kinds.Kind.{Kind}
 use Rattle.part_cost.specs.declared.kinds.Kind.TheVariants.{Ones, Bitmap, Ef}
 use Rattle.part_cost.specs.Payload.{kind_of, bitmap_payload, ef_payload}
 use Rattle.part_cost.specs.Span.{AreRelative}
 use Rattle.part_cost.specs.Stored.{HoldsPart, IsFirstAtLeast}
-use Rattle.elias_fano.proofs.Rising.{rises}
 use Rattle.part_codec.specs.PartBits.{bits_of_kind, part_bits}
 use Rattle.part_codec.specs.PartView.{all_ones}
 use Rattle.part_codec.specs.Relative.{AreRelative-all_ones, at-all_ones}

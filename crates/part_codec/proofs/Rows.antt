@@ -1,5 +1,4 @@
-use Rattle.std.proofs.Common.{◌≡◌, ℕ, ◌+◌, ◌-◌, ◌*◌, ◌<◌, List, [], ◌∷◌, length, get_or, Result, Ok, refl, sym, ap, subst, arith}
-use Rattle.std.specs.Result.{IfOk}
+use Rattle.std.proofs.Common.{◌≡◌, ℕ, ◌+◌, ◌-◌, ◌*◌, ◌<◌, List, [], ◌∷◌, length, get_or, refl, sym, ap, subst, arith}
 use Rattle.bit_words.specs.Bits.{field_bits}
 use Rattle.part_cost.specs.Payload.{kind_of, low_width_of, ef_payload, bitmap_payload, payload}
 use Rattle.part_cost.specs.Span.{AreRelative}
@@ -54,7 +53,3 @@ tens-relative xs count at =
 pub tens-payload : payload 1281 129 ≡ 685
 unfolding payload ef_payload bitmap_payload lib.Count.count_leading_zeros
 tens-payload = refl
-
--- the bits of a writer that is known to have none
-pub begins : {E : Type 0} (r : Result (List ℕ) E) (bits : List ℕ) → r ≡ Ok bits → IfOk r (λ w. w ≡ []) → bits ≡ []
-begins r bits is h = subst (λ v. IfOk v (λ w. w ≡ [])) is h

@@ -6,12 +6,13 @@ use Rattle.std.proofs.lemmas.List.{ext_get_or, get_or-take, length-take}
 use Rattle.std.proofs.lemmas.List.FromFn.{length-range_with_len, get_or-range_with_len, length-map-range_with_len, get_or-map-range_with_len}
 use Rattle.std.proofs.lemmas.List.Kept.{IsStrictlyIncreasing-filter}
 use Rattle.bit_words.specs.Bits.{field_at}
+use Rattle.bit_words.proofs.Numbers.{rises}
 use Rattle.part_cost.specs.declared.kinds.Kind.{Kind}
 use Rattle.part_cost.specs.declared.kinds.Kind.TheVariants.{Ones, Bitmap, Ef}
 use Rattle.part_cost.specs.Payload.{kind_of, low_width_of, ef_spacing, bitmap_spacing}
 use Rattle.part_cost.specs.Stored.{HoldsPart}
 use Rattle.elias_fano.specs.EfBits.{high_place}
-use Rattle.elias_fano.proofs.Rising.{rises, places-rise, place-within}
+use Rattle.elias_fano.proofs.Rising.{places-rise, place-within}
 use Rattle.elias_fano.proofs.Reading as elias_fano
 use Rattle.elias_fano.proofs.Scanning.{number-read}
 use Rattle.ranked_bitmap.proofs.Ones.{AreOnes, set-within}

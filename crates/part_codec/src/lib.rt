@@ -14,6 +14,7 @@ mod laws;
 mod tests;
 mod views;
 
+pub use bit_words::NoMemory;
 use bit_words::{BitWriter, Bits};
 pub use codec::PartCodec;
 use elias_fano::ef_write;
@@ -21,26 +22,6 @@ pub use laws::{one_list_at_place, part_takes_its_payload};
 use part_cost::{BITMAP_SPACING, EF_SPACING, Kind, kind};
 use ranked_bitmap::map_write;
 pub use views::{OnesView, PartView};
-
-/// Memory was refused.
-#[derive(Clone, Copy, Debug, PartialEq, Eq)]
-pub struct NoMemory;
-
-impl From<elias_fano::NoMemory> for NoMemory {
-    ghost from_gives = { λ _ _. Unit {0} };
-
-    fn from(_refused: elias_fano::NoMemory) -> NoMemory {
-        NoMemory
-    }
-}
-
-impl From<ranked_bitmap::NoMemory> for NoMemory {
-    ghost from_gives = { λ _ _. Unit {0} };
-
-    fn from(_refused: ranked_bitmap::NoMemory) -> NoMemory {
-        NoMemory
-    }
-}
 
 /// Appends the bits of a part, in the form of its kind: the values rise, and the last is u - 1. A refusal leaves a front of
 /// them.

@@ -131,9 +131,7 @@ fn reads_back(alloc: Global, values: &[u64], u: u64) -> Result<bool, NoMemory>
     if !is_relative(values, u) || m > u || payload_bits(u, m) > 64 {
         return Ok(false);
     }
-    let Ok(mut writer) = BitWriter::new(alloc) else {
-        return Err(NoMemory);
-    };
+    let mut writer = BitWriter::new(alloc)?;
     write_part(values, u, &mut writer)?;
     let words = writer.into_words();
     if words.len() > 1 {

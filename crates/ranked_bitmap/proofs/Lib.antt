@@ -1,5 +1,4 @@
 pub mod Rows
-pub mod Pieces
 pub mod Ones
 pub mod Marks
 pub mod Reading

@@ -1,14 +1,16 @@
 use Rattle.std.proofs.Common.{◌≡◌, ℕ, suc, ◌<◌, ◌==◌, ◌||◌, Bool, true, false, cond, List, [], ◌∷◌, length, get_or, refl, sym, ap, ◌∙◌, arith}
-use Rattle.std.specs.List.{list_any}
+use Rattle.std.specs.List.{list_any, range_with_len}
 use Rattle.std.specs.List.Sorted.{IsStrictlyIncreasing}
 use Rattle.std.proofs.lemmas.Bool.{eq-eqb, eqb-true}
 use Rattle.std.proofs.lemmas.List.{ext_get_or}
 use Rattle.std.proofs.lemmas.List.Folds.{list_any_at}
 use Rattle.std.proofs.lemmas.List.FromFn.{length-map-range_with_len, get_or-map-range_with_len}
+use Rattle.bit_words.specs.Bits.{AreBits}
 use Rattle.bit_words.proofs.Value.{EachBit}
 use Rattle.bit_words.proofs.Ranges.{bit-below}
+use Rattle.bit_words.proofs.AllBits.{set_bit, unset_bit, bits-test}
 use Rattle.ranked_bitmap.specs.MapBits.{marks}
-use Rattle.ranked_bitmap.proofs.Ones.{AreOnes, unset_bit, set-within}
+use Rattle.ranked_bitmap.proofs.Ones.{AreOnes, set-within}
 
 -- whether a place is one of the numbers
 abbrev pub has_number : ℕ → List ℕ → Bool
@@ -37,9 +39,9 @@ length-marks ys u = length-map-range_with_len (λ r. cond (has_number r ys) 1 0)
 pub mark-at : (ys : List ℕ) (u i : ℕ) → i < u → get_or (marks ys u) i 0 ≡ cond (has_number i ys) 1 0
 mark-at ys u i lt = get_or-map-range_with_len (λ r. cond (has_number r ys) 1 0) 0 u i i 0 lt (omega arith)
 
-set_bit : (b : Bool) → ◌≡◌ {A = ℕ} (cond b 1 0) 1 → b ≡ true
-set_bit true h = refl
-set_bit false h = absurd (omega arith)
+-- the marks are bits
+pub bits-marks : (ys : List ℕ) (u : ℕ) → AreBits (marks ys u)
+bits-marks ys u = bits-test (λ r. has_number r ys) (range_with_len 0 u)
 
 -- the numbers are the places of the ones among their marks
 pub marks-are-ones : (ys : List ℕ) (u : ℕ) → IsStrictlyIncreasing ys → ((k : ℕ) → k < length ys → get_or ys k 0 < u) → AreOnes (marks ys u) ys

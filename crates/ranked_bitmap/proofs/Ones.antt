@@ -1,10 +1,11 @@
-use Rattle.std.proofs.Common.{◌≡◌, ℕ, zero, suc, ◌+◌, ◌-◌, ◌<◌, ◌≤◌, ◌==◌, Bool, true, false, cond, List, [], ◌∷◌, ◌++◌, length, take, get_or, sum, refl, sym, ap, ◌∙◌, subst, arith, inl, inr, add-one}
+use Rattle.std.proofs.Common.{◌≡◌, ℕ, zero, suc, ◌+◌, ◌<◌, ◌≤◌, ◌==◌, Bool, true, false, cond, List, [], ◌∷◌, ◌++◌, length, take, get_or, sum, refl, sym, ap, ◌∙◌, subst, arith, inl, inr, add-one}
 use Rattle.std.specs.List.Sorted.{IsStrictlyIncreasing}
 use Rattle.std.proofs.lemmas.Bool.{cases_lt, eq-eqb, eqb-true}
-use Rattle.std.proofs.lemmas.List.{length_push, get_or_push, get_or_append_left, ext_get_or, take_all}
+use Rattle.std.proofs.lemmas.List.{length_push, get_or_push, get_or_append_left, get_or_past, ext_get_or, take_all}
 use Rattle.std.proofs.lemmas.List.Sums.{sum_by_more}
 use Rattle.bit_words.proofs.Value.{EachBit}
 use Rattle.bit_words.proofs.Ranges.{bit-below}
+use Rattle.bit_words.proofs.Numbers.{rises}
 
 -- The numbers are the places of the ones of some bits.
 pub record AreOnes (bits ys : List ℕ) : Type 0 where
@@ -12,36 +13,12 @@ pub record AreOnes (bits ys : List ℕ) : Type 0 where
   pub one : (k : ℕ) → k < length ys → get_or bits (get_or ys k 0) 0 ≡ 1
   pub only : (i : ℕ) → get_or bits i 0 ≡ 1 → (k : ℕ) × (k < length ys) × (get_or ys k 0 ≡ i)
 
--- numbers that rise lie as far apart as their places at least
-rises-by : (ys : List ℕ) → IsStrictlyIncreasing ys → (i d j : ℕ) → j ≡ i + d → j < length ys → get_or ys i 0 + d ≤ get_or ys j 0
-rises-by ys up i zero j e lt =
-    let same : get_or ys j 0 ≡ get_or ys i 0 = ap (λ k. get_or ys k 0) (let k : j ≡ i = omega arith in k) in
-    omega arith
-rises-by ys up i (suc d) j e lt =
-    let before = rises-by ys up i d (i + d) refl (omega arith) in
-    let step : get_or ys (i + d) 0 < get_or ys (i + d + 1) 0 = up (i + d) (omega arith) in
-    let same : get_or ys j 0 ≡ get_or ys (i + d + 1) 0 = ap (λ k. get_or ys k 0) (let k : j ≡ i + d + 1 = omega arith in k) in
-    omega arith
-
-pub rises : (ys : List ℕ) → IsStrictlyIncreasing ys → (i j : ℕ) → i ≤ j → j < length ys → get_or ys i 0 + (j - i) ≤ get_or ys j 0
-rises ys up i j h lt = rises-by ys up i (j - i) j (omega arith) lt
-
--- a bit that is not 1
-pub unset_bit : (n : ℕ) → n < 2 → (n ≡ 1 → ⊥) → n ≡ 0
-unset_bit zero h no_one = refl
-unset_bit (suc n) h no_one = absurd (no_one (omega arith))
-
 -- nothing stands past the end
-pub past-end : (bits : List ℕ) (i : ℕ) → length bits ≤ i → get_or bits i 0 ≡ 0
-past-end [] i h = refl
-past-end (b ∷ bits) zero h = absurd (omega arith)
-past-end (b ∷ bits) (suc i) h = past-end bits i (omega arith)
-
 pub set-within : (bits : List ℕ) (i : ℕ) → get_or bits i 0 ≡ 1 → i < length bits
 set-within bits i h =
     elim (cases_lt i (length bits)) [
       | inl less ↦ less
-      | inr more ↦ absurd (let none = past-end bits i more in omega arith)
+      | inr more ↦ absurd (let none = get_or_past bits i 0 more in omega arith)
     ]
 
 -- the sum of one more number
@@ -49,7 +26,7 @@ pub sum-suc : (n : ℕ) (xs : List ℕ) → sum (take (n + 1) xs) ≡ sum (take 
 sum-suc n xs =
     elim (cases_lt n (length xs)) [
       | inl less ↦ sum_by_more (λ x. x) xs n 0 less
-      | inr more ↦ omega (arith, ap sum (take_all n xs more), ap sum (take_all (n + 1) xs (omega arith)), past-end xs n more)
+      | inr more ↦ omega (arith, ap sum (take_all n xs more), ap sum (take_all (n + 1) xs (omega arith)), get_or_past xs n 0 more)
     ]
 
 -- How many numbers lie below a place: r of them, and these are the first.
@@ -157,32 +134,26 @@ record AreFirst (bits : List ℕ) (n : ℕ) (ys : List ℕ) : Type 0 where
   pub one : (k : ℕ) → k < length ys → get_or bits (get_or ys k 0) 0 ≡ 1
   pub only : (i : ℕ) → i < n → get_or bits i 0 ≡ 1 → (k : ℕ) × (k < length ys) × (get_or ys k 0 ≡ i)
 
-pushed-before : (ys : List ℕ) (y i : ℕ) → i < length ys → get_or (ys ++ y ∷ []) i 0 ≡ get_or ys i 0
-pushed-before ys y i lt = get_or_append_left ys (y ∷ []) 0 i lt
-
-pushed-at : (ys : List ℕ) (y i : ℕ) → i ≡ length ys → get_or (ys ++ y ∷ []) i 0 ≡ y
-pushed-at ys y i same = get_or_push ys y 0 i (sym same)
-
 first-more : (bits : List ℕ) (n : ℕ) (ys : List ℕ) → AreFirst bits n ys → (b : Bool) → (get_or bits n 0 == 1) ≡ b → AreFirst bits (suc n) (cond b (ys ++ n ∷ []) ys)
 first-more bits n ys h true e =
     let set : get_or bits n 0 ≡ 1 = eqb-true (get_or bits n 0) 1 e in
     let longer : length (ys ++ n ∷ []) ≡ length ys + 1 = length_push ys n in
     record {
       rising = λ i lt. elim (cases_lt (i + 1) (length ys)) [
-        | inl less ↦ omega (arith, pushed-before ys n i (omega arith), pushed-before ys n (i + 1) less, h.rising i less)
-        | inr more ↦ omega (arith, pushed-before ys n i (omega arith), pushed-at ys n (i + 1) (omega arith), h.low i (omega arith))
+        | inl less ↦ omega (arith, get_or_append_left ys (n ∷ []) 0 i (omega arith), get_or_append_left ys (n ∷ []) 0 (i + 1) less, h.rising i less)
+        | inr more ↦ omega (arith, get_or_append_left ys (n ∷ []) 0 i (omega arith), get_or_push ys n 0 (i + 1) (omega arith), h.low i (omega arith))
       ];
       low = λ k lt. elim (cases_lt k (length ys)) [
-        | inl less ↦ omega (arith, pushed-before ys n k less, h.low k less)
-        | inr more ↦ omega (arith, pushed-at ys n k (omega arith))
+        | inl less ↦ omega (arith, get_or_append_left ys (n ∷ []) 0 k less, h.low k less)
+        | inr more ↦ omega (arith, get_or_push ys n 0 k (omega arith))
       ];
       one = λ k lt. elim (cases_lt k (length ys)) [
-        | inl less ↦ ap (λ i. get_or bits i 0) (pushed-before ys n k less) ∙ h.one k less
-        | inr more ↦ ap (λ i. get_or bits i 0) (pushed-at ys n k (omega arith)) ∙ set
+        | inl less ↦ ap (λ i. get_or bits i 0) (get_or_append_left ys (n ∷ []) 0 k less) ∙ h.one k less
+        | inr more ↦ ap (λ i. get_or bits i 0) (get_or_push ys n 0 k (omega arith)) ∙ set
       ];
       only = λ i lt here. elim (cases_lt i n) [
-        | inl less ↦ (let found = h.only i less here in (found.0, omega (arith, found.1), pushed-before ys n found.0 found.1 ∙ found.2))
-        | inr more ↦ (length ys, omega arith, omega (arith, pushed-at ys n (length ys) refl))
+        | inl less ↦ (let found = h.only i less here in (found.0, omega (arith, found.1), get_or_append_left ys (n ∷ []) 0 found.0 found.1 ∙ found.2))
+        | inr more ↦ (length ys, omega arith, omega (arith, get_or_push ys n 0 (length ys) refl))
       ];
     }
 first-more bits n ys h false e =

@@ -5,25 +5,20 @@ use Rattle.std.proofs.lemmas.List.{length-append, length-take, length-drop, take
 use Rattle.std.proofs.lemmas.List.Sums.{sum_by-take-drop}
 use Rattle.std.proofs.lemmas.List.Folds.{flat_map-map}
 use Rattle.std.proofs.lemmas.List.FromFn.{length-map-range_with_len, get_or-map-range_with_len}
-use Rattle.std.proofs.Math.Nat.{le-div_iff_mul-le, mod-eq_of_lt}
+use Rattle.std.proofs.Math.Nat.{mod-eq_of_lt}
 use Rattle.bit_words.specs.Bits.{field_bits, field_at, ones_between, IsFirstOne, HasNoOne}
 use Rattle.bit_words.proofs.Value.{EachBit, bits-take, bits-drop}
 use Rattle.bit_words.proofs.Ranges.{bit-below}
+use Rattle.bit_words.proofs.Pieces.{StandAt, stands-first, stands-second, stands-both, stands-within, field-fits, length-fields, fields-stand, stands-fields}
+use Rattle.bit_words.proofs.Numbers.{rises, sampled-within}
 use Rattle.part_cost.specs.Payload.{digits}
 use Rattle.part_cost.specs.Span.{AreRelative}
 use Rattle.part_cost.specs.Stored.{HoldsPart, IsFirstAtLeast}
 use Rattle.part_cost.specs.Laws.{DigitsHold}
 use Rattle.ranked_bitmap.specs.MapBits.{marks, map_samples, map_bits}
 use Rattle.ranked_bitmap.specs.MapPlaces.{map_length, sample_at, AreSampled}
-use Rattle.ranked_bitmap.proofs.Pieces.{StandAt, stands-first, stands-second, stands-both, stands-within, field-fits, length-fields, fields-stand, stands-fields}
-use Rattle.ranked_bitmap.proofs.Ones.{AreOnes, AreBelow, rises, sum-suc, one_count, below-next, set-within, count-below, count-all, places_of, all-ones, one_list_of}
+use Rattle.ranked_bitmap.proofs.Ones.{AreOnes, AreBelow, sum-suc, one_count, below-next, set-within, count-below, count-all, places_of, all-ones, one_list_of}
 use Rattle.ranked_bitmap.proofs.Marks.{length-marks, marks-are-ones, ones-are-marks}
-
--- which samples there are
-pub sampled-within : (q u j : ℕ) → 1 ≤ q → 1 ≤ u → j < (u - 1) / q → q * (j + 1) < u
-sampled-within q u j some any lt =
-    let product : (j + 1) * q ≤ u - 1 = (le-div_iff_mul-le {k = q} {x = j + 1} {y = u - 1} some).0 (omega arith) in
-    omega arith
 
 -- the numbers in the samples
 abbrev pub counts : ℕ → List ℕ → ℕ → List ℕ

@@ -1,11 +1,9 @@
-use Rattle.std.proofs.Common.{◌≡◌, ℕ, ◌+◌, ◌-◌, ◌<◌, ◌≤◌, Bool, true, false, cond, List, [], ◌∷◌, length, get_or, sym, ap, ◌∙◌, subst, arith, rules, Option, Some, None}
-use Rattle.std.specs.Option.{IfSome, IfNone, IsSome}
-use Rattle.std.specs.Int.{bit_at}
-use Rattle.std.specs.List.{range_with_len, flat_map}
-use Rattle.std.proofs.lemmas.Nat.Bits.{bit_at-lt}
-use Rattle.std.proofs.lemmas.List.Elements.{All-nil, All-append, All-map}
-use Rattle.bit_words.specs.Bits.{AreBits, field_bits, bits_of, ones_between, IsFirstOne, HasNoOne}
+use Rattle.std.proofs.Common.{◌≡◌, ℕ, ◌+◌, ◌-◌, ◌<◌, ◌≤◌, List, length, get_or, sym, ap, ◌∙◌, subst, arith}
+use Rattle.std.proofs.lemmas.List.Elements.{All-append}
+use Rattle.bit_words.specs.Bits.{AreBits, bits_of, ones_between, IsFirstOne, HasNoOne}
 use Rattle.bit_words.proofs.Value.{bits-bits_of, length-bits_of}
+use Rattle.bit_words.proofs.AllBits.{bits-fields}
+use Rattle.bit_words.proofs.Numbers.{rises}
 use Rattle.part_cost.specs.Payload.{digits, bitmap_spacing, bitmap_payload}
 use Rattle.part_cost.specs.Stored.{IsFirstAtLeast}
 use Rattle.part_cost.specs.Laws.{DigitsHold}
@@ -14,8 +12,7 @@ use Rattle.ranked_bitmap.specs.MapBits.{marks, map_samples}
 use Rattle.ranked_bitmap.specs.MapPlaces.{map_length, AreSampled}
 use Rattle.ranked_bitmap.specs.MapView.{Holds, IsWithin}
 use Rattle.ranked_bitmap.specs.Laws.{OneList, PartIsBits, TakesItsPayload}
-use Rattle.ranked_bitmap.proofs.Ones.{rises}
-use Rattle.ranked_bitmap.proofs.Marks.{has_number}
+use Rattle.ranked_bitmap.proofs.Marks.{bits-marks}
 use Rattle.ranked_bitmap.proofs.Reading.{IsRead, counts, samples-are, part-is, length-part, read-held, held-read, one_list-read, below-universe, first-number, some-number, count-next, next-is, read-checked, counted-all, last-set, samples-read}
 
 -- what a view holds is read from its words
@@ -34,21 +31,6 @@ pub within-held : (q : ℕ) (v : MapView q) (ys : List ℕ) → Holds q v ys →
 within-held q v ys h = omega (arith, (view-read q v ys h).room, length-bits_of v.bits.words.now)
 
 -- all pieces are bits
-bits-field : (width value : ℕ) → AreBits (field_bits width value)
-bits-field width value = All-map (λ b. b < 2) (λ i. bit_at value i) (range_with_len 0 width) (λ k d lt. bit_at-lt value (get_or (range_with_len 0 width) k d))
-
-bits-fields : (width : ℕ) (xs : List ℕ) → AreBits (flat_map (field_bits width) xs)
-bits-fields width [] = All-nil (λ b. b < 2)
-bits-fields width (x ∷ xs) = All-append (λ b. b < 2) (field_bits width x) (flat_map (field_bits width) xs) (bits-field width x) (bits-fields width xs)
-
-one_or_zero : (b : Bool) → cond b 1 0 < 2
-one_or_zero true = omega arith
-one_or_zero false = omega arith
-
-bits-marks : (ys : List ℕ) (u : ℕ) → AreBits (marks ys u)
-bits-marks ys u =
-    All-map (λ b. b < 2) (λ r. cond (has_number r ys) 1 0) (range_with_len 0 u) (λ k d lt. one_or_zero (has_number (get_or (range_with_len 0 u) k d) ys))
-
 pub part-is-bits : PartIsBits
 part-is-bits q u ys =
     subst (λ xs. AreBits xs) (sym (part-is q u ys))
@@ -58,14 +40,6 @@ part-is-bits q u ys =
 pub takes-its-payload : TakesItsPayload
 unfolding bitmap_payload
 takes-its-payload u m ys h = length-part bitmap_spacing u ys ∙ ap (λ n. map_length bitmap_spacing u n) h.count
-
--- an option whose absence cannot be
-pub some-from : (o : Option ℕ) (P : Type 0) → IfNone o P → (P → ⊥) → IsSome o
-some-from None P h never = absurd (never h)
-some-from (Some x) P h never = search rules
-
-pub at-some : (o : Option ℕ) (P : ℕ → Type 0) (x : ℕ) → o ≡ Some x → IfSome o P → P x
-at-some o P x e h = subst (λ v. IfSome v P) e h
 
 -- what is read of the numbers that a view holds
 pub number-found : (q : ℕ) (v : MapView q) (ys : List ℕ) → Holds q v ys → (least p : ℕ) → least < v.u

@@ -1,45 +1,24 @@
-use Rattle.std.proofs.Common.{◌≡◌, ℕ, zero, suc, ◌+◌, ◌-◌, ◌*◌, ◌/◌, ◌%◌, ◌^◌, ◌<◌, ◌≤◌, Bool, true, false, cond, List, [], ◌∷◌, ◌++◌, length, map, take, drop, get_or, sum, refl, sym, ap, ◌∙◌, subst, arith, append_assoc, Result, Ok, Err}
-use Rattle.std.specs.Result.{OnOk, OnErr}
-use Rattle.std.specs.List.{range_with_len, flat_map}
+use Rattle.std.proofs.Common.{◌≡◌, ℕ, ◌+◌, ◌-◌, ◌*◌, ◌/◌, ◌%◌, ◌^◌, ◌<◌, ◌≤◌, cond, List, [], ◌∷◌, ◌++◌, length, take, get_or, sum, sym, ap, ◌∙◌, subst, arith, append_assoc}
+use Rattle.std.specs.List.{flat_map}
 use Rattle.std.proofs.lemmas.Bool.{false_from_ne_true}
-use Rattle.std.proofs.lemmas.List.{length-append, length-take-le, take-append-le, take-append-drop, take_more, take_at, take_all}
-use Rattle.std.proofs.lemmas.List.Concat.{flat_map-append}
+use Rattle.std.proofs.lemmas.List.{length-append, length-take-le, take_more, take_all}
 use Rattle.std.proofs.Math.Nat.{mul-le-mul_left}
-use Rattle.std.proofs.Math.Seq.{take-append-add}
 use Rattle.bit_words.specs.Bits.{AppendsBits, field_bits}
-use Rattle.bit_words.proofs.Value.{EachBit}
+use Rattle.bit_words.proofs.Pieces.{length-fields}
+use Rattle.bit_words.proofs.Fronts.{appends-front, appends-behind, appends-both, pieces-more, pieces-front}
+use Rattle.bit_words.proofs.WordLaws.{each_bit}
+use Rattle.bit_words.proofs.Numbers.{rises}
 use Rattle.part_cost.specs.Payload.{digits}
 use Rattle.part_cost.specs.Span.{AreRelative}
 use Rattle.ranked_bitmap.specs.MapBits.{marks, map_samples, map_bits}
-use Rattle.ranked_bitmap.proofs.Pieces.{length-fields}
-use Rattle.ranked_bitmap.proofs.Ones.{AreBelow, rises, sum-suc, one_count, below-number, count-below}
-use Rattle.ranked_bitmap.proofs.Marks.{has_number, has_number-at, found-number, length-marks, mark-at, marks-are-ones}
+use Rattle.ranked_bitmap.proofs.Ones.{AreBelow, sum-suc, one_count, below-number, count-below}
+use Rattle.ranked_bitmap.proofs.Marks.{has_number, has_number-at, found-number, length-marks, mark-at, bits-marks, marks-are-ones}
 use Rattle.ranked_bitmap.proofs.Reading.{below-universe, counts, length-counts, samples-are, part-is, few-ones}
 
--- a front of a piece is a front of it with another behind it
-pub appends-front : (old new a b : List ℕ) → AppendsBits old new a → AppendsBits old new (a ++ b)
-appends-front old new a b h = (h.0, omega (arith, h.1, length-append a b), h.2 ∙ ap (λ xs. old ++ xs) (sym (take-append-le h.0 a b h.1)))
-
--- and with one before it that was appended whole
-pub appends-behind : (old mid new a b : List ℕ) → mid ≡ old ++ a → AppendsBits mid new b → AppendsBits old new (a ++ b)
-appends-behind old mid new a b e h = (
-  length a + h.0,
-  omega (arith, h.1, length-append a b),
-  h.2 ∙ ap (λ xs. xs ++ take h.0 b) e ∙ append_assoc old a (take h.0 b) ∙ ap (λ xs. old ++ xs) (sym (take-append-add a b h.0)),
-)
-
--- the marks are bits
-each-mark : (f : ℕ → Bool) (a n : ℕ) → EachBit (map (λ r. cond (f r) 1 0) (range_with_len a n))
-each-mark f a zero = tt
-each-mark f a (suc n) = (one_or_zero (f a), each-mark f (a + 1) n)
-  where
-    one_or_zero : (b : Bool) → cond b 1 0 < 2
-    one_or_zero true = omega arith
-    one_or_zero false = omega arith
-
+-- the marks before a place are as many as the numbers below it
 pub marks-below : (ys : List ℕ) (u p : ℕ) → AreRelative u (length ys) ys → AreBelow ys p (sum (take p (marks ys u)))
 marks-below ys u p h =
-    count-below (marks ys u) ys p (each-mark (λ r. has_number r ys) 0 u) (marks-are-ones ys u h.rising (λ k lt. below-universe u (length ys) ys h k lt))
+    count-below (marks ys u) ys p (each_bit (marks ys u) (bits-marks ys u)) (marks-are-ones ys u h.rising (λ k lt. below-universe u (length ys) ys h k lt))
 
 -- the place of the next number is marked
 pub mark-here : (ys : List ℕ) (u place count : ℕ) → place < u → count < length ys → get_or ys count 0 ≡ place → 1 ≡ get_or (marks ys u) place 0
@@ -85,48 +64,24 @@ first_samples q ys u j = flat_map (field_bits (digits (length ys))) (take j (cou
 
 pub samples-all : (q : ℕ) (ys : List ℕ) (u j : ℕ) → j ≡ (u - 1) / q → first_samples q ys u j ≡ map_samples q ys u
 samples-all q ys u j e =
-    ap (flat_map (field_bits (digits (length ys)))) (ap (λ n. take n (counts q ys u)) (e ∙ sym (length-counts q ys u)) ∙ take-whole (counts q ys u))
-    ∙ samples-are q ys u
-  where
-    take-whole : (xs : List ℕ) → take (length xs) xs ≡ xs
-    take-whole [] = refl
-    take-whole (x ∷ xs) = ap (λ ys. x ∷ ys) (take-whole xs)
+    ap (flat_map (field_bits (digits (length ys)))) (take_all j (counts q ys u) (omega (arith, length-counts q ys u))) ∙ samples-are q ys u
 
 pub length-first_samples : (q : ℕ) (ys : List ℕ) (u j : ℕ) → j ≤ (u - 1) / q → length (first_samples q ys u j) ≡ digits (length ys) * j
 length-first_samples q ys u j h =
     length-fields (digits (length ys)) (take j (counts q ys u))
     ∙ ap (λ n. digits (length ys) * n) (length-take-le j (counts q ys u) (omega (arith, length-counts q ys u)))
 
-last_field : (width : ℕ) (xs : List ℕ) (x : ℕ) → flat_map (field_bits width) (xs ++ x ∷ []) ≡ flat_map (field_bits width) xs ++ field_bits width x
-last_field width xs x = flat_map-append (field_bits width) xs (x ∷ []) ∙ ap (λ ys. flat_map (field_bits width) xs ++ ys) (nothing_behind (field_bits width x))
-  where
-    nothing_behind : (xs : List ℕ) → xs ++ [] ≡ xs
-    nothing_behind [] = refl
-    nothing_behind (x ∷ xs) = ap (λ ys. x ∷ ys) (nothing_behind xs)
-
 -- one more sample
 pub sample-more : (old to : List ℕ) (q : ℕ) (ys : List ℕ) (u j count : ℕ) → j < (u - 1) / q → count ≡ get_or (counts q ys u) j 0
     → to ≡ old ++ first_samples q ys u j → to ++ field_bits (digits (length ys)) count ≡ old ++ first_samples q ys u (j + 1)
 sample-more old to q ys u j count lt is e =
     let width : ℕ = digits (length ys) in
-    ap (λ xs. xs ++ field_bits width count) e ∙ append_assoc old (first_samples q ys u j) (field_bits width count)
-    ∙ ap (λ xs. old ++ xs)
-    (ap (λ n. first_samples q ys u j ++ field_bits width n) is
-    ∙ sym (last_field width (take j (counts q ys u)) (get_or (counts q ys u) j 0))
-    ∙ ap (flat_map (field_bits width)) (sym (take_more (counts q ys u) j 0 (omega (arith, length-counts q ys u)))))
+    ap (λ n. to ++ field_bits width n) is ∙ pieces-more (field_bits width) old to (counts q ys u) j 0 (omega (arith, length-counts q ys u)) e
 
 -- the first samples are a front of all
 pub samples-front : (old to : List ℕ) (q : ℕ) (ys : List ℕ) (u j : ℕ) → to ≡ old ++ first_samples q ys u j → AppendsBits old to (map_samples q ys u)
 samples-front old to q ys u j e =
-    let f : ℕ → List ℕ = field_bits (digits (length ys)) in
-    let front : List ℕ = first_samples q ys u j in
-    let back : List ℕ = flat_map f (drop j (counts q ys u)) in
-    let whole : map_samples q ys u ≡ front ++ back =
-    sym (samples-are q ys u) ∙ sym (ap (flat_map f) (take-append-drop j (counts q ys u))) ∙ flat_map-append f (take j (counts q ys u)) (drop j (counts q ys u)) in (
-      length front,
-      omega (arith, ap length whole, length-append front back),
-      e ∙ ap (λ xs. old ++ xs) (sym (ap (take (length front)) whole ∙ take_at front back (length front) refl)),
-    )
+    subst (λ xs. AppendsBits old to xs) (samples-are q ys u) (pieces-front (field_bits (digits (length ys))) old to (counts q ys u) j e)
 
 -- a sample has room behind those before it
 pub room-more : (width j n : ℕ) → j < n → width * j + width ≤ width * n
@@ -146,7 +101,7 @@ found-below ys u end count h fit below next =
 
 -- no more marks than places
 pub marks-few : (ys : List ℕ) (u p : ℕ) → sum (take p (marks ys u)) ≤ p
-marks-few ys u p = few-ones (marks ys u) (each-mark (λ r. has_number r ys) 0 u) p
+marks-few ys u p = few-ones (marks ys u) (each_bit (marks ys u) (bits-marks ys u)) p
 
 pub mark-count : (ys : List ℕ) (u place count b : ℕ) → count ≡ sum (take place (marks ys u)) → b ≡ get_or (marks ys u) place 0
     → count + b ≡ sum (take (place + 1) (marks ys u))
@@ -155,23 +110,10 @@ mark-count ys u place count b is bit = omega (arith, sum-suc place (marks ys u))
 pub marks-all : (old to ys : List ℕ) (u place : ℕ) → place ≡ u → to ≡ old ++ take place (marks ys u) → to ≡ old ++ marks ys u
 marks-all old to ys u place e written = written ∙ ap (λ xs. old ++ xs) (take_all place (marks ys u) (omega (arith, length-marks ys u)))
 
--- what holds after an answer
-pub on-err : {T E : Type 0} (r : Result T E) (P : Type 0) → P → OnErr r P
-on-err (Ok x) P p = tt
-on-err (Err e) P p = p
-
-pub ok-also : {T E : Type 0} (r : Result T E) (P Q : Type 0) → (P → Q) → OnOk r P → OnOk r Q
-ok-also (Ok x) P Q f p = f p
-ok-also (Err e) P Q f p = tt
-
-pub err-also : {T E : Type 0} (r : Result T E) (P Q : Type 0) → (P → Q) → OnErr r P → OnErr r Q
-err-also (Ok x) P Q f p = tt
-err-also (Err e) P Q f p = f p
-
 -- the marks and then the samples are the part
 pub part-whole : (q u : ℕ) (old mid new ys : List ℕ) → mid ≡ old ++ marks ys u → new ≡ mid ++ map_samples q ys u → new ≡ old ++ map_bits q ys u
 part-whole q u old mid new ys first second =
-    second ∙ ap (λ xs. xs ++ map_samples q ys u) first ∙ append_assoc old (marks ys u) (map_samples q ys u) ∙ ap (λ xs. old ++ xs) (sym (part-is q u ys))
+    appends-both old mid new (marks ys u) (map_samples q ys u) first second ∙ ap (λ xs. old ++ xs) (sym (part-is q u ys))
 
 pub part-front : (q u : ℕ) (old new ys : List ℕ) → AppendsBits old new (marks ys u) → AppendsBits old new (map_bits q ys u)
 part-front q u old new ys h = subst (λ xs. AppendsBits old new xs) (sym (part-is q u ys)) (appends-front old new (marks ys u) (map_samples q ys u) h)

@@ -12,21 +12,10 @@ mod tests;
 mod writer;
 
 use bit_words::Bits;
+pub use bit_words::NoMemory;
 pub use laws::{one_list, part_takes_its_payload};
 use part_cost::{digits, digits_hold};
 pub use writer::map_write;
-
-/// Memory was refused.
-#[derive(Clone, Copy, Debug, PartialEq, Eq)]
-pub struct NoMemory;
-
-impl From<bit_words::NoMemory> for NoMemory {
-    ghost from_gives = { λ _ _. Unit {0} };
-
-    fn from(_refused: bit_words::NoMemory) -> NoMemory {
-        NoMemory
-    }
-}
 
 /// A part of m numbers in universe u, whose bits begin at a place of lent words, with a sample every B places.
 #[derive(Clone, Copy)]

@@ -4,28 +4,24 @@ use Rattle.std.specs.List.{All, slice_range}
 use Rattle.std.specs.List.Sorted.{IsStrictlyIncreasing}
 use Rattle.std.proofs.lemmas.Bool.{cases_lt}
 use Rattle.std.proofs.lemmas.Bool.Decides.{nat_tests}
-use Rattle.std.proofs.lemmas.List.{length-append, length-take-le, length-drop, length-map, length-replicate, take-take, take_all, take_at, drop_at, drop-take, drop_more, take-append-drop, get_or-take, get_or-drop, get_or-map, get_or_append_left, get_or-append_right, get_or-replicate, get_or_default, ext_get_or}
+use Rattle.std.proofs.lemmas.List.{length-append, length-take-le, length-drop, length-map, length-replicate, take-take, take_all, take_at, drop_at, drop-take, drop_more, take-append-drop, get_or-take, get_or-map, get_or_append_left, get_or-append_right, get_or-replicate, get_or_default, ext_get_or}
 use Rattle.std.proofs.lemmas.List.Elements.{All-nil, All-append, All-map, All-take, All-drop}
 use Rattle.collection_model.specs.FormatNumbers.{format_one}
 use Rattle.bit_words.specs.Bits.{bits_of, padding, padded, words_of, AreBits}
 use Rattle.bit_words.specs.Laws.{BitsOfAppended, WordsOfBits, WordsOfPadded}
+use Rattle.bit_words.proofs.Value.{length-bits_of}
+use Rattle.bit_words.proofs.Pieces.{StandAt, stands-both, stands-at}
+use Rattle.bit_words.proofs.Numbers.{rises}
 use Rattle.part_cost.specs.Payload.{payload}
 use Rattle.part_cost.specs.Span.{past, universe, payload_of_part, relative_values, AreRelative}
 use Rattle.part_cost.specs.Partition.{IsPartitionFrom}
 use Rattle.part_cost.specs.Stored.{HoldsPart}
+use Rattle.part_cost.proofs.Parts.{past-at}
 use Rattle.part_codec.specs.PartBits.{part_bits}
 use Rattle.two_level.specs.SequenceWords.{directory_from, payload_from, BeginsSequence}
 use Rattle.two_level.specs.SequenceFault.{stated_last, stated_end, end_before, past_before, stated_count, stated_universe, payload_before, word_behind, first_bit, parts_fit, IsPartStored, PassChecks}
 use Rattle.two_level.proofs.Lengths.{PartLaws, bits-payload}
-use Rattle.two_level.proofs.Pieces.{StandAt, stands-both, length-bits_of}
-use Rattle.two_level.proofs.Writing.{past-at}
 use Rattle.two_level.proofs.Follows.{FollowsAt, follows-at, true-same}
-
--- rising values, one behind the other
-pub rises-by : (ys : List ℕ) → IsStrictlyIncreasing ys → (k d : ℕ) → k + d < length ys → get_or ys k 0 + d ≤ get_or ys (k + d) 0
-rises-by ys up k zero lt = omega (arith, ap (λ i. get_or ys i 0) (let e : k + 0 ≡ k = omega arith in e))
-rises-by ys up k (suc d) lt =
-    omega (arith, rises-by ys up k d (omega (arith, lt)), up (k + d) (omega (arith, lt)), ap (λ i. get_or ys i 0) (let e : k + d + 1 ≡ k + suc d = omega arith in e))
 
 -- a list that rises, and another whose values lie past it
 pub rises-append : (xs ys : List ℕ) → IsStrictlyIncreasing xs → IsStrictlyIncreasing ys → ((k : ℕ) → k < length ys → past xs (length xs) ≤ get_or ys k 0) → IsStrictlyIncreasing (xs ++ ys)
@@ -43,7 +39,7 @@ rises-append xs ys up rise past_all k lt =
                   arith,
                   get_or_append_left xs ys 0 k here,
                   get_or-append_right xs ys n (k + 1) 0 refl more,
-                  past-at xs n (λ e. tt) (omega (arith, here)),
+                  past-at xs n (omega (arith, here)),
                   ap (λ i. get_or xs i 0) same,
                   past_all (k + 1 - n) (omega (arith, long, more)),
                 )
@@ -87,8 +83,7 @@ pub record Front (words : List ℕ) (bound q : ℕ) (pre : List ℕ) : Type 0 wh
 -- a relative value is below the universe
 pub below-universe : (u m : ℕ) (ys : List ℕ) → AreRelative u m ys → (k : ℕ) → k < length ys → get_or ys k 0 + 1 ≤ u
 below-universe u m ys r k lt =
-    let place : k + (m - 1 - k) ≡ m - 1 = omega (arith, lt, r.count) in
-    omega (arith, rises-by ys r.rising k (m - 1 - k) (omega (arith, lt, r.count)), ap (λ i. get_or ys i 0) place, r.last)
+    omega (arith, rises ys r.rising k (m - 1) (omega (arith, lt, r.count)) (omega (arith, lt, r.count)), r.last)
 
 -- one part more
 pub front-more : (words : List ℕ) (parts m bound q : ℕ) (pre ys : List ℕ) → Front words bound q pre → FollowsAt words parts m bound q
@@ -106,7 +101,7 @@ front-more words parts m bound q pre ys f k r =
           let back : length (pre ++ zs) - 1 - n ≡ length ys - 1 = omega (arith, length-append pre zs, length-map ys (λ y. y + p), some) in
           omega (
             arith,
-            past-at (pre ++ zs) (length (pre ++ zs)) (λ e. tt) (omega (arith, whole, k.up)),
+            past-at (pre ++ zs) (length (pre ++ zs)) (omega (arith, whole, k.up)),
             get_or-append_right pre zs n (length (pre ++ zs) - 1) 0 refl (omega (arith, length-append pre zs, length-map ys (λ y. y + p), some)),
             ap (λ i. get_or zs i 0) back,
             shifted-at p ys (length ys - 1) (omega (arith, some)),
@@ -242,10 +237,6 @@ build laws words parts m bound fits fit (suc n) q e pre f =
     built-more laws words parts m bound q pre stored.0 fits (omega (arith, fit.room, lt)) f k stored.1
     (build laws words parts m bound fits fit n (suc q) (omega (arith, e)) (pre ++ map (λ y. y + past_before format_one words 0 q) stored.0) next)
 
--- a bit of a piece
-pub piece-at : (bits : List ℕ) (at : ℕ) (piece : List ℕ) (i : ℕ) → StandAt bits at piece → i < length piece → get_or bits (at + i) 0 ≡ get_or piece i 0
-piece-at bits at piece i h lt = sym (get_or-drop at bits i 0) ∙ sym (get_or-take (length piece) (drop at bits) i 0 lt) ∙ ap (λ xs. get_or xs i 0) h
-
 -- words with this payload and zeros behind it
 pub payload-words : PartLaws → BitsOfAppended → WordsOfBits → WordsOfPadded → (words before tail behind bits : List ℕ) → words ≡ before ++ (tail ++ behind)
     → AreBits bits → All (λ w. w < 2 ^ 64) tail → length tail ≡ (length bits + 63) / 64 → StandAt (bits_of words) (64 * length before) bits
@@ -265,7 +256,7 @@ payload-words laws appended back filled words before tail behind bits split are 
     ext_get_or 0 (bits_of tail) (padded bits) (long ∙ sym (length-append bits (replicate k 0) ∙ ap (λ v. length bits + v) (length-replicate {A = ℕ} k 0)))
     (λ i lt.
     elim (cases_lt i (length bits)) [
-      | inl less ↦ at i lt ∙ piece-at (bits_of words) base bits i stands less ∙ sym (get_or_append_left bits (replicate k 0) 0 i less)
+      | inl less ↦ at i lt ∙ stands-at (bits_of words) base bits i stands less ∙ sym (get_or_append_left bits (replicate k 0) 0 i less)
       | inr more ↦
           at i lt ∙ zeros (base + i) (omega (arith, more)) (omega (arith, lt, length-bits_of tail))
           ∙ sym (get_or-append_right bits (replicate k 0) (length bits) i 0 refl more ∙ get_or-replicate k (i - length bits) 0 0 (omega (arith, lt, long, more)))

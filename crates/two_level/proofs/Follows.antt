@@ -1,11 +1,13 @@
 use Rattle.std.proofs.Common.{◌≡◌, ℕ, zero, suc, ◌+◌, ◌-◌, ◌*◌, ◌/◌, ◌%◌, ◌^◌, ◌<◌, ◌≤◌, Bool, true, false, List, [], ◌∷◌, ◌++◌, length, take, drop, replicate, get_or, refl, inl, inr, sym, ap, ◌∙◌, subst, arith}
 use Rattle.std.specs.Prelude.{◌||◌, ◌&&◌, ◌==◌, not, nat_le, nat_lt, MatchBool}
 use Rattle.std.specs.List.{All}
+use Rattle.std.proofs.lemmas.Bool.{both_ways}
 use Rattle.std.proofs.lemmas.Bool.Decides.{nat_tests}
 use Rattle.std.proofs.lemmas.List.{length-replicate, get_or-append_right, get_or_append_left, get_or-replicate, length-take-le}
 use Rattle.collection_model.specs.FormatNumbers.{format_one}
 use Rattle.bit_words.specs.Bits.{bits_of, padding, words_of, HasNoOne}
 use Rattle.bit_words.specs.Laws.{BitsOfAppended, BitsOfWords}
+use Rattle.bit_words.proofs.Value.{length-bits_of}
 use Rattle.part_cost.specs.Span.{past, universe, payload_of_part, relative_values}
 use Rattle.part_cost.specs.Partition.{IsPartitionFrom, cost_from}
 use Rattle.part_cost.specs.Stored.{HoldsPart}
@@ -15,7 +17,6 @@ use Rattle.two_level.specs.declared.check.Check.TheVariants.{K6, K7, K8, K9}
 use Rattle.two_level.specs.SequenceWords.{directory_from, payload_from, BeginsSequence}
 use Rattle.two_level.specs.SequenceFault.{OrElse, FirstOf, stated_last, stated_end, stated_offset, end_before, past_before, stated_count, stated_universe, payload_before, word_behind, first_bit, parts_fit, cannot_follow, entry_breaks, IsPartStored, PassChecks, IsSequenceFault}
 use Rattle.two_level.proofs.Lengths.{PartLaws, AreValues, ends-within, length-payload, bits-payload, length-directory, length-sequence}
-use Rattle.two_level.proofs.Pieces.{length-bits_of}
 use Rattle.two_level.proofs.Stated.{EntryIs, StandsFrom, past-part, past-bounded, entry-is, stands-next, payload-all, holds-part, split-bits, values-of, begins-split, stands-whole}
 
 -- tests that are false
@@ -167,16 +168,12 @@ match-false false P Q e h = h
 pub front-test : (words : List ℕ) (parts m : ℕ) → parts_fit m parts ≡ true → 2 * parts ≤ length words → (not (parts_fit m parts) || nat_lt (length words) (2 * parts)) ≡ false
 front-test words parts m h k = or-both (not (parts_fit m parts)) (nat_lt (length words) (2 * parts)) (false-not (parts_fit m parts) h) (false-lt (length words) (2 * parts) k)
 
-pub differ : (b : Bool) → b ≡ true → b ≡ false → ⊥
-differ true h k = cc
-differ false h k = cc
-
 pub no-fault : (words : List ℕ) (parts m bound : ℕ) (check : Check) (part : ℕ) → PassChecks words parts m bound → IsSequenceFault format_one words parts m bound check part → ⊥
 no-fault words parts m bound check part fit h =
     let first : EntriesStep words parts m bound check part =
     unmatch (not (parts_fit m parts) || nat_lt (length words) (2 * parts)) ((check ≡ K6) × (part ≡ 0)) (EntriesStep words parts m bound check part) (front-test words parts m fit.parts_are fit.room) h in
     elim first [
-      | inl (q, lt, breaks, before, found) ↦ differ (entry_breaks format_one words 0 parts m bound q) breaks (fit.entries q lt)
+      | inl (q, lt, breaks, before, found) ↦ both_ways (entry_breaks format_one words 0 parts m bound q) (fit.entries q lt) breaks
       | inr (none, later) ↦
           let parts_step : PartsStep words parts check part =
           unmatch (nat_lt (length words) (word_behind format_one words 0 parts)) (Found check part K7 parts) (PartsStep words parts check part) (false-lt (length words) (word_behind format_one words 0 parts) fit.within) later in

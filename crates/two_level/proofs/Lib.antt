@@ -1,5 +1,4 @@
 pub mod Lengths
-pub mod Pieces
 pub mod Stated
 pub mod Writing
 pub mod Follows

@@ -1,6 +1,6 @@
 use Rattle.std.proofs.Common.{◌≡◌, ℕ, zero, suc, ◌+◌, ◌-◌, ◌*◌, ◌^◌, ◌<◌, ◌≤◌, List, [], ◌∷◌, length, take, drop, get_or, slice_index, refl, sym, ap, ◌∙◌, subst, arith, add-one}
 use Rattle.std.specs.List.{slice_range}
-use Rattle.std.proofs.lemmas.List.{length-take-le, length-drop, get_or-take, get_or-drop, get_or-map}
+use Rattle.std.proofs.lemmas.List.{length-take-le, length-drop, length-map, get_or-take, get_or-drop, get_or-map}
 use Rattle.std.proofs.lemmas.List.FromFn.{get_or-map-range_with_len}
 use Rattle.collection_model.specs.FormatNumbers.{format_one}
 use Rattle.bit_words.specs.Bits.{bits_of}
@@ -8,10 +8,13 @@ use Rattle.bit_words.specs.Laws.{BitsOfAppended, BitsOfWords}
 use Rattle.part_cost.specs.Payload.{payload}
 use Rattle.part_cost.specs.Span.{past, universe, relative_values, payload_of_part}
 use Rattle.part_cost.specs.Partition.{cost_from}
-use Rattle.part_cost.specs.Stored.{HoldsPart}
+use Rattle.part_cost.specs.Stored.{HoldsPart, IsFirstAtLeast}
 use Rattle.part_codec.specs.PartBits.{part_bits}
 use Rattle.two_level.specs.SequenceFault.{stated_last, stated_end, stated_offset, end_before, past_before, stated_count, stated_universe, payload_before, word_behind, first_bit, PassChecks}
 use Rattle.two_level.specs.SequenceView.{SequenceView, BeginWith, sequence_stated, words_used, start_of_part, IsPartOf}
+use Rattle.two_level.specs.SequenceParts.{StatesPart, Restores, HoldsValues}
+use Rattle.two_level.specs.declared.held.HeldPart.{HeldPart}
+use Rattle.two_level.specs.Laws.{DirectoryStates}
 use Rattle.two_level.specs.declared.part.Part.{Part}
 use Rattle.two_level.proofs.Lengths.{PartLaws, AreValues, ends-within, length-sequence}
 use Rattle.two_level.proofs.Stated.{EntryIs, StandsFrom, past-part, past-bounded, entry-is, stands-next, payload-all, holds-part, values-of, stands-whole}
@@ -54,26 +57,9 @@ restored-at laws xs v i end k h fit =
     let above : past xs i < past xs (suc (i + k)) = past-part laws xs v i (suc (i + k)) (omega arith) (omega arith) in
     omega (arith, get_or-map (λ x. x - past xs i) part k 0 0 short, at, above)
 
--- what is known of part q of a sequence with which words begin
-pub record PartIs (words xs : List ℕ) (parts q : ℕ) : Type 0 where
-  pub directory : 2 * parts ≤ length words
-  pub some : end_before format_one words 0 q < stated_end format_one words 0 q
-  pub within : stated_end format_one words 0 q ≤ length xs
-  pub entry : EntryIs words xs q (end_before format_one words 0 q) (stated_end format_one words 0 q)
-  pub past_is : past_before format_one words 0 q ≡ past xs (end_before format_one words 0 q)
-  pub room : stated_end format_one words 0 q - end_before format_one words 0 q ≤ stated_last format_one words 0 q + 1 - past_before format_one words 0 q
-  pub above : past_before format_one words 0 q ≤ stated_last format_one words 0 q
-  pub in_range : stated_last format_one words 0 q < 2 ^ 36
-  pub payload_rises : payload_before format_one words 0 (suc q) ≤ payload_before format_one words 0 parts
-  pub place : 128 * parts + payload_before format_one words 0 parts ≤ 64 * length words
-  pub small : (k : ℕ) → k < length xs → slice_index xs k < 2 ^ 36
-  pub held : HoldsPart part_bits (bits_of words) (first_bit format_one 0 parts + payload_before format_one words 0 q) (stated_universe format_one words 0 q) (stated_count format_one words 0 q)
-      (relative_values xs (end_before format_one words 0 q) (stated_end format_one words 0 q))
-  pub values : (j : ℕ) → end_before format_one words 0 q + j < stated_end format_one words 0 q
-      → slice_index (relative_values xs (end_before format_one words 0 q) (stated_end format_one words 0 q)) j + past_before format_one words 0 q ≡ slice_index xs (end_before format_one words 0 q + j)
-
-pub part-is : PartLaws → BitsOfAppended → BitsOfWords → (words : List ℕ) (parts m : ℕ) (v : SequenceView) → BeginWith words parts m v → (q : ℕ) → q < parts → PartIs words v.values parts q
-part-is laws appended filled words parts m v b q lt =
+-- entry q of words that begin with a sequence states its part
+pub states-part : PartLaws → BitsOfAppended → BitsOfWords → (words : List ℕ) (parts m : ℕ) (v : SequenceView) → BeginWith words parts m v → (q : ℕ) → q < parts → StatesPart words v.values parts q
+states-part laws appended filled words parts m v b q lt =
     let bound = b.0 in
     let used = b.1 in
     let begins = b.3 in
@@ -95,21 +81,20 @@ part-is laws appended filled words parts m v b q lt =
     let most : past xs end ≤ 2 ^ 36 = past-bounded laws (2 ^ 36) xs a.below end (omega arith) fit in
     let room : end - i ≤ universe xs i end = laws.room xs a.rising i end some fit in
     let held : HoldsPart part_bits (bits_of words) (base + payload_before format_one words 0 q) (universe xs i end) (end - i) (relative_values xs i end) = holds-part laws words xs a base q i end p.rest h in
+    let rises = payload-rises words (suc q) (parts - suc q) in
+    let all = ap (payload_before format_one words 0) (let e : suc q + (parts - suc q) ≡ parts = omega (arith, lt) in e) in
     record {
-      directory = pass.room;
       some = some;
       within = fit;
-      entry = k;
-      past_is = h.begins;
+      before = h.begins;
+      last = k.lasts;
+      offset = k.offsets;
       room = omega (arith, k.lasts, h.begins, room);
       above = omega (arith, k.lasts, h.begins, less);
-      in_range = omega (arith, k.lasts, most);
-      payload_rises = omega (arith, payload-rises words (suc q) (parts - suc q), ap (payload_before format_one words 0) (let e : suc q + (parts - suc q) ≡ parts = omega (arith, lt) in e));
-      place = omega (arith, pass.within);
-      small = λ k lt. a.below k 0 lt;
+      place = omega (arith, pass.within, rises, all);
       held =
           subst (λ u. HoldsPart part_bits (bits_of words) (base + payload_before format_one words 0 q) u (end - i) (relative_values xs i end)) (sym k.universes) held;
-      values = λ j less. ap (λ n. slice_index (relative_values xs i end) j + n) h.begins ∙ restored-at laws xs a i end j less fit;
+      restored = λ j less. ap (λ n. slice_index (relative_values xs i end) j + n) h.begins ∙ restored-at laws xs a i end j less fit;
     }
 
 -- the ends that words state, by index
@@ -136,49 +121,28 @@ used-is laws appended filled words parts m v b =
     let same : payload_before format_one words 0 parts ≡ cost_from (payload_of_part xs) 0 v.ends = omega (arith, total, ap (payload_before format_one words 0) count) in
     omega (arith, length-sequence laws xs a v.ends whole.parts, same, s.parts_count)
 
--- the laws of the layers below, and that words begin with a sequence
-pub record Begun (words : List ℕ) (parts : ℕ) : Type 0 where
-  pub laws : PartLaws
-  pub appended : BitsOfAppended
-  pub filled : BitsOfWords
-  pub begun : (m : ℕ) × BeginWith words parts m (sequence_stated words parts)
-
-pub begun-part : (words : List ℕ) (parts : ℕ) → Begun words parts → (q : ℕ) → q < parts → PartIs words (sequence_stated words parts).values parts q
-begun-part words parts h q lt = part-is h.laws h.appended h.filled words parts h.begun.0 (sequence_stated words parts) h.begun.1 q lt
-
-pub begun-used : (words : List ℕ) (parts : ℕ) → Begun words parts → words_used (sequence_stated words parts) ≡ word_behind format_one words 0 parts
-begun-used words parts h = used-is h.laws h.appended h.filled words parts h.begun.0 (sequence_stated words parts) h.begun.1
-
 -- the payload up to behind a part
-pub payload-behind : (words : List ℕ) (parts q from past last to offset : ℕ) → suc q ≡ parts → from ≡ end_before format_one words 0 q → past ≡ past_before format_one words 0 q
+pub payload-behind : (words : List ℕ) (q parts from past last to offset : ℕ) → suc q ≡ parts → from ≡ end_before format_one words 0 q → past ≡ past_before format_one words 0 q
     → last ≡ stated_last format_one words 0 q → to ≡ stated_end format_one words 0 q → offset ≡ payload_before format_one words 0 q
     → offset + payload (last + 1 - past) (to - from) ≡ payload_before format_one words 0 parts
-payload-behind words parts q from past last to offset e f p l t o =
+payload-behind words q parts from past last to offset e f p l t o =
     bits-next words q from past last to (stated_offset format_one words 0 q) offset (record { before_is = f; past_is = p }) (record { last_is = l; end_is = t; offset_is = refl }) o
     ∙ ap (payload_before format_one words 0) (let k : q + 1 ≡ parts = omega (arith, e) in k)
 
 -- what a part of the sequence is
-pub part-of : (words : List ℕ) (parts : ℕ) → Begun words parts → (q : ℕ) → q < parts → (part : Part) → part.from ≡ end_before format_one words 0 q → part.to ≡ stated_end format_one words 0 q
-    → part.last ≡ stated_last format_one words 0 q → part.u ≡ stated_universe format_one words 0 q → IsPartOf (sequence_stated words parts) q part
-part-of words parts h q lt part f t l u =
+pub part-of : (words : List ℕ) (parts q : ℕ) → q < parts → StatesPart words (sequence_stated words parts).values parts q → (part : Part) → part.from ≡ end_before format_one words 0 q
+    → part.to ≡ stated_end format_one words 0 q → part.last ≡ stated_last format_one words 0 q → part.u ≡ stated_universe format_one words 0 q → IsPartOf (sequence_stated words parts) q part
+part-of words parts q lt p part f t l u =
     let xs : List ℕ = (sequence_stated words parts).values in
-    let p : PartIs words xs parts q = begun-part words parts h q lt in
+    let universe_is : stated_universe format_one words 0 q ≡ universe xs (end_before format_one words 0 q) (stated_end format_one words 0 q) = omega (arith, p.last, p.before) in
     record {
       start = f ∙ sym (stated-start words parts q lt);
       end = t ∙ sym (stated-ends words parts q lt);
-      last = ap (λ n. n + 1) l ∙ p.entry.lasts ∙ ap (past xs) (sym t);
-      universe_of_part = u ∙ p.entry.universes ∙ ap (λ n. universe xs n (stated_end format_one words 0 q)) (sym f) ∙ ap (universe xs part.from) (sym t);
+      last = ap (λ n. n + 1) l ∙ p.last ∙ ap (past xs) (sym t);
+      universe_of_part = u ∙ universe_is ∙ ap (λ n. universe xs n (stated_end format_one words 0 q)) (sym f) ∙ ap (universe xs part.from) (sym t);
     }
 
--- a place before the end of the last part
-pub some-part : (words : List ℕ) (parts place : ℕ) → place < end_before format_one words 0 parts → 1 ≤ parts
-some-part words zero place h = absurd (omega (arith, h))
-some-part words (suc q) place h = omega arith
-
-pub last-part : (words : List ℕ) (parts place : ℕ) → place < end_before format_one words 0 parts → place < stated_end format_one words 0 (parts - 1)
-last-part words zero place h = absurd (omega (arith, h))
-last-part words (suc q) place h = subst (λ n. place < stated_end format_one words 0 n) (let e : q ≡ suc q - 1 = omega arith in e) h
-
+-- the part behind begins where this one ends
 pub end-before-next : (words : List ℕ) (q : ℕ) → end_before format_one words 0 (q + 1) ≡ stated_end format_one words 0 q
 end-before-next words q = ap (end_before format_one words 0) (add-one q)
 
@@ -186,41 +150,63 @@ end-whole : (words : List ℕ) (parts m bound : ℕ) → PassChecks words parts 
 end-whole words zero m bound pass ends none count = sym (none count)
 end-whole words (suc q) m bound pass ends none count = (follows-at words (suc q) m bound q (pass.entries q (omega arith))).whole (true-same (q + 1) (suc q) (omega arith))
 
--- all parts end behind the last value
-pub begun-end : (words : List ℕ) (parts : ℕ) → Begun words parts → end_before format_one words 0 parts ≡ length (sequence_stated words parts).values
-begun-end words parts h =
-    let m = h.begun.0 in
-    let b = h.begun.1 in
-    let bound = b.0 in
-    let s = b.3.sequence in
-    let v : SequenceView = sequence_stated words parts in
-    let pass : PassChecks words parts m bound = fits-begun h.laws h.appended h.filled m bound parts b.1 v.values v.ends words b.2 b.3 in
-    end-whole words parts m bound pass v.ends (some-parts m v.ends s.partition) s.parts_count ∙ sym s.count
-
-pub begun-room : (words : List ℕ) (parts : ℕ) → Begun words parts → 2 * parts ≤ length words
-begun-room words parts h =
-    let b = h.begun.1 in
-    let v : SequenceView = sequence_stated words parts in
-    let pass : PassChecks words parts h.begun.0 b.0 = fits-begun h.laws h.appended h.filled h.begun.0 b.0 parts b.1 v.values v.ends words b.2 b.3 in
-    pass.room
-
 -- the values that stand where a part is said to stand
-pub held-here : (words xs : List ℕ) (parts q from past last to offset : ℕ) → PartIs words xs parts q → from ≡ end_before format_one words 0 q → past ≡ past_before format_one words 0 q
+pub held-here : (words xs : List ℕ) (parts q from past last to offset : ℕ) → StatesPart words xs parts q → from ≡ end_before format_one words 0 q → past ≡ past_before format_one words 0 q
     → last ≡ stated_last format_one words 0 q → to ≡ stated_end format_one words 0 q → offset ≡ payload_before format_one words 0 q
-    → HoldsPart part_bits (bits_of words) (128 * parts + offset) (last + 1 - past) (to - from) (relative_values xs (end_before format_one words 0 q) (stated_end format_one words 0 q))
+    → HoldsPart part_bits (bits_of words) (128 * parts + offset) (last + 1 - past) (to - from) (relative_values xs from to)
 held-here words xs parts q from past last to offset p f b l t o =
-    let ys : List ℕ = relative_values xs (end_before format_one words 0 q) (stated_end format_one words 0 q) in
     let place : first_bit format_one 0 parts + payload_before format_one words 0 q ≡ 128 * parts + offset = omega (arith, o) in
     let universe_is : stated_universe format_one words 0 q ≡ last + 1 - past = omega (arith, l, b) in
     let count_is : stated_count format_one words 0 q ≡ to - from = omega (arith, t, f) in
-    subst (λ n. HoldsPart part_bits (bits_of words) n (last + 1 - past) (to - from) ys) place
-    (subst (λ n. HoldsPart part_bits (bits_of words) (first_bit format_one 0 parts + payload_before format_one words 0 q) n (to - from) ys) universe_is
-    (subst (λ n. HoldsPart part_bits (bits_of words) (first_bit format_one 0 parts + payload_before format_one words 0 q) (stated_universe format_one words 0 q) n ys) count_is p.held))
+    let values_are : relative_values xs (end_before format_one words 0 q) (stated_end format_one words 0 q) ≡ relative_values xs from to =
+    ap (λ n. relative_values xs n (stated_end format_one words 0 q)) (sym f) ∙ ap (relative_values xs from) (sym t) in
+    subst (λ n. HoldsPart part_bits (bits_of words) n (last + 1 - past) (to - from) (relative_values xs from to)) place
+    (subst (λ n. HoldsPart part_bits (bits_of words) (first_bit format_one 0 parts + payload_before format_one words 0 q) n (to - from) (relative_values xs from to)) universe_is
+    (subst (λ n. HoldsPart part_bits (bits_of words) (first_bit format_one 0 parts + payload_before format_one words 0 q) (stated_universe format_one words 0 q) n (relative_values xs from to)) count_is
+    (subst (HoldsPart part_bits (bits_of words) (first_bit format_one 0 parts + payload_before format_one words 0 q) (stated_universe format_one words 0 q) (stated_count format_one words 0 q)) values_are p.held)))
 
-pub value-here : (words xs : List ℕ) (parts q place from past : ℕ) → PartIs words xs parts q → from ≡ end_before format_one words 0 q → past ≡ past_before format_one words 0 q → from ≤ place
-    → place < stated_end format_one words 0 q
-    → slice_index (relative_values xs (end_before format_one words 0 q) (stated_end format_one words 0 q)) (place - from) + past ≡ slice_index xs place
-value-here words xs parts q place from past p f b le lt =
-    let ys : List ℕ = relative_values xs (end_before format_one words 0 q) (stated_end format_one words 0 q) in
-    ap (λ n. slice_index ys (place - from) + n) b ∙ p.values (place - from) (omega (arith, f, le, lt))
-    ∙ ap (slice_index xs) (let e : end_before format_one words 0 q + (place - from) ≡ place = omega (arith, f, le) in e)
+pub restored-here : (words xs : List ℕ) (parts q from past to : ℕ) → StatesPart words xs parts q → from ≡ end_before format_one words 0 q → past ≡ past_before format_one words 0 q
+    → to ≡ stated_end format_one words 0 q → Restores xs from to past
+restored-here words xs parts q from past to p f b t =
+    subst (Restores xs from to) (sym b)
+    (subst (λ n. Restores xs from n (past_before format_one words 0 q)) (sym t)
+    (subst (λ n. Restores xs n (stated_end format_one words 0 q) (past_before format_one words 0 q)) (sym f) p.restored))
+
+-- the first number of a part that is large enough is the first value there
+pub first-here : (part : HeldPart) (xs : List ℕ) → HoldsValues part xs → (place x least number : ℕ) → part.from ≤ place → least ≡ x - part.past
+    → IsFirstAtLeast (relative_values xs part.from part.to) (place - part.from) least number → IsFirstAtLeast xs place x (part.from + number)
+first-here part xs h place x least number after l first =
+    let from : ℕ = part.from in
+    let ys : List ℕ = relative_values xs from part.to in
+    let count : length ys ≡ part.to - from =
+    length-map (slice_range xs from part.to) (λ y. y - past xs from) ∙ length-take-le (part.to - from) (drop from xs) (omega (arith, length-drop from xs, h.within)) in
+    let lt : from + number < part.to = omega (arith, first.within, count) in
+    let value = h.restored number lt in
+    record {
+      at_or_after = omega (arith, first.at_or_after, after);
+      within = omega (arith, lt, h.within);
+      at_least = omega (arith, value, first.at_least, l);
+      first =
+          λ k le less.
+          let small = first.first (k - from) (omega (arith, le, after)) (omega (arith, le, after, less)) in
+          let here = h.restored (k - from) (omega (arith, le, after, less, lt)) in
+          let same : slice_index xs (from + (k - from)) ≡ slice_index xs k = ap (slice_index xs) (let e : from + (k - from) ≡ k = omega (arith, le, after) in e) in
+          omega (arith, here, same, small, l);
+    }
+
+-- the directory of words that begin with a sequence states its parts
+pub directory-states : PartLaws → BitsOfAppended → BitsOfWords → DirectoryStates
+directory-states laws appended filled words parts m b =
+    let bound = b.0 in
+    let s = b.3.sequence in
+    let v : SequenceView = sequence_stated words parts in
+    let a : AreValues v.values = values-of m bound parts v.values v.ends (take b.1 words) b.2 s in
+    let pass : PassChecks words parts m bound = fits-begun laws appended filled m bound parts b.1 v.values v.ends words b.2 b.3 in
+    record {
+      rising = a.rising;
+      below = a.below;
+      room = pass.room;
+      end = end-whole words parts m bound pass v.ends (some-parts m v.ends s.partition) s.parts_count ∙ sym s.count;
+      used = used-is laws appended filled words parts m v b;
+      part = states-part laws appended filled words parts m v b;
+    }

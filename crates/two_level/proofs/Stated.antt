@@ -5,6 +5,8 @@ use Rattle.std.proofs.lemmas.List.Folds.{drop_split}
 use Rattle.collection_model.specs.FormatNumbers.{format_one}
 use Rattle.bit_words.specs.Bits.{AreBits, bits_of, padding, words_of}
 use Rattle.bit_words.specs.Laws.{BitsOfAppended, BitsOfWords}
+use Rattle.bit_words.proofs.Value.{length-bits_of}
+use Rattle.bit_words.proofs.Pieces.{StandAt, stands-first, stands-second, stands-between}
 use Rattle.part_cost.specs.Payload.{payload}
 use Rattle.part_cost.specs.Span.{past, universe, payload_of_part, relative_values}
 use Rattle.part_cost.specs.Partition.{IsPartitionFrom, cost_from}
@@ -17,7 +19,6 @@ use Rattle.two_level.specs.SequenceFault.{stated_last, stated_end, stated_offset
 use Rattle.two_level.specs.SequenceView.{SequenceView, ends_stated, part_stated, sequence_stated}
 use Rattle.two_level.specs.Laws.{OneSequence, WordsState}
 use Rattle.two_level.proofs.Lengths.{PartLaws, AreValues, ends-within, part-takes, bits-payload, length-directory}
-use Rattle.two_level.proofs.Pieces.{StandAt, stands-first, stands-second, stands-between, length-bits_of}
 
 -- entry q stands at the front of the words from its place on
 pub record DirectoryAt (words : List ℕ) (q : ℕ) (directory : List ℕ) : Type 0 where

@@ -1,35 +1,15 @@
-use Rattle.std.proofs.Common.{◌≡◌, ℕ, zero, suc, ◌+◌, ◌-◌, ◌*◌, ◌/◌, ◌^◌, ◌<◌, ◌≤◌, min, cond, true, false, List, [], ◌∷◌, ◌++◌, length, take, drop, map, get_or, slice_index, sym, ap, ◌∙◌, subst, arith, append_assoc}
-use Rattle.std.specs.Prelude.{◌==◌}
+use Rattle.std.proofs.Common.{◌≡◌, ℕ, zero, suc, ◌+◌, ◌-◌, ◌*◌, ◌^◌, ◌<◌, ◌≤◌, List, [], ◌∷◌, ◌++◌, length, take, drop, map, get_or, sym, ap, ◌∙◌, subst, arith, append_assoc}
 use Rattle.std.specs.List.{All, slice_range}
 use Rattle.std.specs.List.Sorted.{IsStrictlyIncreasing}
 use Rattle.std.proofs.lemmas.List.{length-append, length-take-le, length-drop, append-nil, drop_more, drop_all, get_or-take, get_or-drop, take_more, map-append}
-use Rattle.std.proofs.lemmas.Nat.{mul-le}
-use Rattle.std.proofs.Math.Nat.{min-le_right}
 use Rattle.collection_model.specs.FormatNumbers.{format_one}
-use Rattle.part_cost.specs.Payload.{digits, bitmap_spacing, ef_payload, bitmap_payload, payload}
 use Rattle.part_cost.specs.Span.{past, universe, payload_of_part, relative_values, AreRelative}
 use Rattle.part_cost.specs.Partition.{IsPartitionFrom, cost_from}
 use Rattle.part_cost.specs.Laws.{PartHasRoom, PartIsWithin, PartIsRelative}
 use Rattle.part_codec.specs.PartBits.{part_bits}
+use Rattle.part_cost.proofs.Growth.{payload-short}
 use Rattle.two_level.specs.SequenceWords.{directory_from, payload_from}
 use Rattle.two_level.proofs.Lengths.{PartLaws, AreValues, ends-within, length-payload}
-
--- a part takes at most two bits for each of its places
-pub payload-at_most : (u m : ℕ) → payload u m ≤ 2 * u
-unfolding payload bitmap_payload
-payload-at_most u m =
-    elim (m == u) as (λ b. cond b 0 (min (ef_payload u m) (bitmap_payload u m)) ≤ 2 * u) [
-      | true ↦ omega arith
-      | false ↦
-          let samples : (u - 1) / bitmap_spacing * digits m ≤ (u - 1) / bitmap_spacing * 64 =
-          mul-le ((u - 1) / bitmap_spacing) (digits m) ((u - 1) / bitmap_spacing) 64 (omega arith) (omega arith) in
-          omega (arith, min-le_right (ef_payload u m) (bitmap_payload u m), samples)
-    ]
-
--- one more than the value before a place that is not the first
-pub past-at : (xs : List ℕ) (j : ℕ) → (j ≡ 0 → Unit {0}) → 0 < j → past xs j ≡ slice_index xs (j - 1) + 1
-past-at xs zero _ h = absurd (omega arith)
-past-at xs (suc k) _ h = ap (λ x. slice_index xs x + 1) (let e : k ≡ suc k - 1 = omega arith in e)
 
 -- a part ends past the value before it, and no further than the bound
 pub past-less : PartHasRoom → (xs : List ℕ) → IsStrictlyIncreasing xs → (i end : ℕ) → i < end → end ≤ length xs → past xs i + (end - i) ≤ past xs end
@@ -104,7 +84,7 @@ pub payloads-at_most : PartHasRoom → (xs : List ℕ) → IsStrictlyIncreasing 
 payloads-at_most room xs up i [] h = omega (arith, ap (past xs) h)
 payloads-at_most room xs up i (end ∷ ends) h =
     let fit : end ≤ length xs = ends-within end (length xs) ends h.1 in
-    omega (arith, payload-at_most (universe xs i end) (end - i), past-less room xs up i end h.0 fit, payloads-at_most room xs up end ends h.1)
+    omega (arith, payload-short (universe xs i end) (end - i), past-less room xs up i end h.0 fit, payloads-at_most room xs up end ends h.1)
 
 -- so all bits of a sequence are few
 pub whole-short : PartLaws → (xs : List ℕ) → IsStrictlyIncreasing xs → All (λ x. x < 2 ^ 36) xs → (ends : List ℕ) → IsPartitionFrom 0 (length xs) ends → length (payload_from xs 0 ends) ≤ 2 ^ 37

@@ -6,7 +6,8 @@ use Rattle.part_cost.specs.Span.{cost_of_part}
 use Rattle.part_cost.specs.Partition.{IsPartition, partition_cost}
 use Rattle.two_level.specs.declared.check.Check.{Check}
 use Rattle.two_level.specs.SequenceWords.{sequence_words, BeginsSequence}
-use Rattle.two_level.specs.SequenceView.{SequenceView, sequence_stated}
+use Rattle.two_level.specs.SequenceView.{SequenceView, BeginWith, sequence_stated}
+use Rattle.two_level.specs.SequenceParts.{StatesParts}
 use Rattle.two_level.specs.SequenceFault.{word_behind, PassChecks, IsSequenceFault}
 
 -- Words begin with one sequence of m values in so many parts only, in one partition.
@@ -39,3 +40,8 @@ abbrev pub WordsState : Type 0
 WordsState =
     (m bound parts used : ℕ) (v : SequenceView) (words : List ℕ) → bound ≤ format_one.most_sum
     → BeginsSequence format_one m bound parts v.values v.ends words used → sequence_stated words parts ≡ v
+
+-- The directory of words that begin with a sequence states its parts.
+abbrev pub DirectoryStates : Type 0
+DirectoryStates =
+    (words : List ℕ) (parts m : ℕ) → BeginWith words parts m (sequence_stated words parts) → StatesParts words parts (sequence_stated words parts)

@@ -1,27 +1,31 @@
 ghost use Rattle.std.specs.Prelude.{◌≡◌, ℕ, ◌≤◌, ◌<◌, ◌+◌, length, slice_index};
 ghost use Rattle.two_level.specs.SequenceView.{place_at_least};
 
-use crate::finding::{place_from, value_at};
+use crate::held::{HeldPart, first_from_part, hold_if_any, hold_place};
+use crate::laws::directory_states_its_parts;
 use std::marker::Model;
 
-/// A place in a sequence, which may be its end.
+/// A place in a sequence, which may be its end. The part in which it lies is held, so that the values of a part are read
+/// one after another without a search of the directory.
 #[derive(Drop)]
 pub struct SeqCursor<'a> {
     words: &'a [u64],
     parts: u32,
     m: u32,
     place: u32,
+    held: Option<HeldPart<'a>>,
 }
 
 impl<'a> Model for SeqCursor<'a> {
-    ghost use Rattle.std.specs.Prelude.{◌≤◌, ◌<◌, ◌^◌, length};
+    ghost use Rattle.std.specs.Prelude.{◌<◌, ◌^◌, length};
     ghost use Rattle.two_level.specs.SequenceView.{SequencePlace, BeginWith, sequence_stated};
+    ghost use Rattle.two_level.specs.SequenceParts.{LiesIn};
 
     ghost Value = { SequencePlace };
 
     ghost view = { λ c. record { sequence = sequence_stated c.words.now c.parts; place = c.place } };
 
-    ghost invariant = { λ c. BeginWith c.words.now c.parts c.m (sequence_stated c.words.now c.parts) × (length c.words.now < 2 ^ 57) × (c.place ≤ c.m) };
+    ghost invariant = { λ c. BeginWith c.words.now c.parts c.m (sequence_stated c.words.now c.parts) × (length c.words.now < 2 ^ 57) × LiesIn c.words.now c.parts c.place c.held };
 }
 
 impl<'a> SeqCursor<'a> {
@@ -35,11 +39,13 @@ impl<'a> SeqCursor<'a> {
         ensures sequence { result.sequence ≡ sequence_stated words.entry.now parts }
         ensures start { result.place ≡ 0 }
     {
+        let held = hold_if_any(words, parts, 0);
         SeqCursor {
             words,
             parts,
             m,
             place: 0,
+            held,
         }
     }
 
@@ -55,7 +61,10 @@ impl<'a> SeqCursor<'a> {
         requires within { self.now.place < length self.now.sequence.values }
         ensures { result ≡ slice_index self.now.sequence.values self.now.place }
     {
-        value_at(self.words, self.parts, self.place)
+        match &self.held {
+            Some(part) => part.value(self.place),
+            None => unreachable!(),
+        }
     }
 
     /// Goes to the next place.
@@ -64,7 +73,13 @@ impl<'a> SeqCursor<'a> {
         ensures sequence { self.new.sequence ≡ self.old.sequence }
         ensures place { self.new.place ≡ self.old.place + 1 }
     {
+        let Some(part) = self.held else {
+            unreachable!()
+        };
         self.place += 1;
+        if !part.has(self.place) {
+            self.held = hold_if_any(self.words, self.parts, part.index + 1);
+        }
     }
 
     /// Goes to the first place at or after this one whose value is at least x, else to the end.
@@ -72,7 +87,21 @@ impl<'a> SeqCursor<'a> {
         ensures sequence { self.new.sequence ≡ self.old.sequence }
         ensures place { self.new.place ≡ place_at_least self.old.sequence.values self.old.place x }
     {
-        self.place = place_from(self.words, self.parts, self.m, self.place, x);
+        directory_states_its_parts();
+        let Some(part) = self.held else {
+            return;
+        };
+        if x <= part.last {
+            self.place = part.first_at_least(self.place, x);
+        } else {
+            (self.place, self.held) = first_from_part(
+                self.words,
+                self.parts,
+                self.m,
+                part.index + 1,
+                x,
+            );
+        }
     }
 
     /// Goes to place k, which may be the end.
@@ -81,6 +110,12 @@ impl<'a> SeqCursor<'a> {
         ensures sequence { self.new.sequence ≡ self.old.sequence }
         ensures place { self.new.place ≡ k }
     {
+        let held = self.held;
+        self.held = match held {
+            Some(part) if part.has(k) => held,
+            _ if k < self.m => Some(hold_place(self.words, self.parts, k)),
+            _ => None,
+        };
         self.place = k;
     }
 }

@@ -1,14 +1,12 @@
-ghost use Rattle.std.specs.Prelude.{◌≡◌, ℕ, ◌≤◌, ◌<◌, ◌+◌, ◌-◌, ◌*◌, ◌^◌, List, length, slice_index};
-ghost use Rattle.part_codec.specs.PartView.{Holds, count_of};
+ghost use Rattle.std.specs.Prelude.{◌≡◌, ℕ, ◌≤◌, ◌<◌, ◌+◌, ◌-◌, ◌*◌, ◌^◌, length};
 ghost use Rattle.collection_model.specs.FormatNumbers.{format_one};
 ghost use Rattle.two_level.specs.SequenceFault.{stated_last, stated_end, end_before, past_before, payload_before};
-ghost use Rattle.two_level.specs.SequenceView.{BeginWith, sequence_stated, words_used, IsPartOf, place_at_least};
+ghost use Rattle.two_level.specs.SequenceView.{BeginWith, sequence_stated, words_used, IsPartOf};
 
-use crate::entry::{ENTRY_BITS, ENTRY_WORDS, entry_at};
+use crate::entry::{ENTRY_WORDS, entry_at};
+use crate::laws::directory_states_its_parts;
 use crate::part::Part;
-use bit_words::{Bits, words_are_bits};
-use part_codec::{PartCodec, PartView, part_takes_its_payload};
-use part_cost::{part_is_relative, payload_bits};
+use part_cost::payload_bits;
 
 // Where a part stands: the places of its first value and behind its last, one past the value before it, its last value,
 // and the payload bits before it.
@@ -51,9 +49,7 @@ pub(crate) fn stretch_at(words: &[u64], parts: u32, part: u32) -> Stretch
     ensures room { result.to - result.from ≤ result.last + 1 - result.past }
     ensures place { 128 * parts + result.offset ≤ 64 * length words.now }
 {
-    words_are_bits();
-    part_takes_its_payload();
-    part_is_relative();
+    directory_states_its_parts();
     let entry = entry_at(words, part);
     let (from, past) = before_part(words, part);
     Stretch {
@@ -71,9 +67,7 @@ fn payload_taken(words: &[u64], parts: u32) -> u64
     requires begun { (m : ℕ) × BeginWith words.now parts m (sequence_stated words.now parts) }
     ensures { result ≡ payload_before format_one words.now 0 parts }
 {
-    words_are_bits();
-    part_takes_its_payload();
-    part_is_relative();
+    directory_states_its_parts();
     if parts == 0 {
         0
     } else {
@@ -88,9 +82,7 @@ pub(crate) fn words_taken(words: &[u64], parts: u32) -> u64
     requires begun { (m : ℕ) × BeginWith words.now parts m (sequence_stated words.now parts) }
     ensures { result ≡ words_used (sequence_stated words.now parts) }
 {
-    words_are_bits();
-    part_takes_its_payload();
-    part_is_relative();
+    directory_states_its_parts();
     ENTRY_WORDS * parts as u64 + payload_taken(words, parts).div_ceil(64)
 }
 
@@ -100,9 +92,7 @@ pub(crate) fn part_at(words: &[u64], parts: u32, part: u32) -> Part
     requires within { part < parts }
     ensures { IsPartOf (sequence_stated words.now parts) part result }
 {
-    words_are_bits();
-    part_takes_its_payload();
-    part_is_relative();
+    directory_states_its_parts();
     let stretch = stretch_at(words, parts, part);
     Part {
         from: stretch.from as u32,
@@ -113,8 +103,8 @@ pub(crate) fn part_at(words: &[u64], parts: u32, part: u32) -> Part
 }
 
 // The part in which a place lies.
-fn part_of_place(words: &[u64], parts: u32, place: u32) -> u32
-    requires room { 2 * parts ≤ length words.now }
+pub(crate) fn part_of_place(words: &[u64], parts: u32, place: u32) -> u32
+    requires room { format_one.entry_words * parts ≤ length words.now }
     requires within { place < end_before format_one words.now 0 parts }
     ensures part { result < parts }
     ensures from { end_before format_one words.now 0 result ≤ place }
@@ -133,49 +123,20 @@ fn part_of_place(words: &[u64], parts: u32, place: u32) -> u32
     low
 }
 
-// Number k of a part that holds some numbers.
-fn number_in_part(view: &PartView, k: u64) -> u64
-    requires held { (ys : List ℕ) × Holds view.now ys }
-    requires within { k < count_of view.now }
-    ensures { (ys : List ℕ) → Holds view.now ys → result ≡ slice_index ys k }
+// The first part at or after one whose last value is at least x, else the number of parts.
+pub(crate) fn part_reaching(words: &[u64], parts: u32, part: u32, x: u64) -> u32
+    requires room { format_one.entry_words * parts ≤ length words.now }
+    requires within { part ≤ parts }
+    ensures after { part ≤ result }
+    ensures within { result ≤ parts }
+    ensures before { part < result → stated_last format_one words.now 0 (result - 1) < x }
+    ensures reached { result < parts → x ≤ stated_last format_one words.now 0 result }
 {
-    view.get(k)
-}
-
-// A value of the sequence with which the words begin.
-pub(crate) fn value_at(words: &[u64], parts: u32, place: u32) -> u64
-    requires words { length words.now < 2 ^ 57 }
-    requires begun { (m : ℕ) × BeginWith words.now parts m (sequence_stated words.now parts) }
-    requires within { place < length (sequence_stated words.now parts).values }
-    ensures { result ≡ slice_index (sequence_stated words.now parts).values place }
-{
-    words_are_bits();
-    part_takes_its_payload();
-    part_is_relative();
-    let part = part_of_place(words, parts, place);
-    let stretch = stretch_at(words, parts, part);
-    let view = PartView::at(
-        Bits { words },
-        ENTRY_BITS * parts as u64 + stretch.offset,
-        stretch.last + 1 - stretch.past,
-        stretch.to - stretch.from,
-    );
-    number_in_part(&view, place as u64 - stretch.from) + stretch.past
-}
-
-// The first place at or after one whose value is at least x, else the end.
-pub(crate) fn place_from(words: &[u64], parts: u32, m: u32, place: u32, x: u64) -> u32
-    requires words { length words.now < 2 ^ 57 }
-    requires begun { BeginWith words.now parts m (sequence_stated words.now parts) }
-    requires within { place ≤ m }
-    ensures within { result ≤ m }
-    ensures first { result ≡ place_at_least (sequence_stated words.now parts).values place x }
-{
-    let mut low = place;
-    let mut high = m;
+    let mut low = part;
+    let mut high = parts;
     while low < high {
         let middle = low + (high - low) / 2;
-        if value_at(words, parts, middle) < x {
+        if entry_at(words, middle).last < x {
             low = middle + 1;
         } else {
             high = middle;

@@ -1,5 +1,5 @@
 ghost use Rattle.collection_model.specs.FormatNumbers.{format_one};
-ghost use Rattle.two_level.specs.Laws.{ChecksAcceptASequence, ChecksRefuseNoSequence, OneSequence, TakesItsCost, WordsState};
+ghost use Rattle.two_level.specs.Laws.{ChecksAcceptASequence, ChecksRefuseNoSequence, DirectoryStates, OneSequence, TakesItsCost, WordsState};
 
 use bit_words::words_are_bits;
 use part_codec::{one_list_at_place, part_takes_its_payload};
@@ -48,5 +48,14 @@ pub fn words_state_their_sequence()
     words_are_bits();
     part_takes_its_payload();
     one_list_at_place();
+    part_is_relative();
+}
+
+// The directory of words that begin with a sequence states its parts.
+pub(crate) fn directory_states_its_parts()
+    ensures { DirectoryStates }
+{
+    words_are_bits();
+    part_takes_its_payload();
     part_is_relative();
 }

@@ -6,6 +6,7 @@ mod checking;
 mod cursor;
 mod entry;
 mod finding;
+mod held;
 mod laws;
 mod part;
 #[cfg(test)]
@@ -13,6 +14,7 @@ mod tests;
 mod view;
 mod write;
 
+pub use bit_words::NoMemory;
 pub use check::Check;
 pub use checking::SeqFault;
 pub use cursor::SeqCursor;
@@ -22,4 +24,4 @@ pub use laws::{
 };
 pub use part::Part;
 pub use view::SeqView;
-pub use write::{NoMemory, write_seq};
+pub use write::write_seq;

@@ -148,9 +148,11 @@ fn finds_places(rt: &impl Abort, words: &[u64], values: &[u64], parts: u32, boun
         let mut cursor = view.cursor();
         cursor.next_geq(value);
         assert_eq!(rt; cursor.place(), k, "for {value}");
+        cursor.move_to(m - k);
         cursor.move_to(k);
         cursor.next_geq(0);
         assert_eq!(rt; cursor.place(), k, "moved");
+        assert_eq!(rt; cursor.value(), value, "moved");
         cursor.next_geq(value.saturating_add(1));
         assert_eq!(rt; cursor.place(), k + 1, "behind {value}");
     }

@@ -6,7 +6,8 @@ ghost use Rattle.two_level.specs.SequenceView.{SequenceView, BeginWith, words_us
 
 use crate::checking::{SeqFault, check_words};
 use crate::cursor::SeqCursor;
-use crate::finding::{part_at, value_at, words_taken};
+use crate::finding::{part_at, words_taken};
+use crate::held::value_at;
 use crate::laws::{
     checks_accept_a_sequence, checks_refuse_no_sequence, words_state_their_sequence,
 };

@@ -8,38 +8,10 @@ ghost use Rattle.part_cost.specs.Span.{past, universe, relative_values};
 ghost use Rattle.two_level.specs.SequenceWords.{directory_from, payload_from, sequence_words};
 
 use crate::entry::MOST_SUM;
-use bit_words::BitWriter;
+use bit_words::{BitWriter, NoMemory};
 use part_codec::{part_takes_its_payload, write_part};
 use part_cost::{part_is_relative, payload_bits};
-use std::alloc::{AllocError, Global};
-
-/// Memory was refused.
-#[derive(Clone, Copy, Debug, PartialEq, Eq)]
-pub struct NoMemory;
-
-impl From<AllocError> for NoMemory {
-    ghost from_gives = { λ _ _. Unit {0} };
-
-    fn from(_refused: AllocError) -> NoMemory {
-        NoMemory
-    }
-}
-
-impl From<bit_words::NoMemory> for NoMemory {
-    ghost from_gives = { λ _ _. Unit {0} };
-
-    fn from(_refused: bit_words::NoMemory) -> NoMemory {
-        NoMemory
-    }
-}
-
-impl From<part_codec::NoMemory> for NoMemory {
-    ghost from_gives = { λ _ _. Unit {0} };
-
-    fn from(_refused: part_codec::NoMemory) -> NoMemory {
-        NoMemory
-    }
-}
+use std::alloc::Global;
 
 /// Appends the words of a sequence in parts: its directory, and then the payload of its parts from a fresh word on. A refusal
 /// leaves the words as they were.

@@ -1,6 +1,8 @@
 use Rattle.std.proofs.Common.{◌+◌, ◌-◌, ◌/◌, ◌^◌, arith}
+use Rattle.std.proofs.lemmas.Option.{MatchOption-at_some}
 use Rattle.bit_words.specs.Bits.{bits_of, IsFirstOne, HasNoOne}
-use Rattle.elias_fano.proofs.Lookups.{some-from, at-some, one-found, one-there, place-below}
+use Rattle.bit_words.proofs.Outcomes.{some-from}
+use Rattle.elias_fano.proofs.Lookups.{one-found, one-there, place-below}
 use Rattle.elias_fano.proofs.EfView.next_one.Goals as goal
 
 pub one_from-requires : goal.one_from-requires
@@ -21,4 +23,4 @@ pub returns : goal.returns
 returns g c = λ ys h.
     let v = c.args.self.now in
     one-found g.row.Q v ys c.args.low c.args.k c.args.from c.unwrap.result c.requires.bits h c.requires.within (c.requires.past ys h) (c.requires.not_past ys h)
-    (at-some c.one_from.result (λ p. IsFirstOne (bits_of v.bits.words.now) c.args.from (v.place + c.args.k + (v.u - 1) / 2 ^ c.args.low + 1) p) c.unwrap.result c.unwrap.ensures c.one_from.ensures.first)
+    (MatchOption-at_some _ (λ p. IsFirstOne (bits_of v.bits.words.now) c.args.from (v.place + c.args.k + (v.u - 1) / 2 ^ c.args.low + 1) p) c.unwrap.result c.unwrap.ensures c.one_from.ensures.first)

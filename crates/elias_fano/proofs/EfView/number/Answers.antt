@@ -2,7 +2,8 @@ use Rattle.std.proofs.Common.{◌+◌, ◌-◌, ◌*◌, ◌/◌, ◌^◌, ◌�
 use Rattle.std.proofs.Math.Pow.{pow_mono}
 use Rattle.bit_words.specs.Bits.{bits_of}
 use Rattle.bit_words.proofs.Value.{bits-bits_of}
-use Rattle.elias_fano.proofs.Lookups.{field-below, shifted-back}
+use Rattle.bit_words.proofs.Pieces.{field-below}
+use Rattle.elias_fano.proofs.Lookups.{shifted-back}
 use Rattle.elias_fano.proofs.EfView.number.Goals as goal
 
 pub overflow_add-result : goal.overflow_add-result

@@ -1,11 +1,13 @@
-use Rattle.std.proofs.Common.{◌≡◌, ℕ, ◌+◌, List, ◌++◌, length, sym, ap, ◌∙◌, subst, append_assoc, arith}
+use Rattle.std.proofs.Common.{◌≡◌, ℕ, ◌+◌, List, ◌++◌, length, sym, ap, ◌∙◌, subst, arith}
 use Rattle.std.proofs.lemmas.List.{length-append}
+use Rattle.std.proofs.lemmas.Result.{on_ok_weaker, on_err_weaker}
 use Rattle.bit_words.specs.Bits.{AppendsBits}
+use Rattle.bit_words.proofs.Fronts.{appends-front, appends-behind, appends-both}
+use Rattle.bit_words.proofs.Outcomes.{on-err}
 use Rattle.part_cost.specs.Payload.{low_width_of}
 use Rattle.elias_fano.specs.EfBits.{high_bits, low_fields, ef_samples, ef_bits}
 use Rattle.elias_fano.proofs.Rising.{relative-fit}
 use Rattle.elias_fano.proofs.Reading.{pieces, part-is}
-use Rattle.elias_fano.proofs.Writing.{appends-front, appends-behind, on-err, on-ok-map, on-err-map}
 use Rattle.elias_fano.proofs.writer.ef_write.Goals as goal
 
 pub low_width-low-requires-clause-fit : goal.low_width-low-requires-clause-fit
@@ -46,10 +48,6 @@ returns-in_err-write_low_fields-clause-err g c =
     (appends-front c.args.to.now c.write_low_fields.new.to (high_bits l c.args.u ys ++ low_fields l ys) (ef_samples g.row.Q l ys)
     (appends-behind c.args.to.now c.write_high_bits.new.to c.write_low_fields.new.to (high_bits l c.args.u ys) (low_fields l ys) c.in_ok-write_high_bits.ensures.ok c.in_err-write_low_fields.ensures.err)))
 
--- the first two pieces stand
-both : (old mid new high low : List ℕ) → mid ≡ old ++ high → new ≡ mid ++ low → new ≡ old ++ (high ++ low)
-both old mid new high low e f = f ∙ ap (λ xs. xs ++ low) e ∙ append_assoc old high low
-
 pub write_samples-requires-clause-room : goal.write_samples-requires-clause-room
 write_samples-requires-clause-room g c =
     let l = c.low_width-low.result in
@@ -68,10 +66,10 @@ pub returns-clause-ok : goal.returns-clause-ok
 returns-clause-ok g c =
     let l = c.low_width-low.result in
     let ys = c.args.values.now in
-    on-ok-map c.write_samples.result (c.write_samples.new.to ≡ c.write_low_fields.new.to ++ ef_samples g.row.Q c.low_width-low.result c.args.values.now) (c.write_samples.new.to ≡ c.args.to.now ++ ef_bits g.row.Q c.args.values.now c.args.u)
+    on_ok_weaker c.write_samples.result
     (λ e.
-    both c.args.to.now c.write_low_fields.new.to c.write_samples.new.to (high_bits l c.args.u ys ++ low_fields l ys) (ef_samples g.row.Q l ys)
-    (both c.args.to.now c.write_high_bits.new.to c.write_low_fields.new.to (high_bits l c.args.u ys) (low_fields l ys) c.in_ok-write_high_bits.ensures.ok c.in_ok-write_low_fields.ensures.ok) e
+    appends-both c.args.to.now c.write_low_fields.new.to c.write_samples.new.to (high_bits l c.args.u ys ++ low_fields l ys) (ef_samples g.row.Q l ys)
+    (appends-both c.args.to.now c.write_high_bits.new.to c.write_low_fields.new.to (high_bits l c.args.u ys) (low_fields l ys) c.in_ok-write_high_bits.ensures.ok c.in_ok-write_low_fields.ensures.ok) e
     ∙ ap (λ xs. c.args.to.now ++ xs) (sym (whole g.row.Q c.args.u l ys c.low_width-low.ensures.value)))
     c.write_samples.ensures.ok
 
@@ -79,9 +77,9 @@ pub returns-clause-err : goal.returns-clause-err
 returns-clause-err g c =
     let l = c.low_width-low.result in
     let ys = c.args.values.now in
-    on-err-map c.write_samples.result (AppendsBits c.write_low_fields.new.to c.write_samples.new.to (ef_samples g.row.Q c.low_width-low.result c.args.values.now)) (AppendsBits c.args.to.now c.write_samples.new.to (ef_bits g.row.Q c.args.values.now c.args.u))
+    on_err_weaker c.write_samples.result
     (λ e.
     subst (λ xs. AppendsBits c.args.to.now c.write_samples.new.to xs) (sym (whole g.row.Q c.args.u l ys c.low_width-low.ensures.value))
     (appends-behind c.args.to.now c.write_low_fields.new.to c.write_samples.new.to (high_bits l c.args.u ys ++ low_fields l ys) (ef_samples g.row.Q l ys)
-    (both c.args.to.now c.write_high_bits.new.to c.write_low_fields.new.to (high_bits l c.args.u ys) (low_fields l ys) c.in_ok-write_high_bits.ensures.ok c.in_ok-write_low_fields.ensures.ok) e))
+    (appends-both c.args.to.now c.write_high_bits.new.to c.write_low_fields.new.to (high_bits l c.args.u ys) (low_fields l ys) c.in_ok-write_high_bits.ensures.ok c.in_ok-write_low_fields.ensures.ok) e))
     c.write_samples.ensures.err

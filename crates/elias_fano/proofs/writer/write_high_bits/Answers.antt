@@ -1,6 +1,7 @@
 use Rattle.std.proofs.Common.{◌+◌, ◌^◌, length, refl, sym, ◌∙◌, subst, arith}
 use Rattle.elias_fano.proofs.Rising.{relative-fit}
-use Rattle.elias_fano.proofs.Writing.{AreWritten, written-one, written-zero, high-room, high-front, high-all, on-err}
+use Rattle.bit_words.proofs.Outcomes.{on-err}
+use Rattle.elias_fano.proofs.Writing.{AreWritten, written-one, written-zero, high-room, high-front, high-all}
 use Rattle.elias_fano.proofs.writer.write_high_bits.Goals as goal
 use Rattle.elias_fano.proofs.writer.write_high_bits.Goals.{then-has_place+in_ok-put, else-has_place+in_ok-put-2}
 

@@ -1,5 +1,6 @@
 use Rattle.std.proofs.Common.{◌^◌}
-use Rattle.elias_fano.proofs.Writing.{low-room, low-front, low-more, on-err}
+use Rattle.bit_words.proofs.Outcomes.{on-err}
+use Rattle.elias_fano.proofs.Writing.{low-room, low-front, low-more}
 use Rattle.elias_fano.proofs.writer.write_low_fields.Goals as goal
 
 pub put-requires-clause-room : goal.put-requires-clause-room

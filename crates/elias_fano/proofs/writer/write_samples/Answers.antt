@@ -1,8 +1,9 @@
 use Rattle.std.proofs.Common.{◌+◌, ◌-◌, ◌*◌, ◌^◌, ◌<◌, length, sym, subst, arith}
 use Rattle.std.proofs.Math.Nat.{div-le_self}
 use Rattle.elias_fano.proofs.Rising.{place-within, relative-fit}
-use Rattle.elias_fano.proofs.Scanning.{sampled-within}
-use Rattle.elias_fano.proofs.Writing.{samples-room, samples-more, samples-front, samples-all, on-err}
+use Rattle.bit_words.proofs.Numbers.{sampled-within}
+use Rattle.bit_words.proofs.Outcomes.{on-err}
+use Rattle.elias_fano.proofs.Writing.{samples-room, samples-more, samples-front, samples-all}
 use Rattle.elias_fano.proofs.writer.write_samples.Goals as goal
 
 pub overflow_add-values : goal.overflow_add-values

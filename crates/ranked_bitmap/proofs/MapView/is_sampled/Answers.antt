@@ -3,7 +3,8 @@ use Rattle.std.proofs.lemmas.Bool.{cases_lt}
 use Rattle.bit_words.specs.Bits.{bits_of, ones_between}
 use Rattle.bit_words.proofs.Value.{bits-bits_of}
 use Rattle.ranked_bitmap.specs.MapPlaces.{sample_at}
-use Rattle.ranked_bitmap.proofs.Reading.{count-more, ones-few, sampled-within}
+use Rattle.bit_words.proofs.Numbers.{sampled-within}
+use Rattle.ranked_bitmap.proofs.Reading.{count-more, ones-few}
 use Rattle.ranked_bitmap.proofs.MapView.is_sampled.Goals as goal
 
 pub overflow_add-count : goal.overflow_add-count

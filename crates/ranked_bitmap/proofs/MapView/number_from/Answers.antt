@@ -1,6 +1,8 @@
 use Rattle.std.proofs.Common.{◌+◌, arith}
+use Rattle.std.proofs.lemmas.Option.{MatchOption-at_some}
 use Rattle.bit_words.specs.Bits.{bits_of, IsFirstOne, HasNoOne}
-use Rattle.ranked_bitmap.proofs.Views.{within-held, some-from, at-some, number-found, number-there}
+use Rattle.bit_words.proofs.Outcomes.{some-from}
+use Rattle.ranked_bitmap.proofs.Views.{within-held, number-found, number-there}
 use Rattle.ranked_bitmap.proofs.MapView.number_from.Goals as goal
 
 pub next_one-requires-clause-range : goal.next_one-requires-clause-range
@@ -16,4 +18,4 @@ pub returns : goal.returns
 returns g c = λ ys h.
     let v = c.args.self.now in
     number-found g.row.B v ys h c.args.least c.unwrap-one.result c.requires.within
-    (at-some c.next_one.result (λ p. IsFirstOne (bits_of v.bits.words.now) (v.place + c.args.least) (v.place + v.u) p) c.unwrap-one.result c.unwrap-one.ensures c.next_one.ensures.first)
+    (MatchOption-at_some _ (λ p. IsFirstOne (bits_of v.bits.words.now) (v.place + c.args.least) (v.place + v.u) p) c.unwrap-one.result c.unwrap-one.ensures c.next_one.ensures.first)

@@ -1,8 +1,10 @@
-use Rattle.std.proofs.Common.{◌≡◌, ◌++◌, ap, arith, length}
+use Rattle.std.proofs.Common.{ap, arith, length}
 use Rattle.std.proofs.lemmas.List.{length-append}
+use Rattle.std.proofs.lemmas.Result.{on_ok_weaker, on_err_weaker}
 use Rattle.bit_words.specs.Bits.{AppendsBits}
-use Rattle.ranked_bitmap.specs.MapBits.{marks, map_samples, map_bits}
-use Rattle.ranked_bitmap.proofs.Writing.{length-both, part-whole, part-front, part-behind, on-err, ok-also, err-also}
+use Rattle.bit_words.proofs.Outcomes.{on-err}
+use Rattle.ranked_bitmap.specs.MapBits.{marks, map_bits}
+use Rattle.ranked_bitmap.proofs.Writing.{length-both, part-whole, part-front, part-behind}
 use Rattle.ranked_bitmap.proofs.writer.map_write.Goals as goal
 
 pub write_marks-requires-clause-room : goal.write_marks-requires-clause-room
@@ -19,14 +21,12 @@ write_samples-requires-clause-room g c =
 
 pub returns-clause-ok : goal.returns-clause-ok
 returns-clause-ok g c =
-    ok-also c.write_samples.result (c.write_samples.new.to ≡ c.write_marks.new.to ++ map_samples g.row.B c.args.values.now c.args.u)
-    (c.write_samples.new.to ≡ c.args.to.now ++ map_bits g.row.B c.args.values.now c.args.u)
+    on_ok_weaker c.write_samples.result
     (λ e. part-whole g.row.B c.args.u c.args.to.now c.write_marks.new.to c.write_samples.new.to c.args.values.now c.in_ok-write_marks.ensures.ok e)
     c.write_samples.ensures.ok
 
 pub returns-clause-err : goal.returns-clause-err
 returns-clause-err g c =
-    err-also c.write_samples.result (AppendsBits c.write_marks.new.to c.write_samples.new.to (map_samples g.row.B c.args.values.now c.args.u))
-    (AppendsBits c.args.to.now c.write_samples.new.to (map_bits g.row.B c.args.values.now c.args.u))
+    on_err_weaker c.write_samples.result
     (λ h. part-behind g.row.B c.args.u c.args.to.now c.write_marks.new.to c.write_samples.new.to c.args.values.now c.in_ok-write_marks.ensures.ok h)
     c.write_samples.ensures.err

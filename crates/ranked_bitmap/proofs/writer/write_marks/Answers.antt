@@ -3,7 +3,8 @@ use Rattle.bit_words.specs.Bits.{AppendsBits}
 use Rattle.ranked_bitmap.specs.MapBits.{marks}
 use Rattle.ranked_bitmap.proofs.Marks.{length-marks}
 use Rattle.std.proofs.lemmas.List.{length-append}
-use Rattle.ranked_bitmap.proofs.Writing.{length-some-marks, marks-few, marks-front, marks-all, mark-more, mark-count, on-err}
+use Rattle.bit_words.proofs.Outcomes.{on-err}
+use Rattle.ranked_bitmap.proofs.Writing.{length-some-marks, marks-few, marks-front, marks-all, mark-more, mark-count}
 use Rattle.ranked_bitmap.proofs.writer.write_marks.Goals as goal
 
 pub put-requires-clause-room : goal.put-requires-clause-room

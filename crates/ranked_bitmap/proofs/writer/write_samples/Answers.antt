@@ -4,7 +4,8 @@ use Rattle.bit_words.specs.Bits.{AppendsBits, field_bits}
 use Rattle.part_cost.specs.Payload.{digits}
 use Rattle.ranked_bitmap.specs.MapBits.{map_samples}
 use Rattle.ranked_bitmap.proofs.Reading.{length-samples, count-at}
-use Rattle.ranked_bitmap.proofs.Writing.{first_samples, length-first_samples, room-more, samples-front, samples-all, sample-more, found-below, on-err}
+use Rattle.bit_words.proofs.Outcomes.{on-err}
+use Rattle.ranked_bitmap.proofs.Writing.{first_samples, length-first_samples, room-more, samples-front, samples-all, sample-more, found-below}
 use Rattle.ranked_bitmap.proofs.writer.write_samples.Goals as goal
 
 pub put-requires-clause-room : goal.put-requires-clause-room

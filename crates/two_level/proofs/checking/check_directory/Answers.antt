@@ -3,7 +3,7 @@ use Rattle.std.specs.Prelude.{◌==◌}
 use Rattle.collection_model.specs.FormatNumbers.{format_one}
 use Rattle.two_level.specs.SequenceFault.{cannot_follow, entry_breaks}
 use Rattle.two_level.proofs.Follows.{follows-from}
-use Rattle.two_level.proofs.Writing.{payload-at_most}
+use Rattle.part_cost.proofs.Growth.{payload-short}
 use Rattle.two_level.proofs.Entries.{Reached, EntryRead, entry-test, reached-next, bits-next, each-below}
 use Rattle.two_level.proofs.checking.check_directory.Goals as goal
 
@@ -21,7 +21,7 @@ overflow_add-bits c =
       c.requires.bound,
       c.loop-part.invariant.few,
       c.payload_bits-bits.ensures,
-      payload-at_most (last + 1 - c.loop-part.past) (end - c.loop-part.before),
+      payload-short (last + 1 - c.loop-part.past) (end - c.loop-part.before),
     )
 
 pub loop-part-preserved : goal.loop-part-preserved
@@ -40,7 +40,7 @@ loop-part-preserved c =
     record {
       reached = reached-next words q last end offset e;
       bits_are = ap (λ x. c.loop-part.bits + x) c.payload_bits-bits.ensures ∙ bits-next words q c.loop-part.before c.loop-part.past last end offset c.loop-part.bits r e c.loop-part.invariant.bits_are;
-      few = omega (arith, k.below, k.above, c.loop-part.invariant.few, c.payload_bits-bits.ensures, payload-at_most (last + 1 - c.loop-part.past) (end - c.loop-part.before));
+      few = omega (arith, k.below, k.above, c.loop-part.invariant.few, c.payload_bits-bits.ensures, payload-short (last + 1 - c.loop-part.past) (end - c.loop-part.before));
       past_within = omega (arith, c.entry_at-entry.ensures.small);
       entries =
           each-below (λ n. entry_breaks format_one c.args.words.now 0 c.args.parts c.args.m c.args.bound n ≡ false) q c.loop-part.invariant.entries

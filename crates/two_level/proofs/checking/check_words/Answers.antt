@@ -1,6 +1,7 @@
 use Rattle.std.proofs.Common.{◌≡◌, ℕ, ◌+◌, ◌*◌, ◌<◌, ◌≤◌, true, false, List, length, Result, Ok, Err, inl, inr, refl, subst, rules}
 use Rattle.std.specs.Prelude.{◌||◌, not, nat_lt}
 use Rattle.std.specs.Result.{IfErr}
+use Rattle.std.proofs.lemmas.Bool.{both_ways}
 use Rattle.std.proofs.lemmas.Result.{IfErr-weaker}
 use Rattle.collection_model.specs.FormatNumbers.{format_one}
 use Rattle.bit_words.specs.Bits.{bits_of, HasNoOne}
@@ -8,7 +9,7 @@ use Rattle.two_level.specs.declared.check.Check.{Check}
 use Rattle.two_level.specs.declared.check.Check.TheVariants.{K6, K7, K8, K9}
 use Rattle.two_level.specs.declared.checking.SeqFault.{SeqFault}
 use Rattle.two_level.specs.SequenceFault.{payload_before, first_bit, word_behind, parts_fit, entry_breaks, IsPartStored, IsSequenceFault}
-use Rattle.two_level.proofs.Follows.{Found, PartsStep, EntriesStep, differ, match-false, front-test, false-lt}
+use Rattle.two_level.proofs.Follows.{Found, PartsStep, EntriesStep, match-false, front-test, false-lt}
 use Rattle.two_level.proofs.checking.check_words.Goals as goal
 
 -- the first fault where the entries stand and end within the words
@@ -18,7 +19,7 @@ behind-entries : (words : List ℕ) (parts m bound : ℕ) (check : Check) (part 
 behind-entries words parts m bound check part fit room entries within step =
     match-false (not (parts_fit m parts) || nat_lt (length words) (2 * parts)) ((check ≡ K6) × (part ≡ 0)) (EntriesStep words parts m bound check part) (front-test words parts m fit room)
     (inr (
-      (λ q lt t. differ (entry_breaks format_one words 0 parts m bound q) t (entries q lt)),
+      (λ q lt t. both_ways (entry_breaks format_one words 0 parts m bound q) (entries q lt) t),
       match-false (nat_lt (length words) (word_behind format_one words 0 parts)) (Found check part K7 parts) (PartsStep words parts check part)
           (false-lt (length words) (word_behind format_one words 0 parts) within) step,
     ))

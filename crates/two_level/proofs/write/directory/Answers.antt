@@ -3,7 +3,8 @@ use Rattle.collection_model.specs.FormatNumbers.{format_one}
 use Rattle.part_cost.specs.Payload.{payload}
 use Rattle.part_cost.specs.Span.{payload_of_part}
 use Rattle.two_level.specs.SequenceWords.{directory_from}
-use Rattle.two_level.proofs.Writing.{next-part, past-less, past-most, payload-at_most, directory-more}
+use Rattle.part_cost.proofs.Growth.{payload-short}
+use Rattle.two_level.proofs.Writing.{next-part, past-less, past-most, directory-more}
 use Rattle.two_level.proofs.write.directory.Goals as goal
 
 pub universe_of_part-universe-requires-clause-within : goal.universe_of_part-universe-requires-clause-within
@@ -43,7 +44,7 @@ overflow_add-offset c =
     let end : ℕ = get_or c.args.ends.now c.loop-end.end-index 0 in
     let most = past-most c.part_is_relative.ensures.within c.args.values.now c.requires.below end n.within in
     let less = past-less c.part_is_relative.ensures.room c.args.values.now c.requires.rising c.loop-end.from end n.some n.within in
-    omega (arith, most, less, c.universe_of_part-universe.ensures, c.payload_bits-offset.ensures, payload-at_most c.universe_of_part-universe.result (end - c.loop-end.from), c.loop-end.invariant.few)
+    omega (arith, most, less, c.universe_of_part-universe.ensures, c.payload_bits-offset.ensures, payload-short c.universe_of_part-universe.result (end - c.loop-end.from), c.loop-end.invariant.few)
 
 pub loop-end-preserved : goal.loop-end-preserved
 loop-end-preserved c =
@@ -59,7 +60,7 @@ loop-end-preserved c =
     c.payload_bits-offset.ensures ∙ ap (λ u. payload u (end - c.loop-end.from)) c.universe_of_part-universe.ensures in
     record {
       parts = n.rest;
-      few = omega (arith, most, less, c.universe_of_part-universe.ensures, c.payload_bits-offset.ensures, payload-at_most c.universe_of_part-universe.result (end - c.loop-end.from), c.loop-end.invariant.few);
+      few = omega (arith, most, less, c.universe_of_part-universe.ensures, c.payload_bits-offset.ensures, payload-short c.universe_of_part-universe.result (end - c.loop-end.from), c.loop-end.invariant.few);
       words =
           ap (λ ws. ws ++ directory_from format_one xs end (c.loop-end.offset + c.payload_bits-offset.result) (drop (k + 1) ends))
           (c.in_ok-push-2.ensures ∙ ap (λ ws. ws ++ c.loop-end.offset ∷ []) c.in_ok-push.ensures)

@@ -1,6 +1,7 @@
-use Rattle.std.proofs.Common.{◌≡◌, ℕ, zero, suc, ◌+◌, ◌*◌, ◌^◌, ◌%◌, ◌<◌, ◌≤◌, List, [], ◌∷◌, ◌++◌, length, take, drop, get_or, refl, sym, ap, ◌∙◌, arith}
+use Rattle.std.proofs.Common.{◌≡◌, ℕ, zero, suc, ◌+◌, ◌*◌, ◌^◌, ◌%◌, ◌<◌, ◌≤◌, List, [], ◌∷◌, ◌++◌, length, take, drop, get_or, refl, sym, ap, ◌∙◌, subst, arith}
 use Rattle.std.specs.List.{flat_map}
-use Rattle.std.proofs.lemmas.List.{length-append, length-take, length-drop, take-take, take_at, drop_at, drop-drop, drop-take, take-append-drop}
+use Rattle.std.proofs.lemmas.List.{length-append, length-take, length-drop, take-take, take_at, drop_at, drop-drop, drop-take, take-append-drop, get_or-take, get_or-drop, ext_get_or}
+use Rattle.std.proofs.lemmas.Nat.{pow_pos, mod_below}
 use Rattle.std.proofs.Math.Nat.{mod-mod}
 use Rattle.bit_words.specs.Bits.{field_bits, bits_value, field_at}
 use Rattle.bit_words.proofs.Value.{EachBit, value-field_bits, value-take, bits-take, bits-drop, bits-field_bits, length-field_bits, same_bits}
@@ -31,6 +32,22 @@ stands-both bits at a b h k =
     ∙ sym (take-append-drop (length a) whole)
     ∙ ap (λ xs. xs ++ drop (length a) whole) front ∙ ap (λ xs. a ++ xs) back
 
+-- a piece with others before and behind it
+pub stands-between : (before piece behind : List ℕ) (at : ℕ) → length before ≡ at → StandAt (before ++ (piece ++ behind)) at piece
+stands-between before piece behind at e = ap (take (length piece)) (drop_at before (piece ++ behind) at e) ∙ take_at piece behind (length piece) refl
+
+-- a bit of a piece
+pub stands-at : (bits : List ℕ) (at : ℕ) (piece : List ℕ) (i : ℕ) → StandAt bits at piece → i < length piece → get_or bits (at + i) 0 ≡ get_or piece i 0
+stands-at bits at piece i h lt =
+    sym (get_or-drop at bits i 0) ∙ sym (get_or-take (length piece) (drop at bits) i 0 lt) ∙ ap (λ xs. get_or xs i 0) h
+
+pub stands-from : (bits : List ℕ) (at : ℕ) (piece : List ℕ) → at + length piece ≤ length bits
+    → ((i : ℕ) → i < length piece → get_or bits (at + i) 0 ≡ get_or piece i 0) → StandAt bits at piece
+stands-from bits at piece fit same =
+    let count : length (take (length piece) (drop at bits)) ≡ length piece = omega (arith, length-take (length piece) (drop at bits), length-drop at bits) in
+    ext_get_or 0 (take (length piece) (drop at bits)) piece count
+    (λ i h. let lt : i < length piece = omega arith in get_or-take (length piece) (drop at bits) i 0 lt ∙ get_or-drop at bits i 0 ∙ same i lt)
+
 -- a piece lies within the bits
 pub stands-within : (bits : List ℕ) (at : ℕ) (piece : List ℕ) → StandAt bits at piece → at ≤ length bits → at + length piece ≤ length bits
 stands-within bits at piece h fit = omega (arith, ap length h, length-take (length piece) (drop at bits), length-drop at bits)
@@ -56,6 +73,9 @@ field-fits bits at width each =
     let v : ℕ = bits_value (drop at bits) in
     let is : field_at bits at width ≡ v % 2 ^ width = value-take width (drop at bits) (bits-drop at bits each) in
     ap (λ n. n % 2 ^ width) is ∙ mod-mod v (2 ^ width) ∙ sym is
+
+pub field-below : (bits : List ℕ) (at width : ℕ) → EachBit bits → field_at bits at width < 2 ^ width
+field-below bits at width each = subst (λ n. n < 2 ^ width) (field-fits bits at width each) (mod_below (field_at bits at width) (2 ^ width) (pow_pos width))
 
 -- fields of one width, one behind the other
 pub length-fields : (width : ℕ) (xs : List ℕ) → length (flat_map (field_bits width) xs) ≡ width * length xs

@@ -1,0 +1,14 @@
+use Rattle.two_level.proofs.Parts.{directory-states}
+use Rattle.two_level.proofs.laws.directory_states_its_parts.Goals as goal
+
+pub returns : goal.returns
+returns c =
+    directory-states
+    (record {
+      bits = c.part_takes_its_payload.ensures.bits;
+      takes = c.part_takes_its_payload.ensures.payload;
+      room = c.part_is_relative.ensures.room;
+      within = c.part_is_relative.ensures.within;
+      relative = c.part_is_relative.ensures.relative;
+    })
+    c.words_are_bits.ensures.appended c.words_are_bits.ensures.bits
