@@ -6,3 +6,4 @@ pub mod Accepting
 pub mod Entries
 pub mod Parts
 pub mod Places
+pub mod AtAWord

@@ -1,5 +1,6 @@
 ghost use Rattle.collection_model.specs.FormatNumbers.{format_one};
 ghost use Rattle.two_level.specs.Laws.{ChecksAcceptASequence, ChecksRefuseNoSequence, DirectoryStates, OneSequence, TakesItsCost, WordsState};
+ghost use Rattle.two_level.specs.AtAWord.{ChecksStandAtAWord, FaultStandsAtAWord, SequenceStandsAtAWord};
 
 use bit_words::words_are_bits;
 use part_codec::{one_list_at_place, part_takes_its_payload};
@@ -48,6 +49,17 @@ pub fn words_state_their_sequence()
     words_are_bits();
     part_takes_its_payload();
     one_list_at_place();
+    part_is_relative();
+}
+
+/// The checks of a sequence at a word, up to another word, are those of the words between, whether they accept it or refuse it.
+pub fn checks_stand_at_a_word()
+    ensures checks { ChecksStandAtAWord }
+    ensures sequence { SequenceStandsAtAWord }
+    ensures fault { FaultStandsAtAWord }
+{
+    words_are_bits();
+    part_takes_its_payload();
     part_is_relative();
 }
 

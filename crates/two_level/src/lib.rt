@@ -19,8 +19,8 @@ pub use check::Check;
 pub use checking::SeqFault;
 pub use cursor::SeqCursor;
 pub use laws::{
-    checks_accept_a_sequence, checks_refuse_no_sequence, one_sequence, sequence_takes_its_cost,
-    words_state_their_sequence,
+    checks_accept_a_sequence, checks_refuse_no_sequence, checks_stand_at_a_word, one_sequence,
+    sequence_takes_its_cost, words_state_their_sequence,
 };
 pub use part::Part;
 pub use view::SeqView;

@@ -122,6 +122,7 @@ fn reads_back(rt: &impl Abort, words: &[u64], values: &[u64], parts: u32, bound:
     let view = SeqView::check(words, parts, m, bound).expect(rt, "a sequence");
     assert_eq!(rt; view.used(), words.len() as u64);
     assert_eq!(rt; view.parts(), parts);
+    assert_eq!(rt; view.len(), m);
     let view = SeqView::known(words, parts, m);
     let mut cursor = view.cursor();
     for k in 0..m {

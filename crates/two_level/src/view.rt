@@ -71,6 +71,13 @@ impl<'a> SeqView<'a> {
         words_taken(self.words, self.parts)
     }
 
+    /// How many values there are.
+    pub fn len(&self) -> u32
+        ensures { result ≡ length self.now.values }
+    {
+        self.m
+    }
+
     /// Value k.
     pub fn get(&self, k: u32) -> u64
         requires within { k < length self.now.values }

@@ -1,0 +1,16 @@
+// A posting list as two sequences in parts, its documents and the sums of its frequencies, and a cursor over them.
+#![tactic(auto)]
+
+mod cursor;
+mod laws;
+#[cfg(test)]
+mod tests;
+mod write;
+
+pub use cursor::PostingCursor;
+pub use laws::{
+    cursors_stand_in_lists, sequences_are_a_list, sequences_give_their_list,
+    sequences_of_a_list_rise,
+};
+pub use two_level::NoMemory;
+pub use write::write_postings;

@@ -1,0 +1,137 @@
+ghost use Rattle.std.specs.Prelude.{◌≡◌, ◌<◌, ◌^◌, length, IfSome};
+ghost use Rattle.std.specs.List.{All};
+ghost use Rattle.collection_model.specs.Collection.{greatest};
+ghost use Rattle.collection_model.specs.Sequences.{steps_from};
+
+use super::*;
+use cursor_api::DocCursor;
+use std::process::Abort;
+use std::test::Fail;
+use two_level::SeqView;
+
+// 0, 2 and the sums 0, 5 are appended to what is there, each in one part, and then an empty list is.
+#[test]
+fn writes_two_postings(rt: HostRuntime) -> Result<(), Fail> {
+    let want: &[u64] = &[7, 137_438_953_474, 0, 5, 137_438_953_477, 0, 33];
+    let mut words = vec![in rt.alloc(); 7]?;
+    write_postings(rt.alloc(), &[0, 2], &[1, 5], &[2], &[2], &mut words).expect(&rt, "memory");
+    assert_eq!(rt; words.as_slice(), want);
+    write_postings(rt.alloc(), &[], &[], &[], &[], &mut words).expect(&rt, "memory");
+    assert_eq!(rt; words.as_slice(), want);
+    Ok(())
+}
+
+// The greatest step of sums, None where a step does not fit a frequency.
+fn greatest_step(sums: &SeqView, m: u32) -> Option<u32>
+    requires count { length sums.now.values ≡ m }
+    requires below { All (λ s. s < 2 ^ 36) sums.now.values }
+    ensures fit { IfSome result (λ g. All (λ f. f < 2 ^ 32) (steps_from 0 sums.now.values)) }
+    ensures greatest { IfSome result (λ g. g ≡ greatest (steps_from 0 sums.now.values)) }
+{
+    let mut most = 0;
+    let mut past = 0;
+    for k in 0..m {
+        let next = sums.get(k) + 1;
+        let step = next.saturating_sub(past);
+        if step > u64::from(u32::MAX) {
+            return None;
+        }
+        most = step.max(most);
+        past = next;
+    }
+    Some(most as u32)
+}
+
+// A cursor over m documents below 3 whose two sequences these words are, in so many parts.
+fn opened<'a>(
+    rt: &impl Abort,
+    docs: &'a [u64],
+    sums: &'a [u64],
+    doc_parts: u32,
+    sum_parts: u32,
+    m: u32,
+) -> PostingCursor<'a>
+    requires docs { length docs.now < 2 ^ 57 }
+    requires sums { length sums.now < 2 ^ 57 }
+{
+    let docs = SeqView::check(docs, doc_parts, m, 3).expect(rt, "documents");
+    let sums = SeqView::check(sums, sum_parts, m, 1 << 36).expect(rt, "sums");
+    let max = greatest_step(&sums, m).expect(rt, "frequencies that fit");
+    PostingCursor::new(docs, sums, max)
+}
+
+// The posting at the place of a cursor, which then goes on.
+fn next_posting<C: DocCursor>(cursor: &mut C) -> Option<(u32, u32)> {
+    let doc = cursor.doc()?;
+    let freq = cursor.freq();
+    cursor.advance();
+    Some((doc, freq))
+}
+
+// Where `next_geq` goes, through the trait's bound.
+fn next_of<C: DocCursor>(cursor: &mut C, d: u32) -> Option<u32> {
+    cursor.next_geq(d);
+    cursor.doc()
+}
+
+// Frequencies 1, 5 in one part, and 1, 2 in two.
+#[test]
+fn reads_the_postings_back(rt: HostRuntime) {
+    let docs = [137_438_953_474, 0, 5];
+    let one: &[u64] = &[137_438_953_477, 0, 33];
+    let two: &[u64] = &[68_719_476_736, 0, 137_438_953_474, 0, 2];
+    for (sums, parts, freq) in [(one, 1, 5), (two, 2, 2)] {
+        assert!(rt; sums.len() <= 5);
+        let mut cursor = opened(&rt, &docs, sums, 1, parts, 2);
+        assert_eq!(rt; cursor.len(), 2);
+        assert_eq!(rt; cursor.max_freq(), freq);
+        assert_eq!(rt; next_posting(&mut cursor), Some((0, 1)));
+        assert_eq!(rt; next_posting(&mut cursor), Some((2, freq)));
+        assert_eq!(rt; next_posting(&mut cursor), None);
+        assert_eq!(rt; cursor.max_freq(), freq);
+        assert_eq!(rt; cursor.len(), 2);
+    }
+}
+
+// A cursor goes on to the first document that is large enough, and never back.
+#[test]
+fn goes_to_a_document(rt: HostRuntime) {
+    let docs = [137_438_953_474, 0, 5];
+    let sums = [137_438_953_477, 0, 33];
+    let mut cursor = opened(&rt, &docs, &sums, 1, 1, 2);
+    for (d, doc) in [
+        (0, Some(0)),
+        (1, Some(2)),
+        (0, Some(2)),
+        (2, Some(2)),
+        (3, None),
+        (0, None),
+    ] {
+        assert_eq!(rt; next_of(&mut cursor, d), doc, "from {d}");
+    }
+}
+
+// Frequencies 1, 2, 3 in one part and in two, read from the second on: the first document is skipped.
+#[test]
+fn reads_on_from_a_document(rt: HostRuntime) {
+    let docs = [206_158_430_210, 0];
+    let one: &[u64] = &[206_158_430_213, 0, 37];
+    let two: &[u64] = &[68_719_476_736, 0, 206_158_430_213, 0, 18];
+    for (sums, parts) in [(one, 1), (two, 2)] {
+        assert!(rt; sums.len() <= 5);
+        let mut cursor = opened(&rt, &docs, sums, 1, parts, 3);
+        assert_eq!(rt; next_of(&mut cursor, 1), Some(1));
+        assert_eq!(rt; next_posting(&mut cursor), Some((1, 2)));
+        assert_eq!(rt; next_posting(&mut cursor), Some((2, 3)));
+        assert_eq!(rt; next_posting(&mut cursor), None);
+    }
+}
+
+#[test]
+fn an_empty_list_is_at_its_end(rt: HostRuntime) {
+    let mut cursor = opened(&rt, &[], &[], 0, 0, 0);
+    assert_eq!(rt; cursor.len(), 0);
+    assert_eq!(rt; cursor.max_freq(), 0);
+    assert_eq!(rt; next_of(&mut cursor, 0), None);
+    assert_eq!(rt; next_posting(&mut cursor), None);
+}
