@@ -13,4 +13,4 @@ pub use laws::{
     sequences_of_a_list_rise,
 };
 pub use two_level::NoMemory;
-pub use write::write_postings;
+pub use write::{doc_values, freq_sums, write_postings};

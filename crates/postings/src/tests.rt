@@ -21,6 +21,16 @@ fn writes_two_postings(rt: HostRuntime) -> Result<(), Fail> {
     Ok(())
 }
 
+// The values of the two sequences of frequencies 1, 5.
+#[test]
+fn makes_the_values(rt: HostRuntime) -> Result<(), Fail> {
+    let docs = doc_values(rt.alloc(), &[0, 2]).expect(&rt, "memory");
+    assert_eq!(rt; docs.as_slice(), [0, 2].as_slice());
+    let sums = freq_sums(rt.alloc(), &[1, 5]).expect(&rt, "memory");
+    assert_eq!(rt; sums.as_slice(), [0, 5].as_slice());
+    Ok(())
+}
+
 // The greatest step of sums, None where a step does not fit a frequency.
 fn greatest_step(sums: &SeqView, m: u32) -> Option<u32>
     requires count { length sums.now.values ≡ m }

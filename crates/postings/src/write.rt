@@ -28,10 +28,10 @@ pub fn write_postings(
         ++ sequence_words format_one (freq_sequence (postings_of docs.now freqs.now)) freq_ends.now) }
     ensures err { OnErr result (to.new.items ≡ to.old.items) }
 {
-    let numbers = doc_numbers(alloc, docs)?;
-    let sums = lessened_sums(alloc, freqs)?;
+    let values = doc_values(alloc, docs)?;
+    let sums = freq_sums(alloc, freqs)?;
     let mut words = Vec::new(alloc);
-    write_seq(alloc, &numbers, doc_ends, &mut words)?;
+    write_seq(alloc, &values, doc_ends, &mut words)?;
     write_seq(alloc, &sums, freq_ends, &mut words)?;
     to.extend_from_slice(&words)?;
     Ok(())
@@ -47,19 +47,19 @@ fn push(values: &mut Vec<u64>, value: u64) -> Result<(), NoMemory>
     }
 }
 
-// The documents as the values of a sequence.
-fn doc_numbers(alloc: Global, docs: &[u32]) -> Result<Vec<u64>, NoMemory>
-    ensures { IfOk result (λ numbers. numbers.items ≡ docs.now) }
+/// The documents of a list as the values of their sequence.
+pub fn doc_values(alloc: Global, docs: &[u32]) -> Result<Vec<u64>, NoMemory>
+    ensures { IfOk result (λ values. values.items ≡ docs.now) }
 {
-    let mut numbers = Vec::new(alloc);
+    let mut values = Vec::new(alloc);
     for doc in docs {
-        push(&mut numbers, u64::from(*doc))?;
+        push(&mut values, u64::from(*doc))?;
     }
-    Ok(numbers)
+    Ok(values)
 }
 
-// The sums of the frequencies up to and with each, less one.
-fn lessened_sums(alloc: Global, freqs: &[u32]) -> Result<Vec<u64>, NoMemory>
+/// The sums of the frequencies of a list up to and with each, less one: the values of their sequence.
+pub fn freq_sums(alloc: Global, freqs: &[u32]) -> Result<Vec<u64>, NoMemory>
     requires not_zero { All (λ f. 1 ≤ f) freqs.now }
     requires sum_within { sum freqs.now ≤ format_one.most_sum }
     ensures { IfOk result (λ sums. sums.items ≡ lessened (sums_from 0 freqs.now)) }

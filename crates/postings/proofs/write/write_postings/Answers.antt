@@ -9,23 +9,23 @@ use Rattle.postings.proofs.Steps.{sums-length}
 use Rattle.postings.proofs.Written.{AreValues, docs-values, freqs-not_zero, freqs-sum, sums-values}
 use Rattle.postings.proofs.write.write_postings.Goals as goal
 
-pub lessened_sums-requires-clause-not_zero : goal.lessened_sums-requires-clause-not_zero
-lessened_sums-requires-clause-not_zero c = freqs-not_zero c.args.docs.now c.args.freqs.now c.requires.same_length c.requires.list
+pub freq_sums-requires-clause-not_zero : goal.freq_sums-requires-clause-not_zero
+freq_sums-requires-clause-not_zero c = freqs-not_zero c.args.docs.now c.args.freqs.now c.requires.same_length c.requires.list
 
-pub lessened_sums-requires-clause-sum_within : goal.lessened_sums-requires-clause-sum_within
-lessened_sums-requires-clause-sum_within c = freqs-sum c.args.docs.now c.args.freqs.now c.requires.same_length c.requires.list
+pub freq_sums-requires-clause-sum_within : goal.freq_sums-requires-clause-sum_within
+freq_sums-requires-clause-sum_within c = freqs-sum c.args.docs.now c.args.freqs.now c.requires.same_length c.requires.list
 
 pub write_seq-requires-clause-rising : goal.write_seq-requires-clause-rising
 write_seq-requires-clause-rising c =
-    let a = subst AreValues (sym (c.deref.ensures.value ∙ c.in_ok-numbers.ensures)) (docs-values c.args.docs.now c.args.freqs.now c.requires.same_length c.requires.list) in a.rising
+    let a = subst AreValues (sym (c.deref.ensures.value ∙ c.in_ok-values.ensures)) (docs-values c.args.docs.now c.args.freqs.now c.requires.same_length c.requires.list) in a.rising
 
 pub write_seq-requires-clause-below : goal.write_seq-requires-clause-below
 write_seq-requires-clause-below c =
-    let a = subst AreValues (sym (c.deref.ensures.value ∙ c.in_ok-numbers.ensures)) (docs-values c.args.docs.now c.args.freqs.now c.requires.same_length c.requires.list) in a.below
+    let a = subst AreValues (sym (c.deref.ensures.value ∙ c.in_ok-values.ensures)) (docs-values c.args.docs.now c.args.freqs.now c.requires.same_length c.requires.list) in a.below
 
 pub write_seq-requires-clause-few : goal.write_seq-requires-clause-few
 write_seq-requires-clause-few c =
-    let a = subst AreValues (sym (c.deref.ensures.value ∙ c.in_ok-numbers.ensures)) (docs-values c.args.docs.now c.args.freqs.now c.requires.same_length c.requires.list) in a.few
+    let a = subst AreValues (sym (c.deref.ensures.value ∙ c.in_ok-values.ensures)) (docs-values c.args.docs.now c.args.freqs.now c.requires.same_length c.requires.list) in a.few
 
 pub write_seq-requires-2-clause-rising : goal.write_seq-requires-2-clause-rising
 write_seq-requires-2-clause-rising c =
@@ -46,7 +46,7 @@ write_seq-requires-2-clause-partition c =
 pub returns-clause-ok : goal.returns-clause-ok
 returns-clause-ok c =
     let list = postings_of c.args.docs.now c.args.freqs.now in
-    let docs_are : c.deref.result.now ≡ doc_sequence list = c.deref.ensures.value ∙ c.in_ok-numbers.ensures ∙ sym (docs-of_postings c.args.docs.now c.args.freqs.now c.requires.same_length) in
+    let docs_are : c.deref.result.now ≡ doc_sequence list = c.deref.ensures.value ∙ c.in_ok-values.ensures ∙ sym (docs-of_postings c.args.docs.now c.args.freqs.now c.requires.same_length) in
     let sums_are : c.deref-2.result.now ≡ freq_sequence list =
     c.deref-2.ensures.value ∙ c.in_ok-sums.ensures ∙ ap (λ fs. lessened (sums_from 0 fs)) (sym (freqs-of_postings c.args.docs.now c.args.freqs.now c.requires.same_length)) in
     let first : c.write_seq.new.to.items ≡ sequence_words format_one (doc_sequence list) c.args.doc_ends.now =

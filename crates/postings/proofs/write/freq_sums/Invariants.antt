@@ -2,7 +2,7 @@ use Rattle.std.proofs.Common.{◌≡◌, ◌+◌, ◌≤◌, ◌++◌, drop}
 use Rattle.std.specs.List.{sum}
 use Rattle.collection_model.specs.FormatNumbers.{format_one}
 use Rattle.collection_model.specs.Sequences.{lessened, sums_from}
-use Rattle.postings.proofs.write.lessened_sums.Given as goal
+use Rattle.postings.proofs.write.freq_sums.Given as goal
 
 abbrev pub invariant-loop-freq : goal.invariant-loop-freq
 invariant-loop-freq l = record {

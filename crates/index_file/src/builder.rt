@@ -1,0 +1,184 @@
+ghost use Rattle.std.specs.Prelude.{◌≡◌, ℕ, ◌≤◌, ◌<◌, ◌+◌, ◌*◌, ◌/◌, ◌^◌, List, [], length, IfOk, OnOk, OnErr};
+ghost use Rattle.collection_model.specs.FormatNumbers.{format_one, most_terms};
+ghost use Rattle.collection_model.specs.Collection.{postings_of, IsPostingList};
+ghost use Rattle.collection_model.specs.Sequences.{doc_sequence};
+ghost use Rattle.part_cost.specs.Span.{cost_of_part};
+ghost use Rattle.part_cost.specs.Partition.{partition_cost};
+ghost use Rattle.index_file.specs.FileWords.{CutList, words_of_file};
+ghost use Rattle.index_file.specs.Builder.{StandsFor, IsNearCut, AddsList, lists_added, most_words, cut_list, with_list};
+
+use crate::entries::{list_entry, push_sizes};
+use crate::partitions::cut;
+use partition_path::Cuts;
+use postings::{NoMemory, doc_values, freq_sums, sequences_of_a_list_rise, write_postings};
+use std::alloc::Global;
+use std::marker::Model;
+use std::sync::ledger::Ledger;
+use step_count::Steps;
+use two_level::sequence_takes_its_cost;
+
+/// The bytes at the beginning of a file.
+const OPENING_MAGIC: &[u8; 8] = b"PEFINDEX";
+
+/// The bytes at the end of a file.
+const END_MAGIC: &[u8; 8] = b"XEDNIFEP";
+
+/// The version of the format.
+const VERSION: u64 = 1;
+
+/// The greatest number of words of a file.
+const MOST_WORDS: u64 = 1 << 37;
+
+/// How many words of the directory are those of one list.
+const ENTRY_WORDS: u64 = 4;
+
+/// How many words stand behind the directory.
+const CLOSING_WORDS: u64 = 4;
+
+/// Why there is no file.
+#[derive(Clone, Copy, Debug, PartialEq, Eq)]
+pub enum FinishError {
+    /// There would be so many words, more than 2^37.
+    TooLarge(u64),
+    /// Memory was refused.
+    NoMemory,
+}
+
+/// The words of an index, list by list.
+#[derive(Drop)]
+pub struct Builder {
+    alloc: Global,
+    documents: u32,
+    words: Vec<u64>,
+    directory: Vec<u64>,
+}
+
+impl Model for Builder {
+    ghost use Rattle.std.specs.Prelude.{drop};
+    ghost use Rattle.index_file.specs.Builder.{Built, IsKept};
+
+    ghost Value = { Built };
+
+    ghost view = { λ b. record { documents = b.documents; words = drop 2 b.words.items; directory = b.directory.items } };
+
+    ghost invariant = { λ b. IsKept b.documents b.words.items b.directory.items };
+}
+
+impl Builder {
+    /// The builder of an index of so many documents, with no list.
+    pub fn new(alloc: Global, documents: u32) -> Result<Builder, NoMemory>
+        requires few { documents ≤ format_one.most_documents }
+        ensures documents { IfOk result (λ b. b.documents ≡ documents) }
+        ensures no_list { IfOk result (λ b. StandsFor b []) }
+    {
+        let mut words = Vec::new(alloc);
+        words.extend_from_slice(&[u64::from_le_bytes(*OPENING_MAGIC), VERSION])?;
+        let directory = Vec::new(alloc);
+        Ok(Builder {
+            alloc,
+            documents,
+            words,
+            directory,
+        })
+    }
+
+    /// Adds a list, its two sequences in near-cheapest parts. A refusal leaves the lists as they were.
+    pub fn add_list<L: Ledger>(
+        &mut self,
+        docs: &[u32],
+        freqs: &[u32],
+        steps: &mut Steps<L>,
+    ) -> Result<(), NoMemory>
+        requires same_length { length docs.now ≡ length freqs.now }
+        requires list { IsPostingList format_one self.old.documents (postings_of docs.now freqs.now) }
+        requires room { lists_added self.old < most_terms }
+        ensures ok { OnOk result (AddsList self.old self.new (postings_of docs.now freqs.now) steps.old steps.new) }
+        ensures err { OnErr result (self.new ≡ self.old) }
+        // At most 3 * 114 counted costs for each number and one more, in each of the two sequences.
+        ensures bounded { steps.new ≤ steps.old + 6 * 114 * (length docs.now + 1) }
+    {
+        sequences_of_a_list_rise();
+        let doc_cuts = cut(self.alloc, &doc_values(self.alloc, docs)?, steps)?;
+        let freq_cuts = cut(self.alloc, &freq_sums(self.alloc, freqs)?, steps)?;
+        self.append(docs, freqs, &doc_cuts, &freq_cuts)
+    }
+
+    // Appends a list whose sequences are cut so.
+    fn append(
+        &mut self,
+        docs: &[u32],
+        freqs: &[u32],
+        doc_cuts: &Cuts,
+        freq_cuts: &Cuts,
+    ) -> Result<(), NoMemory>
+        requires same_length { length docs.now ≡ length freqs.now }
+        requires list { IsPostingList format_one self.old.documents (postings_of docs.now freqs.now) }
+        requires room { lists_added self.old < most_terms }
+        requires near { IsNearCut (cut_list docs.now freqs.now doc_cuts.now.ends freq_cuts.now.ends) }
+        requires total { doc_cuts.now.total ≡ partition_cost (cost_of_part format_one.charge (doc_sequence (postings_of docs.now freqs.now))) doc_cuts.now.ends }
+        ensures ok { OnOk result (self.new ≡ with_list self.old (cut_list docs.now freqs.now doc_cuts.now.ends freq_cuts.now.ends)) }
+        ensures err { OnErr result (self.new ≡ self.old) }
+    {
+        sequence_takes_its_cost();
+        let first = self.words.len();
+        let entry = list_entry(first as u64, freqs, doc_cuts, freq_cuts);
+        write_postings(
+            self.alloc,
+            docs,
+            freqs,
+            doc_cuts.ends(),
+            freq_cuts.ends(),
+            &mut self.words,
+        )?;
+        if self.directory.extend_from_slice(&entry).is_err() {
+            self.words.truncate(first);
+            return Err(NoMemory);
+        }
+        Ok(())
+    }
+
+    /// The words of the file of the lists, with these sizes. A file of more than 2^37 words is refused before memory is taken.
+    pub fn finish(self, sizes: &[u32]) -> Result<Vec<u64>, FinishError>
+        requires sizes { length sizes.now ≡ self.documents }
+        ensures words { (cs : List CutList) → StandsFor self cs → IfOk result (λ words. words.items ≡ words_of_file format_one self.documents cs sizes.now) }
+        ensures within { IfOk result (λ words. length words.items ≤ most_words) }
+        ensures too_large { (n : ℕ) → result ≡ Err (FinishError.TooLarge n) → most_words < n }
+        ensures would_be { (n : ℕ) → result ≡ Err (FinishError.TooLarge n)
+            → (cs : List CutList) → StandsFor self cs → n ≡ length (words_of_file format_one self.documents cs sizes.now) }
+        ensures refused { (cs : List CutList) → StandsFor self cs → most_words < length (words_of_file format_one self.documents cs sizes.now)
+            → result ≡ Err (FinishError.TooLarge (length (words_of_file format_one self.documents cs sizes.now))) }
+    {
+        let count = self.count_words(sizes.len() as u64);
+        if count > MOST_WORDS {
+            return Err(FinishError::TooLarge(count));
+        }
+        self.into_words(sizes).map_err(|_| FinishError::NoMemory)
+    }
+
+    // How many words the file has with so many sizes.
+    fn count_words(&self, sizes: u64) -> u64
+        requires few { sizes < 2 ^ 32 }
+        ensures { result ≡ 2 + length self.now.words + (sizes + 1) / 2 + length self.now.directory + 4 }
+    {
+        self.words.len() as u64 + sizes.div_ceil(2) + self.directory.len() as u64 + CLOSING_WORDS
+    }
+
+    // The words of the file.
+    fn into_words(self, sizes: &[u32]) -> Result<Vec<u64>, NoMemory>
+        ensures { (cs : List CutList) → StandsFor self cs → IfOk result (λ words. words.items ≡ words_of_file format_one self.documents cs sizes.now) }
+    {
+        let Builder {
+            alloc: _,
+            documents,
+            mut words,
+            directory,
+        } = self;
+        let lists = directory.len() as u64 / ENTRY_WORDS;
+        let sizes_from = words.len() as u64;
+        push_sizes(&mut words, sizes)?;
+        words.extend_from_slice(&directory)?;
+        let end_magic = u64::from_le_bytes(*END_MAGIC);
+        words.extend_from_slice(&[u64::from(documents), lists, sizes_from, end_magic])?;
+        Ok(words)
+    }
+}

@@ -1,0 +1,44 @@
+ghost use Rattle.std.specs.Prelude.{◌≡◌, ◌≢◌, ◌↔◌, ℕ, ◌%◌, length, IfOk};
+ghost use Rattle.collection_model.specs.Bytes.{word_bytes};
+
+use postings::NoMemory;
+use std::alloc::Global;
+
+/// Why bytes are no words.
+#[derive(Clone, Copy, Debug, PartialEq, Eq)]
+pub enum WordsError {
+    /// The number of bytes is no multiple of eight.
+    Ragged,
+    /// Memory was refused.
+    NoMemory,
+}
+
+/// The bytes of words, eight a word, the lowest first.
+pub fn spell_words(alloc: Global, words: &[u64]) -> Result<Vec<u8>, NoMemory>
+    ensures { IfOk result (λ bytes. bytes.items ≡ word_bytes words.now) }
+{
+    let mut bytes = Vec::new(alloc);
+    for word in words {
+        bytes.extend_from_slice(&word.to_le_bytes())?;
+    }
+    Ok(bytes)
+}
+
+/// The words of bytes, eight a word, the lowest first. Ragged is answered before memory is taken.
+pub fn read_words(alloc: Global, bytes: &[u8]) -> Result<Vec<u64>, WordsError>
+    ensures words { IfOk result (λ words. bytes.now ≡ word_bytes words.items) }
+    ensures whole { IfOk result (λ words. length bytes.now % 8 ≡ 0) }
+    ensures ragged { (result ≡ Err WordsError.Ragged) ↔ (length bytes.now % 8 ≢ 0) }
+{
+    let (pieces, rest) = bytes.as_chunks::<8>();
+    if !rest.is_empty() {
+        return Err(WordsError::Ragged);
+    }
+    let mut words = Vec::new(alloc);
+    for piece in pieces {
+        words
+            .push(u64::from_le_bytes(*piece))
+            .map_err(|_| WordsError::NoMemory)?;
+    }
+    Ok(words)
+}
