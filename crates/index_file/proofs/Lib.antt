@@ -4,3 +4,17 @@ pub mod Lengths
 pub mod Files
 pub mod Added
 pub mod Spelled
+pub mod Checks
+pub mod OneList
+pub mod TermFaults
+pub mod Agree
+pub mod Standing
+pub mod Fronts
+pub mod Frames
+pub mod FilePieces
+pub mod Spelling
+pub mod FirstFaults
+pub mod StatedIndex
+pub mod Reading
+pub mod OneFault
+pub mod Sums

@@ -1,9 +1,12 @@
 use Rattle.std.specs.Prelude.{◌≡◌, ℕ, ◌%◌, ◌^◌, ◌<◌, ◌≤◌, List, map, length}
 use Rattle.std.specs.List.{All}
-use Rattle.collection_model.specs.FormatNumbers.{format_one, most_terms}
+use Rattle.collection_model.specs.FormatNumbers.{format_one, most_terms, FormatNumbers}
 use Rattle.collection_model.specs.Bytes.{word_bytes, AreBytes}
-use Rattle.index_file.specs.FileWords.{CutList, words_of_file, Spells}
+use Rattle.index_file.specs.FileWords.{CutList, words_of_file, Spells, ListParts, IsIndex}
 use Rattle.index_file.specs.Builder.{Built, lists_added, StandsFor}
+use Rattle.collection_model.specs.Collection.{Collection}
+use Rattle.index_file.specs.declared.fault.OpenFault.{OpenFault}
+use Rattle.index_file.specs.FirstBroken.{IsFirstBroken}
 
 -- Words of 64 bits with the same bytes are the same words.
 abbrev pub WordsAreRead : Type 0
@@ -23,3 +26,13 @@ FilesSpellCollections =
     (b : Built) (cs : List CutList) (sizes : List ℕ) → StandsFor b cs → b.documents ≤ format_one.most_documents → length cs ≤ most_terms
     → length sizes ≡ b.documents → All (λ s. s < 2 ^ 32) sizes
     → Spells format_one (words_of_file format_one b.documents cs sizes) (record { documents = b.documents; lists = map (λ c. c.list) cs; sizes = sizes }) (map (λ c. c.parts) cs)
+
+-- Words spell one collection in one way only.
+abbrev pub OneIndex : FormatNumbers → Type 0
+OneIndex format =
+    (words : List ℕ) (c d : Collection) (e f : List ListParts) → Spells format words c e → Spells format words d f → (c ≡ d) × (e ≡ f)
+
+-- Words that are no index have one first broken check only, and an index has none.
+pub record OneBrokenCheck (format : FormatNumbers) : Type 0 where
+  pub one : (words : List ℕ) (f g : OpenFault) → IsFirstBroken format words f → IsFirstBroken format words g → f ≡ g
+  pub none_in_index : (words : List ℕ) (f : OpenFault) → IsIndex format words → IsFirstBroken format words f → ⊥

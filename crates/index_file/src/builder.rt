@@ -8,6 +8,7 @@ ghost use Rattle.index_file.specs.FileWords.{CutList, words_of_file};
 ghost use Rattle.index_file.specs.Builder.{StandsFor, IsNearCut, AddsList, lists_added, most_words, cut_list, with_list};
 
 use crate::entries::{list_entry, push_sizes};
+use crate::frame::{END_MAGIC, LIST_WORDS, OPENING_MAGIC, VERSION, WORDS_BEHIND};
 use crate::partitions::cut;
 use partition_path::Cuts;
 use postings::{NoMemory, doc_values, freq_sums, sequences_of_a_list_rise, write_postings};
@@ -17,23 +18,8 @@ use std::sync::ledger::Ledger;
 use step_count::Steps;
 use two_level::sequence_takes_its_cost;
 
-/// The bytes at the beginning of a file.
-const OPENING_MAGIC: &[u8; 8] = b"PEFINDEX";
-
-/// The bytes at the end of a file.
-const END_MAGIC: &[u8; 8] = b"XEDNIFEP";
-
-/// The version of the format.
-const VERSION: u64 = 1;
-
 /// The greatest number of words of a file.
 const MOST_WORDS: u64 = 1 << 37;
-
-/// How many words of the directory are those of one list.
-const ENTRY_WORDS: u64 = 4;
-
-/// How many words stand behind the directory.
-const CLOSING_WORDS: u64 = 4;
 
 /// Why there is no file.
 #[derive(Clone, Copy, Debug, PartialEq, Eq)]
@@ -72,7 +58,7 @@ impl Builder {
         ensures no_list { IfOk result (λ b. StandsFor b []) }
     {
         let mut words = Vec::new(alloc);
-        words.extend_from_slice(&[u64::from_le_bytes(*OPENING_MAGIC), VERSION])?;
+        words.extend_from_slice(&[OPENING_MAGIC, VERSION])?;
         let directory = Vec::new(alloc);
         Ok(Builder {
             alloc,
@@ -160,7 +146,7 @@ impl Builder {
         requires few { sizes < 2 ^ 32 }
         ensures { result ≡ 2 + length self.now.words + (sizes + 1) / 2 + length self.now.directory + 4 }
     {
-        self.words.len() as u64 + sizes.div_ceil(2) + self.directory.len() as u64 + CLOSING_WORDS
+        self.words.len() as u64 + sizes.div_ceil(2) + self.directory.len() as u64 + WORDS_BEHIND
     }
 
     // The words of the file.
@@ -173,12 +159,11 @@ impl Builder {
             mut words,
             directory,
         } = self;
-        let lists = directory.len() as u64 / ENTRY_WORDS;
+        let lists = directory.len() as u64 / LIST_WORDS;
         let sizes_from = words.len() as u64;
         push_sizes(&mut words, sizes)?;
         words.extend_from_slice(&directory)?;
-        let end_magic = u64::from_le_bytes(*END_MAGIC);
-        words.extend_from_slice(&[u64::from(documents), lists, sizes_from, end_magic])?;
+        words.extend_from_slice(&[u64::from(documents), lists, sizes_from, END_MAGIC])?;
         Ok(words)
     }
 }

@@ -1,4 +1,8 @@
-ghost use Rattle.index_file.specs.Laws.{BytesAreSpelled, FilesSpellCollections, ListsAreCounted, WordsAreRead};
+ghost use Rattle.collection_model.specs.FormatNumbers.{format_one};
+ghost use Rattle.index_file.specs.Laws.{BytesAreSpelled, FilesSpellCollections, ListsAreCounted, OneBrokenCheck, OneIndex, WordsAreRead};
+
+use postings::{sequences_give_their_list, sequences_of_a_list_rise};
+use two_level::{checks_stand_at_a_word, one_sequence, words_state_their_sequence};
 
 /// Words and their bytes undo each other: words of 64 bits are all that their bytes can be read as, and bytes in whole eights are
 /// those of such words.
@@ -16,3 +20,24 @@ pub fn lists_are_counted()
 pub fn files_spell_collections()
     ensures { FilesSpellCollections }
 {}
+
+/// Words are an index of one collection in one cut only.
+pub fn one_index()
+    ensures { OneIndex format_one }
+{
+    checks_stand_at_a_word();
+    one_sequence();
+    sequences_of_a_list_rise();
+    sequences_give_their_list();
+    words_state_their_sequence();
+}
+
+/// Words that are no index have one first broken check, and an index has none.
+pub fn one_broken_check()
+    ensures { OneBrokenCheck format_one }
+{
+    checks_stand_at_a_word();
+    one_sequence();
+    sequences_of_a_list_rise();
+    sequences_give_their_list();
+}

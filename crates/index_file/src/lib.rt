@@ -1,15 +1,27 @@
-// The words and bytes of an index file, written list by list.
+// The words of an index file: written list by list, spelled as bytes, checked and opened.
 #![tactic(auto)]
 
 mod builder;
 mod bytes;
+mod checking;
 mod entries;
+mod fault;
+mod frame;
+mod index;
 mod laws;
+mod lists;
 mod partitions;
+mod sequences;
 #[cfg(test)]
 mod tests;
+mod totals;
 
 pub use builder::{Builder, FinishError};
 pub use bytes::{WordsError, read_words, spell_words};
-pub use laws::{files_spell_collections, lists_are_counted, words_and_bytes_undo_each_other};
+pub use fault::OpenFault;
+pub use index::Index;
+pub use laws::{
+    files_spell_collections, lists_are_counted, one_broken_check, one_index,
+    words_and_bytes_undo_each_other,
+};
 pub use postings::NoMemory;

@@ -1,0 +1,40 @@
+use Rattle.std.proofs.Common.{◌≡◌, ◌<◌, [], ◌∷◌, ◌++◌, length, subst, arith, rules}
+use Rattle.std.specs.Result.{IfErr}
+use Rattle.std.proofs.lemmas.Result.{IfErr-weaker}
+use Rattle.collection_model.specs.FormatNumbers.{format_one}
+use Rattle.index_file.specs.FirstBroken.{stated_terms, IsTermFault}
+use Rattle.index_file.specs.ListAt.{IsFirstListFault}
+use Rattle.index_file.proofs.Standing.{Below}
+use Rattle.index_file.proofs.Fronts.{reached-first, reached-next, reached-front, reached-fault}
+use Rattle.index_file.proofs.checking.check_lists.Goals as goal
+
+pub loop-t-init : goal.loop-t-init
+loop-t-init c = ([], reached-first c.args.words.now c.requires.frame)
+
+pub loop-t-preserved : goal.loop-t-preserved
+loop-t-preserved c =
+    let r = c.loop-t.invariant in
+    let next = c.in_ok-p.ensures.ok in
+    (r.0 ++ next.0 ∷ [], reached-next c.args.words.now c.loop-t.t c.loop-t.p c.in_ok-p.p r.0 next.0 r.1 next.1 next.2)
+
+pub returns-in_err-p-clause-first : goal.returns-in_err-p-clause-first
+returns-in_err-p-clause-first c =
+    let r = c.loop-t.invariant in
+    let laws : Below = record {
+      stand = c.checks_stand_at_a_word.ensures.sequence;
+      one = c.one_sequence.ensures;
+      rise = c.sequences_of_a_list_rise.ensures;
+      give = c.sequences_give_their_list.ensures;
+    } in
+    let same : c.check_list.result ≡ c.from_residual.result = first_of (search rules, cc) in
+    let within : c.loop-t.t < stated_terms c.args.words.now = omega (arith, c.loop-t-test.true, c.frame_of-terms.ensures.terms) in
+    subst (λ x. IfErr x (λ f. IsFirstListFault format_one c.args.words.now f)) same
+    (IfErr-weaker c.check_list.result (λ f. IsTermFault format_one c.args.words.now c.loop-t.t c.loop-t.p f) (λ f. IsFirstListFault format_one c.args.words.now f)
+    (λ f h. reached-fault laws c.args.words.now c.loop-t.t c.loop-t.p r.0 f c.requires.frame within r.1 h)
+    c.check_list.ensures.first)
+
+pub returns-clause-ok : goal.returns-clause-ok
+returns-clause-ok c =
+    let r = c.loop-t.invariant in
+    let all : length c.loop-t.invariant.0 ≡ stated_terms c.args.words.now = omega (arith, r.1.count, c.loop-t-test.false, c.loop-t.auto.t-end, c.frame_of-terms.ensures.terms) in
+    (r.0, reached-front c.args.words.now c.loop-t.t c.loop-t.p r.0 c.requires.frame (omega (arith, r.1.count, all)) r.1, all, r.1.place)

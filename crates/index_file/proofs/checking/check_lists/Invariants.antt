@@ -1,0 +1,7 @@
+use Rattle.std.proofs.Common.{List}
+use Rattle.index_file.specs.FileWords.{CutList}
+use Rattle.index_file.proofs.Fronts.{Reached}
+use Rattle.index_file.proofs.checking.check_lists.Given as goal
+
+abbrev pub invariant-loop-t : goal.invariant-loop-t
+invariant-loop-t l = (cs : List CutList) × Reached l.words l.t l.p cs

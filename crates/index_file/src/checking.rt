@@ -1,0 +1,76 @@
+ghost use Rattle.std.specs.Prelude.{◌≡◌, ℕ, ◌≤◌, ◌<◌, ◌+◌, ◌^◌, List, length, None, IfOk, IfErr, IfSome, OnOk};
+ghost use Rattle.collection_model.specs.FormatNumbers.{format_one};
+ghost use Rattle.index_file.specs.FileWords.{CutList, lists_words, IsIndex};
+ghost use Rattle.index_file.specs.FirstBroken.{stated_terms, IsFileFront, IsClosingFault, IsFirstBroken};
+ghost use Rattle.index_file.specs.ListAt.{HasFrame, IsFirstListFault, PassesClosing};
+
+use crate::fault::OpenFault;
+use crate::frame::{WORDS_BEFORE, directory_of, frame_fault, frame_of};
+use crate::lists::{HALF, check_list};
+use postings::{sequences_give_their_list, sequences_of_a_list_rise};
+use two_level::{Check, checks_stand_at_a_word, one_sequence};
+
+// Looks for the first check of the lists that breaks, and answers the word behind their sequences.
+fn check_lists(words: &[u64]) -> Result<u64, OpenFault>
+    requires words { length words.now < 2 ^ 57 }
+    requires frame { HasFrame format_one words.now }
+    ensures ok { IfOk result (λ p. (cs : List CutList) × IsFileFront format_one words.now cs × (length cs ≡ stated_terms words.now) × (p ≡ 2 + length (lists_words format_one cs))) }
+    ensures first { IfErr result (λ f. IsFirstListFault format_one words.now f) }
+{
+    checks_stand_at_a_word();
+    one_sequence();
+    sequences_of_a_list_rise();
+    sequences_give_their_list();
+    let terms = frame_of(words).terms as u32;
+    let mut p = WORDS_BEFORE;
+    for t in 0..terms {
+        p = check_list(words, t, p)?;
+    }
+    Ok(p)
+}
+
+// The check behind all lists that breaks, where p is the next word.
+fn closing_fault(words: &[u64], p: u64) -> Option<OpenFault>
+    requires words { length words.now < 2 ^ 57 }
+    requires frame { HasFrame format_one words.now }
+    ensures some { IfSome result (λ f. IsClosingFault words.now p f) }
+    ensures none { result ≡ None → PassesClosing words.now p }
+{
+    let frame = frame_of(words);
+    if p != frame.sizes {
+        return Some(OpenFault {
+            check: Check::K6,
+            term: frame.terms as u32,
+            part: 0,
+        });
+    }
+    let is_odd = frame.documents % 2 == 1;
+    if is_odd && words[directory_of(frame) as usize - 1] / HALF != 0 {
+        return Some(OpenFault {
+            check: Check::K11,
+            term: 0,
+            part: 0,
+        });
+    }
+    None
+}
+
+// Looks for the first check of the words that breaks.
+pub(crate) fn check_file(words: &[u64]) -> Result<(), OpenFault>
+    requires words { length words.now < 2 ^ 57 }
+    ensures ok { OnOk result (IsIndex format_one words.now) }
+    ensures first { IfErr result (λ f. IsFirstBroken format_one words.now f) }
+{
+    if let Some(check) = frame_fault(words) {
+        return Err(OpenFault {
+            check,
+            term: 0,
+            part: 0,
+        });
+    }
+    let p = check_lists(words)?;
+    match closing_fault(words, p) {
+        Some(fault) => Err(fault),
+        None => Ok(()),
+    }
+}

@@ -1,0 +1,97 @@
+ghost use Rattle.std.specs.Prelude.{◌≡◌, ◌≤◌, ◌<◌, ◌+◌, ◌/◌, ◌^◌, length};
+ghost use Rattle.collection_model.specs.FormatNumbers.{format_one};
+ghost use Rattle.index_file.specs.FirstBroken.{stated_documents, stated_terms, stated_sizes, numbers_break, frame_broken};
+
+use two_level::Check;
+
+/// The word at the beginning of a file, the bytes `PEFINDEX`.
+pub(crate) const OPENING_MAGIC: u64 = 6_360_565_151_758_173_520;
+
+/// The word at the end of a file, the bytes `XEDNIFEP`.
+pub(crate) const END_MAGIC: u64 = 5_784_106_577_086_924_120;
+
+/// The version of the format.
+pub(crate) const VERSION: u64 = 1;
+
+/// The greatest number of documents.
+pub(crate) const MOST_DOCUMENTS: u64 = 268_435_455;
+
+/// The greatest number of lists.
+pub(crate) const MOST_TERMS: u64 = 4_294_967_295;
+
+/// How many words stand before the lists.
+pub(crate) const WORDS_BEFORE: u64 = 2;
+
+/// How many directory words a list has.
+pub(crate) const LIST_WORDS: u64 = 4;
+
+/// How many words stand behind the directory words.
+pub(crate) const WORDS_BEHIND: u64 = 4;
+
+/// The numbers at the end of the words.
+#[derive(Clone, Copy)]
+pub(crate) struct Frame {
+    pub(crate) documents: u64,
+    pub(crate) terms: u64,
+    // The first word of the sizes.
+    pub(crate) sizes: u64,
+}
+
+// The numbers at the end of the words.
+pub(crate) fn frame_of(words: &[u64]) -> Frame
+    requires some { 4 ≤ length words.now }
+    ensures documents { result.documents ≡ stated_documents words.now }
+    ensures terms { result.terms ≡ stated_terms words.now }
+    ensures sizes { result.sizes ≡ stated_sizes words.now }
+{
+    Frame {
+        documents: words[words.len() - 4],
+        terms: words[words.len() - 3],
+        sizes: words[words.len() - 2],
+    }
+}
+
+// The first directory word.
+pub(crate) fn directory_of(frame: Frame) -> u64
+    requires few { frame.documents ≤ format_one.most_documents }
+    requires small { frame.sizes < 2 ^ 57 }
+    ensures { result ≡ frame.sizes + (frame.documents + 1) / 2 }
+{
+    frame.sizes + frame.documents.div_ceil(2)
+}
+
+// The check of the frame that breaks.
+pub(crate) fn frame_fault(words: &[u64]) -> Option<Check>
+    ensures { result ≡ frame_broken format_one words.now }
+{
+    if words.len() < 6 {
+        return Some(Check::K1);
+    }
+    if words[0] != OPENING_MAGIC {
+        return Some(Check::K2);
+    }
+    if words[1] != VERSION {
+        return Some(Check::K3);
+    }
+    if words[words.len() - 1] != END_MAGIC {
+        return Some(Check::K4);
+    }
+    if numbers_break(frame_of(words), words.len() as u64) {
+        return Some(Check::K5);
+    }
+    None
+}
+
+// Whether the numbers at the end of so many words can't be theirs.
+fn numbers_break(frame: Frame, count: u64) -> bool
+    ensures { result ≡ numbers_break format_one frame.documents frame.terms frame.sizes count }
+{
+    let stated = u128::from(frame.sizes)
+        + u128::from(frame.documents).div_ceil(2)
+        + u128::from(LIST_WORDS) * u128::from(frame.terms)
+        + u128::from(WORDS_BEHIND);
+    frame.documents > MOST_DOCUMENTS
+        || frame.terms > MOST_TERMS
+        || frame.sizes < WORDS_BEFORE
+        || stated != u128::from(count)
+}

@@ -1,0 +1,135 @@
+ghost use Rattle.std.specs.Prelude.{◌≡◌, ℕ, ◌≤◌, ◌<◌, ◌^◌, List, length, drop, sum, slice_index, IfOk, IfErr};
+ghost use Rattle.collection_model.specs.FormatNumbers.{format_one};
+ghost use Rattle.collection_model.specs.Collection.{Collection, list_of};
+ghost use Rattle.two_level.specs.SequenceView.{SequenceView, BeginWith};
+ghost use Rattle.index_file.specs.FileWords.{ListParts, Spells, IsIndex};
+ghost use Rattle.index_file.specs.FirstBroken.{stated_terms, IsFirstBroken};
+ghost use Rattle.index_file.specs.IndexView as of;
+
+use crate::checking::check_file;
+use crate::fault::OpenFault;
+use crate::frame::frame_of;
+use crate::lists::list_entry;
+use crate::totals::{all_postings, all_sizes, size_at};
+use cursor_api::DocCursor;
+use postings::{PostingCursor, sequences_give_their_list, sequences_of_a_list_rise};
+use std::marker::Model;
+use two_level::{SeqView, checks_stand_at_a_word, one_sequence, words_state_their_sequence};
+
+/// An index over the words of its file.
+#[derive(Drop)]
+pub struct Index<'a> {
+    words: &'a [u64],
+}
+
+impl<'a> Model for Index<'a> {
+    ghost use Rattle.std.specs.Prelude.{◌<◌, ◌^◌, length};
+    ghost use Rattle.collection_model.specs.FormatNumbers.{format_one};
+    ghost use Rattle.index_file.specs.FileWords.{Spells};
+    ghost use Rattle.index_file.specs.IndexView.{IndexView, index_stated};
+
+    ghost Value = { IndexView };
+
+    ghost view = { λ i. index_stated i.words.now };
+
+    ghost invariant = { λ i. Spells format_one i.words.now (index_stated i.words.now).collection (index_stated i.words.now).parts × (length i.words.now < 2 ^ 57) };
+}
+
+impl<'a> Index<'a> {
+    /// The index that the words are, or their first broken check.
+    pub fn view(words: &'a [u64]) -> Result<Index<'a>, OpenFault>
+        requires words { length words.now < 2 ^ 57 }
+        ensures ok { IfOk result (λ index. Spells format_one words.entry.now index.collection index.parts) }
+        ensures no_index { IfErr result (λ f. ¬ IsIndex format_one words.entry.now) }
+        ensures first { IfErr result (λ f. IsFirstBroken format_one words.entry.now f) }
+    {
+        checks_stand_at_a_word();
+        one_sequence();
+        sequences_of_a_list_rise();
+        sequences_give_their_list();
+        words_state_their_sequence();
+        check_file(words)?;
+        Ok(Index { words })
+    }
+
+    /// How many documents there are.
+    pub fn documents(&self) -> u32
+        ensures { result ≡ self.now.collection.documents }
+    {
+        frame_of(self.words).documents as u32
+    }
+
+    /// How many lists there are.
+    pub fn terms(&self) -> u32
+        ensures { result ≡ length self.now.collection.lists }
+    {
+        frame_of(self.words).terms as u32
+    }
+
+    /// How many postings all lists have.
+    pub fn postings(&self) -> u64
+        ensures { result ≡ of.postings_count self.now }
+    {
+        all_postings(self.words)
+    }
+
+    /// The size of document d.
+    pub fn size_of(&self, d: u32) -> u32
+        requires within { d < self.now.collection.documents }
+        ensures { result ≡ slice_index self.now.collection.sizes d }
+    {
+        size_at(self.words, d)
+    }
+
+    /// The sum of all sizes.
+    pub fn size_total(&self) -> u64
+        ensures { result ≡ sum self.now.collection.sizes }
+    {
+        all_sizes(self.words)
+    }
+
+    /// How many words the file has.
+    pub fn word_count(&self) -> u64
+        ensures { result ≡ of.word_count self.now }
+    {
+        self.words.len() as u64
+    }
+
+    /// A cursor at the start of list t.
+    pub fn cursor(&self, t: u32) -> PostingCursor<'a>
+        requires within { t < length self.now.collection.lists }
+        ensures list { ⟦<PostingCursor<'a> as DocCursor>⟧.list result ≡ list_of self.now.collection t }
+        ensures start { ⟦<PostingCursor<'a> as DocCursor>⟧.place result ≡ 0 }
+    {
+        cursor_at(self.words, t)
+    }
+}
+
+// The sequence of m values in so many parts with which the words from word p on begin.
+fn known_at<'a>(words: &'a [u64], p: u64, parts: u32, m: u32) -> SeqView<'a>
+    requires words { length words.now < 2 ^ 57 }
+    requires within { p ≤ length words.now }
+    requires checked { (v : SequenceView) × BeginWith (drop p words.now) parts m v }
+    ensures same { (v : SequenceView) → BeginWith (drop p words.entry.now) parts m v → result ≡ v }
+{
+    SeqView::known(&words[p as usize..], parts, m)
+}
+
+// A cursor at the start of list t of the words of an index.
+fn cursor_at<'a>(words: &'a [u64], t: u32) -> PostingCursor<'a>
+    requires words { length words.now < 2 ^ 57 }
+    requires index { IsIndex format_one words.now }
+    requires within { t < stated_terms words.now }
+    ensures list { (c : Collection) (parts : List ListParts) → Spells format_one words.entry.now c parts → ⟦<PostingCursor<'a> as DocCursor>⟧.list result ≡ list_of c t }
+    ensures start { ⟦<PostingCursor<'a> as DocCursor>⟧.place result ≡ 0 }
+{
+    checks_stand_at_a_word();
+    one_sequence();
+    sequences_of_a_list_rise();
+    sequences_give_their_list();
+    words_state_their_sequence();
+    let list = list_entry(words, t);
+    let docs = known_at(words, list.docs, list.doc_parts, list.len);
+    let freqs = known_at(words, list.sums, list.sum_parts, list.len);
+    PostingCursor::new(docs, freqs, list.greatest)
+}

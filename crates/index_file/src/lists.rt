@@ -1,0 +1,173 @@
+ghost use Rattle.std.specs.Prelude.{◌≡◌, ℕ, ◌≤◌, ◌<◌, ◌+◌, ◌*◌, ◌/◌, ◌%◌, ◌^◌, ◌==◌, ◌||◌, not, nat_lt, true, length, IfOk, IfErr};
+ghost use Rattle.collection_model.specs.FormatNumbers.{format_one};
+ghost use Rattle.two_level.specs.SequenceView.{SequenceView, words_used};
+ghost use Rattle.two_level.specs.SequenceFault.{parts_fit};
+ghost use Rattle.index_file.specs.FileWords.{CutList};
+ghost use Rattle.index_file.specs.FirstBroken.{stated_terms, stated_sizes, term_word, stated_length, stated_doc_parts, stated_freq_parts, stated_greatest, cannot_begin, IsFreqsFault, IsTermFault};
+ghost use Rattle.index_file.specs.ListAt.{HasFrame, StandsAt, FreqsStandAt, word_after};
+
+use crate::fault::OpenFault;
+use crate::frame::{Frame, LIST_WORDS, directory_of, frame_of};
+use crate::sequences::{ENTRY_WORDS, MOST_SUM, Span, greatest_step, sequence_at};
+use postings::sequences_are_a_list;
+use two_level::{Check, SeqFault, one_sequence};
+
+/// A half of a word counts so many numbers.
+pub(crate) const HALF: u64 = 1 << 32;
+
+// The directory words of a list.
+#[derive(Clone, Copy)]
+pub(crate) struct ListEntry {
+    // The first words of its two sequences.
+    pub(crate) docs: u64,
+    pub(crate) sums: u64,
+    pub(crate) len: u32,
+    pub(crate) doc_parts: u32,
+    pub(crate) sum_parts: u32,
+    // The greatest frequency.
+    pub(crate) greatest: u32,
+}
+
+// The low and the high half of a word.
+pub(crate) fn halves(word: u64) -> (u32, u32)
+    ensures low { result.0 ≡ word % 2 ^ 32 }
+    ensures high { result.1 ≡ word / 2 ^ 32 }
+{
+    ((word % HALF) as u32, (word / HALF) as u32)
+}
+
+// The directory words of list t.
+pub(crate) fn list_entry(words: &[u64], t: u32) -> ListEntry
+    requires words { length words.now < 2 ^ 57 }
+    requires frame { HasFrame format_one words.now }
+    requires within { t < stated_terms words.now }
+    ensures docs { result.docs ≡ term_word words.now t 0 }
+    ensures sums { result.sums ≡ term_word words.now t 1 }
+    ensures len { result.len ≡ stated_length words.now t }
+    ensures doc_parts { result.doc_parts ≡ stated_doc_parts words.now t }
+    ensures sum_parts { result.sum_parts ≡ stated_freq_parts words.now t }
+    ensures greatest { result.greatest ≡ stated_greatest words.now t }
+{
+    let at = (directory_of(frame_of(words)) + LIST_WORDS * u64::from(t)) as usize;
+    let (len, doc_parts) = halves(words[at + 2]);
+    let (sum_parts, greatest) = halves(words[at + 3]);
+    ListEntry {
+        docs: words[at],
+        sums: words[at + 1],
+        len,
+        doc_parts,
+        sum_parts,
+        greatest,
+    }
+}
+
+// The fault of list t at a part behind so many others.
+fn fault_in(t: u32, before: u32, fault: SeqFault) -> OpenFault
+    ensures check { result.check ≡ fault.check }
+    ensures term { result.term ≡ t }
+    ensures part { result.part ≡ before + fault.part }
+{
+    OpenFault {
+        check: fault.check,
+        term: t,
+        part: u64::from(before) + u64::from(fault.part),
+    }
+}
+
+// Whether m values can have so many parts.
+fn parts_fit(m: u32, parts: u32) -> bool
+    ensures { result ≡ parts_fit m parts }
+{
+    if m == 0 {
+        parts == 0
+    } else {
+        1 <= parts && parts <= m
+    }
+}
+
+// Whether a list can't begin at word p.
+fn cannot_begin(list: ListEntry, p: u64, frame: Frame) -> bool
+    requires small { p < 2 ^ 57 }
+    ensures { result ≡ cannot_begin format_one list.docs p frame.documents list.len list.doc_parts list.sum_parts frame.sizes }
+{
+    list.docs != p
+        || frame.documents < u64::from(list.len)
+        || !parts_fit(list.len, list.doc_parts)
+        || !parts_fit(list.len, list.sum_parts)
+        || frame.sizes < p + ENTRY_WORDS * u64::from(list.doc_parts)
+}
+
+// Whether the frequencies of a list can't begin at word p.
+fn sums_cannot_begin(list: ListEntry, p: u64, frame: Frame) -> bool
+    requires small { p < 2 ^ 57 }
+    ensures { result ≡ (not (list.sums == p) || nat_lt frame.sizes (p + format_one.entry_words * list.sum_parts)) }
+{
+    list.sums != p || frame.sizes < p + ENTRY_WORDS * u64::from(list.sum_parts)
+}
+
+// Looks for the first check that breaks in the frequencies of list t, which are to begin at word p, and answers the word
+// behind them.
+fn check_sums(words: &[u64], t: u32, p: u64) -> Result<u64, OpenFault>
+    requires words { length words.now < 2 ^ 57 }
+    requires frame { HasFrame format_one words.now }
+    requires within { t < stated_terms words.now }
+    requires before { p ≤ stated_sizes words.now }
+    requires fit { parts_fit (stated_length words.now t) (stated_freq_parts words.now t) ≡ true }
+    ensures ok { IfOk result (λ behind. (v : SequenceView) × FreqsStandAt words.now t p v × (behind ≡ p + words_used v)) }
+    ensures first { IfErr result (λ f. IsFreqsFault format_one words.now t p f) }
+{
+    one_sequence();
+    let frame = frame_of(words);
+    let list = list_entry(words, t);
+    if sums_cannot_begin(list, p, frame) {
+        return Err(OpenFault {
+            check: Check::K6,
+            term: t,
+            part: u64::from(list.doc_parts),
+        });
+    }
+    let span = Span {
+        from: p,
+        to: frame.sizes,
+    };
+    let greatest = u64::from(list.greatest);
+    match sequence_at(words, span, list.sum_parts, list.len, MOST_SUM) {
+        Ok(sums) if greatest_step(&sums) == greatest => Ok(p + sums.used()),
+        Ok(_) => Err(OpenFault {
+            check: Check::K10,
+            term: t,
+            part: 0,
+        }),
+        Err(fault) => Err(fault_in(t, list.doc_parts, fault)),
+    }
+}
+
+// Looks for the first check that breaks for list t, whose sequences are to begin at word p, and answers where those of the
+// next list begin.
+pub(crate) fn check_list(words: &[u64], t: u32, p: u64) -> Result<u64, OpenFault>
+    requires words { length words.now < 2 ^ 57 }
+    requires frame { HasFrame format_one words.now }
+    requires within { t < stated_terms words.now }
+    requires before { p ≤ stated_sizes words.now }
+    ensures ok { IfOk result (λ next. (c : CutList) × StandsAt format_one words.now t p c × (next ≡ word_after format_one p c)) }
+    ensures first { IfErr result (λ f. IsTermFault format_one words.now t p f) }
+{
+    sequences_are_a_list();
+    let frame = frame_of(words);
+    let list = list_entry(words, t);
+    if cannot_begin(list, p, frame) {
+        return Err(OpenFault {
+            check: Check::K6,
+            term: t,
+            part: 0,
+        });
+    }
+    let span = Span {
+        from: p,
+        to: frame.sizes,
+    };
+    match sequence_at(words, span, list.doc_parts, list.len, frame.documents) {
+        Ok(docs) => check_sums(words, t, p + docs.used()),
+        Err(fault) => Err(fault_in(t, 0, fault)),
+    }
+}

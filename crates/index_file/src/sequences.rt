@@ -1,0 +1,65 @@
+ghost use Rattle.std.specs.Prelude.{◌≡◌, ◌≤◌, ◌<◌, ◌+◌, ◌-◌, ◌*◌, ◌^◌, length, IfOk, IfErr, true};
+ghost use Rattle.std.specs.List.{All};
+ghost use Rattle.collection_model.specs.FormatNumbers.{format_one};
+ghost use Rattle.collection_model.specs.Collection.{greatest};
+ghost use Rattle.collection_model.specs.Sequences.{steps_from};
+ghost use Rattle.two_level.specs.SequenceFault.{parts_fit};
+ghost use Rattle.two_level.specs.AtAWord.{IsFaultAt};
+ghost use Rattle.index_file.specs.ListAt.{IsSequenceAt};
+
+use two_level::{SeqFault, SeqView, checks_stand_at_a_word};
+
+/// Every value of a sequence is below it.
+pub(crate) const MOST_SUM: u64 = 68_719_476_736;
+
+/// How many words a part has in the directory of a sequence.
+pub(crate) const ENTRY_WORDS: u64 = 2;
+
+// Where a sequence is to stand, from one word up to another.
+#[derive(Clone, Copy)]
+pub(crate) struct Span {
+    pub(crate) from: u64,
+    pub(crate) to: u64,
+}
+
+// The sequence of m values below the bound in so many parts at a word.
+pub(crate) fn sequence_at<'a>(
+    words: &'a [u64],
+    span: Span,
+    parts: u32,
+    m: u32,
+    bound: u64,
+) -> Result<SeqView<'a>, SeqFault>
+    requires words { length words.now < 2 ^ 57 }
+    requires bound { bound ≤ format_one.most_sum }
+    requires within { span.to ≤ length words.now }
+    requires fit { parts_fit m parts ≡ true }
+    requires room { span.from + format_one.entry_words * parts ≤ span.to }
+    ensures ok { IfOk result (λ v. IsSequenceAt words.entry.now span.from span.to parts m bound v) }
+    ensures first { IfErr result (λ f. IsFaultAt format_one words.entry.now span.to span.from parts m bound f.check f.part) }
+{
+    checks_stand_at_a_word();
+    SeqView::check(
+        &words[span.from as usize..span.to as usize],
+        parts,
+        m,
+        bound,
+    )
+}
+
+// The greatest step of a sequence.
+pub(crate) fn greatest_step(sums: &SeqView) -> u64
+    requires below { All (λ s. s < format_one.most_sum) sums.now.values }
+    ensures { result ≡ greatest (steps_from 0 sums.now.values) }
+{
+    let mut cursor = sums.cursor();
+    let mut past = 0;
+    let mut most = 0;
+    for _ in 0..sums.len() {
+        let next = cursor.value() + 1;
+        most = next.saturating_sub(past).max(most);
+        past = next;
+        cursor.next();
+    }
+    most
+}

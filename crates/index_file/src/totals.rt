@@ -1,0 +1,49 @@
+ghost use Rattle.std.specs.Prelude.{◌≡◌, ◌<◌, ◌^◌, sum_by, length};
+ghost use Rattle.std.specs.List.{range_with_len};
+ghost use Rattle.collection_model.specs.FormatNumbers.{format_one};
+ghost use Rattle.index_file.specs.FirstBroken.{stated_documents, stated_terms, stated_length};
+ghost use Rattle.index_file.specs.IndexView.{size_stated};
+ghost use Rattle.index_file.specs.ListAt.{HasFrame};
+
+use crate::frame::frame_of;
+use crate::lists::{halves, list_entry};
+
+// The size of document d.
+pub(crate) fn size_at(words: &[u64], d: u32) -> u32
+    requires words { length words.now < 2 ^ 57 }
+    requires frame { HasFrame format_one words.now }
+    requires within { d < stated_documents words.now }
+    ensures { result ≡ size_stated words.now d }
+{
+    let at = frame_of(words).sizes as usize + d as usize / 2;
+    let (low, high) = halves(words[at]);
+    if d % 2 == 0 { low } else { high }
+}
+
+// How many postings all lists have.
+pub(crate) fn all_postings(words: &[u64]) -> u64
+    requires words { length words.now < 2 ^ 57 }
+    requires frame { HasFrame format_one words.now }
+    ensures { result ≡ sum_by (stated_length words.now) (range_with_len 0 (stated_terms words.now)) }
+{
+    let mut total = 0;
+    let terms = frame_of(words).terms as u32;
+    for t in 0..terms {
+        total += u64::from(list_entry(words, t).len);
+    }
+    total
+}
+
+// The sum of all sizes.
+pub(crate) fn all_sizes(words: &[u64]) -> u64
+    requires words { length words.now < 2 ^ 57 }
+    requires frame { HasFrame format_one words.now }
+    ensures { result ≡ sum_by (size_stated words.now) (range_with_len 0 (stated_documents words.now)) }
+{
+    let mut total = 0;
+    let documents = frame_of(words).documents as u32;
+    for d in 0..documents {
+        total += u64::from(size_at(words, d));
+    }
+    total
+}
