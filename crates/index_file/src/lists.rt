@@ -8,9 +8,9 @@ ghost use Rattle.index_file.specs.ListAt.{HasFrame, StandsAt, FreqsStandAt, word
 
 use crate::fault::OpenFault;
 use crate::frame::{Frame, LIST_WORDS, directory_of, frame_of};
-use crate::sequences::{ENTRY_WORDS, MOST_SUM, Span, greatest_step, sequence_at};
+use crate::sequences::{Span, greatest_step, sequence_at};
 use postings::sequences_are_a_list;
-use two_level::{Check, SeqFault, one_sequence};
+use two_level::{Check, ENTRY_WORDS, MOST_SUM, SeqFault, one_sequence, parts_fit};
 
 /// A half of a word counts so many numbers.
 pub(crate) const HALF: u64 = 1 << 32;
@@ -71,17 +71,6 @@ fn fault_in(t: u32, before: u32, fault: SeqFault) -> OpenFault
         check: fault.check,
         term: t,
         part: u64::from(before) + u64::from(fault.part),
-    }
-}
-
-// Whether m values can have so many parts.
-fn parts_fit(m: u32, parts: u32) -> bool
-    ensures { result ≡ parts_fit m parts }
-{
-    if m == 0 {
-        parts == 0
-    } else {
-        1 <= parts && parts <= m
     }
 }
 

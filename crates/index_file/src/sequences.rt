@@ -9,12 +9,6 @@ ghost use Rattle.index_file.specs.ListAt.{IsSequenceAt};
 
 use two_level::{SeqFault, SeqView, checks_stand_at_a_word};
 
-/// Every value of a sequence is below it.
-pub(crate) const MOST_SUM: u64 = 68_719_476_736;
-
-/// How many words a part has in the directory of a sequence.
-pub(crate) const ENTRY_WORDS: u64 = 2;
-
 // Where a sequence is to stand, from one word up to another.
 #[derive(Clone, Copy)]
 pub(crate) struct Span {

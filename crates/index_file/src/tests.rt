@@ -143,6 +143,20 @@ fn names_the_first_broken_check(rt: HostRuntime) -> Result<(), Fail> {
     Ok(())
 }
 
+// Documents 1 and 2 instead of 0 and 2 are an index too.
+#[test]
+fn opens_other_documents(rt: HostRuntime) -> Result<(), Fail> {
+    let mut words = ONE_LIST.to_vec(rt.alloc())?;
+    assert!(rt; words.len() == 18);
+    words[4] = 6;
+    let index = Index::view(&words).expect(&rt, "an index");
+    assert!(rt; index.terms() == 1);
+    let mut cursor = index.cursor(0);
+    assert_eq!(rt; next_posting(&mut cursor), Some((1, 1)));
+    assert_eq!(rt; next_posting(&mut cursor), Some((2, 5)));
+    Ok(())
+}
+
 // Words that are cut, and a word that no list has.
 #[test]
 fn cut_and_longer_words_break_a_check(rt: HostRuntime) {

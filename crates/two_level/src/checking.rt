@@ -41,8 +41,8 @@ pub(crate) fn check_words(words: &[u64], parts: u32, m: u32, bound: u64) -> Resu
     Ok(())
 }
 
-// Whether m values can have so many parts.
-fn parts_fit(m: u32, parts: u32) -> bool
+/// Whether m values can have so many parts: from 1 to m, and none where there is no value.
+pub fn parts_fit(m: u32, parts: u32) -> bool
     ensures { result ≡ parts_fit m parts }
 {
     if m == 0 {

@@ -2,11 +2,11 @@ ghost use Rattle.std.specs.Prelude.{◌≡◌, ◌≤◌, ◌<◌, ◌+◌, ◌*
 ghost use Rattle.collection_model.specs.FormatNumbers.{format_one};
 ghost use Rattle.two_level.specs.SequenceFault.{stated_last, stated_end, stated_offset};
 
-/// The end in an entry counts so many times; every value of a sequence is below it.
-pub(crate) const MOST_SUM: u64 = 68_719_476_736;
+/// Every value of a sequence is below it; the end in an entry counts so many times.
+pub const MOST_SUM: u64 = 68_719_476_736;
 
-/// How many words an entry takes.
-pub(crate) const ENTRY_WORDS: u64 = 2;
+/// How many words a part takes in the directory.
+pub const ENTRY_WORDS: u64 = 2;
 
 /// How many bits an entry takes.
 pub(crate) const ENTRY_BITS: u64 = 64 * ENTRY_WORDS;

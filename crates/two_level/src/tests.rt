@@ -83,6 +83,21 @@ fn counts_and_ends_have_checks(rt: HostRuntime) {
     }
 }
 
+// From no part up to one more than there are values.
+#[test]
+fn parts_are_from_one_to_all(rt: HostRuntime) {
+    for (m, parts, fit) in [
+        (0, 0, true),
+        (0, 1, false),
+        (2, 0, false),
+        (2, 1, true),
+        (2, 2, true),
+        (2, 3, false),
+    ] {
+        assert_eq!(rt; parts_fit(m, parts), fit, "{parts} of {m}");
+    }
+}
+
 // Whether the values rise, and lie below 2^36.
 fn is_sequence(values: &[u64]) -> bool
     ensures rising { IsTrue result → IsStrictlyIncreasing values.now }
