@@ -1,6 +1,7 @@
 pub mod Value
 pub mod Words
 pub mod Ranges
+pub mod WordRanges
 pub mod Writing
 pub mod WordLaws
 pub mod Pieces

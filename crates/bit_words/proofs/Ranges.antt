@@ -1,9 +1,8 @@
-use Rattle.std.proofs.Common.{◌≡◌, ◌≢◌, ℕ, zero, suc, ◌+◌, ◌-◌, ◌<◌, ◌≤◌, List, [], ◌∷◌, length, take, drop, get_or, refl, sym, ap, ◌∙◌, arith, sum, slice_index, inl, inr}
-use Rattle.std.proofs.lemmas.Bool.{cases_lt}
+use Rattle.std.proofs.Common.{◌≡◌, ℕ, zero, suc, ◌+◌, ◌-◌, ◌<◌, ◌≤◌, List, [], ◌∷◌, length, take, drop, get_or, refl, sym, ap, ◌∙◌, arith, sum}
 use Rattle.std.proofs.lemmas.List.Sums.{sum_by_more}
 use Rattle.std.proofs.lemmas.List.{get_or-drop, length-drop}
-use Rattle.bit_words.specs.Bits.{field_at, ones_between, HasNoOne, bits_of}
-use Rattle.bit_words.proofs.Value.{EachBit, bits-bits_of}
+use Rattle.bit_words.specs.Bits.{field_at, ones_between}
+use Rattle.bit_words.proofs.Value.{EachBit}
 
 pub bit-below : (bits : List ℕ) (q : ℕ) → EachBit bits → get_or bits q 0 < 2
 bit-below [] q h = omega arith
@@ -24,18 +23,3 @@ ones_between-more bits from p h w =
     ∙ sum_by_more (λ b. b) (drop from bits) (p - from) 0 (omega (arith, length-drop from bits))
     ∙ ap (λ v. sum (take (p - from) (drop from bits)) + v)
     (get_or-drop from bits (p - from) 0 ∙ ap (λ i. get_or bits i 0) (let e : from + (p - from) ≡ p = omega arith in e) ∙ sym (field-one bits p))
-
-pub field-one-below : (ws : List ℕ) (at : ℕ) → field_at (bits_of ws) at 1 < 2
-field-one-below ws at = omega (arith, field-one (bits_of ws) at, bit-below (bits_of ws) at (bits-bits_of ws))
-
--- one more place without a 1
-pub no_one-more : (ws : List ℕ) (from p : ℕ) → HasNoOne (bits_of ws) from p → slice_index (bits_of ws) p ≢ 1 → HasNoOne (bits_of ws) from (p + 1)
-no_one-more ws from p none here q h k =
-    elim (cases_lt q p) [
-      | inl below ↦ none q h below
-      | inr above ↦
-          let same : q ≡ p = omega arith in
-          let bit : slice_index (bits_of ws) p < 2 = bit-below (bits_of ws) p (bits-bits_of ws) in
-          let zero_here : slice_index (bits_of ws) p ≡ 0 = omega arith in
-          ap (λ i. slice_index (bits_of ws) i) same ∙ zero_here
-    ]

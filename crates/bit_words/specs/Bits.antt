@@ -50,6 +50,12 @@ pub record IsFirstOne (bits : List ℕ) (from to p : ℕ) : Type 0 where
 abbrev pub HasNoOne : List ℕ → ℕ → ℕ → Type 0
 HasNoOne bits from to = (q : ℕ) → from ≤ q → q < to → slice_index bits q ≡ 0
 
+-- The bits of word i that lie in a range stand in this value at their places, and the others are 0 there.
+pub record IsWordWithin (bits : List ℕ) (i from to word : ℕ) : Type 0 where
+  pub inside : (k : ℕ) → k < 64 → from ≤ 64 * i + k → 64 * i + k < to → bit_at word k ≡ slice_index bits (64 * i + k)
+  pub before : (k : ℕ) → 64 * i + k < from → bit_at word k ≡ 0
+  pub behind : (k : ℕ) → to ≤ 64 * i + k → bit_at word k ≡ 0
+
 -- The bits after are those before and a front of the new ones.
 abbrev pub AppendsBits : List ℕ → List ℕ → List ℕ → Type 0
 AppendsBits old new bits = (n : ℕ) × (n ≤ length bits) × (new ≡ old ++ take n bits)

@@ -1,5 +1,5 @@
 ghost use Rattle.std.specs.Prelude.{◌≡◌, ℕ, ◌≤◌, ◌<◌, ◌+◌, ◌*◌, length, IsTrue, ◌↔◌, IfSome, IfNone, slice_index};
-ghost use Rattle.bit_words.specs.Bits.{bits_of, field_at, ones_between, IsFirstOne, HasNoOne};
+ghost use Rattle.bit_words.specs.Bits.{bits_of, field_at, ones_between, IsFirstOne, HasNoOne, IsWordWithin};
 
 /// Words, read bit by bit: bit p is bit p mod 64 of word p div 64.
 #[derive(Clone, Copy)]
@@ -45,9 +45,10 @@ impl<'a> Bits<'a> {
         ensures first { IfSome result (IsFirstOne (bits_of self.now.words.now) from to) }
         ensures none { IfNone result (HasNoOne (bits_of self.now.words.now) from to) }
     {
-        for p in from..to {
-            if self.bit(p) {
-                return Some(p);
+        for i in from / 64..to.div_ceil(64) {
+            let word = self.word_within(i, from, to);
+            if word != 0 {
+                return Some(64 * i + word.trailing_zeros() as u64);
             }
         }
         None
@@ -60,9 +61,23 @@ impl<'a> Bits<'a> {
         ensures { result ≡ ones_between (bits_of self.now.words.now) from to }
     {
         let mut count = 0;
-        for at in from..to {
-            count += self.get(at, 1);
+        for i in from / 64..to.div_ceil(64) {
+            count += self.word_within(i, from, to).count_ones() as u64;
         }
         count
+    }
+
+    // Word i, with zeros in place of its bits outside a range. The range may not end before the word, nor begin behind it.
+    fn word_within(&self, i: u64, from: u64, to: u64) -> u64
+        requires begins { from < 64 * i + 64 }
+        requires ends { 64 * i < to }
+        requires range { to ≤ 64 * length self.now.words.now }
+        ensures { IsWordWithin (bits_of self.now.words.now) i from to result }
+    {
+        let start = 64 * i;
+        let low = from.saturating_sub(start);
+        let high = (to - start).min(64);
+        let mask = (u64::MAX << low) & (u64::MAX >> (64 - high));
+        self.words[i as usize] & mask
     }
 }

@@ -56,22 +56,75 @@ fn counts_and_finds_ones(rt: HostRuntime) -> Result<(), Fail> {
     let words = [0x8000_0000_0000_0009_u64, 0, 0x6];
     let bits = Bits { words: &words };
     for (from, to, ones, first) in [
-        (0, 192, 5, Some(0)),
+        // Inside one word, and empty.
         (0, 0, 0, None),
+        (0, 1, 1, Some(0)),
         (1, 3, 0, None),
         (1, 4, 1, Some(3)),
+        (3, 3, 0, None),
         (4, 63, 0, None),
+        (129, 131, 2, Some(129)),
+        (130, 131, 1, Some(130)),
+        (131, 192, 0, None),
+        // Whole words, and up to their borders.
+        (0, 63, 2, Some(0)),
+        (0, 64, 3, Some(0)),
         (4, 64, 1, Some(63)),
-        (63, 129, 1, Some(63)),
+        (63, 63, 0, None),
+        (63, 64, 1, Some(63)),
+        (64, 64, 0, None),
+        (64, 127, 0, None),
+        (64, 128, 0, None),
+        (127, 128, 0, None),
+        (128, 128, 0, None),
+        (128, 192, 2, Some(129)),
+        (192, 192, 0, None),
+        // Across two words.
+        (1, 65, 2, Some(3)),
+        (4, 127, 1, Some(63)),
+        (63, 65, 1, Some(63)),
         (64, 129, 0, None),
         (64, 130, 1, Some(129)),
-        (129, 131, 2, Some(129)),
-        (131, 192, 0, None),
-        (192, 192, 0, None),
+        (127, 131, 2, Some(129)),
+        // Across three.
+        (0, 129, 3, Some(0)),
+        (0, 192, 5, Some(0)),
+        (1, 130, 3, Some(3)),
+        (4, 131, 3, Some(63)),
+        (63, 129, 1, Some(63)),
     ] {
         assert!(rt; from <= to && to <= 192);
         assert_eq!(rt; bits.ones(from, to), ones, "from {from} to {to}");
         assert_eq!(rt; bits.next_one(from, to), first, "from {from} to {to}");
+    }
+    Ok(())
+}
+
+// Each range of three words of ones, of three words of zeros, and of three whose bits at even places are 1.
+#[test]
+fn counts_and_finds_in_each_range(rt: HostRuntime) -> Result<(), Fail> {
+    let ones = [u64::MAX; 3];
+    let zeros = [0_u64; 3];
+    let evens = [0x5555_5555_5555_5555_u64; 3];
+    let all = Bits { words: &ones };
+    let none = Bits { words: &zeros };
+    let even = Bits { words: &evens };
+    for to in 0..193_u64 {
+        for from in 0..to + 1 {
+            assert_eq!(rt; all.ones(from, to), to - from, "from {from} to {to}");
+            assert_eq!(rt; none.ones(from, to), 0, "from {from} to {to}");
+            assert_eq!(rt;
+                even.ones(from, to),
+                to.div_ceil(2) - from.div_ceil(2),
+                "from {from} to {to}"
+            );
+            assert_eq!(rt; none.next_one(from, to), None, "from {from} to {to}");
+            let first = if from < to { Some(from) } else { None };
+            assert_eq!(rt; all.next_one(from, to), first, "from {from} to {to}");
+            let place = from.div_ceil(2) * 2;
+            let first = if place < to { Some(place) } else { None };
+            assert_eq!(rt; even.next_one(from, to), first, "from {from} to {to}");
+        }
     }
     Ok(())
 }

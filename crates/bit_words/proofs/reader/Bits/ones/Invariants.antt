@@ -1,6 +1,7 @@
-use Rattle.std.proofs.Common.{◌≡◌, ◌+◌, ◌≤◌}
+use Rattle.std.proofs.Common.{◌≡◌, ◌*◌}
 use Rattle.bit_words.specs.Bits.{bits_of, ones_between}
+use Rattle.bit_words.proofs.WordRanges.{held}
 use Rattle.bit_words.proofs.reader.Bits.ones.Given as goal
 
-abbrev pub invariant-loop-at : goal.invariant-loop-at
-invariant-loop-at l = record { count : l.count ≡ ones_between (bits_of l.self.words.now) l.from l.at; few : l.count + l.from ≤ l.at }
+abbrev pub invariant-loop-i : goal.invariant-loop-i
+invariant-loop-i l = l.count ≡ ones_between (bits_of l.self.words.now) l.from (held l.from l.to (64 * l.i))
