@@ -1,3 +1,4 @@
 pub mod Fronts
+pub mod Loading
 pub mod Ops
 pub mod FileLists

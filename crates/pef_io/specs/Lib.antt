@@ -3,6 +3,7 @@ pub mod SourceState
 pub mod SinkState
 pub mod DepotState
 pub mod Helpers
+pub mod Loads
 pub mod PerSlot
 pub mod Opened
 pub mod Files

@@ -1,9 +1,10 @@
 use crate::{
-    Depot, IoFail, MemDepot, MemSink, MemSource, Op, Sink, Slot, Source, StdDepot, StdSink,
-    StdSource, SteadyDepot, SteadySink, SteadySource, depot_write_all, write_all_own,
+    Depot, IoFail, LoadError, MemDepot, MemSink, MemSource, Op, Sink, Slot, Source, StdDepot,
+    StdSink, StdSource, SteadyDepot, SteadySink, SteadySource, depot_write_all, load_bytes,
+    write_all_own,
 };
 use std::alloc::{AllocError, Global};
-use std::io;
+use std::{fs, io};
 
 /// The bytes of this text.
 fn bytes(alloc: Global, text: &str) -> Result<Vec<u8>, AllocError> {
@@ -119,6 +120,106 @@ fn depots_fail_where_they_are_told_to(rt: HostRuntime) {
     }
 }
 
+/// So many bytes, of which no two neighbours are equal.
+fn counted(alloc: Global, count: usize) -> Result<Vec<u8>, AllocError> {
+    let mut list = Vec::new(alloc);
+    for i in 0..count {
+        list.push((i % 251) as u8)?;
+    }
+    Ok(list)
+}
+
+/// A file `a` of so many bytes, and a file `b`.
+fn counted_file(alloc: Global, count: usize) -> Result<Vec<(String, Vec<u8>)>, AllocError> {
+    let mut list = files(alloc, &[("b", "abcde")])?;
+    list.push((String::from_str(alloc, "a")?, counted(alloc, count)?))?;
+    Ok(list)
+}
+
+/// Starts the name and loads it.
+fn load<D: Depot>(
+    alloc: Global,
+    depot: &mut D,
+    name: &str,
+    limit: u64,
+) -> Result<Vec<u8>, LoadError> {
+    depot.start(Slot::Index, name)?;
+    load_bytes(alloc, depot, Slot::Index, limit)
+}
+
+#[test]
+fn files_are_loaded_up_to_a_limit(rt: HostRuntime) {
+    let alloc = rt.alloc();
+    for (count, limit, fits) in [
+        (16, 16, true),
+        (17, 16, false),
+        (0, 0, true),
+        (1, 0, false),
+        (5, u64::MAX, true),
+        (20_000, 1 << 40, true),
+        (20_000, 20_000, true),
+        (20_000, 19_999, false),
+    ] {
+        let wanted = if fits {
+            Ok(counted(alloc, count).expect(&rt, ""))
+        } else {
+            Err(LoadError::TooLarge)
+        };
+        let held = counted_file(alloc, count).expect(&rt, "");
+        let mut steady = SteadyDepot::new(alloc, held, 8_192).expect(&rt, "");
+        assert_eq!(rt;
+            load(alloc, &mut steady, "a", limit),
+            wanted,
+            "{count} {limit}"
+        );
+        let held = counted_file(alloc, count).expect(&rt, "");
+        let mut failing = MemDepot::new(alloc, held, 4, Vec::new(alloc)).expect(&rt, "");
+        assert_eq!(rt;
+            load(alloc, &mut failing, "a", limit),
+            wanted,
+            "{count} {limit}"
+        );
+    }
+}
+
+/// Loads the file `a` between two reads of the file `b`, and then reads on in both.
+fn load_between<D: Depot>(
+    alloc: Global,
+    depot: &mut D,
+    limit: u64,
+    buf: &mut [u8; 6],
+) -> Result<Vec<u8>, LoadError> {
+    depot.start(Slot::Docs, "b")?;
+    depot.read(Slot::Docs, &mut buf[..2])?;
+    depot.start(Slot::Index, "a")?;
+    let loaded = load_bytes(alloc, depot, Slot::Index, limit);
+    depot.read(Slot::Docs, &mut buf[2..4])?;
+    depot.read(Slot::Index, &mut buf[4..])?;
+    loaded
+}
+
+#[test]
+fn a_load_reads_its_slot_alone(rt: HostRuntime) {
+    let alloc = rt.alloc();
+    for (failing, limit, result, read) in [
+        (9_999, 20_000, Ok(20_000), *b"abcd\0\0"),
+        (9_999, 6, Err(LoadError::TooLarge), *b"abcd\x07\x08"),
+        (3, 20_000, Err(LoadError::Read), *b"abcd\x08\x09"),
+    ] {
+        let held = counted_file(alloc, 20_000).expect(&rt, "");
+        let fails = vec![in alloc; (Op::Read(Slot::Index), failing)].expect(&rt, "");
+        let mut depot = MemDepot::new(alloc, held, 4, fails).expect(&rt, "");
+        let mut buf = [0; 6];
+        let loaded = load_between(alloc, &mut depot, limit, &mut buf);
+        assert_eq!(rt;
+            loaded.map(|bytes| bytes.len()),
+            result,
+            "{failing} {limit}"
+        );
+        assert_eq!(rt; buf, read, "{failing} {limit}");
+    }
+}
+
 #[test]
 fn the_system_keeps_files(rt: HostRuntime) {
     let mut depot = StdDepot::new(rt);
@@ -130,6 +231,8 @@ fn the_system_keeps_files(rt: HostRuntime) {
     assert_eq!(rt; put(&mut depot, "written", b"abcde"), Ok(()));
     assert_eq!(rt; read_twice(&mut depot, "written", &mut buf), Ok(5));
     assert_eq!(rt; buf, *b"abcde\0\0\0");
+    let loaded = load(rt.alloc(), &mut depot, "written", 5).expect(&rt, "");
+    assert_eq!(rt; loaded.as_slice(), b"abcde".as_slice());
     assert_eq!(rt;
         put(&mut depot, "no/such/folder", b"a"),
         Err(IoFail::Failed)
@@ -139,4 +242,5 @@ fn the_system_keeps_files(rt: HostRuntime) {
     assert_eq!(rt; input.read(&mut buf), Ok(0));
     let mut out = StdSink::new(rt.stderr());
     assert_eq!(rt; write_all_own(&mut out, b"written whole\n"), Ok(()));
+    fs::remove_file(&rt, "written").expect(&rt, "");
 }

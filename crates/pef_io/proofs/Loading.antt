@@ -1,0 +1,147 @@
+use Rattle.std.proofs.Common.{◌≡◌, ◌≢◌, ℕ, ◌+◌, ◌≤◌, ◌<◌, ◌⊎◌, Bool, true, false, IsTrue, List, [], ◌++◌, length, take, drop, All, Decides, Result, Ok, Err, refl, ◌↔◌, sym, ◌∙◌, ap, subst, inl, inr, add-zero, arith}
+use Rattle.std.specs.Prelude.{is_ok, IsErrOf, OnErr}
+use Rattle.std.proofs.Math.Seq.{take-append-add}
+use Rattle.std.proofs.lemmas.List.{append_assoc, append-nil, length-append, length-take-le, take-append-le, take-take, drop_at}
+use borrow.Rule.Slice.PartMut.{put_mid, post_of}
+use Rattle.pef_io.specs.declared.fail.IoFail.{IoFail}
+use Rattle.pef_io.specs.declared.fail.IoFail.TheVariants as call
+use Rattle.pef_io.specs.declared.fail.Slot.{Slot}
+use Rattle.pef_io.specs.declared.load.LoadError.{LoadError}
+use Rattle.pef_io.specs.declared.load.LoadError.TheVariants.{Read, TooLarge, NoMemory}
+use Rattle.pef_io.specs.contracts.fail.SlotPartialEq.TheImpl as slot_test
+use Rattle.pef_io.specs.Calls.{Rose}
+use Rattle.pef_io.specs.DepotState.{DepotState, OnlyReads, ReadsSlot, SameButCounts}
+use Rattle.pef_io.specs.Loads.{Loads, TakesBytes, load_error}
+use Rattle.pef_io.proofs.Fronts.{at_ok}
+use Rattle.pef_io.proofs.Ops.{slot_eq}
+
+-- what stands in front after a piece was read into a part of a list
+pub read_into : (held k n count : ℕ) (bytes lent piece tail : List ℕ) → lent ≡ bytes → held ≤ length bytes → count ≤ length piece → held + count ≤ n →
+    take (held + count) (take n (put_mid held k lent piece ++ tail)) ≡ take held bytes ++ take count piece
+read_into held k n count bytes lent piece tail same within some fits =
+    let front = take held lent in
+    let rest = post_of held k lent in
+    take-take (held + count) n (put_mid held k lent piece ++ tail) fits
+    ∙ ap (λ xs. take (held + count) xs) (append_assoc front (piece ++ rest) tail)
+    ∙ ap (λ m. take (m + count) (front ++ ((piece ++ rest) ++ tail))) (sym (length-take-le held lent (omega (arith, ap length same))))
+    ∙ take-append-add front ((piece ++ rest) ++ tail) count
+    ∙ ap (λ xs. front ++ xs) (ap (λ xs. take count xs) (append_assoc piece rest tail) ∙ take-append-le count piece (rest ++ tail) some)
+    ∙ ap (λ xs. take held xs ++ take count piece) same
+
+-- the same where no byte came
+pub front_kept : (held k n : ℕ) (bytes lent piece tail : List ℕ) → lent ≡ bytes → held ≤ length bytes → held ≤ n → take held (take n (put_mid held k lent piece ++ tail)) ≡ take held bytes
+front_kept held k n bytes lent piece tail same within fits =
+    rw add-zero at (read_into held k n 0 bytes lent piece tail same within (omega arith) (omega arith)) ∙ append-nil (take held bytes)
+
+same_or_other : (a b : Slot) → (a ≡ b) ⊎ (a ≢ b)
+same_or_other a b = by_test (slot_test.ghosts.eq a b) (slot_eq a b)
+  where
+    by_test : (t : Bool) → Decides t (a ≡ b) → (a ≡ b) ⊎ (a ≢ b)
+    by_test true d = inl (d.0 refl)
+    by_test false d = inr (λ e. let h = d.1 e in cc)
+
+-- reads, and then a read of a slot
+pub OnlyReads-then : {touched : Slot → Type 0} {a b c : DepotState} {slot : Slot} {before after : List ℕ} {result : Result ℕ IoFail} → OnlyReads touched a b → touched slot → ReadsSlot b c slot before after result → OnlyReads touched a c
+OnlyReads-then {touched} {a} {b} {c} {slot} p it r = record {
+  tells = r.tells ∙ p.tells;
+  files = λ t name. r.files (p.tells ∙ t) name ∙ p.files t name;
+  writing = (r.writing.0 ∙ p.writing.0, λ t. r.writing.1 (p.tells ∙ t) ∙ p.writing.1 t);
+  writing_count = r.counts.writing ∙ p.writing_count;
+  stay_started = λ s h. elim (same_or_other s slot) [
+    | inl e ↦ ap c.started e ∙ r.started ∙ sym (ap b.started e) ∙ p.stay_started s h
+    | inr n ↦ (r.other_slots s n).0 ∙ p.stay_started s h
+  ];
+  other_slots = λ s n.
+      let other : s ≢ slot = λ e. n (subst touched (sym e) it) in (
+        (r.other_slots s other).0 ∙ (p.other_slots s n).0,
+        λ t. (r.other_slots s other).1 (p.tells ∙ t) ∙ (p.other_slots s n).1 t,
+      );
+  never_fall = λ s. elim (same_or_other s slot) [
+    | inl e ↦ omega (arith, p.never_fall s, r.counts.this.never_falls, ap b.faults e, ap c.faults e)
+    | inr n ↦ omega (arith, p.never_fall s, r.counts.others s n)
+  ];
+  other_counts = λ s n.
+      let other : s ≢ slot = λ e. n (subst touched (sym e) it) in
+      r.counts.others s other ∙ p.other_counts s n;
+}
+
+-- These bytes were read from a slot, and no call failed.
+pub record HasRead (old new : DepotState) (slot : Slot) (bytes : List ℕ) : Type 0 where
+  pub front : IsTrue old.tells → old.left slot ≡ bytes ++ new.left slot
+  pub count : new.faults slot ≡ old.faults slot
+  pub reads : OnlyReads (λ s. s ≡ slot) old new
+
+-- the same bytes otherwise written
+pub read_front : (old new : DepotState) (slot : Slot) (bytes now : List ℕ) → HasRead old new slot bytes → now ≡ bytes → HasRead old new slot now
+read_front old new slot bytes now h e = let P : List ℕ → Type 0 = λ xs. HasRead old new slot xs in subst P (sym e) h
+
+-- a further piece
+pub read_on : (old mid new : DepotState) (slot : Slot) (bytes before after : List ℕ) (result : Result ℕ IoFail) (n : ℕ) → HasRead old mid slot bytes → ReadsSlot mid new slot before after result → result ≡ Ok n → HasRead old new slot (bytes ++ take n after)
+read_on old mid new slot bytes before after result n h r e = record {
+  front = λ t. h.front t ∙ ap (λ xs. bytes ++ xs) (at_ok (λ k. mid.left slot ≡ take k after ++ new.left slot) result n e (r.next_bytes (h.reads.tells ∙ t))) ∙ sym (append_assoc bytes (take n after) (new.left slot));
+  count = r.counts.this.same_at_ok (ap is_ok e) ∙ h.count;
+  reads = OnlyReads-then h.reads refl r;
+}
+
+-- as many bytes were read as came in front
+taken : (before bytes after : List ℕ) → before ≡ bytes ++ after → TakesBytes (length bytes) before after
+taken before bytes after e = (
+  omega (arith, ap length e, length-append bytes after),
+  sym (drop_at bytes after (length bytes) refl) ∙ sym (ap (λ xs. drop (length bytes) xs) e),
+)
+
+-- the end of the slot
+pub whole : (old mid new : DepotState) (slot : Slot) (limit : ℕ) (bytes before after items : List ℕ) (result : Result ℕ IoFail) → HasRead old mid slot bytes → ReadsSlot mid new slot before after result → result ≡ Ok 0 → 0 < length before → length bytes ≤ limit → items ≡ bytes → All (λ b. b < 256) bytes → Loads old new slot limit (Ok items)
+whole old mid new slot limit bytes before after items result h r e room few same small = record {
+  within = omega (arith, ap length same);
+  are_bytes = let P : List ℕ → Type 0 = λ xs. All (λ b. b < 256) xs in subst P (sym same) small;
+  all_bytes = λ t. same ∙ sym (h.front t ∙ ap (λ xs. bytes ++ xs) (none t) ∙ append-nil bytes);
+  none_left = λ t. sym (at_ok (λ k. mid.left slot ≡ take k after ++ new.left slot) result 0 e (r.next_bytes (h.reads.tells ∙ t))) ∙ none t;
+  too_large = λ t was. absurd (not_err TooLarge was);
+  other_refusals = λ t. tt;
+  read_only_where_it_rose = λ was. absurd (not_err Read was);
+  count_rises_only_there = inr (r.counts.this.same_at_ok (ap is_ok e) ∙ h.count);
+  reads = OnlyReads-then h.reads refl r;
+}
+  where
+    none : IsTrue old.tells → mid.left slot ≡ []
+    none t = (at_ok (λ k. (k ≡ 0) ↔ (mid.left slot ≡ [])) result 0 e (r.at_end (h.reads.tells ∙ t) room)).0 refl
+
+    not_err : (f : LoadError) → IsErrOf {T = List ℕ} (Ok items) f → ⊥
+    not_err f was = cc
+
+-- a read that was refused
+pub refused : (old mid new : DepotState) (slot : Slot) (limit : ℕ) (bytes before after : List ℕ) (result : Result ℕ IoFail) (fail : IoFail) → HasRead old mid slot bytes → ReadsSlot mid new slot before after result → result ≡ Err fail → length bytes ≤ limit → let answer : Result (List ℕ) LoadError = Err (load_error fail) in Loads old new slot limit answer
+refused old mid new slot limit bytes before after result fail h r e few = record {
+  within = tt;
+  are_bytes = tt;
+  all_bytes = λ t. tt;
+  none_left = λ t. tt;
+  too_large = λ t was. absurd (not_large fail was);
+  other_refusals = λ t other. (length bytes, few, taken (old.left slot) bytes (new.left slot) (h.front t ∙ ap (λ xs. bytes ++ xs) (sym (nothing_more t))));
+  read_only_where_it_rose = rose fail e;
+  count_rises_only_there = count fail e;
+  reads = OnlyReads-then h.reads refl r;
+}
+  where
+    not_large : (f : IoFail) → IsErrOf {T = List ℕ} (Err (load_error f)) TooLarge → ⊥
+    not_large call.Failed was = cc
+    not_large call.NoMemory was = cc
+
+    not_read : IsErrOf {T = List ℕ} (Err NoMemory) Read → ⊥
+    not_read is = cc
+
+    nothing_more : IsTrue old.tells → new.left slot ≡ mid.left slot
+    nothing_more t =
+        let P : Result ℕ IoFail → Type 0 = λ r. OnErr r (SameButCounts mid new) in
+        ((subst P e r.unchanged).slots slot).1 (h.reads.tells ∙ t)
+
+    rose : (f : IoFail) → result ≡ Err f → IsErrOf {T = List ℕ} (Err (load_error f)) Read → Rose (old.faults slot) (new.faults slot)
+    rose call.Failed was is =
+        let P : ℕ → Type 0 = λ n. Rose n (new.faults slot) in
+        subst P h.count (r.counts.this.failed_only_where_it_rose was)
+    rose call.NoMemory was is = absurd (not_read is)
+
+    count : (f : IoFail) → result ≡ Err f → IsErrOf {T = List ℕ} (Err (load_error f)) Read ⊎ (new.faults slot ≡ old.faults slot)
+    count call.Failed was = inl refl
+    count call.NoMemory was = inr (r.counts.this.same_at_no_memory was ∙ h.count)
