@@ -1,9 +1,9 @@
 -- Lemmas on reading a collection: what its answer is at each refusal, and at the end.
-use Rattle.std.proofs.Common.{◌≡◌, refl, sym, ap, ◌∙◌, subst, ℕ, ◌^◌, ◌<◌, ◌≤◌, lit<, List, [], ◌++◌, inl, inr, length, IsTrue, Bool, true, false, ◌==◌, Option, Some, None, MatchBool, MatchOption, Result, Ok, Err, arith, append_assoc}
+use Rattle.std.proofs.Common.{◌≡◌, refl, sym, ap, ◌∙◌, subst, ℕ, ◌^◌, ◌<◌, ◌≤◌, List, [], ◌++◌, inl, inr, length, IsTrue, Bool, true, false, ◌==◌, Option, Some, None, MatchBool, MatchOption, Result, Ok, Err, arith, append_assoc}
 use Rattle.std.specs.List.{All}
 use Rattle.std.proofs.lemmas.Bool.Decides.{nat_tests}
 use Rattle.std.proofs.lemmas.List.{append-nil}
-use Rattle.collection_model.specs.FormatNumbers.{format_one, most_terms}
+use Rattle.collection_model.specs.FormatNumbers.{FormatNumbers, most_terms}
 use Rattle.collection_model.specs.Collection.{Posting, Collection, WellFormed, IsPostingList}
 use Rattle.collection_model.specs.Spelling.{Files, head_bytes, docs_bytes, freqs_bytes, spelled}
 use Rattle.pef_io.specs.declared.fail.Slot.{Slot}
@@ -16,7 +16,7 @@ use Rattle.collection_reader.specs.FirstFault.{IsFront, IsLongestFront, head_fau
 use Rattle.collection_reader.specs.Held.{lists_held}
 use Rattle.collection_reader.specs.ReadCollection.{files_at, IsCollectionSlot, ReadsCollection}
 use Rattle.collection_reader.specs.Reading.{Reading, rests, IsReadFault, IsNextFault, OnlyReadsCollection, StartsReading, ReadsSizes}
-use Rattle.collection_reader.specs.ReadLists.{ReadsLists}
+use Rattle.collection_reader.specs.ReadLists.{HaveBeenRead, IsFaultBehindLists, ReadsLists}
 use Rattle.collection_reader.proofs.Fronts.{longest-from_blocked, longest-from_full, blocked-at_end}
 use Rattle.collection_reader.proofs.Breaks.{blocked-by_fault}
 use Rattle.collection_reader.proofs.FirstFaults.{one-first_fault, spelled-no_fault, head_fault-none, none-first, match_bool-cases}
@@ -24,21 +24,21 @@ use Rattle.collection_reader.proofs.ListsRead.{calls-then, read_fault-then, no_f
 use Rattle.collection_reader.proofs.ReadsFrom.{OnlyReads-trans}
 
 -- the files of a well-formed collection have no first fault, and files with one are of none
-pub not-both : (files : Files) (c : Collection) (fault : Fault) → WellFormed format_one c → files ≡ spelled c → IsFirstFault format_one files (Some fault) → ⊥
-not-both files c fault good same broken =
-    let none : IsFirstFault format_one files None = subst (λ f. IsFirstFault format_one f None) (sym same) (spelled-no_fault format_one (lit< tt) c good) in
-    let one = one-first_fault format_one (lit< tt) files None (Some fault) none broken in
+pub not-both : (format : FormatNumbers) → format.most_documents < 2 ^ 32 → (files : Files) (c : Collection) (fault : Fault) → WellFormed format c → files ≡ spelled c → IsFirstFault format files (Some fault) → ⊥
+not-both format small files c fault good same broken =
+    let none : IsFirstFault format files None = subst (λ f. IsFirstFault format f None) (sym same) (spelled-no_fault format small c good) in
+    let one = one-first_fault format small files None (Some fault) none broken in
     cc
 
 -- what a refusal has to say
-pub refused : (old new : DepotState) (base : List ℕ) (answer : Result Collection CollError) (e : CollError) → answer ≡ Err e
-    → (IsTrue old.tells → (fault : Fault) → e ≡ Broken fault → IsFirstFault format_one (files_at old base) (Some fault))
+pub refused : (format : FormatNumbers) → format.most_documents < 2 ^ 32 → (old new : DepotState) (base : List ℕ) (answer : Result Collection CollError) (e : CollError) → answer ≡ Err e
+    → (IsTrue old.tells → (fault : Fault) → e ≡ Broken fault → IsFirstFault format (files_at old base) (Some fault))
     → ((slot : Slot) → e ≡ Read slot → IsReadFault old new slot)
-    → OnlyReadsCollection old new answer → ReadsCollection old new base answer
-refused old new base answer e is first_fault read_fault calls = record {
-  well_formed = not-ok (WellFormed format_one) answer e is;
+    → OnlyReadsCollection old new answer → ReadsCollection format old new base answer
+refused format small old new base answer e is first_fault read_fault calls = record {
+  well_formed = not-ok (WellFormed format) answer e is;
   spelled_so = λ told. not-ok (λ c. files_at old base ≡ spelled c) answer e is;
-  no_fault = λ told c good same fault h. not-both (files_at old base) c fault good same (first_fault told fault cc);
+  no_fault = λ told c good same fault h. not-both format small (files_at old base) c fault good same (first_fault told fault cc);
   faulty_is_refused = λ told fault broken c h. cc;
   first_fault = λ told fault h. first_fault told fault cc;
   read_only_where_it_rose = λ slot h. read_fault slot cc;
@@ -57,18 +57,18 @@ some-first None P fault is = absurd cc
 some-first (Some x) P fault is = sym is
 
 -- where the start is refused
-pub start-refused : (old new : DepotState) (base : List ℕ) (result : Result Reading CollError) (e : CollError) (answer : Result Collection CollError) → StartsReading old new base result → result ≡ Err e → answer ≡ Err e → ReadsCollection old new base answer
-start-refused old new base result e answer starts is answered =
-    refused old new base answer e answered
-    (λ told fault h. some-first (head_fault format_one (files_at old base).docs) _ fault (starts.first_fault told fault cc))
+pub start-refused : (format : FormatNumbers) → format.most_documents < 2 ^ 32 → (old new : DepotState) (base : List ℕ) (result : Result Reading CollError) (e : CollError) (answer : Result Collection CollError) → StartsReading format old new base result → result ≡ Err e → answer ≡ Err e → ReadsCollection format old new base answer
+start-refused format small old new base result e answer starts is answered =
+    refused format small old new base answer e answered
+    (λ told fault h. some-first (head_fault format (files_at old base).docs) _ fault (starts.first_fault told fault cc))
     (λ slot h. starts.read_only_where_it_rose slot cc)
     (same-calls old new result answer (λ slot h. cc) starts.depot)
 
 -- the front of the files that some lists behind the head are
-front-read : (old start : DepotState) (base : List ℕ) (first : Reading) (lists : List (List Posting)) (docs freqs : List ℕ) → StartsReading old start base (Ok first) → IsTrue old.tells
-    → length lists ≤ most_terms → All (IsPostingList format_one first.documents) lists → (rests first start).docs ≡ docs_bytes lists ++ docs → (rests first start).freqs ≡ freqs_bytes lists ++ freqs
-    → IsFront format_one (files_at old base) first.documents lists docs freqs
-front-read old start base first lists docs freqs starts told within each is_docs is_freqs = record {
+front-read : (format : FormatNumbers) (old start : DepotState) (base : List ℕ) (first : Reading) (lists : List (List Posting)) (docs freqs : List ℕ) → StartsReading format old start base (Ok first) → IsTrue old.tells
+    → length lists ≤ most_terms → All (IsPostingList format first.documents) lists → (rests first start).docs ≡ docs_bytes lists ++ docs → (rests first start).freqs ≡ freqs_bytes lists ++ freqs
+    → IsFront format (files_at old base) first.documents lists docs freqs
+front-read format old start base first lists docs freqs starts told within each is_docs is_freqs = record {
   documents = starts.within;
   terms = within;
   each = each;
@@ -77,11 +77,11 @@ front-read old start base first lists docs freqs starts told within each is_docs
 }
 
 -- a first fault behind a longest front
-pub fault-behind : (files : Files) (n : ℕ) (lists : List (List Posting)) (docs freqs : List ℕ) (fault : Fault) → IsLongestFront format_one files n lists docs freqs → IsFaultBehind format_one n (length lists) docs freqs files.sizes (Some fault) → IsFirstFault format_one files (Some fault)
-fault-behind files n lists docs freqs fault longest behind =
+pub fault-behind : (format : FormatNumbers) → format.most_documents < 2 ^ 32 → (files : Files) (n : ℕ) (lists : List (List Posting)) (docs freqs : List ℕ) (fault : Fault) → IsLongestFront format files n lists docs freqs → IsFaultBehind format n (length lists) docs freqs files.sizes (Some fault) → IsFirstFault format files (Some fault)
+fault-behind format small files n lists docs freqs fault longest behind =
     let front = longest.front in
-    let no_fault : head_fault format_one files.docs ≡ None = ap (head_fault format_one) (front.docs ∙ append_assoc (head_bytes n) (docs_bytes lists) docs) ∙ head_fault-none format_one n (docs_bytes lists ++ docs) (lit< tt) front.documents in
-    none-first (head_fault format_one files.docs) _ _ no_fault (n, lists, docs, freqs, longest, behind)
+    let no_fault : head_fault format files.docs ≡ None = ap (head_fault format) (front.docs ∙ append_assoc (head_bytes n) (docs_bytes lists) docs) ∙ head_fault-none format n (docs_bytes lists ++ docs) small front.documents in
+    none-first (head_fault format files.docs) _ _ no_fault (n, lists, docs, freqs, longest, behind)
 
 match_bool-at_false : (P Q : Type 0) (b : Bool) → b ≡ false → Q → MatchBool b P Q
 match_bool-at_false P Q true is q = absurd cc
@@ -98,99 +98,97 @@ same-from_test : (m n : ℕ) → m == n ≡ true → m ≡ n
 same-from_test m n is = grind (arith, nat_tests)
 
 -- a front is the longest where the next list breaks, and that list has the first fault
-pub next-faulty : (files : Files) (n : ℕ) (lists : List (List Posting)) (docs freqs : List ℕ) (fault : Fault) → IsFront format_one files n lists docs freqs → IsNextFault format_one n (length lists) (record { docs = docs; freqs = freqs; sizes = files.sizes }) fault → IsFirstFault format_one files (Some fault)
-next-faulty files n lists docs freqs fault front next =
+pub next-faulty : (format : FormatNumbers) → format.most_documents < 2 ^ 32 → (files : Files) (n : ℕ) (lists : List (List Posting)) (docs freqs : List ℕ) (fault : Fault) → IsFront format files n lists docs freqs → IsNextFault format n (length lists) (record { docs = docs; freqs = freqs; sizes = files.sizes }) fault → IsFirstFault format files (Some fault)
+next-faulty format small files n lists docs freqs fault front next =
     let some = match_bool-at_false _ _ (length docs == 0) (some-not_zero (length docs) next.0) in
     match_bool-cases _ _ _ (length lists == most_terms)
-    (λ full is. fault-behind files n lists docs freqs fault (longest-from_full format_one files n lists docs freqs front (same-from_test (length lists) most_terms full)) (some (match_bool-at_true _ _ (length lists == most_terms) full (ap Some is))))
-    (λ more broken. fault-behind files n lists docs freqs fault (longest-from_blocked format_one (lit< tt) files n lists docs freqs front (blocked-by_fault format_one n (length lists) docs freqs fault (omega (arith, front.documents)) broken)) (some (match_bool-at_false _ _ (length lists == most_terms) more broken)))
+    (λ full is. fault-behind format small files n lists docs freqs fault (longest-from_full format files n lists docs freqs front (same-from_test (length lists) most_terms full)) (some (match_bool-at_true _ _ (length lists == most_terms) full (ap Some is))))
+    (λ more broken. fault-behind format small files n lists docs freqs fault (longest-from_blocked format small files n lists docs freqs front (blocked-by_fault format n (length lists) docs freqs fault (omega (arith, front.documents)) broken)) (some (match_bool-at_false _ _ (length lists == most_terms) more broken)))
     next.1
 
 -- where a list is refused
-pub lists-refused : (old start new : DepotState) (base : List ℕ) (first now : Reading) (result : Result ListVectors CollError) (e : CollError) (answer : Result Collection CollError)
-    → StartsReading old start base (Ok first) → ReadsLists first now start new result → result ≡ Err e → answer ≡ Err e → ReadsCollection old new base answer
-lists-refused old start new base first now result e answer starts reads is answered =
+pub lists-refused : (format : FormatNumbers) → format.most_documents < 2 ^ 32 → (old start new : DepotState) (base : List ℕ) (first now : Reading) (result : Result ListVectors CollError) (e : CollError) (answer : Result Collection CollError)
+    → StartsReading format old start base (Ok first) → ReadsLists first now start new result → result ≡ Err e → answer ≡ Err e → ReadsCollection format old new base answer
+lists-refused format small old start new base first now result e answer starts reads is answered =
     let no_fault = no_fault-at_ok old start (Ok first) first refl starts.depot in
-    refused old new base answer e answered
+    refused format small old new base answer e answered
     (λ told fault h.
-    let found = reads.first_fault (starts.depot.reads.tells ∙ told) fault cc in
-    next-faulty (files_at old base) first.documents found.lists found.docs_rest found.freqs_rest fault (front-read old start base first found.lists found.docs_rest found.freqs_rest starts told found.within found.each found.docs found.freqs) found.next)
+    let found = subst (λ f. IsFaultBehindLists f first.documents (rests first start) fault) starts.limits (reads.first_fault (starts.depot.reads.tells ∙ told) fault cc) in
+    next-faulty format small (files_at old base) first.documents found.lists found.docs_rest found.freqs_rest fault (front-read format old start base first found.lists found.docs_rest found.freqs_rest starts told found.within found.each found.docs found.freqs) found.next)
     (λ slot h. read_fault-then old start new slot (no_fault slot) (reads.read_only_where_it_rose slot cc))
     (calls-then old start new result answer no_fault starts.depot.reads reads.depot (λ slot h. cc))
 
 -- what is left once all lists are read
-record AllListsRead (old start between : DepotState) (base : List ℕ) (now : Reading) (lists : List (List Posting)) : Type 0 where
-  documents : now.documents ≤ format_one.most_documents
+record AllListsRead (format : FormatNumbers) (old start between : DepotState) (base : List ℕ) (now : Reading) (lists : List (List Posting)) : Type 0 where
+  documents : now.documents ≤ format.most_documents
   terms : length lists ≤ most_terms
-  each : All (IsPostingList format_one now.documents) lists
+  each : All (IsPostingList format now.documents) lists
   counted : now.lists ≡ length lists
   refusal : now.refusal ≡ None
-  front : IsTrue old.tells → IsFront format_one (files_at old base) now.documents lists [] (rests now between).freqs
+  front : IsTrue old.tells → IsFront format (files_at old base) now.documents lists [] (rests now between).freqs
   sizes : IsTrue old.tells → (files_at old base).sizes ≡ (rests now between).sizes
   no_fault : (slot : Slot) → between.faults slot ≡ old.faults slot
   reads : OnlyReads IsCollectionSlot old between
 
-all-lists : (old start between : DepotState) (base : List ℕ) (first now : Reading) (v : ListVectors) → StartsReading old start base (Ok first) → ReadsLists first now start between (Ok v) → AllListsRead old start between base now (lists_held v.docs.items v.freqs.items)
-all-lists old start between base first now v starts reads =
-    let given = reads.given in
-    let lists = lists_held v.docs.items v.freqs.items in
+all-lists : (format : FormatNumbers) (old start between : DepotState) (base : List ℕ) (first now : Reading) (lists : List (List Posting)) → StartsReading format old start base (Ok first) → HaveBeenRead first now start between lists
+    → (IsTrue start.tells → (rests now between).docs ≡ []) → AllListsRead format old start between base now lists
+all-lists format old start between base first now lists starts given ended =
+    let each = subst (λ f. All (IsPostingList f first.documents) lists) starts.limits given.each in
     record {
-      documents = subst (λ n. n ≤ format_one.most_documents) (sym given.documents) starts.within;
+      documents = subst (λ n. n ≤ format.most_documents) (sym given.documents) starts.within;
       terms = given.within;
-      each = subst (λ n. All (IsPostingList format_one n) lists) (sym given.documents) given.each;
+      each = subst (λ n. All (IsPostingList format n) lists) (sym given.documents) each;
       counted = given.counted;
       refusal = given.refusal;
       front = λ told.
           let told' : IsTrue start.tells = starts.depot.reads.tells ∙ told in
-          let is_docs : (rests first start).docs ≡ docs_bytes lists ++ [] = given.docs_rest told' ∙ ap (λ d. docs_bytes lists ++ d) (reads.ended told') in
-          subst (λ n. IsFront format_one (files_at old base) n lists [] (rests now between).freqs) (sym given.documents) (front-read old start base first lists [] (rests now between).freqs starts told given.within given.each is_docs (given.freqs_rest told'));
+          let is_docs : (rests first start).docs ≡ docs_bytes lists ++ [] = given.docs_rest told' ∙ ap (λ d. docs_bytes lists ++ d) (ended told') in
+          subst (λ n. IsFront format (files_at old base) n lists [] (rests now between).freqs) (sym given.documents) (front-read format old start base first lists [] (rests now between).freqs starts told given.within each is_docs (given.freqs_rest told'));
       sizes = λ told. starts.sizes_rest told ∙ sym (given.sizes_rest (starts.depot.reads.tells ∙ told));
       no_fault = λ slot. given.no_fault slot ∙ no_fault-at_ok old start (Ok first) first refl starts.depot slot;
       reads = OnlyReads-trans starts.depot.reads given.reads;
     }
 
 -- where the sizes are refused
-pub sizes-refused : (old start between new : DepotState) (base : List ℕ) (first now last : Reading) (v : ListVectors) (sizes : List ℕ) (result : Result (Unit {0}) CollError) (e : CollError) (answer : Result Collection CollError)
-    → StartsReading old start base (Ok first) → ReadsLists first now start between (Ok v) → ReadsSizes now last between new sizes result → result ≡ Err e → answer ≡ Err e → ReadsCollection old new base answer
-sizes-refused old start between new base first now last v sizes result e answer starts lists reads is answered =
-    let held = lists_held v.docs.items v.freqs.items in
-    let read = all-lists old start between base first now v starts lists in
-    refused old new base answer e answered
+pub sizes-refused : (format : FormatNumbers) → format.most_documents < 2 ^ 32 → (old start between new : DepotState) (base : List ℕ) (first now last : Reading) (lists : List (List Posting)) (sizes : List ℕ) (result : Result (Unit {0}) CollError) (e : CollError) (answer : Result Collection CollError)
+    → StartsReading format old start base (Ok first) → HaveBeenRead first now start between lists → (IsTrue start.tells → (rests now between).docs ≡ []) → ReadsSizes now last between new sizes result → result ≡ Err e → answer ≡ Err e → ReadsCollection format old new base answer
+sizes-refused format small old start between new base first now last lists sizes result e answer starts before ended reads is answered =
+    let read = all-lists format old start between base first now lists starts before ended in
+    refused format small old new base answer e answered
     (λ told fault h.
     let front = read.front told in
     let found : end_fault now.documents now.lists (rests now between).freqs (rests now between).sizes ≡ Some fault = reads.first_fault (read.reads.tells ∙ told) read.refusal fault cc in
-    let behind : Some fault ≡ end_fault now.documents (length held) (rests now between).freqs (files_at old base).sizes =
+    let behind : Some fault ≡ end_fault now.documents (length lists) (rests now between).freqs (files_at old base).sizes =
     sym ((λ i. end_fault now.documents (sym read.counted i) (rests now between).freqs (read.sizes told i)) ∙ found) in
-    fault-behind (files_at old base) now.documents held [] (rests now between).freqs fault (longest-from_blocked format_one (lit< tt) (files_at old base) now.documents held [] (rests now between).freqs front (blocked-at_end format_one now.documents (rests now between).freqs)) behind)
+    fault-behind format small (files_at old base) now.documents lists [] (rests now between).freqs fault (longest-from_blocked format small (files_at old base) now.documents lists [] (rests now between).freqs front (blocked-at_end format now.documents (rests now between).freqs)) behind)
     (λ slot h. read_fault-then old between new slot (read.no_fault slot) (reads.read_only_where_it_rose read.refusal slot cc))
     (calls-then old between new result answer read.no_fault read.reads reads.depot (λ slot h. cc))
 
 -- where all is read
-pub all-read : (old start between new : DepotState) (base : List ℕ) (first now last : Reading) (v : ListVectors) (n : ℕ) (sizes : List ℕ) (c : Collection)
-    → StartsReading old start base (Ok first) → ReadsLists first now start between (Ok v) → ReadsSizes now last between new sizes (Ok tt) → All (λ s. s < 2 ^ 32) c.sizes
-    → n ≡ last.documents → c ≡ record { documents = n; lists = lists_held v.docs.items v.freqs.items; sizes = sizes } → ReadsCollection old new base (Ok c)
-all-read old start between new base first now last v n sizes c starts lists reads fit number is =
-    let read = all-lists old start between base first now v starts lists in
-    let held = lists_held v.docs.items v.freqs.items in
+pub all-read : (format : FormatNumbers) → format.most_documents < 2 ^ 32 → (old start between new : DepotState) (base : List ℕ) (first now last : Reading) (lists : List (List Posting)) (n : ℕ) (sizes : List ℕ) (c : Collection)
+    → StartsReading format old start base (Ok first) → HaveBeenRead first now start between lists → (IsTrue start.tells → (rests now between).docs ≡ []) → ReadsSizes now last between new sizes (Ok tt) → All (λ s. s < 2 ^ 32) c.sizes
+    → n ≡ last.documents → c ≡ record { documents = n; lists = lists; sizes = sizes } → ReadsCollection format old new base (Ok c)
+all-read format small old start between new base first now last lists n sizes c starts before ended reads fit number is =
+    let read = all-lists format old start between base first now lists starts before ended in
     let given = reads.given in
-    let whole : Collection = record { documents = now.documents; lists = held; sizes = sizes } in
-    let same : c ≡ whole = is ∙ (λ i. record { documents = (number ∙ reads.documents) i; lists = held; sizes = sizes }) in
-    let good : WellFormed format_one whole = record { documents = read.documents; terms = read.terms; lists = read.each; size_each = given.count; sizes = subst (λ l. All (λ s. s < 2 ^ 32) l) (ap (λ d. d.sizes) is) fit } in
+    let whole : Collection = record { documents = now.documents; lists = lists; sizes = sizes } in
+    let same : c ≡ whole = is ∙ (λ i. record { documents = (number ∙ reads.documents) i; lists = lists; sizes = sizes }) in
+    let good : WellFormed format whole = record { documents = read.documents; terms = read.terms; lists = read.each; size_each = given.count; sizes = subst (λ l. All (λ s. s < 2 ^ 32) l) (ap (λ d. d.sizes) is) fit } in
     let spelling : IsTrue old.tells → files_at old base ≡ spelled whole = λ told.
     let front = read.front told in
     let told' : IsTrue between.tells = read.reads.tells ∙ told in
-    let docs = front.docs ∙ append-nil (head_bytes now.documents ++ docs_bytes held) in
-    let freqs = front.freqs ∙ ap (λ f. freqs_bytes held ++ f) (given.freqs_end told') ∙ append-nil (freqs_bytes held) in
+    let docs = front.docs ∙ append-nil (head_bytes now.documents ++ docs_bytes lists) in
+    let freqs = front.freqs ∙ ap (λ f. freqs_bytes lists ++ f) (given.freqs_end told') ∙ append-nil (freqs_bytes lists) in
     let in_sizes = read.sizes told ∙ given.sizes_end told' in
     λ i. record { docs = docs i; freqs = freqs i; sizes = in_sizes i } in
-    let good_c : WellFormed format_one c = subst (WellFormed format_one) (sym same) good in
+    let good_c : WellFormed format c = subst (WellFormed format) (sym same) good in
     let spelled_c : IsTrue old.tells → files_at old base ≡ spelled c = λ told. spelling told ∙ ap spelled (sym same) in
     let calls = calls-then old between new (Ok tt) (Ok c) read.no_fault read.reads reads.depot (λ slot h. absurd cc) in
     record {
       well_formed = good_c;
       spelled_so = spelled_c;
       no_fault = λ told d good_d same_d fault h. absurd cc;
-      faulty_is_refused = λ told fault broken d h. not-both (files_at old base) c fault good_c (spelled_c told) broken;
+      faulty_is_refused = λ told fault broken d h. not-both format small (files_at old base) c fault good_c (spelled_c told) broken;
       first_fault = λ told fault h. absurd cc;
       read_only_where_it_rose = λ slot h. absurd cc;
       count_rises_only_there = calls.count_rises_only_there;

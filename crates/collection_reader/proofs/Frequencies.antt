@@ -6,7 +6,7 @@ use Rattle.std.proofs.lemmas.Bool.Decides.{nat_tests}
 use Rattle.std.proofs.lemmas.List.{get_or_push, length_push, take_all}
 use Rattle.std.proofs.lemmas.List.Sums.{sum_by_push}
 use Rattle.std.proofs.lemmas.List.Elements.{All-push}
-use Rattle.collection_model.specs.FormatNumbers.{FormatNumbers, format_one}
+use Rattle.collection_model.specs.FormatNumbers.{FormatNumbers}
 use Rattle.collection_model.specs.Bytes.{le32}
 use Rattle.collection_model.proofs.Numbers.{AreNumbers}
 use Rattle.pef_io.specs.declared.fail.Slot.TheVariants.{Freqs}
@@ -85,16 +85,16 @@ sum-breaks format m freqs rest k f fit count fits some high =
     ap (λ b. freq_break format b k) (begun-next m freqs f rest) ∙ breaks-C8 format (begun m (freqs ++ f ∷ []) rest) k f (sum freqs + f) there here some total high
 
 -- what is known once k of m frequencies were read
-pub record FrequenciesSoFar (m k total : ℕ) (held now_held : List ℕ) (old now : DepotState) (freqs : List ℕ) : Type 0 where
+pub record FrequenciesSoFar (format : FormatNumbers) (m k total : ℕ) (held now_held : List ℕ) (old now : DepotState) (freqs : List ℕ) : Type 0 where
   pub count : length freqs ≡ k
   pub claimed : m < 2 ^ 32
   pub total_is : total ≡ sum freqs
-  pub good : AreFrequencies format_one freqs
+  pub good : AreFrequencies format freqs
   pub rest : IsTrue old.tells → rest_of held old Freqs ≡ begun m freqs (rest_of now_held now Freqs)
   pub depot : ReadsFrom (λ s. s ≡ Freqs) old now (Ok k)
 
-pub length_refused : (t expected : ℕ) (held mid freqs : List ℕ) (a b : DepotState) (e : CollError) → TakesNumber (at_frequency t 0) held mid a b (Err e) → ReadsFrequencies t expected held mid a b freqs (Err e)
-length_refused t expected held mid freqs a b e number = record {
+pub length_refused : (format : FormatNumbers) (t expected : ℕ) (held mid freqs : List ℕ) (a b : DepotState) (e : CollError) → TakesNumber (at_frequency t 0) held mid a b (Err e) → ReadsFrequencies format t expected held mid a b freqs (Err e)
+length_refused format t expected held mid freqs a b e number = record {
   count = tt;
   not_zero = tt;
   fit = tt;
@@ -104,9 +104,9 @@ length_refused t expected held mid freqs a b e number = record {
   depot = answers-err {A = ℕ} {B = Unit {0}} e number.depot;
 }
 
-pub frequency_refused : (m t k total : ℕ) (held mid last freqs : List ℕ) (a b c : DepotState) (e : CollError) → k < m → FrequenciesSoFar m k total held mid a b freqs
-    → TakesNumber (at_frequency t k) mid last b c (Err e) → ReadsFrequencies t m held last a c freqs (Err e)
-frequency_refused m t k total held mid last freqs a b c e lt so_far number = record {
+pub frequency_refused : (format : FormatNumbers) (m t k total : ℕ) (held mid last freqs : List ℕ) (a b c : DepotState) (e : CollError) → k < m → FrequenciesSoFar format m k total held mid a b freqs
+    → TakesNumber (at_frequency t k) mid last b c (Err e) → ReadsFrequencies format t m held last a c freqs (Err e)
+frequency_refused format m t k total held mid last freqs a b c e lt so_far number = record {
   count = tt;
   not_zero = tt;
   fit = tt;
@@ -115,15 +115,15 @@ frequency_refused m t k total held mid last freqs a b c e lt so_far number = rec
   first_fault = λ u fault h.
       let g = same-fault {A = Unit {0}} {B = ℕ} e fault h in
       let short = number.too_short (so_far.depot.only.tells ∙ u) fault g in
-      rw (so_far.rest u, number.cut fault g) (first-broken format_one t m freqs (rest_of mid b Freqs) C1 k so_far.good so_far.count lt so_far.claimed (cut-breaks format_one m freqs (rest_of mid b Freqs) k (sym so_far.count) short));
+      rw (so_far.rest u, number.cut fault g) (first-broken format t m freqs (rest_of mid b Freqs) C1 k so_far.good so_far.count lt so_far.claimed (cut-breaks format m freqs (rest_of mid b Freqs) k (sym so_far.count) short));
   depot = reads-then so_far.depot (answers-err {A = ℕ} {B = Unit {0}} e number.depot);
 }
 
 -- a frequency that was read breaks a rule
-frequency_broken : (m t k total f : ℕ) (held mid last freqs : List ℕ) (a b c : DepotState) (rule : Rule) → k < m → FrequenciesSoFar m k total held mid a b freqs
-    → TakesNumber (at_frequency t k) mid last b c (Ok f) → ((rest : List ℕ) → freq_break format_one (begun m freqs (le32 f ++ rest)) k ≡ Some rule)
-    → ReadsFrequencies t m held last a c freqs (Err (Broken (record { rule = rule; file = Freqs; term = t; place = k })))
-frequency_broken m t k total f held mid last freqs a b c rule lt so_far number breaks = record {
+frequency_broken : (format : FormatNumbers) (m t k total f : ℕ) (held mid last freqs : List ℕ) (a b c : DepotState) (rule : Rule) → k < m → FrequenciesSoFar format m k total held mid a b freqs
+    → TakesNumber (at_frequency t k) mid last b c (Ok f) → ((rest : List ℕ) → freq_break format (begun m freqs (le32 f ++ rest)) k ≡ Some rule)
+    → ReadsFrequencies format t m held last a c freqs (Err (Broken (record { rule = rule; file = Freqs; term = t; place = k })))
+frequency_broken format m t k total f held mid last freqs a b c rule lt so_far number breaks = record {
   count = tt;
   not_zero = tt;
   fit = tt;
@@ -131,16 +131,16 @@ frequency_broken m t k total f held mid last freqs a b c rule lt so_far number b
   rest = λ u. tt;
   first_fault = λ u fault h.
       let is : record { rule = rule; file = Freqs; term = t; place = k } ≡ fault = fault-of {A = Unit {0}} _ fault h in
-      rw (so_far.rest u, ← is, number.number (so_far.depot.only.tells ∙ u)) (first-broken format_one t m freqs (le32 f ++ rest_of last c Freqs) rule k so_far.good so_far.count lt so_far.claimed (breaks (rest_of last c Freqs)));
+      rw (so_far.rest u, ← is, number.number (so_far.depot.only.tells ∙ u)) (first-broken format t m freqs (le32 f ++ rest_of last c Freqs) rule k so_far.good so_far.count lt so_far.claimed (breaks (rest_of last c Freqs)));
   depot = reads-then so_far.depot (answers-broken {A = ℕ} {B = Unit {0}} _ number.depot);
 }
 
-pub frequency_zero : (m t k total f : ℕ) (held mid last freqs : List ℕ) (a b c : DepotState) → k < m → FrequenciesSoFar m k total held mid a b freqs
-    → TakesNumber (at_frequency t k) mid last b c (Ok f) → f ≡ 0 → ReadsFrequencies t m held last a c freqs (Err (Broken (record { rule = C7; file = Freqs; term = t; place = k })))
-frequency_zero m t k total f held mid last freqs a b c lt so_far number is =
-    frequency_broken m t k total f held mid last freqs a b c C7 lt so_far number (λ rest. zero-breaks format_one m freqs rest k f so_far.good.fit (sym so_far.count) is)
+pub frequency_zero : (format : FormatNumbers) (m t k total f : ℕ) (held mid last freqs : List ℕ) (a b c : DepotState) → k < m → FrequenciesSoFar format m k total held mid a b freqs
+    → TakesNumber (at_frequency t k) mid last b c (Ok f) → f ≡ 0 → ReadsFrequencies format t m held last a c freqs (Err (Broken (record { rule = C7; file = Freqs; term = t; place = k })))
+frequency_zero format m t k total f held mid last freqs a b c lt so_far number is =
+    frequency_broken format m t k total f held mid last freqs a b c C7 lt so_far number (λ rest. zero-breaks format m freqs rest k f so_far.good.fit (sym so_far.count) is)
 
-pub frequency_over : (m t k total f : ℕ) (held mid last freqs : List ℕ) (a b c : DepotState) → k < m → FrequenciesSoFar m k total held mid a b freqs
-    → TakesNumber (at_frequency t k) mid last b c (Ok f) → 0 < f → 2 ^ 36 < total + f → ReadsFrequencies t m held last a c freqs (Err (Broken (record { rule = C8; file = Freqs; term = t; place = k })))
-frequency_over m t k total f held mid last freqs a b c lt so_far number some high =
-    frequency_broken m t k total f held mid last freqs a b c C8 lt so_far number (λ rest. sum-breaks format_one m freqs rest k f so_far.good.fit (sym so_far.count) number.fits some (omega (arith, high, so_far.total_is)))
+pub frequency_over : (format : FormatNumbers) (m t k total f : ℕ) (held mid last freqs : List ℕ) (a b c : DepotState) → k < m → FrequenciesSoFar format m k total held mid a b freqs
+    → TakesNumber (at_frequency t k) mid last b c (Ok f) → 0 < f → format.most_sum < total + f → ReadsFrequencies format t m held last a c freqs (Err (Broken (record { rule = C8; file = Freqs; term = t; place = k })))
+frequency_over format m t k total f held mid last freqs a b c lt so_far number some high =
+    frequency_broken format m t k total f held mid last freqs a b c C8 lt so_far number (λ rest. sum-breaks format m freqs rest k f so_far.good.fit (sym so_far.count) number.fits some (omega (arith, high, so_far.total_is)))

@@ -3,6 +3,7 @@ pub mod Begun
 pub mod Breaks
 pub mod Fronts
 pub mod FirstFaults
+pub mod Limits
 mod ReadsFrom
 mod SameAnswer
 mod Bytes
@@ -16,5 +17,6 @@ mod TriesEnd
 mod Refusals
 mod ListsRead
 mod CollectionRead
+mod InTurn
 mod Rows
 mod WholeFaults

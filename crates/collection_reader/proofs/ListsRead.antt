@@ -5,7 +5,6 @@ use Rattle.std.proofs.lemmas.Result.{IfOk-at_ok}
 use Rattle.std.proofs.lemmas.List.{append-nil, length_push}
 use Rattle.std.proofs.lemmas.List.Concat.{flat_map-append}
 use Rattle.std.proofs.lemmas.List.Elements.{All-nil, All-push}
-use Rattle.collection_model.specs.FormatNumbers.{format_one}
 use Rattle.collection_model.specs.Bytes.{number_sequence}
 use Rattle.collection_model.specs.Collection.{Posting, docs_of, freqs_of, postings_of, IsPostingList}
 use Rattle.collection_model.specs.Spelling.{docs_bytes, freqs_bytes}
@@ -53,24 +52,29 @@ pub record AreReadSoFar (first now : Reading) (before after : DepotState) (docs 
   pub started : AreStarted after
   pub read : HaveBeenRead first now before after (lists_held docs freqs)
 
+-- no list was read yet
+pub nothing-read : (first : Reading) (before : DepotState) → AtFirstList first → HaveBeenRead first first before before []
+nothing-read first before at_first = record {
+  format = refl;
+  documents = refl;
+  refusal = at_first.refusal;
+  counted = at_first.lists;
+  within = omega arith;
+  each = All-nil (IsPostingList first.format first.documents);
+  docs_rest = λ told. refl;
+  freqs_rest = λ told. refl;
+  sizes_rest = λ told. refl;
+  no_fault = λ slot. refl;
+  reads = OnlyReads-same before;
+}
+
 pub none-read : (first : Reading) (before : DepotState) (docs freqs : List (Vec ℕ Global)) → AreStarted before → AtFirstList first → docs ≡ [] → freqs ≡ [] → AreReadSoFar first first before before docs freqs
 none-read first before docs freqs started at_first no_docs no_freqs =
     let empty : AreReadSoFar first first before before [] [] = record {
       aligned = tt;
       phase = at_first.phase;
       started = started;
-      read = record {
-        documents = refl;
-        refusal = at_first.refusal;
-        counted = at_first.lists;
-        within = omega arith;
-        each = All-nil (IsPostingList format_one first.documents);
-        docs_rest = λ told. refl;
-        freqs_rest = λ told. refl;
-        sizes_rest = λ told. refl;
-        no_fault = λ slot. refl;
-        reads = OnlyReads-same before;
-      };
+      read = nothing-read first before at_first;
     } in
     subst (λ d. AreReadSoFar first first before before d freqs) (sym no_docs) (subst (λ f. AreReadSoFar first first before before [] f) (sym no_freqs) empty)
 
@@ -89,15 +93,16 @@ no_fault-at_ok before after result x is calls slot = elim (calls.count_rises_onl
 bytes-behind : (all front list rest middle : List ℕ) → all ≡ front ++ middle → middle ≡ list ++ rest → all ≡ front ++ list ++ rest
 bytes-behind all front list rest middle is behind = is ∙ ap (λ m. front ++ m) behind ∙ sym (append_assoc front list rest)
 
-read-more : (first now new : Reading) (before between after : DepotState) (lists : List (List Posting)) (docs freqs : List ℕ) → HaveBeenRead first now before between lists
-    → GivesList now new between after docs freqs → new.documents ≡ now.documents → new.refusal ≡ None → ((slot : Slot) → after.faults slot ≡ between.faults slot) → OnlyReads IsCollectionSlot between after
+pub read-more : (first now new : Reading) (before between after : DepotState) (lists : List (List Posting)) (docs freqs : List ℕ) → HaveBeenRead first now before between lists
+    → GivesList now new between after docs freqs → new.format ≡ now.format → new.documents ≡ now.documents → new.refusal ≡ None → ((slot : Slot) → after.faults slot ≡ between.faults slot) → OnlyReads IsCollectionSlot between after
     → HaveBeenRead first new before after (lists ++ postings_of docs freqs ∷ [])
-read-more first now new before between after lists docs freqs read gives documents refusal no_fault reads = record {
+read-more first now new before between after lists docs freqs read gives format documents refusal no_fault reads = record {
+  format = format ∙ read.format;
   documents = documents ∙ read.documents;
   refusal = refusal;
   counted = omega (arith, gives.counted, read.counted, length_push lists (postings_of docs freqs));
   within = omega (arith, gives.counted, gives.within, read.counted, length_push lists (postings_of docs freqs));
-  each = All-push (IsPostingList format_one first.documents) lists (postings_of docs freqs) read.each (subst (λ n. IsPostingList format_one n (postings_of docs freqs)) read.documents gives.list);
+  each = All-push (IsPostingList first.format first.documents) lists (postings_of docs freqs) read.each (subst (λ f. IsPostingList f first.documents (postings_of docs freqs)) read.format (subst (λ n. IsPostingList now.format n (postings_of docs freqs)) read.documents gives.list));
   docs_rest = λ told. bytes-behind _ (docs_bytes lists) (number_sequence docs) _ _ (read.docs_rest told) (gives.docs_rest (read.reads.tells ∙ told)) ∙ ap (λ b. b ++ (rests new after).docs) (sym (docs_bytes-push lists docs freqs gives.same_length));
   freqs_rest = λ told. bytes-behind _ (freqs_bytes lists) (number_sequence freqs) _ _ (read.freqs_rest told) (gives.freqs_rest (read.reads.tells ∙ told)) ∙ ap (λ b. b ++ (rests new after).freqs) (sym (freqs_bytes-push lists docs freqs gives.same_length));
   sizes_rest = λ told. gives.sizes_rest (read.reads.tells ∙ told) ∙ read.sizes_rest told;
@@ -105,7 +110,7 @@ read-more first now new before between after lists docs freqs read gives documen
   reads = OnlyReads-trans read.reads reads;
 }
 
-answered-list : (now new : Reading) (between after : DepotState) (docs freqs : List ℕ) (result : Result Bool CollError) (b : Bool) → result ≡ Ok b → ReadsList now new between after docs freqs result → new.refusal ≡ None
+pub answered-list : (now new : Reading) (between after : DepotState) (docs freqs : List ℕ) (result : Result Bool CollError) (b : Bool) → result ≡ Ok b → ReadsList now new between after docs freqs result → new.refusal ≡ None
 answered-list now new between after docs freqs result b is reads = (IfOk-at_ok (λ _. (now.refusal ≡ None) × (new.refusal ≡ None)) is reads.refusal.answer).1
 
 -- once a list was given, and pushed
@@ -115,7 +120,7 @@ pub one-more : (first now new : Reading) (before between after : DepotState) (do
 one-more first now new before between after docs freqs docs' freqs' d f result so_far reads is pushed_d pushed_f =
     let gives = reads.list is in
     let refusal = answered-list now new between after d.items f.items result true is reads in
-    let read = read-more first now new before between after (lists_held docs freqs) d.items f.items so_far.read gives reads.documents refusal (no_fault-at_ok between after result true is reads.depot) reads.depot.reads in
+    let read = read-more first now new before between after (lists_held docs freqs) d.items f.items so_far.read gives reads.format reads.documents refusal (no_fault-at_ok between after result true is reads.depot) reads.depot.reads in
     let pushed : AreReadSoFar first new before after (docs ++ d ∷ []) (freqs ++ f ∷ []) = record {
       aligned = aligned_push docs freqs d f so_far.aligned gives.same_length;
       phase = gives.phase ∙ so_far.phase;
@@ -125,10 +130,11 @@ one-more first now new before between after docs freqs docs' freqs' d f result s
     subst (λ x. AreReadSoFar first new before after x freqs') (sym pushed_d) (subst (λ y. AreReadSoFar first new before after (docs ++ d ∷ []) y) (sym pushed_f) pushed)
 
 -- where there is no more list
-read-end : (first now new : Reading) (before between after : DepotState) (lists : List (List Posting)) → HaveBeenRead first now before between lists
-    → EndsLists now new between after → new.documents ≡ now.documents → new.refusal ≡ None → ((slot : Slot) → after.faults slot ≡ between.faults slot) → OnlyReads IsCollectionSlot between after
+pub read-end : (first now new : Reading) (before between after : DepotState) (lists : List (List Posting)) → HaveBeenRead first now before between lists
+    → EndsLists now new between after → new.format ≡ now.format → new.documents ≡ now.documents → new.refusal ≡ None → ((slot : Slot) → after.faults slot ≡ between.faults slot) → OnlyReads IsCollectionSlot between after
     → HaveBeenRead first new before after lists
-read-end first now new before between after lists read ends documents refusal no_fault reads = record {
+read-end first now new before between after lists read ends format documents refusal no_fault reads = record {
+  format = format ∙ read.format;
   documents = documents ∙ read.documents;
   refusal = refusal;
   counted = ends.lists ∙ read.counted;
@@ -156,26 +162,27 @@ pub not-ok : {A : Type 0} (P : A → Type 0) (result : Result A CollError) (e : 
 not-ok P result e is = subst (λ r. IfOk r P) (sym is) tt
 
 -- the answer where the next list is refused
-pub list-refused : (first now new : Reading) (before between after : DepotState) (docs freqs : List (Vec ℕ Global)) (d f : List ℕ) (result : Result Bool CollError) (e : CollError) (answer : Result ListVectors CollError)
-    → AreReadSoFar first now before between docs freqs → ReadsList now new between after d f result → result ≡ Err e → answer ≡ Err e → ReadsLists first new before after answer
-list-refused first now new before between after docs freqs d f result e answer so_far reads is answered = record {
+pub list-refused : (first now new : Reading) (before between after : DepotState) (lists : List (List Posting)) (d f : List ℕ) (result : Result Bool CollError) (e : CollError) (answer : Result ListVectors CollError)
+    → HaveBeenRead first now before between lists → ReadsList now new between after d f result → result ≡ Err e → answer ≡ Err e → ReadsLists first new before after answer
+list-refused first now new before between after lists d f result e answer read reads is answered = record {
   aligned = not-ok (λ v. AreAligned v.docs.items v.freqs.items) answer e answered;
   given = not-ok (λ v. HaveBeenRead first new before after (lists_held v.docs.items v.freqs.items)) answer e answered;
   ended = λ told. not-ok (λ v. (rests new after).docs ≡ []) answer e answered;
   phase = not-ok (λ v. new.phase ≡ Ended) answer e answered;
   first_fault = λ told fault h. record {
-    lists = lists_held docs freqs;
+    lists = lists;
     docs_rest = (rests now between).docs;
     freqs_rest = (rests now between).freqs;
-    within = so_far.read.within;
-    each = so_far.read.each;
-    docs = so_far.read.docs_rest told;
-    freqs = so_far.read.freqs_rest told;
+    within = read.within;
+    each = read.each;
+    docs = read.docs_rest told;
+    freqs = read.freqs_rest told;
     next =
-        let found : IsNextFault format_one now.documents now.lists (rests now between) fault = reads.first_fault (so_far.read.reads.tells ∙ told) so_far.read.refusal fault cc in
-        subst (λ n. IsNextFault format_one n (length (lists_held docs freqs)) (rests now between) fault) so_far.read.documents
-        (subst (λ t. IsNextFault format_one now.documents t (rests now between) fault) so_far.read.counted found);
+        let found : IsNextFault now.format now.documents now.lists (rests now between) fault = reads.first_fault (read.reads.tells ∙ told) read.refusal fault cc in
+        subst (λ f. IsNextFault f first.documents (length lists) (rests now between) fault) read.format
+        (subst (λ n. IsNextFault now.format n (length lists) (rests now between) fault) read.documents
+        (subst (λ t. IsNextFault now.format now.documents t (rests now between) fault) read.counted found));
   };
-  read_only_where_it_rose = λ slot h. read_fault-then before between after slot (so_far.read.no_fault slot) (reads.read_only_where_it_rose so_far.read.refusal slot cc);
-  depot = calls-then before between after result answer so_far.read.no_fault so_far.read.reads reads.depot (λ slot h. cc);
+  read_only_where_it_rose = λ slot h. read_fault-then before between after slot (read.no_fault slot) (reads.read_only_where_it_rose read.refusal slot cc);
+  depot = calls-then before between after result answer read.no_fault read.reads reads.depot (λ slot h. cc);
 }

@@ -14,6 +14,7 @@ list_refused r tried a b ds fs ds_after fs_after e none tries no_docs no_freqs =
   list = λ h. absurd (err-not-ok e true h);
   ended = λ h. absurd (err-not-ok e false h);
   none_lent = λ h. (no_docs, no_freqs);
+  format = tries.format;
   documents = tries.documents;
   first_fault = λ t kept fault h. tries.first_fault t fault h;
   read_only_where_it_rose = λ kept slot h. tries.depot.read_only_where_it_rose slot h;
@@ -26,6 +27,7 @@ pub end_refused : (r tried : Reading) (a b : DepotState) (ss ss_after : List ℕ
 end_refused r tried a b ss ss_after e none tries no_sizes = record {
   given = tt;
   none_lent = λ kept h. no_sizes;
+  format = tries.format;
   documents = tries.documents;
   first_fault = λ t kept fault h. tries.first_fault t fault h;
   read_only_where_it_rose = λ kept slot h. tries.depot.read_only_where_it_rose slot h;

@@ -10,7 +10,7 @@ use Rattle.collection_reader.specs.declared.fault.CollError.TheVariants.{Broken}
 use Rattle.collection_reader.specs.ReadCollection.{IsCollectionSlot}
 use Rattle.collection_reader.specs.Reading.{Reading, StartsReading}
 use Rattle.collection_reader.specs.FirstFault.{head_fault}
-use Rattle.collection_model.specs.FormatNumbers.{format_one}
+use Rattle.collection_model.specs.FormatNumbers.{FormatNumbers}
 use Rattle.collection_reader.specs.OneFile.{ReadsFrom}
 use Rattle.collection_reader.specs.OneSequence.{ReadsHead}
 use Rattle.collection_reader.specs.OneReader.{StartsFile, StartsFiles}
@@ -94,9 +94,10 @@ all_started base a b c d (Ok x) one two three =
     }
 
 -- a refusal before or in the head
-pub reading_refused : (base : List ℕ) (a b : DepotState) (e : CollError) → StartsFiles base a b (Err e) → StartsReading a b base (Err e)
-reading_refused base a b e starts = record {
+pub reading_refused : (format : FormatNumbers) (base : List ℕ) (a b : DepotState) (e : CollError) → StartsFiles base a b (Err e) → StartsReading format a b base (Err e)
+reading_refused format base a b e starts = record {
   started = tt;
+  limits = tt;
   within = tt;
   no_list = tt;
   none_kept = tt;
@@ -108,18 +109,19 @@ reading_refused base a b e starts = record {
   depot = record { count_rises_only_there = (answers-err {A = Unit {0}} {B = Reading} e starts.depot).count_rises_only_there; reads = starts.depot.only };
 }
 
-pub head_refused : (base held : List ℕ) (a b c : DepotState) (e : CollError) → StartsFiles base a b (Ok tt) → ReadsHead [] held b c (Err e) → StartsReading a c base (Err e)
-head_refused base held a b c e starts head =
+pub head_refused : (format : FormatNumbers) (base held : List ℕ) (a b c : DepotState) (e : CollError) → StartsFiles base a b (Ok tt) → ReadsHead format [] held b c (Err e) → StartsReading format a c base (Err e)
+head_refused format base held a b c e starts head =
     let reads = reads-then starts.depot (reads-wider docs-is (answers-err {A = ℕ} {B = Reading} e head.depot)) in
     record {
       started = tt;
+      limits = tt;
       within = tt;
       no_list = tt;
       none_kept = tt;
       docs_rest = λ t. tt;
       freqs_rest = λ t. tt;
       sizes_rest = λ t. tt;
-      first_fault = λ t fault h. ap (λ bytes. head_fault format_one bytes) (sym (starts.docs t)) ∙ head.first_fault (starts.depot.only.tells ∙ t) fault (same-fault {A = Reading} {B = ℕ} e fault h);
+      first_fault = λ t fault h. ap (λ bytes. head_fault format bytes) (sym (starts.docs t)) ∙ head.first_fault (starts.depot.only.tells ∙ t) fault (same-fault {A = Reading} {B = ℕ} e fault h);
       read_only_where_it_rose = reads.read_only_where_it_rose;
       depot = record { count_rises_only_there = reads.count_rises_only_there; reads = reads.only };
     }

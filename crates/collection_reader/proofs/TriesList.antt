@@ -2,7 +2,7 @@
 use Rattle.std.proofs.Common.{◌≡◌, refl, ◌∙◌, sym, ap, subst, ℕ, ◌^◌, ◌<◌, ◌+◌, ◌++◌, List, length, arith, inl, inr, IsTrue, Ok, Err, Option, Result, true, false, Bool, not, ◌==◌, MatchBool, length-append}
 use Rattle.std.proofs.lemmas.Bool.Decides.{nat_tests}
 use Rattle.std.proofs.lemmas.List.Elements.{All-weaker}
-use Rattle.collection_model.specs.FormatNumbers.{FormatNumbers, format_one, most_terms}
+use Rattle.collection_model.specs.FormatNumbers.{FormatNumbers, most_terms}
 use Rattle.collection_model.specs.Bytes.{number_sequence}
 use Rattle.collection_model.proofs.Lists.{docs-of_postings, freqs-of_postings}
 use Rattle.pef_io.specs.declared.fail.Slot.TheVariants.{Docs, Freqs, Sizes}
@@ -57,7 +57,7 @@ some-left : (r : Reading) (mid : List ℕ) (a b : DepotState) → LooksAhead Doc
 some-left r mid a b look t = omega (arith, look.more refl, length-append mid (b.left Docs), ap length (look.same_rest t))
 
 next-fault : (r : Reading) (mid : List ℕ) (a b : DepotState) (fault : Fault) → r.lists < most_terms → LooksAhead Docs r.docs mid a b (Ok true) → IsTrue a.tells
-    → IsListFault format_one r.documents r.lists (rests r a).docs (rests r a).freqs fault → IsNextFault format_one r.documents r.lists (rests r a) fault
+    → IsListFault r.format r.documents r.lists (rests r a).docs (rests r a).freqs fault → IsNextFault r.format r.documents r.lists (rests r a) fault
 next-fault r mid a b fault few look t h =
     let not_last : r.lists == most_terms ≡ false = grind (arith, nat_tests) in
     (some-left r mid a b look t, rw not_last h)
@@ -68,6 +68,7 @@ look_refused r mid ds fs a b e look = record {
   list = λ h. cc;
   ended = λ h. cc;
   none_lent = λ h. cc;
+  format = refl;
   documents = refl;
   refusal = refl;
   first_fault = λ t fault h. absurd (look.no_fault fault h);
@@ -81,11 +82,12 @@ documents_refused r mid last ds fs a b c e few look docs = record {
   list = λ h. cc;
   ended = λ h. cc;
   none_lent = λ h. cc;
+  format = refl;
   documents = refl;
   refusal = refl;
   first_fault = λ t fault h.
       let broken = docs.first_fault (look.depot.only.tells ∙ t) fault (same-fault {A = Bool} {B = Unit {0}} e fault h) in
-      next-fault r mid a b fault few look t (list-fault-docs format_one r.documents r.lists (rests r a).docs (rests r a).freqs fault (subst (λ bytes. IsDocsFault r.documents r.lists bytes fault) (look.same_rest t) broken));
+      next-fault r mid a b fault few look t (list-fault-docs r.format r.documents r.lists (rests r a).docs (rests r a).freqs fault (subst (λ bytes. IsDocsFault r.documents r.lists bytes fault) (look.same_rest t) broken));
   depot = reads-wider docs-is (reads-then look.depot (answers-err {A = Unit {0}} {B = Bool} e docs.depot));
 }
 
@@ -99,11 +101,12 @@ good-documents n t mid last ds b c fits docs = record {
 
 -- the frequencies are refused
 pub frequencies_refused : (r : Reading) (mid last flast ds fs : List ℕ) (a b c d : DepotState) (e : CollError) → r.documents < 2 ^ 32 → r.lists < most_terms → LooksAhead Docs r.docs mid a b (Ok true)
-    → ReadsDocuments r.documents r.lists mid last b c ds (Ok tt) → ReadsFrequencies r.lists (length ds) r.freqs flast c d fs (Err e) → TriesList r (record r { docs = last; freqs = flast }) a d ds fs (Err e)
+    → ReadsDocuments r.documents r.lists mid last b c ds (Ok tt) → ReadsFrequencies r.format r.lists (length ds) r.freqs flast c d fs (Err e) → TriesList r (record r { docs = last; freqs = flast }) a d ds fs (Err e)
 frequencies_refused r mid last flast ds fs a b c d e fits few look docs freqs = record {
   list = λ h. cc;
   ended = λ h. cc;
   none_lent = λ h. cc;
+  format = refl;
   documents = refl;
   refusal = refl;
   first_fault = λ t fault h.
@@ -111,15 +114,15 @@ frequencies_refused r mid last flast ds fs a b c d e fits few look docs freqs = 
       let v = docs.depot.only.tells ∙ u in
       let broken = freqs.first_fault v fault (same-fault {A = Bool} {B = Unit {0}} e fault h) in
       let left : c.left Freqs ≡ a.left Freqs = (docs.depot.only.other_slots Freqs freqs-not_docs).1 u ∙ (look.depot.only.other_slots Freqs freqs-not_docs).1 t in
-      let broken_here = subst (λ l. IsFreqsFault format_one r.lists (length ds) (r.freqs ++ l) fault) left broken in
+      let broken_here = subst (λ l. IsFreqsFault r.format r.lists (length ds) (r.freqs ++ l) fault) left broken in
       let bytes = sym (docs.rest u) ∙ look.same_rest t in
-      next-fault r mid a b fault few look t (subst (λ bytes. IsListFault format_one r.documents r.lists bytes (rests r a).freqs fault) bytes (list-fault-freqs format_one r.documents r.lists ds (rest_of last c Docs) (rests r a).freqs fault (good-documents r.documents r.lists mid last ds b c fits docs) docs.few broken_here));
+      next-fault r mid a b fault few look t (subst (λ bytes. IsListFault r.format r.documents r.lists bytes (rests r a).freqs fault) bytes (list-fault-freqs r.format r.documents r.lists ds (rest_of last c Docs) (rests r a).freqs fault (good-documents r.documents r.lists mid last ds b c fits docs) docs.few broken_here));
   depot = reads-then (reads-wider docs-is (reads-then look.depot docs.depot)) (reads-wider freqs-is (answers-err {A = Unit {0}} {B = Bool} e freqs.depot));
 }
 
 -- the list that was read
 pub list_read : (r : Reading) (mid last flast ds fs : List ℕ) (a b c d : DepotState) → r.lists < most_terms → LooksAhead Docs r.docs mid a b (Ok true)
-    → ReadsDocuments r.documents r.lists mid last b c ds (Ok tt) → ReadsFrequencies r.lists (length ds) r.freqs flast c d fs (Ok tt) → TriesList r (record r { docs = last; freqs = flast; lists = r.lists + 1 }) a d ds fs (Ok true)
+    → ReadsDocuments r.documents r.lists mid last b c ds (Ok tt) → ReadsFrequencies r.format r.lists (length ds) r.freqs flast c d fs (Ok tt) → TriesList r (record r { docs = last; freqs = flast; lists = r.lists + 1 }) a d ds fs (Ok true)
 list_read r mid last flast ds fs a b c d few look docs freqs = record {
   list = λ h. record {
     same_length = sym freqs.count;
@@ -148,6 +151,7 @@ list_read r mid last flast ds fs a b c d few look docs freqs = record {
   };
   ended = λ h. absurd (true-not_false h);
   none_lent = λ h. absurd (true-not_false h);
+  format = refl;
   documents = refl;
   refusal = refl;
   first_fault = λ t fault h. cc;

@@ -1,8 +1,9 @@
-use Rattle.std.specs.Prelude.{◌≡◌, ◌↔◌, Option, None}
+use Rattle.std.specs.Prelude.{◌≡◌, ◌≢◌, ◌↔◌, Option, None, Some}
 use Rattle.collection_model.specs.FormatNumbers.{FormatNumbers}
 use Rattle.collection_model.specs.Bytes.{AreBytes}
 use Rattle.collection_model.specs.Collection.{Collection, WellFormed}
 use Rattle.collection_model.specs.Spelling.{Files, spelled}
+use Rattle.collection_reader.specs.declared.fault.Rule.TheVariants.{C3}
 use Rattle.collection_reader.specs.declared.fault.Fault.{Fault}
 use Rattle.collection_reader.specs.FirstFault.{IsFirstFault}
 
@@ -24,3 +25,7 @@ SpelledHasNoFault format = (c : Collection) → WellFormed format c → IsFirstF
 -- Files have one first fault only.
 abbrev pub OneFirstFault : FormatNumbers → Type 0
 OneFirstFault format = (files : Files) (f g : Option Fault) → IsFirstFault format files f → IsFirstFault format files g → f ≡ g
+
+-- That there are too many documents is never the first fault, where the file of documents is of bytes.
+abbrev pub NeverTooManyDocuments : FormatNumbers → Type 0
+NeverTooManyDocuments format = (files : Files) → AreBytes files.docs → (fault : Fault) → IsFirstFault format files (Some fault) → fault.rule ≢ C3

@@ -7,3 +7,4 @@ pub mod OneFile
 pub mod OneSequence
 pub mod OneReader
 pub mod ReadLists
+pub mod InTurn

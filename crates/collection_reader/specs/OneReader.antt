@@ -1,5 +1,4 @@
 use Rattle.std.specs.Prelude.{◌≡◌, ℕ, Bool, true, false, IsTrue, List, [], length, Result, Ok, Err, OnOk, Some}
-use Rattle.collection_model.specs.FormatNumbers.{format_one}
 use Rattle.collection_model.specs.Bytes.{number_sequence}
 use Rattle.pef_io.specs.declared.fail.Slot.{Slot}
 use Rattle.pef_io.specs.declared.fail.Slot.TheVariants.{Docs, Freqs, Sizes}
@@ -33,9 +32,10 @@ pub record TriesList (old new : Reading) (before after : DepotState) (docs freqs
   pub list : result ≡ Ok true → GivesList old new before after docs freqs
   pub ended : result ≡ Ok false → EndsLists old new before after
   pub none_lent : result ≡ Ok false → (docs ≡ []) × (freqs ≡ [])
+  pub format : new.format ≡ old.format
   pub documents : new.documents ≡ old.documents
   pub refusal : new.refusal ≡ old.refusal
-  pub first_fault : IsTrue before.tells → (fault : Fault) → result ≡ Err (Broken fault) → IsNextFault format_one old.documents old.lists (rests old before) fault
+  pub first_fault : IsTrue before.tells → (fault : Fault) → result ≡ Err (Broken fault) → IsNextFault old.format old.documents old.lists (rests old before) fault
   pub depot : ReadsFrom IsCollectionSlot before after result
 
 -- The end is tried, by a reader that keeps no refusal yet.
@@ -46,6 +46,7 @@ pub record TriesEnd (old new : Reading) (before after : DepotState) (sizes : Lis
   pub docs_rest : IsTrue before.tells → OnOk result ((rests new after).docs ≡ (rests old before).docs)
   pub freqs_rest : IsTrue before.tells → OnOk result ((rests new after).freqs ≡ [])
   pub none_left : IsTrue before.tells → OnOk result ((rests new after).sizes ≡ [])
+  pub format : new.format ≡ old.format
   pub documents : new.documents ≡ old.documents
   pub lists : new.lists ≡ old.lists
   pub refusal : new.refusal ≡ old.refusal

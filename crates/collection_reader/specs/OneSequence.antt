@@ -1,7 +1,7 @@
 use Rattle.std.specs.Prelude.{◌≡◌, ℕ, ◌^◌, ◌<◌, ◌≤◌, ◌==◌, not, IsTrue, List, [], ◌++◌, length, sum, Result, Err, OnOk, IfOk, MatchBool, Some}
 use Rattle.std.specs.List.{All}
 use Rattle.std.specs.List.Sorted.{IsStrictlyIncreasing}
-use Rattle.collection_model.specs.FormatNumbers.{FormatNumbers, format_one}
+use Rattle.collection_model.specs.FormatNumbers.{FormatNumbers}
 use Rattle.collection_model.specs.Bytes.{number_sequence}
 use Rattle.collection_model.specs.Spelling.{head_bytes}
 use Rattle.pef_io.specs.declared.fail.Slot.TheVariants.{Docs, Freqs, Sizes}
@@ -27,10 +27,10 @@ IsFreqsFault format t count bytes fault =
     (FirstBreak (freq_break format bytes) (number_at bytes 0) (λ k rule. fault ≡ record { rule = rule; file = Freqs; term = t; place = k }) ⊥))
 
 -- The head is read, or its fault is found.
-pub record ReadsHead (held held_after : List ℕ) (old new : DepotState) (result : Result ℕ CollError) : Type 0 where
-  pub within : IfOk result (λ n. n ≤ format_one.most_documents)
+pub record ReadsHead (format : FormatNumbers) (held held_after : List ℕ) (old new : DepotState) (result : Result ℕ CollError) : Type 0 where
+  pub within : IfOk result (λ n. n ≤ format.most_documents)
   pub rest : IsTrue old.tells → IfOk result (λ n. rest_of held old Docs ≡ head_bytes n ++ rest_of held_after new Docs)
-  pub first_fault : IsTrue old.tells → (fault : Fault) → result ≡ Err (Broken fault) → head_fault format_one (rest_of held old Docs) ≡ Some fault
+  pub first_fault : IsTrue old.tells → (fault : Fault) → result ≡ Err (Broken fault) → head_fault format (rest_of held old Docs) ≡ Some fault
   pub depot : ReadsFrom (λ s. s ≡ Docs) old new result
 
 -- The documents of term t are read, or the first fault among them is found.
@@ -43,13 +43,13 @@ pub record ReadsDocuments (n t : ℕ) (held held_after : List ℕ) (old new : De
   pub depot : ReadsFrom (λ s. s ≡ Docs) old new result
 
 -- The frequencies of term t are read, as many as its documents, or the first fault among them is found.
-pub record ReadsFrequencies (t expected : ℕ) (held held_after : List ℕ) (old new : DepotState) (freqs : List ℕ) (result : Result (Unit {0}) CollError) : Type 0 where
+pub record ReadsFrequencies (format : FormatNumbers) (t expected : ℕ) (held held_after : List ℕ) (old new : DepotState) (freqs : List ℕ) (result : Result (Unit {0}) CollError) : Type 0 where
   pub count : OnOk result (length freqs ≡ expected)
   pub not_zero : OnOk result (All (λ f. 1 ≤ f) freqs)
   pub fit : OnOk result (All (λ f. f < 2 ^ 32) freqs)
-  pub sum_within : OnOk result (sum freqs ≤ format_one.most_sum)
+  pub sum_within : OnOk result (sum freqs ≤ format.most_sum)
   pub rest : IsTrue old.tells → OnOk result (rest_of held old Freqs ≡ number_sequence freqs ++ rest_of held_after new Freqs)
-  pub first_fault : IsTrue old.tells → (fault : Fault) → result ≡ Err (Broken fault) → IsFreqsFault format_one t expected (rest_of held old Freqs) fault
+  pub first_fault : IsTrue old.tells → (fault : Fault) → result ≡ Err (Broken fault) → IsFreqsFault format t expected (rest_of held old Freqs) fault
   pub depot : ReadsFrom (λ s. s ≡ Freqs) old new result
 
 -- The sizes are read to the end of their file, or the first fault behind the lists is found, where the frequencies are used up.

@@ -1,5 +1,5 @@
 use Rattle.std.specs.Prelude.{◌≡◌, ◌≢◌, ◌⊎◌, ℕ, List, ◌++◌, IsTrue, codes, Some, Result, Ok, Err, IfOk}
-use Rattle.collection_model.specs.FormatNumbers.{format_one}
+use Rattle.collection_model.specs.FormatNumbers.{FormatNumbers}
 use Rattle.collection_model.specs.Collection.{Collection, WellFormed}
 use Rattle.collection_model.specs.Spelling.{Files, spelled}
 use Rattle.pef_io.specs.declared.fail.Slot.{Slot}
@@ -19,13 +19,13 @@ files_at depot base = record { docs = bytes_under depot (base ++ codes ".docs");
 abbrev pub IsCollectionSlot : Slot → Type 0
 IsCollectionSlot slot = slot ≢ Index
 
--- What reading a collection gives. Its answer is the collection that the files spell, or their first fault, or a failed call.
-pub record ReadsCollection (old new : DepotState) (base : List ℕ) (result : Result Collection CollError) : Type 0 where
-  pub well_formed : IfOk result (WellFormed format_one)
+-- What reading a collection with the limits of a format gives. Its answer is the collection that the files spell, or their first fault, or a failed call.
+pub record ReadsCollection (format : FormatNumbers) (old new : DepotState) (base : List ℕ) (result : Result Collection CollError) : Type 0 where
+  pub well_formed : IfOk result (WellFormed format)
   pub spelled_so : IsTrue old.tells → IfOk result (λ c. files_at old base ≡ spelled c)
-  pub no_fault : IsTrue old.tells → (c : Collection) → WellFormed format_one c → files_at old base ≡ spelled c → (fault : Fault) → result ≢ Err (Broken fault)
-  pub faulty_is_refused : IsTrue old.tells → (fault : Fault) → IsFirstFault format_one (files_at old base) (Some fault) → (c : Collection) → result ≢ Ok c
-  pub first_fault : IsTrue old.tells → (fault : Fault) → result ≡ Err (Broken fault) → IsFirstFault format_one (files_at old base) (Some fault)
+  pub no_fault : IsTrue old.tells → (c : Collection) → WellFormed format c → files_at old base ≡ spelled c → (fault : Fault) → result ≢ Err (Broken fault)
+  pub faulty_is_refused : IsTrue old.tells → (fault : Fault) → IsFirstFault format (files_at old base) (Some fault) → (c : Collection) → result ≢ Ok c
+  pub first_fault : IsTrue old.tells → (fault : Fault) → result ≡ Err (Broken fault) → IsFirstFault format (files_at old base) (Some fault)
   pub read_only_where_it_rose : (slot : Slot) → result ≡ Err (Read slot) → IsCollectionSlot slot × Rose (old.faults slot) (new.faults slot)
   pub count_rises_only_there : (slot : Slot) → (result ≡ Err (Read slot)) ⊎ (new.faults slot ≡ old.faults slot)
   pub reads : OnlyReads IsCollectionSlot old new

@@ -10,7 +10,7 @@ pub enum Rule {
     C1,
     /// The first sequence has not the length one.
     C2,
-    /// There are too many documents.
+    /// There are more documents than the format has room for.
     C3,
     /// A document is not below the number of documents.
     C4,
@@ -20,7 +20,7 @@ pub enum Rule {
     C6,
     /// A frequency is zero.
     C7,
-    /// The frequencies of a list sum to too much.
+    /// The frequencies of a list sum to more than the format's greatest sum.
     C8,
     /// There are too many lists.
     C9,

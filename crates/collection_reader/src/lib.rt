@@ -16,6 +16,9 @@ mod whole;
 
 pub use collection::Collection;
 pub use fault::{CollError, Fault, Rule};
-pub use laws::{files_have_one_first_fault, no_fault_means_spelled, spelled_files_have_no_fault};
+pub use laws::{
+    files_have_one_first_fault, lists_are_read_in_turn, no_fault_means_spelled,
+    second_format_never_has_too_many_documents, spelled_files_have_no_fault,
+};
 pub use reader::ListReader;
 pub use whole::read_collection;

@@ -2,6 +2,7 @@ ghost use Rattle.std.specs.Prelude.{◌≡◌, ◌≢◌, IsTrue, IsSome, ◌↔
 ghost use Rattle.collection_reader.specs.declared.phase.Phase.TheVariants.{Lists, Ended};
 ghost use Rattle.collection_reader.specs.Reading.{AreStarted, StartsReading, ReadsList, ReadsSizes};
 ghost use Rattle.collection_reader.specs.OneReader.{TriesList, TriesEnd};
+ghost use Rattle.part_cost.specs.Formats.{numbers_of};
 
 use crate::fault::{CollError, Rule};
 use crate::held::Held;
@@ -9,17 +10,19 @@ use crate::phase::Phase;
 use crate::position::Position;
 use crate::sequences::{read_documents, read_frequencies, read_head, read_sizes};
 use crate::start::start_files;
+use part_cost::Format;
 use pef_io::{Depot, Slot};
 use std::alloc::Global;
 use std::marker::Model;
 
-/// Reads a collection list by list, each of its three files once and in pieces.
+/// Reads a collection list by list, with the limits of a format, each of its three files once and in pieces.
 ///
 /// A refusal is kept: from then on each call answers it again and reads nothing. `Broken` names the first rule that
 /// breaks, with its file, term and place; `Read` the slot whose start or read failed; `NoMemory` comes where memory
 /// was refused, by the reader or by the depot.
 #[derive(Drop)]
 pub struct ListReader {
+    format: Format,
     documents: u32,
     lists: u32,
     phase: Phase,
@@ -31,12 +34,13 @@ pub struct ListReader {
 
 impl Model for ListReader {
     ghost use Rattle.std.specs.Prelude.{◌≤◌};
-    ghost use Rattle.collection_model.specs.FormatNumbers.{format_one};
+    ghost use Rattle.part_cost.specs.Formats.{numbers_of};
     ghost use Rattle.collection_reader.specs.Reading.{Reading};
 
     ghost Value = { Reading };
 
     ghost view = { λ r. record {
+      format = numbers_of r.format;
       documents = r.documents;
       lists = r.lists;
       phase = r.phase;
@@ -46,7 +50,7 @@ impl Model for ListReader {
       sizes = r.sizes;
     } };
 
-    ghost invariant = { λ r. r.documents ≤ format_one.most_documents };
+    ghost invariant = { λ r. r.documents ≤ (numbers_of r.format).most_documents };
 }
 
 impl ListReader {
@@ -56,15 +60,17 @@ impl ListReader {
         alloc: Global,
         base: &str,
         depot: &mut D,
+        format: Format,
     ) -> Result<ListReader, CollError>
-        ensures { StartsReading (D.state depot.old) (D.state depot.new) base.now result }
+        ensures { StartsReading (numbers_of format) (D.state depot.old) (D.state depot.new) base.now result }
     {
         start_files(alloc, base, depot)?;
         let mut docs = Held::new(alloc)?;
         let freqs = Held::new(alloc)?;
         let sizes = Held::new(alloc)?;
-        let documents = read_head(&mut docs, depot)?;
+        let documents = read_head(&mut docs, depot, format)?;
         Ok(ListReader {
+            format,
             documents,
             lists: 0,
             phase: Phase::Lists,
@@ -75,7 +81,7 @@ impl ListReader {
         })
     }
 
-    /// How many documents there are, at most 268,435,455.
+    /// How many documents there are, at most the format's greatest number.
     pub fn documents(&self) -> u32
         ensures { result ≡ self.now.documents }
     {
@@ -144,7 +150,7 @@ impl ListReader {
             return Err(at.breaks(Rule::C9));
         }
         read_documents(&mut self.docs, depot, term, self.documents, docs)?;
-        read_frequencies(&mut self.freqs, depot, term, docs.len(), freqs)?;
+        read_frequencies(&mut self.freqs, depot, self.format, term, docs.len(), freqs)?;
         self.lists = term + 1;
         Ok(true)
     }

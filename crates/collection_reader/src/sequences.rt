@@ -1,23 +1,18 @@
 ghost use Rattle.std.specs.Prelude.{◌≡◌, ◌≤◌, [], IsTrue};
-ghost use Rattle.collection_model.specs.FormatNumbers.{format_one};
+ghost use Rattle.part_cost.specs.Formats.{numbers_of};
 ghost use Rattle.pef_io.specs.declared.fail.Slot.TheVariants.{Docs, Freqs, Sizes};
 ghost use Rattle.collection_reader.specs.OneSequence.{ReadsHead, ReadsDocuments, ReadsFrequencies, ReadsToEnd};
 
 use crate::fault::{CollError, Rule};
 use crate::held::Held;
 use crate::position::Position;
+use part_cost::Format;
 use pef_io::{Depot, Slot};
 
-/// The greatest number of documents of a collection.
-const MOST_DOCUMENTS: u32 = 268_435_455;
-
-/// The greatest sum of the frequencies of a list.
-const MOST_SUM: u64 = 1 << 36;
-
-/// Reads the number of documents at the head of the file of documents.
-pub fn read_head<D: Depot>(held: &mut Held, depot: &mut D) -> Result<u32, CollError>
+/// Reads the number of documents at the head of the file of documents, at most as many as the format has room for.
+pub fn read_head<D: Depot>(held: &mut Held, depot: &mut D, format: Format) -> Result<u32, CollError>
     requires { IsTrue ((D.state depot.old).started Docs) }
-    ensures { ReadsHead held.old held.new (D.state depot.old) (D.state depot.new) result }
+    ensures { ReadsHead (numbers_of format) held.old held.new (D.state depot.old) (D.state depot.new) result }
 {
     let at = Position {
         file: Slot::Docs,
@@ -28,7 +23,7 @@ pub fn read_head<D: Depot>(held: &mut Held, depot: &mut D) -> Result<u32, CollEr
         return Err(at.breaks(Rule::C2));
     }
     let documents = held.number(at, depot)?;
-    if documents > MOST_DOCUMENTS {
+    if documents > format.most_documents() {
         return Err(at.breaks(Rule::C3));
     }
     Ok(documents)
@@ -68,17 +63,18 @@ pub fn read_documents<D: Depot>(
     Ok(())
 }
 
-/// Reads the frequencies of a term, as many as it has documents.
+/// Reads the frequencies of a term, as many as it has documents, whose sum is within the format's greatest.
 pub fn read_frequencies<D: Depot>(
     held: &mut Held,
     depot: &mut D,
+    format: Format,
     term: u32,
     expected: usize,
     freqs: &mut Vec<u32>,
 ) -> Result<(), CollError>
     requires started { IsTrue ((D.state depot.old).started Freqs) }
     requires empty { freqs.old.items ≡ [] }
-    ensures { ReadsFrequencies term expected held.old held.new (D.state depot.old) (D.state depot.new) freqs.new.items result }
+    ensures { ReadsFrequencies (numbers_of format) term expected held.old held.new (D.state depot.old) (D.state depot.new) freqs.new.items result }
 {
     let head = Position {
         file: Slot::Freqs,
@@ -97,7 +93,7 @@ pub fn read_frequencies<D: Depot>(
             return Err(at.breaks(Rule::C7));
         }
         sum += u64::from(freq);
-        if sum > MOST_SUM {
+        if sum > format.most_sum() {
             return Err(at.breaks(Rule::C8));
         }
         freqs.push(freq)?;

@@ -3,10 +3,12 @@ ghost use Rattle.collection_reader.specs.Held.{lists_held, AreAligned};
 ghost use Rattle.collection_reader.specs.ReadCollection.{ReadsCollection};
 ghost use Rattle.collection_reader.specs.ReadLists.{AtFirstList, ReadsLists};
 ghost use Rattle.collection_reader.specs.Reading.{AreStarted};
+ghost use Rattle.part_cost.specs.Formats.{numbers_of};
 
 use crate::collection::Collection;
 use crate::fault::CollError;
 use crate::reader::ListReader;
+use part_cost::{Format, formats_have_room};
 use pef_io::Depot;
 use std::alloc::Global;
 
@@ -33,8 +35,8 @@ impl Lists {
     }
 }
 
-/// Reads the collection whose files are BASE.docs, BASE.freqs and BASE.sizes, each in one pass. All three are
-/// started before the first is read.
+/// Reads the collection whose files are BASE.docs, BASE.freqs and BASE.sizes, each in one pass, with the limits of a
+/// format. All three are started before the first is read.
 ///
 /// `Broken` names the first rule that breaks, with its file, term and place; `Read` the slot whose start or read
 /// failed; `NoMemory` comes where memory was refused, by this function or by the depot.
@@ -42,10 +44,12 @@ pub fn read_collection<D: Depot>(
     alloc: Global,
     base: &str,
     depot: &mut D,
+    format: Format,
 ) -> Result<Collection, CollError>
-    ensures { ReadsCollection (D.state depot.old) (D.state depot.new) base.now result }
+    ensures { ReadsCollection (numbers_of format) (D.state depot.old) (D.state depot.new) base.now result }
 {
-    let mut reader = ListReader::start(alloc, base, depot)?;
+    formats_have_room();
+    let mut reader = ListReader::start(alloc, base, depot, format)?;
     let lists = read_lists(alloc, &mut reader, depot)?;
     let mut sizes = Vec::new(alloc);
     reader.finish(depot, &mut sizes)?;

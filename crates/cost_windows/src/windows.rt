@@ -1,10 +1,11 @@
 ghost use Rattle.std.specs.Prelude.{◌≡◌, ℕ, ◌≤◌, ◌<◌, ◌+◌, ◌*◌, length, slice_index, replicate, IsSome, IfOk};
 ghost use Rattle.cost_windows.specs.WindowEnds.{rise};
+ghost use Rattle.cost_windows.specs.WindowBounds.{window_bounds};
 ghost use Rattle.cost_windows.specs.Windows.{new_windows, KeepCosts, NoneFell, AllAtLongest, window_end};
 
-use crate::bounds::BOUNDS;
 use crate::edge::Edge;
-use part_cost::SpanCost;
+use crate::tables::{bounds, bounds_follow_rule};
+use part_cost::{Format, SpanCost, bounds_cover};
 use std::alloc::Global;
 use std::marker::Model;
 use std::sync::ledger::Ledger;
@@ -17,6 +18,7 @@ pub struct NoMemory;
 /// For each bound a window, from a place of a sequence to the longest end whose part costs at most the bound, in bits.
 #[derive(Drop)]
 pub struct Windows {
+    format: Format,
     place: u64,
     positions: Vec<u64>,
     costs: Vec<u64>,
@@ -24,24 +26,26 @@ pub struct Windows {
 
 impl Model for Windows {
     ghost use Rattle.cost_windows.specs.Windows as model;
+    ghost use Rattle.cost_windows.specs.WindowBounds.{window_bounds};
 
     ghost Value = { model.Windows };
 
-    ghost view = { λ w. record { place = w.place; positions = w.positions.items; costs = w.costs.items } };
+    ghost view = { λ w. record { bounds = window_bounds w.format; place = w.place; positions = w.positions.items; costs = w.costs.items } };
 
-    ghost invariant = { λ w. model.AreWindows (record { place = w.place; positions = w.positions.items; costs = w.costs.items }) };
+    ghost invariant = { λ w. model.AreWindows (record { bounds = window_bounds w.format; place = w.place; positions = w.positions.items; costs = w.costs.items }) };
 }
 
 impl Windows {
-    /// Windows that were never moved, at place 0. Only this call takes memory.
-    pub fn new(alloc: Global) -> Result<Windows, NoMemory>
-        ensures new { IfOk result (λ w. w ≡ new_windows) }
+    /// The windows of a format that were never moved, at place 0. Only this call takes memory.
+    pub fn new(alloc: Global, format: Format) -> Result<Windows, NoMemory>
+        ensures new { IfOk result (λ w. w ≡ new_windows (window_bounds format)) }
         // They keep no cost yet, so they may be moved by any cost.
         ensures keeps { IfOk result (λ w. (cost : ℕ → ℕ → ℕ) (n : ℕ) → KeepCosts cost n w) }
     {
-        let positions = zeros(alloc)?;
-        let costs = zeros(alloc)?;
+        let positions = zeros(alloc, format)?;
+        let costs = zeros(alloc, format)?;
         Ok(Windows {
+            format,
             place: 0,
             positions,
             costs,
@@ -53,30 +57,43 @@ impl Windows {
     /// share its cost and that of one number more, and a window that has come to the end of the sequence settles all
     /// that are wider.
     pub fn advance<C: SpanCost, L: Ledger>(&mut self, i: u64, cost: &C, steps: &mut Steps<L>)
+        requires same_format { self.old.bounds ≡ window_bounds (C.format_of cost.now) }
         requires forward { self.old.place ≤ i }
         requires within { i < C.count cost.now }
         requires same_cost { KeepCosts (C.cost_of cost.now) (C.count cost.now) self.old }
+        ensures bounds { self.new.bounds ≡ self.old.bounds }
         ensures place { self.new.place ≡ i }
         ensures longest { AllAtLongest (C.cost_of cost.now) (C.count cost.now) self.new }
         ensures costs { KeepCosts (C.cost_of cost.now) (C.count cost.now) self.new }
         ensures forward { NoneFell self.old.positions self.new.positions }
         ensures counted { steps.old + 1 ≤ steps.new }
         // At most one cost for each place that a window moved on, and two for each window.
-        ensures bounded { steps.new ≤ steps.old + rise self.old.positions self.new.positions + 2 * length BOUNDS }
+        ensures bounded { steps.new ≤ steps.old + rise self.old.positions self.new.positions + 2 * length self.old.bounds }
     {
+        bounds_cover();
+        bounds_follow_rule();
+        let bounds = bounds(self.format);
         let mut edge = Edge::at(i);
-        for window in 0..BOUNDS.len() {
-            edge = edge.stretched(i, self.positions[window], BOUNDS[window], cost, steps);
+        for window in 0..bounds.len() {
+            edge = edge.stretched(i, self.positions[window], bounds[window], cost, steps);
             self.positions[window] = edge.end;
             self.costs[window] = edge.cost.unwrap_or(0);
         }
         self.place = i;
     }
 
+    /// How many windows there are: one for each bound.
+    pub fn count(&self) -> usize
+        ensures bounds { result ≡ length self.now.bounds }
+        ensures positions { result ≡ length self.now.positions }
+    {
+        self.positions.len()
+    }
+
     /// The longest end of window k, the place after the part's last number; None where even one number costs more than
     /// the window's bound.
     pub fn end(&self, k: usize) -> Option<u64>
-        requires window { k < length BOUNDS }
+        requires window { k < length self.now.bounds }
         ensures { result ≡ window_end self.now k }
     {
         let end = self.positions[k];
@@ -85,20 +102,20 @@ impl Windows {
 
     /// What the part up to the end of window k costs, in bits.
     pub fn cost(&self, k: usize) -> u64
-        requires window { k < length BOUNDS }
+        requires window { k < length self.now.bounds }
         requires found { IsSome (window_end self.now k) }
         ensures value { result ≡ slice_index self.now.costs k }
-        ensures affordable { result ≤ slice_index BOUNDS k }
+        ensures affordable { result ≤ slice_index self.now.bounds k }
     {
         self.costs[k]
     }
 }
 
-/// A zero for each bound.
-fn zeros(alloc: Global) -> Result<Vec<u64>, NoMemory>
-    ensures { IfOk result (λ v. v.items ≡ replicate (length BOUNDS) 0) }
+/// A zero for each bound of a format.
+fn zeros(alloc: Global, format: Format) -> Result<Vec<u64>, NoMemory>
+    ensures { IfOk result (λ v. v.items ≡ replicate (length (window_bounds format)) 0) }
 {
-    match vec![in alloc; 0; BOUNDS.len()] {
+    match vec![in alloc; 0; bounds(format).len()] {
         Ok(v) => Ok(v),
         Err(_) => Err(NoMemory),
     }

@@ -1,4 +1,4 @@
-use Rattle.std.proofs.Common.{◌≡◌, refl, ℕ, List, [], ◌∷◌, length, map, ◌*◌}
+use Rattle.std.proofs.Common.{◌≡◌, refl, ℕ, List, [], ◌∷◌, length, map, ◌*◌, ◌^◌}
 use Rattle.std.specs.List.{range_with_len}
 use Rattle.bit_words.specs.Bits.{field_at, words_of}
 use Rattle.part_cost.specs.Payload.{low_width_of}
@@ -38,3 +38,21 @@ high-1281 = refl
 
 low-1281 : length (low_fields 3 tens) ≡ 387
 low-1281 = refl
+
+-- the widest number alone: two high bits and a low field of 47 bits
+pub length-widest : length (ef_bits 128 (281474976710655 ∷ []) (2 ^ 48)) ≡ 49
+unfolding ef_bits low_width_of lib.Count.count_leading_zeros
+length-widest = refl
+
+word-widest : words_of (ef_bits 128 (281474976710655 ∷ []) (2 ^ 48)) ≡ 562949953421310 ∷ []
+unfolding ef_bits low_width_of lib.Count.count_leading_zeros
+word-widest = refl
+
+-- with 0 before it: five high bits and two low fields of 46 bits, the second across two words
+pub length-widest-two : length (ef_bits 128 (0 ∷ 281474976710655 ∷ []) (2 ^ 48)) ≡ 97
+unfolding ef_bits low_width_of lib.Count.count_leading_zeros
+length-widest-two = refl
+
+words-widest-two : words_of (ef_bits 128 (0 ∷ 281474976710655 ∷ []) (2 ^ 48)) ≡ 18444492273895866385 ∷ 8589934591 ∷ []
+unfolding ef_bits low_width_of lib.Count.count_leading_zeros
+words-widest-two = refl

@@ -1,4 +1,5 @@
 ghost use Rattle.std.specs.Prelude.{◌≤◌, ◌<◌, ◌^◌};
+ghost use Rattle.part_cost.specs.Payload.{widest_low};
 
 use super::*;
 use bit_words::BitWriter;
@@ -11,6 +12,48 @@ fn writes_three_numbers(rt: HostRuntime) -> Result<(), Fail> {
     ef_write::<2>(&[0, 10, 20], 21, &mut writer).expect(&rt, "memory");
     assert_eq!(rt; writer.len(), 18);
     assert_eq!(rt; writer.into_words().as_slice(), [116_873].as_slice());
+    Ok(())
+}
+
+// The greatest number below 2^48, alone: 49 bits, as one word, and read back.
+#[test]
+fn reads_the_widest_number(rt: HostRuntime) -> Result<(), Fail> {
+    let mut writer = BitWriter::new(rt.alloc()).expect(&rt, "memory");
+    ef_write::<128>(&[281_474_976_710_655], 1 << 48, &mut writer).expect(&rt, "memory");
+    assert_eq!(rt; writer.len(), 49);
+    let words = writer.into_words();
+    assert_eq!(rt; words.as_slice(), [562_949_953_421_310].as_slice());
+    let view = EfView::<128>::at(Bits { words: &words }, 0, 1 << 48, 1);
+    assert!(rt; view.check());
+    assert_eq!(rt; view.get(0), 281_474_976_710_655);
+    for x in [0, 1 << 47, 281_474_976_710_655] {
+        assert_eq!(rt; view.next_geq(x, 0), (0, 281_474_976_710_655), "{x}");
+    }
+    // With its one a place earlier it is a lesser number, and with a low bit less too.
+    for word in [562_949_953_421_309, 562_949_953_421_306] {
+        let other = [word];
+        assert!(rt; !EfView::<128>::at(Bits { words: &other }, 0, 1 << 48, 1).check());
+    }
+    Ok(())
+}
+
+// 0 before it: 97 bits, as two words, and read back.
+#[test]
+fn reads_the_widest_numbers(rt: HostRuntime) -> Result<(), Fail> {
+    let mut writer = BitWriter::new(rt.alloc()).expect(&rt, "memory");
+    ef_write::<128>(&[0, 281_474_976_710_655], 1 << 48, &mut writer).expect(&rt, "memory");
+    assert_eq!(rt; writer.len(), 97);
+    let words = writer.into_words();
+    assert_eq!(rt;
+        words.as_slice(),
+        [18_444_492_273_895_866_385, 8_589_934_591].as_slice()
+    );
+    let view = EfView::<128>::at(Bits { words: &words }, 0, 1 << 48, 2);
+    assert!(rt; view.check());
+    assert_eq!(rt; view.get(0), 0);
+    assert_eq!(rt; view.get(1), 281_474_976_710_655);
+    assert_eq!(rt; view.next_geq(1, 0), (1, 281_474_976_710_655));
+    assert!(rt; !EfView::<128>::at(Bits { words: &words[..1] }, 0, 1 << 48, 2).check());
     Ok(())
 }
 
@@ -93,7 +136,7 @@ fn reads_many_numbers(rt: HostRuntime) -> Result<(), Fail> {
 fn patterns(u: u64, m: u64, bits: u32) -> u64
     requires some { 1 ≤ m }
     requires fit { m ≤ u }
-    requires in_range { u ≤ 2 ^ 36 }
+    requires in_range { u ≤ 2 ^ widest_low }
     requires few { bits < 64 }
 {
     let mut count = 0;
@@ -118,7 +161,7 @@ fn accepts_each_part_and_nothing_else(rt: HostRuntime) {
         (6, 3, 12, 10),
         (5, 5, 17, 1),
     ] {
-        assert!(rt; 1 <= m && m <= u && u <= 1 << 36 && bits < 64);
+        assert!(rt; 1 <= m && m <= u && u <= 1 << 48 && bits < 64);
         assert_eq!(rt; patterns(u, m, bits), count, "{m} in {u}");
     }
 }

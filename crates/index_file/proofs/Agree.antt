@@ -2,7 +2,7 @@
 use Rattle.std.proofs.Common.{◌≡◌, ℕ, ◌<◌, Bool, true, false, List, inl, inr, sym, subst, arith}
 use Rattle.std.specs.Prelude.{◌⊎◌, MatchBool}
 use Rattle.std.proofs.lemmas.Bool.{cases_lt}
-use Rattle.collection_model.specs.FormatNumbers.{format_one}
+use Rattle.collection_model.specs.FormatNumbers.{FormatNumbers}
 use Rattle.two_level.specs.declared.check.Check.{Check}
 use Rattle.two_level.specs.declared.check.Check.TheVariants.{K7, K8, K9}
 use Rattle.two_level.specs.SequenceFault.{OrElse, FirstOf, FirstInSequence}
@@ -49,19 +49,19 @@ from-found F G k L M X Y h more = elim h [ inl (q, f, g) ↦ inl (k, q, f, g) | 
 from-here : (F G : Check → ℕ → Type 0) (k : Check) (q : ℕ) (L M X Y : Type 0) → (F k q × G k q) ⊎ (L × M) → (L → M → Both F G ⊎ (X × Y)) → Both F G ⊎ (X × Y)
 from-here F G k q L M X Y h more = elim h [ inl (f, g) ↦ inl (k, q, f, g) | inr (l, m) ↦ more l m ]
 
-pub first-agree : (words : List ℕ) (s p parts m bound : ℕ) (F G : Check → ℕ → Type 0) (L M : Type 0)
-    → FirstInSequence format_one words s p parts m bound F L → FirstInSequence format_one words s p parts m bound G M → Both F G ⊎ (L × M)
-first-agree words s p parts m bound F G L M h k =
+pub first-agree : (format : FormatNumbers) (words : List ℕ) (s p parts m bound : ℕ) (F G : Check → ℕ → Type 0) (L M : Type 0)
+    → FirstInSequence format words s p parts m bound F L → FirstInSequence format words s p parts m bound G M → Both F G ⊎ (L × M)
+first-agree format words s p parts m bound F G L M h k =
     from-found F G K7 _ _ L M (first-of-agree _ (F K7) (G K7) parts _ _ h k)
     (λ h1 k1. from-here F G K7 parts _ _ L M (match-agree _ _ _ _ _ h1 k1)
     (λ h2 k2. from-found F G K8 _ _ L M (first-of-agree _ (F K8) (G K8) parts _ _ h2 k2)
     (λ h3 k3. from-here F G K9 0 L M L M (or-else-agree _ _ _ _ _ h3 k3) (λ l m. inr (l, m)))))
 
 -- where none breaks, what comes later holds
-pub later-of : (words : List ℕ) (s p parts m bound : ℕ) (F : Check → ℕ → Type 0) (L : Type 0) → NoneBreaks format_one words s p parts m bound
-    → FirstInSequence format_one words s p parts m bound F L → L
-later-of words s p parts m bound F L none h =
-    elim (first-agree words s p parts m bound F (λ k q. ⊥) L (Unit {0}) h none) [ inl (k, q, f, no_fault) ↦ absurd no_fault | inr (l, m) ↦ l ]
+pub later-of : (format : FormatNumbers) (words : List ℕ) (s p parts m bound : ℕ) (F : Check → ℕ → Type 0) (L : Type 0) → NoneBreaks format words s p parts m bound
+    → FirstInSequence format words s p parts m bound F L → L
+later-of format words s p parts m bound F L none h =
+    elim (first-agree format words s p parts m bound F (λ k q. ⊥) L (Unit {0}) h none) [ inl (k, q, f, no_fault) ↦ absurd no_fault | inr (l, m) ↦ l ]
 
 pub match-later : (a : Bool) (P Q : Type 0) → a ≡ false → MatchBool a P Q → Q
 match-later true P Q e h = absurd (cc)

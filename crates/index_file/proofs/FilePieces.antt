@@ -5,7 +5,7 @@ use Rattle.std.specs.List.{All}
 use Rattle.std.proofs.lemmas.List.{get_or-take}
 use Rattle.std.proofs.lemmas.List.Elements.{All-head, All-tail}
 use Rattle.std.proofs.Math.Seq.{take-length}
-use Rattle.collection_model.specs.FormatNumbers.{format_one, most_terms}
+use Rattle.collection_model.specs.FormatNumbers.{FormatNumbers, most_terms}
 use Rattle.index_file.specs.FileWords.{CutList, opening_magic, end_magic, lists_words, sizes_words, lists_directory, words_of_file}
 use Rattle.index_file.specs.FirstBroken.{stated_documents, stated_terms, stated_sizes, directory_word}
 use Rattle.index_file.specs.ListAt.{HasFrame}
@@ -71,11 +71,11 @@ sizes-filled (a ∷ b ∷ xs) h odd =
     ∙ sizes-filled xs (All-tail (λ s. s < 2 ^ 32) b xs (All-tail (λ s. s < 2 ^ 32) a (b ∷ xs) h)) rest
 
 -- the pieces of a file
-abbrev pub ends_words : List CutList → List ℕ
-ends_words cs = (opening_magic ∷ format_one.version ∷ []) ++ lists_words format_one cs
+abbrev pub ends_words : FormatNumbers → List CutList → List ℕ
+ends_words format cs = (opening_magic ∷ format.version ∷ []) ++ lists_words format cs
 
-abbrev pub last_words : ℕ → List CutList → List ℕ
-last_words n cs = n ∷ length cs ∷ (2 + length (lists_words format_one cs)) ∷ end_magic ∷ []
+abbrev pub last_words : FormatNumbers → ℕ → List CutList → List ℕ
+last_words format n cs = n ∷ length cs ∷ (2 + length (lists_words format cs)) ∷ end_magic ∷ []
 
 two-words : (words : List ℕ) (a b : ℕ) → 2 ≤ length words → slice_index words 0 ≡ a → slice_index words 1 ≡ b → take 2 words ≡ a ∷ b ∷ []
 two-words [] a b fit ea eb = absurd (omega (arith, fit))
@@ -83,25 +83,25 @@ two-words (x ∷ []) a b fit ea eb = absurd (omega (arith, fit))
 two-words (x ∷ y ∷ words) a b fit ea eb = ap (λ z. z ∷ y ∷ []) ea ∙ ap (λ z. a ∷ z ∷ []) eb
 
 -- words whose pieces stand are those of a file
-pub words-of : (words : List ℕ) (n : ℕ) (cs : List CutList) (xs : List ℕ) → HasFrame format_one words → stated_documents words ≡ n → length xs ≡ n → stated_terms words ≡ length cs
-    → stated_sizes words ≡ 2 + length (lists_words format_one cs)
-    → take (length (lists_words format_one cs)) (drop 2 words) ≡ lists_words format_one cs
+pub words-of : (format : FormatNumbers) (words : List ℕ) (n : ℕ) (cs : List CutList) (xs : List ℕ) → HasFrame format words → stated_documents words ≡ n → length xs ≡ n → stated_terms words ≡ length cs
+    → stated_sizes words ≡ 2 + length (lists_words format cs)
+    → take (length (lists_words format cs)) (drop 2 words) ≡ lists_words format cs
     → take (length (sizes_words xs)) (drop (stated_sizes words) words) ≡ sizes_words xs
-    → take (4 * length cs) (drop (directory_word words) words) ≡ lists_directory format_one 2 cs → words ≡ words_of_file format_one n cs xs
-words-of words n cs xs frame docs count terms sizes hl hz hd =
-    let a : List ℕ = opening_magic ∷ format_one.version ∷ [] in
-    let l : List ℕ = lists_words format_one cs in
+    → take (4 * length cs) (drop (directory_word words) words) ≡ lists_directory format 2 cs → words ≡ words_of_file format n cs xs
+words-of format words n cs xs frame docs count terms sizes hl hz hd =
+    let a : List ℕ = opening_magic ∷ format.version ∷ [] in
+    let l : List ℕ = lists_words format cs in
     let z : List ℕ = sizes_words xs in
-    let d : List ℕ = lists_directory format_one 2 cs in
-    let e : List ℕ = last_words n cs in
+    let d : List ℕ = lists_directory format 2 cs in
+    let e : List ℕ = last_words format n cs in
     let end : ℕ = length words - 4 in
-    let s1 : take (length (a ++ l)) words ≡ a ++ l = joined a l words (two-words words opening_magic format_one.version (omega (arith, frame.some)) frame.opening frame.version) hl in
+    let s1 : take (length (a ++ l)) words ≡ a ++ l = joined a l words (two-words words opening_magic format.version (omega (arith, frame.some)) frame.opening frame.version) hl in
     let len1 : length (a ++ l) ≡ stated_sizes words = omega (arith, length-append a l, sizes) in
     let s2 : take (length (a ++ l ++ z)) words ≡ a ++ l ++ z = joined (a ++ l) z words s1 (ap (λ i. take (length z) (drop i words)) len1 ∙ hz) in
     let len2 : length (a ++ l ++ z) ≡ directory_word words = omega (arith, length-append (a ++ l) z, len1, length-sizes xs, count, docs) in
     let s3 : take (length (a ++ l ++ z ++ d)) words ≡ a ++ l ++ z ++ d =
-    joined (a ++ l ++ z) d words s2 (ap (λ i. take (length d) (drop i words)) len2 ∙ ap (λ i. take i (drop (directory_word words) words)) (length-directory 2 cs) ∙ hd) in
-    let len3 : length (a ++ l ++ z ++ d) ≡ end = omega (arith, length-append (a ++ l ++ z) d, len2, length-directory 2 cs, frame.whole, terms) in
+    joined (a ++ l ++ z) d words s2 (ap (λ i. take (length d) (drop i words)) len2 ∙ ap (λ i. take i (drop (directory_word words) words)) (length-directory format 2 cs) ∙ hd) in
+    let len3 : length (a ++ l ++ z ++ d) ≡ end = omega (arith, length-append (a ++ l ++ z) d, len2, length-directory format 2 cs, frame.whole, terms) in
     let four : take 4 (drop end words) ≡ e =
     four-words words end n (length cs) (2 + length l) end_magic (omega (arith, frame.some)) (ap (slice_index words) (let k : end + 0 ≡ length words - 4 = omega arith in k) ∙ docs)
     (ap (slice_index words) (let k : end + 1 ≡ length words - 3 = omega (arith, frame.some) in k) ∙ terms)
@@ -112,23 +112,23 @@ words-of words n cs xs frame docs count terms sizes hl hz hd =
     sym (take-length words) ∙ ap (λ i. take i words) (sym len4) ∙ s4
 
 -- the pieces of a file, in its words
-pub record Laid (words : List ℕ) (n : ℕ) (cs : List CutList) (xs : List ℕ) : Type 0 where
-  pub frame : HasFrame format_one words
+pub record Laid (format : FormatNumbers) (words : List ℕ) (n : ℕ) (cs : List CutList) (xs : List ℕ) : Type 0 where
+  pub frame : HasFrame format words
   pub docs : stated_documents words ≡ n
   pub terms : stated_terms words ≡ length cs
-  pub sizes : stated_sizes words ≡ 2 + length (lists_words format_one cs)
-  pub lists_at : take (length (lists_words format_one cs)) (drop 2 words) ≡ lists_words format_one cs
+  pub sizes : stated_sizes words ≡ 2 + length (lists_words format cs)
+  pub lists_at : take (length (lists_words format cs)) (drop 2 words) ≡ lists_words format cs
   pub sizes_at : take (length (sizes_words xs)) (drop (stated_sizes words) words) ≡ sizes_words xs
-  pub directory_at : take (4 * length cs) (drop (directory_word words) words) ≡ lists_directory format_one 2 cs
+  pub directory_at : take (4 * length cs) (drop (directory_word words) words) ≡ lists_directory format 2 cs
 
-pub laid-of : (words : List ℕ) (n : ℕ) (cs : List CutList) (xs : List ℕ) → n ≤ format_one.most_documents → length cs ≤ most_terms → length xs ≡ n → words ≡ words_of_file format_one n cs xs
-    → Laid words n cs xs
-laid-of words n cs xs few most count same =
-    let a : List ℕ = opening_magic ∷ format_one.version ∷ [] in
-    let l : List ℕ = lists_words format_one cs in
+pub laid-of : (format : FormatNumbers) (words : List ℕ) (n : ℕ) (cs : List CutList) (xs : List ℕ) → n ≤ format.most_documents → length cs ≤ most_terms → length xs ≡ n → words ≡ words_of_file format n cs xs
+    → Laid format words n cs xs
+laid-of format words n cs xs few most count same =
+    let a : List ℕ = opening_magic ∷ format.version ∷ [] in
+    let l : List ℕ = lists_words format cs in
     let z : List ℕ = sizes_words xs in
-    let d : List ℕ = lists_directory format_one 2 cs in
-    let e : List ℕ = last_words n cs in
+    let d : List ℕ = lists_directory format 2 cs in
+    let e : List ℕ = last_words format n cs in
     let x3 : List ℕ = a ++ l ++ z ++ d in
     let whole : take (length (a ++ l ++ z ++ d ++ e)) words ≡ a ++ l ++ z ++ d ++ e = ap (take (length (a ++ l ++ z ++ d ++ e))) same ∙ take-length (a ++ l ++ z ++ d ++ e) in
     let t3 : take (length (a ++ l ++ z ++ d)) words ≡ a ++ l ++ z ++ d = front-of (a ++ l ++ z ++ d) e words whole in
@@ -141,7 +141,7 @@ laid-of words n cs xs few most count same =
     let tl : take (length l) (drop 2 words) ≡ l = rest-of a l words t1 in
     let len1 : length (a ++ l) ≡ 2 + length l = length-append a l in
     let len2 : length (a ++ l ++ z) ≡ 2 + length l + (n + 1) / 2 = omega (arith, length-append (a ++ l) z, len1, length-sizes xs, count) in
-    let len3 : length (a ++ l ++ z ++ d) ≡ 2 + length l + (n + 1) / 2 + 4 * length cs = omega (arith, length-append (a ++ l ++ z) d, len2, length-directory 2 cs) in
+    let len3 : length (a ++ l ++ z ++ d) ≡ 2 + length l + (n + 1) / 2 + 4 * length cs = omega (arith, length-append (a ++ l ++ z) d, len2, length-directory format 2 cs) in
     let len4 : length words ≡ length (a ++ l ++ z ++ d) + 4 = ap length same ∙ length-append (a ++ l ++ z ++ d) e in
     let docs : stated_documents words ≡ n =
     ap (slice_index words) (let k : length words - 4 ≡ length (a ++ l ++ z ++ d) + 0 = omega (arith, len4) in k) ∙ word-of words (length x3) 0 n e te (omega arith) refl in
@@ -169,6 +169,6 @@ laid-of words n cs xs few most count same =
       lists_at = tl;
       sizes_at = ap (λ i. take (length z) (drop i words)) (let k : stated_sizes words ≡ length (a ++ l) = omega (arith, sizes, len1) in k) ∙ tz;
       directory_at =
-          ap (λ i. take i (drop (directory_word words) words)) (sym (length-directory 2 cs))
+          ap (λ i. take i (drop (directory_word words) words)) (sym (length-directory format 2 cs))
           ∙ ap (λ i. take (length d) (drop i words)) (let k : directory_word words ≡ length (a ++ l ++ z) = omega (arith, sizes, halved, len2) in k) ∙ td;
     }

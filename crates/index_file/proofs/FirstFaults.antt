@@ -2,11 +2,11 @@
 use Rattle.std.proofs.Common.{◌≡◌, ℕ, ◌+◌, ◌<◌, true, List, length, subst, arith}
 use Rattle.std.specs.Prelude.{nat_lt}
 use Rattle.std.proofs.lemmas.Bool.Decides.{nat_tests}
-use Rattle.collection_model.specs.FormatNumbers.{format_one}
+use Rattle.collection_model.specs.FormatNumbers.{FormatNumbers}
 use Rattle.two_level.proofs.Follows.{false-lt}
 use Rattle.index_file.specs.declared.fault.OpenFault.{OpenFault}
 use Rattle.index_file.specs.FileWords.{CutList, lists_words}
-use Rattle.index_file.specs.FirstBroken.{stated_terms, IsFileFront, IsTermFault, IsClosingFault, IsFirstBroken}
+use Rattle.index_file.specs.FirstBroken.{stated_terms, IsFileFront, IsTermFault, IsClosingFault, IsFirstBrokenIn}
 use Rattle.index_file.specs.ListAt.{HasFrame, IsFirstListFault}
 use Rattle.index_file.proofs.Frames.{behind-frame}
 use Rattle.index_file.proofs.TermFaults.{match-no, match-yes}
@@ -15,22 +15,22 @@ true-lt : (a b : ℕ) → a < b → nat_lt a b ≡ true
 true-lt a b h = grind (arith, nat_tests)
 
 -- a list breaks a check
-pub list-first : (words : List ℕ) (f : OpenFault) → HasFrame format_one words → IsFirstListFault format_one words f → IsFirstBroken format_one words f
-list-first words f frame h =
-    behind-frame words f frame (
+pub list-first : (format : FormatNumbers) (words : List ℕ) (f : OpenFault) → HasFrame format words → IsFirstListFault format words f → IsFirstBrokenIn format words f
+list-first format words f frame h =
+    behind-frame format words f frame (
       h.0,
       h.1,
-      match-yes (nat_lt (length h.0) (stated_terms words)) (IsTermFault format_one words (length h.0) (2 + length (lists_words format_one h.0)) f)
-          (IsClosingFault words (2 + length (lists_words format_one h.0)) f) (true-lt (length h.0) (stated_terms words) h.2) h.3,
+      match-yes (nat_lt (length h.0) (stated_terms words)) (IsTermFault format words (length h.0) (2 + length (lists_words format h.0)) f)
+          (IsClosingFault words (2 + length (lists_words format h.0)) f) (true-lt (length h.0) (stated_terms words) h.2) h.3,
     )
 
 -- all lists stand, and what closes the file breaks a check
-pub closing-first : (words : List ℕ) (cs : List CutList) (p : ℕ) (f : OpenFault) → HasFrame format_one words → IsFileFront format_one words cs → length cs ≡ stated_terms words
-    → p ≡ 2 + length (lists_words format_one cs) → IsClosingFault words p f → IsFirstBroken format_one words f
-closing-first words cs p f frame front all place h =
-    behind-frame words f frame (
+pub closing-first : (format : FormatNumbers) (words : List ℕ) (cs : List CutList) (p : ℕ) (f : OpenFault) → HasFrame format words → IsFileFront format words cs → length cs ≡ stated_terms words
+    → p ≡ 2 + length (lists_words format cs) → IsClosingFault words p f → IsFirstBrokenIn format words f
+closing-first format words cs p f frame front all place h =
+    behind-frame format words f frame (
       cs,
       record { front = front; longest = λ others k. omega (arith, k.terms, all) },
-      match-no (nat_lt (length cs) (stated_terms words)) (IsTermFault format_one words (length cs) (2 + length (lists_words format_one cs)) f)
-          (IsClosingFault words (2 + length (lists_words format_one cs)) f) (false-lt (length cs) (stated_terms words) (omega (arith, all))) (subst (λ i. IsClosingFault words i f) place h),
+      match-no (nat_lt (length cs) (stated_terms words)) (IsTermFault format words (length cs) (2 + length (lists_words format cs)) f)
+          (IsClosingFault words (2 + length (lists_words format cs)) f) (false-lt (length cs) (stated_terms words) (omega (arith, all))) (subst (λ i. IsClosingFault words i f) place h),
     )

@@ -1,13 +1,13 @@
 -- Lemmas on the frame of a file.
 use Rattle.std.proofs.Common.{◌≡◌, ℕ, ◌+◌, ◌-◌, ◌*◌, ◌/◌, Bool, true, false, List, length, slice_index, refl, sym, subst}
 use Rattle.std.specs.Prelude.{Option, Some, None, not, ◌==◌, ◌||◌, nat_lt, if◌then◌else◌, MatchOption, MatchBool}
-use Rattle.collection_model.specs.FormatNumbers.{format_one, most_terms}
+use Rattle.collection_model.specs.FormatNumbers.{FormatNumbers, most_terms}
 use Rattle.two_level.specs.declared.check.Check.{Check}
 use Rattle.two_level.specs.declared.check.Check.TheVariants.{K1, K2, K3, K4, K5}
 use Rattle.two_level.proofs.Follows.{or-none, or-both, lt-false, false-lt, same-true, true-same, not-false, false-not}
 use Rattle.index_file.specs.declared.fault.OpenFault.{OpenFault}
 use Rattle.index_file.specs.FileWords.{CutList, opening_magic, end_magic, lists_words}
-use Rattle.index_file.specs.FirstBroken.{stated_documents, stated_terms, stated_sizes, numbers_break, frame_broken, IsLongestFileFront, IsTermFault, IsClosingFault, IsFirstBroken}
+use Rattle.index_file.specs.FirstBroken.{stated_documents, stated_terms, stated_sizes, numbers_break, frame_broken, IsLongestFileFront, IsTermFault, IsClosingFault, IsFirstBrokenIn}
 use Rattle.index_file.specs.ListAt.{HasFrame}
 
 -- no check breaks
@@ -19,22 +19,22 @@ none-if : (b : Bool) (k : Check) (o : Option Check) → b ≡ false → o ≡ No
 none-if true k o h e = absurd (cc)
 none-if false k o h e = e
 
-pub frame-stands : (words : List ℕ) → frame_broken format_one words ≡ None → HasFrame format_one words
-frame-stands words h =
+pub frame-stands : (format : FormatNumbers) (words : List ℕ) → frame_broken format words ≡ None → HasFrame format words
+frame-stands format words h =
     let n : ℕ = stated_documents words in
     let t : ℕ = stated_terms words in
     let s : ℕ = stated_sizes words in
     let count : ℕ = length words in
-    let five : Option Check = if numbers_break format_one n t s count then Some K5 else None in
+    let five : Option Check = if numbers_break format n t s count then Some K5 else None in
     let four : Option Check = if not (slice_index words (count - 1) == end_magic) then Some K4 else five in
-    let three : Option Check = if not (slice_index words 1 == format_one.version) then Some K3 else four in
+    let three : Option Check = if not (slice_index words 1 == format.version) then Some K3 else four in
     let two : Option Check = if not (slice_index words 0 == opening_magic) then Some K2 else three in
     let g1 = if-none (nat_lt count 6) K1 two h in
     let g2 = if-none (not (slice_index words 0 == opening_magic)) K2 three g1.1 in
-    let g3 = if-none (not (slice_index words 1 == format_one.version)) K3 four g2.1 in
+    let g3 = if-none (not (slice_index words 1 == format.version)) K3 four g2.1 in
     let g4 = if-none (not (slice_index words (count - 1) == end_magic)) K4 five g3.1 in
-    let g5 = if-none (numbers_break format_one n t s count) K5 None g4.1 in
-    let a = nat_lt format_one.most_documents n in
+    let g5 = if-none (numbers_break format n t s count) K5 None g4.1 in
+    let a = nat_lt format.most_documents n in
     let b = nat_lt most_terms t in
     let d = nat_lt s 2 in
     let e = not (s + (n + 1) / 2 + 4 * t + 4 == count) in
@@ -44,46 +44,46 @@ frame-stands words h =
     record {
       some = lt-false count 6 g1.0;
       opening = same-true (slice_index words 0) opening_magic (not-false (slice_index words 0 == opening_magic) g2.0);
-      version = same-true (slice_index words 1) format_one.version (not-false (slice_index words 1 == format_one.version) g3.0);
+      version = same-true (slice_index words 1) format.version (not-false (slice_index words 1 == format.version) g3.0);
       closing = same-true (slice_index words (count - 1)) end_magic (not-false (slice_index words (count - 1) == end_magic) g4.0);
-      documents = lt-false format_one.most_documents n k1.0;
+      documents = lt-false format.most_documents n k1.0;
       terms = lt-false most_terms t k1.1;
       sizes = lt-false s 2 k2.1;
       whole = same-true (s + (n + 1) / 2 + 4 * t + 4) count (not-false (s + (n + 1) / 2 + 4 * t + 4 == count) k3.1);
     }
 
-pub frame-none : (words : List ℕ) → HasFrame format_one words → frame_broken format_one words ≡ None
-frame-none words h =
+pub frame-none : (format : FormatNumbers) (words : List ℕ) → HasFrame format words → frame_broken format words ≡ None
+frame-none format words h =
     let n : ℕ = stated_documents words in
     let t : ℕ = stated_terms words in
     let s : ℕ = stated_sizes words in
     let count : ℕ = length words in
-    let five : Option Check = if numbers_break format_one n t s count then Some K5 else None in
+    let five : Option Check = if numbers_break format n t s count then Some K5 else None in
     let four : Option Check = if not (slice_index words (count - 1) == end_magic) then Some K4 else five in
-    let three : Option Check = if not (slice_index words 1 == format_one.version) then Some K3 else four in
+    let three : Option Check = if not (slice_index words 1 == format.version) then Some K3 else four in
     let two : Option Check = if not (slice_index words 0 == opening_magic) then Some K2 else three in
-    let a = nat_lt format_one.most_documents n in
+    let a = nat_lt format.most_documents n in
     let b = nat_lt most_terms t in
     let d = nat_lt s 2 in
     let e = not (s + (n + 1) / 2 + 4 * t + 4 == count) in
     none-if (nat_lt count 6) K1 two (false-lt count 6 h.some)
     (none-if (not (slice_index words 0 == opening_magic)) K2 three (false-not (slice_index words 0 == opening_magic) (true-same (slice_index words 0) opening_magic h.opening))
-    (none-if (not (slice_index words 1 == format_one.version)) K3 four (false-not (slice_index words 1 == format_one.version) (true-same (slice_index words 1) format_one.version h.version))
+    (none-if (not (slice_index words 1 == format.version)) K3 four (false-not (slice_index words 1 == format.version) (true-same (slice_index words 1) format.version h.version))
     (none-if (not (slice_index words (count - 1) == end_magic)) K4 five
     (false-not (slice_index words (count - 1) == end_magic) (true-same (slice_index words (count - 1)) end_magic h.closing))
-    (none-if (numbers_break format_one n t s count) K5 None
+    (none-if (numbers_break format n t s count) K5 None
     (or-both (a || b || d) e
-    (or-both (a || b) d (or-both a b (false-lt format_one.most_documents n h.documents) (false-lt most_terms t h.terms)) (false-lt s 2 h.sizes))
+    (or-both (a || b) d (or-both a b (false-lt format.most_documents n h.documents) (false-lt most_terms t h.terms)) (false-lt s 2 h.sizes))
     (false-not (s + (n + 1) / 2 + 4 * t + 4 == count) (true-same (s + (n + 1) / 2 + 4 * t + 4) count h.whole)))
     refl))))
 
 -- behind the longest front a list or the end breaks
-abbrev pub BreaksBehind : List ℕ → OpenFault → Type 0
-BreaksBehind words fault =
-    (cs : List CutList) × IsLongestFileFront format_one words cs
+abbrev pub BreaksBehind : FormatNumbers → List ℕ → OpenFault → Type 0
+BreaksBehind format words fault =
+    (cs : List CutList) × IsLongestFileFront format words cs
     × MatchBool (nat_lt (length cs) (stated_terms words))
-    (IsTermFault format_one words (length cs) (2 + length (lists_words format_one cs)) fault)
-    (IsClosingFault words (2 + length (lists_words format_one cs)) fault)
+    (IsTermFault format words (length cs) (2 + length (lists_words format cs)) fault)
+    (IsClosingFault words (2 + length (lists_words format cs)) fault)
 
 match-option-none : (o : Option Check) (P : Type 0) (Q : Check → Type 0) → o ≡ None → P → MatchOption o P Q
 match-option-none o P Q e p = subst (λ x. MatchOption x P Q) (sym e) p
@@ -91,11 +91,11 @@ match-option-none o P Q e p = subst (λ x. MatchOption x P Q) (sym e) p
 match-option-some : (o : Option Check) (k : Check) (P : Type 0) (Q : Check → Type 0) → o ≡ Some k → Q k → MatchOption o P Q
 match-option-some o k P Q e q = subst (λ x. MatchOption x P Q) (sym e) q
 
-pub frame-breaks : (words : List ℕ) (k : Check) (f : OpenFault) → frame_broken format_one words ≡ Some k → f ≡ record { check = k; term = 0; part = 0 } → IsFirstBroken format_one words f
-frame-breaks words k f e h = match-option-some (frame_broken format_one words) k (BreaksBehind words f) (λ check. f ≡ record { check = check; term = 0; part = 0 }) e h
+pub frame-breaks : (format : FormatNumbers) (words : List ℕ) (k : Check) (f : OpenFault) → frame_broken format words ≡ Some k → f ≡ record { check = k; term = 0; part = 0 } → IsFirstBrokenIn format words f
+frame-breaks format words k f e h = match-option-some (frame_broken format words) k (BreaksBehind format words f) (λ check. f ≡ record { check = check; term = 0; part = 0 }) e h
 
-pub behind-frame : (words : List ℕ) (f : OpenFault) → HasFrame format_one words → BreaksBehind words f → IsFirstBroken format_one words f
-behind-frame words f frame h = match-option-none (frame_broken format_one words) (BreaksBehind words f) (λ check. f ≡ record { check = check; term = 0; part = 0 }) (frame-none words frame) h
+pub behind-frame : (format : FormatNumbers) (words : List ℕ) (f : OpenFault) → HasFrame format words → BreaksBehind format words f → IsFirstBrokenIn format words f
+behind-frame format words f frame h = match-option-none (frame_broken format words) (BreaksBehind format words f) (λ check. f ≡ record { check = check; term = 0; part = 0 }) (frame-none format words frame) h
 
-pub breaks-behind : (words : List ℕ) (f : OpenFault) → HasFrame format_one words → IsFirstBroken format_one words f → BreaksBehind words f
-breaks-behind words f frame h = subst (λ x. MatchOption x (BreaksBehind words f) (λ check. f ≡ record { check = check; term = 0; part = 0 })) (frame-none words frame) h
+pub breaks-behind : (format : FormatNumbers) (words : List ℕ) (f : OpenFault) → HasFrame format words → IsFirstBrokenIn format words f → BreaksBehind format words f
+breaks-behind format words f frame h = subst (λ x. MatchOption x (BreaksBehind format words f) (λ check. f ≡ record { check = check; term = 0; part = 0 })) (frame-none format words frame) h

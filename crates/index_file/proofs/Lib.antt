@@ -1,4 +1,5 @@
 mod Rows
+pub mod EveryDocument
 pub mod WordBytes
 pub mod Lengths
 pub mod Files
@@ -17,4 +18,5 @@ pub mod FirstFaults
 pub mod StatedIndex
 pub mod Reading
 pub mod OneFault
+pub mod Both
 pub mod Sums

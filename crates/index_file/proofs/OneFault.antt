@@ -1,46 +1,47 @@
 -- Lemmas on the one index and the one first broken check of some words.
-use Rattle.std.proofs.Common.{◌≡◌, ℕ, ◌+◌, ◌*◌, ◌/◌, ◌%◌, ◌^◌, ◌-◌, List, length, refl, inl, inr, sym, ap, ◌∙◌, subst, arith}
+use Rattle.std.proofs.Common.{◌≡◌, ℕ, ◌+◌, ◌*◌, ◌/◌, ◌%◌, ◌^◌, ◌-◌, List, length, refl, inl, inr, sym, ◌∙◌, subst, arith}
 use Rattle.std.specs.Prelude.{◌⊎◌, ◌≢◌, ◌||◌, ◌==◌, not, nat_lt, slice_index, Option, Some, None, MatchBool, MatchOption}
-use Rattle.collection_model.specs.FormatNumbers.{format_one}
+use Rattle.collection_model.specs.FormatNumbers.{FormatNumbers, entry_words}
+use Rattle.part_cost.specs.Formats.{HasRoom}
 use Rattle.two_level.specs.declared.check.Check.{Check}
 use Rattle.two_level.specs.declared.check.Check.TheVariants.{K6, K11}
 use Rattle.two_level.specs.Laws.{WordsState}
 use Rattle.two_level.specs.SequenceFault.{word_behind}
 use Rattle.index_file.specs.declared.fault.OpenFault.{OpenFault}
 use Rattle.index_file.specs.FileWords.{lists_words}
-use Rattle.index_file.specs.FirstBroken.{stated_documents, stated_terms, stated_sizes, directory_word, term_word, stated_length, stated_doc_parts, stated_freq_parts, cannot_begin, frame_broken, IsFreqsFault, IsTermFault, IsClosingFault, IsFirstBroken}
-use Rattle.index_file.specs.Laws.{OneIndex, OneBrokenCheck}
+use Rattle.index_file.specs.FirstBroken.{stated_documents, stated_terms, stated_sizes, directory_word, term_word, stated_length, stated_doc_parts, stated_freq_parts, cannot_begin, frame_broken, IsFreqsFault, IsTermFault, IsClosingFault, IsFirstBrokenIn}
+use Rattle.index_file.specs.Laws.{OneIndexIn, OneBrokenCheckIn}
 use Rattle.index_file.proofs.Agree.{match-agree, first-agree}
 use Rattle.index_file.proofs.TermFaults.{IsAt, InDocs, InFreqs, PassButGreatest}
 use Rattle.index_file.proofs.Standing.{Below}
 use Rattle.index_file.proofs.Fronts.{stand-from, front-pieces, stand-same}
 use Rattle.index_file.proofs.Frames.{BreaksBehind, frame-stands}
-use Rattle.index_file.proofs.StatedIndex.{stated-is, none-in-index}
+use Rattle.index_file.proofs.StatedIndex.{collection-is, parts-are, none-in-index}
 
 both : (f g : OpenFault) (t : ℕ) (k : Check) (q : ℕ) → IsAt f t k q → IsAt g t k q → f ≡ g
 both f g t k q a b = a ∙ sym b
 
-freqs-one : (words : List ℕ) (t p : ℕ) (f g : OpenFault) → IsFreqsFault format_one words t p f → IsFreqsFault format_one words t p g → f ≡ g
-freqs-one words t p f g h k =
+freqs-one : (format : FormatNumbers) (words : List ℕ) (t p : ℕ) (f g : OpenFault) → IsFreqsFault format words t p f → IsFreqsFault format words t p g → f ≡ g
+freqs-one format words t p f g h k =
     let before : ℕ = stated_doc_parts words t in
-    elim (match-agree (not (term_word words t 1 == p) || nat_lt (stated_sizes words) (p + 2 * stated_freq_parts words t)) (IsAt f t K6 before) (InFreqs words t p f) (IsAt g t K6 before) (InFreqs words t p g) h k) [
+    elim (match-agree (not (term_word words t 1 == p) || nat_lt (stated_sizes words) (p + entry_words format * stated_freq_parts words t)) (IsAt f t K6 before) (InFreqs format words t p f) (IsAt g t K6 before) (InFreqs format words t p g) h k) [
       | inl (a, b) ↦ both f g t K6 before a b
       | inr (a, b) ↦
-          elim (first-agree words (stated_sizes words) p (stated_freq_parts words t) (stated_length words t) (2 ^ 36) (λ check q. IsAt f t check (before + q)) (λ check q. IsAt g t check (before + q)) (PassButGreatest words t p f) (PassButGreatest words t p g) a b) [
+          elim (first-agree format words (stated_sizes words) p (stated_freq_parts words t) (stated_length words t) format.most_sum (λ check q. IsAt f t check (before + q)) (λ check q. IsAt g t check (before + q)) (PassButGreatest format words t p f) (PassButGreatest format words t p g) a b) [
             | inl (check, q, x, y) ↦ both f g t check (before + q) x y
             | inr (x, y) ↦ x.1 ∙ sym y.1
           ]
     ]
 
-term-one : (words : List ℕ) (t p : ℕ) (f g : OpenFault) → IsTermFault format_one words t p f → IsTermFault format_one words t p g → f ≡ g
-term-one words t p f g h k =
-    let next : ℕ = word_behind format_one words p (stated_doc_parts words t) in
-    elim (match-agree (cannot_begin format_one (term_word words t 0) p (stated_documents words) (stated_length words t) (stated_doc_parts words t) (stated_freq_parts words t) (stated_sizes words)) (IsAt f t K6 0) (InDocs words t p f) (IsAt g t K6 0) (InDocs words t p g) h k) [
+term-one : (format : FormatNumbers) (words : List ℕ) (t p : ℕ) (f g : OpenFault) → IsTermFault format words t p f → IsTermFault format words t p g → f ≡ g
+term-one format words t p f g h k =
+    let next : ℕ = word_behind format words p (stated_doc_parts words t) in
+    elim (match-agree (cannot_begin format (term_word words t 0) p (stated_documents words) (stated_length words t) (stated_doc_parts words t) (stated_freq_parts words t) (stated_sizes words)) (IsAt f t K6 0) (InDocs format words t p f) (IsAt g t K6 0) (InDocs format words t p g) h k) [
       | inl (a, b) ↦ both f g t K6 0 a b
       | inr (a, b) ↦
-          elim (first-agree words (stated_sizes words) p (stated_doc_parts words t) (stated_length words t) (stated_documents words) (IsAt f t) (IsAt g t) (IsFreqsFault format_one words t next f) (IsFreqsFault format_one words t next g) a b) [
+          elim (first-agree format words (stated_sizes words) p (stated_doc_parts words t) (stated_length words t) (stated_documents words) (IsAt f t) (IsAt g t) (IsFreqsFault format words t next f) (IsFreqsFault format words t next g) a b) [
             | inl (check, q, x, y) ↦ both f g t check q x y
-            | inr (x, y) ↦ freqs-one words t next f g x y
+            | inr (x, y) ↦ freqs-one format words t next f g x y
           ]
     ]
 
@@ -54,16 +55,16 @@ closing-one words p f g h k =
       | inr (a, b) ↦ a.2 ∙ sym b.2
     ]
 
-behind-one : Below → (words : List ℕ) (f g : OpenFault) → frame_broken format_one words ≡ None → BreaksBehind words f → BreaksBehind words g → f ≡ g
-behind-one laws words f g e (cs, lc, mf) (ds, ld, mg) =
-    let frame = frame-stands words e in
+behind-one : (format : FormatNumbers) (room : HasRoom format) → Below format → (words : List ℕ) (f g : OpenFault) → frame_broken format words ≡ None → BreaksBehind format words f → BreaksBehind format words g → f ≡ g
+behind-one format room laws words f g e (cs, lc, mf) (ds, ld, mg) =
+    let frame = frame-stands format words e in
     let same : length cs ≡ length ds = omega (arith, lc.longest ds ld.front, ld.longest cs lc.front) in
-    let is : cs ≡ ds = stand-same laws words 0 2 cs ds frame (stand-from words 0 2 cs (front-pieces words cs lc.front)) (stand-from words 0 2 ds (front-pieces words ds ld.front)) same in
-    let p : ℕ = 2 + length (lists_words format_one cs) in
-    let moved : MatchBool (nat_lt (length cs) (stated_terms words)) (IsTermFault format_one words (length cs) (2 + length (lists_words format_one cs)) g) (IsClosingFault words (2 + length (lists_words format_one cs)) g) =
-    subst (λ x. MatchBool (nat_lt (length x) (stated_terms words)) (IsTermFault format_one words (length x) (2 + length (lists_words format_one x)) g) (IsClosingFault words (2 + length (lists_words format_one x)) g)) (sym is) mg in
-    elim (match-agree (nat_lt (length cs) (stated_terms words)) (IsTermFault format_one words (length cs) p f) (IsClosingFault words p f) (IsTermFault format_one words (length cs) p g) (IsClosingFault words p g) mf moved) [
-      | inl (a, b) ↦ term-one words (length cs) p f g a b
+    let is : cs ≡ ds = stand-same format room laws words 0 2 cs ds frame (stand-from format words 0 2 cs (front-pieces format words cs lc.front)) (stand-from format words 0 2 ds (front-pieces format words ds ld.front)) same in
+    let p : ℕ = 2 + length (lists_words format cs) in
+    let moved : MatchBool (nat_lt (length cs) (stated_terms words)) (IsTermFault format words (length cs) (2 + length (lists_words format cs)) g) (IsClosingFault words (2 + length (lists_words format cs)) g) =
+    subst (λ x. MatchBool (nat_lt (length x) (stated_terms words)) (IsTermFault format words (length x) (2 + length (lists_words format x)) g) (IsClosingFault words (2 + length (lists_words format x)) g)) (sym is) mg in
+    elim (match-agree (nat_lt (length cs) (stated_terms words)) (IsTermFault format words (length cs) p f) (IsClosingFault words p f) (IsTermFault format words (length cs) p g) (IsClosingFault words p g) mf moved) [
+      | inl (a, b) ↦ term-one format words (length cs) p f g a b
       | inr (a, b) ↦ closing-one words p f g a b
     ]
 
@@ -77,21 +78,23 @@ match-at-none o P Q e h = subst (λ x. MatchOption x P Q) e h
 match-at-some : (o : Option Check) (k : Check) (P : Type 0) (Q : Check → Type 0) → o ≡ Some k → MatchOption o P Q → Q k
 match-at-some o k P Q e h = subst (λ x. MatchOption x P Q) e h
 
-pub one-fault : Below → (words : List ℕ) (f g : OpenFault) → IsFirstBroken format_one words f → IsFirstBroken format_one words g → f ≡ g
-one-fault laws words f g h k =
-    elim (cases-option (frame_broken format_one words)) [
+pub one-fault : (format : FormatNumbers) (room : HasRoom format) → Below format → (words : List ℕ) (f g : OpenFault) → IsFirstBrokenIn format words f → IsFirstBrokenIn format words g → f ≡ g
+one-fault format room laws words f g h k =
+    elim (cases-option (frame_broken format words)) [
       | inl e ↦
-          behind-one laws words f g e (match-at-none (frame_broken format_one words) (BreaksBehind words f) (λ check. IsAt f 0 check 0) e h)
-          (match-at-none (frame_broken format_one words) (BreaksBehind words g) (λ check. IsAt g 0 check 0) e k)
+          behind-one format room laws words f g e (match-at-none (frame_broken format words) (BreaksBehind format words f) (λ check. IsAt f 0 check 0) e h)
+          (match-at-none (frame_broken format words) (BreaksBehind format words g) (λ check. IsAt g 0 check 0) e k)
       | inr (check, e) ↦
-          both f g 0 check 0 (match-at-some (frame_broken format_one words) check (BreaksBehind words f) (λ check. IsAt f 0 check 0) e h)
-          (match-at-some (frame_broken format_one words) check (BreaksBehind words g) (λ check. IsAt g 0 check 0) e k)
+          both f g 0 check 0 (match-at-some (frame_broken format words) check (BreaksBehind format words f) (λ check. IsAt f 0 check 0) e h)
+          (match-at-some (frame_broken format words) check (BreaksBehind format words g) (λ check. IsAt g 0 check 0) e k)
     ]
 
-pub one-index : Below → WordsState → OneIndex format_one
-one-index laws state words c d e f h k =
-    let same = sym (stated-is laws state words c e h) ∙ stated-is laws state words d f k in
-    (ap (λ i. i.collection) same, ap (λ i. i.parts) same)
+-- in a format words spell one collection, and have one first broken check
+pub one-index-in : (format : FormatNumbers) (room : HasRoom format) → Below format → WordsState format → OneIndexIn format
+one-index-in format room laws state words c d e f h k = (
+  sym (collection-is format room laws state words c e h) ∙ collection-is format room laws state words d f k,
+  sym (parts-are format room laws state words c e h) ∙ parts-are format room laws state words d f k,
+)
 
-pub one-broken-check : Below → OneBrokenCheck format_one
-one-broken-check laws = record { one = one-fault laws; none_in_index = none-in-index laws }
+pub one-broken-check-in : (format : FormatNumbers) (room : HasRoom format) → Below format → OneBrokenCheckIn format
+one-broken-check-in format room laws = record { one = one-fault format room laws; none_in_index = none-in-index format room laws }

@@ -4,7 +4,7 @@ use Rattle.std.specs.Prelude.{◌∷◌, []}
 use Rattle.std.specs.List.{All, slice_range}
 use Rattle.std.proofs.lemmas.List.{length-take-le, length-drop, take-take}
 use Rattle.std.proofs.lemmas.List.Elements.{All-nil, All-cons}
-use Rattle.collection_model.specs.FormatNumbers.{format_one}
+use Rattle.collection_model.specs.FormatNumbers.{FormatNumbers}
 use Rattle.collection_model.specs.Collection.{Posting, greatest, greatest_freq}
 use Rattle.collection_model.specs.Sequences.{steps_from, postings_in}
 use Rattle.collection_model.proofs.Lists.{freqs-of_postings, docs_of-length}
@@ -20,9 +20,9 @@ use Rattle.index_file.specs.FirstBroken.{stated_documents, stated_sizes, term_wo
 use Rattle.index_file.specs.ListAt.{IsSequenceAt, FreqsStandAt, StandsAt, word_after}
 
 -- the words from p up to s begin with a sequence: so it stands at word p
-pub sequence-is : SequenceStandsAtAWord → (words : List ℕ) (p s parts m bound used : ℕ) (v : SequenceView) → bound ≤ 2 ^ 36 → p ≤ s → s ≤ length words
-    → BeginsSequence format_one m bound parts v.values v.ends (slice_range words p s) used → IsSequenceAt words p s parts m bound v
-sequence-is stand words p s parts m bound used v small le within h =
+pub sequence-is : (words : List ℕ) (p s parts m bound used : ℕ) (v : SequenceView) → SequenceStandsAtAWord v.format → bound ≤ v.format.most_sum → p ≤ s → s ≤ length words
+    → BeginsSequence v.format m bound parts v.values v.ends (slice_range words p s) used → IsSequenceAt words p s parts m bound v
+sequence-is words p s parts m bound used v stand small le within h =
     let rest : List ℕ = drop p words in
     let long : length (slice_range words p s) ≡ s - p = length-take-le (s - p) rest (omega (arith, length-drop p words, le, within)) in
     let fit : used ≤ s - p = omega (arith, long, h.within) in
@@ -35,12 +35,12 @@ sequence-is stand words p s parts m bound used v small le within h =
       parts_count = h.sequence.parts_count;
       spelled = ap (λ n. take n rest) count ∙ sym (take-take used (s - p) rest fit) ∙ h.sequence.spelled;
       within = omega (arith, count, fit, le);
-      passes = subst (λ n. StandsAtWord words p s parts m bound n) (sym count) (stand m bound parts used p s v.values v.ends words small le h);
+      passes = subst (λ n. StandsAtWord v.format words p s parts m bound n) (sym count) (stand m bound parts used p s v.values v.ends words small le h);
     }
 
 -- the words from p on begin with the sequence that stands there
 pub begins-at : (words : List ℕ) (p s parts m bound : ℕ) (v : SequenceView) → s ≤ length words → IsSequenceAt words p s parts m bound v
-    → BeginsSequence format_one m bound parts v.values v.ends (drop p words) (words_used v)
+    → BeginsSequence v.format m bound parts v.values v.ends (drop p words) (words_used v)
 begins-at words p s parts m bound v within h = record {
   within = omega (arith, length-drop p words, within, h.within);
   sequence = record {
@@ -54,10 +54,12 @@ begins-at words p s parts m bound v within h = record {
 }
 
 -- the greatest step is another than the stated one
-pub wrong-greatest : OneSequence format_one → (words : List ℕ) (p s parts m stated : ℕ) (v : SequenceView) → s ≤ length words → IsSequenceAt words p s parts m (2 ^ 36) v
-    → (greatest (steps_from 0 v.values) ≡ stated → ⊥) → StatesWrongGreatest format_one words p m parts stated
-wrong-greatest one words p s parts m stated v within h other k =
-    let same = one m (2 ^ 36) (2 ^ 36) parts (words_used v) k.2 v.values k.0 v.ends k.1 (drop p words) (omega arith) (omega arith) (begins-at words p s parts m (2 ^ 36) v within h) k.3 in
+pub wrong-greatest : (words : List ℕ) (p s parts m stated : ℕ) (v : SequenceView) → OneSequence v.format → s ≤ length words
+    → IsSequenceAt words p s parts m v.format.most_sum v
+    → (greatest (steps_from 0 v.values) ≡ stated → ⊥) → StatesWrongGreatest v.format words p m parts stated
+wrong-greatest words p s parts m stated v one within h other k =
+    let most : ℕ = v.format.most_sum in
+    let same = one m most most parts (words_used v) k.2 v.values k.0 v.ends k.1 (drop p words) (omega arith) (omega arith) (begins-at words p s parts m most v within h) k.3 in
     other (ap (λ xs. greatest (steps_from 0 xs)) same.0 ∙ k.4)
 
 -- each number is at most the greatest
@@ -69,28 +71,32 @@ all-below (x ∷ xs) n lt = All-cons (λ x. x < n) x xs (omega arith) (all-below
 abbrev pub list-of : SequenceView → SequenceView → CutList
 list-of v w = record { list = postings_in v.values w.values; parts = record { doc_ends = v.ends; freq_ends = w.ends } }
 
-pub list-stands : SequencesAreAList → (words : List ℕ) (t p : ℕ) (v w : SequenceView) → stated_documents words ≤ 2 ^ 36 → stated_sizes words ≤ length words → term_word words t 0 ≡ p
+pub list-stands : (format : FormatNumbers) → SequencesAreAList → (words : List ℕ) (t p : ℕ) (v w : SequenceView) → v.format ≡ format → w.format ≡ format
+    → stated_sizes words ≤ length words → term_word words t 0 ≡ p
     → IsSequenceAt words p (stated_sizes words) (stated_doc_parts words t) (stated_length words t) (stated_documents words) v
     → FreqsStandAt words t (p + words_used v) w
-    → StandsAt format_one words t p (list-of v w) × (p + words_used v + words_used w ≡ word_after format_one p (list-of v w))
-list-stands are words t p v w few within first dv fw =
+    → StandsAt format words t p (list-of v w) × (p + words_used v + words_used w ≡ word_after format p (list-of v w))
+list-stands format are words t p v w ev ew within first dv fw =
     let n : ℕ = stated_documents words in
     let list : List Posting = postings_in v.values w.values in
     let same : length v.values ≡ length w.values = dv.count ∙ sym fw.sums.count in
     let steps : All (λ f. f < 2 ^ 32) (steps_from 0 w.values) = all-below (steps_from 0 w.values) (2 ^ 32) (omega (arith, fw.greatest_is, fw.fit)) in
-    let l : IsListOf format_one n v.values w.values list = are format_one n v.values w.values dv.rising dv.below fw.sums.rising fw.sums.below same steps in
+    let below : All (λ s. s < format.most_sum) w.values = subst (λ x. All (λ s. s < x.most_sum) w.values) ew fw.sums.below in
+    let l : IsListOf format n v.values w.values list = are format n v.values w.values dv.rising dv.below fw.sums.rising below same steps in
     let long : length list ≡ stated_length words t = sym (docs_of-length list) ∙ ap length l.of_docs ∙ dv.count in
     let most : greatest_freq list ≡ stated_greatest words t = ap greatest (freqs-of_postings v.values (steps_from 0 w.values) (same-steps v.values w.values same)) ∙ fw.greatest_is in
-    let docs : doc_words format_one (list-of v w) ≡ sequence_words format_one v.values v.ends = ap (λ xs. sequence_words format_one xs v.ends) l.of_docs in
-    let freqs : freq_words format_one (list-of v w) ≡ sequence_words format_one w.values w.ends = ap (λ xs. sequence_words format_one xs w.ends) l.of_sums in
-    let docs_count : length (doc_words format_one (list-of v w)) ≡ words_used v = ap length docs in
-    let freqs_count : length (freq_words format_one (list-of v w)) ≡ words_used w = ap length freqs in (
+    let docs : doc_words format (list-of v w) ≡ sequence_words v.format v.values v.ends =
+    ap (λ xs. sequence_words format xs v.ends) l.of_docs ∙ ap (λ x. sequence_words x v.values v.ends) (sym ev) in
+    let freqs : freq_words format (list-of v w) ≡ sequence_words w.format w.values w.ends =
+    ap (λ xs. sequence_words format xs w.ends) l.of_sums ∙ ap (λ x. sequence_words x w.values w.ends) (sym ew) in
+    let docs_count : length (doc_words format (list-of v w)) ≡ words_used v = ap length docs in
+    let freqs_count : length (freq_words format (list-of v w)) ≡ words_used w = ap length freqs in (
       record {
         list = l.well_formed;
         doc_parts = subst (λ k. IsPartition k v.ends) (sym long) dv.partition;
         freq_parts = subst (λ k. IsPartition k w.ends) (sym long) fw.sums.partition;
         docs = ap (λ k. take k (drop p words)) docs_count ∙ dv.spelled ∙ sym docs;
-        freqs = ap (λ k. take k (drop (p + length (doc_words format_one (list-of v w))) words)) freqs_count
+        freqs = ap (λ k. take k (drop (p + length (doc_words format (list-of v w))) words)) freqs_count
             ∙ ap (λ k. take (words_used w) (drop (p + k) words)) docs_count ∙ fw.sums.spelled ∙ sym freqs;
         within = omega (arith, docs_count, freqs_count, fw.sums.within);
         docs_word = first;

@@ -2,9 +2,10 @@
 use Rattle.std.proofs.Common.{◌≡◌, ℕ, zero, suc, ◌+◌, ◌/◌, ◌%◌, ◌^◌, ◌≤◌, ◌<◌, List, [], ◌∷◌, length, drop, get_or, refl, sym, ap, ◌∙◌, subst, arith}
 use Rattle.std.specs.Prelude.{slice_index, ◌==◌}
 use Rattle.std.proofs.lemmas.List.Elements.{All-weaker}
-use Rattle.collection_model.specs.FormatNumbers.{format_one}
+use Rattle.collection_model.specs.FormatNumbers.{FormatNumbers}
 use Rattle.collection_model.specs.Collection.{Collection, docs_of, greatest_freq, list_of, IsPostingList}
 use Rattle.collection_model.specs.Sequences.{doc_sequence, freq_sequence, postings_in}
+use Rattle.part_cost.specs.Formats.{numbers_of, HasRoom}
 use Rattle.cursor_api.specs.NextGeq.{IsCursorList}
 use Rattle.two_level.specs.SequenceView.{SequenceView, BeginWith, words_used}
 use Rattle.index_file.specs.FileWords.{CutList, ListParts, with_parts, doc_words, Spells}
@@ -19,77 +20,78 @@ use Rattle.index_file.proofs.Spelling.{lists_in}
 use Rattle.index_file.proofs.StatedIndex.{opened, size-stated}
 
 -- the words of an index spell what they state
-pub spells-view : (words : List ℕ) (i : IndexView) → Spells format_one words (index_stated words).collection (index_stated words).parts → index_stated words ≡ i → Spells format_one words i.collection i.parts
-spells-view words i h e = subst (λ x. Spells format_one words x.collection x.parts) e h
+pub spells-view : (words : List ℕ) (i : IndexView) → Spells (numbers_of (index_stated words).format) words (index_stated words).collection (index_stated words).parts → index_stated words ≡ i
+    → Spells (numbers_of i.format) words i.collection i.parts
+spells-view words i h e = subst (λ x. Spells (numbers_of x.format) words x.collection x.parts) e h
 
-pub has-frame : (words : List ℕ) (c : Collection) (parts : List ListParts) → Spells format_one words c parts → HasFrame format_one words
-has-frame words c parts h = (opened words c parts h).laid.frame
+pub has-frame : (format : FormatNumbers) (words : List ℕ) (c : Collection) (parts : List ListParts) → Spells format words c parts → HasFrame format words
+has-frame format words c parts h = (opened format words c parts h).laid.frame
 
-pub documents-are : (words : List ℕ) (c : Collection) (parts : List ListParts) → Spells format_one words c parts → stated_documents words ≡ c.documents
-documents-are words c parts h = (opened words c parts h).laid.docs
+pub documents-are : (format : FormatNumbers) (words : List ℕ) (c : Collection) (parts : List ListParts) → Spells format words c parts → stated_documents words ≡ c.documents
+documents-are format words c parts h = (opened format words c parts h).laid.docs
 
-pub terms-are : (words : List ℕ) (c : Collection) (parts : List ListParts) → Spells format_one words c parts → stated_terms words ≡ length c.lists
-terms-are words c parts h = let o = opened words c parts h in o.laid.terms ∙ o.count
+pub terms-are : (format : FormatNumbers) (words : List ℕ) (c : Collection) (parts : List ListParts) → Spells format words c parts → stated_terms words ≡ length c.lists
+terms-are format words c parts h = let o = opened format words c parts h in o.laid.terms ∙ o.count
 
-pub size-is : (words : List ℕ) (c : Collection) (parts : List ListParts) → Spells format_one words c parts → (d : ℕ) → d < c.documents
+pub size-is : (format : FormatNumbers) (words : List ℕ) (c : Collection) (parts : List ListParts) → Spells format words c parts → (d : ℕ) → d < c.documents
     → half_of (d % 2 == 0) (slice_index words (stated_sizes words + d / 2)) ≡ slice_index c.sizes d
-size-is words c parts h d lt = size-stated words c parts h d lt
+size-is format words c parts h d lt = size-stated format words c parts h d lt
 
-pub size-even : (words : List ℕ) (c : Collection) (parts : List ListParts) → Spells format_one words c parts → (d : ℕ) → d < c.documents → d % 2 ≡ 0
+pub size-even : (format : FormatNumbers) (words : List ℕ) (c : Collection) (parts : List ListParts) → Spells format words c parts → (d : ℕ) → d < c.documents → d % 2 ≡ 0
     → slice_index words (stated_sizes words + d / 2) % 2 ^ 32 ≡ slice_index c.sizes d
-size-even words c parts h d lt e = ap (λ r. half_of (r == 0) (slice_index words (stated_sizes words + d / 2))) (sym e) ∙ size-is words c parts h d lt
+size-even format words c parts h d lt e = ap (λ r. half_of (r == 0) (slice_index words (stated_sizes words + d / 2))) (sym e) ∙ size-is format words c parts h d lt
 
-pub size-odd : (words : List ℕ) (c : Collection) (parts : List ListParts) → Spells format_one words c parts → (d : ℕ) → d < c.documents → d % 2 ≡ 1
+pub size-odd : (format : FormatNumbers) (words : List ℕ) (c : Collection) (parts : List ListParts) → Spells format words c parts → (d : ℕ) → d < c.documents → d % 2 ≡ 1
     → slice_index words (stated_sizes words + d / 2) / 2 ^ 32 ≡ slice_index c.sizes d
-size-odd words c parts h d lt e = ap (λ r. half_of (r == 0) (slice_index words (stated_sizes words + d / 2))) (sym e) ∙ size-is words c parts h d lt
+size-odd format words c parts h d lt e = ap (λ r. half_of (r == 0) (slice_index words (stated_sizes words + d / 2))) (sym e) ∙ size-is format words c parts h d lt
 
 -- a list among those that stand
-stand-at : (words : List ℕ) (t p : ℕ) (cs : List CutList) → StandFrom format_one words t p cs → (i : ℕ) → i < length cs
-    → (c : CutList) × (q : ℕ) × StandsAt format_one words (t + i) q c × (get_or (lists_in cs) i [] ≡ c.list)
-stand-at words t p [] h i lt = absurd (omega (arith, lt))
-stand-at words t p (c ∷ cs) h zero lt = (c, p, subst (λ k. StandsAt format_one words k p c) (let e : t ≡ t + 0 = omega arith in e) h.0, refl)
-stand-at words t p (c ∷ cs) h (suc i) lt =
-    let r = stand-at words (t + 1) (word_after format_one p c) cs h.1 i (omega (arith, lt)) in
-    (r.0, r.1, subst (λ k. StandsAt format_one words k r.1 r.0) (let e : t + 1 + i ≡ t + suc i = omega arith in e) r.2, r.3)
+stand-at : (format : FormatNumbers) (words : List ℕ) (t p : ℕ) (cs : List CutList) → StandFrom format words t p cs → (i : ℕ) → i < length cs
+    → (c : CutList) × (q : ℕ) × StandsAt format words (t + i) q c × (get_or (lists_in cs) i [] ≡ c.list)
+stand-at format words t p [] h i lt = absurd (omega (arith, lt))
+stand-at format words t p (c ∷ cs) h zero lt = (c, p, subst (λ k. StandsAt format words k p c) (let e : t ≡ t + 0 = omega arith in e) h.0, refl)
+stand-at format words t p (c ∷ cs) h (suc i) lt =
+    let r = stand-at format words (t + 1) (word_after format p c) cs h.1 i (omega (arith, lt)) in
+    (r.0, r.1, subst (λ k. StandsAt format words k r.1 r.0) (let e : t + 1 + i ≡ t + suc i = omega arith in e) r.2, r.3)
 
 -- a list of an index, in its words
-pub record OpenedList (words : List ℕ) (t : ℕ) (x : CutList) : Type 0 where
-  pub docs : BeginWith (drop (term_word words t 0) words) (stated_doc_parts words t) (stated_length words t) (docs_view x)
-  pub freqs : BeginWith (drop (term_word words t 1) words) (stated_freq_parts words t) (stated_length words t) (freqs_view x)
+pub record OpenedList (format : FormatNumbers) (words : List ℕ) (t : ℕ) (x : CutList) : Type 0 where
+  pub docs : BeginWith (drop (term_word words t 0) words) (stated_doc_parts words t) (stated_length words t) (docs_view format x)
+  pub freqs : BeginWith (drop (term_word words t 1) words) (stated_freq_parts words t) (stated_length words t) (freqs_view format x)
   pub docs_within : term_word words t 0 ≤ length words
   pub freqs_within : term_word words t 1 ≤ length words
   pub cursor : IsCursorList x.list
   pub give : postings_in (doc_sequence x.list) (freq_sequence x.list) ≡ x.list
   pub most : stated_greatest words t ≡ greatest_freq x.list
 
-pub opened-list : Below → (words : List ℕ) (c : Collection) (parts : List ListParts) → Spells format_one words c parts → (t : ℕ) → t < stated_terms words
-    → (x : CutList) × OpenedList words t x × (list_of c t ≡ x.list)
-opened-list laws words c parts h t lt =
-    let o = opened words c parts h in
+pub opened-list : (format : FormatNumbers) (room : HasRoom format) → Below format → (words : List ℕ) (c : Collection) (parts : List ListParts) → Spells format words c parts → (t : ℕ) → t < stated_terms words
+    → (x : CutList) × OpenedList format words t x × (list_of c t ≡ x.list)
+opened-list format room laws words c parts h t lt =
+    let o = opened format words c parts h in
     let cs : List CutList = with_parts c.lists parts in
     let frame = o.laid.frame in
-    let s = stand-at words 0 2 cs (stand-from words 0 2 cs (front-pieces words cs o.front)) t (omega (arith, lt, o.laid.terms)) in
+    let s = stand-at format words 0 2 cs (stand-from format words 0 2 cs (front-pieces format words cs o.front)) t (omega (arith, lt, o.laid.terms)) in
     let x : CutList = s.0 in
     let p : ℕ = s.1 in
-    let at : StandsAt format_one words t s.1 s.0 = subst (λ k. StandsAt format_one words k s.1 s.0) (let e : 0 + t ≡ t = omega arith in e) s.2 in
-    let n = counts words t p x frame at in
+    let at : StandsAt format words t s.1 s.0 = subst (λ k. StandsAt format words k s.1 s.0) (let e : 0 + t ≡ t = omega arith in e) s.2 in
+    let n = counts format room words t p x frame at in
     let within : stated_sizes words ≤ length words = omega (arith, frame.whole) in
-    let few : stated_documents words ≤ 268435455 = frame.documents in (
+    let few : stated_documents words ≤ format.most_documents = frame.documents in (
       x,
       record {
-        docs = subst (λ k. BeginWith (drop k words) (stated_doc_parts words t) (stated_length words t) (docs_view x)) (sym at.docs_word)
-            (stated_documents words, words_used (docs_view x), omega (arith, few), begins-at words p (stated_sizes words) (stated_doc_parts words t) (stated_length words t) (stated_documents words) (docs_view x) within (docs-at laws words t p x frame at));
-        freqs = subst (λ k. BeginWith (drop k words) (stated_freq_parts words t) (stated_length words t) (freqs_view x)) (sym at.freqs_word)
-            (2 ^ 36, words_used (freqs_view x), omega arith, begins-at words (p + length (doc_words format_one x)) (stated_sizes words) (stated_freq_parts words t) (stated_length words t) (2 ^ 36) (freqs_view x) within (freqs-at laws words t p x frame at));
+        docs = subst (λ k. BeginWith (drop k words) (stated_doc_parts words t) (stated_length words t) (docs_view format x)) (sym at.docs_word)
+            (stated_documents words, words_used (docs_view format x), omega (arith, few, room.documents), begins-at words p (stated_sizes words) (stated_doc_parts words t) (stated_length words t) (stated_documents words) (docs_view format x) within (docs-at format room laws words t p x frame at));
+        freqs = subst (λ k. BeginWith (drop k words) (stated_freq_parts words t) (stated_length words t) (freqs_view format x)) (sym at.freqs_word)
+            (format.most_sum, words_used (freqs_view format x), omega arith, begins-at words (p + length (doc_words format x)) (stated_sizes words) (stated_freq_parts words t) (stated_length words t) format.most_sum (freqs_view format x) within (freqs-at format room laws words t p x frame at));
         docs_within = omega (arith, at.docs_word, at.within, within);
         freqs_within = omega (arith, at.freqs_word, at.within, within);
         cursor = record {
           rising = at.list.rising;
-          docs = All-weaker (λ d. d < stated_documents words) (λ d. d < 4294967295) (λ d l. omega (arith, l, few)) (docs_of x.list) at.list.in_range;
+          docs = All-weaker (λ d. d < stated_documents words) (λ d. d < 4294967295) (λ d l. omega (arith, l, few, room.fit)) (docs_of x.list) at.list.in_range;
           not_zero = at.list.not_zero;
           fit = at.list.fit;
         };
-        give = laws.give format_one (stated_documents words) x.list at.list;
+        give = laws.give format (stated_documents words) x.list at.list;
         most = sym n.most;
       },
       ap (λ l. get_or l t []) (sym o.lists) ∙ s.3,
@@ -100,12 +102,12 @@ begin-as words p q m n a b v e f g h =
     subst (λ x. BeginWith (drop p words) x m v) (sym g) (subst (λ x. BeginWith (drop p words) b x v) (sym f) (subst (λ x. BeginWith (drop x words) b n v) (sym e) h))
 
 -- the postings in the two sequences that were opened
-pub read-list : (words : List ℕ) (t : ℕ) (x : CutList) (v w : SequenceView) → OpenedList words t x → v ≡ docs_view x → w ≡ freqs_view x → postings_in v.values w.values ≡ x.list
-read-list words t x v w o a b = ap (λ k. postings_in k.values w.values) a ∙ ap (λ k. postings_in (doc_sequence x.list) k.values) b ∙ o.give
+pub read-list : (format : FormatNumbers) (words : List ℕ) (t : ℕ) (x : CutList) (v w : SequenceView) → OpenedList format words t x → v ≡ docs_view format x → w ≡ freqs_view format x → postings_in v.values w.values ≡ x.list
+read-list format words t x v w o a b = ap (λ k. postings_in k.values w.values) a ∙ ap (λ k. postings_in (doc_sequence x.list) k.values) b ∙ o.give
 
-pub same-length : Below → (words : List ℕ) (t : ℕ) (c : Collection) (parts : List ListParts) → Spells format_one words c parts → (x : CutList) → list_of c t ≡ x.list → t < length c.lists
+pub same-length : (format : FormatNumbers) → Below format → (words : List ℕ) (t : ℕ) (c : Collection) (parts : List ListParts) → Spells format words c parts → (x : CutList) → list_of c t ≡ x.list → t < length c.lists
     → length (doc_sequence x.list) ≡ length (freq_sequence x.list)
-same-length laws words t c parts h x e lt =
-    let list : IsPostingList format_one c.documents x.list = subst (IsPostingList format_one c.documents) e (h.well_formed.lists t [] lt) in
-    let r = laws.rise format_one c.documents x.list list in
+same-length format laws words t c parts h x e lt =
+    let list : IsPostingList format c.documents x.list = subst (IsPostingList format c.documents) e (h.well_formed.lists t [] lt) in
+    let r = laws.rise format c.documents x.list list in
     r.docs_count ∙ sym r.sums_count

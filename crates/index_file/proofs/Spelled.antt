@@ -3,35 +3,36 @@ use Rattle.std.proofs.Common.{◌≡◌, refl, sym, ap, ℕ, ◌^◌, ◌<◌, �
 use Rattle.std.specs.List.{All}
 use Rattle.std.proofs.lemmas.List.{length-map}
 use Rattle.std.proofs.lemmas.List.Elements.{All-head, All-tail, All-map}
-use Rattle.collection_model.specs.FormatNumbers.{format_one, most_terms}
+use Rattle.collection_model.specs.FormatNumbers.{FormatNumbers, most_terms}
 use Rattle.collection_model.specs.Collection.{IsPostingList}
+use Rattle.part_cost.specs.Formats.{numbers_of}
 use Rattle.index_file.specs.FileWords.{CutList, words_of_file, with_parts, ArePartitions, Spells}
 use Rattle.index_file.specs.Builder.{Built, StandsFor, IsNearCut, lists_added}
 use Rattle.index_file.proofs.Lengths.{directory-length}
 
 pub lists-counted : (b : Built) (cs : List CutList) → StandsFor b cs → lists_added b ≡ length cs
-lists-counted b cs stands = omega (arith, ap length stands.directory, directory-length format_one 2 cs)
+lists-counted b cs stands = omega (arith, ap length stands.directory, directory-length (numbers_of b.format) 2 cs)
 
 -- lists with their parts are the lists that they were taken from
 with-parts : (cs : List CutList) → with_parts (map (λ c. c.list) cs) (map (λ c. c.parts) cs) ≡ cs
 with-parts [] = refl
 with-parts (c ∷ cs) = ap (λ ds. c ∷ ds) (with-parts cs)
 
-partitions : (cs : List CutList) → All IsNearCut cs → ArePartitions (map (λ c. c.list) cs) (map (λ c. c.parts) cs)
-partitions [] near = tt
-partitions (c ∷ cs) near = let here = All-head IsNearCut c cs near in (here.docs.allowed.partition, here.freqs.allowed.partition, partitions cs (All-tail IsNearCut c cs near))
+partitions : (format : FormatNumbers) (cs : List CutList) → All (IsNearCut format) cs → ArePartitions (map (λ c. c.list) cs) (map (λ c. c.parts) cs)
+partitions format [] near = tt
+partitions format (c ∷ cs) near = let here = All-head (IsNearCut format) c cs near in (here.docs.allowed.partition, here.freqs.allowed.partition, partitions format cs (All-tail (IsNearCut format) c cs near))
 
-pub files-spell : (b : Built) (cs : List CutList) (sizes : List ℕ) → StandsFor b cs → b.documents ≤ format_one.most_documents → length cs ≤ most_terms
+pub files-spell : (b : Built) (cs : List CutList) (sizes : List ℕ) → StandsFor b cs → b.documents ≤ (numbers_of b.format).most_documents → length cs ≤ most_terms
     → length sizes ≡ b.documents → All (λ s. s < 2 ^ 32) sizes
-    → Spells format_one (words_of_file format_one b.documents cs sizes) (record { documents = b.documents; lists = map (λ c. c.list) cs; sizes = sizes }) (map (λ c. c.parts) cs)
+    → Spells (numbers_of b.format) (words_of_file (numbers_of b.format) b.documents cs sizes) (record { documents = b.documents; lists = map (λ c. c.list) cs; sizes = sizes }) (map (λ c. c.parts) cs)
 files-spell b cs sizes stands small few each below = record {
   well_formed = record {
     documents = small;
     terms = omega (arith, length-map cs (λ c. c.list));
-    lists = All-map (IsPostingList format_one b.documents) (λ c. c.list) cs stands.lists;
+    lists = All-map (IsPostingList (numbers_of b.format) b.documents) (λ c. c.list) cs stands.lists;
     size_each = each;
     sizes = below;
   };
-  partitions = partitions cs stands.near;
-  spelled = ap (λ ds. words_of_file format_one b.documents ds sizes) (sym (with-parts cs));
+  partitions = partitions (numbers_of b.format) cs stands.near;
+  spelled = ap (λ ds. words_of_file (numbers_of b.format) b.documents ds sizes) (sym (with-parts cs));
 }

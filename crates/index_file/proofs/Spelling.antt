@@ -5,9 +5,9 @@ use Rattle.std.specs.List.{All, range_with_len}
 use Rattle.std.proofs.lemmas.List.{get_or-drop, length-map, length-drop}
 use Rattle.std.proofs.lemmas.List.Elements.{All-head, All-tail, All-map, All-from_get_or}
 use Rattle.std.proofs.lemmas.List.FromFn.{length-map-range_with_len, get_or-map-range_with_len}
-use Rattle.collection_model.specs.FormatNumbers.{format_one}
+use Rattle.collection_model.specs.FormatNumbers.{FormatNumbers}
 use Rattle.collection_model.specs.Collection.{Posting, Collection, IsPostingList}
-use Rattle.index_file.specs.FileWords.{CutList, ListParts, with_parts, lists_words, sizes_words, words_of_file, ArePartitions, IsIndex}
+use Rattle.index_file.specs.FileWords.{CutList, ListParts, with_parts, lists_words, sizes_words, words_of_file, ArePartitions, IsIndexIn}
 use Rattle.index_file.specs.FirstBroken.{stated_documents, stated_terms, stated_sizes, directory_word, IsFileFront}
 use Rattle.index_file.specs.IndexView.{size_stated}
 use Rattle.index_file.specs.ListAt.{HasFrame, PassesClosing}
@@ -51,9 +51,9 @@ sizes-small words small =
     let h : size_stated words d < 2 ^ 32 = half-small (d % 2 == 0) (slice_index words (stated_sizes words + d / 2)) (small (stated_sizes words + d / 2)) in
     omega (arith, e, h))
 
-sizes-at : (words : List ℕ) → HasFrame format_one words → (stated_documents words % 2 ≡ 1 → slice_index words (directory_word words - 1) / 2 ^ 32 ≡ 0)
+sizes-at : (format : FormatNumbers) (words : List ℕ) → HasFrame format words → (stated_documents words % 2 ≡ 1 → slice_index words (directory_word words - 1) / 2 ^ 32 ≡ 0)
     → take (length (sizes_words (sizes_stated words))) (drop (stated_sizes words) words) ≡ sizes_words (sizes_stated words)
-sizes-at words frame filled =
+sizes-at format words frame filled =
     let n : ℕ = stated_documents words in
     let s : ℕ = stated_sizes words in
     let k : length (sizes_stated words) ≡ stated_documents words = length-map-range_with_len (size_stated words) 0 n in
@@ -68,9 +68,9 @@ sizes-at words frame filled =
     ∙ filled (omega (arith, k, odd)))
 
 -- words with a frame, lists that stand up to the sizes, and filled sizes are an index
-pub is-index : (words : List ℕ) (cs : List CutList) → ((k : ℕ) → get_or words k 0 < 2 ^ 64) → HasFrame format_one words → IsFileFront format_one words cs → length cs ≡ stated_terms words
-    → PassesClosing words (2 + length (lists_words format_one cs)) → IsIndex format_one words
-is-index words cs small frame front all pass =
+pub is-index : (format : FormatNumbers) (words : List ℕ) (cs : List CutList) → ((k : ℕ) → get_or words k 0 < 2 ^ 64) → HasFrame format words → IsFileFront format words cs → length cs ≡ stated_terms words
+    → PassesClosing words (2 + length (lists_words format cs)) → IsIndexIn format words
+is-index format words cs small frame front all pass =
     let n : ℕ = stated_documents words in
     let c : Collection = record { documents = n; lists = lists_in cs; sizes = sizes_stated words } in
     let count : length (lists_in cs) ≡ length cs = length-map cs (λ c. c.list) in
@@ -81,12 +81,12 @@ is-index words cs small frame front all pass =
         well_formed = record {
           documents = frame.documents;
           terms = omega (arith, count, all, frame.terms);
-          lists = All-map (IsPostingList format_one n) (λ x. x.list) cs front.lists;
+          lists = All-map (IsPostingList format n) (λ x. x.list) cs front.lists;
           size_each = each;
           sizes = sizes-small words small;
         };
         partitions = partitions-of cs front.doc_parts front.freq_parts;
-        spelled = words-of words n cs (sizes_stated words) frame refl each (sym all) (sym pass.next) front.sequences (sizes-at words frame pass.filled) front.directory
-            ∙ ap (λ l. words_of_file format_one n l (sizes_stated words)) (sym (with-parts-of cs));
+        spelled = words-of format words n cs (sizes_stated words) frame refl each (sym all) (sym pass.next) front.sequences (sizes-at format words frame pass.filled) front.directory
+            ∙ ap (λ l. words_of_file format n l (sizes_stated words)) (sym (with-parts-of cs));
       },
     )

@@ -4,10 +4,11 @@ use Rattle.std.specs.Prelude.{◌||◌, ◌==◌, not, nat_lt}
 use Rattle.std.specs.List.{All, slice_range}
 use Rattle.std.specs.List.Sorted.{IsStrictlyIncreasing}
 use Rattle.std.proofs.lemmas.List.{length-take-le, length-drop, take-take}
-use Rattle.collection_model.specs.FormatNumbers.{format_one}
+use Rattle.collection_model.specs.FormatNumbers.{FormatNumbers, entry_words}
 use Rattle.collection_model.specs.Collection.{Posting, docs_of, greatest, greatest_freq, IsPostingList}
 use Rattle.collection_model.specs.Sequences.{doc_sequence, freq_sequence, steps_from, postings_in}
 use Rattle.collection_model.proofs.Lists.{docs_of-length, freqs-of_postings, rising-length}
+use Rattle.part_cost.specs.Formats.{HasRoom}
 use Rattle.part_cost.specs.Partition.{IsPartition, IsPartitionFrom}
 use Rattle.postings.specs.Laws.{SequencesRise, SequencesGiveTheirList}
 use Rattle.postings.proofs.Lists.{same-steps}
@@ -26,19 +27,19 @@ use Rattle.index_file.proofs.OneList.{sequence-is, begins-at}
 use Rattle.index_file.proofs.Agree.{later-of, match-later}
 use Rattle.index_file.proofs.TermFaults.{IsAt, InDocs, InFreqs, PassButGreatest}
 
--- the laws of the layers below
-pub record Below : Type 0 where
-  pub stand : SequenceStandsAtAWord
-  pub one : OneSequence format_one
+-- the laws of the layers below, for a format
+pub record Below (format : FormatNumbers) : Type 0 where
+  pub stand : SequenceStandsAtAWord format
+  pub one : OneSequence format
   pub rise : SequencesRise
   pub give : SequencesGiveTheirList
 
 -- the two sequences of a list in its parts
-abbrev pub docs_view : CutList → SequenceView
-docs_view c = record { values = doc_sequence c.list; ends = c.parts.doc_ends }
+abbrev pub docs_view : FormatNumbers → CutList → SequenceView
+docs_view format c = record { format = format; values = doc_sequence c.list; ends = c.parts.doc_ends }
 
-abbrev pub freqs_view : CutList → SequenceView
-freqs_view c = record { values = freq_sequence c.list; ends = c.parts.freq_ends }
+abbrev pub freqs_view : FormatNumbers → CutList → SequenceView
+freqs_view format c = record { format = format; values = freq_sequence c.list; ends = c.parts.freq_ends }
 
 parts-few : (i n : ℕ) (ends : List ℕ) → IsPartitionFrom i n ends → i + length ends ≤ n
 parts-few i n [] h = omega arith
@@ -52,10 +53,10 @@ pub record Counts (words : List ℕ) (t : ℕ) (c : CutList) : Type 0 where
   pub freq_count : length c.parts.freq_ends ≡ stated_freq_parts words t
   pub most : greatest_freq c.list ≡ stated_greatest words t
 
-pub counts : (words : List ℕ) (t p : ℕ) (c : CutList) → HasFrame format_one words → StandsAt format_one words t p c → Counts words t c
-counts words t p c frame h =
+pub counts : (format : FormatNumbers) (room : HasRoom format) (words : List ℕ) (t p : ℕ) (c : CutList) → HasFrame format words → StandsAt format words t p c → Counts words t c
+counts format room words t p c frame h =
     let few : length c.list ≤ stated_documents words = omega (arith, docs_of-length c.list, rising-length (docs_of c.list) (stated_documents words) h.list.rising h.list.in_range) in
-    let small : length c.list < 2 ^ 32 = omega (arith, few, frame.documents) in
+    let small : length c.list < 2 ^ 32 = omega (arith, few, frame.documents, room.fit) in
     let freqs : length c.parts.freq_ends < 2 ^ 32 = omega (arith, small, parts-few 0 (length c.list) c.parts.freq_ends h.freq_parts) in
     record {
       few = few;
@@ -66,10 +67,10 @@ counts words t p c frame h =
     }
 
 -- a stretch of words begins with what stands at its first word
-begins-in : (words : List ℕ) (p s m bound parts : ℕ) (v : SequenceView) → p + words_used v ≤ s → s ≤ length words → IsStrictlyIncreasing v.values → All (λ x. x < bound) v.values
-    → length v.values ≡ m → IsPartition m v.ends → length v.ends ≡ parts → take (words_used v) (drop p words) ≡ sequence_words format_one v.values v.ends
-    → BeginsSequence format_one m bound parts v.values v.ends (slice_range words p s) (words_used v)
-begins-in words p s m bound parts v fit within rising below count partition parts_count spelled = record {
+begins-in : (format : FormatNumbers) (words : List ℕ) (p s m bound parts : ℕ) (v : SequenceView) → p + words_used v ≤ s → s ≤ length words → IsStrictlyIncreasing v.values → All (λ x. x < bound) v.values
+    → length v.values ≡ m → IsPartition m v.ends → length v.ends ≡ parts → take (words_used v) (drop p words) ≡ sequence_words format v.values v.ends
+    → BeginsSequence format m bound parts v.values v.ends (slice_range words p s) (words_used v)
+begins-in format words p s m bound parts v fit within rising below count partition parts_count spelled = record {
   within = let long : length (slice_range words p s) ≡ s - p = length-take-le (s - p) (drop p words) (omega (arith, length-drop p words, within, fit)) in omega (arith, long, fit);
   sequence = record {
     rising = rising;
@@ -82,90 +83,90 @@ begins-in words p s m bound parts v fit within rising below count partition part
 }
 
 -- the documents of a list that stands, and its frequencies
-pub docs-at : Below → (words : List ℕ) (t p : ℕ) (c : CutList) → HasFrame format_one words → StandsAt format_one words t p c
-    → IsSequenceAt words p (stated_sizes words) (stated_doc_parts words t) (stated_length words t) (stated_documents words) (docs_view c)
-docs-at laws words t p c frame h =
-    let n = counts words t p c frame h in
+pub docs-at : (format : FormatNumbers) (room : HasRoom format) → Below format → (words : List ℕ) (t p : ℕ) (c : CutList) → HasFrame format words → StandsAt format words t p c
+    → IsSequenceAt words p (stated_sizes words) (stated_doc_parts words t) (stated_length words t) (stated_documents words) (docs_view format c)
+docs-at format room laws words t p c frame h =
+    let n = counts format room words t p c frame h in
     let s : ℕ = stated_sizes words in
     let within : stated_sizes words ≤ length words = omega (arith, frame.whole) in
-    let fit : p + length (doc_words format_one c) ≤ stated_sizes words = omega (arith, h.within) in
-    sequence-is laws.stand words p s (stated_doc_parts words t) (stated_length words t) (stated_documents words) (words_used (docs_view c)) (docs_view c) (omega (arith, frame.documents)) (omega (arith, fit)) within
-    (begins-in words p s (stated_length words t) (stated_documents words) (stated_doc_parts words t) (docs_view c) fit within h.list.rising h.list.in_range (docs_of-length c.list ∙ n.len)
+    let fit : p + length (doc_words format c) ≤ stated_sizes words = omega (arith, h.within) in
+    sequence-is words p s (stated_doc_parts words t) (stated_length words t) (stated_documents words) (words_used (docs_view format c)) (docs_view format c) laws.stand (omega (arith, frame.documents, room.documents)) (omega (arith, fit)) within
+    (begins-in format words p s (stated_length words t) (stated_documents words) (stated_doc_parts words t) (docs_view format c) fit within h.list.rising h.list.in_range (docs_of-length c.list ∙ n.len)
     (subst (λ k. IsPartition k c.parts.doc_ends) n.len h.doc_parts) n.doc_count h.docs)
 
-pub freqs-at : Below → (words : List ℕ) (t p : ℕ) (c : CutList) → HasFrame format_one words → StandsAt format_one words t p c
-    → IsSequenceAt words (p + length (doc_words format_one c)) (stated_sizes words) (stated_freq_parts words t) (stated_length words t) (2 ^ 36) (freqs_view c)
-freqs-at laws words t p c frame h =
-    let n = counts words t p c frame h in
+pub freqs-at : (format : FormatNumbers) (room : HasRoom format) → Below format → (words : List ℕ) (t p : ℕ) (c : CutList) → HasFrame format words → StandsAt format words t p c
+    → IsSequenceAt words (p + length (doc_words format c)) (stated_sizes words) (stated_freq_parts words t) (stated_length words t) format.most_sum (freqs_view format c)
+freqs-at format room laws words t p c frame h =
+    let n = counts format room words t p c frame h in
     let s : ℕ = stated_sizes words in
-    let q : ℕ = p + length (doc_words format_one c) in
-    let r = laws.rise format_one (stated_documents words) c.list h.list in
+    let q : ℕ = p + length (doc_words format c) in
+    let r = laws.rise format (stated_documents words) c.list h.list in
     let within : stated_sizes words ≤ length words = omega (arith, frame.whole) in
-    let fit : p + length (doc_words format_one c) + length (freq_words format_one c) ≤ stated_sizes words = h.within in
-    sequence-is laws.stand words q s (stated_freq_parts words t) (stated_length words t) (2 ^ 36) (words_used (freqs_view c)) (freqs_view c) (omega arith) (omega (arith, fit)) within
-    (begins-in words q s (stated_length words t) (2 ^ 36) (stated_freq_parts words t) (freqs_view c) fit within r.sums_rise r.sums_below (r.sums_count ∙ n.len)
+    let fit : p + length (doc_words format c) + length (freq_words format c) ≤ stated_sizes words = h.within in
+    sequence-is words q s (stated_freq_parts words t) (stated_length words t) format.most_sum (words_used (freqs_view format c)) (freqs_view format c) laws.stand (omega arith) (omega (arith, fit)) within
+    (begins-in format words q s (stated_length words t) format.most_sum (stated_freq_parts words t) (freqs_view format c) fit within r.sums_rise r.sums_below (r.sums_count ∙ n.len)
     (subst (λ k. IsPartition k c.parts.freq_ends) n.len h.freq_parts) n.freq_count h.freqs)
 
 -- the steps of a list's frequency sequence are its frequencies
-pub greatest-step : Below → (n : ℕ) (list : List Posting) → IsPostingList format_one n list → greatest (steps_from 0 (freq_sequence list)) ≡ greatest_freq list
-greatest-step laws n list h =
-    let r = laws.rise format_one n list h in
+pub greatest-step : (format : FormatNumbers) → Below format → (n : ℕ) (list : List Posting) → IsPostingList format n list → greatest (steps_from 0 (freq_sequence list)) ≡ greatest_freq list
+greatest-step format laws n list h =
+    let r = laws.rise format n list h in
     let same : length (doc_sequence list) ≡ length (freq_sequence list) = r.docs_count ∙ sym r.sums_count in
     ap greatest (sym (freqs-of_postings (doc_sequence list) (steps_from 0 (freq_sequence list)) (same-steps (doc_sequence list) (freq_sequence list) same)))
-    ∙ ap greatest_freq (laws.give format_one n list h)
+    ∙ ap greatest_freq (laws.give format n list h)
 
 -- no check breaks for a list that stands
-can-begin : Below → (words : List ℕ) (t p : ℕ) (c : CutList) → HasFrame format_one words → StandsAt format_one words t p c
-    → cannot_begin format_one (term_word words t 0) p (stated_documents words) (stated_length words t) (stated_doc_parts words t) (stated_freq_parts words t) (stated_sizes words) ≡ false
-can-begin laws words t p c frame h =
-    let n = counts words t p c frame h in
+can-begin : (format : FormatNumbers) (room : HasRoom format) → Below format → (words : List ℕ) (t p : ℕ) (c : CutList) → HasFrame format words → StandsAt format words t p c
+    → cannot_begin format (term_word words t 0) p (stated_documents words) (stated_length words t) (stated_doc_parts words t) (stated_freq_parts words t) (stated_sizes words) ≡ false
+can-begin format room laws words t p c frame h =
+    let n = counts format room words t p c frame h in
     let a = not (term_word words t 0 == p) in
     let b = nat_lt (stated_documents words) (stated_length words t) in
     let d = not (parts_fit (stated_length words t) (stated_doc_parts words t)) in
     let e = not (parts_fit (stated_length words t) (stated_freq_parts words t)) in
-    let f = nat_lt (stated_sizes words) (p + 2 * stated_doc_parts words t) in
-    let docs = (docs-at laws words t p c frame h).passes in
-    let freqs = (freqs-at laws words t p c frame h).passes in
+    let f = nat_lt (stated_sizes words) (p + entry_words format * stated_doc_parts words t) in
+    let docs = (docs-at format room laws words t p c frame h).passes in
+    let freqs = (freqs-at format room laws words t p c frame h).passes in
     or-both (a || b || d || e) f
     (or-both (a || b || d) e
     (or-both (a || b) d
     (or-both a b (false-not (term_word words t 0 == p) (true-same (term_word words t 0) p h.docs_word)) (false-lt (stated_documents words) (stated_length words t) (omega (arith, n.few, n.len))))
     (false-not (parts_fit (stated_length words t) (stated_doc_parts words t)) docs.parts_are))
     (false-not (parts_fit (stated_length words t) (stated_freq_parts words t)) freqs.parts_are))
-    (false-lt (stated_sizes words) (p + 2 * stated_doc_parts words t) docs.room)
+    (false-lt (stated_sizes words) (p + entry_words format * stated_doc_parts words t) docs.room)
 
-freqs-can-begin : Below → (words : List ℕ) (t p : ℕ) (c : CutList) → HasFrame format_one words → StandsAt format_one words t p c
-    → (not (term_word words t 1 == p + length (doc_words format_one c)) || nat_lt (stated_sizes words) (p + length (doc_words format_one c) + 2 * stated_freq_parts words t)) ≡ false
-freqs-can-begin laws words t p c frame h =
-    let q : ℕ = p + length (doc_words format_one c) in
+freqs-can-begin : (format : FormatNumbers) (room : HasRoom format) → Below format → (words : List ℕ) (t p : ℕ) (c : CutList) → HasFrame format words → StandsAt format words t p c
+    → (not (term_word words t 1 == p + length (doc_words format c)) || nat_lt (stated_sizes words) (p + length (doc_words format c) + entry_words format * stated_freq_parts words t)) ≡ false
+freqs-can-begin format room laws words t p c frame h =
+    let q : ℕ = p + length (doc_words format c) in
     let a = not (term_word words t 1 == q) in
-    let f = nat_lt (stated_sizes words) (q + 2 * stated_freq_parts words t) in
-    or-both a f (false-not (term_word words t 1 == q) (true-same (term_word words t 1) q h.freqs_word)) (false-lt (stated_sizes words) (q + 2 * stated_freq_parts words t) (freqs-at laws words t p c frame h).passes.room)
+    let f = nat_lt (stated_sizes words) (q + entry_words format * stated_freq_parts words t) in
+    or-both a f (false-not (term_word words t 1 == q) (true-same (term_word words t 1) q h.freqs_word)) (false-lt (stated_sizes words) (q + entry_words format * stated_freq_parts words t) (freqs-at format room laws words t p c frame h).passes.room)
 
-pub no-fault : Below → (words : List ℕ) (t p : ℕ) (c : CutList) (f : OpenFault) → HasFrame format_one words → StandsAt format_one words t p c → IsTermFault format_one words t p f → ⊥
-no-fault laws words t p c f frame h fault =
-    let n = counts words t p c frame h in
+pub no-fault : (format : FormatNumbers) (room : HasRoom format) → Below format → (words : List ℕ) (t p : ℕ) (c : CutList) (f : OpenFault) → HasFrame format words → StandsAt format words t p c → IsTermFault format words t p f → ⊥
+no-fault format room laws words t p c f frame h fault =
+    let n = counts format room words t p c frame h in
     let s : ℕ = stated_sizes words in
-    let q : ℕ = p + length (doc_words format_one c) in
-    let docs = docs-at laws words t p c frame h in
-    let freqs = freqs-at laws words t p c frame h in
-    let one : InDocs words t p f =
-    match-later (cannot_begin format_one (term_word words t 0) p (stated_documents words) (stated_length words t) (stated_doc_parts words t) (stated_freq_parts words t) (stated_sizes words))
-    (IsAt f t K6 0) (InDocs words t p f) (can-begin laws words t p c frame h) fault in
-    let two : IsFreqsFault format_one words t (word_behind format_one words p (stated_doc_parts words t)) f =
-    later-of words s p (stated_doc_parts words t) (stated_length words t) (stated_documents words) (IsAt f t) (IsFreqsFault format_one words t (word_behind format_one words p (stated_doc_parts words t)) f)
+    let q : ℕ = p + length (doc_words format c) in
+    let docs = docs-at format room laws words t p c frame h in
+    let freqs = freqs-at format room laws words t p c frame h in
+    let one : InDocs format words t p f =
+    match-later (cannot_begin format (term_word words t 0) p (stated_documents words) (stated_length words t) (stated_doc_parts words t) (stated_freq_parts words t) (stated_sizes words))
+    (IsAt f t K6 0) (InDocs format words t p f) (can-begin format room laws words t p c frame h) fault in
+    let two : IsFreqsFault format words t (word_behind format words p (stated_doc_parts words t)) f =
+    later-of format words s p (stated_doc_parts words t) (stated_length words t) (stated_documents words) (IsAt f t) (IsFreqsFault format words t (word_behind format words p (stated_doc_parts words t)) f)
     docs.passes.none one in
-    let three : InFreqs words t q f =
-    match-later (not (term_word words t 1 == q) || nat_lt s (q + 2 * stated_freq_parts words t)) (IsAt f t K6 (stated_doc_parts words t)) (InFreqs words t q f)
-    (freqs-can-begin laws words t p c frame h) (subst (λ x. IsFreqsFault format_one words t x f) docs.passes.behind two) in
-    let four : PassButGreatest words t q f =
-    later-of words s q (stated_freq_parts words t) (stated_length words t) (2 ^ 36) (λ check i. IsAt f t check (stated_doc_parts words t + i)) (PassButGreatest words t q f) freqs.passes.none three in
+    let three : InFreqs format words t q f =
+    match-later (not (term_word words t 1 == q) || nat_lt s (q + entry_words format * stated_freq_parts words t)) (IsAt f t K6 (stated_doc_parts words t)) (InFreqs format words t q f)
+    (freqs-can-begin format room laws words t p c frame h) (subst (λ x. IsFreqsFault format words t x f) docs.passes.behind two) in
+    let four : PassButGreatest format words t q f =
+    later-of format words s q (stated_freq_parts words t) (stated_length words t) format.most_sum (λ check i. IsAt f t check (stated_doc_parts words t + i)) (PassButGreatest format words t q f) freqs.passes.none three in
     four.0 (
       freq_sequence c.list,
       c.parts.freq_ends,
-      words_used (freqs_view c),
-      begins-at words q s (stated_freq_parts words t) (stated_length words t) (2 ^ 36) (freqs_view c) (omega (arith, frame.whole)) freqs,
-      greatest-step laws (stated_documents words) c.list h.list ∙ n.most,
+      words_used (freqs_view format c),
+      begins-at words q s (stated_freq_parts words t) (stated_length words t) format.most_sum (freqs_view format c) (omega (arith, frame.whole)) freqs,
+      greatest-step format laws (stated_documents words) c.list h.list ∙ n.most,
     )
 
 -- one list only stands at a term and a word
@@ -176,22 +177,22 @@ same-list c d a b e =
     x ∙ ap (λ l. record { list = d.list; parts = record { doc_ends = l; freq_ends = c.parts.freq_ends } }) b in
     y ∙ ap (λ l. record { list = d.list; parts = record { doc_ends = d.parts.doc_ends; freq_ends = l } }) e
 
-pub stand-one : Below → (words : List ℕ) (t p : ℕ) (c d : CutList) → HasFrame format_one words → StandsAt format_one words t p c → StandsAt format_one words t p d → c ≡ d
-stand-one laws words t p c d frame h k =
+pub stand-one : (format : FormatNumbers) (room : HasRoom format) → Below format → (words : List ℕ) (t p : ℕ) (c d : CutList) → HasFrame format words → StandsAt format words t p c → StandsAt format words t p d → c ≡ d
+stand-one format room laws words t p c d frame h k =
     let n : ℕ = stated_documents words in
     let s : ℕ = stated_sizes words in
     let m : ℕ = stated_length words t in
     let within : stated_sizes words ≤ length words = omega (arith, frame.whole) in
-    let small : stated_documents words ≤ 2 ^ 36 = omega (arith, frame.documents) in
-    let docs = laws.one m n n (stated_doc_parts words t) (words_used (docs_view c)) (words_used (docs_view d)) (doc_sequence c.list) (doc_sequence d.list) c.parts.doc_ends d.parts.doc_ends (drop p words) small small
-    (begins-at words p s (stated_doc_parts words t) m n (docs_view c) within (docs-at laws words t p c frame h))
-    (begins-at words p s (stated_doc_parts words t) m n (docs_view d) within (docs-at laws words t p d frame k)) in
-    let next : p + length (doc_words format_one d) ≡ p + length (doc_words format_one c) = ap (λ i. p + i) (sym docs.2) in
-    let q : ℕ = p + length (doc_words format_one c) in
-    let freqs = laws.one m (2 ^ 36) (2 ^ 36) (stated_freq_parts words t) (words_used (freqs_view c)) (words_used (freqs_view d)) (freq_sequence c.list) (freq_sequence d.list) c.parts.freq_ends d.parts.freq_ends (drop q words) (omega arith) (omega arith)
-    (begins-at words q s (stated_freq_parts words t) m (2 ^ 36) (freqs_view c) within (freqs-at laws words t p c frame h))
-    (begins-at words q s (stated_freq_parts words t) m (2 ^ 36) (freqs_view d) within
-    (subst (λ i. IsSequenceAt words i (stated_sizes words) (stated_freq_parts words t) (stated_length words t) (2 ^ 36) (freqs_view d)) next (freqs-at laws words t p d frame k))) in
+    let small : stated_documents words ≤ format.most_sum = omega (arith, frame.documents, room.documents) in
+    let docs = laws.one m n n (stated_doc_parts words t) (words_used (docs_view format c)) (words_used (docs_view format d)) (doc_sequence c.list) (doc_sequence d.list) c.parts.doc_ends d.parts.doc_ends (drop p words) small small
+    (begins-at words p s (stated_doc_parts words t) m n (docs_view format c) within (docs-at format room laws words t p c frame h))
+    (begins-at words p s (stated_doc_parts words t) m n (docs_view format d) within (docs-at format room laws words t p d frame k)) in
+    let next : p + length (doc_words format d) ≡ p + length (doc_words format c) = ap (λ i. p + i) (sym docs.2) in
+    let q : ℕ = p + length (doc_words format c) in
+    let freqs = laws.one m format.most_sum format.most_sum (stated_freq_parts words t) (words_used (freqs_view format c)) (words_used (freqs_view format d)) (freq_sequence c.list) (freq_sequence d.list) c.parts.freq_ends d.parts.freq_ends (drop q words) (omega arith) (omega arith)
+    (begins-at words q s (stated_freq_parts words t) m format.most_sum (freqs_view format c) within (freqs-at format room laws words t p c frame h))
+    (begins-at words q s (stated_freq_parts words t) m format.most_sum (freqs_view format d) within
+    (subst (λ i. IsSequenceAt words i (stated_sizes words) (stated_freq_parts words t) (stated_length words t) format.most_sum (freqs_view format d)) next (freqs-at format room laws words t p d frame k))) in
     same-list c d
-    (sym (laws.give format_one n c.list h.list) ∙ ap (λ xs. postings_in xs (freq_sequence c.list)) docs.0 ∙ ap (postings_in (doc_sequence d.list)) freqs.0 ∙ laws.give format_one n d.list k.list)
+    (sym (laws.give format n c.list h.list) ∙ ap (λ xs. postings_in xs (freq_sequence c.list)) docs.0 ∙ ap (postings_in (doc_sequence d.list)) freqs.0 ∙ laws.give format n d.list k.list)
     docs.1 freqs.1

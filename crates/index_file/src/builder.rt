@@ -1,15 +1,18 @@
 ghost use Rattle.std.specs.Prelude.{◌≡◌, ℕ, ◌≤◌, ◌<◌, ◌+◌, ◌*◌, ◌/◌, ◌^◌, List, [], length, IfOk, OnOk, OnErr};
-ghost use Rattle.collection_model.specs.FormatNumbers.{format_one, most_terms};
+ghost use Rattle.collection_model.specs.FormatNumbers.{most_terms, part_charge};
 ghost use Rattle.collection_model.specs.Collection.{postings_of, IsPostingList};
 ghost use Rattle.collection_model.specs.Sequences.{doc_sequence};
+ghost use Rattle.part_cost.specs.Formats.{numbers_of};
 ghost use Rattle.part_cost.specs.Span.{cost_of_part};
 ghost use Rattle.part_cost.specs.Partition.{partition_cost};
+ghost use Rattle.cost_windows.specs.WindowBounds.{window_bounds};
 ghost use Rattle.index_file.specs.FileWords.{CutList, words_of_file};
 ghost use Rattle.index_file.specs.Builder.{StandsFor, IsNearCut, AddsList, lists_added, most_words, cut_list, with_list};
 
 use crate::entries::{list_entry, push_sizes};
-use crate::frame::{END_MAGIC, LIST_WORDS, OPENING_MAGIC, VERSION, WORDS_BEHIND};
+use crate::frame::{END_MAGIC, LIST_WORDS, OPENING_MAGIC, WORDS_BEHIND};
 use crate::partitions::cut;
+use part_cost::{Format, formats_have_room};
 use partition_path::Cuts;
 use postings::{NoMemory, doc_values, freq_sums, sequences_of_a_list_rise, write_postings};
 use std::alloc::Global;
@@ -30,10 +33,11 @@ pub enum FinishError {
     NoMemory,
 }
 
-/// The words of an index, list by list.
+/// The words of an index in a format, list by list.
 #[derive(Drop)]
 pub struct Builder {
     alloc: Global,
+    format: Format,
     documents: u32,
     words: Vec<u64>,
     directory: Vec<u64>,
@@ -45,23 +49,25 @@ impl Model for Builder {
 
     ghost Value = { Built };
 
-    ghost view = { λ b. record { documents = b.documents; words = drop 2 b.words.items; directory = b.directory.items } };
+    ghost view = { λ b. record { format = b.format; documents = b.documents; words = drop 2 b.words.items; directory = b.directory.items } };
 
-    ghost invariant = { λ b. IsKept b.documents b.words.items b.directory.items };
+    ghost invariant = { λ b. IsKept b.format b.documents b.words.items b.directory.items };
 }
 
 impl Builder {
-    /// The builder of an index of so many documents, with no list.
-    pub fn new(alloc: Global, documents: u32) -> Result<Builder, NoMemory>
-        requires few { documents ≤ format_one.most_documents }
+    /// The builder of an index of so many documents in a format, with no list.
+    pub fn new(alloc: Global, documents: u32, format: Format) -> Result<Builder, NoMemory>
+        requires few { documents ≤ (numbers_of format).most_documents }
+        ensures format { IfOk result (λ b. b.format ≡ format) }
         ensures documents { IfOk result (λ b. b.documents ≡ documents) }
         ensures no_list { IfOk result (λ b. StandsFor b []) }
     {
         let mut words = Vec::new(alloc);
-        words.extend_from_slice(&[OPENING_MAGIC, VERSION])?;
+        words.extend_from_slice(&[OPENING_MAGIC, format.version()])?;
         let directory = Vec::new(alloc);
         Ok(Builder {
             alloc,
+            format,
             documents,
             words,
             directory,
@@ -76,16 +82,27 @@ impl Builder {
         steps: &mut Steps<L>,
     ) -> Result<(), NoMemory>
         requires same_length { length docs.now ≡ length freqs.now }
-        requires list { IsPostingList format_one self.old.documents (postings_of docs.now freqs.now) }
+        requires list { IsPostingList (numbers_of self.old.format) self.old.documents (postings_of docs.now freqs.now) }
         requires room { lists_added self.old < most_terms }
         ensures ok { OnOk result (AddsList self.old self.new (postings_of docs.now freqs.now) steps.old steps.new) }
         ensures err { OnErr result (self.new ≡ self.old) }
-        // At most 3 * 114 counted costs for each number and one more, in each of the two sequences.
-        ensures bounded { steps.new ≤ steps.old + 6 * 114 * (length docs.now + 1) }
+        // At most three counted costs a window for each number and one more, in each of the two sequences.
+        ensures bounded { steps.new ≤ steps.old + 6 * length (window_bounds self.old.format) * (length docs.now + 1) }
     {
         sequences_of_a_list_rise();
-        let doc_cuts = cut(self.alloc, &doc_values(self.alloc, docs)?, steps)?;
-        let freq_cuts = cut(self.alloc, &freq_sums(self.alloc, freqs)?, steps)?;
+        formats_have_room();
+        let doc_cuts = cut(
+            self.alloc,
+            &doc_values(self.alloc, docs)?,
+            self.format,
+            steps,
+        )?;
+        let freq_cuts = cut(
+            self.alloc,
+            &freq_sums(self.alloc, freqs)?,
+            self.format,
+            steps,
+        )?;
         self.append(docs, freqs, &doc_cuts, &freq_cuts)
     }
 
@@ -98,14 +115,15 @@ impl Builder {
         freq_cuts: &Cuts,
     ) -> Result<(), NoMemory>
         requires same_length { length docs.now ≡ length freqs.now }
-        requires list { IsPostingList format_one self.old.documents (postings_of docs.now freqs.now) }
+        requires list { IsPostingList (numbers_of self.old.format) self.old.documents (postings_of docs.now freqs.now) }
         requires room { lists_added self.old < most_terms }
-        requires near { IsNearCut (cut_list docs.now freqs.now doc_cuts.now.ends freq_cuts.now.ends) }
-        requires total { doc_cuts.now.total ≡ partition_cost (cost_of_part format_one.charge (doc_sequence (postings_of docs.now freqs.now))) doc_cuts.now.ends }
+        requires near { IsNearCut (numbers_of self.old.format) (cut_list docs.now freqs.now doc_cuts.now.ends freq_cuts.now.ends) }
+        requires total { doc_cuts.now.total ≡ partition_cost (cost_of_part (part_charge (numbers_of self.old.format)) (doc_sequence (postings_of docs.now freqs.now))) doc_cuts.now.ends }
         ensures ok { OnOk result (self.new ≡ with_list self.old (cut_list docs.now freqs.now doc_cuts.now.ends freq_cuts.now.ends)) }
         ensures err { OnErr result (self.new ≡ self.old) }
     {
         sequence_takes_its_cost();
+        formats_have_room();
         let first = self.words.len();
         let entry = list_entry(first as u64, freqs, doc_cuts, freq_cuts);
         write_postings(
@@ -114,6 +132,7 @@ impl Builder {
             freqs,
             doc_cuts.ends(),
             freq_cuts.ends(),
+            self.format,
             &mut self.words,
         )?;
         if self.directory.extend_from_slice(&entry).is_err() {
@@ -126,13 +145,13 @@ impl Builder {
     /// The words of the file of the lists, with these sizes. A file of more than 2^37 words is refused before memory is taken.
     pub fn finish(self, sizes: &[u32]) -> Result<Vec<u64>, FinishError>
         requires sizes { length sizes.now ≡ self.documents }
-        ensures words { (cs : List CutList) → StandsFor self cs → IfOk result (λ words. words.items ≡ words_of_file format_one self.documents cs sizes.now) }
+        ensures words { (cs : List CutList) → StandsFor self cs → IfOk result (λ words. words.items ≡ words_of_file (numbers_of self.format) self.documents cs sizes.now) }
         ensures within { IfOk result (λ words. length words.items ≤ most_words) }
         ensures too_large { (n : ℕ) → result ≡ Err (FinishError.TooLarge n) → most_words < n }
         ensures would_be { (n : ℕ) → result ≡ Err (FinishError.TooLarge n)
-            → (cs : List CutList) → StandsFor self cs → n ≡ length (words_of_file format_one self.documents cs sizes.now) }
-        ensures refused { (cs : List CutList) → StandsFor self cs → most_words < length (words_of_file format_one self.documents cs sizes.now)
-            → result ≡ Err (FinishError.TooLarge (length (words_of_file format_one self.documents cs sizes.now))) }
+            → (cs : List CutList) → StandsFor self cs → n ≡ length (words_of_file (numbers_of self.format) self.documents cs sizes.now) }
+        ensures refused { (cs : List CutList) → StandsFor self cs → most_words < length (words_of_file (numbers_of self.format) self.documents cs sizes.now)
+            → result ≡ Err (FinishError.TooLarge (length (words_of_file (numbers_of self.format) self.documents cs sizes.now))) }
     {
         let count = self.count_words(sizes.len() as u64);
         if count > MOST_WORDS {
@@ -151,10 +170,11 @@ impl Builder {
 
     // The words of the file.
     fn into_words(self, sizes: &[u32]) -> Result<Vec<u64>, NoMemory>
-        ensures { (cs : List CutList) → StandsFor self cs → IfOk result (λ words. words.items ≡ words_of_file format_one self.documents cs sizes.now) }
+        ensures { (cs : List CutList) → StandsFor self cs → IfOk result (λ words. words.items ≡ words_of_file (numbers_of self.format) self.documents cs sizes.now) }
     {
         let Builder {
             alloc: _,
+            format: _,
             documents,
             mut words,
             directory,

@@ -1,21 +1,23 @@
 ghost use Rattle.std.specs.Prelude.{◌≡◌, ℕ, ◌≤◌, ◌<◌, ◌+◌, ◌^◌, List, length, None, IfOk, IfErr, IfSome, OnOk};
-ghost use Rattle.collection_model.specs.FormatNumbers.{format_one};
+ghost use Rattle.part_cost.specs.declared.formats.Format.{Format};
+ghost use Rattle.part_cost.specs.Formats.{numbers_of};
 ghost use Rattle.index_file.specs.FileWords.{CutList, lists_words, IsIndex};
 ghost use Rattle.index_file.specs.FirstBroken.{stated_terms, IsFileFront, IsClosingFault, IsFirstBroken};
 ghost use Rattle.index_file.specs.ListAt.{HasFrame, IsFirstListFault, PassesClosing};
 
 use crate::fault::OpenFault;
-use crate::frame::{WORDS_BEFORE, directory_of, frame_fault, frame_of};
+use crate::frame::{WORDS_BEFORE, directory_of, format_of, frame_fault, frame_of};
 use crate::lists::{HALF, check_list};
+use part_cost::Format;
 use postings::{sequences_give_their_list, sequences_of_a_list_rise};
 use two_level::{Check, checks_stand_at_a_word, one_sequence};
 
 // Looks for the first check of the lists that breaks, and answers the word behind their sequences.
-fn check_lists(words: &[u64]) -> Result<u64, OpenFault>
+fn check_lists(words: &[u64], format: Format) -> Result<u64, OpenFault>
     requires words { length words.now < 2 ^ 57 }
-    requires frame { HasFrame format_one words.now }
-    ensures ok { IfOk result (λ p. (cs : List CutList) × IsFileFront format_one words.now cs × (length cs ≡ stated_terms words.now) × (p ≡ 2 + length (lists_words format_one cs))) }
-    ensures first { IfErr result (λ f. IsFirstListFault format_one words.now f) }
+    requires frame { HasFrame (numbers_of format) words.now }
+    ensures ok { IfOk result (λ p. (cs : List CutList) × IsFileFront (numbers_of format) words.now cs × (length cs ≡ stated_terms words.now) × (p ≡ 2 + length (lists_words (numbers_of format) cs))) }
+    ensures first { IfErr result (λ f. IsFirstListFault (numbers_of format) words.now f) }
 {
     checks_stand_at_a_word();
     one_sequence();
@@ -24,7 +26,7 @@ fn check_lists(words: &[u64]) -> Result<u64, OpenFault>
     let terms = frame_of(words).terms as u32;
     let mut p = WORDS_BEFORE;
     for t in 0..terms {
-        p = check_list(words, t, p)?;
+        p = check_list(words, t, p, format)?;
     }
     Ok(p)
 }
@@ -32,7 +34,7 @@ fn check_lists(words: &[u64]) -> Result<u64, OpenFault>
 // The check behind all lists that breaks, where p is the next word.
 fn closing_fault(words: &[u64], p: u64) -> Option<OpenFault>
     requires words { length words.now < 2 ^ 57 }
-    requires frame { HasFrame format_one words.now }
+    requires frame { (format : Format) × HasFrame (numbers_of format) words.now }
     ensures some { IfSome result (λ f. IsClosingFault words.now p f) }
     ensures none { result ≡ None → PassesClosing words.now p }
 {
@@ -58,17 +60,18 @@ fn closing_fault(words: &[u64], p: u64) -> Option<OpenFault>
 // Looks for the first check of the words that breaks.
 pub(crate) fn check_file(words: &[u64]) -> Result<(), OpenFault>
     requires words { length words.now < 2 ^ 57 }
-    ensures ok { OnOk result (IsIndex format_one words.now) }
-    ensures first { IfErr result (λ f. IsFirstBroken format_one words.now f) }
+    ensures ok { OnOk result (IsIndex words.now) }
+    ensures first { IfErr result (λ f. IsFirstBroken words.now f) }
 {
-    if let Some(check) = frame_fault(words) {
+    let format = format_of(words);
+    if let Some(check) = frame_fault(words, format) {
         return Err(OpenFault {
             check,
             term: 0,
             part: 0,
         });
     }
-    let p = check_lists(words)?;
+    let p = check_lists(words, format)?;
     match closing_fault(words, p) {
         Some(fault) => Err(fault),
         None => Ok(()),

@@ -1,7 +1,9 @@
 ghost use Rattle.std.specs.Prelude.{◌≡◌, ◌≤◌, ◌<◌, ◌+◌, ◌/◌, ◌^◌, length};
-ghost use Rattle.collection_model.specs.FormatNumbers.{format_one};
+ghost use Rattle.part_cost.specs.Formats.{numbers_of};
+ghost use Rattle.index_file.specs.FileWords.{format_read};
 ghost use Rattle.index_file.specs.FirstBroken.{stated_documents, stated_terms, stated_sizes, numbers_break, frame_broken};
 
+use part_cost::Format;
 use two_level::Check;
 
 /// The word at the beginning of a file, the bytes `PEFINDEX`.
@@ -9,12 +11,6 @@ pub(crate) const OPENING_MAGIC: u64 = 6_360_565_151_758_173_520;
 
 /// The word at the end of a file, the bytes `XEDNIFEP`.
 pub(crate) const END_MAGIC: u64 = 5_784_106_577_086_924_120;
-
-/// The version of the format.
-pub(crate) const VERSION: u64 = 1;
-
-/// The greatest number of documents.
-pub(crate) const MOST_DOCUMENTS: u64 = 268_435_455;
 
 /// The greatest number of lists.
 pub(crate) const MOST_TERMS: u64 = 4_294_967_295;
@@ -37,6 +33,17 @@ pub(crate) struct Frame {
     pub(crate) sizes: u64,
 }
 
+// The format whose version is word 1. Words with the version of no format are read in the first.
+pub(crate) fn format_of(words: &[u64]) -> Format
+    ensures { result ≡ format_read words.now }
+{
+    if words.len() > 1 && words[1] == Format::Two.version() {
+        Format::Two
+    } else {
+        Format::One
+    }
+}
+
 // The numbers at the end of the words.
 pub(crate) fn frame_of(words: &[u64]) -> Frame
     requires some { 4 ≤ length words.now }
@@ -53,16 +60,15 @@ pub(crate) fn frame_of(words: &[u64]) -> Frame
 
 // The first directory word.
 pub(crate) fn directory_of(frame: Frame) -> u64
-    requires few { frame.documents ≤ format_one.most_documents }
-    requires small { frame.sizes < 2 ^ 57 }
+    requires small { frame.sizes + (frame.documents + 1) / 2 < 2 ^ 57 }
     ensures { result ≡ frame.sizes + (frame.documents + 1) / 2 }
 {
     frame.sizes + frame.documents.div_ceil(2)
 }
 
 // The check of the frame that breaks.
-pub(crate) fn frame_fault(words: &[u64]) -> Option<Check>
-    ensures { result ≡ frame_broken format_one words.now }
+pub(crate) fn frame_fault(words: &[u64], format: Format) -> Option<Check>
+    ensures { result ≡ frame_broken (numbers_of format) words.now }
 {
     if words.len() < 6 {
         return Some(Check::K1);
@@ -70,27 +76,27 @@ pub(crate) fn frame_fault(words: &[u64]) -> Option<Check>
     if words[0] != OPENING_MAGIC {
         return Some(Check::K2);
     }
-    if words[1] != VERSION {
+    if words[1] != format.version() {
         return Some(Check::K3);
     }
     if words[words.len() - 1] != END_MAGIC {
         return Some(Check::K4);
     }
-    if numbers_break(frame_of(words), words.len() as u64) {
+    if numbers_break(frame_of(words), words.len() as u64, format) {
         return Some(Check::K5);
     }
     None
 }
 
 // Whether the numbers at the end of so many words can't be theirs.
-fn numbers_break(frame: Frame, count: u64) -> bool
-    ensures { result ≡ numbers_break format_one frame.documents frame.terms frame.sizes count }
+pub(crate) fn numbers_break(frame: Frame, count: u64, format: Format) -> bool
+    ensures { result ≡ numbers_break (numbers_of format) frame.documents frame.terms frame.sizes count }
 {
     let stated = u128::from(frame.sizes)
         + u128::from(frame.documents).div_ceil(2)
         + u128::from(LIST_WORDS) * u128::from(frame.terms)
         + u128::from(WORDS_BEHIND);
-    frame.documents > MOST_DOCUMENTS
+    frame.documents > u64::from(format.most_documents())
         || frame.terms > MOST_TERMS
         || frame.sizes < WORDS_BEFORE
         || stated != u128::from(count)

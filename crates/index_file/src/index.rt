@@ -1,22 +1,23 @@
 ghost use Rattle.std.specs.Prelude.{◌≡◌, ℕ, ◌≤◌, ◌<◌, ◌^◌, List, length, drop, sum, slice_index, IfOk, IfErr};
-ghost use Rattle.collection_model.specs.FormatNumbers.{format_one};
-ghost use Rattle.collection_model.specs.Collection.{Collection, list_of};
+ghost use Rattle.collection_model.specs.Collection.{Collection, WellFormed, list_of};
+ghost use Rattle.part_cost.specs.Formats.{numbers_of};
 ghost use Rattle.two_level.specs.SequenceView.{SequenceView, BeginWith};
-ghost use Rattle.index_file.specs.FileWords.{ListParts, Spells, IsIndex};
+ghost use Rattle.index_file.specs.FileWords.{ListParts, ArePartitions, Spells, IsIndexIn, IsIndex};
 ghost use Rattle.index_file.specs.FirstBroken.{stated_terms, IsFirstBroken};
 ghost use Rattle.index_file.specs.IndexView as of;
 
 use crate::checking::check_file;
 use crate::fault::OpenFault;
-use crate::frame::frame_of;
+use crate::frame::{format_of, frame_of};
 use crate::lists::list_entry;
 use crate::totals::{all_postings, all_sizes, size_at};
 use cursor_api::DocCursor;
+use part_cost::Format;
 use postings::{PostingCursor, sequences_give_their_list, sequences_of_a_list_rise};
 use std::marker::Model;
 use two_level::{SeqView, checks_stand_at_a_word, one_sequence, words_state_their_sequence};
 
-/// An index over the words of its file.
+/// An index over the words of its file, in the format whose version is word 1.
 #[derive(Drop)]
 pub struct Index<'a> {
     words: &'a [u64],
@@ -24,7 +25,7 @@ pub struct Index<'a> {
 
 impl<'a> Model for Index<'a> {
     ghost use Rattle.std.specs.Prelude.{◌<◌, ◌^◌, length};
-    ghost use Rattle.collection_model.specs.FormatNumbers.{format_one};
+    ghost use Rattle.part_cost.specs.Formats.{numbers_of};
     ghost use Rattle.index_file.specs.FileWords.{Spells};
     ghost use Rattle.index_file.specs.IndexView.{IndexView, index_stated};
 
@@ -32,16 +33,16 @@ impl<'a> Model for Index<'a> {
 
     ghost view = { λ i. index_stated i.words.now };
 
-    ghost invariant = { λ i. Spells format_one i.words.now (index_stated i.words.now).collection (index_stated i.words.now).parts × (length i.words.now < 2 ^ 57) };
+    ghost invariant = { λ i. Spells (numbers_of (index_stated i.words.now).format) i.words.now (index_stated i.words.now).collection (index_stated i.words.now).parts × (length i.words.now < 2 ^ 57) };
 }
 
 impl<'a> Index<'a> {
-    /// The index that the words are, or their first broken check.
+    /// The index that the words are, in the format whose version they state, or their first broken check.
     pub fn view(words: &'a [u64]) -> Result<Index<'a>, OpenFault>
         requires words { length words.now < 2 ^ 57 }
-        ensures ok { IfOk result (λ index. Spells format_one words.entry.now index.collection index.parts) }
-        ensures no_index { IfErr result (λ f. ¬ IsIndex format_one words.entry.now) }
-        ensures first { IfErr result (λ f. IsFirstBroken format_one words.entry.now f) }
+        ensures ok { IfOk result (λ index. Spells (numbers_of index.format) words.entry.now index.collection index.parts) }
+        ensures no_index { IfErr result (λ f. ¬ IsIndex words.entry.now) }
+        ensures first { IfErr result (λ f. IsFirstBroken words.entry.now f) }
     {
         checks_stand_at_a_word();
         one_sequence();
@@ -50,6 +51,21 @@ impl<'a> Index<'a> {
         words_state_their_sequence();
         check_file(words)?;
         Ok(Index { words })
+    }
+
+    /// What every index is: its collection is well formed in its format, and the sequences of its lists are cut into partitions.
+    pub fn stands_for_a_collection(&self)
+        ensures well_formed { WellFormed (numbers_of self.now.format) self.now.collection }
+        ensures partitions { ArePartitions self.now.collection.lists self.now.parts }
+    {
+        let _words = self.words;
+    }
+
+    /// The format of the file.
+    pub fn format(&self) -> Format
+        ensures { result ≡ self.now.format }
+    {
+        format_of(self.words)
     }
 
     /// How many documents there are.
@@ -101,26 +117,26 @@ impl<'a> Index<'a> {
         ensures list { ⟦<PostingCursor<'a> as DocCursor>⟧.list result ≡ list_of self.now.collection t }
         ensures start { ⟦<PostingCursor<'a> as DocCursor>⟧.place result ≡ 0 }
     {
-        cursor_at(self.words, t)
+        cursor_at(self.words, t, self.format())
     }
 }
 
 // The sequence of m values in so many parts with which the words from word p on begin.
-fn known_at<'a>(words: &'a [u64], p: u64, parts: u32, m: u32) -> SeqView<'a>
+fn known_at<'a>(words: &'a [u64], p: u64, parts: u32, m: u32, format: Format) -> SeqView<'a>
     requires words { length words.now < 2 ^ 57 }
     requires within { p ≤ length words.now }
-    requires checked { (v : SequenceView) × BeginWith (drop p words.now) parts m v }
-    ensures same { (v : SequenceView) → BeginWith (drop p words.entry.now) parts m v → result ≡ v }
+    requires checked { (v : SequenceView) × (v.format ≡ numbers_of format) × BeginWith (drop p words.now) parts m v }
+    ensures same { (v : SequenceView) → v.format ≡ numbers_of format → BeginWith (drop p words.entry.now) parts m v → result ≡ v }
 {
-    SeqView::known(&words[p as usize..], parts, m)
+    SeqView::known(&words[p as usize..], parts, m, format)
 }
 
 // A cursor at the start of list t of the words of an index.
-fn cursor_at<'a>(words: &'a [u64], t: u32) -> PostingCursor<'a>
+fn cursor_at<'a>(words: &'a [u64], t: u32, format: Format) -> PostingCursor<'a>
     requires words { length words.now < 2 ^ 57 }
-    requires index { IsIndex format_one words.now }
+    requires index { IsIndexIn (numbers_of format) words.now }
     requires within { t < stated_terms words.now }
-    ensures list { (c : Collection) (parts : List ListParts) → Spells format_one words.entry.now c parts → ⟦<PostingCursor<'a> as DocCursor>⟧.list result ≡ list_of c t }
+    ensures list { (c : Collection) (parts : List ListParts) → Spells (numbers_of format) words.entry.now c parts → ⟦<PostingCursor<'a> as DocCursor>⟧.list result ≡ list_of c t }
     ensures start { ⟦<PostingCursor<'a> as DocCursor>⟧.place result ≡ 0 }
 {
     checks_stand_at_a_word();
@@ -129,7 +145,7 @@ fn cursor_at<'a>(words: &'a [u64], t: u32) -> PostingCursor<'a>
     sequences_give_their_list();
     words_state_their_sequence();
     let list = list_entry(words, t);
-    let docs = known_at(words, list.docs, list.doc_parts, list.len);
-    let freqs = known_at(words, list.sums, list.sum_parts, list.len);
+    let docs = known_at(words, list.docs, list.doc_parts, list.len, format);
+    let freqs = known_at(words, list.sums, list.sum_parts, list.len, format);
     PostingCursor::new(docs, freqs, list.greatest)
 }

@@ -1,5 +1,4 @@
-ghost use Rattle.collection_model.specs.FormatNumbers.{format_one};
-ghost use Rattle.index_file.specs.Laws.{BytesAreSpelled, FilesSpellCollections, ListsAreCounted, OneBrokenCheck, OneIndex, WordsAreRead};
+ghost use Rattle.index_file.specs.Laws.{BytesAreSpelled, FilesSpellCollections, IndexIsRead, ListsAreCounted, NoVersionBreaks, OneBrokenCheck, OneIndex, WordsAreRead};
 
 use postings::{sequences_give_their_list, sequences_of_a_list_rise};
 use two_level::{checks_stand_at_a_word, one_sequence, words_state_their_sequence};
@@ -21,9 +20,14 @@ pub fn files_spell_collections()
     ensures { FilesSpellCollections }
 {}
 
-/// Words are an index of one collection in one cut only.
+/// An index is read in the format in which it is spelled: word 1 is the version of that format.
+pub fn index_is_read()
+    ensures { IndexIsRead }
+{}
+
+/// Words are an index of one collection in one format and one cut only.
 pub fn one_index()
-    ensures { OneIndex format_one }
+    ensures { OneIndex }
 {
     checks_stand_at_a_word();
     one_sequence();
@@ -34,10 +38,15 @@ pub fn one_index()
 
 /// Words that are no index have one first broken check, and an index has none.
 pub fn one_broken_check()
-    ensures { OneBrokenCheck format_one }
+    ensures { OneBrokenCheck }
 {
     checks_stand_at_a_word();
     one_sequence();
     sequences_of_a_list_rise();
     sequences_give_their_list();
 }
+
+/// Behind the opening word, a word 1 that is the version of no format is the first check that breaks.
+pub fn no_version_breaks()
+    ensures { NoVersionBreaks }
+{}

@@ -21,7 +21,7 @@ pub use bytes::{WordsError, read_words, spell_words};
 pub use fault::OpenFault;
 pub use index::Index;
 pub use laws::{
-    files_spell_collections, lists_are_counted, one_broken_check, one_index,
-    words_and_bytes_undo_each_other,
+    files_spell_collections, index_is_read, lists_are_counted, no_version_breaks, one_broken_check,
+    one_index, words_and_bytes_undo_each_other,
 };
 pub use postings::NoMemory;

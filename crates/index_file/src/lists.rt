@@ -1,5 +1,7 @@
 ghost use Rattle.std.specs.Prelude.{◌≡◌, ℕ, ◌≤◌, ◌<◌, ◌+◌, ◌*◌, ◌/◌, ◌%◌, ◌^◌, ◌==◌, ◌||◌, not, nat_lt, true, length, IfOk, IfErr};
-ghost use Rattle.collection_model.specs.FormatNumbers.{format_one};
+ghost use Rattle.collection_model.specs.FormatNumbers.{entry_words};
+ghost use Rattle.part_cost.specs.declared.formats.Format.{Format};
+ghost use Rattle.part_cost.specs.Formats.{numbers_of};
 ghost use Rattle.two_level.specs.SequenceView.{SequenceView, words_used};
 ghost use Rattle.two_level.specs.SequenceFault.{parts_fit};
 ghost use Rattle.index_file.specs.FileWords.{CutList};
@@ -9,8 +11,9 @@ ghost use Rattle.index_file.specs.ListAt.{HasFrame, StandsAt, FreqsStandAt, word
 use crate::fault::OpenFault;
 use crate::frame::{Frame, LIST_WORDS, directory_of, frame_of};
 use crate::sequences::{Span, greatest_step, sequence_at};
+use part_cost::Format;
 use postings::sequences_are_a_list;
-use two_level::{Check, ENTRY_WORDS, MOST_SUM, SeqFault, one_sequence, parts_fit};
+use two_level::{Check, SeqFault, one_sequence, parts_fit};
 
 /// A half of a word counts so many numbers.
 pub(crate) const HALF: u64 = 1 << 32;
@@ -39,7 +42,7 @@ pub(crate) fn halves(word: u64) -> (u32, u32)
 // The directory words of list t.
 pub(crate) fn list_entry(words: &[u64], t: u32) -> ListEntry
     requires words { length words.now < 2 ^ 57 }
-    requires frame { HasFrame format_one words.now }
+    requires frame { (format : Format) × HasFrame (numbers_of format) words.now }
     requires within { t < stated_terms words.now }
     ensures docs { result.docs ≡ term_word words.now t 0 }
     ensures sums { result.sums ≡ term_word words.now t 1 }
@@ -75,40 +78,40 @@ fn fault_in(t: u32, before: u32, fault: SeqFault) -> OpenFault
 }
 
 // Whether a list can't begin at word p.
-fn cannot_begin(list: ListEntry, p: u64, frame: Frame) -> bool
+fn cannot_begin(list: ListEntry, p: u64, frame: Frame, format: Format) -> bool
     requires small { p < 2 ^ 57 }
-    ensures { result ≡ cannot_begin format_one list.docs p frame.documents list.len list.doc_parts list.sum_parts frame.sizes }
+    ensures { result ≡ cannot_begin (numbers_of format) list.docs p frame.documents list.len list.doc_parts list.sum_parts frame.sizes }
 {
     list.docs != p
         || frame.documents < u64::from(list.len)
         || !parts_fit(list.len, list.doc_parts)
         || !parts_fit(list.len, list.sum_parts)
-        || frame.sizes < p + ENTRY_WORDS * u64::from(list.doc_parts)
+        || frame.sizes < p + format.entry_words() * u64::from(list.doc_parts)
 }
 
 // Whether the frequencies of a list can't begin at word p.
-fn sums_cannot_begin(list: ListEntry, p: u64, frame: Frame) -> bool
+fn sums_cannot_begin(list: ListEntry, p: u64, frame: Frame, format: Format) -> bool
     requires small { p < 2 ^ 57 }
-    ensures { result ≡ (not (list.sums == p) || nat_lt frame.sizes (p + format_one.entry_words * list.sum_parts)) }
+    ensures { result ≡ (not (list.sums == p) || nat_lt frame.sizes (p + entry_words (numbers_of format) * list.sum_parts)) }
 {
-    list.sums != p || frame.sizes < p + ENTRY_WORDS * u64::from(list.sum_parts)
+    list.sums != p || frame.sizes < p + format.entry_words() * u64::from(list.sum_parts)
 }
 
 // Looks for the first check that breaks in the frequencies of list t, which are to begin at word p, and answers the word
 // behind them.
-fn check_sums(words: &[u64], t: u32, p: u64) -> Result<u64, OpenFault>
+fn check_sums(words: &[u64], t: u32, p: u64, format: Format) -> Result<u64, OpenFault>
     requires words { length words.now < 2 ^ 57 }
-    requires frame { HasFrame format_one words.now }
+    requires frame { HasFrame (numbers_of format) words.now }
     requires within { t < stated_terms words.now }
     requires before { p ≤ stated_sizes words.now }
     requires fit { parts_fit (stated_length words.now t) (stated_freq_parts words.now t) ≡ true }
-    ensures ok { IfOk result (λ behind. (v : SequenceView) × FreqsStandAt words.now t p v × (behind ≡ p + words_used v)) }
-    ensures first { IfErr result (λ f. IsFreqsFault format_one words.now t p f) }
+    ensures ok { IfOk result (λ behind. (v : SequenceView) × (v.format ≡ numbers_of format) × FreqsStandAt words.now t p v × (behind ≡ p + words_used v)) }
+    ensures first { IfErr result (λ f. IsFreqsFault (numbers_of format) words.now t p f) }
 {
     one_sequence();
     let frame = frame_of(words);
     let list = list_entry(words, t);
-    if sums_cannot_begin(list, p, frame) {
+    if sums_cannot_begin(list, p, frame, format) {
         return Err(OpenFault {
             check: Check::K6,
             term: t,
@@ -120,7 +123,14 @@ fn check_sums(words: &[u64], t: u32, p: u64) -> Result<u64, OpenFault>
         to: frame.sizes,
     };
     let greatest = u64::from(list.greatest);
-    match sequence_at(words, span, list.sum_parts, list.len, MOST_SUM) {
+    match sequence_at(
+        words,
+        span,
+        list.sum_parts,
+        list.len,
+        format.most_sum(),
+        format,
+    ) {
         Ok(sums) if greatest_step(&sums) == greatest => Ok(p + sums.used()),
         Ok(_) => Err(OpenFault {
             check: Check::K10,
@@ -133,18 +143,18 @@ fn check_sums(words: &[u64], t: u32, p: u64) -> Result<u64, OpenFault>
 
 // Looks for the first check that breaks for list t, whose sequences are to begin at word p, and answers where those of the
 // next list begin.
-pub(crate) fn check_list(words: &[u64], t: u32, p: u64) -> Result<u64, OpenFault>
+pub(crate) fn check_list(words: &[u64], t: u32, p: u64, format: Format) -> Result<u64, OpenFault>
     requires words { length words.now < 2 ^ 57 }
-    requires frame { HasFrame format_one words.now }
+    requires frame { HasFrame (numbers_of format) words.now }
     requires within { t < stated_terms words.now }
     requires before { p ≤ stated_sizes words.now }
-    ensures ok { IfOk result (λ next. (c : CutList) × StandsAt format_one words.now t p c × (next ≡ word_after format_one p c)) }
-    ensures first { IfErr result (λ f. IsTermFault format_one words.now t p f) }
+    ensures ok { IfOk result (λ next. (c : CutList) × StandsAt (numbers_of format) words.now t p c × (next ≡ word_after (numbers_of format) p c)) }
+    ensures first { IfErr result (λ f. IsTermFault (numbers_of format) words.now t p f) }
 {
     sequences_are_a_list();
     let frame = frame_of(words);
     let list = list_entry(words, t);
-    if cannot_begin(list, p, frame) {
+    if cannot_begin(list, p, frame, format) {
         return Err(OpenFault {
             check: Check::K6,
             term: t,
@@ -155,8 +165,15 @@ pub(crate) fn check_list(words: &[u64], t: u32, p: u64) -> Result<u64, OpenFault
         from: p,
         to: frame.sizes,
     };
-    match sequence_at(words, span, list.doc_parts, list.len, frame.documents) {
-        Ok(docs) => check_sums(words, t, p + docs.used()),
+    match sequence_at(
+        words,
+        span,
+        list.doc_parts,
+        list.len,
+        frame.documents,
+        format,
+    ) {
+        Ok(docs) => check_sums(words, t, p + docs.used(), format),
         Err(fault) => Err(fault_in(t, 0, fault)),
     }
 }

@@ -1,12 +1,15 @@
 ghost use Rattle.std.specs.Prelude.{◌≡◌, ◌≤◌, ◌<◌, ◌+◌, ◌-◌, ◌*◌, ◌^◌, length, IfOk, IfErr, true};
 ghost use Rattle.std.specs.List.{All};
-ghost use Rattle.collection_model.specs.FormatNumbers.{format_one};
+ghost use Rattle.collection_model.specs.FormatNumbers.{entry_words};
 ghost use Rattle.collection_model.specs.Collection.{greatest};
 ghost use Rattle.collection_model.specs.Sequences.{steps_from};
+ghost use Rattle.part_cost.specs.Formats.{numbers_of};
+ghost use Rattle.part_cost.specs.Payload.{widest_low};
 ghost use Rattle.two_level.specs.SequenceFault.{parts_fit};
 ghost use Rattle.two_level.specs.AtAWord.{IsFaultAt};
 ghost use Rattle.index_file.specs.ListAt.{IsSequenceAt};
 
+use part_cost::Format;
 use two_level::{SeqFault, SeqView, checks_stand_at_a_word};
 
 // Where a sequence is to stand, from one word up to another.
@@ -23,14 +26,16 @@ pub(crate) fn sequence_at<'a>(
     parts: u32,
     m: u32,
     bound: u64,
+    format: Format,
 ) -> Result<SeqView<'a>, SeqFault>
     requires words { length words.now < 2 ^ 57 }
-    requires bound { bound ≤ format_one.most_sum }
+    requires bound { bound ≤ (numbers_of format).most_sum }
     requires within { span.to ≤ length words.now }
     requires fit { parts_fit m parts ≡ true }
-    requires room { span.from + format_one.entry_words * parts ≤ span.to }
+    requires room { span.from + entry_words (numbers_of format) * parts ≤ span.to }
+    ensures format { IfOk result (λ v. v.format ≡ numbers_of format) }
     ensures ok { IfOk result (λ v. IsSequenceAt words.entry.now span.from span.to parts m bound v) }
-    ensures first { IfErr result (λ f. IsFaultAt format_one words.entry.now span.to span.from parts m bound f.check f.part) }
+    ensures first { IfErr result (λ f. IsFaultAt (numbers_of format) words.entry.now span.to span.from parts m bound f.check f.part) }
 {
     checks_stand_at_a_word();
     SeqView::check(
@@ -38,12 +43,13 @@ pub(crate) fn sequence_at<'a>(
         parts,
         m,
         bound,
+        format,
     )
 }
 
 // The greatest step of a sequence.
 pub(crate) fn greatest_step(sums: &SeqView) -> u64
-    requires below { All (λ s. s < format_one.most_sum) sums.now.values }
+    requires below { All (λ s. s < 2 ^ widest_low) sums.now.values }
     ensures { result ≡ greatest (steps_from 0 sums.now.values) }
 {
     let mut cursor = sums.cursor();

@@ -1,6 +1,7 @@
 ghost use Rattle.std.specs.Prelude.{◌≡◌, ◌<◌, ◌^◌, sum_by, length};
 ghost use Rattle.std.specs.List.{range_with_len};
-ghost use Rattle.collection_model.specs.FormatNumbers.{format_one};
+ghost use Rattle.part_cost.specs.declared.formats.Format.{Format};
+ghost use Rattle.part_cost.specs.Formats.{numbers_of};
 ghost use Rattle.index_file.specs.FirstBroken.{stated_documents, stated_terms, stated_length};
 ghost use Rattle.index_file.specs.IndexView.{size_stated};
 ghost use Rattle.index_file.specs.ListAt.{HasFrame};
@@ -11,7 +12,7 @@ use crate::lists::{halves, list_entry};
 // The size of document d.
 pub(crate) fn size_at(words: &[u64], d: u32) -> u32
     requires words { length words.now < 2 ^ 57 }
-    requires frame { HasFrame format_one words.now }
+    requires frame { (format : Format) × HasFrame (numbers_of format) words.now }
     requires within { d < stated_documents words.now }
     ensures { result ≡ size_stated words.now d }
 {
@@ -23,7 +24,7 @@ pub(crate) fn size_at(words: &[u64], d: u32) -> u32
 // How many postings all lists have.
 pub(crate) fn all_postings(words: &[u64]) -> u64
     requires words { length words.now < 2 ^ 57 }
-    requires frame { HasFrame format_one words.now }
+    requires frame { (format : Format) × HasFrame (numbers_of format) words.now }
     ensures { result ≡ sum_by (stated_length words.now) (range_with_len 0 (stated_terms words.now)) }
 {
     let mut total = 0;
@@ -37,7 +38,7 @@ pub(crate) fn all_postings(words: &[u64]) -> u64
 // The sum of all sizes.
 pub(crate) fn all_sizes(words: &[u64]) -> u64
     requires words { length words.now < 2 ^ 57 }
-    requires frame { HasFrame format_one words.now }
+    requires frame { (format : Format) × HasFrame (numbers_of format) words.now }
     ensures { result ≡ sum_by (size_stated words.now) (range_with_len 0 (stated_documents words.now)) }
 {
     let mut total = 0;

@@ -1,4 +1,4 @@
-use Rattle.std.proofs.Common.{◌≡◌, ℕ, ◌+◌, ◌-◌, ◌*◌, ◌<◌, List, [], ◌∷◌, length, get_or, refl, sym, ap, subst, arith}
+use Rattle.std.proofs.Common.{◌≡◌, ℕ, ◌+◌, ◌-◌, ◌*◌, ◌^◌, ◌<◌, List, [], ◌∷◌, length, get_or, refl, sym, ap, subst, arith}
 use Rattle.bit_words.specs.Bits.{field_bits}
 use Rattle.part_cost.specs.Payload.{kind_of, low_width_of, ef_payload, bitmap_payload, payload}
 use Rattle.part_cost.specs.Span.{AreRelative}
@@ -18,6 +18,18 @@ far-length = ap length far-bits
 far-values : values_at (1 ∷ field_bits 20 770105) 1 701 2 ≡ 3 ∷ 700 ∷ []
 unfolding kind_of low_width_of ef_payload bitmap_payload values_at lib.Count.count_leading_zeros
 far-values = refl
+
+-- the greatest number below 2 ^ 48, alone, as a number of 49 bits, and back behind a bit
+widest-bits : part_bits (281474976710655 ∷ []) (2 ^ 48) ≡ field_bits 49 562949953421310
+unfolding kind_of low_width_of ef_payload bitmap_payload ef_bits lib.Count.count_leading_zeros
+widest-bits = refl
+
+pub widest-length : length (part_bits (281474976710655 ∷ []) (2 ^ 48)) ≡ 49
+widest-length = ap length widest-bits
+
+widest-values : values_at (1 ∷ field_bits 49 562949953421310) 1 (2 ^ 48) 1 ≡ 281474976710655 ∷ []
+unfolding kind_of low_width_of ef_payload bitmap_payload values_at lib.Count.count_leading_zeros
+widest-values = refl
 
 -- 0, 5 as a bitmap, and back behind a bit
 near-bits : part_bits (0 ∷ 5 ∷ []) 6 ≡ field_bits 6 33

@@ -1,4 +1,5 @@
 ghost use Rattle.std.specs.Prelude.{◌≡◌, ℕ, ◌*◌, ◌≤◌, ◌<◌, ◌^◌, length, slice_index, IsTrue};
+ghost use Rattle.part_cost.specs.Payload.{widest_low};
 ghost use Rattle.part_cost.specs.Span.{AreRelative};
 
 use super::*;
@@ -15,6 +16,22 @@ fn writes_far_numbers(rt: HostRuntime) -> Result<(), Fail> {
     write_part(&[3, 700], 701, &mut writer).expect(&rt, "memory");
     assert_eq!(rt; writer.len(), 20);
     assert_eq!(rt; writer.into_words().as_slice(), [770_105].as_slice());
+    Ok(())
+}
+
+// The greatest number below 2^48, alone: 49 bits, as one word, accepted and read back.
+#[test]
+fn reads_the_widest_number(rt: HostRuntime) -> Result<(), Fail> {
+    let mut writer = BitWriter::new(rt.alloc()).expect(&rt, "memory");
+    write_part(&[281_474_976_710_655], 1 << 48, &mut writer).expect(&rt, "memory");
+    assert_eq!(rt; writer.len(), 49);
+    let words = writer.into_words();
+    assert_eq!(rt; words.as_slice(), [562_949_953_421_310].as_slice());
+    assert!(rt; check_part(Bits { words: &words }, 0, 1 << 48, 1));
+    let view = PartView::at(Bits { words: &words }, 0, 1 << 48, 1);
+    assert!(rt; finds(&view, 1 << 47, 0, 0, 281_474_976_710_655));
+    let other = [562_949_953_421_309];
+    assert!(rt; !check_part(Bits { words: &other }, 0, 1 << 48, 1));
     Ok(())
 }
 
@@ -95,7 +112,7 @@ fn finds_numbers(rt: HostRuntime) {
 fn patterns(u: u64, m: u64, bits: u32) -> u64
     requires some { 1 ≤ m }
     requires fit { m ≤ u }
-    requires in_range { u ≤ 2 ^ 36 }
+    requires in_range { u ≤ 2 ^ widest_low }
     requires few { bits < 64 }
 {
     let mut count = 0;
@@ -124,7 +141,7 @@ fn is_relative(values: &[u64], u: u64) -> bool
 
 // Whether a list is written, accepted and read back.
 fn reads_back(alloc: Global, values: &[u64], u: u64) -> Result<bool, NoMemory>
-    requires in_range { u ≤ 2 ^ 36 }
+    requires in_range { u ≤ 2 ^ widest_low }
 {
     part_takes_its_payload();
     let m = values.len() as u64;
@@ -199,7 +216,7 @@ fn accepts_each_part_and_nothing_else(rt: HostRuntime) {
         (10, 3, 10, 36),
         (12, 3, 11, 55),
     ] {
-        assert!(rt; 1 <= m && m <= u && u <= 1 << 36 && bits < 64);
+        assert!(rt; 1 <= m && m <= u && u <= 1 << 48 && bits < 64);
         assert_eq!(rt; patterns(u, m, bits), count, "{m} in {u}");
     }
     assert!(rt; check_part(Bits { words: &[65] }, 0, 7, 2));

@@ -1,9 +1,10 @@
 use Rattle.std.proofs.Common.{◌≡◌, refl, sym, subst, ap, ℕ, zero, suc, ◌+◌, ◌*◌, ◌<◌, ◌≤◌, ⊎_elim, Bool, true, false, ◌==◌, ◌&&◌, cond, Some, List, [], ◌∷◌, arith}
 use Rattle.std.specs.Prelude.{find, nat_le, nat_lt, IsSomeAnd, slice_index}
+use Rattle.std.specs.List.{All}
 use Rattle.std.specs.List.Sorted.{IsStrictlyIncreasing}
 use Rattle.std.proofs.lemmas.Bool.{cases_lt, ltb-true, eqb-true, le-leb, lt-leb}
 use Rattle.part_cost.specs.Bounds.{bound_after, follow}
-use Rattle.part_cost.specs.Laws.{BoundsRise, BoundsCover}
+use Rattle.part_cost.specs.Laws.{BoundsRise, BoundsWithin, BoundsCover}
 
 both : (s t : Bool) → (s && t) ≡ true → (s ≡ true) × (t ≡ true)
 both true t h = (refl, h)
@@ -11,6 +12,7 @@ both false t h = cc
 
 -- what the rule says of two bounds that follow one another
 record Next (limit b c : ℕ) : Type 0 where
+  within : b < limit
   above : b < c
   near : 100 * c ≤ 103 * (b + 1)
 
@@ -20,7 +22,7 @@ next limit b c cs h =
     let front = both (nat_lt b limit) (c == bound_after limit b) parts.0 in
     let below = ltb-true b limit front.0 in
     let is = eqb-true c (bound_after limit b) front.1 in
-    record { above = omega (arith, below, is); near = omega (arith, is) }
+    record { within = below; above = omega (arith, below, is); near = omega (arith, is) }
 
 rest : (limit b c : ℕ) (cs : List ℕ) → follow limit b (c ∷ cs) ≡ true → follow limit c cs ≡ true
 rest limit b c cs h = (both (nat_lt b limit && (c == bound_after limit b)) (follow limit c cs) h).1
@@ -67,3 +69,14 @@ follow-rise limit b (d ∷ ds) h (suc k) lt =
 pub bounds-rise : BoundsRise
 bounds-rise charge limit [] h = cc
 bounds-rise charge limit (b ∷ bs) h = follow-rise limit b bs (both (b == charge) (follow limit b bs) h).1
+
+-- and none of them is above the limit
+follow-within : (limit b : ℕ) (bs : List ℕ) → follow limit b bs ≡ true → All (λ x. x ≤ limit) (b ∷ bs)
+follow-within limit b [] h zero d lt = omega (arith, eqb-true b limit h)
+follow-within limit b [] h (suc k) d lt = absurd (omega arith)
+follow-within limit b (c ∷ cs) h zero d lt = omega (arith, (next limit b c cs h).within)
+follow-within limit b (c ∷ cs) h (suc k) d lt = follow-within limit c cs (rest limit b c cs h) k d (omega arith)
+
+pub bounds-within : BoundsWithin
+bounds-within charge limit [] h = cc
+bounds-within charge limit (b ∷ bs) h = follow-within limit b bs (both (b == charge) (follow limit b bs) h).1

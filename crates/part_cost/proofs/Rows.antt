@@ -1,4 +1,4 @@
-use Rattle.std.proofs.Common.{◌≡◌, refl, ℕ, List, [], ◌∷◌, ◌^◌, IsTrue, rules, lit<, find, nat_le, map, Some, length}
+use Rattle.std.proofs.Common.{◌≡◌, refl, ℕ, List, [], ◌∷◌, ◌^◌, IsTrue, rules, lit<, find, nat_le, map, Some}
 use Rattle.part_cost.specs.declared.kinds.Kind.TheVariants.{Ones, Bitmap}
 use Rattle.part_cost.specs.Payload.{digits, payload, kind_of, low_width_of, ef_payload, bitmap_payload}
 use Rattle.part_cost.specs.Span.{universe, cost_of_part, relative_values}
@@ -76,10 +76,18 @@ low-900001 : low_width_of 900001 1 ≡ 19
 unfolding low_width_of
 low-900001 = refl
 
--- the widest single number
-payload-widest : payload (2 ^ 36) 1 ≡ 37
+-- the widest single number of each format
+payload-widest-one : payload (2 ^ 36) 1 ≡ 37
 unfolding payload ef_payload bitmap_payload lib.Count.count_leading_zeros
-payload-widest = refl
+payload-widest-one = refl
+
+payload-widest-two : payload (2 ^ 48) 1 ≡ 49
+unfolding payload ef_payload bitmap_payload lib.Count.count_leading_zeros
+payload-widest-two = refl
+
+low-widest : low_width_of (2 ^ 48) 1 ≡ 47
+unfolding low_width_of
+low-widest = refl
 
 -- the sequence 4, 10 and the sequence 3, 8, 14
 cost-4-10 : cost_of_part 128 (4 ∷ 10 ∷ []) 0 2 ≡ 136
@@ -115,32 +123,18 @@ empty-partition = refl
 not-a-partition : IsPartition 2 (2 ∷ 1 ∷ []) → ⊥
 not-a-partition p = search (p.1.0, rules)
 
+-- a short run of bounds by the rule
 abbrev bounds : List ℕ
-bounds =
-    128 ∷ 132 ∷ 136 ∷ 141 ∷ 146 ∷ 151 ∷ 156 ∷ 161 ∷ 166 ∷ 172
-    ∷ 178 ∷ 184 ∷ 190 ∷ 196 ∷ 202 ∷ 209 ∷ 216 ∷ 223 ∷ 230 ∷ 237
-    ∷ 245 ∷ 253 ∷ 261 ∷ 269 ∷ 278 ∷ 287 ∷ 296 ∷ 305 ∷ 315 ∷ 325
-    ∷ 335 ∷ 346 ∷ 357 ∷ 368 ∷ 380 ∷ 392 ∷ 404 ∷ 417 ∷ 430 ∷ 443
-    ∷ 457 ∷ 471 ∷ 486 ∷ 501 ∷ 517 ∷ 533 ∷ 550 ∷ 567 ∷ 585 ∷ 603
-    ∷ 622 ∷ 641 ∷ 661 ∷ 681 ∷ 702 ∷ 724 ∷ 746 ∷ 769 ∷ 793 ∷ 817
-    ∷ 842 ∷ 868 ∷ 895 ∷ 922 ∷ 950 ∷ 979 ∷ 1009 ∷ 1040 ∷ 1072 ∷ 1105
-    ∷ 1139 ∷ 1174 ∷ 1210 ∷ 1247 ∷ 1285 ∷ 1324 ∷ 1364 ∷ 1405 ∷ 1448 ∷ 1492
-    ∷ 1537 ∷ 1584 ∷ 1632 ∷ 1681 ∷ 1732 ∷ 1784 ∷ 1838 ∷ 1894 ∷ 1951 ∷ 2010
-    ∷ 2071 ∷ 2134 ∷ 2199 ∷ 2266 ∷ 2335 ∷ 2406 ∷ 2479 ∷ 2554 ∷ 2631 ∷ 2710
-    ∷ 2792 ∷ 2876 ∷ 2963 ∷ 3052 ∷ 3144 ∷ 3239 ∷ 3337 ∷ 3438 ∷ 3542 ∷ 3649
-    ∷ 3759 ∷ 3872 ∷ 3989 ∷ 4096 ∷ []
+bounds = 128 ∷ 132 ∷ 136 ∷ 141 ∷ 146 ∷ 150 ∷ []
 
-bounds-rule : IsTrue (are_bounds 128 4096 bounds)
+bounds-rule : IsTrue (are_bounds 128 150 bounds)
 bounds-rule = refl
 
-bounds-have-law : Cover 128 4096 bounds
-bounds-have-law = bounds-cover 128 4096 bounds bounds-rule
+bounds-have-law : Cover 128 150 bounds
+bounds-have-law = bounds-cover 128 150 bounds bounds-rule
 
-bounds-count : length bounds ≡ 114
-bounds-count = refl
-
-bounds-second : IsTrue (are_bounds 192 6144 (192 ∷ 198 ∷ [])) → ⊥
-bounds-second t = cc
+bounds-too-few : IsTrue (are_bounds 192 6144 (192 ∷ 198 ∷ [])) → ⊥
+bounds-too-few t = cc
 
 least-129 : find (λ b. nat_le 129 b) bounds ≡ Some 132
 least-129 = refl
@@ -148,5 +142,5 @@ least-129 = refl
 least-133 : find (λ b. nat_le 133 b) bounds ≡ Some 136
 least-133 = refl
 
-least-4096 : find (λ b. nat_le 4096 b) bounds ≡ Some 4096
-least-4096 = refl
+least-150 : find (λ b. nat_le 150 b) bounds ≡ Some 150
+least-150 = refl

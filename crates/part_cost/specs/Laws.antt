@@ -3,7 +3,7 @@ use Rattle.std.specs.List.{All, range_with_len}
 use Rattle.std.specs.List.Sorted.{IsStrictlyIncreasing}
 use Rattle.part_cost.specs.declared.kinds.Kind.{Kind}
 use Rattle.part_cost.specs.declared.kinds.Kind.TheVariants.{Ones, Bitmap, Ef}
-use Rattle.part_cost.specs.Payload.{kind_of, bitmap_payload, digits, widest_low, ef_spacing, ef_bits_at, ef_payload, low_width_of, payload, IsBestLowWidth}
+use Rattle.part_cost.specs.Payload.{least_through, kind_of, bitmap_payload, digits, widest_low, ef_spacing, ef_bits_at, ef_payload, low_width_of, payload, IsBestLowWidth}
 use Rattle.part_cost.specs.Span.{universe, payload_of_part, cost_of_part, relative_values, AreRelative}
 use Rattle.part_cost.specs.Partition.{IsAllowed}
 use Rattle.part_cost.specs.Bounds.{are_bounds, Cover}
@@ -74,6 +74,13 @@ pub record IsLowWidth (u m l : ℕ) : Type 0 where
 abbrev pub LowWidthIsBest : Type 0
 LowWidthIsBest = (u m : ℕ) → 1 ≤ u → u ≤ 2 ^ widest_low → IsLowWidth u m (low_width_of u m)
 
+-- Where the universe is at most 2 to the power of n, no width above n takes fewer bits, so with n for the widest width all payloads
+-- and low widths are the same numbers.
+abbrev pub WiderWidthsAddNothing : Type 0
+WiderWidthsAddNothing =
+    (u m n : ℕ) → 1 ≤ u → u ≤ 2 ^ n → n ≤ widest_low
+    → (least_through (ef_bits_at u m) n ≡ least_through (ef_bits_at u m) widest_low) × (low_width_of u m ≤ n)
+
 -- A part of a rising sequence has a place for each of its numbers.
 abbrev pub PartHasRoom : Type 0
 PartHasRoom = (xs : List ℕ) → IsStrictlyIncreasing xs → (i j : ℕ) → i < j → j ≤ length xs → j - i ≤ universe xs i j
@@ -89,6 +96,10 @@ PartIsRelative = (xs : List ℕ) → IsStrictlyIncreasing xs → (i j : ℕ) →
 -- Bounds that follow the rule rise.
 abbrev pub BoundsRise : Type 0
 BoundsRise = (charge limit : ℕ) (bounds : List ℕ) → IsTrue (are_bounds charge limit bounds) → IsStrictlyIncreasing bounds
+
+-- None of them is above the limit.
+abbrev pub BoundsWithin : Type 0
+BoundsWithin = (charge limit : ℕ) (bounds : List ℕ) → IsTrue (are_bounds charge limit bounds) → All (λ b. b ≤ limit) bounds
 
 -- Bounds that follow the rule have, for each cost from the charge to the limit, one that is at most 103/100 of it.
 abbrev pub BoundsCover : Type 0

@@ -1,4 +1,5 @@
-ghost use Rattle.part_cost.specs.Laws.{DigitsHold, DigitsAreFewest, PayloadIsOfKind, PayloadGrows, PartsGrow, OneNumberIsShort, SingleIsAllowed, SinglesAreAllowed, LowWidthIsBest, PartHasRoom, PartIsWithin, PartIsRelative, BoundsRise, BoundsCover};
+ghost use Rattle.part_cost.specs.Formats.{FormatsHaveRoom};
+ghost use Rattle.part_cost.specs.Laws.{WiderWidthsAddNothing, DigitsHold, DigitsAreFewest, PayloadIsOfKind, PayloadGrows, PartsGrow, OneNumberIsShort, SingleIsAllowed, SinglesAreAllowed, LowWidthIsBest, PartHasRoom, PartIsWithin, PartIsRelative, BoundsRise, BoundsWithin, BoundsCover};
 
 /// The digits of a number below 2^64 are the fewest that hold it.
 pub fn digits_hold()
@@ -30,6 +31,16 @@ pub fn low_width_is_best()
     ensures { LowWidthIsBest }
 {}
 
+/// In a universe up to a power of two no width above that power takes fewer bits, so the widest width that is tried changes no payload.
+pub fn wider_widths_add_nothing()
+    ensures { WiderWidthsAddNothing }
+{}
+
+/// The numbers of every format leave room for a part of one number, and have every value in the range of payloads.
+pub fn formats_have_room()
+    ensures { FormatsHaveRoom }
+{}
+
 /// A part of a rising sequence is one of relative values, with a place for each, in a universe within the bound of its values.
 pub fn part_is_relative()
     ensures room { PartHasRoom }
@@ -37,9 +48,10 @@ pub fn part_is_relative()
     ensures relative { PartIsRelative }
 {}
 
-/// Bounds that follow the rule rise, and each cost from the charge to the limit has one at most 3/100 above it. This holds
-/// of every charge and every limit.
+/// Bounds that follow the rule rise, none of them is above the limit, and each cost from the charge to the limit has one at
+/// most 3/100 above it. This holds of every charge and every limit.
 pub fn bounds_cover()
     ensures rise { BoundsRise }
+    ensures within { BoundsWithin }
     ensures cover { BoundsCover }
 {}

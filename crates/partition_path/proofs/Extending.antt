@@ -1,11 +1,9 @@
-use Rattle.std.proofs.Common.{◌≡◌, refl, sym, ◌∙◌, subst, ℕ, ◌+◌, ◌≤◌, ◌<◌, ◌⊎◌, inl, inr, Bool, true, false, Some, None, length, get_or, arith}
-use Rattle.std.specs.Prelude.{nat_le, nat_lt, if◌then◌else◌}
-use Rattle.std.specs.List.{list_all}
-use Rattle.std.proofs.lemmas.List.Folds.{list_all_at}
-use Rattle.std.proofs.lemmas.Bool.{leb-true, ltb-true, ltb-false, cases_eq}
+use Rattle.std.proofs.Common.{◌≡◌, refl, sym, ◌∙◌, subst, ℕ, ◌+◌, ◌-◌, ◌*◌, ◌^◌, ◌≤◌, ◌<◌, ◌⊎◌, inl, inr, Bool, true, false, Some, None, List, length, get_or, arith}
+use Rattle.std.specs.Prelude.{nat_lt, if◌then◌else◌}
+use Rattle.std.specs.List.{All}
+use Rattle.std.proofs.lemmas.Nat.{mul-le}
+use Rattle.std.proofs.lemmas.Bool.{ltb-true, ltb-false, cases_eq}
 use Rattle.std.proofs.Math.Nat.{eq-or-lt_of_le}
-use Rattle.collection_model.specs.FormatNumbers.{format_one}
-use Rattle.cost_windows.specs.declared.bounds.TheConstants.{BOUNDS}
 use Rattle.cost_windows.specs.Windows.{Windows, window_end}
 use Rattle.partition_path.specs.Tables.{Tables, IsSameAt, IsByWindow, AreExtended, IsOffered, unreached}
 
@@ -23,19 +21,6 @@ none_from_test place p false t h = ltb-false _ _ t
 
 pub none_says : (w : Windows) (k : ℕ) → window_end w k ≡ None → get_or w.positions k 0 ≤ w.place
 none_says w k h = none_from_test w.place (get_or w.positions k 0) (nat_lt w.place (get_or w.positions k 0)) refl h
-
--- no bound is above the limit
-all-within : list_all (λ b. nat_le b format_one.limit) BOUNDS ≡ true
-all-within = refl
-
-one-within : (k b : ℕ) (t : Bool) → k < length BOUNDS → get_or BOUNDS k 0 ≡ b → nat_le b format_one.limit ≡ t → b ≤ format_one.limit
-one-within k b true l e h = leb-true _ _ h
-one-within k b false l e h =
-    let none = list_all_at (λ x. nat_le x format_one.limit) BOUNDS k 0 l (subst (λ (x : ℕ). nat_le x format_one.limit ≡ false) (sym e) h) in
-    cc
-
-pub bounds-within : (k : ℕ) → k < length BOUNDS → get_or BOUNDS k 0 ≤ format_one.limit
-bounds-within k l = one-within k (get_or BOUNDS k 0) (nat_le (get_or BOUNDS k 0) format_one.limit) l refl refl
 
 -- before the first window is tried
 pub extended-none : (w : Windows) (t : Tables) → AreExtended w 0 t t
@@ -115,6 +100,16 @@ module _ (w : Windows) (k : ℕ) (old middle new : Tables) (x : AreExtended w k 
       let d = subst (λ (y : ℕ). IsOffered w.place (get_or w.positions k 0) y middle new) price b in
       extended-more s.0 d
 
--- there is room for the cost of one more part
-pub room_for : (w : Windows) (k i : ℕ) (old middle : Tables) (cost : ℕ) → AreExtended w k old middle → w.place ≡ i → k < length BOUNDS → cost ≤ get_or BOUNDS k 0 → get_or old.costs i 0 + format_one.limit < unreached → get_or middle.costs i 0 + cost < unreached
-room_for w k i old middle cost x here l a room = let c = x.cheaper i in let b = bounds-within k l in omega (arith, a, b, c, room)
+-- there is room for the cost of the part to a window's end
+pub room_for : (w : Windows) (k i : ℕ) (old middle : Tables) (cost : ℕ) → AreExtended w k old middle → w.place ≡ i → k < length w.bounds → cost ≤ get_or w.bounds k 0 → All (λ b. get_or old.costs i 0 + b < unreached) w.bounds → get_or middle.costs i 0 + cost < unreached
+room_for w k i old middle cost x here l a room = let c = x.cheaper i in let r = room k 0 l in omega (arith, a, c, r)
+
+-- there is room for one more allowed part, for as many numbers as a sequence has
+pub room_within : (limit n i cost : ℕ) → limit < 2 ^ 32 → n < 2 ^ 32 → i < n → cost ≤ limit * i → cost + limit < unreached
+room_within limit n i cost small few l c =
+    let most = mul-le limit (i + 1) (2 ^ 32 - 1) (2 ^ 32 - 1) (omega arith) (omega arith) in
+    omega (arith, most, c)
+
+-- so there is room for each of the bounds, which are at most the limit
+pub room_for_each : (bounds : List ℕ) (limit cost : ℕ) → All (λ b. b ≤ limit) bounds → cost + limit < unreached → All (λ b. cost + b < unreached) bounds
+room_for_each bounds limit cost within room = λ k d l. let b = within k d l in omega (arith, b, room)

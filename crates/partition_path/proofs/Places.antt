@@ -3,7 +3,6 @@ use Rattle.std.specs.Prelude.{find, nat_le, IsSomeAnd}
 use Rattle.std.proofs.lemmas.Bool.{leb-true, cases_lt}
 use Rattle.std.proofs.Math.Nat.{mul-le-mul_left, eq-or-lt_of_le}
 use Rattle.part_cost.specs.Bounds.{Cover}
-use Rattle.cost_windows.specs.declared.bounds.TheConstants.{BOUNDS}
 use Rattle.cost_windows.specs.WindowEnds.{IsLongestEnd, StandsAt, AllStand}
 use Rattle.cost_windows.specs.Windows.{Windows, KeepCosts, AllAtLongest}
 use Rattle.partition_path.specs.Tables.{Tables, IsReached, HasLastPart, AreRoutes, IsSameAt, IsByWindow, AreExtended, unreached}
@@ -41,19 +40,19 @@ same-before w k old new x j l =
       | inr by ↦ absurd (omega (arith, by.2.after))
     ]
 
-module _ (limit : ℕ) (cost : ℕ → ℕ → ℕ) (n i before middle after : ℕ) (w : Windows) (old new : Tables) (here : w.place ≡ i) (below : i < n) (stand : AllAtLongest cost n w) (kept : KeepCosts cost n w) (within : (m : ℕ) → m < length BOUNDS → get_or BOUNDS m 0 ≤ limit) (x : AreExtended w (length BOUNDS) old new) where
+module _ (limit : ℕ) (cost : ℕ → ℕ → ℕ) (n i before middle after : ℕ) (w : Windows) (old new : Tables) (here : w.place ≡ i) (below : i < n) (stand : AllAtLongest cost n w) (kept : KeepCosts cost n w) (within : (m : ℕ) → m < length w.bounds → get_or w.bounds m 0 ≤ limit) (x : AreExtended w (length w.bounds) old new) where
   -- a window that has an end has the longest, and its cost
-  longest-end : (m : ℕ) → m < length BOUNDS → w.place < get_or w.positions m 0 → IsLongestEnd cost n (get_or BOUNDS m 0) i (get_or w.positions m 0) × (get_or w.costs m 0 ≡ cost i (get_or w.positions m 0))
+  longest-end : (m : ℕ) → m < length w.bounds → w.place < get_or w.positions m 0 → IsLongestEnd cost n (get_or w.bounds m 0) i (get_or w.positions m 0) × (get_or w.costs m 0 ≡ cost i (get_or w.positions m 0))
   longest-end m l a =
-      let stands = subst (λ (p : ℕ). StandsAt cost n (get_or BOUNDS m 0) p (get_or w.positions m 0)) here (stands-at cost n w.place BOUNDS w.positions stand m l) in
+      let stands = subst (λ (p : ℕ). StandsAt cost n (get_or w.bounds m 0) p (get_or w.positions m 0)) here (stands-at cost n w.place w.bounds w.positions stand m l) in
       let price = subst (λ (p : ℕ). get_or w.costs m 0 ≡ cost p (get_or w.positions m 0)) here (kept.costs m l a) in
-      (longest-behind cost n (get_or BOUNDS m 0) i (get_or w.positions m 0) stands (omega (arith, here)), price)
+      (longest-behind cost n (get_or w.bounds m 0) i (get_or w.positions m 0) stands (omega (arith, here)), price)
 
   -- a route that ends with the part to a window's end
-  by-window : (m j : ℕ) → m < length BOUNDS → IsByWindow w old new j m → IsLongestEnd cost n (get_or BOUNDS m 0) i j × (get_or new.costs j 0 ≡ get_or old.costs i 0 + cost i j)
+  by-window : (m j : ℕ) → m < length w.bounds → IsByWindow w old new j m → IsLongestEnd cost n (get_or w.bounds m 0) i j × (get_or new.costs j 0 ≡ get_or old.costs i 0 + cost i j)
   by-window m j l by =
       let facts = longest-end m l (omega (arith, by.after, by.position)) in
-      let longest = subst (λ (p : ℕ). IsLongestEnd cost n (get_or BOUNDS m 0) i p) by.position facts.0 in
+      let longest = subst (λ (p : ℕ). IsLongestEnd cost n (get_or w.bounds m 0) i p) by.position facts.0 in
       let price = subst (λ (p : ℕ). get_or w.costs m 0 ≡ cost i p) by.position facts.1 in
       let sum = subst (λ (p : ℕ). get_or new.costs j 0 ≡ get_or old.costs p 0 + get_or w.costs m 0) here by.costs in
       (longest, omega (arith, sum, price))
@@ -62,7 +61,7 @@ module _ (limit : ℕ) (cost : ℕ → ℕ → ℕ) (n i before middle after : �
   last-same routes j p l s reached =
       let last = routes.last j p l (omega (arith, s.costs, reached)) in
       let start = get_or old.starts j 0 in
-      let at = same-before w (length BOUNDS) old new x start (omega (arith, here, last.earlier)) in
+      let at = same-before w (length w.bounds) old new x start (omega (arith, here, last.earlier)) in
       let e : get_or new.starts j 0 ≡ start = s.starts in
       let at_new = subst (λ (y : ℕ). IsSameAt old new y) (sym e) at in
       record {
@@ -74,10 +73,10 @@ module _ (limit : ℕ) (cost : ℕ → ℕ → ℕ) (n i before middle after : �
         one_more = subst (λ (y : ℕ). get_or new.parts j 0 ≡ get_or new.parts y 0 + 1) (sym e) (omega (arith, s.parts, at.parts, last.one_more));
       }
 
-  last-by_window : IsReached old.costs i → (m j : ℕ) → m < length BOUNDS → IsByWindow w old new j m → HasLastPart limit cost (i + 1) new j
+  last-by_window : IsReached old.costs i → (m j : ℕ) → m < length w.bounds → IsByWindow w old new j m → HasLastPart limit cost (i + 1) new j
   last-by_window reached m j l by =
       let facts = by-window m j l by in
-      let at = same-before w (length BOUNDS) old new x i (omega (arith, here)) in
+      let at = same-before w (length w.bounds) old new x i (omega (arith, here)) in
       let e : get_or new.starts j 0 ≡ i = by.starts ∙ here in
       let one = subst (λ (p : ℕ). get_or new.parts j 0 ≡ get_or old.parts p 0 + 1) here by.parts in
       record {
@@ -92,7 +91,7 @@ module _ (limit : ℕ) (cost : ℕ → ℕ → ℕ) (n i before middle after : �
   -- the routes with the parts from place i
   pub routes-more : AreRoutes limit cost n i before middle old → IsReached old.costs i → middle + 1 ≤ after → AreRoutes limit cost n (i + 1) before after new
   routes-more routes reached more =
-      let first = same-before w (length BOUNDS) old new x 0 (omega arith) in
+      let first = same-before w (length w.bounds) old new x 0 (omega arith) in
       record {
         places = omega (arith, x.places, routes.places);
         origin = omega (arith, first.costs, routes.origin);
@@ -124,12 +123,12 @@ module _ (limit : ℕ) (cost : ℕ → ℕ → ℕ) (n i before middle after : �
       }
 
   -- Place i is settled: the least bound that covers a part has an end at or behind the part's end.
-  pub settled-here : (charge : ℕ) → Cover charge limit BOUNDS → ((e : ℕ) → i < e → e ≤ n → charge ≤ cost i e) → ((e : ℕ) → i < e → e ≤ n → cost i (i + 1) ≤ cost i e) → get_or old.costs i 0 + limit < unreached → IsSettled limit cost n new.costs i
+  pub settled-here : (charge : ℕ) → Cover charge limit w.bounds → ((e : ℕ) → i < e → e ≤ n → charge ≤ cost i e) → ((e : ℕ) → i < e → e ≤ n → cost i (i + 1) ≤ cost i e) → get_or old.costs i 0 + limit < unreached → IsSettled limit cost n new.costs i
   settled-here charge cover least grows room e a l c =
-      let found = find-place (cost i e) BOUNDS (λ b. 100 * b ≤ 103 * cost i e) (cover (cost i e) (least e a l) c) in
+      let found = find-place (cost i e) w.bounds (λ b. 100 * b ≤ 103 * cost i e) (cover (cost i e) (least e a l) c) in
       let m = found.0 in
-      let at = same-before w (length BOUNDS) old new x i (omega (arith, here)) in
-      let stands = subst (λ (p : ℕ). StandsAt cost n (get_or BOUNDS m 0) p (get_or w.positions m 0)) here (stands-at cost n w.place BOUNDS w.positions stand m found.1) in
+      let at = same-before w (length w.bounds) old new x i (omega (arith, here)) in
+      let stands = subst (λ (p : ℕ). StandsAt cost n (get_or w.bounds m 0) p (get_or w.positions m 0)) here (stands-at cost n w.place w.bounds w.positions stand m found.1) in
       elim stands [
         | inl s ↦
             let j = get_or w.positions m 0 in
@@ -138,7 +137,7 @@ module _ (limit : ℕ) (cost : ℕ → ℕ → ℕ) (n i before middle after : �
             let tried = subst (λ (p : ℕ). get_or new.costs j 0 ≤ get_or old.costs p 0 + get_or w.costs m 0) here (x.tried m found.1 after_place) in
             let a2 = s.affordable in
             let bound = within m found.1 in
-            let near : 100 * get_or BOUNDS m 0 ≤ 103 * cost i e = found.3 in
+            let near : 100 * get_or w.bounds m 0 ≤ 103 * cost i e = found.3 in
             let behind : e ≤ j =
             elim (cases_lt j e) [
               | inl short ↦ let over = s.longest e short l in absurd (omega (arith, over, found.2))
@@ -155,7 +154,7 @@ module _ (limit : ℕ) (cost : ℕ → ℕ → ℕ) (n i before middle after : �
       elim (eq-or-lt_of_le le) [
         | inl e ↦ inl (subst (λ (y : ℕ). IsSettled limit cost n new.costs y) (sym e) settled)
         | inr earlier ↦
-            let at = same-before w (length BOUNDS) old new x r (omega (arith, here)) in
+            let at = same-before w (length w.bounds) old new x r (omega (arith, here)) in
             elim (done r earlier (omega (arith, at.costs, reached))) [
               | inl s ↦ inl (λ e a m c.
                   let t = s e a m c in

@@ -1,6 +1,7 @@
 ghost use Rattle.std.specs.Prelude.{◌≡◌, ℕ, ◌≤◌, ◌<◌, ◌+◌, ◌-◌, ◌*◌, length, IfOk};
-ghost use Rattle.collection_model.specs.FormatNumbers.{format_one};
+ghost use Rattle.part_cost.specs.Formats.{numbers_of};
 ghost use Rattle.part_cost.specs.Partition.{IsNear, partition_cost};
+ghost use Rattle.cost_windows.specs.WindowBounds.{window_bounds};
 
 use crate::routes::Routes;
 use part_cost::SpanCost;
@@ -44,19 +45,20 @@ impl Cuts {
     }
 }
 
-/// A partition into allowed parts that costs at most 103/100 of the cheapest such, after the approximation of Ottaviano
-/// and Venturini (Partitioned Elias-Fano Indexes, SIGIR 2014): for each bound a window slides over the sequence, and the
-/// parts that are tried are those to the windows' ends. It counts at most 3 * 114 costs for each number and one more,
-/// and takes room for a few numbers at each place. An `Err` comes only where memory is refused.
+/// A partition into parts that are allowed in the costs' format, at most 103/100 of the cheapest such, after the
+/// approximation of Ottaviano and Venturini (Partitioned Elias-Fano Indexes, SIGIR 2014): for each bound of the format a
+/// window slides over the sequence, and the parts that are tried are those to the windows' ends. For each number and one
+/// more it counts at most three times as many costs as there are window bounds, and it takes room for a few numbers at
+/// each place. An `Err` comes only where memory is refused.
 pub fn partition<C: SpanCost, L: Ledger>(
     alloc: Global,
     cost: &C,
     steps: &mut Steps<L>,
 ) -> Result<Cuts, NoMemory>
-    ensures near { IfOk result (λ cuts. IsNear format_one.limit (C.cost_of cost.now) (C.count cost.now) cuts.ends) }
+    ensures near { IfOk result (λ cuts. IsNear (numbers_of (C.format_of cost.now)).limit (C.cost_of cost.now) (C.count cost.now) cuts.ends) }
     ensures total { IfOk result (λ cuts. cuts.total ≡ partition_cost (C.cost_of cost.now) cuts.ends) }
     ensures counted { IfOk result (λ cuts. steps.old + length cuts.ends ≤ steps.new) }
-    ensures bounded { steps.new ≤ steps.old + 3 * 114 * (C.count cost.now + 1) }
+    ensures bounded { steps.new ≤ steps.old + 3 * length (window_bounds (C.format_of cost.now)) * (C.count cost.now + 1) }
 {
     let routes = Routes::found(alloc, cost, steps)?;
     let ends = routes.ends(alloc)?;

@@ -1,13 +1,14 @@
 ghost use Rattle.std.specs.Prelude.{◌≡◌, ℕ, ◌≤◌, ◌<◌, ◌+◌, ◌-◌, ◌*◌, ◌^◌, false, length, replicate, slice_index, IfOk, IsTrue, List};
 ghost use Rattle.std.specs.List.{All};
-ghost use Rattle.collection_model.specs.FormatNumbers.{format_one};
+ghost use Rattle.part_cost.specs.Formats.{numbers_of};
 ghost use Rattle.part_cost.specs.Partition.{IsAllowed, partition_cost};
+ghost use Rattle.cost_windows.specs.WindowBounds.{window_bounds};
 ghost use Rattle.partition_path.specs.Tables.{IsReached, AreRoutes, AreExtended, IsOffered, new_tables, unreached};
 ghost use Rattle.partition_path.specs.Chains.{IsChain};
 
 use crate::cuts::NoMemory;
-use cost_windows::{BOUNDS, Windows, bounds_follow_rule};
-use part_cost::SpanCost;
+use cost_windows::{Windows, bounds_follow_rule};
+use part_cost::{SpanCost, bounds_cover, formats_have_room};
 use std::alloc::Global;
 use std::marker::Model;
 use std::sync::ledger::Ledger;
@@ -42,16 +43,18 @@ impl Routes {
         cost: &C,
         steps: &mut Steps<L>,
     ) -> Result<Routes, NoMemory>
-        ensures routes { IfOk result (λ r. AreRoutes format_one.limit (C.cost_of cost.now) (C.count cost.now) (C.count cost.now) steps.old steps.new r) }
+        ensures routes { IfOk result (λ r. AreRoutes (numbers_of (C.format_of cost.now)).limit (C.cost_of cost.now) (C.count cost.now) (C.count cost.now) steps.old steps.new r) }
         ensures reached { IfOk result (λ r. IsReached r.costs (C.count cost.now)) }
-        ensures near { IfOk result (λ r. (others : List ℕ) → IsAllowed format_one.limit (C.cost_of cost.now) (C.count cost.now) others
+        ensures near { IfOk result (λ r. (others : List ℕ) → IsAllowed (numbers_of (C.format_of cost.now)).limit (C.cost_of cost.now) (C.count cost.now) others
             → 100 * slice_index r.costs (C.count cost.now) ≤ 103 * partition_cost (C.cost_of cost.now) others) }
-        ensures bounded { steps.new ≤ steps.old + 3 * 114 * (C.count cost.now + 1) }
+        ensures bounded { steps.new ≤ steps.old + 3 * length (window_bounds (C.format_of cost.now)) * (C.count cost.now + 1) }
     {
+        formats_have_room();
         bounds_follow_rule();
+        bounds_cover();
         let count = cost.len();
         let mut routes = Routes::new(alloc, count as usize)?;
-        let mut windows = Windows::new(alloc).map_err(|_| NoMemory)?;
+        let mut windows = Windows::new(alloc, cost.format()).map_err(|_| NoMemory)?;
         let mut rival = 0;
         for i in 0..count {
             if routes.is_open(i, rival) {
@@ -123,14 +126,13 @@ impl Routes {
     fn extend(&mut self, i: u64, windows: &Windows, rival: u64) -> u64
         requires place { windows.now.place ≡ i }
         requires within { All (λ p. p < length self.old.costs) windows.now.positions }
-        requires count { length windows.now.positions ≡ length BOUNDS }
-        requires room { slice_index self.old.costs i + format_one.limit < unreached }
+        requires room { All (λ b. slice_index self.old.costs i + b < unreached) windows.now.bounds }
         requires rival { rival < length self.old.costs }
-        ensures extended { AreExtended windows.now (length BOUNDS) self.old self.new }
+        ensures extended { AreExtended windows.now (length windows.now.bounds) self.old self.new }
         ensures rival { result < length self.new.costs }
     {
         let mut rival = rival;
-        for k in 0..BOUNDS.len() {
+        for k in 0..windows.count() {
             if let Some(end) = windows.end(k) {
                 self.offer(i, end, windows.cost(k));
                 rival = self.better_rival(i, rival, end);

@@ -1,9 +1,10 @@
 ghost use Rattle.std.specs.Prelude.{◌≡◌, ◌<◌, ◌^◌, length, IsTrue};
 ghost use Rattle.std.specs.List.{All};
 ghost use Rattle.std.specs.List.Sorted.{IsStrictlyIncreasing};
+ghost use Rattle.part_cost.specs.Formats.{numbers_of};
 
 use crate::{Cuts, NoMemory, partition};
-use part_cost::ListCost;
+use part_cost::{Format, ListCost};
 use std::alloc::{AllocError, Global};
 use std::marker::Brand;
 use std::sync::ledger::{Blank, Ledger};
@@ -29,14 +30,14 @@ fn numbers(
     Ok(values)
 }
 
-/// Whether the values are a sequence: they rise, and lie below 2^36.
-fn is_sequence(values: &[u64]) -> bool
+/// Whether the values are a sequence of this format: they rise, and lie below its greatest sum.
+fn is_sequence(values: &[u64], format: Format) -> bool
     ensures rising { IsTrue result → IsStrictlyIncreasing values.now }
-    ensures below { IsTrue result → All (λ x. x < 2 ^ 36) values.now }
+    ensures below { IsTrue result → All (λ x. x < (numbers_of format).most_sum) values.now }
     ensures few { IsTrue result → length values.now < 2 ^ 32 }
 {
     for i in 0..values.len() {
-        if values[i] >= 1 << 36 || (i > 0 && values[i] <= values[i - 1]) {
+        if values[i] >= format.most_sum() || (i > 0 && values[i] <= values[i - 1]) {
             return false;
         }
     }
@@ -44,32 +45,44 @@ fn is_sequence(values: &[u64]) -> bool
 }
 
 /// The cuts of a sequence of values.
-fn cuts<L: Ledger>(alloc: Global, blank: Blank, values: &[u64]) -> Result<Cuts, NoMemory>
+fn cuts<L: Ledger>(
+    alloc: Global,
+    blank: Blank,
+    values: &[u64],
+    format: Format,
+) -> Result<Cuts, NoMemory>
     requires name { blank.name ≡ L.name }
     requires parts { blank.parts ≡ L.parts }
     requires some { 0 < L.parts }
     requires rising { IsStrictlyIncreasing values.now }
-    requires below { All (λ x. x < 2 ^ 36) values.now }
+    requires below { All (λ x. x < (numbers_of format).most_sum) values.now }
     requires few { length values.now < 2 ^ 32 }
 {
     let mut steps = Steps::<L>::new(blank);
-    partition(alloc, &ListCost::new(values), &mut steps)
+    partition(alloc, &ListCost::new(values, format), &mut steps)
 }
 
 #[test]
 fn near_the_cheapest(rt: HostRuntime) -> Result<(), Fail> {
-    // A count, a number below it that is left out, a last number; the cheapest total, and 103/100 of it.
+    // A format, a count, a number below it that is left out, a last number; the cheapest total, and 103/100 of it.
     let rows = [
-        (0, 0, None, 0, 0),
-        (1_000, 1_000, None, 128, 131),
-        (0, 0, Some(68_719_476_735), 165, 165),
-        (600, 300, None, 386, 397),
-        (100_000, 100_000, Some(1_000_000), 277, 285),
+        (Format::One, 0, 0, None, 0, 0),
+        (Format::One, 1_000, 1_000, None, 128, 131),
+        (Format::One, 0, 0, Some(68_719_476_735), 165, 165),
+        (Format::One, 600, 300, None, 386, 397),
+        (Format::One, 100_000, 100_000, Some(1_000_000), 277, 285),
+        (Format::Two, 0, 0, None, 0, 0),
+        (Format::Two, 1_000, 1_000, None, 192, 197),
+        (Format::Two, 0, 0, Some(281_474_976_710_655), 241, 241),
+        // One part of them has a payload of 610 bits, three parts have 2 bits in all.
+        (Format::Two, 600, 300, None, 578, 595),
+        // One part of them would cost far more than the limit.
+        (Format::Two, 100_000, 100_000, Some(1_000_000), 405, 417),
     ];
-    for (count, without, last, least, most) in rows {
+    for (format, count, without, last, least, most) in rows {
         let values = numbers(rt.alloc(), count, without, last)?;
-        assert!(rt; is_sequence(&values));
-        let found = cuts::<Brand>(rt.alloc(), Blank::new(1), &values)?;
+        assert!(rt; is_sequence(&values, format));
+        let found = cuts::<Brand>(rt.alloc(), Blank::new(1), &values, format)?;
         assert!(rt; least <= found.total() && found.total() <= most, "{count}");
     }
     Ok(())
@@ -77,10 +90,12 @@ fn near_the_cheapest(rt: HostRuntime) -> Result<(), Fail> {
 
 #[test]
 fn all_numbers_are_one_part(rt: HostRuntime) -> Result<(), Fail> {
-    let values = numbers(rt.alloc(), 1_000, 1_000, None)?;
-    assert!(rt; is_sequence(&values));
-    let found = cuts::<Brand>(rt.alloc(), Blank::new(1), &values)?;
-    assert_eq!(rt; found.ends(), [1_000].as_slice());
-    assert_eq!(rt; found.total(), 128);
+    for (format, cost) in [(Format::One, 128), (Format::Two, 192)] {
+        let values = numbers(rt.alloc(), 1_000, 1_000, None)?;
+        assert!(rt; is_sequence(&values, format));
+        let found = cuts::<Brand>(rt.alloc(), Blank::new(1), &values, format)?;
+        assert_eq!(rt; found.ends(), [1_000].as_slice());
+        assert_eq!(rt; found.total(), cost);
+    }
     Ok(())
 }

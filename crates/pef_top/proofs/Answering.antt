@@ -1,5 +1,5 @@
 use Rattle.std.proofs.Common.{◌≡◌, ℕ, ◌≤◌, ◌<◌, arith, sym, ◌∙◌, ap, subst, List, [], ◌++◌, length, take, inl, inr}
-use Rattle.std.proofs.lemmas.List.{append-nil}
+use Rattle.std.proofs.lemmas.List.{append-nil, length-append}
 use Rattle.std.specs.Prelude.{refl, ◌⊎◌, IsTrue, Result, Ok, Err, Option, Some, None}
 use Rattle.collection_model.specs.FormatNumbers.{format_one}
 use Rattle.collection_model.specs.Collection.{Collection}
@@ -48,6 +48,10 @@ same_slot slot other e = cc
 not_both_lengths : (a b : ℕ) → a ≤ b → b < a → ⊥
 not_both_lengths a b le lt = omega (arith, le, lt)
 
+-- a text of which more than the limit was read is longer
+longer_than : (left rest : List ℕ) (limit : ℕ) → (bytes : List ℕ) × (left ≡ bytes ++ rest) × (limit < length bytes) → limit < length left
+longer_than left rest limit read = omega (arith, ap length read.1, length-append read.0 rest, read.2)
+
 -- nothing is a front of nothing
 nothing_got : (o o' : SinkState) → o' ≡ o → AppendsFront o.written o'.written []
 nothing_got o o' so = (0, omega arith, ap (λ s. s.written) so ∙ sym (append-nil o.written))
@@ -73,7 +77,7 @@ module _ (base : List ℕ) (d d' : DepotState) (i i' : SourceState) (o o' e e' :
       subst P (some_same fault other (one (files_at d base) (Some fault) (Some other) first holds)) refused
 
   -- the collection is broken
-  pub before_broken : (fault : Fault) → OneFirstFault format_one → ReadsCollection d d' base (Err (reading.Broken fault)) → i' ≡ i → o' ≡ o →
+  pub before_broken : (fault : Fault) → OneFirstFault format_one → ReadsCollection format_one d d' base (Err (reading.Broken fault)) → i' ≡ i → o' ≡ o →
       GotText e e' (fault_line fault) → e'.tells ≡ e.tells → Answers base old new status.Collection
   before_broken fault one r si so got et =
       let un : IsUnanswered old new = record { input = si; out = so } in
@@ -98,7 +102,7 @@ module _ (base : List ℕ) (d d' : DepotState) (i i' : SourceState) (o o' e e' :
       }
 
   -- a call on a file failed
-  pub before_file : (slot : Slot) → ReadsCollection d d' base (Err (reading.Read slot)) → i' ≡ i → o' ≡ o →
+  pub before_file : (slot : Slot) → ReadsCollection format_one d d' base (Err (reading.Read slot)) → i' ≡ i → o' ≡ o →
       GotText e e' (file_line slot) → e'.tells ≡ e.tells → Answers base old new status.Read
   before_file slot r si so got et =
       let un : IsUnanswered old new = record { input = si; out = so } in
@@ -125,7 +129,7 @@ module _ (base : List ℕ) (d d' : DepotState) (i i' : SourceState) (o o' e e' :
       }
 
   -- memory was refused before there was a collection
-  pub before_memory : ReadsCollection d d' base (Err reading.NoMemory) → i' ≡ i → o' ≡ o →
+  pub before_memory : ReadsCollection format_one d d' base (Err reading.NoMemory) → i' ≡ i → o' ≡ o →
       GotText e e' memory_line → e'.tells ≡ e.tells → Answers base old new status.NoMemory
   before_memory r si so got et =
       let un : IsUnanswered old new = record { input = si; out = so } in
@@ -149,7 +153,7 @@ module _ (base : List ℕ) (d d' : DepotState) (i i' : SourceState) (o o' e e' :
       }
 
   module _ (c : Collection) (one_collection : OneCollection format_one)
-      (r : ReadsCollection d d' base (Ok c)) where
+      (r : ReadsCollection format_one d d' base (Ok c)) where
     -- the files are a collection's
     accepted : IsAccepted base d
     accepted t = (c, record { well_formed = r.well_formed; files = r.spelled_so t })
@@ -283,7 +287,7 @@ module _ (base : List ℕ) (d d' : DepotState) (i i' : SourceState) (o o' e e' :
       write = λ h. cc;
       no_memory = λ h. cc;
       too_large = λ h. record {
-        longer = λ t. a.longer t refl;
+        longer = λ t. longer_than i.left i'.left longest_text (a.longer t refl);
         collection = accepted;
         replies = λ t x holds. of_collection (λ x. GotReplies x (ended_lines (take longest_text i.left)) o o') (a.too_large (text_told t) refl) t.depot x holds;
         err = got;
@@ -294,7 +298,7 @@ module _ (base : List ℕ) (d d' : DepotState) (i i' : SourceState) (o o' e e' :
       input_count = either a.input_count (λ h. cc);
       out_count = either a.out_count (λ h. cc);
       broken = λ t other holds. absurd (unbroken t other holds);
-      complete = λ t x holds none len. absurd (not_both_lengths _ _ len (a.longer t.input refl));
+      complete = λ t x holds none len. absurd (not_both_lengths _ _ len (longer_than i.left i'.left longest_text (a.longer t.input refl)));
       limited = λ t x holds none len. inl refl;
       depot = r.reads;
       telling = record { depot = r.reads.tells; input = a.input_tells; out = a.out_tells; err = et };

@@ -27,7 +27,7 @@ use Rattle.pef_top.proofs.Answering.{before_broken, before_file, before_memory, 
 
 -- a run that read no collection
 before_of : (base : List ℕ) (d d' : DepotState) (i i' : SourceState) (o o' e e' : SinkState) (s : Status) (error : CollError) → OneFirstFault format_one →
-    ReadsCollection d d' base (Err error) → i' ≡ i → o' ≡ o → Reports e e' (Err (stop_of_reading error)) s → Answers base (outside d i o e) (outside d' i' o' e') s
+    ReadsCollection format_one d d' base (Err error) → i' ≡ i → o' ≡ o → Reports e e' (Err (stop_of_reading error)) s → Answers base (outside d i o e) (outside d' i' o' e') s
 before_of base d d' i i' o o' e e' s (reading.Broken fault) one r si so rep =
     let P : Status → Type 0 = λ s. Answers base (outside d i o e) (outside d' i' o' e') s in
     subst P (sym rep.0) (before_broken base d d' i i' o o' e e' fault one r si so rep.1 rep.2)
@@ -40,7 +40,7 @@ before_of base d d' i i' o o' e e' s reading.NoMemory one r si so rep =
 
 -- a run that read one
 replies_of : (base : List ℕ) (d d' : DepotState) (i i' : SourceState) (o o' e e' : SinkState) (s : Status) (c : Collection) (answer : Result (Unit {0}) RunFault) →
-    OneCollection format_one → ReadsCollection d d' base (Ok c) →
+    OneCollection format_one → ReadsCollection format_one d d' base (Ok c) →
     AnswersText c longest_text i i' o o' answer → Reports e e' (ending_of answer) s → Answers base (outside d i o e) (outside d' i' o' e') s
 replies_of base d d' i i' o o' e e' s c (Ok u) one_collection r a rep =
     let P : Status → Type 0 = λ s. Answers base (outside d i o e) (outside d' i' o' e') s in
@@ -70,7 +70,7 @@ rises_and_stays : (a b : ℕ) → a < b → b ≡ a → ⊥
 rises_and_stays a b lt e = omega (arith, lt, e)
 
 -- reading a collection left each count as it was
-none_rose : (d d' : DepotState) (base : List ℕ) (c : Collection) (slot : Slot) → ReadsCollection d d' base (Ok c) → d.faults slot < d'.faults slot → ⊥
+none_rose : (d d' : DepotState) (base : List ℕ) (c : Collection) (slot : Slot) → ReadsCollection format_one d d' base (Ok c) → d.faults slot < d'.faults slot → ⊥
 none_rose d d' base c slot r lt =
     elim (r.count_rises_only_there slot) [ inl h ↦ not_read c slot h | inr same ↦ rises_and_stays _ _ lt same ]
 

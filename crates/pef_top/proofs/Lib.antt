@@ -12,3 +12,4 @@ pub mod TextEnds
 pub mod WholeText
 pub mod Answering
 pub mod Ends
+pub mod Building

@@ -1,13 +1,9 @@
-use Rattle.std.proofs.Common.{◌≡◌, refl, sym, ◌∙◌, ap, subst, ℕ, zero, suc, ◌<◌, ◌≤◌, List, [], ◌∷◌, length, get_or, Vec, arith, Option, Some, None}
-use Rattle.std.specs.Prelude.{option_map}
+use Rattle.std.proofs.Common.{◌≡◌, refl, sym, ◌∙◌, ap, subst, ℕ, zero, suc, ◌<◌, ◌≤◌, List, [], ◌∷◌, length, get_or, Vec, arith}
 use Rattle.std.specs.declared.alloc.Global.{Global}
 use Rattle.std.specs.List.{All}
-use Rattle.std.specs.List.Sorted.{IsStrictlyIncreasing}
-use Rattle.std.proofs.Math.ListN.{get_or-eq_default}
-use Rattle.std.proofs.lemmas.Bool.{le-leb, lt-leb}
 use Rattle.std.proofs.lemmas.List.Elements.{All-get_or, All-weaker}
 use Rattle.collection_model.specs.FormatNumbers.{format_one}
-use Rattle.collection_model.specs.Collection.{Posting, IsPostingList, postings_of, first_at_least, docs_of}
+use Rattle.collection_model.specs.Collection.{Posting, IsPostingList, postings_of, docs_of}
 use Rattle.collection_reader.specs.Held.{lists_held, AreAligned}
 use Rattle.cursor_api.specs.NextGeq.{IsCursorList}
 
@@ -44,35 +40,6 @@ held-at (x ∷ docs) [] t d f a lt = absurd a
 held-at (x ∷ docs) (y ∷ freqs) zero d f a lt = refl
 held-at (x ∷ docs) (y ∷ freqs) (suc t) d f a lt = held-at docs freqs t d f a.1 (omega arith)
 
--- the documents of a list are those it was made of
-pub docs-of-made : (docs freqs : List ℕ) → length docs ≡ length freqs → docs_of (postings_of docs freqs) ≡ docs
-docs-of-made [] freqs e = refl
-docs-of-made (d ∷ docs) [] e = absurd (omega arith)
-docs-of-made (d ∷ docs) (f ∷ freqs) e = ap (λ ds. d ∷ ds) (docs-of-made docs freqs (omega arith))
-
--- the first posting of a list at or above a document, as its document and its frequency
-abbrev found : List Posting → ℕ → Option (ℕ × ℕ)
-found list x = option_map (λ p. (p.doc, p.freq)) (first_at_least list x)
-
--- it is where the documents below end
-pub first-at : (docs freqs : List ℕ) (x place : ℕ) → length docs ≡ length freqs → place < length docs →
-    ((k : ℕ) → k < place → get_or docs k 0 < x) → x ≤ get_or docs place 0 →
-    found (postings_of docs freqs) x ≡ Some (get_or docs place 0, get_or freqs place 0)
-first-at [] freqs x place e lt below here = absurd (omega arith)
-first-at (d ∷ docs) [] x place e lt below here = absurd (omega arith)
-first-at (d ∷ docs) (f ∷ freqs) x zero e lt below here = rw (le-leb x d here) refl
-first-at (d ∷ docs) (f ∷ freqs) x (suc place) e lt below here =
-    rw (lt-leb x d (below 0 (omega arith)))
-    (first-at docs freqs x place (omega arith) (omega arith) (λ k l. below (suc k) (omega arith)) here)
-
--- there is none where all documents are below
-pub first-none : (docs freqs : List ℕ) (x : ℕ) → ((k : ℕ) → k < length docs → get_or docs k 0 < x) →
-    found (postings_of docs freqs) x ≡ None
-first-none [] freqs x below = refl
-first-none (d ∷ docs) [] x below = refl
-first-none (d ∷ docs) (f ∷ freqs) x below =
-    rw (lt-leb x d (below 0 (omega arith))) (first-none docs freqs x (λ k l. below (suc k) (omega arith)))
-
 -- ---- the lists of a collection that such vectors hold, where a term's two vectors are given by their numbers
 
 pub made-at : (lists : List (List Posting)) (docs freqs : List Numbers) (t : ℕ) (d f : Numbers) (ds fs : List ℕ) → AreAligned docs freqs → lists_held docs freqs ≡ lists → t < length docs →
@@ -83,20 +50,6 @@ made-at lists docs freqs t d f ds fs a e lt de fe =
 pub same-length : (docs freqs : List Numbers) (t : ℕ) (d f : Numbers) (ds fs : List ℕ) → AreAligned docs freqs → t < length docs →
     ds ≡ (get_or docs t d).items → fs ≡ (get_or freqs t f).items → length ds ≡ length fs
 same-length docs freqs t d f ds fs a lt de fe = ap length de ∙ aligned-at docs freqs t d f a lt ∙ sym (ap length fe)
-
-pub rising-at : (n : ℕ) (lists : List (List Posting)) (docs freqs : List Numbers) (t : ℕ) (d f : Numbers) (ds fs : List ℕ) → AreAligned docs freqs → lists_held docs freqs ≡ lists → t < length docs →
-    All (IsPostingList format_one n) lists →
-    ds ≡ (get_or docs t d).items → fs ≡ (get_or freqs t f).items → IsStrictlyIncreasing ds
-rising-at n lists docs freqs t d f ds fs a e lt all de fe =
-    let within : t < length lists = omega (arith, ap length e, held-length docs freqs a) in
-    let list = All-get_or (IsPostingList format_one n) lists t [] within all in
-    let same : docs_of (get_or lists t []) ≡ ds = ap docs_of (sym (made-at lists docs freqs t d f ds fs a e lt de fe)) ∙ docs-of-made ds fs (same-length docs freqs t d f ds fs a lt de fe) in
-    subst IsStrictlyIncreasing same list.rising
-
-pub beyond : (lists : List (List Posting)) (docs freqs : List Numbers) (t x : ℕ) → AreAligned docs freqs → lists_held docs freqs ≡ lists → length docs ≤ t → found (get_or lists t []) x ≡ None
-beyond lists docs freqs t x a e le =
-    let none : get_or lists t [] ≡ [] = get_or-eq_default lists [] (omega (arith, ap length e, held-length docs freqs a)) in
-    ap (λ list. found list x) none
 
 -- a term's list is one that a cursor may have
 pub cursor-list-at : (n : ℕ) (lists : List (List Posting)) (docs freqs : List Numbers) (t : ℕ) (d f : Numbers) (ds fs : List ℕ) → AreAligned docs freqs → lists_held docs freqs ≡ lists → t < length docs →

@@ -23,7 +23,7 @@ pub record AnswersText (c : Collection) (limit : ℕ) (input_old input_new : Sou
   pub write : TextIsTold input_old out_old → IsErrOf result Write → GotFrontOfReplies c (text_lines input_old.left) out_old out_new
   pub write_only_where_it_rose : IsErrOf result Write → Rose out_old.faults out_new.faults
   pub too_large : TextIsTold input_old out_old → IsErrOf result TooLarge → GotReplies c (ended_lines (take limit input_old.left)) out_old out_new
-  pub longer : IsTrue input_old.tells → IsErrOf result TooLarge → limit < length input_old.left
+  pub longer : IsTrue input_old.tells → IsErrOf result TooLarge → (bytes : List ℕ) × (input_old.left ≡ bytes ++ input_new.left) × (limit < length bytes)
   pub no_memory : TextIsTold input_old out_old → IsErrOf result NoMemory → GotFrontOfReplies c (text_lines input_old.left) out_old out_new
   pub input_tells : input_new.tells ≡ input_old.tells
   pub out_tells : out_new.tells ≡ out_old.tells

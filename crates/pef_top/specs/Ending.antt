@@ -2,6 +2,7 @@ use Rattle.std.specs.Prelude.{◌≡◌, ℕ, List, Result, Ok, Err}
 use Rattle.pef_io.specs.SourceState.{SourceState}
 use Rattle.pef_io.specs.SinkState.{SinkState}
 use Rattle.pef_io.specs.DepotState.{DepotState}
+use Rattle.collection_model.specs.FormatNumbers.{format_one}
 use Rattle.collection_model.specs.Collection.{Collection}
 use Rattle.collection_reader.specs.declared.fault.CollError.{CollError}
 use Rattle.collection_reader.specs.ReadCollection.{ReadsCollection}
@@ -21,7 +22,7 @@ ending_of (Err e) = Err (stop_of_answering e)
 -- No collection was read, and the input and out, whole as they are handed in, are as they were.
 pub record StopsBefore {I O : Type 0} (base : List ℕ) (depot_old depot_new : DepotState) (input_old input_new : I) (out_old out_new : O) (ending : Result (Unit {0}) Stop) : Type 0 where
   pub error : CollError
-  pub reading : ReadsCollection depot_old depot_new base (Err error)
+  pub reading : ReadsCollection format_one depot_old depot_new base (Err error)
   pub input : input_new ≡ input_old
   pub out : out_new ≡ out_old
   pub ends : ending ≡ Err (stop_of_reading error)
@@ -29,7 +30,7 @@ pub record StopsBefore {I O : Type 0} (base : List ℕ) (depot_old depot_new : D
 -- A collection was read, and the text was answered from it, or a part of the text.
 pub record Replies (base : List ℕ) (limit : ℕ) (depot_old depot_new : DepotState) (input_old input_new : SourceState) (out_old out_new : SinkState) (ending : Result (Unit {0}) Stop) : Type 0 where
   pub collection : Collection
-  pub reading : ReadsCollection depot_old depot_new base (Ok collection)
+  pub reading : ReadsCollection format_one depot_old depot_new base (Ok collection)
   pub answer : Result (Unit {0}) RunFault
   pub answering : AnswersText collection limit input_old input_new out_old out_new answer
   pub ends : ending ≡ ending_of answer

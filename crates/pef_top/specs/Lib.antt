@@ -14,3 +14,7 @@ pub mod ErrPieces
 pub mod Stops
 pub mod AnswerRun
 pub mod Ending
+pub mod Found
+pub mod Built
+pub mod Building
+pub mod BuildWords

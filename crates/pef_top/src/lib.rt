@@ -2,9 +2,14 @@
 #![tactic(auto)]
 
 mod answer;
+mod build;
 mod err_lines;
+mod indexed;
 mod laws;
 mod lines;
+mod lists;
+mod plain;
+mod plan;
 mod reply;
 mod status;
 mod stop;
@@ -13,7 +18,10 @@ mod text;
 mod top;
 mod words;
 
+pub use build::{BuildError, build_words};
+pub use plan::Plan;
 pub use status::Status;
+pub use text::{RunFault, answer_text};
 pub use top::run;
 
 #[cfg(test)]

@@ -1,128 +1,95 @@
-ghost use Rattle.std.specs.Prelude.{◌≡◌, length, [], ◌∷◌, option_map, IfOk};
-ghost use Rattle.std.specs.List.Sorted.{IsStrictlyIncreasing};
-ghost use Rattle.collection_model.specs.FormatNumbers.{format_one};
-ghost use Rattle.collection_model.specs.Collection.{WellFormed, postings_of, list_of, first_at_least};
-ghost use Rattle.query_text.specs.Parse.{NamesTerms};
-ghost use Rattle.query_text.specs.TermSet.{AreTerms};
+// The replies to what lines ask, from the cursors of their terms.
+ghost use Rattle.std.specs.Prelude.{◌≡◌, ◌≤◌, ℕ, map, length, option_map, IfOk};
+ghost use Rattle.std.specs.List.{All};
+ghost use Rattle.collection_model.specs.Collection.{Collection, first_at_least};
 ghost use Rattle.query_text.specs.Texts.{list_text};
-ghost use Rattle.scan_plans.specs.Matches.{in_all, in_any};
-ghost use Rattle.pef_top.specs.Replies.{IsAnswer, IsTopReply, lists_of};
-ghost use Rattle.pef_top.specs.AnswersLines.{AnswersLines};
+ghost use Rattle.scan_plans.specs.Matches.{AreBelow, in_all, in_any};
+ghost use Rattle.pef_top.specs.Replies.{IsAnswer, IsTopText, lists_of, terms_of};
 
-use crate::term_cursors::cursors_of;
-use collection_reader::Collection;
-use pef_io::{IoFail, Sink, write_all_own};
-use query_text::{
-    NoMemory, ParseError, Query, bad_reply, list_reply, next_reply, parse, top_reply,
-};
+use crate::plan::Plan;
+use cursor_api::DocCursor;
+use query_text::{NoMemory, Query, list_reply, next_reply, top_reply};
 use scan_plans::{and_docs, or_docs, top_exhaustive};
 use std::alloc::Global;
+use std::slice;
 
-/// Answers one line: its reply, with the newline, is one piece.
-pub(crate) fn answer_line<O: Sink>(
-    alloc: Global,
-    collection: &Collection,
-    line: &[u8],
-    out: &mut O,
-) -> Result<(), IoFail>
-    requires { WellFormed format_one collection.now }
-    ensures { AnswersLines collection.now (line.now ∷ []) (O.state out.old) (O.state out.new) result }
-{
-    match parse(alloc, line, terms(collection)) {
-        Ok(query) => match answer(alloc, collection, query) {
-            Ok(reply) => write_all_own(out, reply.as_slice()),
-            Err(NoMemory) => Err(IoFail::NoMemory),
-        },
-        Err(ParseError::Bad(bad)) => write_all_own(out, bad_reply(bad)),
-        Err(ParseError::NoMemory) => Err(IoFail::NoMemory),
-    }
-}
-
-/// How many terms there are.
-fn terms(collection: &Collection) -> u32
-    requires { WellFormed format_one collection.now }
-    ensures { result ≡ length collection.now.lists }
-{
-    collection.docs.len() as u32
-}
-
-/// The reply to what a line asks.
-fn answer(alloc: Global, collection: &Collection, query: Query) -> Result<Vec<u8>, NoMemory>
-    requires well_formed { WellFormed format_one collection.now }
-    requires named { NamesTerms (length collection.now.lists) query }
-    ensures { IfOk result (λ text. IsAnswer collection.now query text.items) }
+/// The terms whose lists a line asks for.
+pub(crate) fn terms_of(query: &Query) -> &[u32]
+    ensures { result.now ≡ terms_of query.now }
 {
     match query {
-        Query::Next { term, doc } => next_reply(alloc, next_posting(collection, term, doc)),
-        Query::And(terms) => and_answer(alloc, collection, terms.as_slice()),
-        Query::Or(terms) => or_answer(alloc, collection, terms.as_slice()),
-        Query::Top { k, terms } => top_answer(alloc, collection, k, terms.as_slice()),
+        Query::Next { term, .. } => slice::from_ref(term),
+        Query::And(terms) | Query::Or(terms) | Query::Top { terms, .. } => terms.as_slice(),
     }
 }
 
-/// The reply with the documents that are in the lists of all these terms.
-fn and_answer(alloc: Global, collection: &Collection, terms: &[u32]) -> Result<Vec<u8>, NoMemory>
-    requires well_formed { WellFormed format_one collection.now }
-    requires terms { AreTerms (length collection.now.lists) terms.now }
-    ensures { IfOk result (λ text. text.items ≡ list_text (in_all collection.now.documents (lists_of collection.now terms.now))) }
-{
-    let mut cursors = cursors_of(alloc, collection, terms).map_err(|_| NoMemory)?;
-    let docs = and_docs(alloc, cursors.as_mut_slice()).map_err(|_| NoMemory)?;
-    list_reply(alloc, docs.as_slice())
-}
-
-/// The reply with the documents that are in the list of any of these terms.
-fn or_answer(alloc: Global, collection: &Collection, terms: &[u32]) -> Result<Vec<u8>, NoMemory>
-    requires well_formed { WellFormed format_one collection.now }
-    requires terms { AreTerms (length collection.now.lists) terms.now }
-    ensures { IfOk result (λ text. text.items ≡ list_text (in_any collection.now.documents (lists_of collection.now terms.now))) }
-{
-    let mut cursors = cursors_of(alloc, collection, terms).map_err(|_| NoMemory)?;
-    let docs = or_docs(alloc, cursors.as_mut_slice()).map_err(|_| NoMemory)?;
-    list_reply(alloc, docs.as_slice())
-}
-
-/// The reply with the first k documents of any of these terms.
-fn top_answer(
+/// The reply to what a line asks, from a cursor at the start of each list that it asks for. There are `n` documents.
+pub(crate) fn answer<C: DocCursor>(
     alloc: Global,
-    collection: &Collection,
-    k: u32,
-    terms: &[u32],
+    plan: Plan,
+    query: &Query,
+    cursors: &mut [C],
+    n: u32,
 ) -> Result<Vec<u8>, NoMemory>
-    requires well_formed { WellFormed format_one collection.now }
-    requires terms { AreTerms (length collection.now.lists) terms.now }
-    ensures { IfOk result (λ text. IsTopReply collection.now k terms.now text.items) }
+    requires each { length cursors.old ≡ length (terms_of query.now) }
+    requires few { length cursors.old ≤ 1024 }
+    requires at_start { All (λ c. C.place c ≡ 0) cursors.old }
+    requires in_range { AreBelow n (map C.list cursors.old) }
+    ensures { (c : Collection) → c.documents ≡ n → map C.list cursors.old ≡ lists_of c (terms_of query.now) → IfOk result (λ text. IsAnswer c query.now text.items) }
 {
-    let mut cursors = cursors_of(alloc, collection, terms).map_err(|_| NoMemory)?;
-    let top = top_exhaustive(alloc, cursors.as_mut_slice(), k, collection.documents).map_err(
-        |_| NoMemory,
-    )?;
+    match query {
+        Query::Next { doc, .. } => next_reply(alloc, first_posting(&mut cursors[0], *doc)),
+        Query::And(_) => and_answer(alloc, cursors),
+        Query::Or(_) => or_answer(alloc, cursors),
+        Query::Top { k, .. } => top_answer(alloc, plan, cursors, *k, n),
+    }
+}
+
+/// The first posting of a list whose document is at least this one, as document and frequency.
+fn first_posting<C: DocCursor>(cursor: &mut C, doc: u32) -> Option<(u32, u32)>
+    requires { C.place cursor.old ≡ 0 }
+    ensures { result ≡ option_map (λ p. (p.doc, p.freq)) (first_at_least (C.list cursor.old) doc) }
+{
+    cursor.next_geq(doc);
+    let found = cursor.doc()?;
+    Some((found, cursor.freq()))
+}
+
+/// The reply with the documents that are in all the lists.
+fn and_answer<C: DocCursor>(alloc: Global, cursors: &mut [C]) -> Result<Vec<u8>, NoMemory>
+    requires few { length cursors.old ≤ 1024 }
+    requires at_start { All (λ c. C.place c ≡ 0) cursors.old }
+    ensures { (n : ℕ) → AreBelow n (map C.list cursors.old) → IfOk result (λ text. text.items ≡ list_text (in_all n (map C.list cursors.old))) }
+{
+    let docs = and_docs(alloc, cursors).map_err(|_| NoMemory)?;
+    list_reply(alloc, docs.as_slice())
+}
+
+/// The reply with the documents that are in any of the lists.
+fn or_answer<C: DocCursor>(alloc: Global, cursors: &mut [C]) -> Result<Vec<u8>, NoMemory>
+    requires few { length cursors.old ≤ 1024 }
+    requires at_start { All (λ c. C.place c ≡ 0) cursors.old }
+    ensures { (n : ℕ) → AreBelow n (map C.list cursors.old) → IfOk result (λ text. text.items ≡ list_text (in_any n (map C.list cursors.old))) }
+{
+    let docs = or_docs(alloc, cursors).map_err(|_| NoMemory)?;
+    list_reply(alloc, docs.as_slice())
+}
+
+/// The reply with the first k documents that are in any of the lists, by this plan. There are `n` documents.
+fn top_answer<C: DocCursor>(
+    alloc: Global,
+    plan: Plan,
+    cursors: &mut [C],
+    k: u32,
+    n: u32,
+) -> Result<Vec<u8>, NoMemory>
+    requires few { length cursors.old ≤ 1024 }
+    requires at_start { All (λ c. C.place c ≡ 0) cursors.old }
+    requires in_range { AreBelow n (map C.list cursors.old) }
+    ensures { IfOk result (λ text. IsTopText n (map C.list cursors.old) k text.items) }
+{
+    let top = match plan {
+        Plan::Exhaustive => top_exhaustive(alloc, cursors, k, n).map_err(|_| NoMemory)?,
+    };
     top_reply(alloc, top.as_slice())
-}
-
-/// The first posting of a term whose document is at least this one, as document and frequency.
-fn next_posting(collection: &Collection, term: u32, doc: u32) -> Option<(u32, u32)>
-    requires { WellFormed format_one collection.now }
-    ensures { result ≡ option_map (λ p. (p.doc, p.freq)) (first_at_least (list_of collection.now term) doc) }
-{
-    let term = term as usize;
-    if term < collection.docs.len() {
-        posting_at_least(&collection.docs[term], &collection.freqs[term], doc)
-    } else {
-        None
-    }
-}
-
-/// The first of these documents that is at least this one, with its frequency.
-fn posting_at_least(docs: &[u32], freqs: &[u32], doc: u32) -> Option<(u32, u32)>
-    requires rising { IsStrictlyIncreasing docs.now }
-    requires aligned { length docs.now ≡ length freqs.now }
-    ensures { result ≡ option_map (λ p. (p.doc, p.freq)) (first_at_least (postings_of docs.now freqs.now) doc) }
-{
-    let place = docs.partition_point(|d| *d < doc);
-    if place < docs.len() {
-        Some((docs[place], freqs[place]))
-    } else {
-        None
-    }
 }

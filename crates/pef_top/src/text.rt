@@ -1,13 +1,13 @@
 ghost use Rattle.std.specs.Prelude.{◌≡◌};
-ghost use Rattle.collection_model.specs.FormatNumbers.{format_one};
-ghost use Rattle.collection_model.specs.Collection.{WellFormed};
 ghost use Rattle.pef_top.specs.AnswerText.{AnswersText};
 ghost use Rattle.pef_top.specs.AnswersEnded.{AnswersEnded};
 ghost use Rattle.pef_top.specs.Faults.{input_fault, out_fault};
 
-use crate::lines::answer_piece;
-use crate::reply::answer_line;
-use collection_reader::Collection;
+use crate::indexed::IndexLists;
+use crate::lines::{answer_line, answer_piece};
+use crate::lists::Answerer;
+use crate::plan::Plan;
+use index_file::Index;
 use pef_io::{IoFail, Sink, Source};
 use std::alloc::Global;
 
@@ -27,35 +27,50 @@ pub enum RunFault {
     NoMemory,
 }
 
-/// Answers the lines of the input, of which at most `limit` bytes are taken. Each reply, with its newline, is given to
-/// out as one piece, as soon as the bytes that end its line are read.
-pub(crate) fn answer_text<I: Source, O: Sink>(
+/// Answers the lines of the input, of which at most `limit` bytes are taken, from an opened index. Each reply, with its
+/// newline, is given to out as one piece, as soon as the bytes that end its line are read. The replies are the same by
+/// every plan.
+pub fn answer_text<I: Source, O: Sink>(
     alloc: Global,
-    collection: &Collection,
+    index: &Index<'_>,
+    plan: Plan,
     input: &mut I,
     limit: u64,
     out: &mut O,
 ) -> Result<(), RunFault>
-    requires { WellFormed format_one collection.now }
-    ensures { AnswersText collection.now limit (I.state input.old) (I.state input.new) (O.state out.old) (O.state out.new) result }
+    ensures { AnswersText index.now.collection limit (I.state input.old) (I.state input.new) (O.state out.old) (O.state out.new) result }
 {
-    let last = answer_ended_lines(alloc, collection, input, limit, out)?;
+    answer_from(alloc, &IndexLists::new(index), plan, input, limit, out)
+}
+
+/// Answers the lines of the input from any lists.
+pub(crate) fn answer_from<L: Answerer, I: Source, O: Sink>(
+    alloc: Global,
+    lists: &L,
+    plan: Plan,
+    input: &mut I,
+    limit: u64,
+    out: &mut O,
+) -> Result<(), RunFault>
+    ensures { AnswersText (L.collection lists.now) limit (I.state input.old) (I.state input.new) (O.state out.old) (O.state out.new) result }
+{
+    let last = answer_ended_lines(alloc, lists, plan, input, limit, out)?;
     if last.is_empty() {
         return Ok(());
     }
-    answer_line(alloc, collection, last.as_slice(), out).map_err(out_fault)
+    answer_line(alloc, lists, plan, last.as_slice(), out).map_err(out_fault)
 }
 
 /// Answers each line that a newline ends, and gives what is held of the line behind the last newline.
-fn answer_ended_lines<I: Source, O: Sink>(
+fn answer_ended_lines<L: Answerer, I: Source, O: Sink>(
     alloc: Global,
-    collection: &Collection,
+    lists: &L,
+    plan: Plan,
     input: &mut I,
     limit: u64,
     out: &mut O,
 ) -> Result<Vec<u8>, RunFault>
-    requires { WellFormed format_one collection.now }
-    ensures { AnswersEnded collection.now limit (I.state input.old) (I.state input.new) (O.state out.old) (O.state out.new) result }
+    ensures { AnswersEnded (L.collection lists.now) limit (I.state input.old) (I.state input.new) (O.state out.old) (O.state out.new) result }
 {
     let mut held = Vec::new(alloc);
     let mut piece = [0; PIECE];
@@ -66,7 +81,7 @@ fn answer_ended_lines<I: Source, O: Sink>(
             return Ok(held);
         }
         let within = rest.min(n as u64) as usize;
-        answer_piece(alloc, collection, &mut held, &piece[..within], out).map_err(out_fault)?;
+        answer_piece(alloc, lists, plan, &mut held, &piece[..within], out).map_err(out_fault)?;
         if within < n {
             return Err(RunFault::TooLarge);
         }

@@ -1,4 +1,4 @@
-ghost use Rattle.std.specs.Prelude.{◌≡◌, ◌≤◌, ◌<◌, ◌^◌, length, slice_index};
+ghost use Rattle.std.specs.Prelude.{◌≡◌, ◌≤◌, ◌<◌, ◌^◌, [], length, slice_index};
 ghost use Rattle.std.specs.List.{All};
 ghost use Rattle.collection_model.specs.Collection.{greatest_freq};
 ghost use Rattle.collection_model.specs.Sequences.{postings_in, steps_from};
@@ -6,6 +6,7 @@ ghost use Rattle.part_cost.specs.Span as span;
 ghost use Rattle.cursor_api.specs.NextGeq.{IsCursorList, IsCursorAt};
 
 use cursor_api::DocCursor;
+use part_cost::Format;
 use two_level::{SeqCursor, SeqView};
 
 /// A cursor over the two sequences of a list: its documents, and the sums of its frequencies. The sums are read in step with the
@@ -41,6 +42,13 @@ fn step_at(sums: &SeqView, k: u32) -> u32
     }
 }
 
+// The sequence of no values.
+fn no_values<'a>() -> SeqView<'a>
+    ensures { result.values ≡ [] }
+{
+    SeqView::known(&[], 0, 0, Format::One)
+}
+
 impl<'a> PostingCursor<'a> {
     /// A cursor at the start of the list whose sequences these are, and whose greatest frequency is `max`, 0 where the list is
     /// empty.
@@ -58,6 +66,15 @@ impl<'a> PostingCursor<'a> {
             past: 0,
             max,
         }
+    }
+}
+
+/// At an empty list.
+impl<'a> Default for PostingCursor<'a> {
+    ghost is_default = { λ c. (postings_in c.docs.sequence.values c.sums.values ≡ []) × (c.docs.place ≡ 0) };
+
+    fn default() -> PostingCursor<'a> {
+        PostingCursor::new(no_values(), no_values(), 0)
     }
 }
 

@@ -5,6 +5,7 @@ ghost use Rattle.collection_model.specs.Sequences.{steps_from};
 
 use super::*;
 use cursor_api::DocCursor;
+use part_cost::Format;
 use std::process::Abort;
 use std::test::Fail;
 use two_level::SeqView;
@@ -12,12 +13,17 @@ use two_level::SeqView;
 // 0, 2 and the sums 0, 5 are appended to what is there, each in one part, and then an empty list is.
 #[test]
 fn writes_two_postings(rt: HostRuntime) -> Result<(), Fail> {
-    let want: &[u64] = &[7, 137_438_953_474, 0, 5, 137_438_953_477, 0, 33];
-    let mut words = vec![in rt.alloc(); 7]?;
-    write_postings(rt.alloc(), &[0, 2], &[1, 5], &[2], &[2], &mut words).expect(&rt, "memory");
-    assert_eq!(rt; words.as_slice(), want);
-    write_postings(rt.alloc(), &[], &[], &[], &[], &mut words).expect(&rt, "memory");
-    assert_eq!(rt; words.as_slice(), want);
+    let one: &[u64] = &[7, 137_438_953_474, 0, 5, 137_438_953_477, 0, 33];
+    let two: &[u64] = &[7, 2, 2, 0, 5, 5, 2, 0, 33];
+    for (format, want) in [(Format::One, one), (Format::Two, two)] {
+        let mut words = vec![in rt.alloc(); 7]?;
+        write_postings(rt.alloc(), &[0, 2], &[1, 5], &[2], &[2], format, &mut words).expect(
+            &rt, "memory",
+        );
+        assert_eq!(rt; words.as_slice(), want);
+        write_postings(rt.alloc(), &[], &[], &[], &[], format, &mut words).expect(&rt, "memory");
+        assert_eq!(rt; words.as_slice(), want);
+    }
     Ok(())
 }
 
@@ -31,10 +37,18 @@ fn makes_the_values(rt: HostRuntime) -> Result<(), Fail> {
     Ok(())
 }
 
+// The sums of seventeen of the greatest frequencies pass 2^36, the greatest sum of the first format.
+#[test]
+fn sums_pass_the_first_format(rt: HostRuntime) -> Result<(), Fail> {
+    let sums = freq_sums(rt.alloc(), &[u32::MAX; 17]).expect(&rt, "memory");
+    assert_eq!(rt; sums.last().copied(), Some(73_014_444_014));
+    Ok(())
+}
+
 // The greatest step of sums, None where a step does not fit a frequency.
 fn greatest_step(sums: &SeqView, m: u32) -> Option<u32>
     requires count { length sums.now.values ≡ m }
-    requires below { All (λ s. s < 2 ^ 36) sums.now.values }
+    requires below { All (λ s. s < 2 ^ 48) sums.now.values }
     ensures fit { IfSome result (λ g. All (λ f. f < 2 ^ 32) (steps_from 0 sums.now.values)) }
     ensures greatest { IfSome result (λ g. g ≡ greatest (steps_from 0 sums.now.values)) }
 {
@@ -52,9 +66,10 @@ fn greatest_step(sums: &SeqView, m: u32) -> Option<u32>
     Some(most as u32)
 }
 
-// A cursor over m documents below 3 whose two sequences these words are, in so many parts.
+// A cursor over m documents below 3 whose two sequences these words of a format are, in so many parts.
 fn opened<'a>(
     rt: &impl Abort,
+    format: Format,
     docs: &'a [u64],
     sums: &'a [u64],
     doc_parts: u32,
@@ -64,8 +79,8 @@ fn opened<'a>(
     requires docs { length docs.now < 2 ^ 57 }
     requires sums { length sums.now < 2 ^ 57 }
 {
-    let docs = SeqView::check(docs, doc_parts, m, 3).expect(rt, "documents");
-    let sums = SeqView::check(sums, sum_parts, m, 1 << 36).expect(rt, "sums");
+    let docs = SeqView::check(docs, doc_parts, m, 3, format).expect(rt, "documents");
+    let sums = SeqView::check(sums, sum_parts, m, format.most_sum(), format).expect(rt, "sums");
     let max = greatest_step(&sums, m).expect(rt, "frequencies that fit");
     PostingCursor::new(docs, sums, max)
 }
@@ -84,15 +99,24 @@ fn next_of<C: DocCursor>(cursor: &mut C, d: u32) -> Option<u32> {
     cursor.doc()
 }
 
-// Frequencies 1, 5 in one part, and 1, 2 in two.
+// Frequencies 1, 5 in one part, and 1, 2 in two, in both formats.
 #[test]
 fn reads_the_postings_back(rt: HostRuntime) {
-    let docs = [137_438_953_474, 0, 5];
+    let docs_of_one: &[u64] = &[137_438_953_474, 0, 5];
+    let docs_of_two: &[u64] = &[2, 2, 0, 5];
     let one: &[u64] = &[137_438_953_477, 0, 33];
+    let one_of_two: &[u64] = &[5, 2, 0, 33];
     let two: &[u64] = &[68_719_476_736, 0, 137_438_953_474, 0, 2];
-    for (sums, parts, freq) in [(one, 1, 5), (two, 2, 2)] {
-        assert!(rt; sums.len() <= 5);
-        let mut cursor = opened(&rt, &docs, sums, 1, parts, 2);
+    let two_of_two: &[u64] = &[0, 1, 0, 2, 2, 0, 2];
+    for (format, docs, sums, parts, freq) in [
+        (Format::One, docs_of_one, one, 1, 5),
+        (Format::One, docs_of_one, two, 2, 2),
+        (Format::Two, docs_of_two, one_of_two, 1, 5),
+        (Format::Two, docs_of_two, two_of_two, 2, 2),
+    ] {
+        assert!(rt; docs.len() <= 4);
+        assert!(rt; sums.len() <= 7);
+        let mut cursor = opened(&rt, format, docs, sums, 1, parts, 2);
         assert_eq!(rt; cursor.len(), 2);
         assert_eq!(rt; cursor.max_freq(), freq);
         assert_eq!(rt; next_posting(&mut cursor), Some((0, 1)));
@@ -108,7 +132,7 @@ fn reads_the_postings_back(rt: HostRuntime) {
 fn goes_to_a_document(rt: HostRuntime) {
     let docs = [137_438_953_474, 0, 5];
     let sums = [137_438_953_477, 0, 33];
-    let mut cursor = opened(&rt, &docs, &sums, 1, 1, 2);
+    let mut cursor = opened(&rt, Format::One, &docs, &sums, 1, 1, 2);
     for (d, doc) in [
         (0, Some(0)),
         (1, Some(2)),
@@ -124,12 +148,19 @@ fn goes_to_a_document(rt: HostRuntime) {
 // Frequencies 1, 2, 3 in one part and in two, read from the second on: the first document is skipped.
 #[test]
 fn reads_on_from_a_document(rt: HostRuntime) {
-    let docs = [206_158_430_210, 0];
+    let docs_of_one: &[u64] = &[206_158_430_210, 0];
+    let docs_of_two: &[u64] = &[2, 3, 0];
     let one: &[u64] = &[206_158_430_213, 0, 37];
     let two: &[u64] = &[68_719_476_736, 0, 206_158_430_213, 0, 18];
-    for (sums, parts) in [(one, 1), (two, 2)] {
-        assert!(rt; sums.len() <= 5);
-        let mut cursor = opened(&rt, &docs, sums, 1, parts, 3);
+    let two_of_two: &[u64] = &[0, 1, 0, 5, 3, 0, 18];
+    for (format, docs, sums, parts) in [
+        (Format::One, docs_of_one, one, 1),
+        (Format::One, docs_of_one, two, 2),
+        (Format::Two, docs_of_two, two_of_two, 2),
+    ] {
+        assert!(rt; docs.len() <= 3);
+        assert!(rt; sums.len() <= 7);
+        let mut cursor = opened(&rt, format, docs, sums, 1, parts, 3);
         assert_eq!(rt; next_of(&mut cursor, 1), Some(1));
         assert_eq!(rt; next_posting(&mut cursor), Some((1, 2)));
         assert_eq!(rt; next_posting(&mut cursor), Some((2, 3)));
@@ -139,9 +170,11 @@ fn reads_on_from_a_document(rt: HostRuntime) {
 
 #[test]
 fn an_empty_list_is_at_its_end(rt: HostRuntime) {
-    let mut cursor = opened(&rt, &[], &[], 0, 0, 0);
-    assert_eq!(rt; cursor.len(), 0);
-    assert_eq!(rt; cursor.max_freq(), 0);
-    assert_eq!(rt; next_of(&mut cursor, 0), None);
-    assert_eq!(rt; next_posting(&mut cursor), None);
+    for format in [Format::One, Format::Two] {
+        let mut cursor = opened(&rt, format, &[], &[], 0, 0, 0);
+        assert_eq!(rt; cursor.len(), 0);
+        assert_eq!(rt; cursor.max_freq(), 0);
+        assert_eq!(rt; next_of(&mut cursor, 0), None);
+        assert_eq!(rt; next_posting(&mut cursor), None);
+    }
 }

@@ -1,38 +1,40 @@
-ghost use Rattle.std.specs.Prelude.{◌≡◌, ℕ, ◌≤◌, [], ◌∷◌, ◌++◌, sum, length, IfOk, OnOk, OnErr};
+ghost use Rattle.std.specs.Prelude.{◌≡◌, ℕ, ◌^◌, ◌<◌, ◌≤◌, [], ◌∷◌, ◌++◌, sum, length, IfOk, OnOk, OnErr};
 ghost use Rattle.std.specs.List.{All};
-ghost use Rattle.collection_model.specs.FormatNumbers.{format_one};
 ghost use Rattle.collection_model.specs.Collection.{postings_of, IsPostingList};
 ghost use Rattle.collection_model.specs.Sequences.{doc_sequence, freq_sequence, lessened, sums_from};
+ghost use Rattle.part_cost.specs.Formats.{numbers_of};
 ghost use Rattle.part_cost.specs.Partition.{IsPartition};
 ghost use Rattle.two_level.specs.SequenceWords.{sequence_words};
 
+use part_cost::Format;
 use std::alloc::Global;
 use two_level::{NoMemory, write_seq};
 
-/// Appends the words of the two sequences of a list, each in its parts: first of the documents, then of the sums of the
-/// frequencies. Each document has the frequency at its place. A refusal leaves the words as they were.
+/// Appends the words of the two sequences of a list in a format, each in its parts: first of the documents, then of the sums of
+/// the frequencies. Each document has the frequency at its place. A refusal leaves the words as they were.
 pub fn write_postings(
     alloc: Global,
     docs: &[u32],
     freqs: &[u32],
     doc_ends: &[u64],
     freq_ends: &[u64],
+    format: Format,
     to: &mut Vec<u64>,
 ) -> Result<(), NoMemory>
     requires same_length { length docs.now ≡ length freqs.now }
-    requires list { IsPostingList format_one format_one.most_documents (postings_of docs.now freqs.now) }
+    requires list { IsPostingList (numbers_of format) (numbers_of format).most_documents (postings_of docs.now freqs.now) }
     requires doc_parts { IsPartition (length docs.now) doc_ends.now }
     requires freq_parts { IsPartition (length freqs.now) freq_ends.now }
     ensures ok { OnOk result (to.new.items ≡ to.old.items
-        ++ sequence_words format_one (doc_sequence (postings_of docs.now freqs.now)) doc_ends.now
-        ++ sequence_words format_one (freq_sequence (postings_of docs.now freqs.now)) freq_ends.now) }
+        ++ sequence_words (numbers_of format) (doc_sequence (postings_of docs.now freqs.now)) doc_ends.now
+        ++ sequence_words (numbers_of format) (freq_sequence (postings_of docs.now freqs.now)) freq_ends.now) }
     ensures err { OnErr result (to.new.items ≡ to.old.items) }
 {
     let values = doc_values(alloc, docs)?;
     let sums = freq_sums(alloc, freqs)?;
     let mut words = Vec::new(alloc);
-    write_seq(alloc, &values, doc_ends, &mut words)?;
-    write_seq(alloc, &sums, freq_ends, &mut words)?;
+    write_seq(alloc, &values, doc_ends, format, &mut words)?;
+    write_seq(alloc, &sums, freq_ends, format, &mut words)?;
     to.extend_from_slice(&words)?;
     Ok(())
 }
@@ -61,7 +63,7 @@ pub fn doc_values(alloc: Global, docs: &[u32]) -> Result<Vec<u64>, NoMemory>
 /// The sums of the frequencies of a list up to and with each, less one: the values of their sequence.
 pub fn freq_sums(alloc: Global, freqs: &[u32]) -> Result<Vec<u64>, NoMemory>
     requires not_zero { All (λ f. 1 ≤ f) freqs.now }
-    requires sum_within { sum freqs.now ≤ format_one.most_sum }
+    requires sum_within { sum freqs.now < 2 ^ 64 }
     ensures { IfOk result (λ sums. sums.items ≡ lessened (sums_from 0 freqs.now)) }
 {
     let mut sums = Vec::new(alloc);

@@ -57,5 +57,7 @@ fn refuses_other_bits(rt: HostRuntime) -> Result<(), Fail> {
     words[9] = (511 << 24) | ((1 << 24) - 1);
     assert!(rt; !MapView::<512>::at(Bits { words: &words[..9] }, 0, 600, 599).check());
     assert!(rt; !MapView::<512>::at(Bits { words: &words }, 31, 600, 599).check());
+    // The widest universe takes far more words.
+    assert!(rt; !MapView::<512>::at(Bits { words: &words }, 0, 1 << 48, 1 << 47).check());
     Ok(())
 }

@@ -1,4 +1,4 @@
-use Rattle.std.proofs.Common.{◌≡◌, ℕ, zero, suc, ◌+◌, ◌-◌, ◌*◌, ◌/◌, ◌%◌, ◌^◌, ◌<◌, ◌≤◌, Bool, true, false, List, [], ◌∷◌, ◌++◌, length, take, drop, get_or, slice_index, refl, inl, inr, sym, ap, ◌∙◌, subst, arith}
+use Rattle.std.proofs.Common.{◌≡◌, ℕ, zero, suc, ◌+◌, ◌-◌, ◌*◌, ◌<◌, ◌≤◌, Bool, true, false, List, [], ◌∷◌, ◌++◌, length, take, drop, get_or, slice_index, refl, inl, inr, sym, ap, ◌∙◌, subst, arith}
 use Rattle.std.specs.Prelude.{◌||◌, ◌==◌, ◌↔◌, ◌⊎◌, not, nat_lt, MatchBool}
 use Rattle.std.specs.List.{slice_range}
 use Rattle.std.proofs.lemmas.Bool.{both_ways, ltb_from_iff}
@@ -6,21 +6,23 @@ use Rattle.std.proofs.lemmas.Bool.Decides.{nat_tests}
 use Rattle.std.proofs.lemmas.List.{length-take, length-take-le, get_or-take, get_or-drop, drop-drop, drop-take, take-take}
 use Rattle.std.proofs.lemmas.List.Edits.{length-between, get_or-between}
 use Rattle.std.proofs.Math.Seq.{take-nil, drop-nil, take-append-add, drop-append-add}
-use Rattle.collection_model.specs.FormatNumbers.{format_one}
+use Rattle.collection_model.specs.FormatNumbers.{FormatNumbers, entry_words}
 use Rattle.bit_words.specs.Bits.{bits_of, field_bits, HasNoOne}
 use Rattle.bit_words.specs.Laws.{BitsOfAppended, BitsOfWords}
 use Rattle.bit_words.proofs.Value.{length-field_bits}
+use Rattle.part_cost.specs.Formats.{HasRoom}
 use Rattle.part_cost.specs.Payload.{payload}
 use Rattle.part_cost.specs.Stored.{HoldsPart}
 use Rattle.part_codec.specs.PartBits.{part_bits}
-use Rattle.part_codec.specs.Laws.{TakesItsPayload}
 use Rattle.two_level.specs.declared.check.Check.{Check}
 use Rattle.two_level.specs.declared.check.Check.TheVariants.{K6, K7, K8, K9}
+use Rattle.two_level.specs.EntryFacts.{EntryStates}
 use Rattle.two_level.specs.SequenceWords.{sequence_words}
-use Rattle.two_level.specs.SequenceView.{SequenceView}
 use Rattle.two_level.specs.SequenceFault.{OrElse, FirstOf, stated_last, stated_end, stated_offset, end_before, past_before, stated_count, stated_universe, payload_before, word_behind, first_bit, parts_fit, cannot_follow, entry_breaks, IsPartStored, FirstInSequence, PassChecks}
 use Rattle.two_level.specs.AtAWord.{IsFaultAt, NoneBreaks, ChecksStandAtAWord, SequenceStandsAtAWord, FaultStandsAtAWord}
-use Rattle.two_level.proofs.Lengths.{PartLaws}
+use Rattle.two_level.proofs.EntryLaws.{entry-is-its-words}
+use Rattle.two_level.proofs.Lengths.{PartLaws, entry-within}
+use Rattle.two_level.proofs.Takes.{bits-take}
 use Rattle.two_level.proofs.Follows.{lt-false, false-lt, unmatch, match-false, front-test, fits-begun}
 use Rattle.two_level.proofs.Entries.{payload-rises}
 use Rattle.two_level.proofs.Parts.{used-is}
@@ -50,76 +52,80 @@ word-within words p s i lt = get_or-between words p s i 0 (omega (arith, lt))
 word-at : (words : List ℕ) (p s i j k : ℕ) → i < s - p → j ≡ i → k ≡ p + i → slice_index (slice_range words p s) j ≡ slice_index words k
 word-at words p s i j k lt e f = ap (slice_index (slice_range words p s)) e ∙ word-within words p s i lt ∙ ap (slice_index words) (sym f)
 
--- what an entry at word p states
-entry-at : (words : List ℕ) (p s parts q : ℕ) → p + 2 * parts ≤ s → q < parts → slice_index (slice_range words p s) (0 + 2 * q) ≡ slice_index words (p + 2 * q)
-entry-at words p s parts q fit lt = word-at words p s (2 * q) (0 + 2 * q) (p + 2 * q) (omega arith) (omega arith) refl
+-- an entry of a stretch states what it states at its word
+entry-at : (format : FormatNumbers) (words : List ℕ) (p s parts q : ℕ) → p + entry_words format * parts ≤ s → q < parts
+    → EntryStates format (slice_range words p s) (0 + entry_words format * q) (stated_last format words p q) (stated_end format words p q) (stated_offset format words p q)
+entry-at format words p s parts q fit lt =
+    entry-is-its-words format (slice_range words p s) words (0 + entry_words format * q) (p + entry_words format * q)
+    (λ k less.
+    word-at words p s (entry_words format * q + k) (0 + entry_words format * q + k) (p + entry_words format * q + k) (omega (arith, entry-within format q parts lt, fit, less)) (omega arith) (omega arith))
 
-end-at : (words : List ℕ) (p s parts q : ℕ) → p + 2 * parts ≤ s → q < parts → stated_end format_one (slice_range words p s) 0 q ≡ stated_end format_one words p q
-end-at words p s parts q fit lt = ap (λ w. w / 2 ^ 36) (entry-at words p s parts q fit lt)
+end-at : (format : FormatNumbers) (words : List ℕ) (p s parts q : ℕ) → p + entry_words format * parts ≤ s → q < parts → stated_end format (slice_range words p s) 0 q ≡ stated_end format words p q
+end-at format words p s parts q fit lt = (entry-at format words p s parts q fit lt).end_is
 
-last-at : (words : List ℕ) (p s parts q : ℕ) → p + 2 * parts ≤ s → q < parts → stated_last format_one (slice_range words p s) 0 q ≡ stated_last format_one words p q
-last-at words p s parts q fit lt = ap (λ w. w % 2 ^ 36) (entry-at words p s parts q fit lt)
+last-at : (format : FormatNumbers) (words : List ℕ) (p s parts q : ℕ) → p + entry_words format * parts ≤ s → q < parts → stated_last format (slice_range words p s) 0 q ≡ stated_last format words p q
+last-at format words p s parts q fit lt = (entry-at format words p s parts q fit lt).last_is
 
-offset-at : (words : List ℕ) (p s parts q : ℕ) → p + 2 * parts ≤ s → q < parts → stated_offset format_one (slice_range words p s) 0 q ≡ stated_offset format_one words p q
-offset-at words p s parts q fit lt = word-at words p s (2 * q + 1) (0 + 2 * q + 1) (p + 2 * q + 1) (omega arith) (omega arith) (omega arith)
+offset-at : (format : FormatNumbers) (words : List ℕ) (p s parts q : ℕ) → p + entry_words format * parts ≤ s → q < parts → stated_offset format (slice_range words p s) 0 q ≡ stated_offset format words p q
+offset-at format words p s parts q fit lt = (entry-at format words p s parts q fit lt).offset_is
 
-before-at : (words : List ℕ) (p s parts q : ℕ) → p + 2 * parts ≤ s → q ≤ parts → end_before format_one (slice_range words p s) 0 q ≡ end_before format_one words p q
-before-at words p s parts zero fit le = refl
-before-at words p s parts (suc q) fit le = end-at words p s parts q fit (omega (arith, le))
+before-at : (format : FormatNumbers) (words : List ℕ) (p s parts q : ℕ) → p + entry_words format * parts ≤ s → q ≤ parts → end_before format (slice_range words p s) 0 q ≡ end_before format words p q
+before-at format words p s parts zero fit le = refl
+before-at format words p s parts (suc q) fit le = end-at format words p s parts q fit (omega (arith, le))
 
-past-at : (words : List ℕ) (p s parts q : ℕ) → p + 2 * parts ≤ s → q ≤ parts → past_before format_one (slice_range words p s) 0 q ≡ past_before format_one words p q
-past-at words p s parts zero fit le = refl
-past-at words p s parts (suc q) fit le = ap (λ n. n + 1) (last-at words p s parts q fit (omega (arith, le)))
+past-at : (format : FormatNumbers) (words : List ℕ) (p s parts q : ℕ) → p + entry_words format * parts ≤ s → q ≤ parts → past_before format (slice_range words p s) 0 q ≡ past_before format words p q
+past-at format words p s parts zero fit le = refl
+past-at format words p s parts (suc q) fit le = ap (λ n. n + 1) (last-at format words p s parts q fit (omega (arith, le)))
 
-count-at : (words : List ℕ) (p s parts q : ℕ) → p + 2 * parts ≤ s → q < parts → stated_count format_one (slice_range words p s) 0 q ≡ stated_count format_one words p q
-count-at words p s parts q fit lt =
-    ap (λ n. n - end_before format_one (slice_range words p s) 0 q) (end-at words p s parts q fit lt)
-    ∙ ap (λ n. stated_end format_one words p q - n) (before-at words p s parts q fit (omega (arith, lt)))
+count-at : (format : FormatNumbers) (words : List ℕ) (p s parts q : ℕ) → p + entry_words format * parts ≤ s → q < parts → stated_count format (slice_range words p s) 0 q ≡ stated_count format words p q
+count-at format words p s parts q fit lt =
+    ap (λ n. n - end_before format (slice_range words p s) 0 q) (end-at format words p s parts q fit lt)
+    ∙ ap (λ n. stated_end format words p q - n) (before-at format words p s parts q fit (omega (arith, lt)))
 
-universe-at : (words : List ℕ) (p s parts q : ℕ) → p + 2 * parts ≤ s → q < parts → stated_universe format_one (slice_range words p s) 0 q ≡ stated_universe format_one words p q
-universe-at words p s parts q fit lt =
-    ap (λ n. n + 1 - past_before format_one (slice_range words p s) 0 q) (last-at words p s parts q fit lt)
-    ∙ ap (λ n. stated_last format_one words p q + 1 - n) (past-at words p s parts q fit (omega (arith, lt)))
+universe-at : (format : FormatNumbers) (words : List ℕ) (p s parts q : ℕ) → p + entry_words format * parts ≤ s → q < parts → stated_universe format (slice_range words p s) 0 q ≡ stated_universe format words p q
+universe-at format words p s parts q fit lt =
+    ap (λ n. n + 1 - past_before format (slice_range words p s) 0 q) (last-at format words p s parts q fit lt)
+    ∙ ap (λ n. stated_last format words p q + 1 - n) (past-at format words p s parts q fit (omega (arith, lt)))
 
-payload-at : (words : List ℕ) (p s parts q : ℕ) → p + 2 * parts ≤ s → q ≤ parts → payload_before format_one (slice_range words p s) 0 q ≡ payload_before format_one words p q
-payload-at words p s parts zero fit le = refl
-payload-at words p s parts (suc q) fit le =
+payload-at : (format : FormatNumbers) (words : List ℕ) (p s parts q : ℕ) → p + entry_words format * parts ≤ s → q ≤ parts → payload_before format (slice_range words p s) 0 q ≡ payload_before format words p q
+payload-at format words p s parts zero fit le = refl
+payload-at format words p s parts (suc q) fit le =
     let lt : q < parts = omega (arith, le) in
-    ap (λ n. n + payload (stated_universe format_one (slice_range words p s) 0 q) (stated_count format_one (slice_range words p s) 0 q)) (payload-at words p s parts q fit (omega (arith, le)))
-    ∙ ap (λ u. payload_before format_one words p q + payload u (stated_count format_one (slice_range words p s) 0 q)) (universe-at words p s parts q fit lt)
-    ∙ ap (λ n. payload_before format_one words p q + payload (stated_universe format_one words p q) n) (count-at words p s parts q fit lt)
+    ap (λ n. n + payload (stated_universe format (slice_range words p s) 0 q) (stated_count format (slice_range words p s) 0 q)) (payload-at format words p s parts q fit (omega (arith, le)))
+    ∙ ap (λ u. payload_before format words p q + payload u (stated_count format (slice_range words p s) 0 q)) (universe-at format words p s parts q fit lt)
+    ∙ ap (λ n. payload_before format words p q + payload (stated_universe format words p q) n) (count-at format words p s parts q fit lt)
 
-behind-at : (words : List ℕ) (p s parts : ℕ) → p + 2 * parts ≤ s → word_behind format_one words p parts ≡ p + word_behind format_one (slice_range words p s) 0 parts
-behind-at words p s parts fit = omega (arith, payload-at words p s parts parts fit (omega arith))
+behind-at : (format : FormatNumbers) (words : List ℕ) (p s parts : ℕ) → p + entry_words format * parts ≤ s → word_behind format words p parts ≡ p + word_behind format (slice_range words p s) 0 parts
+behind-at format words p s parts fit = omega (arith, payload-at format words p s parts parts fit (omega arith))
 
-breaks-at : (words : List ℕ) (p s parts m bound q : ℕ) → p + 2 * parts ≤ s → q < parts
-    → entry_breaks format_one (slice_range words p s) 0 parts m bound q ≡ entry_breaks format_one words p parts m bound q
-breaks-at words p s parts m bound q fit lt =
+breaks-at : (format : FormatNumbers) (words : List ℕ) (p s parts m bound q : ℕ) → p + entry_words format * parts ≤ s → q < parts
+    → entry_breaks format (slice_range words p s) 0 parts m bound q ≡ entry_breaks format words p parts m bound q
+breaks-at format words p s parts m bound q fit lt =
     let le : q ≤ parts = omega (arith, lt) in
     let within : List ℕ = slice_range words p s in
-    let before : ℕ = end_before format_one words p q in
-    let past : ℕ = past_before format_one words p q in
-    let bits : ℕ = payload_before format_one words p q in
-    let end : ℕ = stated_end format_one words p q in
-    let last : ℕ = stated_last format_one words p q in
-    let end_in : ℕ = stated_end format_one within 0 q in
-    let last_in : ℕ = stated_last format_one within 0 q in
-    let offset_in : ℕ = stated_offset format_one within 0 q in
+    let before : ℕ = end_before format words p q in
+    let past : ℕ = past_before format words p q in
+    let bits : ℕ = payload_before format words p q in
+    let end : ℕ = stated_end format words p q in
+    let last : ℕ = stated_last format words p q in
+    let end_in : ℕ = stated_end format within 0 q in
+    let last_in : ℕ = stated_last format within 0 q in
+    let offset_in : ℕ = stated_offset format within 0 q in
     let t : Bool = q + 1 == parts in
-    ap (λ n. cannot_follow m bound n (past_before format_one within 0 q) (payload_before format_one within 0 q) t end_in last_in offset_in) (before-at words p s parts q fit le)
-    ∙ ap (λ n. cannot_follow m bound before n (payload_before format_one within 0 q) t end_in last_in offset_in) (past-at words p s parts q fit le)
-    ∙ ap (λ n. cannot_follow m bound before past n t end_in last_in offset_in) (payload-at words p s parts q fit le)
-    ∙ ap (λ n. cannot_follow m bound before past bits t n last_in offset_in) (end-at words p s parts q fit lt)
-    ∙ ap (λ n. cannot_follow m bound before past bits t end n offset_in) (last-at words p s parts q fit lt)
-    ∙ ap (λ n. cannot_follow m bound before past bits t end last n) (offset-at words p s parts q fit lt)
+    ap (λ n. cannot_follow m bound n (past_before format within 0 q) (payload_before format within 0 q) t end_in last_in offset_in) (before-at format words p s parts q fit le)
+    ∙ ap (λ n. cannot_follow m bound before n (payload_before format within 0 q) t end_in last_in offset_in) (past-at format words p s parts q fit le)
+    ∙ ap (λ n. cannot_follow m bound before past n t end_in last_in offset_in) (payload-at format words p s parts q fit le)
+    ∙ ap (λ n. cannot_follow m bound before past bits t n last_in offset_in) (end-at format words p s parts q fit lt)
+    ∙ ap (λ n. cannot_follow m bound before past bits t end n offset_in) (last-at format words p s parts q fit lt)
+    ∙ ap (λ n. cannot_follow m bound before past bits t end last n) (offset-at format words p s parts q fit lt)
 
 less-shifted : (p s x y : ℕ) → p ≤ s → y ≡ p + x → nat_lt (s - p) x ≡ nat_lt s y
 less-shifted p s x y le e = ltb_from_iff {b = nat_lt (s - p) x} {m = s} {n = y} (λ h. grind (arith, nat_tests), λ h. grind (arith, nat_tests))
 
-behind-test : (words : List ℕ) (p s parts : ℕ) → p + 2 * parts ≤ s
-    → nat_lt (s - p) (word_behind format_one (slice_range words p s) 0 parts) ≡ nat_lt s (word_behind format_one words p parts)
-behind-test words p s parts fit =
-    less-shifted p s (word_behind format_one (slice_range words p s) 0 parts) (word_behind format_one words p parts) (omega arith) (behind-at words p s parts fit)
+behind-test : (format : FormatNumbers) (words : List ℕ) (p s parts : ℕ) → p + entry_words format * parts ≤ s
+    → nat_lt (s - p) (word_behind format (slice_range words p s) 0 parts) ≡ nat_lt s (word_behind format words p parts)
+behind-test format words p s parts fit =
+    less-shifted p s (word_behind format (slice_range words p s) 0 parts) (word_behind format words p parts) (omega arith) (behind-at format words p s parts fit)
 
 -- the bits of a stretch of words
 bits-front : (k : ℕ) (words : List ℕ) → bits_of (take k words) ≡ take (64 * k) (bits_of words)
@@ -181,200 +187,197 @@ held-in : (words ys : List ℕ) (p s at u n : ℕ) → at + length (part_bits ys
 held-in words ys p s at u n fit h = record { values = h.values; stored = piece-within words p s at (length (part_bits ys u)) fit ∙ h.stored }
 
 -- a part whose sequence ends before word s lies before it
-part-fits : TakesItsPayload → (words ys : List ℕ) (p s parts q n : ℕ) → p + 2 * parts ≤ s → word_behind format_one words p parts ≤ s → q < parts
-    → n ≡ stated_count format_one (slice_range words p s) 0 q → (bits : List ℕ) (at : ℕ) → HoldsPart part_bits bits at (stated_universe format_one (slice_range words p s) 0 q) n ys
-    → first_bit format_one 0 parts + payload_before format_one (slice_range words p s) 0 q + length (part_bits ys (stated_universe format_one (slice_range words p s) 0 q)) ≤ 64 * (s - p)
-part-fits takes words ys p s parts q n fit behind lt e bits at h =
+part-fits : (format : FormatNumbers) (words ys : List ℕ) (p s parts q n : ℕ) → p + entry_words format * parts ≤ s → word_behind format words p parts ≤ s → q < parts
+    → n ≡ stated_count format (slice_range words p s) 0 q → (bits : List ℕ) (at : ℕ) → HoldsPart part_bits bits at (stated_universe format (slice_range words p s) 0 q) n ys
+    → first_bit format 0 parts + payload_before format (slice_range words p s) 0 q + length (part_bits ys (stated_universe format (slice_range words p s) 0 q)) ≤ 64 * (s - p)
+part-fits format words ys p s parts q n fit behind lt e bits at h =
     let within : List ℕ = slice_range words p s in
-    let u : ℕ = stated_universe format_one within 0 q in
-    let last : stated_last format_one within 0 q < 2 ^ 36 = omega arith in
-    let small : u ≤ 2 ^ 36 = omega arith in
-    let long : length (part_bits ys u) ≡ payload u n = takes u n ys small h.values in
-    let next : payload_before format_one within 0 (suc q) ≡ payload_before format_one within 0 q + payload u n = ap (λ k. payload_before format_one within 0 q + payload u k) (sym e) in
-    let rises = payload-rises within (suc q) (parts - suc q) in
-    let all : payload_before format_one within 0 (suc q + (parts - suc q)) ≡ payload_before format_one within 0 parts =
-    ap (payload_before format_one within 0) (let k : suc q + (parts - suc q) ≡ parts = omega (arith, lt) in k) in
-    omega (arith, long, next, rises, all, behind, behind-at words p s parts fit)
+    let u : ℕ = stated_universe format within 0 q in
+    let long : length (part_bits ys u) ≡ payload u n = bits-take u n ys h.values in
+    let next : payload_before format within 0 (suc q) ≡ payload_before format within 0 q + payload u n = ap (λ k. payload_before format within 0 q + payload u k) (sym e) in
+    let rises = payload-rises format within (suc q) (parts - suc q) in
+    let all : payload_before format within 0 (suc q + (parts - suc q)) ≡ payload_before format within 0 parts =
+    ap (payload_before format within 0) (let k : suc q + (parts - suc q) ≡ parts = omega (arith, lt) in k) in
+    omega (arith, long, next, rises, all, behind, behind-at format words p s parts fit)
 
-place-at : (words : List ℕ) (p s parts q : ℕ) → p + 2 * parts ≤ s → q ≤ parts
-    → 64 * p + (first_bit format_one 0 parts + payload_before format_one (slice_range words p s) 0 q) ≡ first_bit format_one p parts + payload_before format_one words p q
-place-at words p s parts q fit le = omega (arith, payload-at words p s parts q fit le)
+place-at : (format : FormatNumbers) (words : List ℕ) (p s parts q : ℕ) → p + entry_words format * parts ≤ s → q ≤ parts
+    → 64 * p + (first_bit format 0 parts + payload_before format (slice_range words p s) 0 q) ≡ first_bit format p parts + payload_before format words p q
+place-at format words p s parts q fit le = omega (arith, payload-at format words p s parts q fit le)
 
-stored-out : TakesItsPayload → (words : List ℕ) (p s parts q : ℕ) → p + 2 * parts ≤ s → word_behind format_one words p parts ≤ s → q < parts
-    → IsPartStored format_one (slice_range words p s) 0 parts q → IsPartStored format_one words p parts q
-stored-out takes words p s parts q fit behind lt h =
+stored-out : (format : FormatNumbers) (words : List ℕ) (p s parts q : ℕ) → p + entry_words format * parts ≤ s → word_behind format words p parts ≤ s → q < parts
+    → IsPartStored format (slice_range words p s) 0 parts q → IsPartStored format words p parts q
+stored-out format words p s parts q fit behind lt h =
     let within : List ℕ = slice_range words p s in
-    let at : ℕ = first_bit format_one 0 parts + payload_before format_one within 0 q in
-    let u : ℕ = stated_universe format_one within 0 q in
-    let n : ℕ = stated_count format_one within 0 q in (
+    let at : ℕ = first_bit format 0 parts + payload_before format within 0 q in
+    let u : ℕ = stated_universe format within 0 q in
+    let n : ℕ = stated_count format within 0 q in (
       h.0,
-      held-as (bits_of words) h.0 (64 * p + at) u n (first_bit format_one p parts + payload_before format_one words p q) (stated_universe format_one words p q) (stated_count format_one words p q)
-          (place-at words p s parts q fit (omega (arith, lt))) (universe-at words p s parts q fit lt) (count-at words p s parts q fit lt)
-          (held-out words h.0 p s at u n (part-fits takes words h.0 p s parts q n fit behind lt refl (bits_of within) at h.1) h.1),
+      held-as (bits_of words) h.0 (64 * p + at) u n (first_bit format p parts + payload_before format words p q) (stated_universe format words p q) (stated_count format words p q)
+          (place-at format words p s parts q fit (omega (arith, lt))) (universe-at format words p s parts q fit lt) (count-at format words p s parts q fit lt)
+          (held-out words h.0 p s at u n (part-fits format words h.0 p s parts q n fit behind lt refl (bits_of within) at h.1) h.1),
     )
 
-stored-in : TakesItsPayload → (words : List ℕ) (p s parts q : ℕ) → p + 2 * parts ≤ s → word_behind format_one words p parts ≤ s → q < parts
-    → IsPartStored format_one words p parts q → IsPartStored format_one (slice_range words p s) 0 parts q
-stored-in takes words p s parts q fit behind lt h =
+stored-in : (format : FormatNumbers) (words : List ℕ) (p s parts q : ℕ) → p + entry_words format * parts ≤ s → word_behind format words p parts ≤ s → q < parts
+    → IsPartStored format words p parts q → IsPartStored format (slice_range words p s) 0 parts q
+stored-in format words p s parts q fit behind lt h =
     let within : List ℕ = slice_range words p s in
-    let at : ℕ = first_bit format_one 0 parts + payload_before format_one within 0 q in
-    let u : ℕ = stated_universe format_one within 0 q in
-    let n : ℕ = stated_count format_one within 0 q in
+    let at : ℕ = first_bit format 0 parts + payload_before format within 0 q in
+    let u : ℕ = stated_universe format within 0 q in
+    let n : ℕ = stated_count format within 0 q in
     let held : HoldsPart part_bits (bits_of words) (64 * p + at) u n h.0 =
-    held-as (bits_of words) h.0 (first_bit format_one p parts + payload_before format_one words p q) (stated_universe format_one words p q) (stated_count format_one words p q) (64 * p + at) u n
-    (sym (place-at words p s parts q fit (omega (arith, lt)))) (sym (universe-at words p s parts q fit lt)) (sym (count-at words p s parts q fit lt)) h.1 in
-    (h.0, held-in words h.0 p s at u n (part-fits takes words h.0 p s parts q n fit behind lt refl (bits_of words) (64 * p + at) held) held)
+    held-as (bits_of words) h.0 (first_bit format p parts + payload_before format words p q) (stated_universe format words p q) (stated_count format words p q) (64 * p + at) u n
+    (sym (place-at format words p s parts q fit (omega (arith, lt)))) (sym (universe-at format words p s parts q fit lt)) (sym (count-at format words p s parts q fit lt)) h.1 in
+    (h.0, held-in words h.0 p s at u n (part-fits format words h.0 p s parts q n fit behind lt refl (bits_of words) (64 * p + at) held) held)
 
 -- the padding, up to the end of a word
-padding-out : (words : List ℕ) (p s parts : ℕ) → p + 2 * parts ≤ s → word_behind format_one words p parts ≤ s
-    → HasNoOne (bits_of (slice_range words p s)) (first_bit format_one 0 parts + payload_before format_one (slice_range words p s) 0 parts) (64 * word_behind format_one (slice_range words p s) 0 parts)
-    → HasNoOne (bits_of words) (first_bit format_one p parts + payload_before format_one words p parts) (64 * word_behind format_one words p parts)
-padding-out words p s parts fit behind h q le lt =
+padding-out : (format : FormatNumbers) (words : List ℕ) (p s parts : ℕ) → p + entry_words format * parts ≤ s → word_behind format words p parts ≤ s
+    → HasNoOne (bits_of (slice_range words p s)) (first_bit format 0 parts + payload_before format (slice_range words p s) 0 parts) (64 * word_behind format (slice_range words p s) 0 parts)
+    → HasNoOne (bits_of words) (first_bit format p parts + payload_before format words p parts) (64 * word_behind format words p parts)
+padding-out format words p s parts fit behind h q le lt =
     let within : List ℕ = slice_range words p s in
-    zeros-out words p s (first_bit format_one 0 parts + payload_before format_one within 0 parts) (64 * word_behind format_one within 0 parts) (omega (arith, behind, behind-at words p s parts fit)) h q
-    (omega (arith, le, place-at words p s parts parts fit (omega arith))) (omega (arith, lt, behind-at words p s parts fit))
+    zeros-out words p s (first_bit format 0 parts + payload_before format within 0 parts) (64 * word_behind format within 0 parts) (omega (arith, behind, behind-at format words p s parts fit)) h q
+    (omega (arith, le, place-at format words p s parts parts fit (omega arith))) (omega (arith, lt, behind-at format words p s parts fit))
 
-padding-in : (words : List ℕ) (p s parts : ℕ) → p + 2 * parts ≤ s → word_behind format_one words p parts ≤ s
-    → HasNoOne (bits_of words) (first_bit format_one p parts + payload_before format_one words p parts) (64 * word_behind format_one words p parts)
-    → HasNoOne (bits_of (slice_range words p s)) (first_bit format_one 0 parts + payload_before format_one (slice_range words p s) 0 parts) (64 * word_behind format_one (slice_range words p s) 0 parts)
-padding-in words p s parts fit behind h =
+padding-in : (format : FormatNumbers) (words : List ℕ) (p s parts : ℕ) → p + entry_words format * parts ≤ s → word_behind format words p parts ≤ s
+    → HasNoOne (bits_of words) (first_bit format p parts + payload_before format words p parts) (64 * word_behind format words p parts)
+    → HasNoOne (bits_of (slice_range words p s)) (first_bit format 0 parts + payload_before format (slice_range words p s) 0 parts) (64 * word_behind format (slice_range words p s) 0 parts)
+padding-in format words p s parts fit behind h =
     let within : List ℕ = slice_range words p s in
-    zeros-in words p s (first_bit format_one 0 parts + payload_before format_one within 0 parts) (64 * word_behind format_one within 0 parts) (omega (arith, behind, behind-at words p s parts fit))
-    (λ q le lt. h q (omega (arith, le, place-at words p s parts parts fit (omega arith))) (omega (arith, lt, behind-at words p s parts fit)))
+    zeros-in words p s (first_bit format 0 parts + payload_before format within 0 parts) (64 * word_behind format within 0 parts) (omega (arith, behind, behind-at format words p s parts fit))
+    (λ q le lt. h q (omega (arith, le, place-at format words p s parts parts fit (omega arith))) (omega (arith, lt, behind-at format words p s parts fit)))
 
 -- the checks, from the last one
-abbrev PaddingAt : List ℕ → ℕ → ℕ → (Check → ℕ → Type 0) → Type 0 → Type 0
-PaddingAt words p parts found later =
-    OrElse (¬ HasNoOne (bits_of words) (first_bit format_one p parts + payload_before format_one words p parts) (64 * word_behind format_one words p parts)) (found K9 0) later
+abbrev PaddingAt : (format : FormatNumbers) → List ℕ → ℕ → ℕ → (Check → ℕ → Type 0) → Type 0 → Type 0
+PaddingAt format words p parts found later =
+    OrElse (¬ HasNoOne (bits_of words) (first_bit format p parts + payload_before format words p parts) (64 * word_behind format words p parts)) (found K9 0) later
 
-abbrev PartsAt : List ℕ → ℕ → ℕ → (Check → ℕ → Type 0) → Type 0 → Type 0
-PartsAt words p parts found later = FirstOf (λ q. ¬ IsPartStored format_one words p parts q) parts (found K8) (PaddingAt words p parts found later)
+abbrev PartsAt : (format : FormatNumbers) → List ℕ → ℕ → ℕ → (Check → ℕ → Type 0) → Type 0 → Type 0
+PartsAt format words p parts found later = FirstOf (λ q. ¬ IsPartStored format words p parts q) parts (found K8) (PaddingAt format words p parts found later)
 
-abbrev BehindAt : List ℕ → ℕ → ℕ → ℕ → (Check → ℕ → Type 0) → Type 0 → Type 0
-BehindAt words s p parts found later = MatchBool (nat_lt s (word_behind format_one words p parts)) (found K7 parts) (PartsAt words p parts found later)
+abbrev BehindAt : (format : FormatNumbers) → List ℕ → ℕ → ℕ → ℕ → (Check → ℕ → Type 0) → Type 0 → Type 0
+BehindAt format words s p parts found later = MatchBool (nat_lt s (word_behind format words p parts)) (found K7 parts) (PartsAt format words p parts found later)
 
 -- The checks of a sequence at one word and of another at another break alike.
-record SameChecks (words others : List ℕ) (s p t r parts m bound : ℕ) : Type 0 where
-  pub entries : (q : ℕ) → q < parts → entry_breaks format_one words p parts m bound q ≡ entry_breaks format_one others r parts m bound q
-  pub behind : nat_lt s (word_behind format_one words p parts) ≡ nat_lt t (word_behind format_one others r parts)
-  pub stored : nat_lt t (word_behind format_one others r parts) ≡ false → (q : ℕ) → q < parts → IsPartStored format_one words p parts q ↔ IsPartStored format_one others r parts q
-  pub filled : nat_lt t (word_behind format_one others r parts) ≡ false
-      → HasNoOne (bits_of words) (first_bit format_one p parts + payload_before format_one words p parts) (64 * word_behind format_one words p parts)
-      ↔ HasNoOne (bits_of others) (first_bit format_one r parts + payload_before format_one others r parts) (64 * word_behind format_one others r parts)
+record SameChecks (format : FormatNumbers) (words others : List ℕ) (s p t r parts m bound : ℕ) : Type 0 where
+  pub entries : (q : ℕ) → q < parts → entry_breaks format words p parts m bound q ≡ entry_breaks format others r parts m bound q
+  pub behind : nat_lt s (word_behind format words p parts) ≡ nat_lt t (word_behind format others r parts)
+  pub stored : nat_lt t (word_behind format others r parts) ≡ false → (q : ℕ) → q < parts → IsPartStored format words p parts q ↔ IsPartStored format others r parts q
+  pub filled : nat_lt t (word_behind format others r parts) ≡ false
+      → HasNoOne (bits_of words) (first_bit format p parts + payload_before format words p parts) (64 * word_behind format words p parts)
+      ↔ HasNoOne (bits_of others) (first_bit format r parts + payload_before format others r parts) (64 * word_behind format others r parts)
 
-first-alike : (words others : List ℕ) (s p t r parts m bound : ℕ) → SameChecks words others s p t r parts m bound
+first-alike : (format : FormatNumbers) (words others : List ℕ) (s p t r parts m bound : ℕ) → SameChecks format words others s p t r parts m bound
     → (F G : Check → ℕ → Type 0) (L M : Type 0) → ((k : Check) (q : ℕ) → F k q → G k q) → (L → M)
-    → FirstInSequence format_one words s p parts m bound F L → FirstInSequence format_one others t r parts m bound G M
-first-alike words others s p t r parts m bound same F G L M found later =
-    first-of-alike (λ q. entry_breaks format_one words p parts m bound q ≡ true) (λ q. entry_breaks format_one others r parts m bound q ≡ true) (F K7) (G K7) parts
-    (BehindAt words s p parts F L) (BehindAt others t r parts G M) (λ q lt e. sym (same.entries q lt) ∙ e) (λ q lt e. same.entries q lt ∙ e) (found K7)
-    (match-alike (nat_lt s (word_behind format_one words p parts)) (nat_lt t (word_behind format_one others r parts)) (F K7 parts) (PartsAt words p parts F L) (G K7 parts) (PartsAt others r parts G M)
+    → FirstInSequence format words s p parts m bound F L → FirstInSequence format others t r parts m bound G M
+first-alike format words others s p t r parts m bound same F G L M found later =
+    first-of-alike (λ q. entry_breaks format words p parts m bound q ≡ true) (λ q. entry_breaks format others r parts m bound q ≡ true) (F K7) (G K7) parts
+    (BehindAt format words s p parts F L) (BehindAt format others t r parts G M) (λ q lt e. sym (same.entries q lt) ∙ e) (λ q lt e. same.entries q lt ∙ e) (found K7)
+    (match-alike (nat_lt s (word_behind format words p parts)) (nat_lt t (word_behind format others r parts)) (F K7 parts) (PartsAt format words p parts F L) (G K7 parts) (PartsAt format others r parts G M)
     same.behind (found K7 parts)
     (λ e.
-    first-of-alike (λ q. ¬ IsPartStored format_one words p parts q) (λ q. ¬ IsPartStored format_one others r parts q) (F K8) (G K8) parts (PaddingAt words p parts F L) (PaddingAt others r parts G M)
+    first-of-alike (λ q. ¬ IsPartStored format words p parts q) (λ q. ¬ IsPartStored format others r parts q) (F K8) (G K8) parts (PaddingAt format words p parts F L) (PaddingAt format others r parts G M)
     (λ q lt none h. none ((same.stored e q lt).1 h)) (λ q lt none h. none ((same.stored e q lt).0 h)) (found K8)
-    (or-else-alike (¬ HasNoOne (bits_of words) (first_bit format_one p parts + payload_before format_one words p parts) (64 * word_behind format_one words p parts))
-    (¬ HasNoOne (bits_of others) (first_bit format_one r parts + payload_before format_one others r parts) (64 * word_behind format_one others r parts)) (F K9 0) (G K9 0) L M
+    (or-else-alike (¬ HasNoOne (bits_of words) (first_bit format p parts + payload_before format words p parts) (64 * word_behind format words p parts))
+    (¬ HasNoOne (bits_of others) (first_bit format r parts + payload_before format others r parts) (64 * word_behind format others r parts)) (F K9 0) (G K9 0) L M
     (λ ones h. ones ((same.filled e).1 h)) (λ ones h. ones ((same.filled e).0 h)) (found K9 0) later)))
 
 -- those of the words from p up to s, and those of a sequence at word p
-same-out : TakesItsPayload → (words : List ℕ) (p s parts m bound : ℕ) → p + 2 * parts ≤ s → SameChecks (slice_range words p s) words (s - p) 0 s p parts m bound
-same-out takes words p s parts m bound fit = record {
-  entries = λ q lt. breaks-at words p s parts m bound q fit lt;
-  behind = behind-test words p s parts fit;
+same-out : (format : FormatNumbers) (words : List ℕ) (p s parts m bound : ℕ) → p + entry_words format * parts ≤ s → SameChecks format (slice_range words p s) words (s - p) 0 s p parts m bound
+same-out format words p s parts m bound fit = record {
+  entries = λ q lt. breaks-at format words p s parts m bound q fit lt;
+  behind = behind-test format words p s parts fit;
   stored =
       λ e q lt.
-      let behind : word_behind format_one words p parts ≤ s = lt-false s (word_behind format_one words p parts) e in
-      (stored-out takes words p s parts q fit behind lt, stored-in takes words p s parts q fit behind lt);
+      let behind : word_behind format words p parts ≤ s = lt-false s (word_behind format words p parts) e in
+      (stored-out format words p s parts q fit behind lt, stored-in format words p s parts q fit behind lt);
   filled =
       λ e.
-      let behind : word_behind format_one words p parts ≤ s = lt-false s (word_behind format_one words p parts) e in
-      (padding-out words p s parts fit behind, padding-in words p s parts fit behind);
+      let behind : word_behind format words p parts ≤ s = lt-false s (word_behind format words p parts) e in
+      (padding-out format words p s parts fit behind, padding-in format words p s parts fit behind);
 }
 
 -- the same the other way round
-same-back : (words others : List ℕ) (s p t r parts m bound : ℕ) → SameChecks words others s p t r parts m bound → SameChecks others words t r s p parts m bound
-same-back words others s p t r parts m bound same = record {
+same-back : (format : FormatNumbers) (words others : List ℕ) (s p t r parts m bound : ℕ) → SameChecks format words others s p t r parts m bound → SameChecks format others words t r s p parts m bound
+same-back format words others s p t r parts m bound same = record {
   entries = λ q lt. sym (same.entries q lt);
   behind = sym same.behind;
   stored = λ e q lt. let both = same.stored (sym same.behind ∙ e) q lt in (both.1, both.0);
   filled = λ e. let both = same.filled (sym same.behind ∙ e) in (both.1, both.0);
 }
 
-first-out : TakesItsPayload → (words : List ℕ) (p s parts m bound : ℕ) (F : Check → ℕ → Type 0) (L : Type 0) → p + 2 * parts ≤ s
-    → FirstInSequence format_one (slice_range words p s) (s - p) 0 parts m bound F L → FirstInSequence format_one words s p parts m bound F L
-first-out takes words p s parts m bound F L fit =
-    first-alike (slice_range words p s) words (s - p) 0 s p parts m bound (same-out takes words p s parts m bound fit) F F L L (λ k q x. x) (λ x. x)
+first-out : (format : FormatNumbers) (words : List ℕ) (p s parts m bound : ℕ) (F : Check → ℕ → Type 0) (L : Type 0) → p + entry_words format * parts ≤ s
+    → FirstInSequence format (slice_range words p s) (s - p) 0 parts m bound F L → FirstInSequence format words s p parts m bound F L
+first-out format words p s parts m bound F L fit =
+    first-alike format (slice_range words p s) words (s - p) 0 s p parts m bound (same-out format words p s parts m bound fit) F F L L (λ k q x. x) (λ x. x)
 
-first-in : TakesItsPayload → (words : List ℕ) (p s parts m bound : ℕ) (F : Check → ℕ → Type 0) (L : Type 0) → p + 2 * parts ≤ s
-    → FirstInSequence format_one words s p parts m bound F L → FirstInSequence format_one (slice_range words p s) (s - p) 0 parts m bound F L
-first-in takes words p s parts m bound F L fit =
-    first-alike words (slice_range words p s) s p (s - p) 0 parts m bound
-    (same-back (slice_range words p s) words (s - p) 0 s p parts m bound (same-out takes words p s parts m bound fit)) F F L L (λ k q x. x) (λ x. x)
+first-in : (format : FormatNumbers) (words : List ℕ) (p s parts m bound : ℕ) (F : Check → ℕ → Type 0) (L : Type 0) → p + entry_words format * parts ≤ s
+    → FirstInSequence format words s p parts m bound F L → FirstInSequence format (slice_range words p s) (s - p) 0 parts m bound F L
+first-in format words p s parts m bound F L fit =
+    first-alike format words (slice_range words p s) s p (s - p) 0 parts m bound
+    (same-back format (slice_range words p s) words (s - p) 0 s p parts m bound (same-out format words p s parts m bound fit)) F F L L (λ k q x. x) (λ x. x)
 
-pub checks-stand : TakesItsPayload → ChecksStandAtAWord
-checks-stand takes words p s parts m bound fit = record {
-  none = (first-out takes words p s parts m bound (λ k q. ⊥) (Unit {0}) fit, first-in takes words p s parts m bound (λ k q. ⊥) (Unit {0}) fit);
+pub checks-stand : (format : FormatNumbers) → ChecksStandAtAWord format
+checks-stand format words p s parts m bound fit = record {
+  none = (first-out format words p s parts m bound (λ k q. ⊥) (Unit {0}) fit, first-in format words p s parts m bound (λ k q. ⊥) (Unit {0}) fit);
   fault =
       λ check part. (
-        first-out takes words p s parts m bound (λ k q. (check ≡ k) × (part ≡ q)) ⊥ fit,
-        first-in takes words p s parts m bound (λ k q. (check ≡ k) × (part ≡ q)) ⊥ fit,
+        first-out format words p s parts m bound (λ k q. (check ≡ k) × (part ≡ q)) ⊥ fit,
+        first-in format words p s parts m bound (λ k q. (check ≡ k) × (part ≡ q)) ⊥ fit,
       );
 }
 
 -- words that pass every check break none
-pass-none : (words : List ℕ) (n parts m bound : ℕ) → length words ≤ n → PassChecks words parts m bound → NoneBreaks format_one words n 0 parts m bound
-pass-none words n parts m bound fit pass =
+pass-none : (format : FormatNumbers) (words : List ℕ) (n parts m bound : ℕ) → length words ≤ n → PassChecks format words parts m bound → NoneBreaks format words n 0 parts m bound
+pass-none format words n parts m bound fit pass =
     inr (
-      λ q lt e. both_ways (entry_breaks format_one words 0 parts m bound q) (pass.entries q lt) e,
-      match-false (nat_lt n (word_behind format_one words 0 parts)) ⊥ (PartsAt words 0 parts (λ k q. ⊥) (Unit {0}))
-          (false-lt n (word_behind format_one words 0 parts) (omega (arith, pass.within, fit)))
+      λ q lt e. both_ways (entry_breaks format words 0 parts m bound q) (pass.entries q lt) e,
+      match-false (nat_lt n (word_behind format words 0 parts)) ⊥ (PartsAt format words 0 parts (λ k q. ⊥) (Unit {0}))
+          (false-lt n (word_behind format words 0 parts) (omega (arith, pass.within, fit)))
           (inr (λ q lt missing. missing (pass.stored q lt), inr (λ ones. ones pass.filled, tt))),
     )
 
 length-within : (words : List ℕ) (p s : ℕ) → length (slice_range words p s) ≤ s - p
 length-within words p s = omega (arith, length-take (s - p) (drop p words))
 
-pub sequence-stands : PartLaws → BitsOfAppended → BitsOfWords → SequenceStandsAtAWord
-sequence-stands laws appended filled m bound parts used p s xs ends words fits le b =
+pub sequence-stands : (format : FormatNumbers) (room : HasRoom format) → PartLaws → BitsOfAppended → BitsOfWords → SequenceStandsAtAWord format
+sequence-stands format room laws appended filled m bound parts used p s xs ends words fits le b =
     let within : List ℕ = slice_range words p s in
-    let v : SequenceView = record { values = xs; ends = ends } in
-    let pass : PassChecks within parts m bound = fits-begun laws appended filled m bound parts used xs ends within fits b in
+    let pass : PassChecks format within parts m bound = fits-begun format room laws appended filled m bound parts used xs ends within fits b in
     let short = length-within words p s in
-    let room : p + 2 * parts ≤ s = omega (arith, pass.room, short, le) in
-    let takes : length (sequence_words format_one xs ends) ≡ word_behind format_one within 0 parts = used-is laws appended filled within parts m v (bound, used, fits, b) in
+    let fit : p + entry_words format * parts ≤ s = omega (arith, pass.room, short, le) in
+    let takes : length (sequence_words format xs ends) ≡ word_behind format within 0 parts = used-is format room laws appended filled m bound parts used xs ends within fits b in
     record {
       parts_are = pass.parts_are;
-      room = room;
-      none = first-out laws.takes words p s parts m bound (λ k q. ⊥) (Unit {0}) room (pass-none within (s - p) parts m bound short pass);
-      behind = omega (arith, behind-at words p s parts room, takes, ap length b.sequence.spelled, length-take-le used within b.within);
+      room = fit;
+      none = first-out format words p s parts m bound (λ k q. ⊥) (Unit {0}) fit (pass-none format within (s - p) parts m bound short pass);
+      behind = omega (arith, behind-at format words p s parts fit, takes, ap length b.sequence.spelled, length-take-le used within b.within);
     }
 
-pub fault-stands : TakesItsPayload → FaultStandsAtAWord
-fault-stands takes words p s parts m bound part check long fits room h =
+pub fault-stands : (format : FormatNumbers) → FaultStandsAtAWord format
+fault-stands format words p s parts m bound part check long fits room h =
     let within : List ℕ = slice_range words p s in
     let F : Check → ℕ → Type 0 = λ k q. (check ≡ k) × (part ≡ q) in
     let count : length within ≡ s - p = length-between words p s long in
-    let first : FirstInSequence format_one within (length within) 0 parts m bound F ⊥ =
-    unmatch (not (parts_fit m parts) || nat_lt (length within) (2 * parts)) ((check ≡ K6) × (part ≡ 0)) (FirstInSequence format_one within (length within) 0 parts m bound F ⊥)
-    (front-test within parts m fits (omega (arith, count, room))) h in
-    first-out takes words p s parts m bound F ⊥ room (subst (λ n. FirstInSequence format_one within n 0 parts m bound F ⊥) count first)
+    let first : FirstInSequence format within (length within) 0 parts m bound F ⊥ =
+    unmatch (not (parts_fit m parts) || nat_lt (length within) (entry_words format * parts)) ((check ≡ K6) × (part ≡ 0)) (FirstInSequence format within (length within) 0 parts m bound F ⊥)
+    (front-test format within parts m fits (omega (arith, count, room))) h in
+    first-out format words p s parts m bound F ⊥ room (subst (λ n. FirstInSequence format within n 0 parts m bound F ⊥) count first)
 
 -- the checks of one sequence, with what they are to say said otherwise
-first-said : (words : List ℕ) (s p parts m bound : ℕ) (F G : Check → ℕ → Type 0) (L M : Type 0) → ((k : Check) (q : ℕ) → F k q → G k q) → (L → M)
-    → FirstInSequence format_one words s p parts m bound F L → FirstInSequence format_one words s p parts m bound G M
-first-said words s p parts m bound =
-    first-alike words words s p s p parts m bound (record { entries = λ q lt. refl; behind = refl; stored = λ e q lt. (λ h. h, λ h. h); filled = λ e. (λ h. h, λ h. h) })
+first-said : (format : FormatNumbers) (words : List ℕ) (s p parts m bound : ℕ) (F G : Check → ℕ → Type 0) (L M : Type 0) → ((k : Check) (q : ℕ) → F k q → G k q) → (L → M)
+    → FirstInSequence format words s p parts m bound F L → FirstInSequence format words s p parts m bound G M
+first-said format words s p parts m bound =
+    first-alike format words words s p s p parts m bound (record { entries = λ q lt. refl; behind = refl; stored = λ e q lt. (λ h. h, λ h. h); filled = λ e. (λ h. h, λ h. h) })
 
 -- whatever the checks are to say: of a first check that breaks, and of none
-pub fault-found : (words : List ℕ) (s p parts m bound part : ℕ) (check : Check) (found : Check → ℕ → Type 0) (later : Type 0) → IsFaultAt format_one words s p parts m bound check part
-    → found check part → FirstInSequence format_one words s p parts m bound found later
-fault-found words s p parts m bound part check found later h here =
-    first-said words s p parts m bound (λ k q. (check ≡ k) × (part ≡ q)) found ⊥ later (λ k q e. subst (λ k. found k q) e.0 (subst (found check) e.1 here)) (λ x. absurd x) h
+pub fault-found : (format : FormatNumbers) (words : List ℕ) (s p parts m bound part : ℕ) (check : Check) (found : Check → ℕ → Type 0) (later : Type 0) → IsFaultAt format words s p parts m bound check part
+    → found check part → FirstInSequence format words s p parts m bound found later
+fault-found format words s p parts m bound part check found later h here =
+    first-said format words s p parts m bound (λ k q. (check ≡ k) × (part ≡ q)) found ⊥ later (λ k q e. subst (λ k. found k q) e.0 (subst (found check) e.1 here)) (λ x. absurd x) h
 
-pub none-later : (words : List ℕ) (s p parts m bound : ℕ) (found : Check → ℕ → Type 0) (later : Type 0) → NoneBreaks format_one words s p parts m bound
-    → later → FirstInSequence format_one words s p parts m bound found later
-none-later words s p parts m bound found later h rest = first-said words s p parts m bound (λ k q. ⊥) found (Unit {0}) later (λ k q x. absurd x) (λ u. rest) h
+pub none-later : (format : FormatNumbers) (words : List ℕ) (s p parts m bound : ℕ) (found : Check → ℕ → Type 0) (later : Type 0) → NoneBreaks format words s p parts m bound
+    → later → FirstInSequence format words s p parts m bound found later
+none-later format words s p parts m bound found later h rest = first-said format words s p parts m bound (λ k q. ⊥) found (Unit {0}) later (λ k q x. absurd x) (λ u. rest) h
 
 -- either a check breaks first, or none does
 abbrev Parted : ((Check → ℕ → Type 0) → Type 0 → Type 0) → (Check → ℕ → Type 0) → Type 0 → Type 0
@@ -396,28 +399,28 @@ match-parted false check part next found later parted h = parted h
 or-else-parted : (A : Type 0) (check : Check) (part : ℕ) (found : Check → ℕ → Type 0) (later : Type 0) → OrElse A (found check part) later → Parted (λ F L. OrElse A (F check part) L) found later
 or-else-parted A check part found later h = elim h [ inl (a, here) ↦ inl (check, part, inl (a, (refl, refl)), here) | inr (none, x) ↦ inr (inr (none, tt), x) ]
 
-first-parted : (words : List ℕ) (s p parts m bound : ℕ) (found : Check → ℕ → Type 0) (later : Type 0)
-    → FirstInSequence format_one words s p parts m bound found later → Parted (FirstInSequence format_one words s p parts m bound) found later
-first-parted words s p parts m bound found later =
-    first-of-parted (λ q. entry_breaks format_one words p parts m bound q ≡ true) parts K7 (BehindAt words s p parts) found later
-    (match-parted (nat_lt s (word_behind format_one words p parts)) K7 parts (PartsAt words p parts) found later
-    (first-of-parted (λ q. ¬ IsPartStored format_one words p parts q) parts K8 (PaddingAt words p parts) found later
-    (or-else-parted (¬ HasNoOne (bits_of words) (first_bit format_one p parts + payload_before format_one words p parts) (64 * word_behind format_one words p parts)) K9 0 found later)))
+first-parted : (format : FormatNumbers) (words : List ℕ) (s p parts m bound : ℕ) (found : Check → ℕ → Type 0) (later : Type 0)
+    → FirstInSequence format words s p parts m bound found later → Parted (FirstInSequence format words s p parts m bound) found later
+first-parted format words s p parts m bound found later =
+    first-of-parted (λ q. entry_breaks format words p parts m bound q ≡ true) parts K7 (BehindAt format words s p parts) found later
+    (match-parted (nat_lt s (word_behind format words p parts)) K7 parts (PartsAt format words p parts) found later
+    (first-of-parted (λ q. ¬ IsPartStored format words p parts q) parts K8 (PaddingAt format words p parts) found later
+    (or-else-parted (¬ HasNoOne (bits_of words) (first_bit format p parts + payload_before format words p parts) (64 * word_behind format words p parts)) K9 0 found later)))
 
 -- by the law, whatever the checks are to say, both ways
-pub first-at-a-word : ChecksStandAtAWord → (words : List ℕ) (p s parts m bound : ℕ) (found : Check → ℕ → Type 0) (later : Type 0) → p + 2 * parts ≤ s
-    → FirstInSequence format_one (slice_range words p s) (s - p) 0 parts m bound found later ↔ FirstInSequence format_one words s p parts m bound found later
-first-at-a-word law words p s parts m bound found later fit =
+pub first-at-a-word : (format : FormatNumbers) → ChecksStandAtAWord format → (words : List ℕ) (p s parts m bound : ℕ) (found : Check → ℕ → Type 0) (later : Type 0) → p + entry_words format * parts ≤ s
+    → FirstInSequence format (slice_range words p s) (s - p) 0 parts m bound found later ↔ FirstInSequence format words s p parts m bound found later
+first-at-a-word format law words p s parts m bound found later fit =
     let alike = law words p s parts m bound fit in
     let within : List ℕ = slice_range words p s in (
       λ h.
-          elim (first-parted within (s - p) 0 parts m bound found later h) [
-            | inl (k, q, first, here) ↦ fault-found words s p parts m bound q k found later ((alike.fault k q).0 first) here
-            | inr (all, x) ↦ none-later words s p parts m bound found later (alike.none.0 all) x
+          elim (first-parted format within (s - p) 0 parts m bound found later h) [
+            | inl (k, q, first, here) ↦ fault-found format words s p parts m bound q k found later ((alike.fault k q).0 first) here
+            | inr (all, x) ↦ none-later format words s p parts m bound found later (alike.none.0 all) x
           ],
       λ h.
-          elim (first-parted words s p parts m bound found later h) [
-            | inl (k, q, first, here) ↦ fault-found within (s - p) 0 parts m bound q k found later ((alike.fault k q).1 first) here
-            | inr (all, x) ↦ none-later within (s - p) 0 parts m bound found later (alike.none.1 all) x
+          elim (first-parted format words s p parts m bound found later h) [
+            | inl (k, q, first, here) ↦ fault-found format within (s - p) 0 parts m bound q k found later ((alike.fault k q).1 first) here
+            | inr (all, x) ↦ none-later format within (s - p) 0 parts m bound found later (alike.none.1 all) x
           ],
     )

@@ -1,7 +1,7 @@
 use Rattle.std.proofs.Common.{◌≡◌, ℕ, zero, suc, ◌+◌, ◌-◌, ◌*◌, ◌<◌, ◌≤◌, Bool, false, List, length, inl, inr, sym, ap, ◌∙◌, subst, arith, add-one}
 use Rattle.std.specs.Prelude.{◌==◌}
 use Rattle.std.proofs.lemmas.Bool.{cases_lt}
-use Rattle.collection_model.specs.FormatNumbers.{format_one}
+use Rattle.collection_model.specs.FormatNumbers.{FormatNumbers}
 use Rattle.bit_words.specs.Bits.{bits_of}
 use Rattle.part_cost.specs.Payload.{payload}
 use Rattle.part_cost.specs.Stored.{HoldsPart}
@@ -10,43 +10,43 @@ use Rattle.two_level.specs.SequenceFault.{stated_last, stated_end, stated_offset
 use Rattle.two_level.proofs.Follows.{follows-at}
 
 -- what stands before entry q, and the entry itself
-pub record Reached (words : List ℕ) (q before past : ℕ) : Type 0 where
-  pub before_is : before ≡ end_before format_one words 0 q
-  pub past_is : past ≡ past_before format_one words 0 q
+pub record Reached (format : FormatNumbers) (words : List ℕ) (q before past : ℕ) : Type 0 where
+  pub before_is : before ≡ end_before format words 0 q
+  pub past_is : past ≡ past_before format words 0 q
 
-pub record EntryRead (words : List ℕ) (q last end offset : ℕ) : Type 0 where
-  pub last_is : last ≡ stated_last format_one words 0 q
-  pub end_is : end ≡ stated_end format_one words 0 q
-  pub offset_is : offset ≡ stated_offset format_one words 0 q
+pub record EntryRead (format : FormatNumbers) (words : List ℕ) (q last end offset : ℕ) : Type 0 where
+  pub last_is : last ≡ stated_last format words 0 q
+  pub end_is : end ≡ stated_end format words 0 q
+  pub offset_is : offset ≡ stated_offset format words 0 q
 
 -- the test of an entry is that of its place
-pub entry-test : (words : List ℕ) (parts m bound q before past bits last end offset : ℕ) → Reached words q before past → bits ≡ payload_before format_one words 0 q → EntryRead words q last end offset
-    → cannot_follow m bound before past bits (q + 1 == parts) end last offset ≡ entry_breaks format_one words 0 parts m bound q
-entry-test words parts m bound q before past bits last end offset h b e =
+pub entry-test : (format : FormatNumbers) (words : List ℕ) (parts m bound q before past bits last end offset : ℕ) → Reached format words q before past → bits ≡ payload_before format words 0 q → EntryRead format words q last end offset
+    → cannot_follow m bound before past bits (q + 1 == parts) end last offset ≡ entry_breaks format words 0 parts m bound q
+entry-test format words parts m bound q before past bits last end offset h b e =
     let t : Bool = q + 1 == parts in
     ap (λ x. cannot_follow m bound x past bits t end last offset) h.before_is
-    ∙ ap (λ x. cannot_follow m bound (end_before format_one words 0 q) x bits t end last offset) h.past_is
-    ∙ ap (λ x. cannot_follow m bound (end_before format_one words 0 q) (past_before format_one words 0 q) x t end last offset) b
-    ∙ ap (λ x. cannot_follow m bound (end_before format_one words 0 q) (past_before format_one words 0 q) (payload_before format_one words 0 q) t x last offset) e.end_is
-    ∙ ap (λ x. cannot_follow m bound (end_before format_one words 0 q) (past_before format_one words 0 q) (payload_before format_one words 0 q) t (stated_end format_one words 0 q) x offset) e.last_is
-    ∙ ap (λ x. cannot_follow m bound (end_before format_one words 0 q) (past_before format_one words 0 q) (payload_before format_one words 0 q) t (stated_end format_one words 0 q) (stated_last format_one words 0 q) x) e.offset_is
+    ∙ ap (λ x. cannot_follow m bound (end_before format words 0 q) x bits t end last offset) h.past_is
+    ∙ ap (λ x. cannot_follow m bound (end_before format words 0 q) (past_before format words 0 q) x t end last offset) b
+    ∙ ap (λ x. cannot_follow m bound (end_before format words 0 q) (past_before format words 0 q) (payload_before format words 0 q) t x last offset) e.end_is
+    ∙ ap (λ x. cannot_follow m bound (end_before format words 0 q) (past_before format words 0 q) (payload_before format words 0 q) t (stated_end format words 0 q) x offset) e.last_is
+    ∙ ap (λ x. cannot_follow m bound (end_before format words 0 q) (past_before format words 0 q) (payload_before format words 0 q) t (stated_end format words 0 q) (stated_last format words 0 q) x) e.offset_is
 
 -- one entry further
-pub reached-next : (words : List ℕ) (q last end offset : ℕ) → EntryRead words q last end offset → Reached words (q + 1) end (last + 1)
-reached-next words q last end offset e = record {
-  before_is = e.end_is ∙ sym (ap (end_before format_one words 0) (add-one q));
-  past_is = ap (λ x. x + 1) e.last_is ∙ sym (ap (past_before format_one words 0) (add-one q));
+pub reached-next : (format : FormatNumbers) (words : List ℕ) (q last end offset : ℕ) → EntryRead format words q last end offset → Reached format words (q + 1) end (last + 1)
+reached-next format words q last end offset e = record {
+  before_is = e.end_is ∙ sym (ap (end_before format words 0) (add-one q));
+  past_is = ap (λ x. x + 1) e.last_is ∙ sym (ap (past_before format words 0) (add-one q));
 }
 
-pub bits-next : (words : List ℕ) (q before past last end offset bits : ℕ) → Reached words q before past → EntryRead words q last end offset → bits ≡ payload_before format_one words 0 q
-    → bits + payload (last + 1 - past) (end - before) ≡ payload_before format_one words 0 (q + 1)
-bits-next words q before past last end offset bits h e b =
+pub bits-next : (format : FormatNumbers) (words : List ℕ) (q before past last end offset bits : ℕ) → Reached format words q before past → EntryRead format words q last end offset → bits ≡ payload_before format words 0 q
+    → bits + payload (last + 1 - past) (end - before) ≡ payload_before format words 0 (q + 1)
+bits-next format words q before past last end offset bits h e b =
     ap (λ x. x + payload (last + 1 - past) (end - before)) b
-    ∙ ap (λ x. payload_before format_one words 0 q + payload (x + 1 - past) (end - before)) e.last_is
-    ∙ ap (λ x. payload_before format_one words 0 q + payload (stated_last format_one words 0 q + 1 - x) (end - before)) h.past_is
-    ∙ ap (λ x. payload_before format_one words 0 q + payload (stated_universe format_one words 0 q) (x - before)) e.end_is
-    ∙ ap (λ x. payload_before format_one words 0 q + payload (stated_universe format_one words 0 q) (stated_end format_one words 0 q - x)) h.before_is
-    ∙ sym (ap (payload_before format_one words 0) (add-one q))
+    ∙ ap (λ x. payload_before format words 0 q + payload (x + 1 - past) (end - before)) e.last_is
+    ∙ ap (λ x. payload_before format words 0 q + payload (stated_last format words 0 q + 1 - x) (end - before)) h.past_is
+    ∙ ap (λ x. payload_before format words 0 q + payload (stated_universe format words 0 q) (x - before)) e.end_is
+    ∙ ap (λ x. payload_before format words 0 q + payload (stated_universe format words 0 q) (stated_end format words 0 q - x)) h.before_is
+    ∙ sym (ap (payload_before format words 0) (add-one q))
 
 -- a fact of each entry below q, and of q
 pub each-below : (P : ℕ → Type 0) (q : ℕ) → ((r : ℕ) → r < q → P r) → P q → (r : ℕ) → r < q + 1 → P r
@@ -54,31 +54,31 @@ each-below P q all one r lt =
     elim (cases_lt r q) [ inl less ↦ all r less | inr more ↦ subst P (let e : q ≡ r = omega (arith, lt, more) in e) one ]
 
 -- the payload never falls from part to part
-pub payload-rises : (words : List ℕ) (q d : ℕ) → payload_before format_one words 0 q ≤ payload_before format_one words 0 (q + d)
-payload-rises words q zero = omega (arith, ap (payload_before format_one words 0) (let e : q + 0 ≡ q = omega arith in e))
-payload-rises words q (suc d) =
-    omega (arith, payload-rises words q d, ap (payload_before format_one words 0) (let e : q + suc d ≡ suc (q + d) = omega arith in e))
+pub payload-rises : (format : FormatNumbers) (words : List ℕ) (q d : ℕ) → payload_before format words 0 q ≤ payload_before format words 0 (q + d)
+payload-rises format words q zero = omega (arith, ap (payload_before format words 0) (let e : q + 0 ≡ q = omega arith in e))
+payload-rises format words q (suc d) =
+    omega (arith, payload-rises format words q d, ap (payload_before format words 0) (let e : q + suc d ≡ suc (q + d) = omega arith in e))
 
 -- a part whose entry follows begins within the words
-pub place-fits : (words : List ℕ) (parts m bound q offset : ℕ) → q < parts → entry_breaks format_one words 0 parts m bound q ≡ false → offset ≡ stated_offset format_one words 0 q
-    → word_behind format_one words 0 parts ≤ length words → 128 * parts + offset ≤ 64 * length words
-place-fits words parts m bound q offset lt h e within =
-    let k = follows-at words parts m bound q h in
-    let rises = payload-rises words q (parts - q) in
+pub place-fits : (format : FormatNumbers) (words : List ℕ) (parts m bound q offset : ℕ) → q < parts → entry_breaks format words 0 parts m bound q ≡ false → offset ≡ stated_offset format words 0 q
+    → word_behind format words 0 parts ≤ length words → first_bit format 0 parts + offset ≤ 64 * length words
+place-fits format words parts m bound q offset lt h e within =
+    let k = follows-at format words parts m bound q h in
+    let rises = payload-rises format words q (parts - q) in
     let last : q + (parts - q) ≡ parts = omega (arith, lt) in
-    let most : payload_before format_one words 0 q ≤ payload_before format_one words 0 parts = omega (arith, rises, ap (payload_before format_one words 0) last) in
+    let most : payload_before format words 0 q ≤ payload_before format words 0 parts = omega (arith, rises, ap (payload_before format words 0) last) in
     omega (arith, most, e, k.offsets, within)
 
 -- and the values that stand there are those of its place
-pub stored-here : (words : List ℕ) (parts m bound q before past last end offset : ℕ) (ys : List ℕ) → Reached words q before past → EntryRead words q last end offset
-    → entry_breaks format_one words 0 parts m bound q ≡ false → HoldsPart part_bits (bits_of words) (128 * parts + offset) (last + 1 - past) (end - before) ys → IsPartStored format_one words 0 parts q
-stored-here words parts m bound q before past last end offset ys r e h held =
-    let k = follows-at words parts m bound q h in
-    let place : 128 * parts + offset ≡ first_bit format_one 0 parts + payload_before format_one words 0 q = omega (arith, e.offset_is, k.offsets) in
-    let universe_is : last + 1 - past ≡ stated_universe format_one words 0 q = ap (λ x. x + 1 - past) e.last_is ∙ ap (λ x. stated_last format_one words 0 q + 1 - x) r.past_is in
-    let count_is : end - before ≡ stated_count format_one words 0 q = ap (λ x. x - before) e.end_is ∙ ap (λ x. stated_end format_one words 0 q - x) r.before_is in (
+pub stored-here : (format : FormatNumbers) (words : List ℕ) (parts m bound q before past last end offset : ℕ) (ys : List ℕ) → Reached format words q before past → EntryRead format words q last end offset
+    → entry_breaks format words 0 parts m bound q ≡ false → HoldsPart part_bits (bits_of words) (first_bit format 0 parts + offset) (last + 1 - past) (end - before) ys → IsPartStored format words 0 parts q
+stored-here format words parts m bound q before past last end offset ys r e h held =
+    let k = follows-at format words parts m bound q h in
+    let place : first_bit format 0 parts + offset ≡ first_bit format 0 parts + payload_before format words 0 q = omega (arith, e.offset_is, k.offsets) in
+    let universe_is : last + 1 - past ≡ stated_universe format words 0 q = ap (λ x. x + 1 - past) e.last_is ∙ ap (λ x. stated_last format words 0 q + 1 - x) r.past_is in
+    let count_is : end - before ≡ stated_count format words 0 q = ap (λ x. x - before) e.end_is ∙ ap (λ x. stated_end format words 0 q - x) r.before_is in (
       ys,
-      subst (λ p. HoldsPart part_bits (bits_of words) p (stated_universe format_one words 0 q) (stated_count format_one words 0 q) ys) place
-          (subst (λ u. HoldsPart part_bits (bits_of words) (128 * parts + offset) u (stated_count format_one words 0 q) ys) universe_is
-          (subst (λ n. HoldsPart part_bits (bits_of words) (128 * parts + offset) (last + 1 - past) n ys) count_is held)),
+      subst (λ p. HoldsPart part_bits (bits_of words) p (stated_universe format words 0 q) (stated_count format words 0 q) ys) place
+          (subst (λ u. HoldsPart part_bits (bits_of words) (first_bit format 0 parts + offset) u (stated_count format words 0 q) ys) universe_is
+          (subst (λ n. HoldsPart part_bits (bits_of words) (first_bit format 0 parts + offset) (last + 1 - past) n ys) count_is held)),
     )

@@ -1,13 +1,14 @@
-use Rattle.std.proofs.Common.{◌≡◌, ℕ, zero, suc, ◌+◌, ◌-◌, ◌*◌, ◌/◌, ◌%◌, ◌^◌, ◌<◌, ◌≤◌, Bool, true, false, List, [], ◌∷◌, ◌++◌, length, take, drop, replicate, get_or, refl, inl, inr, sym, ap, ◌∙◌, subst, arith}
+use Rattle.std.proofs.Common.{◌≡◌, ℕ, zero, suc, ◌+◌, ◌-◌, ◌*◌, ◌/◌, ◌%◌, ◌<◌, ◌≤◌, Bool, true, false, List, [], ◌∷◌, ◌++◌, length, take, drop, replicate, get_or, refl, inl, inr, sym, ap, ◌∙◌, subst, arith}
 use Rattle.std.specs.Prelude.{◌||◌, ◌&&◌, ◌==◌, not, nat_le, nat_lt, MatchBool}
 use Rattle.std.specs.List.{All}
 use Rattle.std.proofs.lemmas.Bool.{both_ways}
 use Rattle.std.proofs.lemmas.Bool.Decides.{nat_tests}
 use Rattle.std.proofs.lemmas.List.{length-replicate, get_or-append_right, get_or_append_left, get_or-replicate, length-take-le}
-use Rattle.collection_model.specs.FormatNumbers.{format_one}
+use Rattle.collection_model.specs.FormatNumbers.{FormatNumbers, entry_words}
 use Rattle.bit_words.specs.Bits.{bits_of, padding, words_of, HasNoOne}
 use Rattle.bit_words.specs.Laws.{BitsOfAppended, BitsOfWords}
 use Rattle.bit_words.proofs.Value.{length-bits_of}
+use Rattle.part_cost.specs.Formats.{HasRoom}
 use Rattle.part_cost.specs.Span.{past, universe, payload_of_part, relative_values}
 use Rattle.part_cost.specs.Partition.{IsPartitionFrom, cost_from}
 use Rattle.part_cost.specs.Stored.{HoldsPart}
@@ -119,39 +120,39 @@ follows-test m bound before past bits is_last end last offset h =
     (false-and is_last (end == m) (λ k. true-same end m (h.whole k)))
 
 -- entry q of the words follows the entries before it
-abbrev pub FollowsAt : List ℕ → ℕ → ℕ → ℕ → ℕ → Type 0
-FollowsAt words parts m bound q =
-    Follows m bound (end_before format_one words 0 q) (past_before format_one words 0 q) (payload_before format_one words 0 q) (q + 1 == parts)
-    (stated_end format_one words 0 q) (stated_last format_one words 0 q) (stated_offset format_one words 0 q)
+abbrev pub FollowsAt : FormatNumbers → List ℕ → ℕ → ℕ → ℕ → ℕ → Type 0
+FollowsAt format words parts m bound q =
+    Follows m bound (end_before format words 0 q) (past_before format words 0 q) (payload_before format words 0 q) (q + 1 == parts)
+    (stated_end format words 0 q) (stated_last format words 0 q) (stated_offset format words 0 q)
 
-pub follows-at : (words : List ℕ) (parts m bound q : ℕ) → entry_breaks format_one words 0 parts m bound q ≡ false → FollowsAt words parts m bound q
-follows-at words parts m bound q h =
-    follows-from m bound (end_before format_one words 0 q) (past_before format_one words 0 q) (payload_before format_one words 0 q) (q + 1 == parts)
-    (stated_end format_one words 0 q) (stated_last format_one words 0 q) (stated_offset format_one words 0 q) h
+pub follows-at : (format : FormatNumbers) (words : List ℕ) (parts m bound q : ℕ) → entry_breaks format words 0 parts m bound q ≡ false → FollowsAt format words parts m bound q
+follows-at format words parts m bound q h =
+    follows-from m bound (end_before format words 0 q) (past_before format words 0 q) (payload_before format words 0 q) (q + 1 == parts)
+    (stated_end format words 0 q) (stated_last format words 0 q) (stated_offset format words 0 q) h
 
-pub at-follows : (words : List ℕ) (parts m bound q : ℕ) → FollowsAt words parts m bound q → entry_breaks format_one words 0 parts m bound q ≡ false
-at-follows words parts m bound q h =
-    follows-test m bound (end_before format_one words 0 q) (past_before format_one words 0 q) (payload_before format_one words 0 q) (q + 1 == parts)
-    (stated_end format_one words 0 q) (stated_last format_one words 0 q) (stated_offset format_one words 0 q) h
+pub at-follows : (format : FormatNumbers) (words : List ℕ) (parts m bound q : ℕ) → FollowsAt format words parts m bound q → entry_breaks format words 0 parts m bound q ≡ false
+at-follows format words parts m bound q h =
+    follows-test m bound (end_before format words 0 q) (past_before format words 0 q) (payload_before format words 0 q) (q + 1 == parts)
+    (stated_end format words 0 q) (stated_last format words 0 q) (stated_offset format words 0 q) h
 
 -- the checks, from the last one
 abbrev pub Found : Check → ℕ → Check → ℕ → Type 0
 Found check part k q = (check ≡ k) × (part ≡ q)
 
-abbrev pub PaddingStep : List ℕ → ℕ → Check → ℕ → Type 0
-PaddingStep words parts check part =
-    OrElse (¬ HasNoOne (bits_of words) (first_bit format_one 0 parts + payload_before format_one words 0 parts) (64 * word_behind format_one words 0 parts)) (Found check part K9 0) ⊥
+abbrev pub PaddingStep : FormatNumbers → List ℕ → ℕ → Check → ℕ → Type 0
+PaddingStep format words parts check part =
+    OrElse (¬ HasNoOne (bits_of words) (first_bit format 0 parts + payload_before format words 0 parts) (64 * word_behind format words 0 parts)) (Found check part K9 0) ⊥
 
-abbrev pub PartsStep : List ℕ → ℕ → Check → ℕ → Type 0
-PartsStep words parts check part = FirstOf (λ q. ¬ IsPartStored format_one words 0 parts q) parts (Found check part K8) (PaddingStep words parts check part)
+abbrev pub PartsStep : FormatNumbers → List ℕ → ℕ → Check → ℕ → Type 0
+PartsStep format words parts check part = FirstOf (λ q. ¬ IsPartStored format words 0 parts q) parts (Found check part K8) (PaddingStep format words parts check part)
 
-abbrev pub BehindStep : List ℕ → ℕ → Check → ℕ → Type 0
-BehindStep words parts check part =
-    MatchBool (nat_lt (length words) (word_behind format_one words 0 parts)) (Found check part K7 parts) (PartsStep words parts check part)
+abbrev pub BehindStep : FormatNumbers → List ℕ → ℕ → Check → ℕ → Type 0
+BehindStep format words parts check part =
+    MatchBool (nat_lt (length words) (word_behind format words 0 parts)) (Found check part K7 parts) (PartsStep format words parts check part)
 
-abbrev pub EntriesStep : List ℕ → ℕ → ℕ → ℕ → Check → ℕ → Type 0
-EntriesStep words parts m bound check part =
-    FirstOf (λ q. entry_breaks format_one words 0 parts m bound q ≡ true) parts (Found check part K7) (BehindStep words parts check part)
+abbrev pub EntriesStep : FormatNumbers → List ℕ → ℕ → ℕ → ℕ → Check → ℕ → Type 0
+EntriesStep format words parts m bound check part =
+    FirstOf (λ q. entry_breaks format words 0 parts m bound q ≡ true) parts (Found check part K7) (BehindStep format words parts check part)
 
 pub unmatch : (b : Bool) (P Q : Type 0) → b ≡ false → MatchBool b P Q → Q
 unmatch true P Q e h = cc
@@ -165,18 +166,18 @@ pub match-false : (b : Bool) (P Q : Type 0) → b ≡ false → Q → MatchBool 
 match-false true P Q e h = cc
 match-false false P Q e h = h
 
-pub front-test : (words : List ℕ) (parts m : ℕ) → parts_fit m parts ≡ true → 2 * parts ≤ length words → (not (parts_fit m parts) || nat_lt (length words) (2 * parts)) ≡ false
-front-test words parts m h k = or-both (not (parts_fit m parts)) (nat_lt (length words) (2 * parts)) (false-not (parts_fit m parts) h) (false-lt (length words) (2 * parts) k)
+pub front-test : (format : FormatNumbers) (words : List ℕ) (parts m : ℕ) → parts_fit m parts ≡ true → entry_words format * parts ≤ length words → (not (parts_fit m parts) || nat_lt (length words) (entry_words format * parts)) ≡ false
+front-test format words parts m h k = or-both (not (parts_fit m parts)) (nat_lt (length words) (entry_words format * parts)) (false-not (parts_fit m parts) h) (false-lt (length words) (entry_words format * parts) k)
 
-pub no-fault : (words : List ℕ) (parts m bound : ℕ) (check : Check) (part : ℕ) → PassChecks words parts m bound → IsSequenceFault format_one words parts m bound check part → ⊥
-no-fault words parts m bound check part fit h =
-    let first : EntriesStep words parts m bound check part =
-    unmatch (not (parts_fit m parts) || nat_lt (length words) (2 * parts)) ((check ≡ K6) × (part ≡ 0)) (EntriesStep words parts m bound check part) (front-test words parts m fit.parts_are fit.room) h in
+pub no-fault : (format : FormatNumbers) (words : List ℕ) (parts m bound : ℕ) (check : Check) (part : ℕ) → PassChecks format words parts m bound → IsSequenceFault format words parts m bound check part → ⊥
+no-fault format words parts m bound check part fit h =
+    let first : EntriesStep format words parts m bound check part =
+    unmatch (not (parts_fit m parts) || nat_lt (length words) (entry_words format * parts)) ((check ≡ K6) × (part ≡ 0)) (EntriesStep format words parts m bound check part) (front-test format words parts m fit.parts_are fit.room) h in
     elim first [
-      | inl (q, lt, breaks, before, found) ↦ both_ways (entry_breaks format_one words 0 parts m bound q) (fit.entries q lt) breaks
+      | inl (q, lt, breaks, before, found) ↦ both_ways (entry_breaks format words 0 parts m bound q) (fit.entries q lt) breaks
       | inr (none, later) ↦
-          let parts_step : PartsStep words parts check part =
-          unmatch (nat_lt (length words) (word_behind format_one words 0 parts)) (Found check part K7 parts) (PartsStep words parts check part) (false-lt (length words) (word_behind format_one words 0 parts) fit.within) later in
+          let parts_step : PartsStep format words parts check part =
+          unmatch (nat_lt (length words) (word_behind format words 0 parts)) (Found check part K7 parts) (PartsStep format words parts check part) (false-lt (length words) (word_behind format words 0 parts) fit.within) later in
           elim parts_step [
             | inl (q, lt, missing, before, found) ↦ missing (fit.stored q lt)
             | inr (none, later) ↦ elim later [ inl (ones, found) ↦ ones fit.filled | inr (zeros, nothing) ↦ nothing ]
@@ -203,13 +204,13 @@ last-end end n [] e h = h
 last-end end n (next ∷ ends) e h = absurd (omega (arith, e))
 
 -- the entries of a sequence follow each other
-pub entry-follows : PartLaws → (words xs : List ℕ) → AreValues xs → (bound : ℕ) → All (λ x. x < bound) xs → (base parts q i end : ℕ) (ends : List ℕ) → q + suc (length ends) ≡ parts
-    → StandsFrom words xs base q i (end ∷ ends) → FollowsAt words parts (length xs) bound q
-entry-follows laws words xs v bound below base parts q i end ends count h =
-    let k : EntryIs words xs q i end = entry-is laws words xs v base q i end ends h in
+pub entry-follows : (format : FormatNumbers) → PartLaws → (words xs : List ℕ) → AreValues format xs → (bound : ℕ) → All (λ x. x < bound) xs → (base parts q i end : ℕ) (ends : List ℕ) → q + suc (length ends) ≡ parts
+    → StandsFrom format words xs base q i (end ∷ ends) → FollowsAt format words parts (length xs) bound q
+entry-follows format laws words xs v bound below base parts q i end ends count h =
+    let k : EntryIs format words xs q i end = entry-is format laws words xs v base q i end ends h in
     let fit : end ≤ length xs = ends-within end (length xs) ends h.parts.1 in
     let lt : i < end = h.parts.0 in
-    let less : past xs i < past xs end = past-part laws xs v i end lt fit in
+    let less : past xs i < past xs end = past-part format laws xs v i end lt fit in
     let most : past xs end ≤ bound = past-bounded laws bound xs below end (omega arith) fit in
     let room : end - i ≤ universe xs i end = laws.room xs v.rising i end lt fit in
     record {
@@ -225,35 +226,35 @@ entry-follows laws words xs v bound below base parts q i end ends count h =
           k.ends ∙ last-end end (length xs) ends (omega (arith, last, count)) h.parts.1;
     }
 
-pub entries-follow : PartLaws → (words xs : List ℕ) → AreValues xs → (bound : ℕ) → All (λ x. x < bound) xs → (base parts q i : ℕ) (ends : List ℕ) → q + length ends ≡ parts
-    → StandsFrom words xs base q i ends → (j : ℕ) → j < length ends → FollowsAt words parts (length xs) bound (q + j)
-entries-follow laws words xs v bound below base parts q i [] count h j lt = absurd (omega (arith, lt))
-entries-follow laws words xs v bound below base parts q i (end ∷ ends) count h zero lt =
-    subst (FollowsAt words parts (length xs) bound) (let e : q ≡ q + 0 = omega arith in e) (entry-follows laws words xs v bound below base parts q i end ends count h)
-entries-follow laws words xs v bound below base parts q i (end ∷ ends) count h (suc j) lt =
-    let k : EntryIs words xs q i end = entry-is laws words xs v base q i end ends h in
-    subst (FollowsAt words parts (length xs) bound) (let e : suc q + j ≡ q + suc j = omega arith in e)
-    (entries-follow laws words xs v bound below base parts (suc q) end ends (omega (arith, count)) (stands-next laws words xs v base q i end ends h k) j (omega (arith, lt)))
+pub entries-follow : (format : FormatNumbers) → PartLaws → (words xs : List ℕ) → AreValues format xs → (bound : ℕ) → All (λ x. x < bound) xs → (base parts q i : ℕ) (ends : List ℕ) → q + length ends ≡ parts
+    → StandsFrom format words xs base q i ends → (j : ℕ) → j < length ends → FollowsAt format words parts (length xs) bound (q + j)
+entries-follow format laws words xs v bound below base parts q i [] count h j lt = absurd (omega (arith, lt))
+entries-follow format laws words xs v bound below base parts q i (end ∷ ends) count h zero lt =
+    subst (FollowsAt format words parts (length xs) bound) (let e : q ≡ q + 0 = omega arith in e) (entry-follows format laws words xs v bound below base parts q i end ends count h)
+entries-follow format laws words xs v bound below base parts q i (end ∷ ends) count h (suc j) lt =
+    let k : EntryIs format words xs q i end = entry-is format laws words xs v base q i end ends h in
+    subst (FollowsAt format words parts (length xs) bound) (let e : suc q + j ≡ q + suc j = omega arith in e)
+    (entries-follow format laws words xs v bound below base parts (suc q) end ends (omega (arith, count)) (stands-next format laws words xs v base q i end ends h k) j (omega (arith, lt)))
 
 -- the parts of a sequence are stored
-pub parts-stored : PartLaws → (words xs : List ℕ) → AreValues xs → (parts q i : ℕ) (ends : List ℕ) → StandsFrom words xs (first_bit format_one 0 parts) q i ends
-    → (j : ℕ) → j < length ends → IsPartStored format_one words 0 parts (q + j)
-parts-stored laws words xs v parts q i [] h j lt = absurd (omega (arith, lt))
-parts-stored laws words xs v parts q i (end ∷ ends) h zero lt =
-    let base : ℕ = first_bit format_one 0 parts in
-    let k : EntryIs words xs q i end = entry-is laws words xs v base q i end ends h in
+pub parts-stored : (format : FormatNumbers) → PartLaws → (words xs : List ℕ) → AreValues format xs → (parts q i : ℕ) (ends : List ℕ) → StandsFrom format words xs (first_bit format 0 parts) q i ends
+    → (j : ℕ) → j < length ends → IsPartStored format words 0 parts (q + j)
+parts-stored format laws words xs v parts q i [] h j lt = absurd (omega (arith, lt))
+parts-stored format laws words xs v parts q i (end ∷ ends) h zero lt =
+    let base : ℕ = first_bit format 0 parts in
+    let k : EntryIs format words xs q i end = entry-is format laws words xs v base q i end ends h in
     let ys : List ℕ = relative_values xs i end in
-    let place : ℕ = base + payload_before format_one words 0 q in
-    let held : HoldsPart part_bits (bits_of words) place (universe xs i end) (end - i) ys = holds-part laws words xs v base q i end ends h in
-    let stated : HoldsPart part_bits (bits_of words) place (stated_universe format_one words 0 q) (stated_count format_one words 0 q) ys =
-    subst (λ u. HoldsPart part_bits (bits_of words) place u (stated_count format_one words 0 q) ys) (sym k.universes)
+    let place : ℕ = base + payload_before format words 0 q in
+    let held : HoldsPart part_bits (bits_of words) place (universe xs i end) (end - i) ys = holds-part format laws words xs v base q i end ends h in
+    let stated : HoldsPart part_bits (bits_of words) place (stated_universe format words 0 q) (stated_count format words 0 q) ys =
+    subst (λ u. HoldsPart part_bits (bits_of words) place u (stated_count format words 0 q) ys) (sym k.universes)
     (subst (λ n. HoldsPart part_bits (bits_of words) place (universe xs i end) n ys) (sym k.counts) held) in
-    subst (IsPartStored format_one words 0 parts) (let e : q ≡ q + 0 = omega arith in e) (ys, stated)
-parts-stored laws words xs v parts q i (end ∷ ends) h (suc j) lt =
-    let base : ℕ = first_bit format_one 0 parts in
-    let k : EntryIs words xs q i end = entry-is laws words xs v base q i end ends h in
-    subst (IsPartStored format_one words 0 parts) (let e : suc q + j ≡ q + suc j = omega arith in e)
-    (parts-stored laws words xs v parts (suc q) end ends (stands-next laws words xs v base q i end ends h k) j (omega (arith, lt)))
+    subst (IsPartStored format words 0 parts) (let e : q ≡ q + 0 = omega arith in e) (ys, stated)
+parts-stored format laws words xs v parts q i (end ∷ ends) h (suc j) lt =
+    let base : ℕ = first_bit format 0 parts in
+    let k : EntryIs format words xs q i end = entry-is format laws words xs v base q i end ends h in
+    subst (IsPartStored format words 0 parts) (let e : suc q + j ≡ q + suc j = omega arith in e)
+    (parts-stored format laws words xs v parts (suc q) end ends (stands-next format laws words xs v base q i end ends h k) j (omega (arith, lt)))
 
 -- behind bits and others, zeros up to the end of a word
 pub zeros-behind : (before payload rest : List ℕ) (q from : ℕ) → from ≡ length before + length payload → from ≤ q → q < from + padding (length payload)
@@ -270,41 +271,42 @@ word-end : (n p q : ℕ) → q < 64 * (0 + n + (p + 63) / 64) → q < 64 * n + p
 word-end n p q h = omega (arith, h)
 
 -- words that begin with a sequence pass every check
-pub fits-begun : PartLaws → BitsOfAppended → BitsOfWords → (m bound parts used : ℕ) (xs ends words : List ℕ) → bound ≤ 2 ^ 36
-    → BeginsSequence format_one m bound parts xs ends words used → PassChecks words parts m bound
-fits-begun laws appended filled m bound parts used xs ends words fits b =
+pub fits-begun : (format : FormatNumbers) (room : HasRoom format) → PartLaws → BitsOfAppended → BitsOfWords → (m bound parts used : ℕ) (xs ends words : List ℕ) → bound ≤ format.most_sum
+    → BeginsSequence format m bound parts xs ends words used → PassChecks format words parts m bound
+fits-begun format room laws appended filled m bound parts used xs ends words fits b =
     let s = b.sequence in
-    let v : AreValues xs = values-of m bound parts xs ends (take used words) fits s in
-    let whole = stands-whole laws appended filled m bound parts used xs ends words fits b in
-    let base : ℕ = first_bit format_one 0 parts in
-    let directory : List ℕ = directory_from format_one xs 0 0 ends in
+    let v : AreValues format xs = values-of format room m bound parts xs ends (take used words) fits s in
+    let whole = stands-whole format laws appended filled m bound parts used xs ends words fits b in
+    let base : ℕ = first_bit format 0 parts in
+    let directory : List ℕ = directory_from format xs 0 0 ends in
     let payload : List ℕ = payload_from xs 0 ends in
     let behind : List ℕ = drop used words in
-    let total : payload_before format_one words 0 (0 + length ends) ≡ 0 + cost_from (payload_of_part xs) 0 ends = payload-all laws words xs v base 0 0 ends whole in
+    let total : payload_before format words 0 (0 + length ends) ≡ 0 + cost_from (payload_of_part xs) 0 ends = payload-all format laws words xs v base 0 0 ends whole in
     let count : 0 + length ends ≡ parts = omega (arith, s.parts_count) in
-    let takes : length payload ≡ payload_before format_one words 0 parts = omega (arith, length-payload laws xs v 0 ends whole.parts, total, ap (payload_before format_one words 0) count) in
-    let long : used ≡ 2 * parts + (payload_before format_one words 0 parts + 63) / 64 =
-    omega (arith, length-take-le used words b.within, ap length s.spelled, length-sequence laws xs v ends whole.parts, length-payload laws xs v 0 ends whole.parts, takes, s.parts_count) in
+    let takes : length payload ≡ payload_before format words 0 parts = omega (arith, length-payload laws xs v.rising v.in_range 0 ends whole.parts, total, ap (payload_before format words 0) count) in
+    let counted : entry_words format * length ends ≡ entry_words format * parts = ap (λ n. entry_words format * n) s.parts_count in
+    let long : used ≡ entry_words format * parts + (payload_before format words 0 parts + 63) / 64 =
+    omega (arith, length-take-le used words b.within, ap length s.spelled, length-sequence format laws xs v ends whole.parts, length-payload laws xs v.rising v.in_range 0 ends whole.parts, takes, counted) in
     let bits : bits_of words ≡ bits_of directory ++ (payload ++ (replicate (padding (length payload)) 0 ++ bits_of behind)) =
     split-bits laws appended filled words directory payload behind (bits-payload laws xs 0 ends) (begins-split words (directory ++ words_of payload) used s.spelled) in
-    let from : base + payload_before format_one words 0 parts ≡ length (bits_of directory) + length payload =
-    omega (arith, length-bits_of directory, length-directory xs 0 0 ends, s.parts_count, takes) in
+    let from : base + payload_before format words 0 parts ≡ length (bits_of directory) + length payload =
+    omega (arith, length-bits_of directory, length-directory format xs 0 0 ends, counted, takes) in
     record {
       parts_are = count-fits m parts (omega (arith, few-parts 0 m ends s.partition, s.parts_count)) (λ e. some-parts m ends s.partition (s.parts_count ∙ e));
       room = omega (arith, b.within, long);
       entries =
           λ q lt.
-          at-follows words parts m bound q
-          (subst (λ n. FollowsAt words parts n bound q) s.count
-          (subst (FollowsAt words parts (length xs) bound) (let e : 0 + q ≡ q = omega arith in e)
-          (entries-follow laws words xs v bound s.below base parts 0 0 ends count whole q (omega (arith, lt, count)))));
+          at-follows format words parts m bound q
+          (subst (λ n. FollowsAt format words parts n bound q) s.count
+          (subst (FollowsAt format words parts (length xs) bound) (let e : 0 + q ≡ q = omega arith in e)
+          (entries-follow format laws words xs v bound s.below base parts 0 0 ends count whole q (omega (arith, lt, count)))));
       within = omega (arith, b.within, long);
-      stored = λ q lt. subst (IsPartStored format_one words 0 parts) (let e : 0 + q ≡ q = omega arith in e) (parts-stored laws words xs v parts 0 0 ends whole q (omega (arith, lt, count)));
+      stored = λ q lt. subst (IsPartStored format words 0 parts) (let e : 0 + q ≡ q = omega arith in e) (parts-stored format laws words xs v parts 0 0 ends whole q (omega (arith, lt, count)));
       filled =
           λ q le lt.
           ap (λ xs. get_or xs q 0) bits
-          ∙ zeros-behind (bits_of directory) payload (bits_of behind) q (base + payload_before format_one words 0 parts) from le
-          (let e : q < 64 * (2 * parts) + payload_before format_one words 0 parts + (64 - payload_before format_one words 0 parts % 64) % 64 =
-          word-end (2 * parts) (payload_before format_one words 0 parts) q lt in
-          subst (λ n. q < base + payload_before format_one words 0 parts + padding n) (sym takes) (omega (arith, e)));
+          ∙ zeros-behind (bits_of directory) payload (bits_of behind) q (base + payload_before format words 0 parts) from le
+          (let e : q < 64 * (entry_words format * parts) + payload_before format words 0 parts + (64 - payload_before format words 0 parts % 64) % 64 =
+          word-end (entry_words format * parts) (payload_before format words 0 parts) q lt in
+          subst (λ n. q < base + payload_before format words 0 parts + padding n) (sym takes) (omega (arith, e)));
     }

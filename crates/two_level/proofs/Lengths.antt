@@ -4,16 +4,20 @@ use Rattle.std.specs.List.Sorted.{IsStrictlyIncreasing}
 use Rattle.std.proofs.lemmas.List.{length-append}
 use Rattle.std.proofs.lemmas.List.Elements.{All-nil, All-append}
 use Rattle.std.proofs.lemmas.List.FromFn.{length-map-range_with_len}
-use Rattle.collection_model.specs.FormatNumbers.{format_one}
+use Rattle.std.proofs.lemmas.Nat.{mul-le}
+use Rattle.collection_model.specs.FormatNumbers.{FormatNumbers, entry_words, part_charge}
 use Rattle.bit_words.specs.Bits.{AreBits, field_at, words_of}
 use Rattle.part_cost.specs.Payload.{widest_low}
-use Rattle.part_cost.specs.Span.{universe, payload_of_part, cost_of_part, relative_values}
+use Rattle.part_cost.specs.Formats.{HasRoom}
+use Rattle.part_cost.specs.Span.{past, universe, payload_of_part, cost_of_part, relative_values}
 use Rattle.part_cost.specs.Partition.{IsPartitionFrom, cost_from}
 use Rattle.part_cost.specs.Laws.{PartHasRoom, PartIsWithin, PartIsRelative}
 use Rattle.part_codec.specs.PartBits.{part_bits}
 use Rattle.part_codec.specs.Laws.{PartIsBits, TakesItsPayload}
+use Rattle.two_level.specs.EntryWords.{entry}
 use Rattle.two_level.specs.SequenceWords.{directory_from, payload_from, sequence_words}
 use Rattle.two_level.specs.Laws.{TakesItsCost}
+use Rattle.two_level.proofs.EntryLaws.{entry-is-whole}
 
 -- what a part of a rising sequence is, by the laws of the layers below
 pub record PartLaws : Type 0 where
@@ -23,10 +27,17 @@ pub record PartLaws : Type 0 where
   pub within : PartIsWithin
   pub relative : PartIsRelative
 
--- values that rise below the greatest bound
-pub record AreValues (xs : List ℕ) : Type 0 where
+-- values that rise below the greatest bound of a format, which lies in the range of payloads
+pub record AreValues (format : FormatNumbers) (xs : List ℕ) : Type 0 where
   pub rising : IsStrictlyIncreasing xs
-  pub below : All (λ x. x < 2 ^ widest_low) xs
+  pub below : All (λ x. x < format.most_sum) xs
+  pub in_range : All (λ x. x < 2 ^ widest_low) xs
+
+pub below-bound : (least most : ℕ) (xs : List ℕ) → least ≤ most → All (λ x. x < least) xs → All (λ x. x < most) xs
+below-bound least most xs le below k d lt = let small = below k d lt in omega (arith, small, le)
+
+pub are-values : (format : FormatNumbers) (room : HasRoom format) (xs : List ℕ) → IsStrictlyIncreasing xs → All (λ x. x < format.most_sum) xs → AreValues format xs
+are-values format room xs up below = record { rising = up; below = below; in_range = below-bound format.most_sum (2 ^ widest_low) xs room.sums below }
 
 -- parts from a place on end behind it
 pub ends-within : (i n : ℕ) (ends : List ℕ) → IsPartitionFrom i n ends → i ≤ n
@@ -34,21 +45,21 @@ ends-within i n [] h = omega arith
 ends-within i n (end ∷ ends) h = omega (arith, h.0, ends-within end n ends h.1)
 
 -- the bits of one part
-pub part-takes : PartLaws → (xs : List ℕ) → AreValues xs → (i end : ℕ) → i < end → end ≤ length xs
+pub part-takes : PartLaws → (xs : List ℕ) → IsStrictlyIncreasing xs → All (λ x. x < 2 ^ widest_low) xs → (i end : ℕ) → i < end → end ≤ length xs
     → length (part_bits (relative_values xs i end) (universe xs i end)) ≡ payload_of_part xs i end
-part-takes laws xs v i end lt fit =
-    laws.takes (universe xs i end) (end - i) (relative_values xs i end) (laws.within (2 ^ widest_low) xs v.below i end lt fit) (laws.relative xs v.rising i end lt fit)
+part-takes laws xs up fits i end lt fit =
+    laws.takes (universe xs i end) (end - i) (relative_values xs i end) (laws.within (2 ^ widest_low) xs fits i end lt fit) (laws.relative xs up i end lt fit)
 
 -- the bits of all parts from a place on
-pub length-payload : PartLaws → (xs : List ℕ) → AreValues xs → (i : ℕ) (ends : List ℕ) → IsPartitionFrom i (length xs) ends
+pub length-payload : PartLaws → (xs : List ℕ) → IsStrictlyIncreasing xs → All (λ x. x < 2 ^ widest_low) xs → (i : ℕ) (ends : List ℕ) → IsPartitionFrom i (length xs) ends
     → length (payload_from xs i ends) ≡ cost_from (payload_of_part xs) i ends
-length-payload laws xs v i [] h = refl
-length-payload laws xs v i (end ∷ ends) h =
+length-payload laws xs up fits i [] h = refl
+length-payload laws xs up fits i (end ∷ ends) h =
     omega (
       arith,
       length-append (part_bits (relative_values xs i end) (universe xs i end)) (payload_from xs end ends),
-      part-takes laws xs v i end h.0 (ends-within end (length xs) ends h.1),
-      length-payload laws xs v end ends h.1,
+      part-takes laws xs up fits i end h.0 (ends-within end (length xs) ends h.1),
+      length-payload laws xs up fits end ends h.1,
     )
 
 pub bits-payload : PartLaws → (xs : List ℕ) (i : ℕ) (ends : List ℕ) → AreBits (payload_from xs i ends)
@@ -57,32 +68,43 @@ bits-payload laws xs i (end ∷ ends) =
     All-append (λ b. b < 2) (part_bits (relative_values xs i end) (universe xs i end)) (payload_from xs end ends)
     (laws.bits (universe xs i end) (relative_values xs i end)) (bits-payload laws xs end ends)
 
--- two words for each part
-pub length-directory : (xs : List ℕ) (i offset : ℕ) (ends : List ℕ) → length (directory_from format_one xs i offset ends) ≡ 2 * length ends
-length-directory xs i offset [] = refl
-length-directory xs i offset (end ∷ ends) = omega (arith, length-directory xs end (offset + payload_of_part xs i end) ends)
+-- the words of an entry for each part
+pub length-directory : (format : FormatNumbers) (xs : List ℕ) (i offset : ℕ) (ends : List ℕ) → length (directory_from format xs i offset ends) ≡ entry_words format * length ends
+length-directory format xs i offset [] = omega arith
+length-directory format xs i offset (end ∷ ends) =
+    omega (
+      arith,
+      length-append (entry format (past xs end - 1) end offset) (directory_from format xs end (offset + payload_of_part xs i end) ends),
+      entry-is-whole format (past xs end - 1) end offset,
+      length-directory format xs end (offset + payload_of_part xs i end) ends,
+    )
+
+-- an entry ends by the end of the directory
+pub entry-within : (format : FormatNumbers) (q parts : ℕ) → q < parts → entry_words format * q + entry_words format ≤ entry_words format * parts
+entry-within format q parts lt = omega (arith, mul-le (entry_words format) (q + 1) (entry_words format) parts (omega arith) (omega (arith, lt)))
 
 pub length-words_of : (bits : List ℕ) → length (words_of bits) ≡ (length bits + 63) / 64
 length-words_of bits = length-map-range_with_len (λ i. field_at bits (64 * i) 64) 0 ((length bits + 63) / 64)
 
 -- the cost of a partition is the charge of each part and the payload of all
-pub charges : (xs : List ℕ) (i : ℕ) (ends : List ℕ) → cost_from (cost_of_part 128 xs) i ends ≡ 128 * length ends + cost_from (payload_of_part xs) i ends
-charges xs i [] = refl
-charges xs i (end ∷ ends) = omega (arith, charges xs end ends)
+pub charges : (format : FormatNumbers) (xs : List ℕ) (i : ℕ) (ends : List ℕ)
+    → cost_from (cost_of_part (part_charge format) xs) i ends ≡ 64 * (entry_words format * length ends) + cost_from (payload_of_part xs) i ends
+charges format xs i [] = omega arith
+charges format xs i (end ∷ ends) = omega (arith, charges format xs end ends)
 
-pub length-sequence : PartLaws → (xs : List ℕ) → AreValues xs → (ends : List ℕ) → IsPartitionFrom 0 (length xs) ends
-    → length (sequence_words format_one xs ends) ≡ 2 * length ends + (cost_from (payload_of_part xs) 0 ends + 63) / 64
-length-sequence laws xs v ends h =
+pub length-sequence : (format : FormatNumbers) → PartLaws → (xs : List ℕ) → AreValues format xs → (ends : List ℕ) → IsPartitionFrom 0 (length xs) ends
+    → length (sequence_words format xs ends) ≡ entry_words format * length ends + (cost_from (payload_of_part xs) 0 ends + 63) / 64
+length-sequence format laws xs v ends h =
     let payload = payload_from xs 0 ends in
     omega (
       arith,
-      length-append (directory_from format_one xs 0 0 ends) (words_of payload),
-      length-directory xs 0 0 ends,
+      length-append (directory_from format xs 0 0 ends) (words_of payload),
+      length-directory format xs 0 0 ends,
       length-words_of payload,
-      length-payload laws xs v 0 ends h,
+      length-payload laws xs v.rising v.in_range 0 ends h,
     )
 
-pub takes-its-cost : PartLaws → TakesItsCost format_one
-takes-its-cost laws xs ends up below h =
-    let v : AreValues xs = record { rising = up; below = below } in
-    omega (arith, length-sequence laws xs v ends h, charges xs 0 ends)
+pub takes-its-cost : (format : FormatNumbers) (room : HasRoom format) → PartLaws → TakesItsCost format
+takes-its-cost format room laws xs ends up below h =
+    let v : AreValues format xs = are-values format room xs up below in
+    omega (arith, length-sequence format laws xs v ends h, charges format xs 0 ends)

@@ -1,3 +1,4 @@
+pub mod EntryLaws
 pub mod Lengths
 pub mod Stated
 pub mod Writing
@@ -6,4 +7,5 @@ pub mod Accepting
 pub mod Entries
 pub mod Parts
 pub mod Places
+pub mod Takes
 pub mod AtAWord

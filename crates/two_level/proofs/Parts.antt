@@ -1,15 +1,17 @@
-use Rattle.std.proofs.Common.{◌≡◌, ℕ, zero, suc, ◌+◌, ◌-◌, ◌*◌, ◌^◌, ◌<◌, ◌≤◌, List, [], ◌∷◌, length, take, drop, get_or, slice_index, refl, sym, ap, ◌∙◌, subst, arith, add-one}
+use Rattle.std.proofs.Common.{◌≡◌, ℕ, zero, suc, ◌+◌, ◌-◌, ◌*◌, ◌<◌, ◌≤◌, List, [], ◌∷◌, length, take, drop, get_or, slice_index, refl, sym, ap, ◌∙◌, subst, arith, add-one}
 use Rattle.std.specs.List.{slice_range}
 use Rattle.std.proofs.lemmas.List.{length-take-le, length-drop, length-map, get_or-take, get_or-drop, get_or-map}
 use Rattle.std.proofs.lemmas.List.FromFn.{get_or-map-range_with_len}
-use Rattle.collection_model.specs.FormatNumbers.{format_one}
+use Rattle.collection_model.specs.FormatNumbers.{FormatNumbers, entry_words}
 use Rattle.bit_words.specs.Bits.{bits_of}
 use Rattle.bit_words.specs.Laws.{BitsOfAppended, BitsOfWords}
+use Rattle.part_cost.specs.Formats.{HasRoom}
 use Rattle.part_cost.specs.Payload.{payload}
 use Rattle.part_cost.specs.Span.{past, universe, relative_values, payload_of_part}
 use Rattle.part_cost.specs.Partition.{cost_from}
 use Rattle.part_cost.specs.Stored.{HoldsPart, IsFirstAtLeast}
 use Rattle.part_codec.specs.PartBits.{part_bits}
+use Rattle.two_level.specs.SequenceWords.{sequence_words, BeginsSequence}
 use Rattle.two_level.specs.SequenceFault.{stated_last, stated_end, stated_offset, end_before, past_before, stated_count, stated_universe, payload_before, word_behind, first_bit, PassChecks}
 use Rattle.two_level.specs.SequenceView.{SequenceView, BeginWith, sequence_stated, words_used, start_of_part, IsPartOf}
 use Rattle.two_level.specs.SequenceParts.{StatesPart, Restores, HoldsValues}
@@ -22,155 +24,150 @@ use Rattle.two_level.proofs.Follows.{fits-begun, some-parts, follows-at, true-sa
 use Rattle.two_level.proofs.Entries.{payload-rises, bits-next}
 
 -- part q stands from where the entry before it says up to where its own says
-pub record PartStands (words xs : List ℕ) (parts q : ℕ) : Type 0 where
+pub record PartStands (format : FormatNumbers) (words xs : List ℕ) (parts q : ℕ) : Type 0 where
   pub rest : List ℕ
-  pub stands : StandsFrom words xs (first_bit format_one 0 parts) q (end_before format_one words 0 q) (stated_end format_one words 0 q ∷ rest)
+  pub stands : StandsFrom format words xs (first_bit format 0 parts) q (end_before format words 0 q) (stated_end format words 0 q ∷ rest)
 
-pub part-stands : PartLaws → (words xs : List ℕ) → AreValues xs → (parts q i : ℕ) (ends : List ℕ) → StandsFrom words xs (first_bit format_one 0 parts) q i ends
-    → (j : ℕ) → j < length ends → PartStands words xs parts (q + j)
-part-stands laws words xs v parts q i [] h j lt = absurd (omega (arith, lt))
-part-stands laws words xs v parts q i (end ∷ ends) h zero lt =
-    let base : ℕ = first_bit format_one 0 parts in
-    let k : EntryIs words xs q i end = entry-is laws words xs v base q i end ends h in
-    let here : PartStands words xs parts q =
+pub part-stands : (format : FormatNumbers) → PartLaws → (words xs : List ℕ) → AreValues format xs → (parts q i : ℕ) (ends : List ℕ) → StandsFrom format words xs (first_bit format 0 parts) q i ends
+    → (j : ℕ) → j < length ends → PartStands format words xs parts (q + j)
+part-stands format laws words xs v parts q i [] h j lt = absurd (omega (arith, lt))
+part-stands format laws words xs v parts q i (end ∷ ends) h zero lt =
+    let base : ℕ = first_bit format 0 parts in
+    let k : EntryIs format words xs q i end = entry-is format laws words xs v base q i end ends h in
+    let here : PartStands format words xs parts q =
     record {
       rest = ends;
       stands =
-          subst (λ e. StandsFrom words xs base q (end_before format_one words 0 q) (e ∷ ends)) (sym k.ends)
-          (subst (λ b. StandsFrom words xs base q b (end ∷ ends)) (sym h.start) h);
+          subst (λ e. StandsFrom format words xs base q (end_before format words 0 q) (e ∷ ends)) (sym k.ends)
+          (subst (λ b. StandsFrom format words xs base q b (end ∷ ends)) (sym h.start) h);
     } in
-    subst (PartStands words xs parts) (let e : q ≡ q + 0 = omega arith in e) here
-part-stands laws words xs v parts q i (end ∷ ends) h (suc j) lt =
-    let base : ℕ = first_bit format_one 0 parts in
-    let k : EntryIs words xs q i end = entry-is laws words xs v base q i end ends h in
-    subst (PartStands words xs parts) (let e : suc q + j ≡ q + suc j = omega arith in e)
-    (part-stands laws words xs v parts (suc q) end ends (stands-next laws words xs v base q i end ends h k) j (omega (arith, lt)))
+    subst (PartStands format words xs parts) (let e : q ≡ q + 0 = omega arith in e) here
+part-stands format laws words xs v parts q i (end ∷ ends) h (suc j) lt =
+    let base : ℕ = first_bit format 0 parts in
+    let k : EntryIs format words xs q i end = entry-is format laws words xs v base q i end ends h in
+    subst (PartStands format words xs parts) (let e : suc q + j ≡ q + suc j = omega arith in e)
+    (part-stands format laws words xs v parts (suc q) end ends (stands-next format laws words xs v base q i end ends h k) j (omega (arith, lt)))
 
 -- a value of a part, by its relative value
-pub restored-at : PartLaws → (xs : List ℕ) → AreValues xs → (i end j : ℕ) → i + j < end → end ≤ length xs
+pub restored-at : (format : FormatNumbers) → PartLaws → (xs : List ℕ) → AreValues format xs → (i end j : ℕ) → i + j < end → end ≤ length xs
     → slice_index (relative_values xs i end) j + past xs i ≡ slice_index xs (i + j)
-restored-at laws xs v i end k h fit =
+restored-at format laws xs v i end k h fit =
     let part : List ℕ = slice_range xs i end in
     let count : length part ≡ end - i = length-take-le (end - i) (drop i xs) (omega (arith, length-drop i xs)) in
     let short : k < length part = omega arith in
     let at : get_or part k 0 ≡ get_or xs (i + k) 0 = get_or-take (end - i) (drop i xs) k 0 (omega arith) ∙ get_or-drop i xs k 0 in
-    let above : past xs i < past xs (suc (i + k)) = past-part laws xs v i (suc (i + k)) (omega arith) (omega arith) in
+    let above : past xs i < past xs (suc (i + k)) = past-part format laws xs v i (suc (i + k)) (omega arith) (omega arith) in
     omega (arith, get_or-map (λ x. x - past xs i) part k 0 0 short, at, above)
 
 -- entry q of words that begin with a sequence states its part
-pub states-part : PartLaws → BitsOfAppended → BitsOfWords → (words : List ℕ) (parts m : ℕ) (v : SequenceView) → BeginWith words parts m v → (q : ℕ) → q < parts → StatesPart words v.values parts q
-states-part laws appended filled words parts m v b q lt =
-    let bound = b.0 in
-    let used = b.1 in
-    let begins = b.3 in
-    let s = begins.sequence in
-    let xs : List ℕ = v.values in
-    let base : ℕ = first_bit format_one 0 parts in
-    let a : AreValues xs = values-of m bound parts xs v.ends (take used words) b.2 s in
-    let whole = stands-whole laws appended filled m bound parts used xs v.ends words b.2 begins in
-    let pass : PassChecks words parts m bound = fits-begun laws appended filled m bound parts used xs v.ends words b.2 begins in
-    let p : PartStands words xs parts (0 + q) = part-stands laws words xs a parts 0 0 v.ends whole q (omega (arith, lt, s.parts_count)) in
-    let p : PartStands words xs parts q = subst (PartStands words xs parts) (let e : 0 + q ≡ q = omega arith in e) p in
-    let i : ℕ = end_before format_one words 0 q in
-    let end : ℕ = stated_end format_one words 0 q in
+pub states-part : (format : FormatNumbers) (room : HasRoom format) → PartLaws → BitsOfAppended → BitsOfWords → (m bound parts used : ℕ) (xs ends words : List ℕ) → bound ≤ format.most_sum
+    → BeginsSequence format m bound parts xs ends words used → (q : ℕ) → q < parts → StatesPart format words xs parts q
+states-part format room laws appended filled m bound parts used xs ends words fits b q lt =
+    let s = b.sequence in
+    let base : ℕ = first_bit format 0 parts in
+    let a : AreValues format xs = values-of format room m bound parts xs ends (take used words) fits s in
+    let whole = stands-whole format laws appended filled m bound parts used xs ends words fits b in
+    let pass : PassChecks format words parts m bound = fits-begun format room laws appended filled m bound parts used xs ends words fits b in
+    let p : PartStands format words xs parts (0 + q) = part-stands format laws words xs a parts 0 0 ends whole q (omega (arith, lt, s.parts_count)) in
+    let p : PartStands format words xs parts q = subst (PartStands format words xs parts) (let e : 0 + q ≡ q = omega arith in e) p in
+    let i : ℕ = end_before format words 0 q in
+    let end : ℕ = stated_end format words 0 q in
     let h = p.stands in
-    let k : EntryIs words xs q i end = entry-is laws words xs a base q i end p.rest h in
+    let k : EntryIs format words xs q i end = entry-is format laws words xs a base q i end p.rest h in
     let some : i < end = h.parts.0 in
     let fit : end ≤ length xs = ends-within end (length xs) p.rest h.parts.1 in
-    let less : past xs i < past xs end = past-part laws xs a i end some fit in
-    let most : past xs end ≤ 2 ^ 36 = past-bounded laws (2 ^ 36) xs a.below end (omega arith) fit in
-    let room : end - i ≤ universe xs i end = laws.room xs a.rising i end some fit in
-    let held : HoldsPart part_bits (bits_of words) (base + payload_before format_one words 0 q) (universe xs i end) (end - i) (relative_values xs i end) = holds-part laws words xs a base q i end p.rest h in
-    let rises = payload-rises words (suc q) (parts - suc q) in
-    let all = ap (payload_before format_one words 0) (let e : suc q + (parts - suc q) ≡ parts = omega (arith, lt) in e) in
+    let less : past xs i < past xs end = past-part format laws xs a i end some fit in
+    let most : past xs end ≤ format.most_sum = past-bounded laws format.most_sum xs a.below end (omega arith) fit in
+    let wide : end - i ≤ universe xs i end = laws.room xs a.rising i end some fit in
+    let held : HoldsPart part_bits (bits_of words) (base + payload_before format words 0 q) (universe xs i end) (end - i) (relative_values xs i end) = holds-part format laws words xs a base q i end p.rest h in
+    let rises = payload-rises format words (suc q) (parts - suc q) in
+    let all = ap (payload_before format words 0) (let e : suc q + (parts - suc q) ≡ parts = omega (arith, lt) in e) in
     record {
       some = some;
       within = fit;
       before = h.begins;
       last = k.lasts;
+      small = omega (arith, k.lasts, most);
       offset = k.offsets;
-      room = omega (arith, k.lasts, h.begins, room);
+      room = omega (arith, k.lasts, h.begins, wide);
       above = omega (arith, k.lasts, h.begins, less);
       place = omega (arith, pass.within, rises, all);
       held =
-          subst (λ u. HoldsPart part_bits (bits_of words) (base + payload_before format_one words 0 q) u (end - i) (relative_values xs i end)) (sym k.universes) held;
-      restored = λ j less. ap (λ n. slice_index (relative_values xs i end) j + n) h.begins ∙ restored-at laws xs a i end j less fit;
+          subst (λ u. HoldsPart part_bits (bits_of words) (base + payload_before format words 0 q) u (end - i) (relative_values xs i end)) (sym k.universes) held;
+      restored = λ j less. ap (λ n. slice_index (relative_values xs i end) j + n) h.begins ∙ restored-at format laws xs a i end j less fit;
     }
 
 -- the ends that words state, by index
-pub stated-ends : (words : List ℕ) (parts q : ℕ) → q < parts → slice_index (sequence_stated words parts).ends q ≡ stated_end format_one words 0 q
+pub stated-ends : (format : FormatNumbers) (words : List ℕ) (parts q : ℕ) → q < parts → slice_index (sequence_stated format words parts).ends q ≡ stated_end format words 0 q
 unfolding sequence_stated
-stated-ends words parts q lt = get_or-map-range_with_len (stated_end format_one words 0) 0 parts q q 0 lt (omega arith)
+stated-ends format words parts q lt = get_or-map-range_with_len (stated_end format words 0) 0 parts q q 0 lt (omega arith)
 
-pub stated-start : (words : List ℕ) (parts q : ℕ) → q < parts → start_of_part (sequence_stated words parts).ends q ≡ end_before format_one words 0 q
-stated-start words parts zero lt = refl
-stated-start words parts (suc q) lt = stated-ends words parts q (omega (arith, lt))
+pub stated-start : (format : FormatNumbers) (words : List ℕ) (parts q : ℕ) → q < parts → start_of_part (sequence_stated format words parts).ends q ≡ end_before format words 0 q
+stated-start format words parts zero lt = refl
+stated-start format words parts (suc q) lt = stated-ends format words parts q (omega (arith, lt))
 
 -- how many words a sequence takes
-pub used-is : PartLaws → BitsOfAppended → BitsOfWords → (words : List ℕ) (parts m : ℕ) (v : SequenceView) → BeginWith words parts m v → words_used v ≡ word_behind format_one words 0 parts
-used-is laws appended filled words parts m v b =
-    let bound = b.0 in
-    let used = b.1 in
-    let begins = b.3 in
-    let s = begins.sequence in
-    let xs : List ℕ = v.values in
-    let a : AreValues xs = values-of m bound parts xs v.ends (take used words) b.2 s in
-    let whole = stands-whole laws appended filled m bound parts used xs v.ends words b.2 begins in
-    let total : payload_before format_one words 0 (0 + length v.ends) ≡ 0 + cost_from (payload_of_part xs) 0 v.ends = payload-all laws words xs a (first_bit format_one 0 parts) 0 0 v.ends whole in
-    let count : 0 + length v.ends ≡ parts = omega (arith, s.parts_count) in
-    let same : payload_before format_one words 0 parts ≡ cost_from (payload_of_part xs) 0 v.ends = omega (arith, total, ap (payload_before format_one words 0) count) in
-    omega (arith, length-sequence laws xs a v.ends whole.parts, same, s.parts_count)
+pub used-is : (format : FormatNumbers) (room : HasRoom format) → PartLaws → BitsOfAppended → BitsOfWords → (m bound parts used : ℕ) (xs ends words : List ℕ) → bound ≤ format.most_sum
+    → BeginsSequence format m bound parts xs ends words used → length (sequence_words format xs ends) ≡ word_behind format words 0 parts
+used-is format room laws appended filled m bound parts used xs ends words fits b =
+    let s = b.sequence in
+    let a : AreValues format xs = values-of format room m bound parts xs ends (take used words) fits s in
+    let whole = stands-whole format laws appended filled m bound parts used xs ends words fits b in
+    let total : payload_before format words 0 (0 + length ends) ≡ 0 + cost_from (payload_of_part xs) 0 ends = payload-all format laws words xs a (first_bit format 0 parts) 0 0 ends whole in
+    let count : 0 + length ends ≡ parts = omega (arith, s.parts_count) in
+    let same : payload_before format words 0 parts ≡ cost_from (payload_of_part xs) 0 ends = omega (arith, total, ap (payload_before format words 0) count) in
+    omega (arith, length-sequence format laws xs a ends whole.parts, same, ap (λ n. entry_words format * n) s.parts_count)
 
 -- the payload up to behind a part
-pub payload-behind : (words : List ℕ) (q parts from past last to offset : ℕ) → suc q ≡ parts → from ≡ end_before format_one words 0 q → past ≡ past_before format_one words 0 q
-    → last ≡ stated_last format_one words 0 q → to ≡ stated_end format_one words 0 q → offset ≡ payload_before format_one words 0 q
-    → offset + payload (last + 1 - past) (to - from) ≡ payload_before format_one words 0 parts
-payload-behind words q parts from past last to offset e f p l t o =
-    bits-next words q from past last to (stated_offset format_one words 0 q) offset (record { before_is = f; past_is = p }) (record { last_is = l; end_is = t; offset_is = refl }) o
-    ∙ ap (payload_before format_one words 0) (let k : q + 1 ≡ parts = omega (arith, e) in k)
+pub payload-behind : (format : FormatNumbers) (words : List ℕ) (q parts from past last to offset : ℕ) → suc q ≡ parts → from ≡ end_before format words 0 q → past ≡ past_before format words 0 q
+    → last ≡ stated_last format words 0 q → to ≡ stated_end format words 0 q → offset ≡ payload_before format words 0 q
+    → offset + payload (last + 1 - past) (to - from) ≡ payload_before format words 0 parts
+payload-behind format words q parts from past last to offset e f p l t o =
+    bits-next format words q from past last to (stated_offset format words 0 q) offset (record { before_is = f; past_is = p }) (record { last_is = l; end_is = t; offset_is = refl }) o
+    ∙ ap (payload_before format words 0) (let k : q + 1 ≡ parts = omega (arith, e) in k)
 
 -- what a part of the sequence is
-pub part-of : (words : List ℕ) (parts q : ℕ) → q < parts → StatesPart words (sequence_stated words parts).values parts q → (part : Part) → part.from ≡ end_before format_one words 0 q
-    → part.to ≡ stated_end format_one words 0 q → part.last ≡ stated_last format_one words 0 q → part.u ≡ stated_universe format_one words 0 q → IsPartOf (sequence_stated words parts) q part
-part-of words parts q lt p part f t l u =
-    let xs : List ℕ = (sequence_stated words parts).values in
-    let universe_is : stated_universe format_one words 0 q ≡ universe xs (end_before format_one words 0 q) (stated_end format_one words 0 q) = omega (arith, p.last, p.before) in
+pub part-of : (format : FormatNumbers) (words : List ℕ) (parts q : ℕ) → q < parts → StatesPart format words (sequence_stated format words parts).values parts q → (part : Part) → part.from ≡ end_before format words 0 q
+    → part.to ≡ stated_end format words 0 q → part.last ≡ stated_last format words 0 q → part.u ≡ stated_universe format words 0 q → IsPartOf (sequence_stated format words parts) q part
+part-of format words parts q lt p part f t l u =
+    let xs : List ℕ = (sequence_stated format words parts).values in
+    let universe_is : stated_universe format words 0 q ≡ universe xs (end_before format words 0 q) (stated_end format words 0 q) = omega (arith, p.last, p.before) in
     record {
-      start = f ∙ sym (stated-start words parts q lt);
-      end = t ∙ sym (stated-ends words parts q lt);
+      start = f ∙ sym (stated-start format words parts q lt);
+      end = t ∙ sym (stated-ends format words parts q lt);
       last = ap (λ n. n + 1) l ∙ p.last ∙ ap (past xs) (sym t);
-      universe_of_part = u ∙ universe_is ∙ ap (λ n. universe xs n (stated_end format_one words 0 q)) (sym f) ∙ ap (universe xs part.from) (sym t);
+      universe_of_part = u ∙ universe_is ∙ ap (λ n. universe xs n (stated_end format words 0 q)) (sym f) ∙ ap (universe xs part.from) (sym t);
     }
 
 -- the part behind begins where this one ends
-pub end-before-next : (words : List ℕ) (q : ℕ) → end_before format_one words 0 (q + 1) ≡ stated_end format_one words 0 q
-end-before-next words q = ap (end_before format_one words 0) (add-one q)
+pub end-before-next : (format : FormatNumbers) (words : List ℕ) (q : ℕ) → end_before format words 0 (q + 1) ≡ stated_end format words 0 q
+end-before-next format words q = ap (end_before format words 0) (add-one q)
 
-end-whole : (words : List ℕ) (parts m bound : ℕ) → PassChecks words parts m bound → (ends : List ℕ) → (length ends ≡ 0 → m ≡ 0) → length ends ≡ parts → end_before format_one words 0 parts ≡ m
-end-whole words zero m bound pass ends none count = sym (none count)
-end-whole words (suc q) m bound pass ends none count = (follows-at words (suc q) m bound q (pass.entries q (omega arith))).whole (true-same (q + 1) (suc q) (omega arith))
+end-whole : (format : FormatNumbers) (words : List ℕ) (parts m bound : ℕ) → PassChecks format words parts m bound → (ends : List ℕ) → (length ends ≡ 0 → m ≡ 0) → length ends ≡ parts → end_before format words 0 parts ≡ m
+end-whole format words zero m bound pass ends none count = sym (none count)
+end-whole format words (suc q) m bound pass ends none count = (follows-at format words (suc q) m bound q (pass.entries q (omega arith))).whole (true-same (q + 1) (suc q) (omega arith))
 
 -- the values that stand where a part is said to stand
-pub held-here : (words xs : List ℕ) (parts q from past last to offset : ℕ) → StatesPart words xs parts q → from ≡ end_before format_one words 0 q → past ≡ past_before format_one words 0 q
-    → last ≡ stated_last format_one words 0 q → to ≡ stated_end format_one words 0 q → offset ≡ payload_before format_one words 0 q
-    → HoldsPart part_bits (bits_of words) (128 * parts + offset) (last + 1 - past) (to - from) (relative_values xs from to)
-held-here words xs parts q from past last to offset p f b l t o =
-    let place : first_bit format_one 0 parts + payload_before format_one words 0 q ≡ 128 * parts + offset = omega (arith, o) in
-    let universe_is : stated_universe format_one words 0 q ≡ last + 1 - past = omega (arith, l, b) in
-    let count_is : stated_count format_one words 0 q ≡ to - from = omega (arith, t, f) in
-    let values_are : relative_values xs (end_before format_one words 0 q) (stated_end format_one words 0 q) ≡ relative_values xs from to =
-    ap (λ n. relative_values xs n (stated_end format_one words 0 q)) (sym f) ∙ ap (relative_values xs from) (sym t) in
+pub held-here : (format : FormatNumbers) (words xs : List ℕ) (parts q from past last to offset : ℕ) → StatesPart format words xs parts q → from ≡ end_before format words 0 q → past ≡ past_before format words 0 q
+    → last ≡ stated_last format words 0 q → to ≡ stated_end format words 0 q → offset ≡ payload_before format words 0 q
+    → HoldsPart part_bits (bits_of words) (first_bit format 0 parts + offset) (last + 1 - past) (to - from) (relative_values xs from to)
+held-here format words xs parts q from past last to offset p f b l t o =
+    let place : first_bit format 0 parts + payload_before format words 0 q ≡ first_bit format 0 parts + offset = omega (arith, o) in
+    let universe_is : stated_universe format words 0 q ≡ last + 1 - past = omega (arith, l, b) in
+    let count_is : stated_count format words 0 q ≡ to - from = omega (arith, t, f) in
+    let values_are : relative_values xs (end_before format words 0 q) (stated_end format words 0 q) ≡ relative_values xs from to =
+    ap (λ n. relative_values xs n (stated_end format words 0 q)) (sym f) ∙ ap (relative_values xs from) (sym t) in
     subst (λ n. HoldsPart part_bits (bits_of words) n (last + 1 - past) (to - from) (relative_values xs from to)) place
-    (subst (λ n. HoldsPart part_bits (bits_of words) (first_bit format_one 0 parts + payload_before format_one words 0 q) n (to - from) (relative_values xs from to)) universe_is
-    (subst (λ n. HoldsPart part_bits (bits_of words) (first_bit format_one 0 parts + payload_before format_one words 0 q) (stated_universe format_one words 0 q) n (relative_values xs from to)) count_is
-    (subst (HoldsPart part_bits (bits_of words) (first_bit format_one 0 parts + payload_before format_one words 0 q) (stated_universe format_one words 0 q) (stated_count format_one words 0 q)) values_are p.held)))
+    (subst (λ n. HoldsPart part_bits (bits_of words) (first_bit format 0 parts + payload_before format words 0 q) n (to - from) (relative_values xs from to)) universe_is
+    (subst (λ n. HoldsPart part_bits (bits_of words) (first_bit format 0 parts + payload_before format words 0 q) (stated_universe format words 0 q) n (relative_values xs from to)) count_is
+    (subst (HoldsPart part_bits (bits_of words) (first_bit format 0 parts + payload_before format words 0 q) (stated_universe format words 0 q) (stated_count format words 0 q)) values_are p.held)))
 
-pub restored-here : (words xs : List ℕ) (parts q from past to : ℕ) → StatesPart words xs parts q → from ≡ end_before format_one words 0 q → past ≡ past_before format_one words 0 q
-    → to ≡ stated_end format_one words 0 q → Restores xs from to past
-restored-here words xs parts q from past to p f b t =
+pub restored-here : (format : FormatNumbers) (words xs : List ℕ) (parts q from past to : ℕ) → StatesPart format words xs parts q → from ≡ end_before format words 0 q → past ≡ past_before format words 0 q
+    → to ≡ stated_end format words 0 q → Restores xs from to past
+restored-here format words xs parts q from past to p f b t =
     subst (Restores xs from to) (sym b)
-    (subst (λ n. Restores xs from n (past_before format_one words 0 q)) (sym t)
-    (subst (λ n. Restores xs n (stated_end format_one words 0 q) (past_before format_one words 0 q)) (sym f) p.restored))
+    (subst (λ n. Restores xs from n (past_before format words 0 q)) (sym t)
+    (subst (λ n. Restores xs n (stated_end format words 0 q) (past_before format words 0 q)) (sym f) p.restored))
 
 -- the first number of a part that is large enough is the first value there
 pub first-here : (part : HeldPart) (xs : List ℕ) → HoldsValues part xs → (place x least number : ℕ) → part.from ≤ place → least ≡ x - part.past
@@ -194,19 +191,32 @@ first-here part xs h place x least number after l first =
           omega (arith, here, same, small, l);
     }
 
+-- the view that words state is in their format
+in-format : (format : FormatNumbers) (words : List ℕ) (parts m : ℕ) → BeginWith words parts m (sequence_stated format words parts)
+    → (bound : ℕ) × (used : ℕ) × (bound ≤ format.most_sum) × BeginsSequence format m bound parts (sequence_stated format words parts).values (sequence_stated format words parts).ends words used
+unfolding sequence_stated
+in-format format words parts m b = b
+
+words-in-format : (format : FormatNumbers) (words : List ℕ) (parts : ℕ)
+    → words_used (sequence_stated format words parts) ≡ length (sequence_words format (sequence_stated format words parts).values (sequence_stated format words parts).ends)
+unfolding sequence_stated
+words-in-format format words parts = refl
+
 -- the directory of words that begin with a sequence states its parts
-pub directory-states : PartLaws → BitsOfAppended → BitsOfWords → DirectoryStates
-directory-states laws appended filled words parts m b =
-    let bound = b.0 in
-    let s = b.3.sequence in
-    let v : SequenceView = sequence_stated words parts in
-    let a : AreValues v.values = values-of m bound parts v.values v.ends (take b.1 words) b.2 s in
-    let pass : PassChecks words parts m bound = fits-begun laws appended filled m bound parts b.1 v.values v.ends words b.2 b.3 in
+pub directory-states : (format : FormatNumbers) (room : HasRoom format) → PartLaws → BitsOfAppended → BitsOfWords → DirectoryStates format
+directory-states format room laws appended filled words parts m b =
+    let begun = in-format format words parts m b in
+    let bound = begun.0 in
+    let used = begun.1 in
+    let s = begun.3.sequence in
+    let v : SequenceView = sequence_stated format words parts in
+    let a : AreValues format v.values = values-of format room m bound parts v.values v.ends (take used words) begun.2 s in
+    let pass : PassChecks format words parts m bound = fits-begun format room laws appended filled m bound parts used v.values v.ends words begun.2 begun.3 in
     record {
       rising = a.rising;
       below = a.below;
       room = pass.room;
-      end = end-whole words parts m bound pass v.ends (some-parts m v.ends s.partition) s.parts_count ∙ sym s.count;
-      used = used-is laws appended filled words parts m v b;
-      part = states-part laws appended filled words parts m v b;
+      end = end-whole format words parts m bound pass v.ends (some-parts m v.ends s.partition) s.parts_count ∙ sym s.count;
+      used = words-in-format format words parts ∙ used-is format room laws appended filled m bound parts used v.values v.ends words begun.2 begun.3;
+      part = states-part format room laws appended filled m bound parts used v.values v.ends words begun.2 begun.3;
     }

@@ -2,22 +2,24 @@ use Rattle.std.proofs.Common.{◌≡◌, ℕ, zero, suc, ◌+◌, ◌-◌, ◌*�
 use Rattle.std.specs.List.{All, slice_range}
 use Rattle.std.specs.List.Sorted.{IsStrictlyIncreasing}
 use Rattle.std.proofs.lemmas.List.{length-append, length-take-le, length-drop, append-nil, drop_more, drop_all, get_or-take, get_or-drop, take_more, map-append}
-use Rattle.collection_model.specs.FormatNumbers.{format_one}
+use Rattle.collection_model.specs.FormatNumbers.{FormatNumbers}
+use Rattle.part_cost.specs.Payload.{widest_low}
 use Rattle.part_cost.specs.Span.{past, universe, payload_of_part, relative_values, AreRelative}
 use Rattle.part_cost.specs.Partition.{IsPartitionFrom, cost_from}
 use Rattle.part_cost.specs.Laws.{PartHasRoom, PartIsWithin, PartIsRelative}
 use Rattle.part_codec.specs.PartBits.{part_bits}
 use Rattle.part_cost.proofs.Growth.{payload-short}
+use Rattle.two_level.specs.EntryWords.{entry}
 use Rattle.two_level.specs.SequenceWords.{directory_from, payload_from}
-use Rattle.two_level.proofs.Lengths.{PartLaws, AreValues, ends-within, length-payload}
+use Rattle.two_level.proofs.Lengths.{PartLaws, ends-within, length-payload}
 
 -- a part ends past the value before it, and no further than the bound
 pub past-less : PartHasRoom → (xs : List ℕ) → IsStrictlyIncreasing xs → (i end : ℕ) → i < end → end ≤ length xs → past xs i + (end - i) ≤ past xs end
 past-less room xs up i end lt fit = omega (arith, room xs up i end lt fit)
 
-pub past-most : PartIsWithin → (xs : List ℕ) → All (λ x. x < 2 ^ 36) xs → (end : ℕ) → end ≤ length xs → past xs end ≤ 2 ^ 36
-past-most within xs below zero fit = omega arith
-past-most within xs below (suc k) fit = omega (arith, within (2 ^ 36) xs below 0 (suc k) (omega arith) fit)
+pub past-most : PartIsWithin → (bound : ℕ) (xs : List ℕ) → All (λ x. x < bound) xs → (end : ℕ) → end ≤ length xs → past xs end ≤ bound
+past-most within bound xs below zero fit = omega arith
+past-most within bound xs below (suc k) fit = omega (arith, within bound xs below 0 (suc k) (omega arith) fit)
 
 -- each value of a part lies past the value before it
 pub above-part : PartHasRoom → (xs : List ℕ) → IsStrictlyIncreasing xs → (i end k : ℕ) → k < end - i → end ≤ length xs → past xs i ≤ get_or (slice_range xs i end) k 0
@@ -48,23 +50,20 @@ next-part xs ends from k lt h =
     record { some = both.0; within = ends-within (get_or ends k 0) (length xs) (drop (k + 1) ends) both.1; rest = both.1 }
 
 -- an entry more
-pub two-more : (words : List ℕ) (w o : ℕ) (rest : List ℕ) → ((words ++ w ∷ []) ++ o ∷ []) ++ rest ≡ words ++ w ∷ o ∷ rest
-two-more words w o rest = append_assoc (words ++ w ∷ []) (o ∷ []) rest ∙ append_assoc words (w ∷ []) (o ∷ rest)
-
-pub directory-more : (xs ends words whole : List ℕ) (from offset w k : ℕ) → k < length ends → w ≡ past xs (get_or ends k 0) - 1 + 2 ^ 36 * get_or ends k 0
-    → words ++ directory_from format_one xs from offset (drop k ends) ≡ whole
-    → ((words ++ w ∷ []) ++ offset ∷ []) ++ directory_from format_one xs (get_or ends k 0) (offset + payload_of_part xs from (get_or ends k 0)) (drop (k + 1) ends) ≡ whole
-directory-more xs ends words whole from offset w k lt e h =
+pub directory-more : (format : FormatNumbers) (xs ends words whole : List ℕ) (from offset last k : ℕ) → k < length ends → last ≡ past xs (get_or ends k 0) - 1
+    → words ++ directory_from format xs from offset (drop k ends) ≡ whole
+    → (words ++ entry format last (get_or ends k 0) offset) ++ directory_from format xs (get_or ends k 0) (offset + payload_of_part xs from (get_or ends k 0)) (drop (k + 1) ends) ≡ whole
+directory-more format xs ends words whole from offset last k lt e h =
     let end : ℕ = get_or ends k 0 in
-    let rest : List ℕ = directory_from format_one xs end (offset + payload_of_part xs from end) (drop (k + 1) ends) in
-    two-more words w offset rest
-    ∙ ap (λ v. words ++ v ∷ offset ∷ rest) e
-    ∙ sym (ap (λ es. words ++ directory_from format_one xs from offset es) (drop_more ends k 0 lt))
+    let rest : List ℕ = directory_from format xs end (offset + payload_of_part xs from end) (drop (k + 1) ends) in
+    append_assoc words (entry format last end offset) rest
+    ∙ ap (λ v. words ++ (entry format v end offset ++ rest)) e
+    ∙ sym (ap (λ es. words ++ directory_from format xs from offset es) (drop_more ends k 0 lt))
     ∙ h
 
-pub directory-all : (xs ends words whole : List ℕ) (from offset k : ℕ) → length ends ≤ k → words ++ directory_from format_one xs from offset (drop k ends) ≡ whole → words ≡ whole
-directory-all xs ends words whole from offset k le h =
-    sym (append-nil words) ∙ sym (ap (λ es. words ++ directory_from format_one xs from offset es) (drop_all k ends le)) ∙ h
+pub directory-all : (format : FormatNumbers) (xs ends words whole : List ℕ) (from offset k : ℕ) → length ends ≤ k → words ++ directory_from format xs from offset (drop k ends) ≡ whole → words ≡ whole
+directory-all format xs ends words whole from offset k le h =
+    sym (append-nil words) ∙ sym (ap (λ es. words ++ directory_from format xs from offset es) (drop_all k ends le)) ∙ h
 
 -- a part's payload more
 pub payload-more : (xs ends bits whole : List ℕ) (from k : ℕ) → k < length ends → bits ++ payload_from xs from (drop k ends) ≡ whole
@@ -87,13 +86,13 @@ payloads-at_most room xs up i (end ∷ ends) h =
     omega (arith, payload-short (universe xs i end) (end - i), past-less room xs up i end h.0 fit, payloads-at_most room xs up end ends h.1)
 
 -- so all bits of a sequence are few
-pub whole-short : PartLaws → (xs : List ℕ) → IsStrictlyIncreasing xs → All (λ x. x < 2 ^ 36) xs → (ends : List ℕ) → IsPartitionFrom 0 (length xs) ends → length (payload_from xs 0 ends) ≤ 2 ^ 37
+pub whole-short : PartLaws → (xs : List ℕ) → IsStrictlyIncreasing xs → All (λ x. x < 2 ^ widest_low) xs → (ends : List ℕ) → IsPartitionFrom 0 (length xs) ends
+    → length (payload_from xs 0 ends) ≤ 2 * 2 ^ widest_low
 whole-short laws xs up below ends h =
-    let v : AreValues xs = record { rising = up; below = below } in
-    omega (arith, length-payload laws xs v 0 ends h, payloads-at_most laws.room xs up 0 ends h, past-most laws.within xs below (length xs) (omega arith))
+    omega (arith, length-payload laws xs up below 0 ends h, payloads-at_most laws.room xs up 0 ends h, past-most laws.within (2 ^ widest_low) xs below (length xs) (omega arith))
 
 -- and a part of them fits behind those before it
-pub part-fits : (xs ends bits whole : List ℕ) (from k : ℕ) → k < length ends → bits ++ payload_from xs from (drop k ends) ≡ whole → length whole ≤ 2 ^ 37
+pub part-fits : (xs ends bits whole : List ℕ) (from k : ℕ) → k < length ends → bits ++ payload_from xs from (drop k ends) ≡ whole → length whole ≤ 2 * 2 ^ widest_low
     → length bits + length (part_bits (relative_values xs from (get_or ends k 0)) (universe xs from (get_or ends k 0))) < 2 ^ 63
 part-fits xs ends bits whole from k lt h short =
     let end : ℕ = get_or ends k 0 in

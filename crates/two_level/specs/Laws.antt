@@ -1,12 +1,12 @@
 use Rattle.std.specs.Prelude.{◌≡◌, ℕ, ◌+◌, ◌/◌, ◌^◌, ◌<◌, ◌≤◌, List, length}
 use Rattle.std.specs.List.{All}
 use Rattle.std.specs.List.Sorted.{IsStrictlyIncreasing}
-use Rattle.collection_model.specs.FormatNumbers.{FormatNumbers, format_one}
+use Rattle.collection_model.specs.FormatNumbers.{FormatNumbers, part_charge}
 use Rattle.part_cost.specs.Span.{cost_of_part}
 use Rattle.part_cost.specs.Partition.{IsPartition, partition_cost}
 use Rattle.two_level.specs.declared.check.Check.{Check}
 use Rattle.two_level.specs.SequenceWords.{sequence_words, BeginsSequence}
-use Rattle.two_level.specs.SequenceView.{SequenceView, BeginWith, sequence_stated}
+use Rattle.two_level.specs.SequenceView.{BeginWith, sequence_stated}
 use Rattle.two_level.specs.SequenceParts.{StatesParts}
 use Rattle.two_level.specs.SequenceFault.{word_behind, PassChecks, IsSequenceFault}
 
@@ -21,7 +21,7 @@ OneSequence format =
 abbrev pub TakesItsCost : FormatNumbers → Type 0
 TakesItsCost format =
     (xs ends : List ℕ) → IsStrictlyIncreasing xs → All (λ x. x < format.most_sum) xs → IsPartition (length xs) ends
-    → length (sequence_words format xs ends) ≡ (partition_cost (cost_of_part format.charge xs) ends + 63) / 64
+    → length (sequence_words format xs ends) ≡ (partition_cost (cost_of_part (part_charge format) xs) ends + 63) / 64
 
 -- Words that begin with a sequence below a bound of the format break no check.
 abbrev pub ChecksRefuseNoSequence : FormatNumbers → Type 0
@@ -30,18 +30,18 @@ ChecksRefuseNoSequence format =
     → BeginsSequence format m bound parts xs ends words used → ¬ IsSequenceFault format words parts m bound check part
 
 -- Words of 64 bits that pass every check begin with a sequence.
-abbrev pub ChecksAcceptASequence : Type 0
-ChecksAcceptASequence =
-    (m bound parts : ℕ) (words : List ℕ) → bound ≤ format_one.most_sum → All (λ w. w < 2 ^ 64) words → PassChecks words parts m bound
-    → (xs ends : List ℕ) × BeginsSequence format_one m bound parts xs ends words (word_behind format_one words 0 parts)
+abbrev pub ChecksAcceptASequence : FormatNumbers → Type 0
+ChecksAcceptASequence format =
+    (m bound parts : ℕ) (words : List ℕ) → bound ≤ format.most_sum → All (λ w. w < 2 ^ 64) words → PassChecks format words parts m bound
+    → (xs ends : List ℕ) × BeginsSequence format m bound parts xs ends words (word_behind format words 0 parts)
 
 -- The values and the ends that words state are those of the sequence with which they begin.
-abbrev pub WordsState : Type 0
-WordsState =
-    (m bound parts used : ℕ) (v : SequenceView) (words : List ℕ) → bound ≤ format_one.most_sum
-    → BeginsSequence format_one m bound parts v.values v.ends words used → sequence_stated words parts ≡ v
+abbrev pub WordsState : FormatNumbers → Type 0
+WordsState format =
+    (m bound parts used : ℕ) (xs ends words : List ℕ) → bound ≤ format.most_sum
+    → BeginsSequence format m bound parts xs ends words used → sequence_stated format words parts ≡ record { format = format; values = xs; ends = ends }
 
 -- The directory of words that begin with a sequence states its parts.
-abbrev pub DirectoryStates : Type 0
-DirectoryStates =
-    (words : List ℕ) (parts m : ℕ) → BeginWith words parts m (sequence_stated words parts) → StatesParts words parts (sequence_stated words parts)
+abbrev pub DirectoryStates : FormatNumbers → Type 0
+DirectoryStates format =
+    (words : List ℕ) (parts m : ℕ) → BeginWith words parts m (sequence_stated format words parts) → StatesParts format words parts (sequence_stated format words parts)

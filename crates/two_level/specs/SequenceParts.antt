@@ -1,8 +1,9 @@
 use Rattle.std.specs.Prelude.{◌≡◌, ℕ, suc, ◌+◌, ◌-◌, ◌*◌, ◌^◌, ◌≤◌, ◌<◌, List, length, slice_index, Option, Some, None}
 use Rattle.std.specs.List.{All}
 use Rattle.std.specs.List.Sorted.{IsStrictlyIncreasing}
-use Rattle.collection_model.specs.FormatNumbers.{format_one}
+use Rattle.collection_model.specs.FormatNumbers.{FormatNumbers, entry_words}
 use Rattle.bit_words.specs.Bits.{bits_of}
+use Rattle.part_cost.specs.Payload.{widest_low}
 use Rattle.part_cost.specs.Span.{past, relative_values}
 use Rattle.part_cost.specs.Stored.{HoldsPart}
 use Rattle.part_codec.specs.PartBits.{part_bits}
@@ -16,33 +17,34 @@ abbrev pub Restores : List ℕ → ℕ → ℕ → ℕ → Type 0
 Restores xs from to before = (j : ℕ) → from + j < to → slice_index (relative_values xs from to) j + before ≡ slice_index xs (from + j)
 
 -- Entry q of the directory states a part of these values.
-pub record StatesPart (words xs : List ℕ) (parts q : ℕ) : Type 0 where
-  pub some : end_before format_one words 0 q < stated_end format_one words 0 q
-  pub within : stated_end format_one words 0 q ≤ length xs
-  pub before : past_before format_one words 0 q ≡ past xs (end_before format_one words 0 q)
-  pub last : stated_last format_one words 0 q + 1 ≡ past xs (stated_end format_one words 0 q)
-  pub offset : stated_offset format_one words 0 q ≡ payload_before format_one words 0 q
-  pub room : stated_count format_one words 0 q ≤ stated_universe format_one words 0 q
-  pub above : past_before format_one words 0 q ≤ stated_last format_one words 0 q
-  pub place : first_bit format_one 0 parts + payload_before format_one words 0 (suc q) ≤ 64 * length words
-  pub held : HoldsPart part_bits (bits_of words) (first_bit format_one 0 parts + payload_before format_one words 0 q) (stated_universe format_one words 0 q) (stated_count format_one words 0 q)
-      (relative_values xs (end_before format_one words 0 q) (stated_end format_one words 0 q))
-  pub restored : Restores xs (end_before format_one words 0 q) (stated_end format_one words 0 q) (past_before format_one words 0 q)
+pub record StatesPart (format : FormatNumbers) (words xs : List ℕ) (parts q : ℕ) : Type 0 where
+  pub some : end_before format words 0 q < stated_end format words 0 q
+  pub within : stated_end format words 0 q ≤ length xs
+  pub before : past_before format words 0 q ≡ past xs (end_before format words 0 q)
+  pub last : stated_last format words 0 q + 1 ≡ past xs (stated_end format words 0 q)
+  pub small : stated_last format words 0 q < format.most_sum
+  pub offset : stated_offset format words 0 q ≡ payload_before format words 0 q
+  pub room : stated_count format words 0 q ≤ stated_universe format words 0 q
+  pub above : past_before format words 0 q ≤ stated_last format words 0 q
+  pub place : first_bit format 0 parts + payload_before format words 0 (suc q) ≤ 64 * length words
+  pub held : HoldsPart part_bits (bits_of words) (first_bit format 0 parts + payload_before format words 0 q) (stated_universe format words 0 q) (stated_count format words 0 q)
+      (relative_values xs (end_before format words 0 q) (stated_end format words 0 q))
+  pub restored : Restores xs (end_before format words 0 q) (stated_end format words 0 q) (past_before format words 0 q)
 
 -- The directory states so many parts, which are all of the sequence.
-pub record StatesParts (words : List ℕ) (parts : ℕ) (v : SequenceView) : Type 0 where
+pub record StatesParts (format : FormatNumbers) (words : List ℕ) (parts : ℕ) (v : SequenceView) : Type 0 where
   pub rising : IsStrictlyIncreasing v.values
-  pub below : All (λ x. x < format_one.most_sum) v.values
-  pub room : format_one.entry_words * parts ≤ length words
-  pub end : end_before format_one words 0 parts ≡ length v.values
-  pub used : words_used v ≡ word_behind format_one words 0 parts
-  pub part : (q : ℕ) → q < parts → StatesPart words v.values parts q
+  pub below : All (λ x. x < format.most_sum) v.values
+  pub room : entry_words format * parts ≤ length words
+  pub end : end_before format words 0 parts ≡ length v.values
+  pub used : words_used v ≡ word_behind format words 0 parts
+  pub part : (q : ℕ) → q < parts → StatesPart format words v.values parts q
 
 -- The view of a part that is held has the relative values of these values from its start up to its end.
 pub record HoldsValues (part : HeldPart) (xs : List ℕ) : Type 0 where
-  pub below : All (λ x. x < format_one.most_sum) xs
+  pub in_range : All (λ x. x < 2 ^ widest_low) xs
   pub within : part.to ≤ length xs
-  pub few : part.to < 2 ^ 32
+  pub few : length xs < 2 ^ 32
   pub above : part.past ≤ part.last
   pub u : universe_of part.view ≡ part.last + 1 - part.past
   pub m : count_of part.view ≡ part.to - part.from
@@ -50,14 +52,14 @@ pub record HoldsValues (part : HeldPart) (xs : List ℕ) : Type 0 where
   pub restored : Restores xs part.from part.to part.past
 
 -- A part that is held is one of so many in the sequence with which the words begin.
-pub record IsHeldPart (words : List ℕ) (parts : ℕ) (part : HeldPart) : Type 0 where
+pub record IsHeldPart (format : FormatNumbers) (words : List ℕ) (parts : ℕ) (part : HeldPart) : Type 0 where
   pub within : part.index < parts
-  pub from : part.from ≡ end_before format_one words 0 part.index
-  pub to : part.to ≡ stated_end format_one words 0 part.index
-  pub last : part.last ≡ stated_last format_one words 0 part.index
-  pub values : HoldsValues part (sequence_stated words parts).values
+  pub from : part.from ≡ end_before format words 0 part.index
+  pub to : part.to ≡ stated_end format words 0 part.index
+  pub last : part.last ≡ stated_last format words 0 part.index
+  pub values : HoldsValues part (sequence_stated format words parts).values
 
 -- A place lies in the part that is held, or is the end and none is held.
-abbrev pub LiesIn : List ℕ → ℕ → ℕ → Option HeldPart → Type 0
-LiesIn words parts place (Some part) = IsHeldPart words parts part × (part.from ≤ place) × (place < part.to)
-LiesIn words parts place None = place ≡ length (sequence_stated words parts).values
+abbrev pub LiesIn : FormatNumbers → List ℕ → ℕ → ℕ → Option HeldPart → Type 0
+LiesIn format words parts place (Some part) = IsHeldPart format words parts part × (part.from ≤ place) × (place < part.to)
+LiesIn format words parts place None = place ≡ length (sequence_stated format words parts).values

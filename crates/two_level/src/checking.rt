@@ -1,13 +1,14 @@
 ghost use Rattle.std.specs.Prelude.{◌≡◌, ℕ, ◌≤◌, ◌<◌, ◌+◌, ◌*◌, ◌^◌, true, false, length, IsTrue, ◌↔◌, IfOk, IfErr, OnOk};
-ghost use Rattle.collection_model.specs.FormatNumbers.{format_one};
+ghost use Rattle.collection_model.specs.FormatNumbers.{entry_words};
 ghost use Rattle.bit_words.specs.Bits.{bits_of, HasNoOne};
+ghost use Rattle.part_cost.specs.Formats.{numbers_of};
 ghost use Rattle.two_level.specs.SequenceFault.{payload_before, word_behind, first_bit, parts_fit, cannot_follow, entry_breaks, IsPartStored, PassChecks, IsSequenceFault};
 
 use crate::check::Check;
-use crate::entry::{ENTRY_BITS, ENTRY_WORDS, Entry, entry_at};
+use crate::entry::{Entry, directory_bits, directory_words, entry_at};
 use bit_words::Bits;
 use part_codec::check_part;
-use part_cost::payload_bits;
+use part_cost::{Format, formats_have_room, payload_bits};
 
 /// The first check of a sequence's words that breaks, and its part.
 #[derive(Clone, Copy, Debug, PartialEq, Eq)]
@@ -17,27 +18,34 @@ pub struct SeqFault {
 }
 
 // Looks for the first check that breaks.
-pub(crate) fn check_words(words: &[u64], parts: u32, m: u32, bound: u64) -> Result<(), SeqFault>
+pub(crate) fn check_words(
+    words: &[u64],
+    parts: u32,
+    m: u32,
+    bound: u64,
+    format: Format,
+) -> Result<(), SeqFault>
     requires words { length words.now < 2 ^ 57 }
-    requires bound { bound ≤ 2 ^ 36 }
-    ensures ok { OnOk result (PassChecks words.now parts m bound) }
-    ensures first { IfErr result (λ f. IsSequenceFault format_one words.now parts m bound f.check f.part) }
+    requires bound { bound ≤ (numbers_of format).most_sum }
+    ensures ok { OnOk result (PassChecks (numbers_of format) words.now parts m bound) }
+    ensures first { IfErr result (λ f. IsSequenceFault (numbers_of format) words.now parts m bound f.check f.part) }
 {
-    if !parts_fit(m, parts) || (words.len() as u64) < ENTRY_WORDS * parts as u64 {
+    let directory = directory_words(parts, format);
+    if !parts_fit(m, parts) || (words.len() as u64) < directory {
         return Err(SeqFault {
             check: Check::K6,
             part: 0,
         });
     }
-    let payload = check_directory(words, parts, m, bound)?;
-    if (words.len() as u64) < ENTRY_WORDS * parts as u64 + payload.div_ceil(64) {
+    let payload = check_directory(words, parts, m, bound, format)?;
+    if (words.len() as u64) < directory + payload.div_ceil(64) {
         return Err(SeqFault {
             check: Check::K7,
             part: parts,
         });
     }
-    check_parts(words, parts)?;
-    check_padding(words, parts, payload)?;
+    check_parts(words, parts, format)?;
+    check_padding(words, parts, payload, format)?;
     Ok(())
 }
 
@@ -62,7 +70,6 @@ fn cannot_follow(
     bound: u64,
     is_last: bool,
 ) -> bool
-    requires last { entry.last < 2 ^ 36 }
     ensures { result ≡ cannot_follow m bound before past bits is_last entry.end entry.last entry.offset }
 {
     entry.end <= before
@@ -75,22 +82,29 @@ fn cannot_follow(
 }
 
 // Goes through the entries, and answers the payload bits of all parts.
-fn check_directory(words: &[u64], parts: u32, m: u32, bound: u64) -> Result<u64, SeqFault>
-    requires bound { bound ≤ 2 ^ 36 }
-    requires room { 2 * parts ≤ length words.now }
-    ensures entries { IfOk result (λ bits. (q : ℕ) → q < parts → entry_breaks format_one words.now 0 parts m bound q ≡ false) }
-    ensures bits { IfOk result (λ bits. bits ≡ payload_before format_one words.now 0 parts) }
-    ensures few { IfOk result (λ bits. bits ≤ 2 ^ 37) }
+fn check_directory(
+    words: &[u64],
+    parts: u32,
+    m: u32,
+    bound: u64,
+    format: Format,
+) -> Result<u64, SeqFault>
+    requires bound { bound ≤ (numbers_of format).most_sum }
+    requires room { entry_words (numbers_of format) * parts ≤ length words.now }
+    ensures entries { IfOk result (λ bits. (q : ℕ) → q < parts → entry_breaks (numbers_of format) words.now 0 parts m bound q ≡ false) }
+    ensures bits { IfOk result (λ bits. bits ≡ payload_before (numbers_of format) words.now 0 parts) }
+    ensures few { IfOk result (λ bits. bits ≤ 2 * (numbers_of format).most_sum) }
     ensures check { IfErr result (λ f. f.check ≡ Check.K7) }
     ensures part { IfErr result (λ f. f.part < parts) }
-    ensures breaks { IfErr result (λ f. entry_breaks format_one words.now 0 parts m bound f.part ≡ true) }
-    ensures first { IfErr result (λ f. (q : ℕ) → q < f.part → entry_breaks format_one words.now 0 parts m bound q ≡ false) }
+    ensures breaks { IfErr result (λ f. entry_breaks (numbers_of format) words.now 0 parts m bound f.part ≡ true) }
+    ensures first { IfErr result (λ f. (q : ℕ) → q < f.part → entry_breaks (numbers_of format) words.now 0 parts m bound q ≡ false) }
 {
+    formats_have_room();
     let mut before = 0;
     let mut past = 0;
     let mut bits = 0;
     for part in 0..parts {
-        let entry = entry_at(words, part);
+        let entry = entry_at(words, part, format);
         if cannot_follow(entry, before, past, bits, m, bound, part + 1 == parts) {
             return Err(SeqFault {
                 check: Check::K7,
@@ -105,22 +119,23 @@ fn check_directory(words: &[u64], parts: u32, m: u32, bound: u64) -> Result<u64,
 }
 
 // Goes through the parts of a directory whose entries stand.
-fn check_parts(words: &[u64], parts: u32) -> Result<(), SeqFault>
+fn check_parts(words: &[u64], parts: u32, format: Format) -> Result<(), SeqFault>
     requires words { length words.now < 2 ^ 57 }
-    requires room { 2 * parts ≤ length words.now }
-    requires entries { (m bound : ℕ) × (bound ≤ 2 ^ 36) × ((q : ℕ) → q < parts → entry_breaks format_one words.now 0 parts m bound q ≡ false) }
-    requires within { word_behind format_one words.now 0 parts ≤ length words.now }
-    ensures ok { OnOk result ((q : ℕ) → q < parts → IsPartStored format_one words.now 0 parts q) }
+    requires room { entry_words (numbers_of format) * parts ≤ length words.now }
+    requires entries { (m bound : ℕ) × (bound ≤ (numbers_of format).most_sum) × ((q : ℕ) → q < parts → entry_breaks (numbers_of format) words.now 0 parts m bound q ≡ false) }
+    requires within { word_behind (numbers_of format) words.now 0 parts ≤ length words.now }
+    ensures ok { OnOk result ((q : ℕ) → q < parts → IsPartStored (numbers_of format) words.now 0 parts q) }
     ensures check { IfErr result (λ f. f.check ≡ Check.K8) }
     ensures part { IfErr result (λ f. f.part < parts) }
-    ensures breaks { IfErr result (λ f. ¬ IsPartStored format_one words.now 0 parts f.part) }
-    ensures first { IfErr result (λ f. (q : ℕ) → q < f.part → IsPartStored format_one words.now 0 parts q) }
+    ensures breaks { IfErr result (λ f. ¬ IsPartStored (numbers_of format) words.now 0 parts f.part) }
+    ensures first { IfErr result (λ f. (q : ℕ) → q < f.part → IsPartStored (numbers_of format) words.now 0 parts q) }
 {
+    formats_have_room();
     let mut before = 0;
     let mut past = 0;
     for part in 0..parts {
-        let entry = entry_at(words, part);
-        let place = ENTRY_BITS * parts as u64 + entry.offset;
+        let entry = entry_at(words, part, format);
+        let place = directory_bits(parts, format) + entry.offset;
         if !check_part(
             Bits { words },
             place,
@@ -139,16 +154,16 @@ fn check_parts(words: &[u64], parts: u32) -> Result<(), SeqFault>
 }
 
 // Looks for a one behind the payload.
-fn check_padding(words: &[u64], parts: u32, bits: u64) -> Result<(), SeqFault>
+fn check_padding(words: &[u64], parts: u32, bits: u64, format: Format) -> Result<(), SeqFault>
     requires words { length words.now < 2 ^ 57 }
-    requires bits { bits ≡ payload_before format_one words.now 0 parts }
-    requires within { word_behind format_one words.now 0 parts ≤ length words.now }
-    ensures ok { OnOk result (HasNoOne (bits_of words.now) (first_bit format_one 0 parts + payload_before format_one words.now 0 parts) (64 * word_behind format_one words.now 0 parts)) }
+    requires bits { bits ≡ payload_before (numbers_of format) words.now 0 parts }
+    requires within { word_behind (numbers_of format) words.now 0 parts ≤ length words.now }
+    ensures ok { OnOk result (HasNoOne (bits_of words.now) (first_bit (numbers_of format) 0 parts + payload_before (numbers_of format) words.now 0 parts) (64 * word_behind (numbers_of format) words.now 0 parts)) }
     ensures check { IfErr result (λ f. f.check ≡ Check.K9) }
     ensures part { IfErr result (λ f. f.part ≡ 0) }
-    ensures breaks { IfErr result (λ f. ¬ HasNoOne (bits_of words.now) (first_bit format_one 0 parts + payload_before format_one words.now 0 parts) (64 * word_behind format_one words.now 0 parts)) }
+    ensures breaks { IfErr result (λ f. ¬ HasNoOne (bits_of words.now) (first_bit (numbers_of format) 0 parts + payload_before (numbers_of format) words.now 0 parts) (64 * word_behind (numbers_of format) words.now 0 parts)) }
 {
-    let from = ENTRY_BITS * parts as u64 + bits;
+    let from = directory_bits(parts, format) + bits;
     let end = from.div_ceil(64) * 64;
     match (Bits { words }).next_one(from, end) {
         Some(_) => Err(SeqFault {

@@ -3,6 +3,7 @@ ghost use Rattle.two_level.specs.SequenceView.{place_at_least};
 
 use crate::held::{HeldPart, first_from_part, hold_if_any, hold_place};
 use crate::laws::directory_states_its_parts;
+use part_cost::Format;
 use std::marker::Model;
 
 /// A place in a sequence, which may be its end. The part in which it lies is held, so that the values of a part are read
@@ -12,38 +13,42 @@ pub struct SeqCursor<'a> {
     words: &'a [u64],
     parts: u32,
     m: u32,
+    format: Format,
     place: u32,
     held: Option<HeldPart<'a>>,
 }
 
 impl<'a> Model for SeqCursor<'a> {
     ghost use Rattle.std.specs.Prelude.{◌<◌, ◌^◌, length};
+    ghost use Rattle.part_cost.specs.Formats.{numbers_of};
     ghost use Rattle.two_level.specs.SequenceView.{SequencePlace, BeginWith, sequence_stated};
     ghost use Rattle.two_level.specs.SequenceParts.{LiesIn};
 
     ghost Value = { SequencePlace };
 
-    ghost view = { λ c. record { sequence = sequence_stated c.words.now c.parts; place = c.place } };
+    ghost view = { λ c. record { sequence = sequence_stated (numbers_of c.format) c.words.now c.parts; place = c.place } };
 
-    ghost invariant = { λ c. BeginWith c.words.now c.parts c.m (sequence_stated c.words.now c.parts) × (length c.words.now < 2 ^ 57) × LiesIn c.words.now c.parts c.place c.held };
+    ghost invariant = { λ c. BeginWith c.words.now c.parts c.m (sequence_stated (numbers_of c.format) c.words.now c.parts) × (length c.words.now < 2 ^ 57) × LiesIn (numbers_of c.format) c.words.now c.parts c.place c.held };
 }
 
 impl<'a> SeqCursor<'a> {
     ghost use Rattle.std.specs.Prelude.{◌^◌};
+    ghost use Rattle.part_cost.specs.Formats.{numbers_of};
     ghost use Rattle.two_level.specs.SequenceView.{BeginWith, sequence_stated};
 
     // A cursor at the start of the sequence with which the words begin.
-    pub(crate) fn at_start(words: &'a [u64], parts: u32, m: u32) -> SeqCursor<'a>
+    pub(crate) fn at_start(words: &'a [u64], parts: u32, m: u32, format: Format) -> SeqCursor<'a>
         requires words { length words.now < 2 ^ 57 }
-        requires begun { BeginWith words.now parts m (sequence_stated words.now parts) }
-        ensures sequence { result.sequence ≡ sequence_stated words.entry.now parts }
+        requires begun { BeginWith words.now parts m (sequence_stated (numbers_of format) words.now parts) }
+        ensures sequence { result.sequence ≡ sequence_stated (numbers_of format) words.entry.now parts }
         ensures start { result.place ≡ 0 }
     {
-        let held = hold_if_any(words, parts, 0);
+        let held = hold_if_any(words, parts, 0, format);
         SeqCursor {
             words,
             parts,
             m,
+            format,
             place: 0,
             held,
         }
@@ -78,7 +83,7 @@ impl<'a> SeqCursor<'a> {
         };
         self.place += 1;
         if !part.has(self.place) {
-            self.held = hold_if_any(self.words, self.parts, part.index + 1);
+            self.held = hold_if_any(self.words, self.parts, part.index + 1, self.format);
         }
     }
 
@@ -100,6 +105,7 @@ impl<'a> SeqCursor<'a> {
                 self.m,
                 part.index + 1,
                 x,
+                self.format,
             );
         }
     }
@@ -113,7 +119,7 @@ impl<'a> SeqCursor<'a> {
         let held = self.held;
         self.held = match held {
             Some(part) if part.has(k) => held,
-            _ if k < self.m => Some(hold_place(self.words, self.parts, k)),
+            _ if k < self.m => Some(hold_place(self.words, self.parts, k, self.format)),
             _ => None,
         };
         self.place = k;

@@ -1,15 +1,9 @@
 ghost use Rattle.std.specs.Prelude.{◌≡◌, ◌≤◌, ◌<◌, ◌+◌, ◌*◌, ◌^◌, length};
-ghost use Rattle.collection_model.specs.FormatNumbers.{format_one};
-ghost use Rattle.two_level.specs.SequenceFault.{stated_last, stated_end, stated_offset};
+ghost use Rattle.collection_model.specs.FormatNumbers.{entry_words};
+ghost use Rattle.part_cost.specs.Formats.{numbers_of};
+ghost use Rattle.two_level.specs.SequenceFault.{stated_last, stated_end, stated_offset, first_bit};
 
-/// Every value of a sequence is below it; the end in an entry counts so many times.
-pub const MOST_SUM: u64 = 68_719_476_736;
-
-/// How many words a part takes in the directory.
-pub const ENTRY_WORDS: u64 = 2;
-
-/// How many bits an entry takes.
-pub(crate) const ENTRY_BITS: u64 = 64 * ENTRY_WORDS;
+use part_cost::Format;
 
 // An entry of a directory: the last value of its part, the place behind it, and the payload bits before it.
 #[derive(Clone, Copy)]
@@ -19,18 +13,40 @@ pub(crate) struct Entry {
     pub(crate) offset: u64,
 }
 
-// The entry of a part.
-pub(crate) fn entry_at(words: &[u64], part: u32) -> Entry
-    requires within { 2 * part + 2 ≤ length words.now }
-    ensures last { result.last ≡ stated_last format_one words.now 0 part }
-    ensures end { result.end ≡ stated_end format_one words.now 0 part }
-    ensures offset { result.offset ≡ stated_offset format_one words.now 0 part }
-    ensures small { result.last < 2 ^ 36 }
+// How many words the entries of so many parts take.
+pub(crate) fn directory_words(parts: u32, format: Format) -> u64
+    ensures words { result ≡ entry_words (numbers_of format) * parts }
+    ensures few { result < 2 ^ 34 }
 {
-    let at = (ENTRY_WORDS * part as u64) as usize;
-    Entry {
-        last: words[at] % MOST_SUM,
-        end: words[at] / MOST_SUM,
-        offset: words[at + 1],
+    format.entry_words() * parts as u64
+}
+
+// How many bits they take.
+pub(crate) fn directory_bits(parts: u32, format: Format) -> u64
+    ensures bits { result ≡ first_bit (numbers_of format) 0 parts }
+    ensures few { result < 2 ^ 40 }
+{
+    format.charge() * parts as u64
+}
+
+// The entry of a part.
+pub(crate) fn entry_at(words: &[u64], part: u32, format: Format) -> Entry
+    requires within { entry_words (numbers_of format) * part + entry_words (numbers_of format) ≤ length words.now }
+    ensures last { result.last ≡ stated_last (numbers_of format) words.now 0 part }
+    ensures end { result.end ≡ stated_end (numbers_of format) words.now 0 part }
+    ensures offset { result.offset ≡ stated_offset (numbers_of format) words.now 0 part }
+{
+    let at = directory_words(part, format) as usize;
+    match format {
+        Format::One => Entry {
+            last: words[at] % format.most_sum(),
+            end: words[at] / format.most_sum(),
+            offset: words[at + 1],
+        },
+        Format::Two => Entry {
+            last: words[at],
+            end: words[at + 1],
+            offset: words[at + 2],
+        },
     }
 }

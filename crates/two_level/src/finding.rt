@@ -1,12 +1,14 @@
 ghost use Rattle.std.specs.Prelude.{◌≡◌, ℕ, ◌≤◌, ◌<◌, ◌+◌, ◌-◌, ◌*◌, ◌^◌, length};
-ghost use Rattle.collection_model.specs.FormatNumbers.{format_one};
-ghost use Rattle.two_level.specs.SequenceFault.{stated_last, stated_end, end_before, past_before, payload_before};
+ghost use Rattle.collection_model.specs.FormatNumbers.{entry_words};
+ghost use Rattle.part_cost.specs.Formats.{numbers_of};
+ghost use Rattle.part_cost.specs.Payload.{widest_low};
+ghost use Rattle.two_level.specs.SequenceFault.{stated_last, stated_end, end_before, past_before, payload_before, first_bit};
 ghost use Rattle.two_level.specs.SequenceView.{BeginWith, sequence_stated, words_used, IsPartOf};
 
-use crate::entry::{ENTRY_WORDS, entry_at};
+use crate::entry::{directory_words, entry_at};
 use crate::laws::directory_states_its_parts;
 use crate::part::Part;
-use part_cost::payload_bits;
+use part_cost::{Format, formats_have_room, payload_bits};
 
 // Where a part stands: the places of its first value and behind its last, one past the value before it, its last value,
 // and the payload bits before it.
@@ -20,38 +22,40 @@ pub(crate) struct Stretch {
 }
 
 // The end that the entry before a part states, and one past the last value that it states.
-fn before_part(words: &[u64], part: u32) -> (u64, u64)
-    requires within { 2 * part ≤ length words.now }
-    ensures end { result.0 ≡ end_before format_one words.now 0 part }
-    ensures past { result.1 ≡ past_before format_one words.now 0 part }
+fn before_part(words: &[u64], part: u32, format: Format) -> (u64, u64)
+    requires within { entry_words (numbers_of format) * part ≤ length words.now }
+    requires in_range { past_before (numbers_of format) words.now 0 part ≤ 2 ^ widest_low }
+    ensures end { result.0 ≡ end_before (numbers_of format) words.now 0 part }
+    ensures past { result.1 ≡ past_before (numbers_of format) words.now 0 part }
 {
     if part == 0 {
         (0, 0)
     } else {
-        let entry = entry_at(words, part - 1);
+        let entry = entry_at(words, part - 1, format);
         (entry.end, entry.last + 1)
     }
 }
 
 // Where a part of the sequence with which the words begin stands.
-pub(crate) fn stretch_at(words: &[u64], parts: u32, part: u32) -> Stretch
-    requires begun { (m : ℕ) × BeginWith words.now parts m (sequence_stated words.now parts) }
+pub(crate) fn stretch_at(words: &[u64], parts: u32, part: u32, format: Format) -> Stretch
+    requires begun { (m : ℕ) × BeginWith words.now parts m (sequence_stated (numbers_of format) words.now parts) }
     requires within { part < parts }
-    ensures from { result.from ≡ end_before format_one words.now 0 part }
-    ensures to { result.to ≡ stated_end format_one words.now 0 part }
-    ensures past { result.past ≡ past_before format_one words.now 0 part }
-    ensures last { result.last ≡ stated_last format_one words.now 0 part }
-    ensures offset { result.offset ≡ payload_before format_one words.now 0 part }
+    ensures from { result.from ≡ end_before (numbers_of format) words.now 0 part }
+    ensures to { result.to ≡ stated_end (numbers_of format) words.now 0 part }
+    ensures past { result.past ≡ past_before (numbers_of format) words.now 0 part }
+    ensures last { result.last ≡ stated_last (numbers_of format) words.now 0 part }
+    ensures offset { result.offset ≡ payload_before (numbers_of format) words.now 0 part }
     ensures some { result.from < result.to }
-    ensures few { result.to < 2 ^ 28 }
+    ensures within { result.to ≤ length (sequence_stated (numbers_of format) words.now parts).values }
     ensures above { result.past ≤ result.last }
-    ensures in_range { result.last < 2 ^ 36 }
+    ensures in_range { result.last < 2 ^ widest_low }
     ensures room { result.to - result.from ≤ result.last + 1 - result.past }
-    ensures place { 128 * parts + result.offset ≤ 64 * length words.now }
+    ensures place { first_bit (numbers_of format) 0 parts + result.offset ≤ 64 * length words.now }
 {
     directory_states_its_parts();
-    let entry = entry_at(words, part);
-    let (from, past) = before_part(words, part);
+    formats_have_room();
+    let entry = entry_at(words, part, format);
+    let (from, past) = before_part(words, part, format);
     Stretch {
         from,
         to: entry.end,
@@ -62,38 +66,39 @@ pub(crate) fn stretch_at(words: &[u64], parts: u32, part: u32) -> Stretch
 }
 
 // The payload bits of the sequence with which the words begin.
-fn payload_taken(words: &[u64], parts: u32) -> u64
+fn payload_taken(words: &[u64], parts: u32, format: Format) -> u64
     requires words { length words.now < 2 ^ 57 }
-    requires begun { (m : ℕ) × BeginWith words.now parts m (sequence_stated words.now parts) }
-    ensures { result ≡ payload_before format_one words.now 0 parts }
+    requires begun { (m : ℕ) × BeginWith words.now parts m (sequence_stated (numbers_of format) words.now parts) }
+    ensures { result ≡ payload_before (numbers_of format) words.now 0 parts }
 {
     directory_states_its_parts();
     if parts == 0 {
         0
     } else {
-        let last = stretch_at(words, parts, parts - 1);
+        let last = stretch_at(words, parts, parts - 1, format);
         last.offset + payload_bits(last.last + 1 - last.past, last.to - last.from)
     }
 }
 
 // How many words the sequence takes with which the words begin.
-pub(crate) fn words_taken(words: &[u64], parts: u32) -> u64
+pub(crate) fn words_taken(words: &[u64], parts: u32, format: Format) -> u64
     requires words { length words.now < 2 ^ 57 }
-    requires begun { (m : ℕ) × BeginWith words.now parts m (sequence_stated words.now parts) }
-    ensures { result ≡ words_used (sequence_stated words.now parts) }
+    requires begun { (m : ℕ) × BeginWith words.now parts m (sequence_stated (numbers_of format) words.now parts) }
+    ensures { result ≡ words_used (sequence_stated (numbers_of format) words.now parts) }
 {
     directory_states_its_parts();
-    ENTRY_WORDS * parts as u64 + payload_taken(words, parts).div_ceil(64)
+    directory_words(parts, format) + payload_taken(words, parts, format).div_ceil(64)
 }
 
 // A part of the sequence with which the words begin.
-pub(crate) fn part_at(words: &[u64], parts: u32, part: u32) -> Part
-    requires begun { (m : ℕ) × BeginWith words.now parts m (sequence_stated words.now parts) }
+pub(crate) fn part_at(words: &[u64], parts: u32, part: u32, format: Format) -> Part
+    requires begun { (m : ℕ) × BeginWith words.now parts m (sequence_stated (numbers_of format) words.now parts) }
+    requires few { length (sequence_stated (numbers_of format) words.now parts).values < 2 ^ 32 }
     requires within { part < parts }
-    ensures { IsPartOf (sequence_stated words.now parts) part result }
+    ensures { IsPartOf (sequence_stated (numbers_of format) words.now parts) part result }
 {
     directory_states_its_parts();
-    let stretch = stretch_at(words, parts, part);
+    let stretch = stretch_at(words, parts, part, format);
     Part {
         from: stretch.from as u32,
         to: stretch.to as u32,
@@ -103,18 +108,18 @@ pub(crate) fn part_at(words: &[u64], parts: u32, part: u32) -> Part
 }
 
 // The part in which a place lies.
-pub(crate) fn part_of_place(words: &[u64], parts: u32, place: u32) -> u32
-    requires room { format_one.entry_words * parts ≤ length words.now }
-    requires within { place < end_before format_one words.now 0 parts }
+pub(crate) fn part_of_place(words: &[u64], parts: u32, place: u32, format: Format) -> u32
+    requires room { entry_words (numbers_of format) * parts ≤ length words.now }
+    requires within { place < end_before (numbers_of format) words.now 0 parts }
     ensures part { result < parts }
-    ensures from { end_before format_one words.now 0 result ≤ place }
-    ensures to { place < stated_end format_one words.now 0 result }
+    ensures from { end_before (numbers_of format) words.now 0 result ≤ place }
+    ensures to { place < stated_end (numbers_of format) words.now 0 result }
 {
     let mut low = 0;
     let mut high = parts - 1;
     while low < high {
         let middle = low + (high - low) / 2;
-        if (place as u64) < entry_at(words, middle).end {
+        if (place as u64) < entry_at(words, middle, format).end {
             high = middle;
         } else {
             low = middle + 1;
@@ -124,19 +129,19 @@ pub(crate) fn part_of_place(words: &[u64], parts: u32, place: u32) -> u32
 }
 
 // The first part at or after one whose last value is at least x, else the number of parts.
-pub(crate) fn part_reaching(words: &[u64], parts: u32, part: u32, x: u64) -> u32
-    requires room { format_one.entry_words * parts ≤ length words.now }
+pub(crate) fn part_reaching(words: &[u64], parts: u32, part: u32, x: u64, format: Format) -> u32
+    requires room { entry_words (numbers_of format) * parts ≤ length words.now }
     requires within { part ≤ parts }
     ensures after { part ≤ result }
     ensures within { result ≤ parts }
-    ensures before { part < result → stated_last format_one words.now 0 (result - 1) < x }
-    ensures reached { result < parts → x ≤ stated_last format_one words.now 0 result }
+    ensures before { part < result → stated_last (numbers_of format) words.now 0 (result - 1) < x }
+    ensures reached { result < parts → x ≤ stated_last (numbers_of format) words.now 0 result }
 {
     let mut low = part;
     let mut high = parts;
     while low < high {
         let middle = low + (high - low) / 2;
-        if entry_at(words, middle).last < x {
+        if entry_at(words, middle, format).last < x {
             low = middle + 1;
         } else {
             high = middle;

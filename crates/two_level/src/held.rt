@@ -1,16 +1,17 @@
 ghost use Rattle.std.specs.Prelude.{◌≡◌, ℕ, ◌≤◌, ◌<◌, ◌^◌, IsTrue, ◌↔◌, List, length, slice_index, IfSome};
 ghost use Rattle.part_cost.specs.Stored.{IsFirstAtLeast};
 ghost use Rattle.part_codec.specs.PartView.{Holds, universe_of, count_of};
-ghost use Rattle.collection_model.specs.FormatNumbers.{format_one};
+ghost use Rattle.part_cost.specs.Formats.{numbers_of};
 ghost use Rattle.two_level.specs.SequenceFault.{end_before};
 ghost use Rattle.two_level.specs.SequenceView.{BeginWith, sequence_stated, place_at_least};
 ghost use Rattle.two_level.specs.SequenceParts.{HoldsValues, IsHeldPart, LiesIn};
 
-use crate::entry::ENTRY_BITS;
+use crate::entry::directory_bits;
 use crate::finding::{part_of_place, part_reaching, stretch_at};
 use crate::laws::directory_states_its_parts;
 use bit_words::Bits;
 use part_codec::{PartCodec, PartView};
+use part_cost::{Format, formats_have_room};
 
 // A part of a sequence that is held to be read: which part it is, the places of its first value and behind its last, one
 // past the value before it, its last value, and the view of its relative values.
@@ -79,18 +80,20 @@ impl<'a> HeldPart<'a> {
 }
 
 // Holds a part of the sequence with which the words begin.
-pub(crate) fn hold<'a>(words: &'a [u64], parts: u32, part: u32) -> HeldPart<'a>
+pub(crate) fn hold<'a>(words: &'a [u64], parts: u32, part: u32, format: Format) -> HeldPart<'a>
     requires words { length words.now < 2 ^ 57 }
-    requires begun { (m : ℕ) × BeginWith words.now parts m (sequence_stated words.now parts) }
+    requires begun { (m : ℕ) × BeginWith words.now parts m (sequence_stated (numbers_of format) words.now parts) }
+    requires few { length (sequence_stated (numbers_of format) words.now parts).values < 2 ^ 32 }
     requires within { part < parts }
     ensures index { result.index ≡ part }
-    ensures held { IsHeldPart words.entry.now parts result }
+    ensures held { IsHeldPart (numbers_of format) words.entry.now parts result }
 {
     directory_states_its_parts();
-    let stretch = stretch_at(words, parts, part);
+    formats_have_room();
+    let stretch = stretch_at(words, parts, part, format);
     let view = PartView::at(
         Bits { words },
-        ENTRY_BITS * parts as u64 + stretch.offset,
+        directory_bits(parts, format) + stretch.offset,
         stretch.last + 1 - stretch.past,
         stretch.to - stretch.from,
     );
@@ -105,32 +108,49 @@ pub(crate) fn hold<'a>(words: &'a [u64], parts: u32, part: u32) -> HeldPart<'a>
 }
 
 // Holds a part of the sequence with which the words begin, and none behind the last.
-pub(crate) fn hold_if_any<'a>(words: &'a [u64], parts: u32, part: u32) -> Option<HeldPart<'a>>
+pub(crate) fn hold_if_any<'a>(
+    words: &'a [u64],
+    parts: u32,
+    part: u32,
+    format: Format,
+) -> Option<HeldPart<'a>>
     requires words { length words.now < 2 ^ 57 }
-    requires begun { (m : ℕ) × BeginWith words.now parts m (sequence_stated words.now parts) }
+    requires begun { (m : ℕ) × BeginWith words.now parts m (sequence_stated (numbers_of format) words.now parts) }
+    requires few { length (sequence_stated (numbers_of format) words.now parts).values < 2 ^ 32 }
     requires within { part ≤ parts }
     ensures index { IfSome result (λ held. held.index ≡ part) }
-    ensures lies { LiesIn words.entry.now parts (end_before format_one words.entry.now 0 part) result }
+    ensures lies { LiesIn (numbers_of format) words.entry.now parts (end_before (numbers_of format) words.entry.now 0 part) result }
 {
     directory_states_its_parts();
     if part < parts {
-        Some(hold(words, parts, part))
+        Some(hold(words, parts, part, format))
     } else {
         None
     }
 }
 
 // Holds the part of a place of the sequence with which the words begin.
-pub(crate) fn hold_place<'a>(words: &'a [u64], parts: u32, place: u32) -> HeldPart<'a>
+pub(crate) fn hold_place<'a>(
+    words: &'a [u64],
+    parts: u32,
+    place: u32,
+    format: Format,
+) -> HeldPart<'a>
     requires words { length words.now < 2 ^ 57 }
-    requires begun { (m : ℕ) × BeginWith words.now parts m (sequence_stated words.now parts) }
-    requires within { place < length (sequence_stated words.now parts).values }
-    ensures held { IsHeldPart words.entry.now parts result }
+    requires begun { (m : ℕ) × BeginWith words.now parts m (sequence_stated (numbers_of format) words.now parts) }
+    requires few { length (sequence_stated (numbers_of format) words.now parts).values < 2 ^ 32 }
+    requires within { place < length (sequence_stated (numbers_of format) words.now parts).values }
+    ensures held { IsHeldPart (numbers_of format) words.entry.now parts result }
     ensures after { result.from ≤ place }
     ensures before { place < result.to }
 {
     directory_states_its_parts();
-    hold(words, parts, part_of_place(words, parts, place))
+    hold(
+        words,
+        parts,
+        part_of_place(words, parts, place, format),
+        format,
+    )
 }
 
 // The first place from the start of a part on whose value is at least x, with the part in which it lies; else the end.
@@ -140,27 +160,29 @@ pub(crate) fn first_from_part<'a>(
     m: u32,
     part: u32,
     x: u64,
+    format: Format,
 ) -> (u32, Option<HeldPart<'a>>)
     requires words { length words.now < 2 ^ 57 }
-    requires begun { BeginWith words.now parts m (sequence_stated words.now parts) }
+    requires begun { BeginWith words.now parts m (sequence_stated (numbers_of format) words.now parts) }
     requires within { part ≤ parts }
-    ensures lies { LiesIn words.entry.now parts result.0 result.1 }
-    ensures first { result.0 ≡ place_at_least (sequence_stated words.entry.now parts).values (end_before format_one words.entry.now 0 part) x }
+    ensures lies { LiesIn (numbers_of format) words.entry.now parts result.0 result.1 }
+    ensures first { result.0 ≡ place_at_least (sequence_stated (numbers_of format) words.entry.now parts).values (end_before (numbers_of format) words.entry.now 0 part) x }
 {
     directory_states_its_parts();
-    let reaching = part_reaching(words, parts, part, x);
-    match hold_if_any(words, parts, reaching) {
+    let reaching = part_reaching(words, parts, part, x, format);
+    match hold_if_any(words, parts, reaching, format) {
         Some(held) => (held.first_at_least(held.from as u32, x), Some(held)),
         None => (m, None),
     }
 }
 
 // A value of the sequence with which the words begin.
-pub(crate) fn value_at(words: &[u64], parts: u32, place: u32) -> u64
+pub(crate) fn value_at(words: &[u64], parts: u32, place: u32, format: Format) -> u64
     requires words { length words.now < 2 ^ 57 }
-    requires begun { (m : ℕ) × BeginWith words.now parts m (sequence_stated words.now parts) }
-    requires within { place < length (sequence_stated words.now parts).values }
-    ensures { result ≡ slice_index (sequence_stated words.now parts).values place }
+    requires begun { (m : ℕ) × BeginWith words.now parts m (sequence_stated (numbers_of format) words.now parts) }
+    requires few { length (sequence_stated (numbers_of format) words.now parts).values < 2 ^ 32 }
+    requires within { place < length (sequence_stated (numbers_of format) words.now parts).values }
+    ensures { result ≡ slice_index (sequence_stated (numbers_of format) words.now parts).values place }
 {
-    hold_place(words, parts, place).value(place)
+    hold_place(words, parts, place, format).value(place)
 }

@@ -1,23 +1,26 @@
-ghost use Rattle.collection_model.specs.FormatNumbers.{format_one};
+ghost use Rattle.part_cost.specs.Formats.{numbers_of};
+ghost use Rattle.part_cost.specs.declared.formats.Format.{Format};
 ghost use Rattle.two_level.specs.Laws.{ChecksAcceptASequence, ChecksRefuseNoSequence, DirectoryStates, OneSequence, TakesItsCost, WordsState};
 ghost use Rattle.two_level.specs.AtAWord.{ChecksStandAtAWord, FaultStandsAtAWord, SequenceStandsAtAWord};
 
 use bit_words::words_are_bits;
 use part_codec::{one_list_at_place, part_takes_its_payload};
-use part_cost::part_is_relative;
+use part_cost::{formats_have_room, part_is_relative};
 
 /// A sequence takes exactly what its partition costs, in whole words.
 pub fn sequence_takes_its_cost()
-    ensures { TakesItsCost format_one }
+    ensures { (format : Format) → TakesItsCost (numbers_of format) }
 {
+    formats_have_room();
     part_takes_its_payload();
     part_is_relative();
 }
 
 /// Words begin with one sequence of so many values in so many parts only.
 pub fn one_sequence()
-    ensures { OneSequence format_one }
+    ensures { (format : Format) → OneSequence (numbers_of format) }
 {
+    formats_have_room();
     words_are_bits();
     part_takes_its_payload();
     one_list_at_place();
@@ -26,8 +29,9 @@ pub fn one_sequence()
 
 /// Words that begin with a sequence break no check.
 pub fn checks_refuse_no_sequence()
-    ensures { ChecksRefuseNoSequence format_one }
+    ensures { (format : Format) → ChecksRefuseNoSequence (numbers_of format) }
 {
+    formats_have_room();
     words_are_bits();
     part_takes_its_payload();
     part_is_relative();
@@ -35,8 +39,9 @@ pub fn checks_refuse_no_sequence()
 
 /// Words that pass every check begin with a sequence.
 pub fn checks_accept_a_sequence()
-    ensures { ChecksAcceptASequence }
+    ensures { (format : Format) → ChecksAcceptASequence (numbers_of format) }
 {
+    formats_have_room();
     words_are_bits();
     part_takes_its_payload();
     part_is_relative();
@@ -44,8 +49,9 @@ pub fn checks_accept_a_sequence()
 
 /// The values and the ends that words state are those of the sequence with which they begin.
 pub fn words_state_their_sequence()
-    ensures { WordsState }
+    ensures { (format : Format) → WordsState (numbers_of format) }
 {
+    formats_have_room();
     words_are_bits();
     part_takes_its_payload();
     one_list_at_place();
@@ -54,10 +60,11 @@ pub fn words_state_their_sequence()
 
 /// The checks of a sequence at a word, up to another word, are those of the words between, whether they accept it or refuse it.
 pub fn checks_stand_at_a_word()
-    ensures checks { ChecksStandAtAWord }
-    ensures sequence { SequenceStandsAtAWord }
-    ensures fault { FaultStandsAtAWord }
+    ensures checks { (format : Format) → ChecksStandAtAWord (numbers_of format) }
+    ensures sequence { (format : Format) → SequenceStandsAtAWord (numbers_of format) }
+    ensures fault { (format : Format) → FaultStandsAtAWord (numbers_of format) }
 {
+    formats_have_room();
     words_are_bits();
     part_takes_its_payload();
     part_is_relative();
@@ -65,8 +72,9 @@ pub fn checks_stand_at_a_word()
 
 // The directory of words that begin with a sequence states its parts.
 pub(crate) fn directory_states_its_parts()
-    ensures { DirectoryStates }
+    ensures { (format : Format) → DirectoryStates (numbers_of format) }
 {
+    formats_have_room();
     words_are_bits();
     part_takes_its_payload();
     part_is_relative();

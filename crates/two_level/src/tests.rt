@@ -1,39 +1,95 @@
 ghost use Rattle.std.specs.Prelude.{◌≡◌, ◌≤◌, ◌<◌, ◌^◌, length, IsTrue};
 ghost use Rattle.std.specs.List.{All};
 ghost use Rattle.std.specs.List.Sorted.{IsStrictlyIncreasing};
-ghost use Rattle.collection_model.specs.FormatNumbers.{format_one};
+ghost use Rattle.part_cost.specs.Formats.{numbers_of};
+ghost use Rattle.part_cost.specs.Partition.{IsPartition};
 
 use super::*;
+use part_cost::Format;
 use std::alloc::{AllocError, Global};
 use std::process::Abort;
 use std::test::Fail;
 
-// 0, 2 in one part and in two, and what was written is accepted.
+// Whether the words of a sequence are these.
+fn writes(
+    rt: &impl Abort,
+    alloc: Global,
+    values: &[u64],
+    ends: &[u64],
+    format: Format,
+    want: &[u64],
+)
+    requires rising { IsStrictlyIncreasing values.now }
+    requires below { All (λ x. x < (numbers_of format).most_sum) values.now }
+    requires few { length values.now ≤ (numbers_of format).most_documents }
+    requires partition { IsPartition (length values.now) ends.now }
+{
+    let mut words = Vec::new(alloc);
+    write_seq(alloc, values, ends, format, &mut words).expect(rt, "memory");
+    assert_eq!(rt; words.as_slice(), want);
+}
+
+// 0, 2 in one part and in two.
 #[test]
-fn writes_two_values(rt: HostRuntime) -> Result<(), Fail> {
-    let one: &[u64] = &[137_438_953_474, 0, 5];
-    let two: &[u64] = &[68_719_476_736, 0, 137_438_953_474, 0, 2];
-    let mut words = Vec::new(rt.alloc());
-    write_seq(rt.alloc(), &[0, 2], &[2], &mut words).expect(&rt, "memory");
-    assert_eq!(rt; words.as_slice(), one);
-    let mut words = Vec::new(rt.alloc());
-    write_seq(rt.alloc(), &[0, 2], &[1, 2], &mut words).expect(&rt, "memory");
-    assert_eq!(rt; words.as_slice(), two);
-    Ok(())
+fn writes_two_values(rt: HostRuntime) {
+    let alloc = rt.alloc();
+    let values = &[0, 2];
+    writes(
+        &rt,
+        alloc,
+        values,
+        &[2],
+        Format::One,
+        &[137_438_953_474, 0, 5],
+    );
+    writes(
+        &rt,
+        alloc,
+        values,
+        &[1, 2],
+        Format::One,
+        &[68_719_476_736, 0, 137_438_953_474, 0, 2],
+    );
+    writes(&rt, alloc, values, &[2], Format::Two, &[2, 2, 0, 5]);
+    writes(
+        &rt,
+        alloc,
+        values,
+        &[1, 2],
+        Format::Two,
+        &[0, 1, 0, 2, 2, 0, 2],
+    );
+}
+
+// 0 and the greatest value of the second format, in one part and in two.
+#[test]
+fn writes_the_greatest_value(rt: HostRuntime) {
+    let alloc = rt.alloc();
+    let values = &[0, 281_474_976_710_655];
+    let one: &[u64] = &[
+        281_474_976_710_655,
+        2,
+        0,
+        18_444_492_273_895_866_385,
+        8_589_934_591,
+    ];
+    let two: &[u64] = &[0, 1, 0, 281_474_976_710_655, 2, 0, 562_949_953_421_306];
+    writes(&rt, alloc, values, &[2], Format::Two, one);
+    writes(&rt, alloc, values, &[1, 2], Format::Two, two);
 }
 
 // The first check that breaks where words are to begin with values below a bound, and its part; or how many words they take.
-fn found(words: &[u64], parts: u32, m: u32, bound: u64) -> Result<u64, (Check, u32)>
+fn found(words: &[u64], parts: u32, m: u32, bound: u64, format: Format) -> Result<u64, (Check, u32)>
     requires words { length words.now < 2 ^ 57 }
-    requires bound { bound ≤ format_one.most_sum }
+    requires bound { bound ≤ (numbers_of format).most_sum }
 {
-    match SeqView::check(words, parts, m, bound) {
+    match SeqView::check(words, parts, m, bound, format) {
         Ok(view) => Ok(view.used()),
         Err(fault) => Err((fault.check, fault.part)),
     }
 }
 
-// The words of 0, 2 below 3 and of 0, 5 in one part, each changed alone.
+// The words of 0, 2 below 3 and of 0, 5 in one part in the first format, each changed alone.
 #[test]
 fn names_the_check_that_breaks(rt: HostRuntime) {
     for (words, bound, want) in [
@@ -54,9 +110,43 @@ fn names_the_check_that_breaks(rt: HostRuntime) {
         ([137_438_953_477, 0, 3], 1 << 36, Err(Check::K8)),
         ([137_438_953_477, 0, 97], 1 << 36, Err(Check::K9)),
     ] {
-        assert!(rt; bound <= 1 << 36);
+        assert!(rt; bound <= Format::One.most_sum());
         assert_eq!(rt;
-            found(&words, 1, 2, bound),
+            found(&words, 1, 2, bound, Format::One),
+            want.map_err(|check| (check, 0))
+        );
+    }
+}
+
+// The same words in the second format, each changed alone. A last value is read whole: 2^48 + 2 is not 2.
+#[test]
+fn names_the_check_that_breaks_in_three_words(rt: HostRuntime) {
+    for (words, bound, want) in [
+        ([2, 2, 0, 5], 3, Ok(4)),
+        ([2, 2, 0, 6], 3, Ok(4)),
+        ([1, 2, 0, 5], 3, Ok(3)),
+        ([2, 2, 1, 5], 3, Err(Check::K7)),
+        ([2, 2, u64::MAX, 5], 3, Err(Check::K7)),
+        ([3, 2, 0, 5], 3, Err(Check::K7)),
+        ([u64::MAX, 2, 0, 5], 3, Err(Check::K7)),
+        ([0, 2, 0, 5], 3, Err(Check::K7)),
+        ([2, 0, 0, 5], 3, Err(Check::K7)),
+        ([2, 1, 0, 5], 3, Err(Check::K7)),
+        ([2, 3, 0, 5], 3, Err(Check::K7)),
+        ([2, u64::MAX, 0, 5], 3, Err(Check::K7)),
+        ([281_474_976_710_658, 2, 0, 5], 3, Err(Check::K7)),
+        ([281_474_976_710_658, 2, 0, 5], 1 << 48, Err(Check::K7)),
+        ([2, 2, 0, 3], 3, Err(Check::K8)),
+        ([2, 2, 0, 7], 3, Err(Check::K8)),
+        ([2, 2, 0, 13], 3, Err(Check::K9)),
+        ([5, 2, 0, 33], 1 << 48, Ok(4)),
+        ([5, 1, 0, 33], 1 << 48, Err(Check::K7)),
+        ([5, 2, 0, 3], 1 << 48, Err(Check::K8)),
+        ([5, 2, 0, 97], 1 << 48, Err(Check::K9)),
+    ] {
+        assert!(rt; bound <= Format::Two.most_sum());
+        assert_eq!(rt;
+            found(&words, 1, 2, bound, Format::Two),
             want.map_err(|check| (check, 0))
         );
     }
@@ -79,8 +169,57 @@ fn counts_and_ends_have_checks(rt: HostRuntime) {
         (0, 0, 0, Ok(0)),
     ] {
         assert!(rt; len <= 5);
-        assert_eq!(rt; found(&words[..len], parts, m, 3), want);
+        assert_eq!(rt; found(&words[..len], parts, m, 3, Format::One), want);
     }
+    let words: &[u64] = &[0, 1, 0, 2, 2, 0, 2];
+    for (len, parts, m, want) in [
+        (7, 2, 2, Ok(7)),
+        (7, 0, 2, Err((Check::K6, 0))),
+        (7, 3, 2, Err((Check::K6, 0))),
+        (5, 2, 2, Err((Check::K6, 0))),
+        (6, 2, 2, Err((Check::K7, 2))),
+        (7, 1, 2, Err((Check::K7, 0))),
+        (7, 2, 3, Err((Check::K7, 1))),
+        (7, 1, 1, Ok(3)),
+        (7, 0, 0, Ok(0)),
+        (0, 0, 0, Ok(0)),
+    ] {
+        assert!(rt; len <= 7);
+        assert_eq!(rt; found(&words[..len], parts, m, 3, Format::Two), want);
+    }
+}
+
+// The second entry of 0, 2 in two parts: its end stands still, its last value is that before it, its offset is not the sum.
+#[test]
+fn entries_follow_each_other(rt: HostRuntime) {
+    for words in [
+        [68_719_476_736, 0, 68_719_476_738, 0, 2],
+        [68_719_476_736, 0, 137_438_953_472, 0, 2],
+        [68_719_476_736, 0, 137_438_953_474, 1, 2],
+    ] {
+        assert_eq!(rt; found(&words, 2, 2, 3, Format::One), Err((Check::K7, 1)));
+    }
+    for words in [
+        [0, 1, 0, 2, 1, 0, 2],
+        [0, 1, 0, 0, 2, 0, 2],
+        [0, 1, 0, 2, 2, 1, 2],
+    ] {
+        assert_eq!(rt; found(&words, 2, 2, 3, Format::Two), Err((Check::K7, 1)));
+    }
+}
+
+// The words of 0, 2 in one format are none in the other.
+#[test]
+fn formats_are_told_apart(rt: HostRuntime) {
+    let one: &[u64] = &[137_438_953_474, 0, 5];
+    assert_eq!(rt; found(one, 1, 2, 3, Format::Two), Err((Check::K7, 0)));
+    assert_eq!(rt; found(one, 1, 2, 1 << 48, Format::Two), Err((Check::K7, 0)));
+    let parts: &[u64] = &[68_719_476_736, 0, 137_438_953_474, 0, 2];
+    assert_eq!(rt; found(parts, 2, 2, 3, Format::Two), Err((Check::K6, 0)));
+    let two: &[u64] = &[2, 2, 0, 5];
+    assert_eq!(rt; found(two, 1, 2, 3, Format::One), Err((Check::K7, 0)));
+    let parts: &[u64] = &[0, 1, 0, 2, 2, 0, 2];
+    assert_eq!(rt; found(parts, 2, 2, 3, Format::One), Err((Check::K7, 0)));
 }
 
 // From no part up to one more than there are values.
@@ -98,18 +237,18 @@ fn parts_are_from_one_to_all(rt: HostRuntime) {
     }
 }
 
-// Whether the values rise, and lie below 2^36.
-fn is_sequence(values: &[u64]) -> bool
+// Whether the values rise, and a sequence of the format can have them.
+fn is_sequence(values: &[u64], format: Format) -> bool
     ensures rising { IsTrue result → IsStrictlyIncreasing values.now }
-    ensures below { IsTrue result → All (λ x. x < 2 ^ 36) values.now }
-    ensures few { IsTrue result → length values.now < 2 ^ 28 }
+    ensures below { IsTrue result → All (λ x. x < (numbers_of format).most_sum) values.now }
+    ensures few { IsTrue result → length values.now ≤ (numbers_of format).most_documents }
 {
     for i in 0..values.len() {
-        if values[i] >= 1 << 36 || (i > 0 && values[i] <= values[i - 1]) {
+        if values[i] >= format.most_sum() || (i > 0 && values[i] <= values[i - 1]) {
             return false;
         }
     }
-    values.len() < 1 << 28
+    values.len() as u64 <= format.most_documents() as u64
 }
 
 // So many numbers, each so far from the one before it, and then a last one.
@@ -128,17 +267,24 @@ fn numbers(alloc: Global, count: u64, step: u64, last: Option<u64>) -> Result<Ve
 }
 
 // Whether the words of a sequence are accepted, and its values are read back by their places.
-fn reads_back(rt: &impl Abort, words: &[u64], values: &[u64], parts: u32, bound: u64)
+fn reads_back(
+    rt: &impl Abort,
+    words: &[u64],
+    values: &[u64],
+    parts: u32,
+    bound: u64,
+    format: Format,
+)
     requires words { length words.now < 2 ^ 57 }
-    requires bound { bound ≤ format_one.most_sum }
-    requires few { length values.now < 2 ^ 28 }
+    requires bound { bound ≤ (numbers_of format).most_sum }
+    requires few { length values.now < 2 ^ 32 }
 {
     let m = values.len() as u32;
-    let view = SeqView::check(words, parts, m, bound).expect(rt, "a sequence");
+    let view = SeqView::check(words, parts, m, bound, format).expect(rt, "a sequence");
     assert_eq!(rt; view.used(), words.len() as u64);
     assert_eq!(rt; view.parts(), parts);
     assert_eq!(rt; view.len(), m);
-    let view = SeqView::known(words, parts, m);
+    let view = SeqView::known(words, parts, m, format);
     let mut cursor = view.cursor();
     for k in 0..m {
         let value = values[k as usize];
@@ -152,13 +298,20 @@ fn reads_back(rt: &impl Abort, words: &[u64], values: &[u64], parts: u32, bound:
 }
 
 // Whether a cursor finds each value, and stays where it was moved.
-fn finds_places(rt: &impl Abort, words: &[u64], values: &[u64], parts: u32, bound: u64)
+fn finds_places(
+    rt: &impl Abort,
+    words: &[u64],
+    values: &[u64],
+    parts: u32,
+    bound: u64,
+    format: Format,
+)
     requires words { length words.now < 2 ^ 57 }
-    requires bound { bound ≤ format_one.most_sum }
-    requires few { length values.now < 2 ^ 28 }
+    requires bound { bound ≤ (numbers_of format).most_sum }
+    requires few { length values.now < 2 ^ 32 }
 {
     let m = values.len() as u32;
-    let view = SeqView::check(words, parts, m, bound).expect(rt, "a sequence");
+    let view = SeqView::check(words, parts, m, bound, format).expect(rt, "a sequence");
     for k in 0..m {
         let value = values[k as usize];
         let mut cursor = view.cursor();
@@ -175,16 +328,22 @@ fn finds_places(rt: &impl Abort, words: &[u64], values: &[u64], parts: u32, boun
 }
 
 // Whether the parts of a sequence are those that end at such places.
-fn has_parts(rt: &impl Abort, words: &[u64], values: &[u64], ends: &[u32], bound: u64)
+fn has_parts(
+    rt: &impl Abort,
+    words: &[u64],
+    values: &[u64],
+    ends: &[u32],
+    bound: u64,
+    format: Format,
+)
     requires words { length words.now < 2 ^ 57 }
-    requires bound { bound ≤ format_one.most_sum }
-    requires few { length values.now < 2 ^ 28 }
-    requires few_parts { length ends.now < 2 ^ 28 }
+    requires bound { bound ≤ (numbers_of format).most_sum }
+    requires few { length values.now < 2 ^ 32 }
+    requires few_parts { length ends.now < 2 ^ 32 }
 {
-    let view = SeqView::check(words, ends.len() as u32, values.len() as u32, bound).expect(
-        rt,
-        "a sequence",
-    );
+    let parts = ends.len() as u32;
+    let m = values.len() as u32;
+    let view = SeqView::check(words, parts, m, bound, format).expect(rt, "a sequence");
     let mut from = 0;
     let mut past = 0;
     for i in 0..ends.len() {
@@ -199,44 +358,81 @@ fn has_parts(rt: &impl Abort, words: &[u64], values: &[u64], ends: &[u32], bound
     }
 }
 
-// 0, 2 in one part and in two; 0, 5; and 1, 2, where the first bit is not set.
+// 0, 2 in one part and in two; 0, 5; and 1, 2, where the first bit is not set; 0, 1; and 0 with the greatest value.
 #[test]
 fn two_values_are_read_back(rt: HostRuntime) {
-    for (words, values, ends, bound) in [
+    for (format, words, values, ends, bound) in [
         (
+            Format::One,
             [137_438_953_474, 0, 5].as_slice(),
             [0, 2],
             [2].as_slice(),
             3,
         ),
         (
+            Format::One,
             &[68_719_476_736, 0, 137_438_953_474, 0, 2],
             [0, 2],
             &[1, 2],
             3,
         ),
-        (&[137_438_953_477, 0, 33], [0, 5], &[2], 1 << 36),
-        (&[137_438_953_474, 0, 6], [1, 2], &[2], 3),
-        (&[137_438_953_473, 0], [0, 1], &[2], 3),
+        (
+            Format::One,
+            &[137_438_953_477, 0, 33],
+            [0, 5],
+            &[2],
+            1 << 36,
+        ),
+        (Format::One, &[137_438_953_474, 0, 6], [1, 2], &[2], 3),
+        (Format::One, &[137_438_953_473, 0], [0, 1], &[2], 3),
+        (Format::Two, &[2, 2, 0, 5], [0, 2], &[2], 3),
+        (Format::Two, &[0, 1, 0, 2, 2, 0, 2], [0, 2], &[1, 2], 3),
+        (Format::Two, &[5, 2, 0, 33], [0, 5], &[2], 1 << 48),
+        (Format::Two, &[2, 2, 0, 6], [1, 2], &[2], 3),
+        (Format::Two, &[1, 2, 0], [0, 1], &[2], 3),
+        (
+            Format::Two,
+            &[
+                281_474_976_710_655,
+                2,
+                0,
+                18_444_492_273_895_866_385,
+                8_589_934_591,
+            ],
+            [0, 281_474_976_710_655],
+            &[2],
+            1 << 48,
+        ),
+        (
+            Format::Two,
+            &[0, 1, 0, 281_474_976_710_655, 2, 0, 562_949_953_421_306],
+            [0, 281_474_976_710_655],
+            &[1, 2],
+            1 << 48,
+        ),
     ] {
-        assert!(rt; words.len() < 1 << 28 && ends.len() < 1 << 28);
-        reads_back(&rt, words, &values, ends.len() as u32, bound);
-        finds_places(&rt, words, &values, ends.len() as u32, bound);
-        has_parts(&rt, words, &values, ends, bound);
+        assert!(rt; words.len() < 1 << 28 && ends.len() < 1 << 28 && bound <= format.most_sum());
+        let parts = ends.len() as u32;
+        reads_back(&rt, words, &values, parts, bound, format);
+        finds_places(&rt, words, &values, parts, bound, format);
+        has_parts(&rt, words, &values, ends, bound, format);
     }
 }
 
 // The values 0 to 999 in one part have no payload.
 #[test]
-fn a_whole_range_takes_two_words(rt: HostRuntime) -> Result<(), Fail> {
-    let values = numbers(rt.alloc(), 1_000, 1, None)?;
-    assert!(rt; is_sequence(&values) && values.len() == 1_000);
-    let mut words = Vec::new(rt.alloc());
-    write_seq(rt.alloc(), &values, &[1_000], &mut words).expect(&rt, "memory");
-    let want: &[u64] = &[68_719_476_736_999, 0];
-    assert_eq!(rt; words.as_slice(), want);
-    reads_back(&rt, want, &values, 1, 1_000);
-    has_parts(&rt, want, &values, &[1_000], 1_000);
+fn a_whole_range_takes_its_entry_alone(rt: HostRuntime) -> Result<(), Fail> {
+    for (format, want) in [
+        (Format::One, [68_719_476_736_999, 0].as_slice()),
+        (Format::Two, &[999, 1_000, 0]),
+    ] {
+        let values = numbers(rt.alloc(), 1_000, 1, None)?;
+        assert!(rt; is_sequence(&values, format) && values.len() == 1_000);
+        assert!(rt; want.len() <= 3 && 1_000 <= format.most_sum());
+        writes(&rt, rt.alloc(), &values, &[1_000], format, want);
+        reads_back(&rt, want, &values, 1, 1_000, format);
+        has_parts(&rt, want, &values, &[1_000], 1_000, format);
+    }
     Ok(())
 }
 
@@ -245,25 +441,29 @@ fn a_whole_range_takes_two_words(rt: HostRuntime) -> Result<(), Fail> {
 // behind that.
 #[test]
 fn a_part_with_a_sample_is_read_back(rt: HostRuntime) -> Result<(), Fail> {
-    let values = numbers(rt.alloc(), 129, 10, Some(1 << 35))?;
-    assert!(rt; is_sequence(&values) && values.len() == 130);
-    let mut words = Vec::new(rt.alloc());
-    write_seq(rt.alloc(), &values, &[129, 130], &mut words).expect(&rt, "memory");
-    assert_eq!(rt; words.len(), 16);
-    reads_back(&rt, &words, &values, 2, 1 << 36);
-    finds_places(&rt, &words, &values, 2, 1 << 36);
-    has_parts(&rt, &words, &values, &[129, 130], 1 << 36);
-    assert_eq!(rt; words[14] >> 36 & 511, 288);
-    for (word, bit, fault) in [
-        (14, 36, (Check::K8, 0)),
-        (14, 44, (Check::K8, 0)),
-        (15, 16, (Check::K8, 1)),
-        (15, 17, (Check::K9, 0)),
-    ] {
-        let mut changed = words.as_slice().to_vec(rt.alloc())?;
-        assert!(rt; changed.len() == 16 && word < 16 && bit < 64);
-        changed[word] ^= 1 << bit;
-        assert_eq!(rt; found(&changed, 2, 130, 1 << 36), Err(fault));
+    for (format, directory) in [(Format::One, 4), (Format::Two, 6)] {
+        let values = numbers(rt.alloc(), 129, 10, Some(1 << 35))?;
+        assert!(rt; is_sequence(&values, format) && values.len() == 130);
+        let bound = format.most_sum();
+        let mut words = Vec::new(rt.alloc());
+        write_seq(rt.alloc(), &values, &[129, 130], format, &mut words).expect(&rt, "memory");
+        assert!(rt; directory <= 6);
+        assert_eq!(rt; words.len(), directory + 12);
+        reads_back(&rt, &words, &values, 2, bound, format);
+        finds_places(&rt, &words, &values, 2, bound, format);
+        has_parts(&rt, &words, &values, &[129, 130], bound, format);
+        assert_eq!(rt; words[directory + 10] >> 36 & 511, 288);
+        for (word, bit, fault) in [
+            (10, 36, (Check::K8, 0)),
+            (10, 44, (Check::K8, 0)),
+            (11, 16, (Check::K8, 1)),
+            (11, 17, (Check::K9, 0)),
+        ] {
+            let mut changed = words.as_slice().to_vec(rt.alloc())?;
+            assert!(rt; word < 12 && bit < 64 && changed.len() == directory + 12);
+            changed[directory + word] ^= 1 << bit;
+            assert_eq!(rt; found(&changed, 2, 130, bound, format), Err(fault));
+        }
     }
     Ok(())
 }

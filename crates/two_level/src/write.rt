@@ -1,16 +1,18 @@
 ghost use Rattle.std.specs.Prelude.{◌≡◌, ℕ, ◌+◌, ◌<◌, ◌≤◌, ◌^◌, [], ◌∷◌, ◌++◌, length, IfOk, OnOk, OnErr};
 ghost use Rattle.std.specs.List.{All};
 ghost use Rattle.std.specs.List.Sorted.{IsStrictlyIncreasing};
-ghost use Rattle.collection_model.specs.FormatNumbers.{format_one};
 ghost use Rattle.bit_words.specs.Bits.{words_of};
+ghost use Rattle.part_cost.specs.Formats.{numbers_of};
+ghost use Rattle.part_cost.specs.Payload.{widest_low};
 ghost use Rattle.part_cost.specs.Partition.{IsPartition};
 ghost use Rattle.part_cost.specs.Span.{past, universe, relative_values};
+ghost use Rattle.two_level.specs.EntryWords.{entry};
 ghost use Rattle.two_level.specs.SequenceWords.{directory_from, payload_from, sequence_words};
 
-use crate::entry::MOST_SUM;
+use crate::entry::Entry;
 use bit_words::{BitWriter, NoMemory};
 use part_codec::{part_takes_its_payload, write_part};
-use part_cost::{part_is_relative, payload_bits};
+use part_cost::{Format, formats_have_room, part_is_relative, payload_bits};
 use std::alloc::Global;
 
 /// Appends the words of a sequence in parts: its directory, and then the payload of its parts from a fresh word on. A refusal
@@ -19,16 +21,18 @@ pub fn write_seq(
     alloc: Global,
     values: &[u64],
     ends: &[u64],
+    format: Format,
     to: &mut Vec<u64>,
 ) -> Result<(), NoMemory>
     requires rising { IsStrictlyIncreasing values.now }
-    requires below { All (λ x. x < 2 ^ 36) values.now }
-    requires few { length values.now < 2 ^ 28 }
+    requires below { All (λ x. x < (numbers_of format).most_sum) values.now }
+    requires few { length values.now ≤ (numbers_of format).most_documents }
     requires partition { IsPartition (length values.now) ends.now }
-    ensures ok { OnOk result (to.new.items ≡ to.old.items ++ sequence_words format_one values.now ends.now) }
+    ensures ok { OnOk result (to.new.items ≡ to.old.items ++ sequence_words (numbers_of format) values.now ends.now) }
     ensures err { OnErr result (to.new.items ≡ to.old.items) }
 {
-    let mut words = directory(alloc, values, ends)?;
+    formats_have_room();
+    let mut words = directory(alloc, values, ends, format)?;
     let parts = payload(alloc, values, ends)?;
     words.extend_from_slice(&parts)?;
     to.extend_from_slice(&words)?;
@@ -45,9 +49,25 @@ fn push(words: &mut Vec<u64>, word: u64) -> Result<(), NoMemory>
     }
 }
 
+// Appends the words of an entry: the last value and the end share a word where the format packs them.
+fn push_entry(words: &mut Vec<u64>, part: Entry, format: Format) -> Result<(), NoMemory>
+    requires last { part.last < (numbers_of format).most_sum }
+    requires end { part.end ≤ (numbers_of format).most_documents }
+    ensures { OnOk result (words.new.items ≡ words.old.items ++ entry (numbers_of format) part.last part.end part.offset) }
+{
+    match format {
+        Format::One => push(words, part.last + format.most_sum() * part.end)?,
+        Format::Two => {
+            push(words, part.last)?;
+            push(words, part.end)?;
+        }
+    }
+    push(words, part.offset)
+}
+
 // One more than the value before a place, 0 at the start.
 fn past_value(values: &[u64], place: u64) -> u64
-    requires below { All (λ x. x < 2 ^ 36) values.now }
+    requires below { All (λ x. x < 2 ^ widest_low) values.now }
     requires within { place ≤ length values.now }
     ensures { result ≡ past values.now place }
 {
@@ -61,7 +81,7 @@ fn past_value(values: &[u64], place: u64) -> u64
 // How far the last value of a part lies past the value before it.
 fn universe_of_part(values: &[u64], from: u64, end: u64) -> u64
     requires rising { IsStrictlyIncreasing values.now }
-    requires below { All (λ x. x < 2 ^ 36) values.now }
+    requires below { All (λ x. x < 2 ^ widest_low) values.now }
     requires some { from < end }
     requires within { end ≤ length values.now }
     ensures { result ≡ universe values.now from end }
@@ -73,7 +93,7 @@ fn universe_of_part(values: &[u64], from: u64, end: u64) -> u64
 // The values of a part, counted from the first place past the value before it.
 fn relative_part(alloc: Global, values: &[u64], from: u64, end: u64) -> Result<Vec<u64>, NoMemory>
     requires rising { IsStrictlyIncreasing values.now }
-    requires below { All (λ x. x < 2 ^ 36) values.now }
+    requires below { All (λ x. x < 2 ^ widest_low) values.now }
     requires some { from < end }
     requires within { end ≤ length values.now }
     ensures { IfOk result (λ part. part.items ≡ relative_values values.now from end) }
@@ -89,21 +109,35 @@ fn relative_part(alloc: Global, values: &[u64], from: u64, end: u64) -> Result<V
 }
 
 // The entries of the parts.
-fn directory(alloc: Global, values: &[u64], ends: &[u64]) -> Result<Vec<u64>, NoMemory>
+fn directory(
+    alloc: Global,
+    values: &[u64],
+    ends: &[u64],
+    format: Format,
+) -> Result<Vec<u64>, NoMemory>
     requires rising { IsStrictlyIncreasing values.now }
-    requires below { All (λ x. x < 2 ^ 36) values.now }
-    requires few { length values.now < 2 ^ 28 }
+    requires below { All (λ x. x < (numbers_of format).most_sum) values.now }
+    requires few { length values.now ≤ (numbers_of format).most_documents }
     requires partition { IsPartition (length values.now) ends.now }
-    ensures { IfOk result (λ words. words.items ≡ directory_from format_one values.now 0 0 ends.now) }
+    ensures { IfOk result (λ words. words.items ≡ directory_from (numbers_of format) values.now 0 0 ends.now) }
 {
+    formats_have_room();
     part_is_relative();
     let mut words = Vec::new(alloc);
     let mut from = 0;
     let mut offset = 0;
     for end in ends {
         let universe = universe_of_part(values, from, *end);
-        push(&mut words, past_value(values, *end) - 1 + MOST_SUM * *end)?;
-        push(&mut words, offset)?;
+        let last = past_value(values, *end) - 1;
+        push_entry(
+            &mut words,
+            Entry {
+                last,
+                end: *end,
+                offset,
+            },
+            format,
+        )?;
         offset += payload_bits(universe, *end - from);
         from = *end;
     }
@@ -113,8 +147,7 @@ fn directory(alloc: Global, values: &[u64], ends: &[u64]) -> Result<Vec<u64>, No
 // The words of the payload of the parts.
 fn payload(alloc: Global, values: &[u64], ends: &[u64]) -> Result<Vec<u64>, NoMemory>
     requires rising { IsStrictlyIncreasing values.now }
-    requires below { All (λ x. x < 2 ^ 36) values.now }
-    requires few { length values.now < 2 ^ 28 }
+    requires below { All (λ x. x < 2 ^ widest_low) values.now }
     requires partition { IsPartition (length values.now) ends.now }
     ensures { IfOk result (λ words. words.items ≡ words_of (payload_from values.now 0 ends.now)) }
 {

@@ -1,6 +1,10 @@
 // Answers and usage.
-use crate::collections::{NINE_LISTS, Numbers, ONE_LIST, THREE_LISTS, TWO_LISTS, files};
+use crate::collections::{
+    NINE_LISTS, Numbers, ONE_LIST, THREE_LISTS, TWO_LISTS, files as files_of,
+};
+use crate::indexes::{built, replies_from};
 use crate::runs::{OPS, steady_run};
+use part_cost::Format;
 use pef_top::Status;
 
 const ANSWER: [&str; 3] = ["pefidx", "answer", "x"];
@@ -85,11 +89,19 @@ fn lines_are_answered(rt: HostRuntime) {
         ),
     ] {
         let alloc = rt.alloc();
-        let files = files(alloc, numbers).expect(&rt, "memory");
+        let files = files_of(alloc, numbers).expect(&rt, "memory");
         let run = steady_run(alloc, &ANSWER, files, text.as_bytes()).expect(&rt, "memory");
         assert_eq!(rt; run.status, Status::Done, "{text:?}");
         assert_eq!(rt; run.out.bytes(), replies.as_bytes(), "{text:?}");
         assert_eq!(rt; run.err.calls(), 0, "{text:?}");
+        for format in [Format::One, Format::Two] {
+            let files = files_of(alloc, numbers).expect(&rt, "memory");
+            let words = built(alloc, files, format)
+                .expect(&rt, "memory")
+                .expect(&rt, "words");
+            let out = replies_from(alloc, &words, text.as_bytes()).expect(&rt, "an index");
+            assert_eq!(rt; out.bytes(), replies.as_bytes(), "{text:?}");
+        }
     }
 }
 
@@ -128,11 +140,19 @@ fn documents_of_terms_are_found(rt: HostRuntime) {
         ),
     ] {
         let alloc = rt.alloc();
-        let files = files(alloc, numbers).expect(&rt, "memory");
+        let files = files_of(alloc, numbers).expect(&rt, "memory");
         let run = steady_run(alloc, &ANSWER, files, text.as_bytes()).expect(&rt, "memory");
         assert_eq!(rt; run.status, Status::Done, "{text:?}");
         assert_eq!(rt; run.out.bytes(), replies.as_bytes(), "{text:?}");
         assert_eq!(rt; run.err.calls(), 0, "{text:?}");
+        for format in [Format::One, Format::Two] {
+            let files = files_of(alloc, numbers).expect(&rt, "memory");
+            let words = built(alloc, files, format)
+                .expect(&rt, "memory")
+                .expect(&rt, "words");
+            let out = replies_from(alloc, &words, text.as_bytes()).expect(&rt, "an index");
+            assert_eq!(rt; out.bytes(), replies.as_bytes(), "{text:?}");
+        }
     }
 }
 
@@ -145,7 +165,7 @@ fn a_line_has_at_most_1024_terms(rt: HostRuntime) {
             text.extend_from_slice(b" 0").expect(&rt, "memory");
         }
         text.extend_from_slice(b"\nnext 0 2").expect(&rt, "memory");
-        let files = files(alloc, TWO_LISTS).expect(&rt, "memory");
+        let files = files_of(alloc, TWO_LISTS).expect(&rt, "memory");
         let run = steady_run(alloc, &ANSWER, files, text.as_slice()).expect(&rt, "memory");
         assert_eq!(rt; run.status, Status::Done, "{terms}");
         assert_eq!(rt; run.out.bytes(), replies.as_bytes(), "{terms}");
@@ -162,7 +182,7 @@ fn a_line_is_at_most_65535_bytes(rt: HostRuntime) {
         let alloc = rt.alloc();
         let mut text = vec![in alloc; b'x'; length].expect(&rt, "memory");
         text.extend_from_slice(b"\nnext 0 1").expect(&rt, "memory");
-        let files = files(alloc, ONE_LIST).expect(&rt, "memory");
+        let files = files_of(alloc, ONE_LIST).expect(&rt, "memory");
         let run = steady_run(alloc, &ANSWER, files, text.as_slice()).expect(&rt, "memory");
         assert_eq!(rt; run.status, Status::Done, "{length}");
         assert_eq!(rt; run.out.bytes(), reply.as_bytes(), "{length}");
@@ -173,7 +193,7 @@ fn a_line_is_at_most_65535_bytes(rt: HostRuntime) {
 fn words_that_are_no_command_call_nothing(rt: HostRuntime) {
     for words in NO_COMMANDS {
         let alloc = rt.alloc();
-        let files = files(alloc, ONE_LIST).expect(&rt, "memory");
+        let files = files_of(alloc, ONE_LIST).expect(&rt, "memory");
         let run = steady_run(alloc, words, files, b"next 0 1").expect(&rt, "memory");
         assert_eq!(rt; run.status, Status::Usage, "{words:?}");
         assert_eq!(rt; run.err.bytes(), USAGE.as_bytes(), "{words:?}");

@@ -1,8 +1,12 @@
 // Broken collections, each named by its first fault.
 use crate::collections::{Numbers, ONE_LIST, cut_files};
+use crate::indexes::built;
 use crate::runs::steady_run;
+use collection_reader::Fault;
+use part_cost::Format;
 use pef_io::Slot;
-use pef_top::Status;
+use pef_top::{BuildError, Status};
+use std::alloc::Global;
 
 /// Seventeen documents in one list, whose frequencies sum to one more than 2^36.
 const SUM_TOO_LARGE: Numbers<'static> = Numbers {
@@ -16,6 +20,23 @@ const SUM_TOO_LARGE: Numbers<'static> = Numbers {
     ],
     sizes: &[17, 0, 0, 0, 0, 0, 0, 0, 0, 0, 0, 0, 0, 0, 0, 0, 0, 0],
 };
+
+/// What a fault is called on the error output.
+fn name_of(alloc: Global, fault: Fault) -> Option<String> {
+    let Fault {
+        rule,
+        file,
+        term,
+        place,
+    } = fault;
+    let file = match file {
+        Slot::Docs => "docs",
+        Slot::Freqs => "freqs",
+        Slot::Sizes => "sizes",
+        Slot::Index => "index",
+    };
+    format!(in alloc; "{rule:?} {file} term {term} place {place}").ok()
+}
 
 /// The numbers of three files.
 fn numbers<'a>(docs: &'a [u32], freqs: &'a [u32], sizes: &'a [u32]) -> Numbers<'a> {
@@ -103,5 +124,12 @@ fn broken_collections_are_named(rt: HostRuntime) {
         let wanted = format!(in alloc; "collection {line}\n").expect(&rt, "memory");
         assert_eq!(rt; run.err.bytes(), wanted.as_bytes(), "{line}");
         assert_eq!(rt; (run.input.calls(), run.out.calls()), (0, 0), "{line}");
+        let files = cut_files(alloc, numbers, cut.0, cut.1).expect(&rt, "memory");
+        let words = built(alloc, files, Format::One).expect(&rt, "memory");
+        let Err(BuildError::Broken(fault)) = words else {
+            panic!(rt; "{line}")
+        };
+        let name = name_of(alloc, fault).expect(&rt, "memory");
+        assert_eq!(rt; name.as_bytes(), line.as_bytes());
     }
 }

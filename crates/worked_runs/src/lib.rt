@@ -13,4 +13,6 @@ mod failures;
 #[cfg(test)]
 mod faults;
 #[cfg(test)]
+mod indexes;
+#[cfg(test)]
 mod runs;

@@ -6,7 +6,7 @@ use Rattle.collection_reader.proofs.whole.read_lists.Goals as goal
 pub returns-in_err-next_list : goal.returns-in_err-next_list
 returns-in_err-next_list g c =
     let p = err_from_is_err_and c.from_residual.result c.from_residual.ensures.1 in
-    list-refused _ _ _ _ _ _ _ _ _ _ _ _ _ c.loop-freqs.invariant c.next_list.ensures.list c.in_err-next_list.was (p.1 ∙ ap Err p.2)
+    list-refused _ _ _ _ _ _ _ _ _ _ _ _ c.loop-freqs.invariant.read c.next_list.ensures.list c.in_err-next_list.was (p.1 ∙ ap Err p.2)
 
 pub loop-freqs-preserved : goal.loop-freqs-preserved
 loop-freqs-preserved g c =

@@ -1,5 +1,5 @@
 use Rattle.std.proofs.Common.{◌≡◌, ℕ, ◌-◌, length, get_or, ◌∙◌, ap, arith}
-use Rattle.collection_model.specs.FormatNumbers.{format_one}
+use Rattle.part_cost.specs.Formats.{numbers_of}
 use Rattle.partition_path.proofs.Traces.{to-last, near, total, counted}
 use Rattle.partition_path.proofs.cuts.partition.Goals as goal
 
@@ -10,7 +10,7 @@ returns-clause-near g c =
     let t = c.in_ok-routes.routes in
     let said = c.in_ok-routes.ensures in
     let chain = to-last t.starts (length t.costs) n c.in_ok-ends.ends.items said.routes.places c.in_ok-ends.ensures in
-    near format_one.limit cost n c.args.steps.now c.found.new.steps t said.routes said.reached c.in_ok-ends.ends.items chain said.near
+    near (numbers_of (g.C.SpanCost.format_of c.args.cost.now)).limit cost n c.args.steps.now c.found.new.steps t said.routes said.reached c.in_ok-ends.ends.items chain said.near
 
 pub returns-clause-total : goal.returns-clause-total
 returns-clause-total g c =
@@ -20,7 +20,7 @@ returns-clause-total g c =
     let said = c.in_ok-routes.ensures in
     let chain = to-last t.starts (length t.costs) n c.in_ok-ends.ends.items said.routes.places c.in_ok-ends.ensures in
     let last : length t.costs - 1 ≡ n = omega (arith, said.routes.places) in
-    c.total-total.ensures ∙ ap (λ (x : ℕ). get_or t.costs x 0) last ∙ total format_one.limit cost n c.args.steps.now c.found.new.steps t said.routes said.reached c.in_ok-ends.ends.items chain
+    c.total-total.ensures ∙ ap (λ (x : ℕ). get_or t.costs x 0) last ∙ total (numbers_of (g.C.SpanCost.format_of c.args.cost.now)).limit cost n c.args.steps.now c.found.new.steps t said.routes said.reached c.in_ok-ends.ends.items chain
 
 pub returns-clause-counted : goal.returns-clause-counted
 returns-clause-counted g c =
@@ -29,4 +29,4 @@ returns-clause-counted g c =
     let t = c.in_ok-routes.routes in
     let said = c.in_ok-routes.ensures in
     let chain = to-last t.starts (length t.costs) n c.in_ok-ends.ends.items said.routes.places c.in_ok-ends.ensures in
-    counted format_one.limit cost n c.args.steps.now c.found.new.steps t said.routes said.reached c.in_ok-ends.ends.items chain
+    counted (numbers_of (g.C.SpanCost.format_of c.args.cost.now)).limit cost n c.args.steps.now c.found.new.steps t said.routes said.reached c.in_ok-ends.ends.items chain

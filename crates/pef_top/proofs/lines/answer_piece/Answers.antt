@@ -36,8 +36,8 @@ whole c read piece done rest held now at start out fail e split h =
     ∙ ap (λ xs. read ++ xs) (sym (append_assoc done line (drop (at + 1) rest)) ∙ sym (next-rest piece done rest at e split)) in
     subst P same (taken-stopped c ((read ++ done) ++ line) (drop (at + 1) rest) held now start out fail h)
 
-pub end_line-requires-clause-one_line : goal.end_line-requires-clause-one_line
-end_line-requires-clause-one_line g c = none-before newline c.loop-at.rest.now c.in-Some.at (sym c.in-Some.ensures)
+pub end_line-requires : goal.end_line-requires
+end_line-requires g c = none-before newline c.loop-at.rest.now c.in-Some.at (sym c.in-Some.ensures)
 
 pub returns-in_err-end_line : goal.returns-in_err-end_line
 returns-in_err-end_line g c =

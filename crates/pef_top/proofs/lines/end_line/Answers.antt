@@ -11,7 +11,7 @@ returns-in_err-hold g c =
 pub returns-in_err-answer_line : goal.returns-in_err-answer_line
 returns-in_err-answer_line g c =
     let p = err_from_is_err_and c.from_residual-in_err-answer_line.result c.from_residual-in_err-answer_line.ensures.1 in
-    rw (p.1, p.2) (λ read start h. taken-line _ _ _ _ _ _ _ _ _ _ h c.requires.one_line (c.deref.ensures.value ∙ c.in_ok-hold.ensures) c.in_err-answer_line.ensures tt)
+    rw (p.1, p.2) (λ read start h. taken-line _ _ _ _ _ _ _ _ _ _ h c.requires (c.deref.ensures.value ∙ c.in_ok-hold.ensures) c.in_err-answer_line.ensures tt)
 
 pub returns : goal.returns
-returns g c = λ read start h. taken-line _ _ _ _ _ _ _ _ _ _ h c.requires.one_line (c.deref.ensures.value ∙ c.in_ok-hold.ensures) c.in_ok-answer_line.ensures c.clear.ensures.items
+returns g c = λ read start h. taken-line _ _ _ _ _ _ _ _ _ _ h c.requires (c.deref.ensures.value ∙ c.in_ok-hold.ensures) c.in_ok-answer_line.ensures c.clear.ensures.items

@@ -19,8 +19,8 @@ returns-in_err-n g c =
     let p = err_from_is_err_and c.from_residual.result c.from_residual.ensures.1 in
     let a = mapped-err c.read.result c.map_err.result _ c.in_err-n.field-0.0 c.map_err.ensures.cases c.in_err-n.was in
     let P : Result ℕ IoFail → Type 0 = λ r. Reads (g.I.Source.state c.pieces.input) (g.I.Source.state c.read.new.self) c.pieces.piece c.read.new.buf r in
-    stopped c.args.collection.now c.args.limit _ _ _ _ _ c.from_residual.result (p.1 ∙ ap Err (p.2 ∙ a.2))
-    (read-failed c.args.collection.now c.args.limit c.pieces.invariant.0 c.pieces.held.items c.pieces.piece c.read.new.buf
+    stopped (g.L.TermLists.collection c.args.lists.now) c.args.limit _ _ _ _ _ c.from_residual.result (p.1 ∙ ap Err (p.2 ∙ a.2))
+    (read-failed (g.L.TermLists.collection c.args.lists.now) c.args.limit c.pieces.invariant.0 c.pieces.held.items c.pieces.piece c.read.new.buf
     (g.I.Source.state c.args.input.now) (g.I.Source.state c.pieces.input) (g.I.Source.state c.read.new.self) (g.O.Sink.state c.args.out.now) (g.O.Sink.state c.pieces.out) a.0
     c.pieces.invariant.1 (omega (arith, c.pieces.invariant.2)) c.pieces.invariant.3 (subst P a.1 c.read.ensures))
 
@@ -56,10 +56,10 @@ returns-in_err-map_err g c =
     let a = mapped-err c.answer_piece.result c.map_err-in-pieces.result _ c.in_err-map_err.field-0.0 c.map_err-in-pieces.ensures.cases c.in_err-map_err.was in
     let n = mapped-ok c.read.result c.map_err.result _ c.in_ok-n.n c.map_err.ensures.cases c.in_ok-n.was in
     let P : Result ℕ IoFail → Type 0 = λ r. Reads (g.I.Source.state c.pieces.input) (g.I.Source.state c.read.new.self) c.pieces.piece c.read.new.buf r in
-    let Q : Result (Unit {0}) IoFail → Type 0 = λ r. AnswersBytes c.args.collection.now (c.pieces.invariant.0 ++ take c.min-within.result c.read.new.buf) c.answer_piece.new.held.items
+    let Q : Result (Unit {0}) IoFail → Type 0 = λ r. AnswersBytes (g.L.TermLists.collection c.args.lists.now) (c.pieces.invariant.0 ++ take c.min-within.result c.read.new.buf) c.answer_piece.new.held.items
     (g.O.Sink.state c.args.out.now) (g.O.Sink.state c.answer_piece.new.out) r in
-    stopped c.args.collection.now c.args.limit _ _ _ _ _ c.from_residual-in_err-map_err.result (p.1 ∙ ap Err (p.2 ∙ a.2))
-    (stopped-within c.args.collection.now c.args.limit c.pieces.invariant.0 c.read.new.buf c.answer_piece.new.held.items c.min-within.result c.in_ok-n.n
+    stopped (g.L.TermLists.collection c.args.lists.now) c.args.limit _ _ _ _ _ c.from_residual-in_err-map_err.result (p.1 ∙ ap Err (p.2 ∙ a.2))
+    (stopped-within (g.L.TermLists.collection c.args.lists.now) c.args.limit c.pieces.invariant.0 c.read.new.buf c.answer_piece.new.held.items c.min-within.result c.in_ok-n.n
     (g.I.Source.state c.args.input.now) (g.I.Source.state c.read.new.self) (g.O.Sink.state c.args.out.now) (g.O.Sink.state c.answer_piece.new.out) a.0
     (omega (arith, c.min-within.ensures))
     (read-more c.pieces.invariant.0 c.pieces.piece c.read.new.buf c.in_ok-n.n _ _ _ c.pieces.invariant.1 (subst P n c.read.ensures))
@@ -70,11 +70,11 @@ returns-then-within-n g c =
     let o = mapped-ok c.answer_piece.result c.map_err-in-pieces.result _ tt c.map_err-in-pieces.ensures.cases c.in_ok-map_err.was in
     let n = mapped-ok c.read.result c.map_err.result _ c.in_ok-n.n c.map_err.ensures.cases c.in_ok-n.was in
     let P : Result ℕ IoFail → Type 0 = λ r. Reads (g.I.Source.state c.pieces.input) (g.I.Source.state c.read.new.self) c.pieces.piece c.read.new.buf r in
-    let Q : Result (Unit {0}) IoFail → Type 0 = λ r. AnswersBytes c.args.collection.now (c.pieces.invariant.0 ++ take c.min-within.result c.read.new.buf) c.answer_piece.new.held.items
+    let Q : Result (Unit {0}) IoFail → Type 0 = λ r. AnswersBytes (g.L.TermLists.collection c.args.lists.now) (c.pieces.invariant.0 ++ take c.min-within.result c.read.new.buf) c.answer_piece.new.held.items
     (g.O.Sink.state c.args.out.now) (g.O.Sink.state c.answer_piece.new.out) r in
     let reads = subst P n c.read.ensures in
-    stopped c.args.collection.now c.args.limit _ _ _ _ TooLarge _ refl
-    (past-limit c.args.collection.now c.args.limit c.pieces.rest c.pieces.invariant.0 c.read.new.buf c.answer_piece.new.held.items c.min-within.result c.in_ok-n.n
+    stopped (g.L.TermLists.collection c.args.lists.now) c.args.limit _ _ _ _ TooLarge _ refl
+    (past-limit (g.L.TermLists.collection c.args.lists.now) c.args.limit c.pieces.rest c.pieces.invariant.0 c.read.new.buf c.answer_piece.new.held.items c.min-within.result c.in_ok-n.n
     (g.I.Source.state c.args.input.now) (g.I.Source.state c.read.new.self) (g.O.Sink.state c.args.out.now) (g.O.Sink.state c.answer_piece.new.out)
     c.pieces.invariant.2 c.min-within.ensures c.if-within-n.true (omega (arith, reads.within, c.read.auto.buf))
     (read-more c.pieces.invariant.0 c.pieces.piece c.read.new.buf c.in_ok-n.n _ _ _ c.pieces.invariant.1 reads)
@@ -85,10 +85,10 @@ pieces-preserved g c =
     let o = mapped-ok c.answer_piece.result c.map_err-in-pieces.result _ tt c.map_err-in-pieces.ensures.cases c.in_ok-map_err.was in
     let n = mapped-ok c.read.result c.map_err.result _ c.in_ok-n.n c.map_err.ensures.cases c.in_ok-n.was in
     let P : Result ℕ IoFail → Type 0 = λ r. Reads (g.I.Source.state c.pieces.input) (g.I.Source.state c.read.new.self) c.pieces.piece c.read.new.buf r in
-    let Q : Result (Unit {0}) IoFail → Type 0 = λ r. AnswersBytes c.args.collection.now (c.pieces.invariant.0 ++ take c.min-within.result c.read.new.buf) c.answer_piece.new.held.items
+    let Q : Result (Unit {0}) IoFail → Type 0 = λ r. AnswersBytes (g.L.TermLists.collection c.args.lists.now) (c.pieces.invariant.0 ++ take c.min-within.result c.read.new.buf) c.answer_piece.new.held.items
     (g.O.Sink.state c.args.out.now) (g.O.Sink.state c.answer_piece.new.out) r in
     let reads = subst P n c.read.ensures in
-    taken-whole c.args.collection.now c.args.limit c.pieces.rest c.pieces.invariant.0 c.read.new.buf c.answer_piece.new.held.items c.min-within.result c.in_ok-n.n
+    taken-whole (g.L.TermLists.collection c.args.lists.now) c.args.limit c.pieces.rest c.pieces.invariant.0 c.read.new.buf c.answer_piece.new.held.items c.min-within.result c.in_ok-n.n
     (g.I.Source.state c.args.input.now) (g.I.Source.state c.read.new.self) (g.O.Sink.state c.args.out.now) (g.O.Sink.state c.answer_piece.new.out)
     c.pieces.invariant.2 c.min-within.ensures c.if-within-n.false (omega (arith, reads.within, c.read.auto.buf))
     (read-more c.pieces.invariant.0 c.pieces.piece c.read.new.buf c.in_ok-n.n _ _ _ c.pieces.invariant.1 reads)

@@ -1,10 +1,12 @@
 use Rattle.std.proofs.Common.{◌≡◌, ℕ, ◌^◌, ◌<◌, List, length, sym, ap, subst, ◌∙◌, arith}
 use Rattle.std.specs.List.{All}
 use Rattle.std.specs.Option.{IfSome}
+use Rattle.std.specs.Result.{IfOk}
 use Rattle.std.proofs.lemmas.Result.{IfOk-at_ok}
-use Rattle.collection_model.specs.FormatNumbers.{format_one}
+use Rattle.collection_model.specs.FormatNumbers.{FormatNumbers}
 use Rattle.collection_model.specs.Collection.{greatest}
 use Rattle.collection_model.specs.Sequences.{steps_from, postings_in}
+use Rattle.part_cost.specs.Formats.{numbers_of}
 use Rattle.cursor_api.specs.NextGeq.{IsCursorList}
 use Rattle.two_level.specs.SequenceWords.{BeginsSequence}
 use Rattle.two_level.specs.SequenceView.{SequenceView}
@@ -12,23 +14,24 @@ use Rattle.postings.proofs.Lists.{list-of_sequences, list-of_cursor, in-freqs}
 use Rattle.postings.proofs.tests.opened.Goals as goal
 
 -- two sequences of one length with steps that fit are those of a cursor's list
-cursor-list : (docs sums doc_ends sum_ends doc_words sum_words : List ℕ) (m doc_parts sum_parts : ℕ)
-    → (used : ℕ) × BeginsSequence format_one m 3 doc_parts docs doc_ends doc_words used → (used : ℕ) × BeginsSequence format_one m (2 ^ 36) sum_parts sums sum_ends sum_words used
+cursor-list : (format : FormatNumbers) (docs sums doc_ends sum_ends doc_words sum_words : List ℕ) (m doc_parts sum_parts : ℕ)
+    → (used : ℕ) × BeginsSequence format m 3 doc_parts docs doc_ends doc_words used → (used : ℕ) × BeginsSequence format m format.most_sum sum_parts sums sum_ends sum_words used
     → All (λ f. f < 2 ^ 32) (steps_from 0 sums) → IsCursorList (postings_in docs sums)
-cursor-list docs sums doc_ends sum_ends doc_words sum_words m doc_parts sum_parts d s fit =
-    let list = list-of_sequences format_one 3 docs sums d.1.sequence.rising d.1.sequence.below s.1.sequence.rising s.1.sequence.below (d.1.sequence.count ∙ sym s.1.sequence.count) fit in
-    list-of_cursor format_one 3 (postings_in docs sums) (omega arith) list.well_formed
+cursor-list format docs sums doc_ends sum_ends doc_words sum_words m doc_parts sum_parts d s fit =
+    let list = list-of_sequences format 3 docs sums d.1.sequence.rising d.1.sequence.below s.1.sequence.rising s.1.sequence.below (d.1.sequence.count ∙ sym s.1.sequence.count) fit in
+    list-of_cursor format 3 (postings_in docs sums) (omega arith) list.well_formed
 
 pub new-requires-clause-list : goal.new-requires-clause-list
 new-requires-clause-list g c =
     let docs : SequenceView = c.expect-docs.result in
     let sums : SequenceView = c.expect-sums.result in
-    let d : (used : ℕ) × BeginsSequence format_one c.args.m 3 c.args.doc_parts docs.values docs.ends c.args.docs.now used =
-    IfOk-at_ok (λ v. (used : ℕ) × BeginsSequence format_one c.args.m 3 c.args.doc_parts v.values v.ends c.args.docs.now used) c.expect-docs.ensures c.check.ensures.ok in
-    let s : (used : ℕ) × BeginsSequence format_one c.args.m (2 ^ 36) c.args.sum_parts sums.values sums.ends c.args.sums.now used =
-    IfOk-at_ok (λ v. (used : ℕ) × BeginsSequence format_one c.args.m (2 ^ 36) c.args.sum_parts v.values v.ends c.args.sums.now used) c.expect-sums.ensures c.check-2.ensures.ok in
+    let d : (used : ℕ) × BeginsSequence (numbers_of c.args.format) c.args.m 3 c.args.doc_parts docs.values docs.ends c.args.docs.now used =
+    IfOk-at_ok (λ v. (used : ℕ) × BeginsSequence (numbers_of c.args.format) c.args.m 3 c.args.doc_parts v.values v.ends c.args.docs.now used) c.expect-docs.ensures c.check.ensures.ok in
+    let s : (used : ℕ) × BeginsSequence (numbers_of c.args.format) c.args.m (numbers_of c.args.format).most_sum c.args.sum_parts sums.values sums.ends c.args.sums.now used =
+    IfOk-at_ok (λ v. (used : ℕ) × BeginsSequence (numbers_of c.args.format) c.args.m (numbers_of c.args.format).most_sum c.args.sum_parts v.values v.ends c.args.sums.now used) c.expect-sums.ensures
+    (subst (λ bound. IfOk c.check-2.result (λ v. (used : ℕ) × BeginsSequence (numbers_of c.args.format) c.args.m bound c.args.sum_parts v.values v.ends c.args.sums.now used)) c.most_sum.ensures c.check-2.ensures.ok) in
     let fit : All (λ f. f < 2 ^ 32) (steps_from 0 sums.values) = subst (λ o. IfSome o (λ x. All (λ f. f < 2 ^ 32) (steps_from 0 sums.values))) c.expect-max.ensures c.greatest_step.ensures.fit in
-    cursor-list docs.values sums.values docs.ends sums.ends c.args.docs.now c.args.sums.now c.args.m c.args.doc_parts c.args.sum_parts d s fit
+    cursor-list (numbers_of c.args.format) docs.values sums.values docs.ends sums.ends c.args.docs.now c.args.sums.now c.args.m c.args.doc_parts c.args.sum_parts d s fit
 
 pub new-requires-clause-greatest : goal.new-requires-clause-greatest
 new-requires-clause-greatest g c =

@@ -1,5 +1,5 @@
 use Rattle.std.proofs.Common.{◌-◌, ◌≤◌, ◌<◌}
-use Rattle.collection_model.specs.FormatNumbers.{format_one}
+use Rattle.part_cost.specs.Formats.{numbers_of}
 use Rattle.two_level.specs.SequenceFault.{stated_end, end_before}
 use Rattle.two_level.proofs.finding.part_of_place.Given as goal
 
@@ -7,8 +7,8 @@ abbrev pub invariant-loop-low : goal.invariant-loop-low
 invariant-loop-low l = record {
   up : l.low ≤ l.high;
   within : l.high < l.parts;
-  from : end_before format_one l.words 0 l.low ≤ l.place;
-  to : l.place < stated_end format_one l.words 0 l.high;
+  from : end_before (numbers_of l.format) l.words 0 l.low ≤ l.place;
+  to : l.place < stated_end (numbers_of l.format) l.words 0 l.high;
 }
 
 abbrev pub decreases-loop-low : goal.decreases-loop-low

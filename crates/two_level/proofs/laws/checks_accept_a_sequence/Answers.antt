@@ -1,9 +1,10 @@
+use Rattle.part_cost.specs.Formats.{numbers_of}
 use Rattle.two_level.proofs.Accepting.{accepted-begins}
 use Rattle.two_level.proofs.laws.checks_accept_a_sequence.Goals as goal
 
 pub returns : goal.returns
-returns c m bound parts words fits are pass =
-    accepted-begins
+returns c format m bound parts words fits are pass =
+    accepted-begins (numbers_of format) (c.formats_have_room.ensures format)
     (record {
       bits = c.part_takes_its_payload.ensures.bits;
       takes = c.part_takes_its_payload.ensures.payload;

@@ -1,10 +1,11 @@
+use Rattle.part_cost.specs.Formats.{numbers_of}
 use Rattle.two_level.proofs.Follows.{fits-begun, no-fault}
 use Rattle.two_level.proofs.laws.checks_refuse_no_sequence.Goals as goal
 
 pub returns : goal.returns
-returns c m bound parts used part check xs ends words fits b =
-    no-fault words parts m bound check part
-    (fits-begun
+returns c format m bound parts used part check xs ends words fits b =
+    no-fault (numbers_of format) words parts m bound check part
+    (fits-begun (numbers_of format) (c.formats_have_room.ensures format)
     (record {
       bits = c.part_takes_its_payload.ensures.bits;
       takes = c.part_takes_its_payload.ensures.payload;

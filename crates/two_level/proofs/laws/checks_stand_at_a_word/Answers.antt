@@ -1,12 +1,13 @@
+use Rattle.part_cost.specs.Formats.{numbers_of}
 use Rattle.two_level.proofs.AtAWord.{checks-stand, sequence-stands, fault-stands}
 use Rattle.two_level.proofs.laws.checks_stand_at_a_word.Goals as goal
 
 pub returns-clause-checks : goal.returns-clause-checks
-returns-clause-checks c = checks-stand c.part_takes_its_payload.ensures.payload
+returns-clause-checks c format = checks-stand (numbers_of format)
 
 pub returns-clause-sequence : goal.returns-clause-sequence
-returns-clause-sequence c =
-    sequence-stands
+returns-clause-sequence c format =
+    sequence-stands (numbers_of format) (c.formats_have_room.ensures format)
     (record {
       bits = c.part_takes_its_payload.ensures.bits;
       takes = c.part_takes_its_payload.ensures.payload;
@@ -17,4 +18,4 @@ returns-clause-sequence c =
     c.words_are_bits.ensures.appended c.words_are_bits.ensures.bits
 
 pub returns-clause-fault : goal.returns-clause-fault
-returns-clause-fault c = fault-stands c.part_takes_its_payload.ensures.payload
+returns-clause-fault c format = fault-stands (numbers_of format)

@@ -1,9 +1,10 @@
+use Rattle.part_cost.specs.Formats.{numbers_of}
 use Rattle.two_level.proofs.Parts.{directory-states}
 use Rattle.two_level.proofs.laws.directory_states_its_parts.Goals as goal
 
 pub returns : goal.returns
-returns c =
-    directory-states
+returns c format =
+    directory-states (numbers_of format) (c.formats_have_room.ensures format)
     (record {
       bits = c.part_takes_its_payload.ensures.bits;
       takes = c.part_takes_its_payload.ensures.payload;

@@ -1,9 +1,10 @@
+use Rattle.part_cost.specs.Formats.{numbers_of}
 use Rattle.two_level.proofs.Stated.{one-sequence}
 use Rattle.two_level.proofs.laws.one_sequence.Goals as goal
 
 pub returns : goal.returns
-returns c =
-    one-sequence
+returns c format =
+    one-sequence (numbers_of format) (c.formats_have_room.ensures format)
     (record {
       bits = c.part_takes_its_payload.ensures.bits;
       takes = c.part_takes_its_payload.ensures.payload;

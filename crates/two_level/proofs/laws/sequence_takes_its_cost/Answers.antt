@@ -1,9 +1,10 @@
+use Rattle.part_cost.specs.Formats.{numbers_of}
 use Rattle.two_level.proofs.Lengths.{takes-its-cost}
 use Rattle.two_level.proofs.laws.sequence_takes_its_cost.Goals as goal
 
 pub returns : goal.returns
-returns c =
-    takes-its-cost
+returns c format =
+    takes-its-cost (numbers_of format) (c.formats_have_room.ensures format)
     (record {
       bits = c.part_takes_its_payload.ensures.bits;
       takes = c.part_takes_its_payload.ensures.payload;

@@ -1,7 +1,8 @@
-use Rattle.std.proofs.Common.{◌≡◌, ℕ, ◌+◌, ◌-◌, ◌*◌, List, [], ◌∷◌, ◌++◌, drop, get_or, ap, ◌∙◌, arith}
-use Rattle.collection_model.specs.FormatNumbers.{format_one}
+use Rattle.std.proofs.Common.{◌≡◌, ℕ, ◌+◌, ◌-◌, List, ◌++◌, drop, get_or, ap, ◌∙◌, arith}
+use Rattle.part_cost.specs.Formats.{numbers_of}
 use Rattle.part_cost.specs.Payload.{payload}
 use Rattle.part_cost.specs.Span.{payload_of_part}
+use Rattle.two_level.specs.EntryWords.{entry}
 use Rattle.two_level.specs.SequenceWords.{directory_from}
 use Rattle.part_cost.proofs.Growth.{payload-short}
 use Rattle.two_level.proofs.Writing.{next-part, past-less, past-most, directory-more}
@@ -11,20 +12,22 @@ pub universe_of_part-universe-requires-clause-within : goal.universe_of_part-uni
 universe_of_part-universe-requires-clause-within c =
     let n = next-part c.args.values.now c.args.ends.now c.loop-end.from c.loop-end.end-index c.loop-end-test.true c.loop-end.invariant.parts in n.within
 
-pub past_value-requires-clause-within : goal.past_value-requires-clause-within
-past_value-requires-clause-within c =
+pub past_value-last-requires-clause-within : goal.past_value-last-requires-clause-within
+past_value-last-requires-clause-within c =
     let n = next-part c.args.values.now c.args.ends.now c.loop-end.from c.loop-end.end-index c.loop-end-test.true c.loop-end.invariant.parts in n.within
 
-pub overflow_mul-end : goal.overflow_mul-end
-overflow_mul-end c =
+pub push_entry-requires-clause-last : goal.push_entry-requires-clause-last
+push_entry-requires-clause-last c =
+    let n = next-part c.args.values.now c.args.ends.now c.loop-end.from c.loop-end.end-index c.loop-end-test.true c.loop-end.invariant.parts in
+    let end : ℕ = get_or c.args.ends.now c.loop-end.end-index 0 in
+    let most = past-most c.part_is_relative.ensures.within (numbers_of c.args.format).most_sum c.args.values.now c.requires.below end n.within in
+    let less = past-less c.part_is_relative.ensures.room c.args.values.now c.requires.rising c.loop-end.from end n.some n.within in
+    omega (arith, most, less, n.some, c.past_value-last.ensures)
+
+pub push_entry-requires-clause-end : goal.push_entry-requires-clause-end
+push_entry-requires-clause-end c =
     let n = next-part c.args.values.now c.args.ends.now c.loop-end.from c.loop-end.end-index c.loop-end-test.true c.loop-end.invariant.parts in
     omega (arith, n.within, c.requires.few)
-
-pub overflow_add-past_value : goal.overflow_add-past_value
-overflow_add-past_value c =
-    let n = next-part c.args.values.now c.args.ends.now c.loop-end.from c.loop-end.end-index c.loop-end-test.true c.loop-end.invariant.parts in
-    let most = past-most c.part_is_relative.ensures.within c.args.values.now c.requires.below (get_or c.args.ends.now c.loop-end.end-index 0) n.within in
-    omega (arith, n.within, c.requires.few, most, c.past_value.ensures)
 
 pub payload_bits-offset-requires-clause-fit : goal.payload_bits-offset-requires-clause-fit
 payload_bits-offset-requires-clause-fit c =
@@ -35,16 +38,18 @@ payload_bits-offset-requires-clause-fit c =
 pub payload_bits-offset-requires-clause-in_range : goal.payload_bits-offset-requires-clause-in_range
 payload_bits-offset-requires-clause-in_range c =
     let n = next-part c.args.values.now c.args.ends.now c.loop-end.from c.loop-end.end-index c.loop-end-test.true c.loop-end.invariant.parts in
-    let most = past-most c.part_is_relative.ensures.within c.args.values.now c.requires.below (get_or c.args.ends.now c.loop-end.end-index 0) n.within in
-    omega (arith, most, c.universe_of_part-universe.ensures)
+    let most = past-most c.part_is_relative.ensures.within (numbers_of c.args.format).most_sum c.args.values.now c.requires.below (get_or c.args.ends.now c.loop-end.end-index 0) n.within in
+    let sums = (c.formats_have_room.ensures c.args.format).sums in
+    omega (arith, most, sums, c.universe_of_part-universe.ensures)
 
 pub overflow_add-offset : goal.overflow_add-offset
 overflow_add-offset c =
     let n = next-part c.args.values.now c.args.ends.now c.loop-end.from c.loop-end.end-index c.loop-end-test.true c.loop-end.invariant.parts in
     let end : ℕ = get_or c.args.ends.now c.loop-end.end-index 0 in
-    let most = past-most c.part_is_relative.ensures.within c.args.values.now c.requires.below end n.within in
+    let most = past-most c.part_is_relative.ensures.within (numbers_of c.args.format).most_sum c.args.values.now c.requires.below end n.within in
+    let sums = (c.formats_have_room.ensures c.args.format).sums in
     let less = past-less c.part_is_relative.ensures.room c.args.values.now c.requires.rising c.loop-end.from end n.some n.within in
-    omega (arith, most, less, c.universe_of_part-universe.ensures, c.payload_bits-offset.ensures, payload-short c.universe_of_part-universe.result (end - c.loop-end.from), c.loop-end.invariant.few)
+    omega (arith, most, sums, less, c.universe_of_part-universe.ensures, c.payload_bits-offset.ensures, payload-short c.universe_of_part-universe.result (end - c.loop-end.from), c.loop-end.invariant.few)
 
 pub loop-end-preserved : goal.loop-end-preserved
 loop-end-preserved c =
@@ -52,19 +57,17 @@ loop-end-preserved c =
     let ends : List ℕ = c.args.ends.now in
     let k : ℕ = c.loop-end.end-index in
     let end : ℕ = get_or c.args.ends.now c.loop-end.end-index 0 in
+    let last : ℕ = c.past_value-last.result - 1 in
+    let whole : List ℕ = directory_from (numbers_of c.args.format) xs 0 0 ends in
     let n = next-part c.args.values.now c.args.ends.now c.loop-end.from c.loop-end.end-index c.loop-end-test.true c.loop-end.invariant.parts in
-    let most = past-most c.part_is_relative.ensures.within c.args.values.now c.requires.below end n.within in
     let less = past-less c.part_is_relative.ensures.room c.args.values.now c.requires.rising c.loop-end.from end n.some n.within in
-    let w : ℕ = c.past_value.result - 1 + 68719476736 * end in
     let pay : c.payload_bits-offset.result ≡ payload_of_part xs c.loop-end.from end =
     c.payload_bits-offset.ensures ∙ ap (λ u. payload u (end - c.loop-end.from)) c.universe_of_part-universe.ensures in
     record {
       parts = n.rest;
-      few = omega (arith, most, less, c.universe_of_part-universe.ensures, c.payload_bits-offset.ensures, payload-short c.universe_of_part-universe.result (end - c.loop-end.from), c.loop-end.invariant.few);
+      few = omega (arith, less, c.universe_of_part-universe.ensures, c.payload_bits-offset.ensures, payload-short c.universe_of_part-universe.result (end - c.loop-end.from), c.loop-end.invariant.few);
       words =
-          ap (λ ws. ws ++ directory_from format_one xs end (c.loop-end.offset + c.payload_bits-offset.result) (drop (k + 1) ends))
-          (c.in_ok-push-2.ensures ∙ ap (λ ws. ws ++ c.loop-end.offset ∷ []) c.in_ok-push.ensures)
-          ∙ ap (λ p. ((c.loop-end.words.items ++ w ∷ []) ++ c.loop-end.offset ∷ []) ++ directory_from format_one xs end (c.loop-end.offset + p) (drop (k + 1) ends)) pay
-          ∙ directory-more xs ends c.loop-end.words.items (directory_from format_one xs 0 0 ends) c.loop-end.from c.loop-end.offset w k c.loop-end-test.true
-          (ap (λ p. p - 1 + 68719476736 * end) c.past_value.ensures) c.loop-end.invariant.words;
+          ap (λ ws. ws ++ directory_from (numbers_of c.args.format) xs end (c.loop-end.offset + c.payload_bits-offset.result) (drop (k + 1) ends)) c.in_ok-push_entry.ensures
+          ∙ ap (λ p. (c.loop-end.words.items ++ entry (numbers_of c.args.format) last end c.loop-end.offset) ++ directory_from (numbers_of c.args.format) xs end (c.loop-end.offset + p) (drop (k + 1) ends)) pay
+          ∙ directory-more (numbers_of c.args.format) xs ends c.loop-end.words.items whole c.loop-end.from c.loop-end.offset last k c.loop-end-test.true (ap (λ p. p - 1) c.past_value-last.ensures) c.loop-end.invariant.words;
     }

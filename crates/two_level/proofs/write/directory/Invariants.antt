@@ -1,5 +1,5 @@
 use Rattle.std.proofs.Common.{◌≡◌, ◌*◌, ◌≤◌, ◌++◌, length, drop}
-use Rattle.collection_model.specs.FormatNumbers.{format_one}
+use Rattle.part_cost.specs.Formats.{numbers_of}
 use Rattle.part_cost.specs.Span.{past}
 use Rattle.part_cost.specs.Partition.{IsPartitionFrom}
 use Rattle.two_level.specs.SequenceWords.{directory_from}
@@ -9,5 +9,5 @@ abbrev pub invariant-loop-end : goal.invariant-loop-end
 invariant-loop-end l = record {
   parts : IsPartitionFrom l.from (length l.values) (drop l.end-index l.ends);
   few : l.offset ≤ 2 * past l.values l.from;
-  words : l.words.items ++ directory_from format_one l.values l.from l.offset (drop l.end-index l.ends) ≡ directory_from format_one l.values 0 0 l.ends;
+  words : l.words.items ++ directory_from (numbers_of l.format) l.values l.from l.offset (drop l.end-index l.ends) ≡ directory_from (numbers_of l.format) l.values 0 0 l.ends;
 }

@@ -1,4 +1,5 @@
 use Rattle.std.proofs.Common.{ℕ, ◌+◌, ◌^◌, ◌<◌, List, length, get_or, sym, subst, ◌∙◌, arith}
+use Rattle.part_cost.specs.Payload.{widest_low}
 use Rattle.part_cost.specs.Span.{relative_values}
 use Rattle.part_codec.specs.PartBits.{part_bits}
 use Rattle.two_level.specs.SequenceWords.{payload_from}
@@ -22,7 +23,7 @@ write_part-requires-clause-values c =
 pub write_part-requires-clause-in_range : goal.write_part-requires-clause-in_range
 write_part-requires-clause-in_range c =
     let n = next-part c.args.values.now c.args.ends.now c.loop-end.from c.loop-end.end-index c.loop-end-test.true c.loop-end.invariant.parts in
-    let most = past-most c.part_is_relative.ensures.within c.args.values.now c.requires.below (get_or c.args.ends.now c.loop-end.end-index 0) n.within in
+    let most = past-most c.part_is_relative.ensures.within (2 ^ widest_low) c.args.values.now c.requires.below (get_or c.args.ends.now c.loop-end.end-index 0) n.within in
     omega (arith, most, c.universe_of_part.ensures)
 
 pub write_part-requires-clause-room : goal.write_part-requires-clause-room

@@ -1,55 +1,60 @@
 use Rattle.std.proofs.Common.{◌≡◌, ◌∙◌, sym, ap, subst, rules, arith, ◌/◌, ◌≤◌, ◌<◌, ◌++◌, length}
-use Rattle.collection_model.specs.FormatNumbers.{format_one, most_terms}
+use Rattle.collection_model.specs.FormatNumbers.{most_terms, part_charge}
 use Rattle.collection_model.specs.Sequences.{doc_sequence, freq_sequence}
 use Rattle.two_level.specs.SequenceWords.{sequence_words}
 use Rattle.collection_model.specs.Collection.{postings_of, IsPostingList}
-use Rattle.part_cost.specs.Partition.{IsPartition}
+use Rattle.part_cost.specs.Formats.{numbers_of}
+use Rattle.part_cost.specs.Span.{cost_of_part}
+use Rattle.part_cost.specs.Partition.{IsPartition, partition_cost}
 use Rattle.index_file.specs.FileWords.{CutList, doc_words, freq_words, list_entry}
-use Rattle.index_file.specs.Builder.{cut_list, with_list, lists_added}
+use Rattle.index_file.specs.Builder.{IsNearCut, cut_list, with_list, lists_added}
 use Rattle.index_file.proofs.Added.{postings-are, parts-few, entry-is, KeepsMore, keeps-more}
 use Rattle.index_file.proofs.builder.Builder.append.Goals as goal
 
 pub list_entry-entry-requires-clause-postings : goal.list_entry-entry-requires-clause-postings
 list_entry-entry-requires-clause-postings c =
-    let small : c.args.self.now.documents ≤ 268435455 = subst (λ b. b.documents ≤ 268435455) c.self.view_is c.self.invariant.documents in
-    let are = postings-are c.args.self.now.documents c.args.docs.now c.args.freqs.now c.requires.same_length c.requires.list in
-    omega (arith, are.few, c.requires.same_length)
+    let small : c.args.self.now.documents ≤ (numbers_of c.args.self.now.format).most_documents = subst (λ b. b.documents ≤ (numbers_of b.format).most_documents) c.self.view_is c.self.invariant.documents in
+    let are = postings-are (numbers_of c.args.self.now.format) c.args.self.now.documents c.args.docs.now c.args.freqs.now c.requires.same_length c.requires.list in
+    omega (arith, (c.formats_have_room.ensures c.args.self.now.format).fit, are.few, c.requires.same_length)
 
 pub list_entry-entry-requires-clause-doc_parts : goal.list_entry-entry-requires-clause-doc_parts
 list_entry-entry-requires-clause-doc_parts c =
-    let small : c.args.self.now.documents ≤ 268435455 = subst (λ b. b.documents ≤ 268435455) c.self.view_is c.self.invariant.documents in
-    let are = postings-are c.args.self.now.documents c.args.docs.now c.args.freqs.now c.requires.same_length c.requires.list in
-    omega (arith, are.few, are.count, parts-few (length (postings_of c.args.docs.now c.args.freqs.now)) c.args.doc_cuts.now.ends c.requires.near.docs.allowed.partition)
+    let small : c.args.self.now.documents ≤ (numbers_of c.args.self.now.format).most_documents = subst (λ b. b.documents ≤ (numbers_of b.format).most_documents) c.self.view_is c.self.invariant.documents in
+    let are = postings-are (numbers_of c.args.self.now.format) c.args.self.now.documents c.args.docs.now c.args.freqs.now c.requires.same_length c.requires.list in
+    omega (arith, (c.formats_have_room.ensures c.args.self.now.format).fit, are.few, are.count, parts-few (length (postings_of c.args.docs.now c.args.freqs.now)) c.args.doc_cuts.now.ends c.requires.near.docs.allowed.partition)
 
 pub list_entry-entry-requires-clause-freq_parts : goal.list_entry-entry-requires-clause-freq_parts
 list_entry-entry-requires-clause-freq_parts c =
-    let small : c.args.self.now.documents ≤ 268435455 = subst (λ b. b.documents ≤ 268435455) c.self.view_is c.self.invariant.documents in
-    let are = postings-are c.args.self.now.documents c.args.docs.now c.args.freqs.now c.requires.same_length c.requires.list in
-    omega (arith, are.few, are.count, parts-few (length (postings_of c.args.docs.now c.args.freqs.now)) c.args.freq_cuts.now.ends c.requires.near.freqs.allowed.partition)
+    let small : c.args.self.now.documents ≤ (numbers_of c.args.self.now.format).most_documents = subst (λ b. b.documents ≤ (numbers_of b.format).most_documents) c.self.view_is c.self.invariant.documents in
+    let are = postings-are (numbers_of c.args.self.now.format) c.args.self.now.documents c.args.docs.now c.args.freqs.now c.requires.same_length c.requires.list in
+    omega (arith, (c.formats_have_room.ensures c.args.self.now.format).fit, are.few, are.count, parts-few (length (postings_of c.args.docs.now c.args.freqs.now)) c.args.freq_cuts.now.ends c.requires.near.freqs.allowed.partition)
 
 pub write_postings-requires-clause-doc_parts : goal.write_postings-requires-clause-doc_parts
 write_postings-requires-clause-doc_parts c =
-    let are = postings-are c.args.self.now.documents c.args.docs.now c.args.freqs.now c.requires.same_length c.requires.list in
+    let are = postings-are (numbers_of c.args.self.now.format) c.args.self.now.documents c.args.docs.now c.args.freqs.now c.requires.same_length c.requires.list in
     subst (IsPartition (length c.args.docs.now)) (sym c.ends.ensures) (subst (λ m. IsPartition m c.args.doc_cuts.now.ends) are.count c.requires.near.docs.allowed.partition)
 
 pub write_postings-requires-clause-freq_parts : goal.write_postings-requires-clause-freq_parts
 write_postings-requires-clause-freq_parts c =
-    let are = postings-are c.args.self.now.documents c.args.docs.now c.args.freqs.now c.requires.same_length c.requires.list in
+    let are = postings-are (numbers_of c.args.self.now.format) c.args.self.now.documents c.args.docs.now c.args.freqs.now c.requires.same_length c.requires.list in
     subst (IsPartition (length c.args.freqs.now)) (sym c.ends-2.ensures) (subst (λ m. IsPartition m c.args.freq_cuts.now.ends) (are.count ∙ c.requires.same_length) c.requires.near.freqs.allowed.partition)
 
-keeps : (c : goal.Else-is_err) → KeepsMore c.self.inside.documents c.self.inside.words.items c.self.inside.directory.items c.write_postings.new.to.items c.extend_from_slice.new.self.items
+keeps : (c : goal.Else-is_err) → KeepsMore c.self.inside.format c.self.inside.documents c.self.inside.words.items c.self.inside.directory.items c.write_postings.new.to.items c.extend_from_slice.new.self.items
     (cut_list c.args.docs.now c.args.freqs.now c.args.doc_cuts.now.ends c.args.freq_cuts.now.ends)
 keeps c =
     let s = c.self.inside in
     let list : CutList = cut_list c.args.docs.now c.args.freqs.now c.args.doc_cuts.now.ends c.args.freq_cuts.now.ends in
-    let good : IsPostingList format_one s.documents (postings_of c.args.docs.now c.args.freqs.now) = subst (λ b. IsPostingList format_one b.documents (postings_of c.args.docs.now c.args.freqs.now)) (sym c.self.view_is) c.requires.list in
+    let good : IsPostingList (numbers_of s.format) s.documents (postings_of c.args.docs.now c.args.freqs.now) = subst (λ b. IsPostingList (numbers_of b.format) b.documents (postings_of c.args.docs.now c.args.freqs.now)) (sym c.self.view_is) c.requires.list in
+    let near : IsNearCut (numbers_of s.format) list = subst (λ b. IsNearCut (numbers_of b.format) list) (sym c.self.view_is) c.requires.near in
+    let total : c.args.doc_cuts.now.total ≡ partition_cost (cost_of_part (part_charge (numbers_of s.format)) (doc_sequence list.list)) c.args.doc_cuts.now.ends =
+    subst (λ b. c.args.doc_cuts.now.total ≡ partition_cost (cost_of_part (part_charge (numbers_of b.format)) (doc_sequence list.list)) c.args.doc_cuts.now.ends) (sym c.self.view_is) c.requires.total in
     let room : length s.directory.items / 4 < most_terms = subst (λ b. lists_added b < most_terms) (sym c.self.view_is) c.requires.room in
-    let written : c.write_postings.new.to.items ≡ s.words.items ++ doc_words format_one list ++ freq_words format_one list = c.in_ok-write_postings.ensures.ok ∙ (λ t. s.words.items ++ sequence_words format_one (doc_sequence list.list) (c.ends.ensures t) ++ sequence_words format_one (freq_sequence list.list) (c.ends-2.ensures t)) in
+    let written : c.write_postings.new.to.items ≡ s.words.items ++ doc_words (numbers_of s.format) list ++ freq_words (numbers_of s.format) list = c.in_ok-write_postings.ensures.ok ∙ (λ t. s.words.items ++ sequence_words (numbers_of s.format) (doc_sequence list.list) (c.ends.ensures t) ++ sequence_words (numbers_of s.format) (freq_sequence list.list) (c.ends-2.ensures t)) in
     let place : c.len-first.result ≡ length s.words.items = search rules in
-    let entry : c.list_entry-entry.result ≡ list_entry format_one (length s.words.items) list =
-    c.list_entry-entry.ensures ∙ entry-is s.documents _ c.args.doc_cuts.now.total c.args.docs.now c.args.freqs.now c.args.doc_cuts.now.ends c.args.freq_cuts.now.ends c.sequence_takes_its_cost.ensures c.requires.same_length c.self.invariant.documents good c.requires.near c.requires.total ∙ ap (λ p. list_entry format_one p list) place in
+    let entry : c.list_entry-entry.result ≡ list_entry (numbers_of s.format) (length s.words.items) list =
+    c.list_entry-entry.ensures ∙ entry-is (numbers_of s.format) (c.formats_have_room.ensures s.format) s.documents _ c.args.doc_cuts.now.total c.args.docs.now c.args.freqs.now c.args.doc_cuts.now.ends c.args.freq_cuts.now.ends (c.sequence_takes_its_cost.ensures s.format) c.requires.same_length c.self.invariant.documents good near total ∙ ap (λ p. list_entry (numbers_of s.format) p list) place in
     let entered : c.extend_from_slice.new.self.items ≡ s.directory.items ++ c.list_entry-entry.result = search rules in
-    keeps-more s.documents s.words.items s.directory.items c.write_postings.new.to.items c.extend_from_slice.new.self.items list c.self.invariant good c.requires.near room written (entered ∙ ap (λ ws. s.directory.items ++ ws) entry)
+    keeps-more s.format s.documents s.words.items s.directory.items c.write_postings.new.to.items c.extend_from_slice.new.self.items list c.self.invariant good near room written (entered ∙ ap (λ ws. s.directory.items ++ ws) entry)
 
 pub invariant_of-self-else-is_err : goal.invariant_of-self-else-is_err
 invariant_of-self-else-is_err c = (keeps c).kept

@@ -1,4 +1,5 @@
 use Rattle.std.proofs.Common.{◌∙◌, arith}
+use Rattle.part_cost.specs.Formats.{numbers_of}
 use Rattle.index_file.proofs.Reading.{spells-view, has-frame, documents-are}
 use Rattle.index_file.proofs.index.Index.documents.Goals as goal
 
@@ -6,10 +7,10 @@ pub frame_of-requires : goal.frame_of-requires
 frame_of-requires c =
     let now = c.args.self.now in
     let spells = spells-view c.self.inside.words.now now c.self.invariant.0 c.self.view_is in
-    omega (arith, (has-frame c.self.inside.words.now now.collection now.parts spells).some)
+    omega (arith, (has-frame (numbers_of now.format) c.self.inside.words.now now.collection now.parts spells).some)
 
 pub returns : goal.returns
 returns c =
     let now = c.args.self.now in
     let spells = spells-view c.self.inside.words.now now c.self.invariant.0 c.self.view_is in
-    c.frame_of.ensures.documents ∙ documents-are c.self.inside.words.now now.collection now.parts spells
+    c.frame_of.ensures.documents ∙ documents-are (numbers_of now.format) c.self.inside.words.now now.collection now.parts spells

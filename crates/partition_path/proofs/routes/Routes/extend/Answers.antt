@@ -1,10 +1,10 @@
-use Rattle.std.proofs.Common.{◌∙◌, sym, refl}
+use Rattle.std.proofs.Common.{◌∙◌, sym, refl, arith}
 use Rattle.partition_path.proofs.Extending.{extended-some, extended-past, none_says, room_for}
 use Rattle.partition_path.proofs.routes.Routes.extend.Goals.{in-Some, in_default}
 use Rattle.partition_path.proofs.routes.Routes.extend.Goals as goal
 
 pub offer-requires-clause-room : goal.offer-requires-clause-room
-offer-requires-clause-room c = room_for c.args.windows.now c.loop-k.k c.args.i c.args.self.now c.loop-k.self c.cost.result c.loop-k.invariant.0 c.requires.place c.loop-k-test.true c.cost.ensures.affordable c.requires.room
+offer-requires-clause-room c = room_for c.args.windows.now c.loop-k.k c.args.i c.args.self.now c.loop-k.self c.cost.result c.loop-k.invariant.0 c.requires.place (omega (arith, c.loop-k-test.true)) c.cost.ensures.affordable c.requires.room
 
 pub loop-k-preserved : goal.loop-k-preserved
 loop-k-preserved c =

@@ -1,32 +1,52 @@
-use Rattle.std.proofs.Common.{◌≡◌, refl, ℕ, ◌+◌, ◌<◌, get_or, sym, subst, arith}
+use Rattle.std.proofs.Common.{◌≡◌, refl, ◌∙◌, ℕ, ◌+◌, ◌<◌, List, get_or, sym, subst, arith}
+use Rattle.std.specs.List.{All}
 use Rattle.std.proofs.lemmas.Grind.{common_steps}
-use Rattle.collection_model.specs.FormatNumbers.{format_one}
+use Rattle.collection_model.specs.FormatNumbers.{part_charge}
+use Rattle.part_cost.specs.Formats.{numbers_of}
+use Rattle.cost_windows.specs.WindowBounds.{window_bounds}
 use Rattle.cost_windows.specs.Windows.{Windows, new_windows}
 use Rattle.partition_path.specs.Tables.{Tables, new_tables, unreached}
-use Rattle.partition_path.proofs.Extending.{bounds-within}
+use Rattle.partition_path.proofs.Extending.{room_within, room_for_each}
 use Rattle.partition_path.proofs.Search.{Searched, searched-none, searched-past, searched-more, few-costs, last-reached, last-near}
 use Rattle.partition_path.proofs.routes.Routes.found.Goals.{then-is_open, else-is_open}
 use Rattle.partition_path.proofs.routes.Routes.found.Goals as goal
 
 pub loop-i-init : goal.loop-i-init
 loop-i-init g c =
+    let format = g.C.SpanCost.format_of c.args.cost.now in
+    let bounds = window_bounds format in
+    let limit = (numbers_of format).limit in
     let cost = g.C.SpanCost.cost_of c.args.cost.now in
     let n = g.C.SpanCost.count c.args.cost.now in
-    let windows_are : c.in_ok-windows.windows ≡ new_windows = grind (arith, common_steps) in
+    let windows_are : c.in_ok-windows.windows ≡ new_windows bounds = grind (arith, common_steps) in
     let routes_are : c.in_ok-routes.routes ≡ new_tables n = subst (λ (x : ℕ). c.in_ok-routes.routes ≡ new_tables x) c.len-count.ensures c.in_ok-routes.ensures in
-    let none = searched-none format_one.limit cost n c.args.steps.now in
-    let with_routes = subst (λ (t : Tables). Searched format_one.limit cost n 0 c.args.steps.now c.args.steps.now new_windows t 0) (sym routes_are) none in
-    subst (λ (w : Windows). Searched format_one.limit cost n 0 c.args.steps.now c.args.steps.now w c.in_ok-routes.routes 0) (sym windows_are) with_routes
+    let none = searched-none limit cost bounds n c.args.steps.now in
+    let with_routes = subst (λ (t : Tables). Searched limit cost bounds n 0 c.args.steps.now c.args.steps.now (new_windows bounds) t 0) (sym routes_are) none in
+    subst (λ (w : Windows). Searched limit cost bounds n 0 c.args.steps.now c.args.steps.now w c.in_ok-routes.routes 0) (sym windows_are) with_routes
+
+pub extend-rival-requires-clause-within : goal.extend-rival-requires-clause-within
+extend-rival-requires-clause-within g c = λ k d l. omega (arith, c.advance.ensures.costs.within k d l, c.loop-i.invariant.routes.places)
 
 pub extend-rival-requires-clause-room : goal.extend-rival-requires-clause-room
 extend-rival-requires-clause-room g c =
+    let format = g.C.SpanCost.format_of c.args.cost.now in
+    let bounds = window_bounds format in
+    let limit = (numbers_of format).limit in
+    let i = c.loop-i.i in
     let few = g.met.C.SpanCost.few c.args.cost.now in
-    let within : c.loop-i.i < g.C.SpanCost.count c.args.cost.now = omega (arith, c.loop-i-test.true, c.len-count.ensures) in
-    let small = c.loop-i.invariant.routes.small c.loop-i.i (omega (arith, within)) (c.if-is_open.ensures.reached refl) in
-    omega (arith, few, within, small)
+    let within : i < g.C.SpanCost.count c.args.cost.now = omega (arith, c.loop-i-test.true, c.len-count.ensures) in
+    let small = c.loop-i.invariant.routes.small i (omega (arith, within)) (c.if-is_open.ensures.reached refl) in
+    let room = room_within limit (g.C.SpanCost.count c.args.cost.now) i (get_or c.loop-i.routes.costs i 0) (c.formats_have_room.ensures format).small few within small in
+    let bounded = c.bounds_cover.ensures.within (part_charge (numbers_of format)) limit bounds (c.bounds_follow_rule.ensures format) in
+    let under : c.advance.new.self.bounds ≡ bounds = c.advance.ensures.bounds ∙ c.loop-i.invariant.under in
+    subst (λ (b : List ℕ). All (λ x. get_or c.loop-i.routes.costs i 0 + x < unreached) b) (sym under) (room_for_each bounds limit (get_or c.loop-i.routes.costs i 0) bounded room)
 
 pub loop-i-preserved : goal.loop-i-preserved
 loop-i-preserved g c =
+    let format = g.C.SpanCost.format_of c.args.cost.now in
+    let bounds = window_bounds format in
+    let limit = (numbers_of format).limit in
+    let charge = part_charge (numbers_of format) in
     let cost = g.C.SpanCost.cost_of c.args.cost.now in
     let n = g.C.SpanCost.count c.args.cost.now in
     let laws = g.met.C.SpanCost in
@@ -37,27 +57,30 @@ loop-i-preserved g c =
     elim c.if-is_open.branch [
       | then-is_open w ↦
           let reached = w.if-is_open.ensures.reached refl in
-          let few = laws.few c.args.cost.now in
           let small = s.routes.small i (omega (arith, within)) reached in
-          let room : get_or c.loop-i.routes.costs i 0 + 4096 < unreached = omega (arith, few, within, small) in
+          let room = room_within limit n i (get_or c.loop-i.routes.costs i 0) (c.formats_have_room.ensures format).small (laws.few c.args.cost.now) within small in
+          let rule = c.bounds_follow_rule.ensures format in
           let said = w.advance.ensures in
-          let more = searched-more format_one.limit cost n i before c.loop-i.steps c.loop-i.windows c.loop-i.routes c.loop-i.rival s within format_one.charge w.advance.new.steps w.extend-rival.result w.advance.new.self w.extend-rival.new.self c.bounds_follow_rule.ensures.cover (laws.monotone c.args.cost.now) (laws.at_least_charge c.args.cost.now) bounds-within room reached said.place said.longest said.costs said.forward said.counted said.bounded w.extend-rival.ensures.extended w.extend-rival.ensures.rival in
+          let more = searched-more limit cost bounds n i before c.loop-i.steps c.loop-i.windows c.loop-i.routes c.loop-i.rival s within charge w.advance.new.steps w.extend-rival.result w.advance.new.self w.extend-rival.new.self (c.bounds_cover.ensures.cover charge limit bounds rule) (laws.monotone c.args.cost.now) (laws.at_least_charge c.args.cost.now) (c.bounds_cover.ensures.within charge limit bounds rule) room reached said.bounds said.place said.longest said.costs said.forward said.counted said.bounded w.extend-rival.ensures.extended w.extend-rival.ensures.rival in
           rw (w.steps-is, w.windows-is, w.routes-is, w.rival-is) more
       | else-is_open w ↦
-          let past = searched-past format_one.limit cost n i before c.loop-i.steps c.loop-i.windows c.loop-i.routes c.loop-i.rival s within (w.if-is_open.ensures.passed refl) in
+          let past = searched-past limit cost bounds n i before c.loop-i.steps c.loop-i.windows c.loop-i.routes c.loop-i.rival s within (w.if-is_open.ensures.passed refl) in
           rw (w.steps-is, w.windows-is, w.routes-is, w.rival-is) past
     ]
 
 pub returns-clause-reached : goal.returns-clause-reached
 returns-clause-reached g c =
+    let format = g.C.SpanCost.format_of c.args.cost.now in
     let laws = g.met.C.SpanCost in
-    last-reached format_one.limit (g.C.SpanCost.cost_of c.args.cost.now) (g.C.SpanCost.count c.args.cost.now) c.loop-i.i c.args.steps.now c.loop-i.steps c.loop-i.windows c.loop-i.routes c.loop-i.rival c.loop-i.invariant (omega (arith, c.loop-i-test.false, c.len-count.ensures, c.loop-i.auto.i-end)) (laws.monotone c.args.cost.now) (laws.one_within_limit c.args.cost.now)
+    last-reached (numbers_of format).limit (g.C.SpanCost.cost_of c.args.cost.now) (window_bounds format) (g.C.SpanCost.count c.args.cost.now) c.loop-i.i c.args.steps.now c.loop-i.steps c.loop-i.windows c.loop-i.routes c.loop-i.rival c.loop-i.invariant (omega (arith, c.loop-i-test.false, c.len-count.ensures, c.loop-i.auto.i-end)) (laws.monotone c.args.cost.now) (laws.one_within_limit c.args.cost.now)
 
 pub returns-clause-near : goal.returns-clause-near
 returns-clause-near g c =
+    let format = g.C.SpanCost.format_of c.args.cost.now in
     let laws = g.met.C.SpanCost in
-    last-near format_one.limit (g.C.SpanCost.cost_of c.args.cost.now) (g.C.SpanCost.count c.args.cost.now) c.loop-i.i c.args.steps.now c.loop-i.steps c.loop-i.windows c.loop-i.routes c.loop-i.rival c.loop-i.invariant (omega (arith, c.loop-i-test.false, c.len-count.ensures, c.loop-i.auto.i-end)) (laws.monotone c.args.cost.now)
+    last-near (numbers_of format).limit (g.C.SpanCost.cost_of c.args.cost.now) (window_bounds format) (g.C.SpanCost.count c.args.cost.now) c.loop-i.i c.args.steps.now c.loop-i.steps c.loop-i.windows c.loop-i.routes c.loop-i.rival c.loop-i.invariant (omega (arith, c.loop-i-test.false, c.len-count.ensures, c.loop-i.auto.i-end)) (laws.monotone c.args.cost.now)
 
 pub returns-clause-bounded : goal.returns-clause-bounded
 returns-clause-bounded g c =
-    few-costs format_one.limit (g.C.SpanCost.cost_of c.args.cost.now) (g.C.SpanCost.count c.args.cost.now) c.loop-i.i c.args.steps.now c.loop-i.steps c.loop-i.windows c.loop-i.routes c.loop-i.rival c.loop-i.invariant (omega (arith, c.loop-i-test.false, c.len-count.ensures, c.loop-i.auto.i-end))
+    let format = g.C.SpanCost.format_of c.args.cost.now in
+    few-costs (numbers_of format).limit (g.C.SpanCost.cost_of c.args.cost.now) (window_bounds format) (g.C.SpanCost.count c.args.cost.now) c.loop-i.i c.args.steps.now c.loop-i.steps c.loop-i.windows c.loop-i.routes c.loop-i.rival c.loop-i.invariant (omega (arith, c.loop-i-test.false, c.len-count.ensures, c.loop-i.auto.i-end))

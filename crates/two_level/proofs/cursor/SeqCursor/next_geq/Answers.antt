@@ -1,5 +1,5 @@
 use Rattle.std.proofs.Common.{◌≡◌, ℕ, ◌+◌, ◌<◌, List, ◌∙◌, subst, arith}
-use Rattle.collection_model.specs.FormatNumbers.{format_one}
+use Rattle.part_cost.specs.Formats.{numbers_of}
 use Rattle.two_level.specs.SequenceFault.{stated_last, stated_end, end_before}
 use Rattle.two_level.specs.SequenceView.{SequenceView, sequence_stated, place_at_least}
 use Rattle.two_level.specs.SequenceParts.{LiesIn}
@@ -10,8 +10,8 @@ use Rattle.two_level.proofs.cursor.SeqCursor.next_geq.Goals as goal
 pub returns-then-x-part-clause-place : goal.returns-then-x-part-clause-place
 returns-then-x-part-clause-place c =
     let s = c.self.inside in
-    let xs : List ℕ = (sequence_stated s.words.now s.parts).values in
-    let lies = subst (LiesIn s.words.now s.parts s.place) c.in-Some.is c.self.invariant.2 in
+    let xs : List ℕ = (sequence_stated (numbers_of s.format) s.words.now s.parts).values in
+    let lies = subst (LiesIn (numbers_of s.format) s.words.now s.parts s.place) c.in-Some.is c.self.invariant.2 in
     subst (λ p. c.first_at_least-self-inside.result ≡ place_at_least p.sequence.values p.place c.args.x) c.self.view_is
     (found-first xs s.place c.first_at_least-self-inside.result c.args.x (c.first_at_least-self-inside.ensures.first xs lies.0.values))
 
@@ -19,13 +19,13 @@ pub returns-else-x-part-clause-place : goal.returns-else-x-part-clause-place
 returns-else-x-part-clause-place c =
     let s = c.self.inside in
     let part = c.in-Some.part in
-    let v : SequenceView = sequence_stated s.words.now s.parts in
-    let lies = subst (LiesIn s.words.now s.parts s.place) c.in-Some.is c.self.invariant.2 in
-    let d = c.directory_states_its_parts.ensures s.words.now s.parts s.m c.self.invariant.0 in
-    let small : stated_last format_one s.words.now 0 part.index < c.args.x = omega (arith, lies.0.last, c.if-x-part.false) in
-    let end : end_before format_one s.words.now 0 (part.index + 1) ≡ stated_end format_one s.words.now 0 part.index = end-before-next s.words.now part.index in
-    let next : ℕ = end_before format_one s.words.now 0 (part.index + 1) in
+    let v : SequenceView = sequence_stated (numbers_of s.format) s.words.now s.parts in
+    let lies = subst (LiesIn (numbers_of s.format) s.words.now s.parts s.place) c.in-Some.is c.self.invariant.2 in
+    let d = c.directory_states_its_parts.ensures s.format s.words.now s.parts s.m c.self.invariant.0 in
+    let small : stated_last (numbers_of s.format) s.words.now 0 part.index < c.args.x = omega (arith, lies.0.last, c.if-x-part.false) in
+    let end : end_before (numbers_of s.format) s.words.now 0 (part.index + 1) ≡ stated_end (numbers_of s.format) s.words.now 0 part.index = end-before-next (numbers_of s.format) s.words.now part.index in
+    let next : ℕ = end_before (numbers_of s.format) s.words.now 0 (part.index + 1) in
     subst (λ p. c.first_from_part.result.0 ≡ place_at_least p.sequence.values p.place c.args.x) c.self.view_is
     (c.first_from_part.ensures.first
     ∙ later-place v.values s.place next c.args.x (omega (arith, end, lies.2, lies.0.to)) (omega (arith, end, lies.0.to, lies.0.values.within))
-    (λ k after lt. below-last s.words.now s.parts part.index c.args.x v d lies.0.within small k (omega (arith, lt, end))))
+    (λ k after lt. below-last (numbers_of s.format) s.words.now s.parts part.index c.args.x v d lies.0.within small k (omega (arith, lt, end))))

@@ -1,13 +1,14 @@
-use Rattle.std.proofs.Common.{◌≡◌, ℕ, ◌<◌, ◌≤◌, ◌^◌, List, get_or, Fits, w64, Result, Err, sym, subst, arith, rules}
+use Rattle.std.proofs.Common.{◌≡◌, ℕ, ◌<◌, ◌≤◌, ◌^◌, List, get_or, Fits, w64, Result, Err, refl, sym, subst, arith, rules}
 use Rattle.std.specs.List.{All}
 use Rattle.std.specs.Result.{IfErr}
 use Rattle.std.proofs.lemmas.Result.{IfErr-weaker, IfErr-at_err}
 use Rattle.std.proofs.lemmas.List.{get_or_default}
-use Rattle.collection_model.specs.FormatNumbers.{format_one}
+use Rattle.collection_model.specs.FormatNumbers.{FormatNumbers}
+use Rattle.part_cost.specs.Formats.{numbers_of}
 use Rattle.two_level.specs.declared.checking.SeqFault.{SeqFault}
 use Rattle.two_level.specs.SequenceWords.{BeginsSequence}
 use Rattle.two_level.specs.SequenceFault.{word_behind, PassChecks, IsSequenceFault}
-use Rattle.two_level.specs.SequenceView.{SequenceView, sequence_stated}
+use Rattle.two_level.specs.SequenceView.{sequence_stated}
 use Rattle.two_level.specs.Laws.{ChecksAcceptASequence, WordsState}
 use Rattle.two_level.proofs.view.SeqView.check.Goals as goal
 
@@ -16,12 +17,13 @@ words-below : (words : List ℕ) → ((k : ℕ) → Fits w64 (get_or words k 0))
 words-below words type_inv k d lt = omega (arith, get_or_default words k d 0 lt, type_inv k)
 
 -- words that pass every check state a sequence with which they begin
-stated-begins : ChecksAcceptASequence → WordsState → (m bound parts : ℕ) (words : List ℕ) → bound ≤ 2 ^ 36 → All (λ w. w < 2 ^ 64) words → PassChecks words parts m bound
-    → (used : ℕ) × BeginsSequence format_one m bound parts (sequence_stated words parts).values (sequence_stated words parts).ends words used
-stated-begins accept state m bound parts words fits are pass =
+stated-begins : (format : FormatNumbers) → ChecksAcceptASequence format → WordsState format → (m bound parts : ℕ) (words : List ℕ) → bound ≤ format.most_sum → All (λ w. w < 2 ^ 64) words
+    → PassChecks format words parts m bound
+    → (used : ℕ) × BeginsSequence format m bound parts (sequence_stated format words parts).values (sequence_stated format words parts).ends words used
+stated-begins format accept state m bound parts words fits are pass =
     let a = accept m bound parts words fits are pass in
-    let v : SequenceView = record { values = a.0; ends = a.1 } in
-    (word_behind format_one words 0 parts, subst (λ s. BeginsSequence format_one m bound parts s.values s.ends words (word_behind format_one words 0 parts)) (sym (state m bound parts (word_behind format_one words 0 parts) v words fits a.2)) a.2)
+    let used : ℕ = word_behind format words 0 parts in
+    (used, subst (λ s. BeginsSequence format m bound parts s.values s.ends words used) (sym (state m bound parts used a.0 a.1 words fits a.2)) a.2)
 
 from-err : {T U : Type 0} (r : Result T SeqFault) (s : Result U SeqFault) (e : SeqFault) (P : SeqFault → Type 0) → r ≡ Err e → s ≡ Err e → IfErr r P → IfErr s P
 from-err r s e P a b h = subst (λ x. IfErr x P) (sym b) (IfErr-at_err P a h)
@@ -29,28 +31,33 @@ from-err r s e P a b h = subst (λ x. IfErr x P) (sym b) (IfErr-at_err P a h)
 pub returns-in_err-check_words-clause-none : goal.returns-in_err-check_words-clause-none
 returns-in_err-check_words-clause-none c =
     from-err c.check_words.result c.from_residual.result c.in_err-check_words.field-0.0
-    (λ f. (xs : List ℕ) → (ends : List ℕ) → (used : ℕ) → ¬ (BeginsSequence format_one c.args.m c.args.bound c.args.parts xs ends c.args.words.now used))
+    (λ f. (xs : List ℕ) → (ends : List ℕ) → (used : ℕ) → ¬ (BeginsSequence (numbers_of c.args.format) c.args.m c.args.bound c.args.parts xs ends c.args.words.now used))
     (first_of (search rules, cc)) (first_of (search rules, cc))
-    (IfErr-weaker c.check_words.result (λ f. IsSequenceFault format_one c.args.words.now c.args.parts c.args.m c.args.bound f.check f.part)
-    (λ f. (xs : List ℕ) → (ends : List ℕ) → (used : ℕ) → ¬ (BeginsSequence format_one c.args.m c.args.bound c.args.parts xs ends c.args.words.now used))
-    (λ f h xs ends used b. c.checks_refuse_no_sequence.ensures c.args.m c.args.bound c.args.parts used f.part f.check xs ends c.args.words.now c.requires.bound b h)
+    (IfErr-weaker c.check_words.result (λ f. IsSequenceFault (numbers_of c.args.format) c.args.words.now c.args.parts c.args.m c.args.bound f.check f.part)
+    (λ f. (xs : List ℕ) → (ends : List ℕ) → (used : ℕ) → ¬ (BeginsSequence (numbers_of c.args.format) c.args.m c.args.bound c.args.parts xs ends c.args.words.now used))
+    (λ f h xs ends used b. c.checks_refuse_no_sequence.ensures c.args.format c.args.m c.args.bound c.args.parts used f.part f.check xs ends c.args.words.now c.requires.bound b h)
     c.check_words.ensures.first)
 
 pub invariant_of-result : goal.invariant_of-result
+unfolding sequence_stated
 invariant_of-result c =
-    let s = stated-begins c.checks_accept_a_sequence.ensures c.words_state_their_sequence.ensures c.args.m c.args.bound c.args.parts c.args.words.now c.requires.bound (words-below c.args.words.now c.type_inv.words) c.in_ok-check_words.ensures.ok in
+    let s = stated-begins (numbers_of c.args.format) (c.checks_accept_a_sequence.ensures c.args.format) (c.words_state_their_sequence.ensures c.args.format) c.args.m c.args.bound c.args.parts c.args.words.now c.requires.bound (words-below c.args.words.now c.type_inv.words) c.in_ok-check_words.ensures.ok in
     ((c.args.bound, s.0, c.requires.bound, s.1), c.requires.words)
+
+pub returns-clause-format : goal.returns-clause-format
+unfolding sequence_stated
+returns-clause-format c = refl
 
 pub returns-clause-ok : goal.returns-clause-ok
 returns-clause-ok c =
-    stated-begins c.checks_accept_a_sequence.ensures c.words_state_their_sequence.ensures c.args.m c.args.bound c.args.parts c.args.words.now c.requires.bound (words-below c.args.words.now c.type_inv.words) c.in_ok-check_words.ensures.ok
+    stated-begins (numbers_of c.args.format) (c.checks_accept_a_sequence.ensures c.args.format) (c.words_state_their_sequence.ensures c.args.format) c.args.m c.args.bound c.args.parts c.args.words.now c.requires.bound (words-below c.args.words.now c.type_inv.words) c.in_ok-check_words.ensures.ok
 
 pub returns-clause-count : goal.returns-clause-count
 returns-clause-count c =
-    let s = stated-begins c.checks_accept_a_sequence.ensures c.words_state_their_sequence.ensures c.args.m c.args.bound c.args.parts c.args.words.now c.requires.bound (words-below c.args.words.now c.type_inv.words) c.in_ok-check_words.ensures.ok in
+    let s = stated-begins (numbers_of c.args.format) (c.checks_accept_a_sequence.ensures c.args.format) (c.words_state_their_sequence.ensures c.args.format) c.args.m c.args.bound c.args.parts c.args.words.now c.requires.bound (words-below c.args.words.now c.type_inv.words) c.in_ok-check_words.ensures.ok in
     s.1.sequence.count
 
 pub returns-clause-parts : goal.returns-clause-parts
 returns-clause-parts c =
-    let s = stated-begins c.checks_accept_a_sequence.ensures c.words_state_their_sequence.ensures c.args.m c.args.bound c.args.parts c.args.words.now c.requires.bound (words-below c.args.words.now c.type_inv.words) c.in_ok-check_words.ensures.ok in
+    let s = stated-begins (numbers_of c.args.format) (c.checks_accept_a_sequence.ensures c.args.format) (c.words_state_their_sequence.ensures c.args.format) c.args.m c.args.bound c.args.parts c.args.words.now c.requires.bound (words-below c.args.words.now c.type_inv.words) c.in_ok-check_words.ensures.ok in
     s.1.sequence.parts_count

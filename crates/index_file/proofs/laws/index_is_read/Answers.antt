@@ -1,0 +1,5 @@
+use Rattle.index_file.proofs.Both.{index-is-read}
+use Rattle.index_file.proofs.laws.index_is_read.Goals as goal
+
+pub returns : goal.returns
+returns c = index-is-read
