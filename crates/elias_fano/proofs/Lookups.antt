@@ -6,7 +6,7 @@ use Rattle.bit_words.proofs.Value.{bits-bits_of}
 use Rattle.elias_fano.specs.declared.EfView.{EfView}
 use Rattle.elias_fano.specs.EfBits.{high_place}
 use Rattle.elias_fano.specs.EfPlaces.{low_field, sample_at, past_place}
-use Rattle.elias_fano.specs.EfView.{Holds, IsWithin}
+use Rattle.elias_fano.specs.EfView.{Holds}
 use Rattle.elias_fano.specs.Laws.{PlacesFit}
 use Rattle.elias_fano.proofs.Rising.{place-within, places-rise}
 use Rattle.elias_fano.proofs.Scanning.{found-number, some-found, number-read, sample-read}
@@ -38,44 +38,44 @@ sampled-number q k some fit none =
     positive (suc n) h = omega arith
 
 -- the sample of the first number of a run is its place
-pub run-sample : PlacesFit → (q : ℕ) (v : EfView q) (ys : List ℕ) (l : ℕ) → IsWithin q v l → Holds q v ys
-    → (run : ℕ) → 1 ≤ run → q * run < v.m → sample_at (bits_of v.bits.words.now) v.place v.u v.m l (run - 1) ≡ high_place l (q * run) (get_or ys (q * run) 0)
-run-sample fit q v ys l within h run some lt =
+pub run-sample : PlacesFit → (q : ℕ) (v : EfView q) (ys : List ℕ) → Holds q v ys
+    → (run : ℕ) → 1 ≤ run → q * run < v.m → sample_at (bits_of v.bits.words.now) v.place v.u v.m v.low (run - 1) ≡ high_place v.low (q * run) (get_or ys (q * run) 0)
+run-sample fit q v ys h run some lt =
     let next : run - 1 + 1 ≡ run = omega arith in
     let here : q * (run - 1 + 1) ≡ q * run = ap (λ n. q * n) next in
-    sample-read (bits_of v.bits.words.now) v.place v.u v.m l q ys (view-read-at q v ys l within h) v.spacing (run - 1) (omega arith)
-    (places-fit-at fit q v ys l within h (q * (run - 1 + 1)) (omega arith))
-    ∙ ap (λ n. high_place l n (get_or ys n 0)) here
+    sample-read (bits_of v.bits.words.now) v.place v.u v.m v.low q ys (view-read-at q v ys h) v.spacing (run - 1) (omega arith)
+    (places-fit-at fit q v ys h (q * (run - 1 + 1)) (omega arith))
+    ∙ ap (λ n. high_place v.low n (get_or ys n 0)) here
 
 -- the one of number k is where the search for it ends
-pub one-found : (q : ℕ) (v : EfView q) (ys : List ℕ) (l k from p : ℕ) → IsWithin q v l → Holds q v ys → k < v.m
-    → v.place + past_place l ys k ≤ from → from ≤ v.place + high_place l k (get_or ys k 0) → IsFirstOne (bits_of v.bits.words.now) from (v.place + k + (v.u - 1) / 2 ^ l + 1) p
-    → p ≡ v.place + high_place l k (get_or ys k 0)
-one-found q v ys l k from p within h lt past not_past first =
-    found-number (bits_of v.bits.words.now) v.place v.u v.m l q ys (bits-bits_of v.bits.words.now) (view-read-at q v ys l within h) k from p lt past not_past first
+pub one-found : (q : ℕ) (v : EfView q) (ys : List ℕ) (k from p : ℕ) → Holds q v ys → k < v.m
+    → v.place + past_place v.low ys k ≤ from → from ≤ v.place + high_place v.low k (get_or ys k 0) → IsFirstOne (bits_of v.bits.words.now) from (v.place + k + (v.u - 1) / 2 ^ v.low + 1) p
+    → p ≡ v.place + high_place v.low k (get_or ys k 0)
+one-found q v ys k from p h lt past not_past first =
+    found-number (bits_of v.bits.words.now) v.place v.u v.m v.low q ys (bits-bits_of v.bits.words.now) (view-read-at q v ys h) k from p lt past not_past first
 
-pub one-there : (q : ℕ) (v : EfView q) (ys : List ℕ) (l k from : ℕ) → IsWithin q v l → Holds q v ys → k < v.m
-    → from ≤ v.place + high_place l k (get_or ys k 0) → HasNoOne (bits_of v.bits.words.now) from (v.place + k + (v.u - 1) / 2 ^ l + 1) → ⊥
-one-there q v ys l k from within h lt not_past none =
-    some-found (bits_of v.bits.words.now) v.place v.u v.m l q ys (view-read-at q v ys l within h) k from lt not_past none
+pub one-there : (q : ℕ) (v : EfView q) (ys : List ℕ) (k from : ℕ) → Holds q v ys → k < v.m
+    → from ≤ v.place + high_place v.low k (get_or ys k 0) → HasNoOne (bits_of v.bits.words.now) from (v.place + k + (v.u - 1) / 2 ^ v.low + 1) → ⊥
+one-there q v ys k from h lt not_past none =
+    some-found (bits_of v.bits.words.now) v.place v.u v.m v.low q ys (view-read-at q v ys h) k from lt not_past none
 
-pub number-is : (q : ℕ) (v : EfView q) (ys : List ℕ) (l k one : ℕ) → IsWithin q v l → Holds q v ys → k < v.m → one ≡ v.place + high_place l k (get_or ys k 0)
-    → (one - v.place - k) * 2 ^ l + low_field (bits_of v.bits.words.now) v.place v.u v.m l k ≡ get_or ys k 0
-number-is q v ys l k one within h lt e = number-read (bits_of v.bits.words.now) v.place v.u v.m l q ys (view-read-at q v ys l within h) k one lt e
+pub number-is : (q : ℕ) (v : EfView q) (ys : List ℕ) (k one : ℕ) → Holds q v ys → k < v.m → one ≡ v.place + high_place v.low k (get_or ys k 0)
+    → (one - v.place - k) * 2 ^ v.low + low_field (bits_of v.bits.words.now) v.place v.u v.m v.low k ≡ get_or ys k 0
+number-is q v ys k one h lt e = number-read (bits_of v.bits.words.now) v.place v.u v.m v.low q ys (view-read-at q v ys h) k one lt e
 
-pub number-got : (q : ℕ) (v : EfView q) (ys : List ℕ) (l k one number : ℕ) → IsWithin q v l → Holds q v ys → k < v.m → one ≡ v.place + high_place l k (get_or ys k 0)
-    → number ≡ (one - v.place - k) * 2 ^ l + low_field (bits_of v.bits.words.now) v.place v.u v.m l k → number ≡ get_or ys k 0
-number-got q v ys l k one number within h lt e is = is ∙ number-is q v ys l k one within h lt e
+pub number-got : (q : ℕ) (v : EfView q) (ys : List ℕ) (k one number : ℕ) → Holds q v ys → k < v.m → one ≡ v.place + high_place v.low k (get_or ys k 0)
+    → number ≡ (one - v.place - k) * 2 ^ v.low + low_field (bits_of v.bits.words.now) v.place v.u v.m v.low k → number ≡ get_or ys k 0
+number-got q v ys k one number h lt e is = is ∙ number-is q v ys k one h lt e
 
 -- where the search for the next one begins
 pub past-next : (l k : ℕ) (ys : List ℕ) → past_place l ys (k + 1) ≡ high_place l k (get_or ys k 0) + 1
 past-next l k ys = ap (λ n. past_place l ys n) (add-one k)
 
-pub next-after : (q : ℕ) (v : EfView q) (ys : List ℕ) (l k : ℕ) → Holds q v ys → k + 1 < v.m → high_place l k (get_or ys k 0) < high_place l (k + 1) (get_or ys (k + 1) 0)
-next-after q v ys l k h lt = omega (arith, places-rise ys l h.values.rising k (k + 1) (omega arith) (omega (arith, h.values.count)))
+pub next-after : (q : ℕ) (v : EfView q) (ys : List ℕ) (k : ℕ) → Holds q v ys → k + 1 < v.m → high_place v.low k (get_or ys k 0) < high_place v.low (k + 1) (get_or ys (k + 1) 0)
+next-after q v ys k h lt = omega (arith, places-rise ys v.low h.values.rising k (k + 1) (omega arith) (omega (arith, h.values.count)))
 
-pub place-below : (q : ℕ) (v : EfView q) (ys : List ℕ) (l k : ℕ) → Holds q v ys → k < v.m → high_place l k (get_or ys k 0) ≤ k + (v.u - 1) / 2 ^ l
-place-below q v ys l k h lt = place-within v.u v.m l ys h.values k lt
+pub place-below : (q : ℕ) (v : EfView q) (ys : List ℕ) (k : ℕ) → Holds q v ys → k < v.m → high_place v.low k (get_or ys k 0) ≤ k + (v.u - 1) / 2 ^ v.low
+place-below q v ys k h lt = place-within v.u v.m v.low ys h.values k lt
 
 -- a number below what is asked is not the last
 pub not-last : (q : ℕ) (v : EfView q) (ys : List ℕ) (k number x : ℕ) → Holds q v ys → k < v.m → number ≡ get_or ys k 0 → number < x → x < v.u → k + 1 < v.m

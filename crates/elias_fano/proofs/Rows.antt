@@ -1,8 +1,15 @@
-use Rattle.std.proofs.Common.{◌≡◌, refl, ℕ, List, [], ◌∷◌, length, map, ◌*◌, ◌^◌}
+use Rattle.std.proofs.Common.{◌≡◌, refl, ℕ, List, [], ◌∷◌, length, map, get_or, ◌+◌, ◌-◌, ◌*◌, ◌/◌, ◌^◌, ◌<◌, ◌≤◌, arith}
 use Rattle.std.specs.List.{range_with_len}
+use Rattle.std.proofs.lemmas.List.FromFn.{length-map-range_with_len, get_or-map-range_with_len}
+use Rattle.std.proofs.Math.Nat.{mul-le-mul_right}
 use Rattle.bit_words.specs.Bits.{field_at, words_of}
-use Rattle.part_cost.specs.Payload.{low_width_of}
+use Rattle.part_cost.specs.Payload.{digits, widest_low, low_width_of}
+use Rattle.part_cost.specs.Span.{AreRelative}
+use Rattle.part_cost.specs.Laws.{LowWidthIsBest}
 use Rattle.elias_fano.specs.EfBits.{ef_bits, high_bits, low_fields}
+use Rattle.elias_fano.specs.EfPlaces.{ef_length}
+use Rattle.elias_fano.proofs.Rising.{relative-fit}
+use Rattle.elias_fano.proofs.Reading.{length-part}
 
 -- 3, 700: four high bits and two low fields
 bits-701 : words_of (ef_bits 128 (3 ∷ 700 ∷ []) 701) ≡ 770105 ∷ []
@@ -56,3 +63,32 @@ length-widest-two = refl
 words-widest-two : words_of (ef_bits 128 (0 ∷ 281474976710655 ∷ []) (2 ^ 48)) ≡ 18444492273895866385 ∷ 8589934591 ∷ []
 unfolding ef_bits low_width_of lib.Count.count_leading_zeros
 words-widest-two = refl
+
+-- runs of 70 numbers in a row, each 1,000 after the one before
+abbrev pub runs_of_70 : ℕ → List ℕ
+runs_of_70 n = map (λ k. k + 930 * (k / 70)) (range_with_len 0 n)
+
+run-number : (n k : ℕ) → k < n → get_or (runs_of_70 n) k 0 ≡ k + 930 * (k / 70)
+run-number n k lt = get_or-map-range_with_len (λ k. k + 930 * (k / 70)) 0 n k k 0 lt (omega arith)
+
+pub relative-runs : (n : ℕ) → 1 ≤ n → AreRelative (n + 930 * ((n - 1) / 70)) n (runs_of_70 n)
+relative-runs n some =
+    let count : length (runs_of_70 n) ≡ n = length-map-range_with_len (λ k. k + 930 * (k / 70)) 0 n in
+    record {
+      rising = λ k lt. omega (arith, run-number n k (omega arith), run-number n (k + 1) (omega arith));
+      count = count;
+      some = omega arith;
+      last = omega (arith, run-number n (n - 1) (omega arith));
+    }
+
+-- a part of a few thousand numbers is short
+pub few-bits : LowWidthIsBest → (u : ℕ) (ys : List ℕ) → u ≤ 2 ^ widest_low → AreRelative u (length ys) ys → length ys ≤ 5000 → length (ef_bits 128 ys u) < 2 ^ 62
+unfolding ef_length
+few-bits best u ys fit h few =
+    let m : ℕ = length ys in
+    let l : ℕ = low_width_of u m in
+    let is = best u m (let some : 1 ≤ u = omega (arith, relative-fit u m ys h, h.some) in some) fit in
+    let low : m * l ≤ 5000 * l = mul-le-mul_right l few in
+    let samples : (m - 1) / 128 * digits (3 * m) ≤ 5000 * digits (3 * m) = mul-le-mul_right (digits (3 * m)) (let e : (m - 1) / 128 ≤ 5000 = omega arith in e) in
+    let width : digits (3 * m) ≤ 64 = omega arith in
+    omega (arith, length-part 128 u ys, is.within, is.few)

@@ -1,14 +1,14 @@
-use Rattle.std.proofs.Common.{◌≡◌, ℕ, ◌+◌, ◌-◌, ◌*◌, ◌/◌, ◌^◌, ◌<◌, ◌≤◌, List, ◌++◌, length, get_or, sym, ap, ◌∙◌, subst, arith}
+use Rattle.std.proofs.Common.{ℕ, ◌+◌, ◌-◌, ◌*◌, ◌/◌, ◌^◌, ◌<◌, ◌≤◌, List, ◌++◌, length, get_or, sym, ap, ◌∙◌, subst, arith}
 use Rattle.std.specs.List.{range_with_len}
 use Rattle.std.proofs.lemmas.List.Elements.{All-append}
 use Rattle.bit_words.specs.Bits.{AreBits, bits_of}
 use Rattle.bit_words.proofs.Value.{bits-bits_of, length-bits_of}
 use Rattle.bit_words.proofs.AllBits.{bits-test, bits-fields}
-use Rattle.part_cost.specs.Payload.{digits, widest_low, ef_spacing, low_width_of}
+use Rattle.part_cost.specs.Payload.{digits, ef_spacing, low_width_of}
 use Rattle.part_cost.specs.Laws.{LowWidthIsBest, DigitsHold}
 use Rattle.elias_fano.specs.declared.EfView.{EfView}
 use Rattle.elias_fano.specs.EfBits.{high_place, high_bits, low_fields, ef_samples}
-use Rattle.elias_fano.specs.EfPlaces.{ef_length, ef_length_at}
+use Rattle.elias_fano.specs.EfPlaces.{ef_length}
 use Rattle.elias_fano.specs.EfView.{Holds, IsWithin}
 use Rattle.elias_fano.specs.Laws.{OneList, PartIsBits, TakesItsPayload, PlacesFit}
 use Rattle.elias_fano.proofs.HighBits.{has_one}
@@ -53,22 +53,17 @@ places-fit best hold u m ys fit h k lt =
     let below = hold (3 * m) (omega (arith, relative-fit u m ys h)) in
     omega (arith, place-within u m (low_width_of u m) ys h k lt)
 
--- what is held lies within the words
-pub within-held : (q : ℕ) (v : EfView q) (ys : List ℕ) (l : ℕ) → Holds q v ys → l ≡ low_width_of v.u v.m → l ≤ widest_low → IsWithin q v l
-within-held q v ys l h low narrow = record {
-  low = low;
-  narrow = narrow;
-  room = subst (λ n. v.place + ef_length_at q v.u v.m n ≤ 64 * length v.bits.words.now) (sym low) (omega (arith, (view-read q v ys h).room, length-bits_of v.bits.words.now));
-}
-
 -- at its low width
-pub view-read-at : (q : ℕ) (v : EfView q) (ys : List ℕ) (l : ℕ) → IsWithin q v l → Holds q v ys → IsRead (bits_of v.bits.words.now) v.place v.u v.m l q ys
-view-read-at q v ys l within h = subst (λ n. IsRead (bits_of v.bits.words.now) v.place v.u v.m n q ys) (sym within.low) (view-read q v ys h)
+pub view-read-at : (q : ℕ) (v : EfView q) (ys : List ℕ) → Holds q v ys → IsRead (bits_of v.bits.words.now) v.place v.u v.m v.low q ys
+view-read-at q v ys h = subst (λ n. IsRead (bits_of v.bits.words.now) v.place v.u v.m n q ys) (sym v.low_is) (view-read q v ys h)
 
-pub places-fit-at : PlacesFit → (q : ℕ) (v : EfView q) (ys : List ℕ) (l : ℕ) → IsWithin q v l → Holds q v ys
-    → (k : ℕ) → k < v.m → high_place l k (get_or ys k 0) < 2 ^ digits (3 * v.m)
-places-fit-at fit q v ys l within h k lt =
-    subst (λ n. high_place n k (get_or ys k 0) < 2 ^ digits (3 * v.m)) (sym within.low) (fit v.u v.m ys v.in_range h.values k lt)
+pub read-view-at : (q : ℕ) (v : EfView q) (ys : List ℕ) → IsRead (bits_of v.bits.words.now) v.place v.u v.m v.low q ys → Holds q v ys
+read-view-at q v ys h = read-view q v ys (subst (λ n. IsRead (bits_of v.bits.words.now) v.place v.u v.m n q ys) v.low_is h)
 
-pub read-view-at : (q : ℕ) (v : EfView q) (ys : List ℕ) (l : ℕ) → IsWithin q v l → IsRead (bits_of v.bits.words.now) v.place v.u v.m l q ys → Holds q v ys
-read-view-at q v ys l within h = read-view q v ys (subst (λ n. IsRead (bits_of v.bits.words.now) v.place v.u v.m n q ys) within.low h)
+-- what is held lies within the words
+pub within-held : (q : ℕ) (v : EfView q) (ys : List ℕ) → Holds q v ys → IsWithin q v
+within-held q v ys h = omega (arith, (view-read-at q v ys h).room, length-bits_of v.bits.words.now)
+
+pub places-fit-at : PlacesFit → (q : ℕ) (v : EfView q) (ys : List ℕ) → Holds q v ys → (k : ℕ) → k < v.m → high_place v.low k (get_or ys k 0) < 2 ^ digits (3 * v.m)
+places-fit-at fit q v ys h k lt =
+    subst (λ n. high_place n k (get_or ys k 0) < 2 ^ digits (3 * v.m)) (sym v.low_is) (fit v.u v.m ys v.in_range h.values k lt)

@@ -1,4 +1,4 @@
-use Rattle.std.specs.Prelude.{ℕ, zero, suc, ◌+◌, ◌-◌, ◌*◌, ◌/◌, ◌^◌, List, slice_index}
+use Rattle.std.specs.Prelude.{◌≡◌, ℕ, ◌≤◌, ◌<◌, zero, suc, ◌+◌, ◌-◌, ◌*◌, ◌/◌, ◌^◌, List, slice_index}
 use Rattle.bit_words.specs.Bits.{field_at}
 use Rattle.part_cost.specs.Payload.{digits, ef_bits_at, low_width_of}
 use Rattle.elias_fano.specs.EfBits.{high_place}
@@ -27,3 +27,17 @@ sample_at bits place u m l j = field_at bits (place + low_fields_at u m l + l * 
 abbrev pub past_place : ℕ → List ℕ → ℕ → ℕ
 past_place l ys zero = 0
 past_place l ys (suc k) = high_place l k (slice_index ys k) + 1
+
+-- The place lies past the ones of the first k of m numbers, and past no other.
+pub record IsPast (place m l : ℕ) (ys : List ℕ) (k at : ℕ) : Type 0 where
+  pub few : k ≤ m
+  pub past : place + past_place l ys k ≤ at
+  pub not_past : k < m → at ≤ place + high_place l k (slice_index ys k)
+
+-- The numbers from one place up to another are below x.
+abbrev pub AreBelow : List ℕ → ℕ → ℕ → ℕ → Type 0
+AreBelow ys from to x = (k : ℕ) → from ≤ k → k < to → slice_index ys k < x
+
+-- The value is that of some bits from this place on.
+abbrev pub IsFieldFrom : List ℕ → ℕ → ℕ → Type 0
+IsFieldFrom bits from value = (width : ℕ) × (value ≡ field_at bits from width)

@@ -1,8 +1,12 @@
-ghost use Rattle.std.specs.Prelude.{◌≤◌, ◌<◌, ◌^◌};
+ghost use Rattle.std.specs.Prelude.{ℕ, ◌≤◌, ◌<◌, ◌+◌, ◌-◌, ◌*◌, ◌/◌, ◌^◌, List, length, IfOk};
 ghost use Rattle.part_cost.specs.Payload.{widest_low};
+ghost use Rattle.part_cost.specs.Span.{AreRelative};
+ghost use Rattle.elias_fano.specs.EfView.{Holds};
 
 use super::*;
 use bit_words::BitWriter;
+use part_cost::low_width_is_best;
+use std::alloc::Global;
 use std::test::Fail;
 
 // 0, 10, 20 with a sample every two numbers: 18 bits, as one word.
@@ -129,6 +133,77 @@ fn reads_many_numbers(rt: HostRuntime) -> Result<(), Fail> {
         )
         .check()
     );
+    Ok(())
+}
+
+// Runs of 70 numbers in a row, each 1,000 after the one before: number k is k + 930 (k div 70).
+fn runs_of_70(alloc: Global, count: u64) -> Result<Vec<u64>, NoMemory>
+    requires some { 1 ≤ count }
+    requires few { count ≤ 5000 }
+    ensures { IfOk result (λ xs. AreRelative (count + 930 * ((count - 1) / 70)) count xs.items) }
+{
+    let mut values = Vec::new(alloc);
+    for k in 0..count {
+        let Ok(()) = values.push(k + 930 * (k / 70)) else {
+            return Err(NoMemory);
+        };
+    }
+    Ok(values)
+}
+
+// The words of a part of these numbers behind five bits.
+fn behind_five_bits(alloc: Global, values: &[u64], u: u64) -> Result<Vec<u64>, NoMemory>
+    requires values { AreRelative u (length values.now) values.now }
+    requires in_range { u ≤ 2 ^ widest_low }
+    requires few { length values.now ≤ 5000 }
+{
+    low_width_is_best();
+    let mut writer = BitWriter::new(alloc)?;
+    writer.put(0b10101, 5)?;
+    ef_write::<128>(values, u, &mut writer)?;
+    Ok(writer.into_words())
+}
+
+// Whether number k and the one after it are read as they are listed: by their places, the one by the other, and from a
+// place on as the first at or after the number and at or after one more.
+fn reads_number(view: &EfView<128>, values: &[u64], from: u64, k: u64) -> bool
+    requires held { (ys : List ℕ) × Holds 128 view.now ys }
+    requires within { k + 1 < view.now.m }
+    requires before { from ≤ k }
+    requires listed { view.now.m ≤ length values.now }
+{
+    let number = values[k as usize];
+    let next = values[k as usize + 1];
+    if next >= view.u || number >= next || view.get(k) != number {
+        return false;
+    }
+    view.get(k + 1) == next
+        && view.after(k, view.get(k)) == next
+        && view.next_geq(number, from) == (k, number)
+        && view.next_geq(number + 1, from) == (k + 1, next)
+}
+
+// Parts with no sample, one, two and 39, at a place within a word; each number from the first place, its half and its own.
+#[test]
+fn reads_parts_of_runs(rt: HostRuntime) -> Result<(), Fail> {
+    for count in [128, 129, 256, 257, 5_000] {
+        assert!(rt; 2 <= count && count <= 5_000);
+        let u = count + 930 * ((count - 1) / 70);
+        let values = runs_of_70(rt.alloc(), count).expect(&rt, "memory");
+        let words = behind_five_bits(rt.alloc(), &values, u).expect(&rt, "memory");
+        assert!(rt; 1 <= words.len() && words.len() <= 1 << 20 && count <= values.len() as u64);
+        let view = EfView::<128>::at(Bits { words: &words }, 5, u, count);
+        assert!(rt; view.check());
+        for k in 0..count - 1 {
+            for from in [0, k / 2, k] {
+                assert!(rt; from <= k);
+                assert!(rt;
+                    reads_number(&view, &values, from, k),
+                    "{k} of {count} from {from}"
+                );
+            }
+        }
+    }
     Ok(())
 }
 

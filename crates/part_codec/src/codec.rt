@@ -1,4 +1,4 @@
-ghost use Rattle.std.specs.Prelude.{◌≡◌, ℕ, ◌<◌, IsTrue, ◌↔◌, List, slice_index};
+ghost use Rattle.std.specs.Prelude.{◌≡◌, ℕ, ◌<◌, ◌+◌, IsTrue, ◌↔◌, List, slice_index};
 ghost use Rattle.part_cost.specs.Span.{AreRelative};
 ghost use Rattle.part_cost.specs.Stored.{IsFirstAtLeast};
 
@@ -20,6 +20,13 @@ pub trait PartCodec<'a> {
         requires held { (ys : List ℕ) × holds self.now ys }
         requires within { k < m self.now }
         ensures { (ys : List ℕ) → holds self.now ys → result ≡ slice_index ys k };
+
+    /// Value k + 1, by value k.
+    fn after(&self, k: u64, number: u64) -> u64
+        requires held { (ys : List ℕ) × holds self.now ys }
+        requires within { k + 1 < m self.now }
+        requires number { (ys : List ℕ) → holds self.now ys → number ≡ slice_index ys k }
+        ensures { (ys : List ℕ) → holds self.now ys → result ≡ slice_index ys (k + 1) };
 
     /// The first place at or after one whose value is at least x, and that value.
     fn next_geq(&self, x: u64, from: u64) -> (u64, u64)

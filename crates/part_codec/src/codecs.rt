@@ -21,6 +21,10 @@ impl<'a, const Q: u64> PartCodec<'a> for EfView<'a, Q> {
         EfView::get(self, k)
     }
 
+    fn after(&self, k: u64, number: u64) -> u64 {
+        EfView::after(self, k, number)
+    }
+
     fn next_geq(&self, x: u64, from: u64) -> (u64, u64) {
         EfView::next_geq(self, x, from)
     }
@@ -46,6 +50,10 @@ impl<'a, const B: u64> PartCodec<'a> for MapView<'a, B> {
 
     fn get(&self, k: u64) -> u64 {
         MapView::get(self, k)
+    }
+
+    fn after(&self, k: u64, number: u64) -> u64 {
+        MapView::after(self, k, number)
     }
 
     fn next_geq(&self, x: u64, from: u64) -> (u64, u64) {
@@ -74,6 +82,10 @@ impl<'a> PartCodec<'a> for OnesView {
 
     fn get(&self, k: u64) -> u64 {
         k
+    }
+
+    fn after(&self, _k: u64, number: u64) -> u64 {
+        number + 1
     }
 
     fn next_geq(&self, x: u64, from: u64) -> (u64, u64) {
@@ -109,6 +121,14 @@ impl<'a> PartCodec<'a> for PartView<'a> {
             PartView::Ones(v) => v.get(k),
             PartView::Bitmap(v) => v.get(k),
             PartView::Ef(v) => v.get(k),
+        }
+    }
+
+    fn after(&self, k: u64, number: u64) -> u64 {
+        match self {
+            PartView::Ones(v) => v.after(k, number),
+            PartView::Bitmap(v) => v.after(k, number),
+            PartView::Ef(v) => v.after(k, number),
         }
     }
 

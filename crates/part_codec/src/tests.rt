@@ -1,4 +1,4 @@
-ghost use Rattle.std.specs.Prelude.{◌≡◌, ℕ, ◌*◌, ◌≤◌, ◌<◌, ◌^◌, length, slice_index, IsTrue};
+ghost use Rattle.std.specs.Prelude.{◌≡◌, ℕ, ◌*◌, ◌≤◌, ◌<◌, ◌+◌, ◌^◌, length, slice_index, IsTrue};
 ghost use Rattle.part_cost.specs.Payload.{widest_low};
 ghost use Rattle.part_cost.specs.Span.{AreRelative};
 
@@ -93,6 +93,17 @@ fn finds<'a, C: PartCodec<'a>>(view: &C, x: u64, from: u64, place: u64, value: u
     view.check() && view.next_geq(x, from) == (place, value) && view.get(place) == value
 }
 
+// Whether a view accepts its bits, and then finds this value behind the one at a place.
+fn follows<'a, C: PartCodec<'a>>(view: &C, place: u64, value: u64) -> bool
+    requires within { place + 1 < C.m view.now }
+{
+    if !view.check() {
+        return false;
+    }
+    let before = view.get(place);
+    view.after(place, before) == value
+}
+
 // Each form of a view, by itself and by its kind.
 #[test]
 fn finds_numbers(rt: HostRuntime) {
@@ -100,12 +111,18 @@ fn finds_numbers(rt: HostRuntime) {
     let bits = Bits { words: &far };
     assert!(rt; finds(&EfView::<128>::at(bits, 0, 701, 2), 4, 0, 1, 700));
     assert!(rt; finds(&PartView::at(bits, 0, 701, 2), 3, 0, 0, 3));
+    assert!(rt; follows(&EfView::<128>::at(bits, 0, 701, 2), 0, 700));
+    assert!(rt; follows(&PartView::at(bits, 0, 701, 2), 0, 700));
     let near = [33];
     let bits = Bits { words: &near };
     assert!(rt; finds(&MapView::<512>::at(bits, 0, 6, 2), 1, 0, 1, 5));
     assert!(rt; finds(&PartView::at(bits, 0, 6, 2), 0, 1, 1, 5));
+    assert!(rt; follows(&MapView::<512>::at(bits, 0, 6, 2), 0, 5));
+    assert!(rt; follows(&PartView::at(bits, 0, 6, 2), 0, 5));
     assert!(rt; finds(&OnesView::at(3), 1, 0, 1, 1));
     assert!(rt; finds(&PartView::at(bits, 0, 3, 3), 1, 2, 2, 2));
+    assert!(rt; follows(&OnesView::at(3), 0, 1));
+    assert!(rt; follows(&PartView::at(bits, 0, 3, 3), 1, 2));
 }
 
 // How many patterns of so many bits are those of a part.
@@ -159,7 +176,11 @@ fn reads_back(alloc: Global, values: &[u64], u: u64) -> Result<bool, NoMemory>
         return Ok(false);
     }
     for k in 0..values.len() {
-        if view.get(k as u64) != values[k] {
+        let value = view.get(k as u64);
+        if value != values[k] {
+            return Ok(false);
+        }
+        if k + 1 < values.len() && view.after(k as u64, value) != values[k + 1] {
             return Ok(false);
         }
     }

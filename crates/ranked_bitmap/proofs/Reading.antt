@@ -259,8 +259,8 @@ count-next bits place u m q ys each h k lt =
 
 -- so many numbers lie below x, and the next is the first that is at least x
 pub next-is : (bits : List ℕ) (place u m q : ℕ) (ys : List ℕ) → EachBit bits → IsRead bits place u m q ys → (from x : ℕ) → x < u
-    → from < m → get_or ys from 0 < x → IsFirstAtLeast ys from x (ones_between bits place (place + x))
-next-is bits place u m q ys each h from x reached within before =
+    → from ≤ ones_between bits place (place + x) → IsFirstAtLeast ys from x (ones_between bits place (place + x))
+next-is bits place u m q ys each h from x reached ahead =
     let r : ℕ = ones_between bits place (place + x) in
     let below : AreBelow ys x r = counted bits place u m q ys each h x (omega arith) in
     let count : length ys ≡ m = h.values.count in
@@ -270,13 +270,23 @@ next-is bits place u m q ys each h from x reached within before =
       | inr more ↦ (let under = below.below (m - 1) (omega arith) in omega arith)
     ] in
     record {
-      at_or_after = elim (cases_lt r from) [
-        | inl less ↦ (let over = below.above from (omega arith) (omega arith) in omega arith)
-        | inr more ↦ more
-      ];
+      at_or_after = ahead;
       within = some;
       at_least = below.above r (omega arith) some;
       first = λ k after less. below.below k less;
+    }
+
+-- where no more lie below x than come before a place, its number is at least x
+pub here-is : (bits : List ℕ) (place u m q : ℕ) (ys : List ℕ) → EachBit bits → IsRead bits place u m q ys → (from x : ℕ) → x < u
+    → from < m → ones_between bits place (place + x) ≤ from → IsFirstAtLeast ys from x from
+here-is bits place u m q ys each h from x reached within passed =
+    let below : AreBelow ys x (ones_between bits place (place + x)) = counted bits place u m q ys each h x (omega arith) in
+    let count : length ys ≡ m = h.values.count in
+    record {
+      at_or_after = omega arith;
+      within = omega arith;
+      at_least = below.above from passed (omega arith);
+      first = λ k after less. absurd (omega arith);
     }
 
 -- the ones of two ranges, one behind the other
@@ -303,8 +313,15 @@ pub ones-few : (bits : List ℕ) (place n : ℕ) → EachBit bits → ones_betwe
 ones-few bits place n each =
     subst (λ i. sum (take i (drop place bits)) ≤ n) (let e : n ≡ place + n - place = omega arith in e) (few-ones (drop place bits) (bits-drop place bits each) n)
 
-pub no-ones-yet : (bits : List ℕ) (place : ℕ) → ones_between bits place (place + 0) ≡ 0
-no-ones-yet bits place = ap (λ i. sum (take i (drop place bits))) (let e : place + 0 - place ≡ 0 = omega arith in e)
+-- the ones before a place: those before another, and those between
+pub ones-on : (bits : List ℕ) (place at to count more : ℕ) → at ≤ to → count ≡ ones_between bits place (place + at)
+    → more ≡ ones_between bits (place + at) (place + to) → count + more ≡ ones_between bits place (place + to)
+ones-on bits place at to count more ordered is between =
+    let there : place + at + (to - at) ≡ place + to = omega arith in
+    ap (λ n. n + more) is
+    ∙ ap (λ n. ones_between bits place (place + at) + n) (between ∙ ap (λ n. ones_between bits (place + at) n) (sym there))
+    ∙ sym (ones-more bits place at (to - at))
+    ∙ ap (λ n. ones_between bits place (place + n)) (let e : at + (to - at) ≡ to = omega arith in e)
 
 -- the ones before the next sample: those before the last one, and those of the run between
 pub count-more : (bits : List ℕ) (place q j count more : ℕ) → count ≡ ones_between bits place (place + q * j)

@@ -13,7 +13,7 @@ use Rattle.ranked_bitmap.specs.MapPlaces.{map_length, AreSampled}
 use Rattle.ranked_bitmap.specs.MapView.{Holds, IsWithin}
 use Rattle.ranked_bitmap.specs.Laws.{OneList, PartIsBits, TakesItsPayload}
 use Rattle.ranked_bitmap.proofs.Marks.{bits-marks}
-use Rattle.ranked_bitmap.proofs.Reading.{IsRead, counts, samples-are, part-is, length-part, read-held, held-read, one_list-read, below-universe, first-number, some-number, count-next, next-is, read-checked, counted-all, last-set, samples-read}
+use Rattle.ranked_bitmap.proofs.Reading.{IsRead, counts, samples-are, part-is, length-part, read-held, held-read, one_list-read, below-universe, first-number, some-number, count-next, next-is, here-is, read-checked, counted-all, last-set, samples-read}
 
 -- what a view holds is read from its words
 pub view-read : (q : ℕ) (v : MapView q) (ys : List ℕ) → Holds q v ys → IsRead (bits_of v.bits.words.now) v.place v.u v.m q ys
@@ -64,10 +64,15 @@ next-number q v ys h k number lt is =
     ap (λ n. ones_between (bits_of v.bits.words.now) v.place (v.place + (n + 1))) is
     ∙ count-next (bits_of v.bits.words.now) v.place v.u v.m q ys (bits-bits_of v.bits.words.now) (view-read q v ys h) k lt
 
-pub first-at-least : (q : ℕ) (v : MapView q) (ys : List ℕ) → Holds q v ys → (from x : ℕ) → x < v.u → from < v.m → get_or ys from 0 < x
-    → IsFirstAtLeast ys from x (ones_between (bits_of v.bits.words.now) v.place (v.place + x))
-first-at-least q v ys h from x reached within before =
-    next-is (bits_of v.bits.words.now) v.place v.u v.m q ys (bits-bits_of v.bits.words.now) (view-read q v ys h) from x reached within before
+pub first-at-least : (q : ℕ) (v : MapView q) (ys : List ℕ) → Holds q v ys → (from x : ℕ) → x < v.u
+    → from ≤ ones_between (bits_of v.bits.words.now) v.place (v.place + x) → IsFirstAtLeast ys from x (ones_between (bits_of v.bits.words.now) v.place (v.place + x))
+first-at-least q v ys h from x reached ahead =
+    next-is (bits_of v.bits.words.now) v.place v.u v.m q ys (bits-bits_of v.bits.words.now) (view-read q v ys h) from x reached ahead
+
+pub first-is-here : (q : ℕ) (v : MapView q) (ys : List ℕ) → Holds q v ys → (from x : ℕ) → x < v.u → from < v.m
+    → ones_between (bits_of v.bits.words.now) v.place (v.place + x) ≤ from → IsFirstAtLeast ys from x from
+first-is-here q v ys h from x reached within passed =
+    here-is (bits_of v.bits.words.now) v.place v.u v.m q ys (bits-bits_of v.bits.words.now) (view-read q v ys h) from x reached within passed
 
 -- a view whose bits pass the check holds some numbers
 pub checked-holds : (q : ℕ) (v : MapView q) → IsWithin q v → ones_between (bits_of v.bits.words.now) v.place (v.place + v.u) ≡ v.m

@@ -1,4 +1,4 @@
-use Rattle.std.specs.Prelude.{◌≡◌, ℕ, ◌+◌, ◌-◌, ◌*◌, ◌/◌, ◌<◌, List}
+use Rattle.std.specs.Prelude.{◌≡◌, ℕ, ◌+◌, ◌-◌, ◌*◌, ◌/◌, ◌<◌, ◌≤◌, List}
 use Rattle.bit_words.specs.Bits.{field_at, ones_between}
 use Rattle.part_cost.specs.Payload.{digits}
 
@@ -14,3 +14,9 @@ sample_at bits place u m j = field_at bits (place + u + digits m * j) (digits m)
 abbrev pub AreSampled : ℕ → List ℕ → ℕ → ℕ → ℕ → Type 0
 AreSampled spacing bits place u m =
     (j : ℕ) → j < (u - 1) / spacing → sample_at bits place u m j ≡ ones_between bits place (place + spacing * (j + 1))
+
+-- a place of a part, counted from its start, below which so many of its numbers lie, and these are k at most
+pub record IsRanked (bits : List ℕ) (place u k at below : ℕ) : Type 0 where
+  pub within : at < u
+  pub rank : below ≡ ones_between bits place (place + at)
+  pub few : below ≤ k

@@ -1,5 +1,10 @@
+ghost use Rattle.std.specs.Prelude.{◌≡◌, ℕ, ◌<◌, List, length, IsTrue};
+ghost use Rattle.part_cost.specs.Span.{AreRelative};
+ghost use Rattle.ranked_bitmap.specs.MapView.{Holds};
+
 use super::*;
 use bit_words::BitWriter;
+use std::alloc::{AllocError, Global};
 use std::test::Fail;
 
 // 0, 5 with a sample every four places: 8 bits, as one word.
@@ -59,5 +64,117 @@ fn refuses_other_bits(rt: HostRuntime) -> Result<(), Fail> {
     assert!(rt; !MapView::<512>::at(Bits { words: &words }, 31, 600, 599).check());
     // The widest universe takes far more words.
     assert!(rt; !MapView::<512>::at(Bits { words: &words }, 0, 1 << 48, 1 << 47).check());
+    Ok(())
+}
+
+// Whether the values rise, and the last is u - 1.
+fn is_relative(values: &[u64], u: u64) -> bool
+    ensures { IsTrue result → AreRelative u (length values.now) values.now }
+{
+    for i in 1..values.len() {
+        if values[i] <= values[i - 1] {
+            return false;
+        }
+    }
+    match values.last() {
+        Some(last) => *last < u && *last + 1 == u,
+        None => false,
+    }
+}
+
+// The words of a list, None where it is none of a part of so many places.
+fn written(alloc: Global, values: &[u64], u: u64) -> Result<Option<Vec<u64>>, NoMemory> {
+    part_takes_its_payload();
+    if !is_relative(values, u) || u > 2000 {
+        return Ok(None);
+    }
+    let mut writer = BitWriter::new(alloc)?;
+    map_write::<512>(values, u, &mut writer)?;
+    Ok(Some(writer.into_words()))
+}
+
+// Whether number k is found by its place, by the number before it, by itself and by one more than the number before it.
+fn finds(view: &MapView<'_, 512>, values: &[u64], k: usize) -> bool
+    requires held { (ys : List ℕ) × Holds 512 view.now ys }
+    requires count { length values.now ≡ view.now.m }
+    requires within { k < length values.now }
+{
+    let (place, number) = (k as u64, values[k]);
+    if view.get(place) != number || number >= view.u {
+        return false;
+    }
+    if view.next_geq(number, 0) != (place, number) || view.next_geq(0, place) != (place, number) {
+        return false;
+    }
+    if k == 0 {
+        return true;
+    }
+    let before = view.get(place - 1);
+    view.after(place - 1, before) == number
+        && before < number
+        && view.next_geq(before + 1, 0) == (place, number)
+        && view.next_geq(before + 1, place - 1) == (place, number)
+        && view.next_geq(before, place) == (place, number)
+}
+
+// Whether words are accepted as those of a list, and it is read back from them.
+fn reads_back(words: &[u64], values: &[u64], u: u64) -> bool {
+    let m = values.len() as u64;
+    if words.len() > 100 || m == 0 || m > u || u > 2000 {
+        return false;
+    }
+    let view = MapView::<512>::at(Bits { words }, 0, u, m);
+    if !view.check() {
+        return false;
+    }
+    for k in 0..values.len() {
+        if !finds(&view, values, k) {
+            return false;
+        }
+    }
+    true
+}
+
+// The multiples of a step below u outside a gap, and u - 1.
+fn multiples(alloc: Global, u: u64, step: u64, gap: (u64, u64)) -> Result<Vec<u64>, AllocError>
+    requires { 0 < step }
+{
+    let mut values = Vec::new(alloc);
+    for place in 0..u {
+        let in_gap = gap.0 <= place && place < gap.1;
+        if place + 1 == u || place % step == 0 && !in_gap {
+            values.push(place)?;
+        }
+    }
+    Ok(values)
+}
+
+// Parts without a sample, with one and with two, and the last word of each: marks, and then samples.
+#[test]
+fn reads_what_was_written(rt: HostRuntime) -> Result<(), Fail> {
+    for (u, step, gap, last) in [
+        (512, 1, (300, 301), u64::MAX),
+        (513, 1, (300, 301), 1 | 511 << 1),
+        (600, 1, (300, 301), (511 << 24) | ((1 << 24) - 1)),
+        (1025, 1, (300, 301), 1 | 511 << 1 | 1023 << 12),
+        (512, 2, (0, 0), 0xd555_5555_5555_5555),
+        (513, 2, (0, 0), 1 | 256 << 1),
+        (1025, 2, (0, 0), 1 | 256 << 1 | 512 << 11),
+        (512, 3, (64, 448), 0xc924_9249_2492_4924),
+        (513, 3, (64, 448), 1 | 43 << 1),
+        (1025, 3, (64, 448), 1 | 43 << 1 | 214 << 9),
+        (512, 512, (0, 0), 1 << 63),
+        (513, 512, (0, 0), 1 | 1 << 1),
+        (1025, 512, (0, 0), 1 | 1 << 1 | 2 << 3),
+        (1025, 1, (0, 1024), 1),
+    ] {
+        assert!(rt; step > 0);
+        let values = multiples(rt.alloc(), u, step, gap).expect(&rt, "memory");
+        let words = written(rt.alloc(), &values, u)
+            .expect(&rt, "memory")
+            .expect(&rt, "part");
+        assert_eq!(rt; words.last(), Some(&last), "{u} by {step}");
+        assert!(rt; reads_back(&words, &values, u), "{u} by {step}");
+    }
     Ok(())
 }

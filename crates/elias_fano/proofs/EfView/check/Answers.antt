@@ -7,7 +7,6 @@ pub returns-then-self-len : goal.returns-then-self-len
 returns-then-self-len g c = (
   λ e. cc,
   λ held.
-      let low = c.low_width-low.ensures in
       let h : Holds g.row.Q c.args.self.now held.0 = held.1 in
-      absurd (omega (arith, (within-held g.row.Q c.args.self.now held.0 c.low_width-low.result h low.value low.within).room, c.len.ensures, c.if-self-len.true)),
+      absurd (omega (arith, within-held g.row.Q c.args.self.now held.0 h, c.len.ensures, c.if-self-len.true)),
 )

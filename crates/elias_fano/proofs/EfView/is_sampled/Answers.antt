@@ -38,7 +38,7 @@ returns-else-k-ne0 g c =
     let last = last-is-k g.row.Q c.args.k c.if-k.value v.spacing c.if-k-ne0.false
     (elim c.if-k.branch [ then-k w ↦ inl (w.if-k.true, w.value-is) | else-k w ↦ inr (w.if-k.false, w.value-is) ]) in (
       λ set j e.
-          ap (λ n. sample_at (bits_of v.bits.words.now) v.place v.u v.m c.args.low n) (sym (sample-number g.row.Q c.args.k j v.spacing e))
+          ap (λ n. sample_at (bits_of v.bits.words.now) v.place v.u v.m v.low n) (sym (sample-number g.row.Q c.args.k j v.spacing e))
           ∙ sym c.sample.ensures ∙ eqb-true c.sample.result (c.args.one - v.place) set,
       λ same. eq-eqb c.sample.result (c.args.one - v.place) (c.sample.ensures ∙ same (c.args.k / g.row.Q - 1) last),
     )

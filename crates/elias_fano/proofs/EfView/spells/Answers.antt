@@ -20,8 +20,8 @@ returns-in_default g c = (
       let zs = held.0 in
       let h : Holds g.row.Q v zs = held.1 in
       let from = c.loop-k.invariant.all zs h in
-      absurd (one-there g.row.Q v zs c.args.low c.loop-k.k c.loop-k.from c.requires.bits h c.loop-k-test.true
-      (omega (arith, from.0, past-before zs c.args.low h.values.rising c.loop-k.k (omega (arith, h.values.count, c.loop-k-test.true))))
+      absurd (one-there g.row.Q v zs c.loop-k.k c.loop-k.from h c.loop-k-test.true
+      (omega (arith, from.0, past-before zs v.low h.values.rising c.loop-k.k (omega (arith, h.values.count, c.loop-k-test.true))))
       c.in_default.ensures.none),
 )
 
@@ -35,9 +35,9 @@ returns-then-number-least g c = (
       let h : Holds g.row.Q v zs = held.1 in
       let from = c.loop-k.invariant.all zs h in
       let within : c.loop-k.k < length zs = omega (arith, h.values.count, c.loop-k-test.true) in
-      let before = past-before zs c.args.low h.values.rising c.loop-k.k within in
-      let one = one-found g.row.Q v zs c.args.low c.loop-k.k c.loop-k.from c.in-Some.one c.requires.bits h c.loop-k-test.true (omega (arith, from.0)) (omega (arith, from.0)) c.in-Some.ensures.first in
-      let number = number-is g.row.Q v zs c.args.low c.loop-k.k c.in-Some.one c.requires.bits h c.loop-k-test.true one in
+      let before = past-before zs v.low h.values.rising c.loop-k.k within in
+      let one = one-found g.row.Q v zs c.loop-k.k c.loop-k.from c.in-Some.found.one h c.loop-k-test.true (omega (arith, from.0)) (omega (arith, from.0)) c.in-Some.ensures.first in
+      let number = number-is g.row.Q v zs c.loop-k.k c.in-Some.found.one h c.loop-k-test.true one in
       absurd (omega (arith, c.number-number.ensures.value, number, from.1, past-number zs h.values.rising c.loop-k.k within, c.if-number-least.true)),
 )
 
@@ -50,13 +50,13 @@ returns-then-not-is_sampled g c = (
       let h : Holds g.row.Q v zs = held.1 in
       let from = c.loop-k.invariant.all zs h in
       let within : c.loop-k.k < length zs = omega (arith, h.values.count, c.loop-k-test.true) in
-      let before = past-before zs c.args.low h.values.rising c.loop-k.k within in
-      let one = one-found g.row.Q v zs c.args.low c.loop-k.k c.loop-k.from c.in-Some.one c.requires.bits h c.loop-k-test.true (omega (arith, from.0)) (omega (arith, from.0)) c.in-Some.ensures.first in
+      let before = past-before zs v.low h.values.rising c.loop-k.k within in
+      let one = one-found g.row.Q v zs c.loop-k.k c.loop-k.from c.in-Some.found.one h c.loop-k-test.true (omega (arith, from.0)) (omega (arith, from.0)) c.in-Some.ensures.first in
       let sampled = c.if-not-is_sampled.ensures.1
       (λ j e.
-      sample-read (bits_of v.bits.words.now) v.place v.u v.m c.args.low g.row.Q zs (view-read-at g.row.Q v zs c.args.low c.requires.bits h) v.spacing j (omega (arith, e, c.loop-k-test.true))
-      (places-fit-at c.places_fit_samples.ensures g.row.Q v zs c.args.low c.requires.bits h (g.row.Q * (j + 1)) (omega (arith, e, c.loop-k-test.true)))
-      ∙ ap (λ n. high_place c.args.low n (get_or zs n 0)) e
+      sample-read (bits_of v.bits.words.now) v.place v.u v.m v.low g.row.Q zs (view-read-at g.row.Q v zs h) v.spacing j (omega (arith, e, c.loop-k-test.true))
+      (places-fit-at c.places_fit_samples.ensures g.row.Q v zs h (g.row.Q * (j + 1)) (omega (arith, e, c.loop-k-test.true)))
+      ∙ ap (λ n. high_place v.low n (get_or zs n 0)) e
       ∙ omega (arith, one)) in
       sampled,
 )
@@ -67,8 +67,8 @@ loop-k-preserved g c =
     record {
       begun = (
         c.loop-k.invariant.begun.0 ++ c.number-number.result ∷ [],
-        begun-more (bits_of v.bits.words.now) v.place v.u v.m c.args.low g.row.Q c.loop-k.k c.loop-k.from c.loop-k.least
-            (v.place + c.loop-k.k + (v.u - 1) / 2 ^ c.args.low + 1) c.in-Some.one c.number-number.result c.loop-k.invariant.begun.0
+        begun-more (bits_of v.bits.words.now) v.place v.u v.m v.low g.row.Q c.loop-k.k c.loop-k.from c.loop-k.least
+            (v.place + c.loop-k.k + (v.u - 1) / 2 ^ v.low + 1) c.in-Some.found.one c.number-number.result c.loop-k.invariant.begun.0
             (bits-bits_of v.bits.words.now) c.loop-k.invariant.begun.1 c.in-Some.ensures.first
             (omega (arith, c.in-Some.ensures.first.at_or_after, c.loop-k.invariant.low))
             c.number-number.ensures.value c.if-number-least.false (c.if-not-is_sampled.ensures.0 refl),
@@ -76,10 +76,11 @@ loop-k-preserved g c =
       all = λ zs h.
           let from = c.loop-k.invariant.all zs h in
           let within : c.loop-k.k < length zs = omega (arith, h.values.count, c.loop-k-test.true) in
-          let before = past-before zs c.args.low h.values.rising c.loop-k.k within in
-          let one = one-found g.row.Q v zs c.args.low c.loop-k.k c.loop-k.from c.in-Some.one c.requires.bits h c.loop-k-test.true (omega (arith, from.0)) (omega (arith, from.0)) c.in-Some.ensures.first in
-          let number = number-is g.row.Q v zs c.args.low c.loop-k.k c.in-Some.one c.requires.bits h c.loop-k-test.true one in
-          (omega (arith, one, past-next c.args.low c.loop-k.k zs), omega (arith, c.number-number.ensures.value, number, ap (λ n. past zs n) (let e : c.loop-k.k + 1 ≡ suc c.loop-k.k = omega arith in e)));
+          let before = past-before zs v.low h.values.rising c.loop-k.k within in
+          let one = one-found g.row.Q v zs c.loop-k.k c.loop-k.from c.in-Some.found.one h c.loop-k-test.true (omega (arith, from.0)) (omega (arith, from.0)) c.in-Some.ensures.first in
+          let number = number-is g.row.Q v zs c.loop-k.k c.in-Some.found.one h c.loop-k-test.true one in
+          (omega (arith, one, past-next v.low c.loop-k.k zs), omega (arith, c.number-number.ensures.value, number, ap (λ n. past zs n) (let e : c.loop-k.k + 1 ≡ suc c.loop-k.k = omega arith in e)));
+      word = c.in-Some.ensures.rest;
       low = omega (arith, c.in-Some.ensures.first.at_or_after, c.loop-k.invariant.low);
       high = omega (arith, c.in-Some.ensures.first.before_end);
     }
@@ -92,13 +93,13 @@ returns g c =
     let all : c.loop-k.k ≡ v.m = omega (arith, c.loop-k-test.false, c.loop-k.auto.k-end) in (
       λ e.
           let last : c.loop-k.least ≡ v.u = eqb-true c.loop-k.least v.u e in
-          let begun : AreBegun (bits_of v.bits.words.now) v.place v.u v.m c.args.low g.row.Q v.m c.loop-k.from v.u ys =
-          subst (λ n. AreBegun (bits_of v.bits.words.now) v.place v.u v.m c.args.low g.row.Q v.m c.loop-k.from n ys) last
-          (subst (λ n. AreBegun (bits_of v.bits.words.now) v.place v.u v.m c.args.low g.row.Q n c.loop-k.from c.loop-k.least ys) all c.loop-k.invariant.begun.1) in (
+          let begun : AreBegun (bits_of v.bits.words.now) v.place v.u v.m v.low g.row.Q v.m c.loop-k.from v.u ys =
+          subst (λ n. AreBegun (bits_of v.bits.words.now) v.place v.u v.m v.low g.row.Q v.m c.loop-k.from n ys) last
+          (subst (λ n. AreBegun (bits_of v.bits.words.now) v.place v.u v.m v.low g.row.Q n c.loop-k.from c.loop-k.least ys) all c.loop-k.invariant.begun.1) in (
             ys,
-            read-view-at g.row.Q v ys c.args.low c.requires.bits
-                (begun-all (bits_of v.bits.words.now) v.place v.u v.m c.args.low g.row.Q c.loop-k.from ys (bits-bits_of v.bits.words.now) v.some v.spacing
-                (omega (arith, c.requires.bits.room, length-bits_of v.bits.words.now)) begun),
+            read-view-at g.row.Q v ys
+                (begun-all (bits_of v.bits.words.now) v.place v.u v.m v.low g.row.Q c.loop-k.from ys (bits-bits_of v.bits.words.now) v.some v.spacing
+                (omega (arith, c.requires.bits, length-bits_of v.bits.words.now)) begun),
           ),
       λ held.
           let zs = held.0 in

@@ -1,7 +1,7 @@
 use Rattle.std.proofs.Common.{◌≡◌, ℕ, ◌+◌, ◌*◌, ◌<◌}
 use Rattle.bit_words.specs.Bits.{bits_of, ones_between}
 use Rattle.ranked_bitmap.specs.MapPlaces.{sample_at}
-use Rattle.ranked_bitmap.proofs.MapView.is_sampled.Given as goal
+use Rattle.ranked_bitmap.proofs.MapView.sampled_ones.Given as goal
 
 abbrev pub invariant-loop-j : goal.invariant-loop-j
 invariant-loop-j g l = record {
