@@ -20,3 +20,4 @@ pub mod Reading
 pub mod OneFault
 pub mod Both
 pub mod Sums
+pub mod Measured

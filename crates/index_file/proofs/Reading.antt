@@ -64,6 +64,28 @@ pub record OpenedList (format : FormatNumbers) (words : List ℕ) (t : ℕ) (x :
   pub give : postings_in (doc_sequence x.list) (freq_sequence x.list) ≡ x.list
   pub most : stated_greatest words t ≡ greatest_freq x.list
 
+pub opened-stand : (format : FormatNumbers) (room : HasRoom format) → Below format → (words : List ℕ) (t p : ℕ) (x : CutList) → HasFrame format words → StandsAt format words t p x → OpenedList format words t x
+opened-stand format room laws words t p x frame at =
+    let n = counts format room words t p x frame at in
+    let within : stated_sizes words ≤ length words = omega (arith, frame.whole) in
+    let few : stated_documents words ≤ format.most_documents = frame.documents in
+    record {
+      docs = subst (λ k. BeginWith (drop k words) (stated_doc_parts words t) (stated_length words t) (docs_view format x)) (sym at.docs_word)
+          (stated_documents words, words_used (docs_view format x), omega (arith, few, room.documents), begins-at words p (stated_sizes words) (stated_doc_parts words t) (stated_length words t) (stated_documents words) (docs_view format x) within (docs-at format room laws words t p x frame at));
+      freqs = subst (λ k. BeginWith (drop k words) (stated_freq_parts words t) (stated_length words t) (freqs_view format x)) (sym at.freqs_word)
+          (format.most_sum, words_used (freqs_view format x), omega arith, begins-at words (p + length (doc_words format x)) (stated_sizes words) (stated_freq_parts words t) (stated_length words t) format.most_sum (freqs_view format x) within (freqs-at format room laws words t p x frame at));
+      docs_within = omega (arith, at.docs_word, at.within, within);
+      freqs_within = omega (arith, at.freqs_word, at.within, within);
+      cursor = record {
+        rising = at.list.rising;
+        docs = All-weaker (λ d. d < stated_documents words) (λ d. d < 4294967295) (λ d l. omega (arith, l, few, room.fit)) (docs_of x.list) at.list.in_range;
+        not_zero = at.list.not_zero;
+        fit = at.list.fit;
+      };
+      give = laws.give format (stated_documents words) x.list at.list;
+      most = sym n.most;
+    }
+
 pub opened-list : (format : FormatNumbers) (room : HasRoom format) → Below format → (words : List ℕ) (c : Collection) (parts : List ListParts) → Spells format words c parts → (t : ℕ) → t < stated_terms words
     → (x : CutList) × OpenedList format words t x × (list_of c t ≡ x.list)
 opened-list format room laws words c parts h t lt =
@@ -74,28 +96,7 @@ opened-list format room laws words c parts h t lt =
     let x : CutList = s.0 in
     let p : ℕ = s.1 in
     let at : StandsAt format words t s.1 s.0 = subst (λ k. StandsAt format words k s.1 s.0) (let e : 0 + t ≡ t = omega arith in e) s.2 in
-    let n = counts format room words t p x frame at in
-    let within : stated_sizes words ≤ length words = omega (arith, frame.whole) in
-    let few : stated_documents words ≤ format.most_documents = frame.documents in (
-      x,
-      record {
-        docs = subst (λ k. BeginWith (drop k words) (stated_doc_parts words t) (stated_length words t) (docs_view format x)) (sym at.docs_word)
-            (stated_documents words, words_used (docs_view format x), omega (arith, few, room.documents), begins-at words p (stated_sizes words) (stated_doc_parts words t) (stated_length words t) (stated_documents words) (docs_view format x) within (docs-at format room laws words t p x frame at));
-        freqs = subst (λ k. BeginWith (drop k words) (stated_freq_parts words t) (stated_length words t) (freqs_view format x)) (sym at.freqs_word)
-            (format.most_sum, words_used (freqs_view format x), omega arith, begins-at words (p + length (doc_words format x)) (stated_sizes words) (stated_freq_parts words t) (stated_length words t) format.most_sum (freqs_view format x) within (freqs-at format room laws words t p x frame at));
-        docs_within = omega (arith, at.docs_word, at.within, within);
-        freqs_within = omega (arith, at.freqs_word, at.within, within);
-        cursor = record {
-          rising = at.list.rising;
-          docs = All-weaker (λ d. d < stated_documents words) (λ d. d < 4294967295) (λ d l. omega (arith, l, few, room.fit)) (docs_of x.list) at.list.in_range;
-          not_zero = at.list.not_zero;
-          fit = at.list.fit;
-        };
-        give = laws.give format (stated_documents words) x.list at.list;
-        most = sym n.most;
-      },
-      ap (λ l. get_or l t []) (sym o.lists) ∙ s.3,
-    )
+    (x, opened-stand format room laws words t p x frame at, ap (λ l. get_or l t []) (sym o.lists) ∙ s.3)
 
 pub begin-as : (words : List ℕ) (p q m n a b : ℕ) (v : SequenceView) → p ≡ q → m ≡ n → a ≡ b → BeginWith (drop q words) b n v → BeginWith (drop p words) a m v
 begin-as words p q m n a b v e f g h =

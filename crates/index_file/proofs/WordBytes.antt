@@ -1,13 +1,15 @@
 -- Lemmas on words and their bytes.
-use Rattle.std.proofs.Common.{◌≡◌, refl, sym, ap, ◌∙◌, ℕ, zero, suc, ◌+◌, ◌*◌, ◌/◌, ◌%◌, ◌^◌, ◌<◌, List, [], ◌∷◌, ◌++◌, length, get_or, take, drop, arith, append-nil}
+use Rattle.std.proofs.Common.{◌≡◌, refl, sym, ap, ◌∙◌, ℕ, zero, suc, ◌+◌, ◌*◌, ◌/◌, ◌%◌, ◌^◌, ◌<◌, ◌≤◌, List, [], ◌∷◌, ◌++◌, length, get_or, take, drop, arith, append-nil}
 use Rattle.std.specs.List.{All}
 use Rattle.std.specs.Int.{from_le_bytes, w64}
 use Rattle.std.specs.Simd.{first_chunks}
 use Rattle.std.proofs.Math.Seq.{take-add}
-use Rattle.std.proofs.lemmas.List.{length-take, length-drop, drop-drop, take-append-drop}
+use Rattle.std.proofs.lemmas.List.{length-take, length-drop, drop-drop, take-append-drop, take_more}
 use Rattle.std.proofs.lemmas.List.Concat.{flat_map-append}
 use Rattle.std.proofs.lemmas.List.Elements.{All-nil, All-cons, All-head, All-tail, All-drop, All-take, All-from_get_or}
 use Rattle.std.proofs.lemmas.Nat.{le_bytes_8, from_le_bytes-to_le_bytes_8}
+use Rattle.std.proofs.lemmas.Slice.{take-put_mid}
+use borrow.Rule.Slice.PartMut.{put_mid}
 use Rattle.collection_model.specs.Bytes.{le64, word_bytes, AreBytes}
 
 -- chunk i of a list in chunks of n
@@ -25,6 +27,17 @@ bytes-more words bytes word i before next =
     ∙ (λ t. before t ++ next t)
     ∙ sym (take-add (i * 8) 8 bytes)
     ∙ ap (λ n. take n bytes) (let e : i * 8 + 8 ≡ (i + 1) * 8 = omega arith in e)
+
+-- the bytes of one more word in the front of a piece
+pub spelled-more : (words piece bytes : List ℕ) (i k at n : ℕ) → at ≡ 8 * i → take at piece ≡ word_bytes (take i words) → at ≤ length piece → i < length words
+    → bytes ≡ le64 (get_or words i 0) → n ≡ at + 8 → take n (put_mid at k piece bytes) ≡ word_bytes (take (i + 1) words)
+spelled-more words piece bytes i k at n place front within before are next =
+    let eight : length bytes ≡ 8 = rw are refl in
+    take-put_mid at k piece bytes n (omega (arith, eight, next)) within
+    ∙ (λ t. front t ++ are t)
+    ∙ ap (λ bs. word_bytes (take i words) ++ bs) (sym (append-nil (le64 (get_or words i 0))))
+    ∙ sym (flat_map-append le64 (take i words) (get_or words i 0 ∷ []))
+    ∙ ap word_bytes (sym (take_more words i 0 before))
 
 word-is : (w v : ℕ) → w < 2 ^ 64 → v < 2 ^ 64 → le64 w ≡ le64 v → w ≡ v
 word-is w v small fits same = sym (from_le_bytes-to_le_bytes_8 w small) ∙ ap (from_le_bytes w64) same ∙ from_le_bytes-to_le_bytes_8 v fits

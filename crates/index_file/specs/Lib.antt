@@ -4,3 +4,4 @@ pub mod ListAt
 pub mod Builder
 pub mod IndexView
 pub mod Laws
+pub mod Measures

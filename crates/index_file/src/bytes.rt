@@ -1,4 +1,4 @@
-ghost use Rattle.std.specs.Prelude.{◌≡◌, ◌≢◌, ◌↔◌, ℕ, ◌%◌, length, IfOk};
+ghost use Rattle.std.specs.Prelude.{◌≡◌, ◌≢◌, ◌↔◌, ℕ, ◌*◌, ◌%◌, length, IfOk};
 ghost use Rattle.collection_model.specs.Bytes.{word_bytes};
 
 use postings::NoMemory;
@@ -22,6 +22,18 @@ pub fn spell_words(alloc: Global, words: &[u64]) -> Result<Vec<u8>, NoMemory>
         bytes.extend_from_slice(&word.to_le_bytes())?;
     }
     Ok(bytes)
+}
+
+/// The same bytes into a piece that has room for just them.
+pub fn spell_into(words: &[u64], piece: &mut [u8])
+    requires { length piece.old ≡ 8 * length words.now }
+    ensures { piece.new ≡ word_bytes words.now }
+{
+    let mut at = 0;
+    for word in words {
+        piece[at..at + 8].copy_from_slice(&word.to_le_bytes());
+        at += 8;
+    }
 }
 
 /// The words of bytes, eight a word, the lowest first. Ragged is answered before memory is taken.

@@ -1,7 +1,6 @@
-ghost use Rattle.std.specs.Prelude.{◌≡◌, ℕ, ◌≤◌, ◌<◌, ◌^◌, List, length, drop, sum, slice_index, IfOk, IfErr};
+ghost use Rattle.std.specs.Prelude.{◌≡◌, ℕ, ◌≤◌, ◌<◌, ◌^◌, List, length, sum, slice_index, IfOk, IfErr};
 ghost use Rattle.collection_model.specs.Collection.{Collection, WellFormed, list_of};
 ghost use Rattle.part_cost.specs.Formats.{numbers_of};
-ghost use Rattle.two_level.specs.SequenceView.{SequenceView, BeginWith};
 ghost use Rattle.index_file.specs.FileWords.{ListParts, ArePartitions, Spells, IsIndexIn, IsIndex};
 ghost use Rattle.index_file.specs.FirstBroken.{stated_terms, IsFirstBroken};
 ghost use Rattle.index_file.specs.IndexView as of;
@@ -10,12 +9,14 @@ use crate::checking::check_file;
 use crate::fault::OpenFault;
 use crate::frame::{format_of, frame_of};
 use crate::lists::list_entry;
+use crate::measures::{Measure, of_index};
+use crate::sequences::known_at;
 use crate::totals::{all_postings, all_sizes, size_at};
 use cursor_api::DocCursor;
-use part_cost::Format;
+use part_cost::{Format, Kind};
 use postings::{PostingCursor, sequences_give_their_list, sequences_of_a_list_rise};
 use std::marker::Model;
-use two_level::{SeqView, checks_stand_at_a_word, one_sequence, words_state_their_sequence};
+use two_level::{checks_stand_at_a_word, one_sequence, words_state_their_sequence};
 
 /// An index over the words of its file, in the format whose version is word 1.
 #[derive(Drop)]
@@ -111,6 +112,20 @@ impl<'a> Index<'a> {
         self.words.len() as u64
     }
 
+    /// How many parts of a kind the sequences of all lists have, of documents and of frequencies.
+    pub fn parts_of_kind(&self, kind: Kind) -> u64
+        ensures { result ≡ of.parts_of_kind self.now kind }
+    {
+        of_index(Measure::PartsOf(kind), self.words, self.format())
+    }
+
+    /// How many bits all parts take, without those of the directories and without padding.
+    pub fn payload_bits(&self) -> u64
+        ensures { result ≡ of.payload_bits self.now }
+    {
+        of_index(Measure::Payload, self.words, self.format())
+    }
+
     /// A cursor at the start of list t.
     pub fn cursor(&self, t: u32) -> PostingCursor<'a>
         requires within { t < length self.now.collection.lists }
@@ -119,16 +134,6 @@ impl<'a> Index<'a> {
     {
         cursor_at(self.words, t, self.format())
     }
-}
-
-// The sequence of m values in so many parts with which the words from word p on begin.
-fn known_at<'a>(words: &'a [u64], p: u64, parts: u32, m: u32, format: Format) -> SeqView<'a>
-    requires words { length words.now < 2 ^ 57 }
-    requires within { p ≤ length words.now }
-    requires checked { (v : SequenceView) × (v.format ≡ numbers_of format) × BeginWith (drop p words.now) parts m v }
-    ensures same { (v : SequenceView) → v.format ≡ numbers_of format → BeginWith (drop p words.entry.now) parts m v → result ≡ v }
-{
-    SeqView::known(&words[p as usize..], parts, m, format)
 }
 
 // A cursor at the start of list t of the words of an index.

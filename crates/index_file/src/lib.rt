@@ -10,6 +10,7 @@ mod frame;
 mod index;
 mod laws;
 mod lists;
+mod measures;
 mod partitions;
 mod sequences;
 #[cfg(test)]
@@ -17,7 +18,7 @@ mod tests;
 mod totals;
 
 pub use builder::{Builder, FinishError};
-pub use bytes::{WordsError, read_words, spell_words};
+pub use bytes::{WordsError, read_words, spell_into, spell_words};
 pub use fault::OpenFault;
 pub use index::Index;
 pub use laws::{

@@ -1,10 +1,11 @@
-ghost use Rattle.std.specs.Prelude.{◌≡◌, ◌≤◌, ◌<◌, ◌+◌, ◌-◌, ◌*◌, ◌^◌, length, IfOk, IfErr, true};
+ghost use Rattle.std.specs.Prelude.{◌≡◌, ◌≤◌, ◌<◌, ◌+◌, ◌-◌, ◌*◌, ◌^◌, length, drop, IfOk, IfErr, true};
 ghost use Rattle.std.specs.List.{All};
 ghost use Rattle.collection_model.specs.FormatNumbers.{entry_words};
 ghost use Rattle.collection_model.specs.Collection.{greatest};
 ghost use Rattle.collection_model.specs.Sequences.{steps_from};
 ghost use Rattle.part_cost.specs.Formats.{numbers_of};
 ghost use Rattle.part_cost.specs.Payload.{widest_low};
+ghost use Rattle.two_level.specs.SequenceView.{SequenceView, BeginWith};
 ghost use Rattle.two_level.specs.SequenceFault.{parts_fit};
 ghost use Rattle.two_level.specs.AtAWord.{IsFaultAt};
 ghost use Rattle.index_file.specs.ListAt.{IsSequenceAt};
@@ -45,6 +46,22 @@ pub(crate) fn sequence_at<'a>(
         bound,
         format,
     )
+}
+
+// The sequence of m values in so many parts with which the words from word p on begin.
+pub(crate) fn known_at<'a>(
+    words: &'a [u64],
+    p: u64,
+    parts: u32,
+    m: u32,
+    format: Format,
+) -> SeqView<'a>
+    requires words { length words.now < 2 ^ 57 }
+    requires within { p ≤ length words.now }
+    requires checked { (v : SequenceView) × (v.format ≡ numbers_of format) × BeginWith (drop p words.now) parts m v }
+    ensures same { (v : SequenceView) → v.format ≡ numbers_of format → BeginWith (drop p words.entry.now) parts m v → result ≡ v }
+{
+    SeqView::known(&words[p as usize..], parts, m, format)
 }
 
 // The greatest step of a sequence.

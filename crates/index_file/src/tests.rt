@@ -7,7 +7,7 @@ ghost use Rattle.index_file.specs.Builder.{most_words};
 use super::*;
 use crate::frame::{Frame, numbers_break};
 use cursor_api::DocCursor;
-use part_cost::Format;
+use part_cost::{Format, Kind};
 use std::alloc::Global;
 use std::marker::Brand;
 use std::process::Abort;
@@ -156,7 +156,8 @@ fn has_every_document(words: &[u64], count: u32) -> bool
     let Ok(index) = Index::view(words) else {
         return false;
     };
-    if index.terms() != 1 {
+    // Both sequences are one part each, and every place of it is taken.
+    if index.terms() != 1 || index.parts_of_kind(Kind::Ones) != 2 || index.payload_bits() != 0 {
         return false;
     }
     let mut cursor = index.cursor(0);
@@ -416,6 +417,11 @@ fn opens_one_list(rt: HostRuntime) {
         assert_eq!(rt; index.postings(), 2);
         assert_eq!(rt; index.word_count(), count);
         assert_eq!(rt; index.size_total(), 11);
+        // Of the bitmaps one takes 3 bits, and one 6.
+        for (kind, parts) in [(Kind::Ones, 0), (Kind::Bitmap, 2), (Kind::Ef, 0)] {
+            assert_eq!(rt; index.parts_of_kind(kind), parts);
+        }
+        assert_eq!(rt; index.payload_bits(), 9);
         for (d, size) in [(0, 4), (1, 0), (2, 7)] {
             assert!(rt; d < index.documents());
             assert_eq!(rt; index.size_of(d), size);
@@ -425,5 +431,101 @@ fn opens_one_list(rt: HostRuntime) {
         assert_eq!(rt; next_posting(&mut cursor), Some((0, 1)));
         assert_eq!(rt; next_posting(&mut cursor), Some((2, 5)));
         assert_eq!(rt; next_posting(&mut cursor), None);
+    }
+}
+
+// The same in the first format with its documents in two parts: 0 alone, of which nothing is stored, and 2 in two bits.
+const IN_TWO_PARTS: &[u64] = &[
+    OPENING,
+    1,
+    68_719_476_736,
+    0,
+    137_438_953_474,
+    0,
+    2,
+    137_438_953_477,
+    0,
+    33,
+    4,
+    7,
+    2,
+    7,
+    8_589_934_594,
+    21_474_836_481,
+    3,
+    1,
+    10,
+    END,
+];
+
+// Two documents of size 1 with the list of 0 once, an empty list, and the list of 1 three times. Of the first list nothing is
+// stored, and of the last 2 bits for its document and 3 for its frequency.
+const THREE_LISTS: &[u64] = &[
+    OPENING,
+    1,
+    68_719_476_736,
+    0,
+    68_719_476_736,
+    0,
+    68_719_476_737,
+    0,
+    2,
+    68_719_476_738,
+    0,
+    4,
+    4_294_967_297,
+    2,
+    4,
+    4_294_967_297,
+    4_294_967_297,
+    6,
+    6,
+    0,
+    0,
+    6,
+    9,
+    4_294_967_297,
+    12_884_901_889,
+    2,
+    3,
+    12,
+    END,
+];
+
+// One document of size 0 with the list of it 101 times: of the frequencies the one value is 100, in Elias-Fano form a one behind
+// a zero and 36 in six bits.
+const ONE_WIDE_GAP: &[u64] = &[
+    OPENING,
+    1,
+    68_719_476_736,
+    0,
+    68_719_476_836,
+    0,
+    146,
+    0,
+    2,
+    4,
+    4_294_967_297,
+    433_791_696_897,
+    1,
+    1,
+    7,
+    END,
+];
+
+// How many parts are all ones, bitmaps and in Elias-Fano form, and the bits that they take.
+#[test]
+fn measures_parts(rt: HostRuntime) {
+    for (words, ones, bitmaps, efs, bits) in [
+        (IN_TWO_PARTS, 1, 2, 0, 8),
+        (THREE_LISTS, 2, 2, 0, 5),
+        (ONE_WIDE_GAP, 1, 0, 1, 8),
+    ] {
+        assert!(rt; words.len() <= 29);
+        let index = Index::view(words).expect(&rt, "an index");
+        for (kind, parts) in [(Kind::Ones, ones), (Kind::Bitmap, bitmaps), (Kind::Ef, efs)] {
+            assert_eq!(rt; index.parts_of_kind(kind), parts);
+        }
+        assert_eq!(rt; index.payload_bits(), bits);
     }
 }

@@ -1,0 +1,4 @@
+mod Rows
+mod Drawn
+mod Drawing
+mod Collections
