@@ -1,4 +1,4 @@
-use Rattle.std.specs.Prelude.{◌≡◌, ℕ, ◌≤◌, IsTrue, List, [], length, take, unwrap_or, Result, OnOk, OnErr, IsErrOf, ◌++◌}
+use Rattle.std.specs.Prelude.{◌≡◌, ℕ, ◌≤◌, IsTrue, List, [], length, take, Some, unwrap_or, Result, OnOk, OnErr, IsErrOf, ◌++◌}
 use Rattle.pef_io.specs.declared.fail.IoFail.{IoFail}
 use Rattle.pef_io.specs.declared.fail.IoFail.TheVariants.{NoMemory}
 use Rattle.pef_io.specs.Calls.{CountsFaults, Rose}
@@ -18,11 +18,16 @@ pub record WritesAll (old new : SinkState) (piece : List ℕ) (result : Result (
   pub refusals : old.refusals ≤ new.refusals
   pub no_memory_only_where_it_rose : IsErrOf result NoMemory → Rose old.refusals new.refusals
 
--- the same of the file that is being written
+-- There is a file under the name.
+abbrev pub HasFile : DepotState → List ℕ → Type 0
+HasFile depot name = (bytes : List ℕ) × (depot.file name ≡ Some bytes)
+
+-- the same of the file that is being written, which stays a file
 pub record WritesAllToFile (old new : DepotState) (piece : List ℕ) (result : Result (Unit {0}) IoFail) : Type 0 where
   pub tells : new.tells ≡ old.tells
   pub whole : IsTrue old.tells → OnOk result (unwrap_or (new.file old.name) [] ≡ unwrap_or (old.file old.name) [] ++ piece)
   pub front : IsTrue old.tells → OnErr result (AppendsFront (unwrap_or (old.file old.name) []) (unwrap_or (new.file old.name) []) piece)
+  pub stays : IsTrue old.tells → HasFile old old.name → HasFile new old.name
   pub other_files : IsTrue old.tells → SameFilesBut old.name old new
   pub slots : SameSlots old new
   pub writing : SameWriting old new

@@ -10,8 +10,9 @@ use Rattle.pef_io.specs.Calls.{Rose}
 use Rattle.pef_io.specs.SinkState.{SinkState}
 use Rattle.pef_io.specs.Helpers.{AppendsFront, WritesAll}
 use Rattle.collection_reader.specs.declared.fault.Fault.{Fault}
-use Rattle.pef_top.specs.ErrLines.{rule_text, slot_text, fault_line}
-use Rattle.pef_top.specs.ErrPieces.{joined}
+use Rattle.index_file.specs.declared.fault.OpenFault.{OpenFault}
+use Rattle.pef_top.specs.ErrLines.{check_text, index_line, rule_text, slot_text, fault_line}
+use Rattle.pef_top.specs.Private.ErrPieces.{joined}
 
 joined-append : (xs ys : List (Bor (List ℕ))) → joined (xs ++ ys) ≡ joined xs ++ joined ys
 joined-append xs ys = ap concat (map-append (λ x. x.now) xs ys) ∙ concat-append (map (λ x. x.now) xs) (map (λ x. x.now) ys)
@@ -130,3 +131,19 @@ fault_written old new f rule slot term place r e1 e2 e3 e4 w =
     ∙ ap (λ xs. codes "collection " ++ rule_text f.rule ++ codes " " ++ xs ++ codes " term " ++ term ++ codes " place " ++ place ++ codes "\n") e2
     ∙ ap (λ xs. codes "collection " ++ rule_text f.rule ++ codes " " ++ slot_text f.file ++ codes " term " ++ xs ++ codes " place " ++ place ++ codes "\n") e3
     ∙ ap (λ xs. codes "collection " ++ rule_text f.rule ++ codes " " ++ slot_text f.file ++ codes " term " ++ decimal f.term ++ codes " place " ++ xs ++ codes "\n") e4) w
+
+-- seven pieces in a row
+seven_pieces : (a b c d e f g : List ℕ) → concat (a ∷ b ∷ c ∷ d ∷ e ∷ f ∷ g ∷ []) ≡ a ++ b ++ c ++ d ++ e ++ f ++ g
+seven_pieces a b c d e f g = simp (append_assoc, append-nil)
+
+-- the pieces of the line of a file that is no index
+pub index_fault_written : (old new : SinkState) (f : OpenFault) (check term part : List ℕ) (r : Result (Unit {0}) IoFail) →
+    check ≡ check_text f.check → term ≡ decimal f.term → part ≡ decimal f.part →
+    WritesAll old new (concat (codes "index " ∷ check ∷ codes " term " ∷ term ∷ codes " part " ∷ part ∷ codes "\n" ∷ [])) r →
+    WritesAll old new (index_line f) r
+index_fault_written old new f check term part r e1 e2 e3 w =
+    let P : List ℕ → Type 0 = λ xs. WritesAll old new xs r in
+    subst P (seven_pieces (codes "index ") check (codes " term ") term (codes " part ") part (codes "\n")
+    ∙ ap (λ xs. codes "index " ++ xs ++ codes " term " ++ term ++ codes " part " ++ part ++ codes "\n") e1
+    ∙ ap (λ xs. codes "index " ++ check_text f.check ++ codes " term " ++ xs ++ codes " part " ++ part ++ codes "\n") e2
+    ∙ ap (λ xs. codes "index " ++ check_text f.check ++ codes " term " ++ decimal f.term ++ codes " part " ++ xs ++ codes "\n") e3) w

@@ -1,15 +1,21 @@
-mod Rows
 pub mod ErrPieces
-pub mod LinesOfText
-pub mod Newline
-pub mod Held
-pub mod Answered
-pub mod Taken
-pub mod TermLists
-pub mod CursorLists
-pub mod Parsed
-pub mod TextEnds
-pub mod WholeText
-pub mod Answering
-pub mod Ends
-pub mod Building
+pub mod Joined
+pub mod Plain
+pub mod Counted
+pub mod WordsBuilt
+pub mod FileWritten
+pub mod TextAnswered
+pub mod BaseAnswered
+pub mod IndexAnswered
+pub mod RunEnds
+mod Rows
+mod Excluded
+mod Without
+mod Refused
+mod Landed
+mod PlainWalk
+mod Taken
+mod WordsRead
+mod TextsRead
+mod Stopped
+mod Headline

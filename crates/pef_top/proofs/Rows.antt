@@ -1,12 +1,10 @@
-use Rattle.std.proofs.Common.{◌≡◌, refl, sym, [], ◌∷◌, ◌++◌, Some, None, append_assoc, append-nil}
+use Rattle.std.proofs.Common.{◌≡◌, refl, [], ◌∷◌, Some, None}
 use Rattle.std.specs.Prelude.{codes}
-use Rattle.collection_model.specs.Collection.{Collection}
-use Rattle.pef_io.specs.declared.fail.Slot.TheVariants.{Freqs}
-use Rattle.query_text.specs.Lines.{text_lines}
-use Rattle.query_text.specs.Texts.{next_text, list_text}
-use Rattle.pef_top.specs.Command.{command_of, Answer}
-use Rattle.pef_top.specs.ErrLines.{file_line}
-use Rattle.pef_top.specs.Replies.{IsReply, AreReplies}
+use Rattle.part_cost.specs.declared.formats.Format.TheVariants.{One, Two}
+use Rattle.pef_io.specs.declared.fail.Slot.TheVariants.{Docs}
+use Rattle.pef_top.specs.declared.status.Status.TheVariants as status
+use Rattle.pef_top.specs.Outcome.{FileFault, IndexWriteFault, IndexTooLarge, status_of, line_of}
+use Rattle.pef_top.specs.Command.{command_of, Build, Query, Answer}
 
 name-alone : command_of (codes "pefidx" ∷ []) ≡ None
 name-alone = refl
@@ -14,10 +12,13 @@ name-alone = refl
 answer-x : command_of (codes "pefidx" ∷ codes "answer" ∷ codes "x" ∷ []) ≡ Some (Answer (codes "x"))
 answer-x = refl
 
-with-option : command_of (codes "pefidx" ∷ codes "answer" ∷ codes "x" ∷ codes "--plan" ∷ codes "fast" ∷ []) ≡ None
-with-option = refl
+query-x : command_of (codes "pefidx" ∷ codes "query" ∷ codes "x" ∷ []) ≡ Some (Query (codes "x"))
+query-x = refl
 
-minus-text : command_of (codes "pefidx" ∷ codes "answer" ∷ codes "-x" ∷ []) ≡ None
+two-texts : command_of (codes "pefidx" ∷ codes "query" ∷ codes "a" ∷ codes "b" ∷ []) ≡ None
+two-texts = refl
+
+minus-text : command_of (codes "pefidx" ∷ codes "query" ∷ codes "-" ∷ []) ≡ None
 minus-text = refl
 
 help-text : command_of (codes "pefidx" ∷ codes "answer" ∷ codes "help" ∷ []) ≡ None
@@ -26,43 +27,48 @@ help-text = refl
 empty-text : command_of (codes "pefidx" ∷ codes "answer" ∷ [] ∷ []) ≡ None
 empty-text = refl
 
-word-behind : command_of (codes "pefidx" ∷ codes "answer" ∷ codes "x" ∷ codes "y" ∷ []) ≡ None
-word-behind = refl
+no-plan-yet : command_of (codes "pefidx" ∷ codes "answer" ∷ codes "x" ∷ codes "--plan" ∷ codes "wand" ∷ []) ≡ None
+no-plan-yet = refl
 
-other-command : command_of (codes "pefidx" ∷ codes "build" ∷ codes "x" ∷ codes "x.docs" ∷ []) ≡ None
-other-command = refl
+no-index : command_of (codes "pefidx" ∷ codes "build" ∷ codes "x" ∷ []) ≡ None
+no-index = refl
 
-freqs-line : file_line Freqs ≡ codes "read fault: freqs\n"
-freqs-line = refl
+default-format : command_of (codes "pefidx" ∷ codes "build" ∷ codes "x" ∷ codes "y" ∷ []) ≡ Some (Build (codes "x") (codes "y") Two)
+default-format = refl
 
--- three documents of sizes 4, 0 and 7, and one list
-abbrev small : Collection
-small = record { documents = 3; lists = (record { doc = 0; freq = 1 } ∷ record { doc = 2; freq = 5 } ∷ []) ∷ []; sizes = 4 ∷ 0 ∷ 7 ∷ [] }
+first-format : command_of (codes "pefidx" ∷ codes "build" ∷ codes "x" ∷ codes "y" ∷ codes "--format" ∷ codes "1" ∷ []) ≡ Some (Build (codes "x") (codes "y") One)
+first-format = refl
 
-next-1 : IsReply small (codes "next 0 1") (next_text (Some (2, 5)))
-next-1 = refl
+third-format : command_of (codes "pefidx" ∷ codes "build" ∷ codes "x" ∷ codes "y" ∷ codes "--format" ∷ codes "3" ∷ []) ≡ None
+third-format = refl
 
-next-3 : IsReply small (codes "next 0 3") (codes "end\n")
-next-3 = refl
+no-format : command_of (codes "pefidx" ∷ codes "build" ∷ codes "x" ∷ codes "y" ∷ codes "--format" ∷ []) ≡ None
+no-format = refl
 
-or-0 : IsReply small (codes "or 0 0") (list_text (0 ∷ 2 ∷ []))
-or-0 = refl
+two-formats :
+    command_of (codes "pefidx" ∷ codes "build" ∷ codes "x" ∷ codes "y" ∷ codes "--format" ∷ codes "1" ∷ codes "--format" ∷ codes "1" ∷ []) ≡ None
+two-formats = refl
 
-no-term : IsReply small (codes "and") (list_text [])
-no-term = refl
+format-first : command_of (codes "pefidx" ∷ codes "build" ∷ codes "--format" ∷ codes "1" ∷ codes "x" ∷ codes "y" ∷ []) ≡ None
+format-first = refl
 
-near-0 : IsReply small (codes "near 0") (codes "bad verb\n")
-near-0 = refl
+own-file : command_of (codes "pefidx" ∷ codes "build" ∷ codes "x" ∷ codes "x.docs" ∷ []) ≡ None
+own-file = refl
 
--- the replies to three lines, the last without a newline
-three-replies : AreReplies small (text_lines (codes "next 0 1\nnext 0 3\nand 0")) (next_text (Some (2, 5)) ++ codes "end\n" ++ list_text (0 ∷ 2 ∷ []))
-three-replies = (
-  next_text (Some (2, 5)),
-  codes "end\n" ++ list_text (0 ∷ 2 ∷ []),
-  refl,
-  (codes "end\n", list_text (0 ∷ 2 ∷ []), refl, (list_text (0 ∷ 2 ∷ []), [], refl, refl, sym (append-nil (list_text (0 ∷ 2 ∷ [])))), refl),
-  append_assoc (next_text (Some (2, 5))) (codes "end\n") (list_text (0 ∷ 2 ∷ [])),
-)
+own-sizes : command_of (codes "pefidx" ∷ codes "build" ∷ codes "x" ∷ codes "x.sizes" ∷ codes "--format" ∷ codes "1" ∷ []) ≡ None
+own-sizes = refl
 
-no-text : AreReplies small (text_lines []) []
-no-text = refl
+other-file : command_of (codes "pefidx" ∷ codes "build" ∷ codes "x" ∷ codes "y.docs" ∷ []) ≡ Some (Build (codes "x") (codes "y.docs") Two)
+other-file = refl
+
+file-status : status_of (FileFault Docs) ≡ status.Read
+file-status = refl
+
+file-line : line_of (FileFault Docs) ≡ codes "read fault: docs\n"
+file-line = refl
+
+write-line : line_of IndexWriteFault ≡ codes "write fault: index\n"
+write-line = refl
+
+large-line : line_of IndexTooLarge ≡ codes "too large: index\n"
+large-line = refl

@@ -1,80 +1,125 @@
-use Rattle.std.proofs.Common.{◌≡◌, ◌≢◌, sym, ◌∙◌, subst, ℕ, ◌-◌, List, [], ◌∷◌, ◌++◌, length, take, lit<}
-use Rattle.std.specs.Prelude.{Result, Ok, Err, OnOk, MatchResult}
-use Rattle.std.specs.List.{All}
-use Rattle.std.proofs.lemmas.Result.{on_ok_weaker}
-use Rattle.collection_model.specs.Collection.{Collection}
-use Rattle.pef_io.specs.declared.fail.IoFail.{IoFail}
-use Rattle.pef_io.specs.declared.fail.IoFail.TheVariants.{NoMemory}
-use Rattle.pef_io.specs.SinkState.{SinkState}
-use Rattle.query_text.specs.Lines.{newline, ended_lines}
-use Rattle.pef_top.specs.AnswersLines.{AnswersLines}
-use Rattle.pef_top.specs.Unended.{unended, most_held, IsHeld, AnswersBytes}
-use Rattle.pef_top.proofs.LinesOfText.{ended_lines-append, ended_lines-none, ended_lines-line, unended-more, unended-line}
-use Rattle.pef_top.proofs.Held.{held-more}
-use Rattle.pef_top.proofs.Answered.{answered-refused, answered-stopped, answered-then, answered-cut}
+-- `clap` takes each command, and its matches are the texts of the command.
+use Rattle.std.proofs.Common.{◌≡◌, refl, ap, ◌∙◌}
+use Rattle.std.specs.Prelude.{◌==◌, ◌&&◌, ℕ, Bool, true, false, List, [], ◌∷◌, codes, Some, fold}
+use Rattle.std.specs.List.{list_all}
+use Rattle.std.specs.Option.{option_map_or}
+use Rattle.clap.specs.Walk.{Held, Text, Walk, nothing_held, walk, walked, finished, to_positional, arg_by_index, rows_after}
+use Rattle.clap.specs.Simple.{App, Shape, built_leaf, is_simple, subcommand_of}
+use Rattle.clap.specs.Takes.{takes, level_passes, settle_passes, default_passes, is_valid, positional_passes, walk_passes, turn_passes}
+use Rattle.clap.proofs.OnLiterals.{clap_on_literals}
+use Rattle.part_cost.specs.declared.formats.Format.TheVariants.{One, Two}
+use Rattle.pef_top.specs.Command.{Build, Query, Answer}
+use Rattle.pef_top.specs.Private.CommandLine.{program_app, build_app, query_app, answer_app, asked_in, asked_of}
+use Rattle.pef_top.proofs.PlainWalk.{at, walks, passes}
 
--- what is held once more bytes of the line came
-held-now : (line more held now : List ℕ) → IsHeld line held → now ≡ held ++ take (most_held - length held) more → IsHeld (line ++ more) now
-held-now line more held now is e =
-    let P : List ℕ → Type 0 = λ h. now ≡ h ++ take (most_held - length h) more in
-    let so : now ≡ take most_held line ++ take (most_held - length (take most_held line)) more = subst P is e in
-    so ∙ held-more most_held line more
+pub simple : is_simple program_app ≡ true
+unfolding clap_on_literals
+simple = refl
 
--- bytes without a newline were held
-pub taken-more : (c : Collection) (read more held now : List ℕ) (start out : SinkState) →
-    AnswersBytes c read held start out (Ok tt) → All (λ b. b ≢ newline) more → now ≡ held ++ take (most_held - length held) more →
-    AnswersBytes c (read ++ more) now start out (Ok tt)
-taken-more c read more held now start out h none e =
-    let P : List (List ℕ) → Type 0 = λ lines. AnswersLines c lines start out (Ok tt) in
-    let Q : List ℕ → Type 0 = λ line. IsHeld line now in
-    record {
-      lines = subst P (sym (ended_lines-none read more none)) h.lines;
-      last = subst Q (sym (unended-more read more none)) (held-now (unended read) more held now h.last e);
-    }
+-- a subcommand as it is built
+abbrev leaf : App → Shape
+leaf sub = built_leaf sub.top
 
--- the last bytes of a line were held, and then what was held was answered
-pub taken-line : (c : Collection) (read more held whole now : List ℕ) (start mid out : SinkState) (r : Result (Unit {0}) IoFail) →
-    AnswersBytes c read held start mid (Ok tt) → All (λ b. b ≢ newline) more → whole ≡ held ++ take (most_held - length held) more →
-    AnswersLines c (whole ∷ []) mid out r → OnOk r (now ≡ []) →
-    AnswersBytes c (read ++ (more ++ newline ∷ [])) now start out r
-taken-line c read more held whole now start mid out r h none e answered cleared =
-    let P : List (List ℕ) → Type 0 = λ lines. AnswersLines c lines start out r in
-    let Q : List ℕ → Type 0 = λ line. IsHeld line now in
-    let R : List ℕ → Type 0 = λ line. AnswersLines c (line ∷ []) mid out r in
-    let line : List ℕ = unended read ++ more in
-    let this : AnswersLines c (line ∷ []) mid out r = answered-cut c most_held line mid out r (lit< tt) (subst R (held-now (unended read) more held whole h.last e) answered) in
-    record {
-      lines = subst P (sym (ended_lines-line read more none)) (answered-then c (ended_lines read) (line ∷ []) start mid out r h.lines this);
-      last = on_ok_weaker r (λ e. subst Q (sym (unended-line read more none)) e) cleared;
-    }
+-- whether a level passes, from where its walk ends
+abbrev ended : Shape → Walk → Bool → Bool
+ended s end through = through
+    && (settle_passes s.rules s.args_override_self end.held
+    && (list_all default_passes s.rules && is_valid s (finished s.rules end.held) false))
 
--- memory was refused before more bytes were worked on
-pub taken-refused : (c : Collection) (read more held now : List ℕ) (start out : SinkState) →
-    AnswersBytes c read held start out (Ok tt) → AnswersBytes c (read ++ more) now start out (Err NoMemory)
-taken-refused c read more held now start out h =
-    let P : List (List ℕ) → Type 0 = λ lines. AnswersLines c lines start out (Err NoMemory) in
-    let rest : List (List ℕ) = ended_lines (unended read ++ more) in
-    record {
-      lines = subst P (sym (ended_lines-append read more)) (answered-then c (ended_lines read) rest start out out (Err NoMemory) h.lines (answered-refused c rest out));
-      last = tt;
-    }
+-- where the walk stands after a word that a positional takes
+abbrev after_word : Shape → ℕ → Held → Text → Walk
+after_word s position held word = to_positional s.rules (arg_by_index s.rules position) word (at position held) held
 
--- out refused before more bytes were worked on
-pub taken-stopped : (c : Collection) (read more held now : List ℕ) (start out : SinkState) (e : IoFail) →
-    AnswersBytes c read held start out (Err e) → AnswersBytes c (read ++ more) now start out (Err e)
-taken-stopped c read more held now start out e h =
-    let P : List (List ℕ) → Type 0 = λ lines. AnswersLines c lines start out (Err e) in
-    record {
-      lines = subst P (sym (ended_lines-append read more)) (answered-stopped c (ended_lines read) (ended_lines (unended read ++ more)) start out e h.lines);
-      last = tt;
-    }
+-- whether a positional takes a word
+abbrev takes_word : Shape → ℕ → Held → Bool
+takes_word s position held = option_map_or (λ a. positional_passes s.rules s.args_override_self a held) (arg_by_index s.rules position) false
 
--- the bytes behind the last newline of a piece were held, or memory for them was refused
-pub taken-rest : (c : Collection) (read more held now : List ℕ) (start out : SinkState) (r : Result (Unit {0}) IoFail) →
-    AnswersBytes c read held start out (Ok tt) → All (λ b. b ≢ newline) more →
-    MatchResult r (λ _. now ≡ held ++ take (most_held - length held) more) (λ fail. fail ≡ NoMemory) →
-    AnswersBytes c (read ++ more) now start out r
-taken-rest c read more held now start out (Ok u) h none e = taken-more c read more held now start out h none e
-taken-rest c read more held now start out (Err fail) h none e =
-    let P : IoFail → Type 0 = λ fail. AnswersBytes c (read ++ more) now start out (Err fail) in
-    subst P (sym e) (taken-refused c read more held now start out h)
+-- ---- one text
+
+module _ (s : Shape) (x : ℕ) (xs : Text) (h : (x == 45) ≡ false) where
+  one_level : level_passes s [] nothing_held ((x ∷ xs) ∷ []) false ≡ ended s (after_word s 1 nothing_held (x ∷ xs)) (takes_word s 1 nothing_held && true)
+  unfolding walk_passes
+  one_level =
+      ap (λ w. ended s w (turn_passes s [] (at 1 nothing_held) (x ∷ xs) && true)) (walks s.rules 1 nothing_held x xs h)
+      ∙ ap (λ b. ended s (after_word s 1 nothing_held (x ∷ xs)) (b && true)) (passes s 1 nothing_held x xs h)
+
+  one_text : rows_after s.rules [] ((x ∷ xs) ∷ []) ≡ finished s.rules (after_word s 1 nothing_held (x ∷ xs)).held
+  one_text = ap (λ (w : Walk). finished s.rules w.held) (walks s.rules 1 nothing_held x xs h)
+
+module _ (name : Text) (x : ℕ) (xs : Text) (h : (x == 45) ≡ false) where
+  pub query_taken : takes program_app (name ∷ codes "query" ∷ (x ∷ xs) ∷ []) ≡ true
+  unfolding clap_on_literals
+  query_taken = ap (λ b. b && true) (one_level (leaf query_app) x xs h)
+
+  pub query_asked : asked_in (subcommand_of program_app (name ∷ codes "query" ∷ (x ∷ xs) ∷ [])) ≡ Some (Query (x ∷ xs))
+  unfolding clap_on_literals
+  query_asked = ap (asked_of (codes "query")) (one_text (leaf query_app) x xs h)
+
+  pub answer_taken : takes program_app (name ∷ codes "answer" ∷ (x ∷ xs) ∷ []) ≡ true
+  unfolding clap_on_literals
+  answer_taken = ap (λ b. b && true) (one_level (leaf answer_app) x xs h)
+
+  pub answer_asked : asked_in (subcommand_of program_app (name ∷ codes "answer" ∷ (x ∷ xs) ∷ [])) ≡ Some (Answer (x ∷ xs))
+  unfolding clap_on_literals
+  answer_asked = ap (asked_of (codes "answer")) (one_text (leaf answer_app) x xs h)
+
+-- ---- two texts, and what follows them
+
+abbrev build : Shape
+build = leaf build_app
+
+-- what is held after the base, and after the index
+abbrev after_base : Text → Held
+after_base base = (after_word build 1 nothing_held base).held
+
+abbrev after_index : Text → Text → Held
+after_index base index = (after_word build 2 (after_base base) index).held
+
+module _ (x y : ℕ) (xs ys : Text) (hx : (x == 45) ≡ false) (hy : (y == 45) ≡ false) (rest : List Text) where
+  two_walked : walk build.rules [] nothing_held ((x ∷ xs) ∷ (y ∷ ys) ∷ rest) ≡ fold (walked build.rules []) (at 3 (after_index (x ∷ xs) (y ∷ ys))) rest
+  two_walked =
+      ap (λ w. fold (walked build.rules []) w ((y ∷ ys) ∷ rest)) (walks build.rules 1 nothing_held x xs hx)
+      ∙ ap (λ w. fold (walked build.rules []) w rest) (walks build.rules 2 (after_base (x ∷ xs)) y ys hy)
+
+  two_passed : walk_passes build [] (at 1 nothing_held) ((x ∷ xs) ∷ (y ∷ ys) ∷ rest) ≡ walk_passes build [] (at 3 (after_index (x ∷ xs) (y ∷ ys))) rest
+  unfolding walk_passes
+  two_passed =
+      ap (λ b. b && walk_passes build [] (walked build.rules [] (at 1 nothing_held) (x ∷ xs)) ((y ∷ ys) ∷ rest)) (passes build 1 nothing_held x xs hx)
+      ∙ ap (λ w. walk_passes build [] w ((y ∷ ys) ∷ rest)) (walks build.rules 1 nothing_held x xs hx)
+      ∙ ap (λ b. b && walk_passes build [] (walked build.rules [] (at 2 (after_base (x ∷ xs))) (y ∷ ys)) rest) (passes build 2 (after_base (x ∷ xs)) y ys hy)
+      ∙ ap (λ w. walk_passes build [] w rest) (walks build.rules 2 (after_base (x ∷ xs)) y ys hy)
+
+  two_level : level_passes build [] nothing_held ((x ∷ xs) ∷ (y ∷ ys) ∷ rest) false
+      ≡ ended build (fold (walked build.rules []) (at 3 (after_index (x ∷ xs) (y ∷ ys))) rest) (walk_passes build [] (at 3 (after_index (x ∷ xs) (y ∷ ys))) rest)
+  two_level =
+      ap (λ w. ended build w (walk_passes build [] (at 1 nothing_held) ((x ∷ xs) ∷ (y ∷ ys) ∷ rest))) two_walked
+      ∙ ap (λ b. ended build (fold (walked build.rules []) (at 3 (after_index (x ∷ xs) (y ∷ ys))) rest) b) two_passed
+
+  two_texts : rows_after build.rules [] ((x ∷ xs) ∷ (y ∷ ys) ∷ rest)
+      ≡ finished build.rules (fold (walked build.rules []) (at 3 (after_index (x ∷ xs) (y ∷ ys))) rest).held
+  two_texts = ap (λ (w : Walk). finished build.rules w.held) two_walked
+
+module _ (name : Text) (x y : ℕ) (xs ys : Text) (hx : (x == 45) ≡ false) (hy : (y == 45) ≡ false) where
+  pub build_taken : takes program_app (name ∷ codes "build" ∷ (x ∷ xs) ∷ (y ∷ ys) ∷ []) ≡ true
+  unfolding clap_on_literals
+  build_taken = ap (λ b. b && true) (two_level x y xs ys hx hy [])
+
+  pub build_asked : asked_in (subcommand_of program_app (name ∷ codes "build" ∷ (x ∷ xs) ∷ (y ∷ ys) ∷ [])) ≡ Some (Build (x ∷ xs) (y ∷ ys) Two)
+  unfolding clap_on_literals
+  build_asked = ap (asked_of (codes "build")) (two_texts x y xs ys hx hy [])
+
+  pub build_in_one_taken : takes program_app (name ∷ codes "build" ∷ (x ∷ xs) ∷ (y ∷ ys) ∷ codes "--format" ∷ codes "1" ∷ []) ≡ true
+  unfolding clap_on_literals
+  build_in_one_taken = ap (λ b. b && true) (two_level x y xs ys hx hy (codes "--format" ∷ codes "1" ∷ []))
+
+  pub build_in_one_asked : asked_in (subcommand_of program_app (name ∷ codes "build" ∷ (x ∷ xs) ∷ (y ∷ ys) ∷ codes "--format" ∷ codes "1" ∷ [])) ≡ Some (Build (x ∷ xs) (y ∷ ys) One)
+  unfolding clap_on_literals
+  build_in_one_asked = ap (asked_of (codes "build")) (two_texts x y xs ys hx hy (codes "--format" ∷ codes "1" ∷ []))
+
+  pub build_in_two_taken : takes program_app (name ∷ codes "build" ∷ (x ∷ xs) ∷ (y ∷ ys) ∷ codes "--format" ∷ codes "2" ∷ []) ≡ true
+  unfolding clap_on_literals
+  build_in_two_taken = ap (λ b. b && true) (two_level x y xs ys hx hy (codes "--format" ∷ codes "2" ∷ []))
+
+  pub build_in_two_asked : asked_in (subcommand_of program_app (name ∷ codes "build" ∷ (x ∷ xs) ∷ (y ∷ ys) ∷ codes "--format" ∷ codes "2" ∷ [])) ≡ Some (Build (x ∷ xs) (y ∷ ys) Two)
+  unfolding clap_on_literals
+  build_in_two_asked = ap (asked_of (codes "build")) (two_texts x y xs ys hx hy (codes "--format" ∷ codes "2" ∷ []))

@@ -6,16 +6,17 @@ use Rattle.pef_io.specs.SinkState.{SinkState}
 use Rattle.pef_io.specs.DepotState.{DepotState}
 use Rattle.pef_io.specs.Helpers.{AppendsFront}
 
--- all that a run has outside
+-- all that a run has outside, and how many part costs were counted
 pub record Outside : Type 0 where
   pub depot : DepotState
   pub input : SourceState
   pub out : SinkState
   pub err : SinkState
+  pub costs : ℕ
 
 -- one put together
-abbrev pub outside : DepotState → SourceState → SinkState → SinkState → Outside
-outside depot input out err = record { depot = depot; input = input; out = out; err = err }
+abbrev pub outside : DepotState → SourceState → SinkState → SinkState → ℕ → Outside
+outside depot input out err costs = record { depot = depot; input = input; out = out; err = err; costs = costs }
 
 -- The depot, the input and out tell their bytes.
 pub record Told (old : Outside) : Type 0 where
@@ -23,7 +24,7 @@ pub record Told (old : Outside) : Type 0 where
   pub input : IsTrue old.input.tells
   pub out : IsTrue old.out.tells
 
--- What told its bytes goes on to tell them.
+-- What told its bytes goes on to tell them, and what did not does not begin to.
 pub record KeepsTelling (old new : Outside) : Type 0 where
   pub depot : new.depot.tells ≡ old.depot.tells
   pub input : new.input.tells ≡ old.input.tells

@@ -1,29 +1,61 @@
-ghost use Rattle.std.specs.Prelude.{◌⊎◌};
-ghost use Rattle.pef_top.specs.Ending.{Replies, StopsBefore};
+ghost use Rattle.std.specs.Prelude.{◌≡◌, ◌<◌, ◌^◌, IsTrue, Some, length};
+ghost use Rattle.collection_model.specs.Collection.{Collection};
+ghost use Rattle.part_cost.specs.Formats.{numbers_of};
+ghost use Rattle.pef_io.specs.SinkState.{SinkState};
+ghost use Rattle.index_file.specs.FileWords.{IsIndex, Spells};
+ghost use Rattle.pef_top.specs.Answer.{IsAnswerable};
+ghost use Rattle.pef_top.specs.Command as words;
+ghost use Rattle.pef_top.specs.Outside.{outside};
+ghost use Rattle.pef_top.specs.Outcome.{is_refusal};
+ghost use Rattle.pef_top.specs.Private.Leaves.{Leaves};
+ghost use Rattle.pef_top.specs.Private.Stops.{outcome_of};
 
-use crate::plain::PlainLists;
-use crate::plan::Plan;
 use crate::stop::Stop;
-use crate::text::answer_from;
-use collection_reader::read_collection;
+use command_steps::{Plan, answer_text, build_words};
+use index_file::{Index, one_index};
 use part_cost::Format;
 use pef_io::{Depot, Sink, Source};
 use std::alloc::Global;
+use std::sync::ledger::Ledger;
+use step_count::Steps;
 
-/// Reads the collection under the base, and answers the input from it, of which at most `limit` bytes are taken.
-pub(crate) fn answer<D: Depot, I: Source, O: Sink>(
+/// Builds the words of the collection under the base, and answers the input from them.
+pub(crate) fn answer<D: Depot, I: Source, O: Sink, L: Ledger>(
     alloc: Global,
     base: &str,
     depot: &mut D,
     input: &mut I,
-    limit: u64,
     out: &mut O,
+    steps: &mut Steps<L>,
 ) -> Result<(), Stop>
-    ensures { StopsBefore base.now (D.state depot.old) (D.state depot.new) input.old input.new out.old out.new result
-        ⊎ Replies base.now limit (D.state depot.old) (D.state depot.new) (I.state input.old) (I.state input.new) (O.state out.old) (O.state out.new) result }
+    ensures leaves { (e e' : SinkState) → Leaves (Some (words.Answer base.now))
+        (outside (D.state depot.old) (I.state input.old) (O.state out.old) e steps.old)
+        (outside (D.state depot.new) (I.state input.new) (O.state out.new) e' steps.new) (outcome_of result) }
+    ensures refused { IsTrue (is_refusal (outcome_of result)) → (input.new ≡ input.old) × (out.new ≡ out.old) }
+    ensures unaccepted { ¬ ((c : Collection) × IsAnswerable base.now (D.state depot.old) c) → (input.new ≡ input.old) × (out.new ≡ out.old) }
 {
-    let collection = read_collection(alloc, base, depot, Format::One)?;
-    let lists = PlainLists::new(&collection);
-    answer_from(alloc, &lists, Plan::Exhaustive, input, limit, out)?;
+    one_index();
+    let words = build_words(alloc, base, depot, Format::Two, steps)?;
+    let index = view_index(&words);
+    answer_text(
+        alloc,
+        &index,
+        Plan::Exhaustive,
+        input,
+        crate::top::LONGEST_TEXT,
+        out,
+    )?;
     Ok(())
+}
+
+/// The index that words are.
+fn view_index<'a>(words: &'a [u64]) -> Index<'a>
+    requires words { length words.now < 2 ^ 57 }
+    requires index { IsIndex words.now }
+    ensures { Spells (numbers_of result.format) words.entry.now result.collection result.parts }
+{
+    match Index::view(words) {
+        Ok(index) => index,
+        Err(_) => unreachable!(),
+    }
 }

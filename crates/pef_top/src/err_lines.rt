@@ -1,28 +1,34 @@
 ghost use Rattle.std.specs.Prelude.{◌≡◌};
 ghost use Rattle.pef_io.specs.Helpers.{WritesAll};
-ghost use Rattle.pef_top.specs.ErrLines.{fault_line, file_line, rule_text, slot_text};
-ghost use Rattle.pef_top.specs.ErrPieces.{joined};
-ghost use Rattle.pef_top.specs.Stops.{line_of};
+ghost use Rattle.pef_top.specs.ErrLines.{check_text, fault_line, file_line, index_line, rule_text, slot_text};
+ghost use Rattle.pef_top.specs.Outcome.{line_of};
+ghost use Rattle.pef_top.specs.Private.ErrPieces.{joined};
+ghost use Rattle.pef_top.specs.Private.Stops.{outcome_of_stop};
 
 use crate::stop::Stop;
 use collection_reader::{Fault, Rule};
+use index_file::OpenFault;
 use itoa::Buffer;
 use pef_io::{IoFail, Sink, Slot, write_all_own};
+use two_level::Check;
 
 /// Writes the line of a run that stopped, without memory.
 pub(crate) fn write_line<E: Sink>(err: &mut E, stop: Stop) -> Result<(), IoFail>
-    ensures { WritesAll (E.state err.old) (E.state err.new) (line_of stop) result }
+    ensures { WritesAll (E.state err.old) (E.state err.new) (line_of (outcome_of_stop stop)) result }
 {
     match stop {
         Stop::Usage => write_all_own(
             err,
-            b"usage: pefidx build BASE INDEX | query INDEX [--plan PLAN] | answer BASE [--plan PLAN] | inspect INDEX | generate SEED N T\n",
+            b"usage: pefidx build BASE INDEX [--format FORMAT] | query INDEX [--plan PLAN] | answer BASE [--plan PLAN] | inspect INDEX | generate SEED N T\n",
         ),
-        Stop::Broken(fault) => write_fault(err, fault),
+        Stop::Collection(fault) => write_fault(err, fault),
+        Stop::Index(fault) => write_index_fault(err, fault),
         Stop::File(slot) => write_pieces(err, &[b"read fault: ", slot_name(slot), b"\n"]),
         Stop::Input => write_all_own(err, b"read fault: input\n"),
+        Stop::IndexWrite => write_all_own(err, b"write fault: index\n"),
         Stop::Out => write_all_own(err, b"write fault: out\n"),
         Stop::NoMemory => write_all_own(err, b"no memory\n"),
+        Stop::LargeIndex => write_all_own(err, b"too large: index\n"),
         Stop::LongInput => write_all_own(err, b"too large: input\n"),
     }
 }
@@ -44,6 +50,26 @@ fn write_fault<E: Sink>(err: &mut E, fault: Fault) -> Result<(), IoFail>
             term.format(fault.term).as_bytes(),
             b" place ",
             place.format(fault.place).as_bytes(),
+            b"\n",
+        ],
+    )
+}
+
+/// Writes the line of a file that is no index.
+fn write_index_fault<E: Sink>(err: &mut E, fault: OpenFault) -> Result<(), IoFail>
+    ensures { WritesAll (E.state err.old) (E.state err.new) (index_line fault) result }
+{
+    let mut term = Buffer::new();
+    let mut part = Buffer::new();
+    write_pieces(
+        err,
+        &[
+            b"index ",
+            check_name(fault.check),
+            b" term ",
+            term.format(fault.term).as_bytes(),
+            b" part ",
+            part.format(fault.part).as_bytes(),
             b"\n",
         ],
     )
@@ -86,5 +112,23 @@ fn slot_name(slot: Slot) -> &'static [u8]
         Slot::Freqs => b"freqs",
         Slot::Sizes => b"sizes",
         Slot::Index => b"index",
+    }
+}
+
+fn check_name(check: Check) -> &'static [u8]
+    ensures { result.now ≡ check_text check }
+{
+    match check {
+        Check::K1 => b"K1",
+        Check::K2 => b"K2",
+        Check::K3 => b"K3",
+        Check::K4 => b"K4",
+        Check::K5 => b"K5",
+        Check::K6 => b"K6",
+        Check::K7 => b"K7",
+        Check::K8 => b"K8",
+        Check::K9 => b"K9",
+        Check::K10 => b"K10",
+        Check::K11 => b"K11",
     }
 }

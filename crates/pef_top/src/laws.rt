@@ -1,15 +1,11 @@
-ghost use Rattle.collection_model.specs.FormatNumbers.{format_one};
-ghost use Rattle.collection_model.specs.Laws.{OneCollection};
-ghost use Rattle.collection_reader.specs.Laws.{OneFirstFault};
+ghost use Rattle.pef_top.specs.Laws.{BuiltFilesAnswer};
 
-use collection_model::files_spell_one_collection;
-use collection_reader::files_have_one_first_fault;
+use index_file::{one_index, words_and_bytes_undo_each_other};
 
-/// Files are one collection's only, and have one first fault only.
-pub(crate) fn collection_or_fault()
-    ensures one_collection { OneCollection format_one }
-    ensures one_fault { OneFirstFault format_one }
+/// Where `build` is done and then `query` of what it left, the replies are those of the collection that `build` found.
+pub fn built_files_answer()
+    ensures { BuiltFilesAnswer }
 {
-    files_spell_one_collection();
-    files_have_one_first_fault();
+    one_index();
+    words_and_bytes_undo_each_other();
 }

@@ -3,26 +3,16 @@
 
 mod answer;
 mod build;
+mod command_line;
 mod err_lines;
-mod indexed;
 mod laws;
-mod lines;
-mod lists;
-mod plain;
-mod plan;
-mod reply;
+mod query;
 mod status;
 mod stop;
-mod term_cursors;
-mod text;
 mod top;
 mod words;
 
-pub use build::{BuildError, build_words};
-pub use plan::Plan;
+pub use command_steps::{BuildError, Plan, RunFault, answer_text, build_words};
+pub use laws::built_files_answer;
 pub use status::Status;
-pub use text::{RunFault, answer_text};
 pub use top::run;
-
-#[cfg(test)]
-mod tests;

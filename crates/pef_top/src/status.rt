@@ -14,11 +14,11 @@ pub enum Status {
     Index,
     /// A start or a read of a file, or a read of the input, failed.
     Read,
-    /// A write of a file or on out failed.
+    /// A create, a write or a finish of a file, or a write on out, failed.
     Write,
     /// Memory was refused.
     NoMemory,
-    /// The query text is longer than the limit.
+    /// The query text, or an index, is longer than its limit.
     TooLarge,
 }
 

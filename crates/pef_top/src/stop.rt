@@ -1,9 +1,12 @@
 ghost use Rattle.std.specs.Prelude.{◌≡◌};
-ghost use Rattle.pef_top.specs.Stops.{status_of};
+ghost use Rattle.pef_top.specs.Outcome.{status_of};
+ghost use Rattle.pef_top.specs.Private.Stops.{outcome_of_stop};
 
 use crate::status::Status;
-use crate::text::RunFault;
-use collection_reader::{CollError, Fault};
+use clap::error::ErrorKind;
+use collection_reader::Fault;
+use command_steps::{BuildError, LoadIndexError, RunFault, WriteIndexError};
+use index_file::OpenFault;
 use pef_io::Slot;
 
 /// Why a run ended before all was done.
@@ -11,15 +14,22 @@ use pef_io::Slot;
 pub(crate) enum Stop {
     /// The words are no command.
     Usage,
-    /// The files break a rule.
-    Broken(Fault),
+    /// The files of the collection break a rule.
+    Collection(Fault),
+    /// The file is no index.
+    Index(OpenFault),
     /// A start or a read of this file failed.
     File(Slot),
     /// A read of the input failed.
     Input,
+    /// A create, a write or a finish of the index failed.
+    IndexWrite,
     /// A write on out failed.
     Out,
+    /// Memory was refused.
     NoMemory,
+    /// The index would have, or has, more than 2^37 words.
+    LargeIndex,
     /// The query text is longer than the limit.
     LongInput,
 }
@@ -27,35 +37,88 @@ pub(crate) enum Stop {
 impl Stop {
     /// The status of a run that stopped so.
     pub(crate) fn status(self) -> Status
-        ensures { result ≡ status_of self }
+        ensures { result ≡ status_of (outcome_of_stop self) }
     {
         match self {
             Stop::Usage => Status::Usage,
-            Stop::Broken(_) => Status::Collection,
+            Stop::Collection(_) => Status::Collection,
+            Stop::Index(_) => Status::Index,
             Stop::File(_) | Stop::Input => Status::Read,
-            Stop::Out => Status::Write,
+            Stop::IndexWrite | Stop::Out => Status::Write,
             Stop::NoMemory => Status::NoMemory,
-            Stop::LongInput => Status::TooLarge,
+            Stop::LargeIndex | Stop::LongInput => Status::TooLarge,
         }
     }
 }
 
-impl From<CollError> for Stop {
-    ghost use Rattle.pef_top.specs.Stops.{stop_of_reading};
+impl From<clap::Error> for Stop {
+    ghost use Rattle.pef_top.specs.Private.Stops.{stop_of_matching};
 
-    ghost from_gives = { λ e stop. stop ≡ stop_of_reading e };
+    ghost from_gives = { λ e stop. stop ≡ stop_of_matching e };
 
-    fn from(e: CollError) -> Stop {
+    fn from(e: clap::Error) -> Stop {
+        match e.kind() {
+            ErrorKind::OutOfMemory => Stop::NoMemory,
+            _ => Stop::Usage,
+        }
+    }
+}
+
+impl From<BuildError> for Stop {
+    ghost use Rattle.pef_top.specs.Private.Stops.{stop_of_building};
+
+    ghost from_gives = { λ e stop. stop ≡ stop_of_building e };
+
+    fn from(e: BuildError) -> Stop {
         match e {
-            CollError::Broken(fault) => Stop::Broken(fault),
-            CollError::Read(slot) => Stop::File(slot),
-            CollError::NoMemory => Stop::NoMemory,
+            BuildError::Broken(fault) => Stop::Collection(fault),
+            BuildError::Read(slot) => Stop::File(slot),
+            BuildError::TooLarge(_) => Stop::LargeIndex,
+            BuildError::NoMemory => Stop::NoMemory,
+        }
+    }
+}
+
+impl From<LoadIndexError> for Stop {
+    ghost use Rattle.pef_top.specs.Private.Stops.{stop_of_loading};
+
+    ghost from_gives = { λ e stop. stop ≡ stop_of_loading e };
+
+    fn from(e: LoadIndexError) -> Stop {
+        match e {
+            LoadIndexError::Broken(fault) => Stop::Index(fault),
+            LoadIndexError::Read => Stop::File(Slot::Index),
+            LoadIndexError::TooLarge => Stop::LargeIndex,
+            LoadIndexError::NoMemory => Stop::NoMemory,
+        }
+    }
+}
+
+impl From<OpenFault> for Stop {
+    ghost use Rattle.pef_top.specs.declared.stop.Stop.TheVariants as stop;
+
+    ghost from_gives = { λ e answer. answer ≡ stop.Index e };
+
+    fn from(e: OpenFault) -> Stop {
+        Stop::Index(e)
+    }
+}
+
+impl From<WriteIndexError> for Stop {
+    ghost use Rattle.pef_top.specs.Private.Stops.{stop_of_writing};
+
+    ghost from_gives = { λ e stop. stop ≡ stop_of_writing e };
+
+    fn from(e: WriteIndexError) -> Stop {
+        match e {
+            WriteIndexError::Write => Stop::IndexWrite,
+            WriteIndexError::NoMemory => Stop::NoMemory,
         }
     }
 }
 
 impl From<RunFault> for Stop {
-    ghost use Rattle.pef_top.specs.Stops.{stop_of_answering};
+    ghost use Rattle.pef_top.specs.Private.Stops.{stop_of_answering};
 
     ghost from_gives = { λ e stop. stop ≡ stop_of_answering e };
 

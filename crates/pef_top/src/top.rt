@@ -1,30 +1,37 @@
-ghost use Rattle.std.specs.Prelude.{◌≡◌, ◌⊎◌, ◌<◌, ℕ, List, IsTrue, IsOk, None, Err};
-ghost use Rattle.pef_io.specs.declared.fail.Slot.{Slot};
-ghost use Rattle.collection_reader.specs.declared.fault.Fault.{Fault};
+ghost use Rattle.std.specs.Prelude.{◌≡◌, None, IsOk};
+ghost use Rattle.pef_io.specs.SinkState.{SinkState};
 ghost use Rattle.pef_top.specs.Command.{command_of, texts};
 ghost use Rattle.pef_top.specs.Outside.{outside};
-ghost use Rattle.pef_top.specs.AnswerRun.{Answers, OnAnswer, IsUsage, HoldsFault, longest_text};
-ghost use Rattle.pef_top.specs.Ending.{Replies, Reports, StopsBefore};
+ghost use Rattle.pef_top.specs.Outcome.{Outcome, Done};
+ghost use Rattle.pef_top.specs.Ends.{Ends};
+ghost use Rattle.pef_top.specs.Commands.{IsUsage, Performs};
+ghost use Rattle.pef_top.specs.Uncalled.{objects, Accepts, LeavesUncalled};
+ghost use Rattle.pef_top.specs.Private.Leaves.{Leaves, Reports};
+ghost use Rattle.pef_top.specs.Private.Stops.{outcome_of};
 
 use crate::answer::answer;
+use crate::build::build;
+use crate::command_line::parse_words;
 use crate::err_lines::write_line;
-use crate::laws::collection_or_fault;
+use crate::query::query;
 use crate::status::Status;
 use crate::stop::Stop;
-use crate::words::{Command, parse_words};
+use crate::words::Command;
 use pef_io::{Depot, Sink, Source};
 use std::alloc::Global;
 use std::sync::ledger::Ledger;
 use step_count::Steps;
 
 /// The most bytes of query text that are answered.
-const LONGEST_TEXT: u64 = 1 << 40;
+pub(crate) const LONGEST_TEXT: u64 = 1 << 40;
 
 /// Runs the command of the words, the program's name first.
 ///
-/// `answer BASE` reads the collection whose files are BASE.docs, BASE.freqs and BASE.sizes, and answers the lines of
-/// the input on out, each reply with its newline as one piece. Every status but `Done` has its line on err, which takes
-/// no memory; an err that fails changes no status.
+/// `build BASE INDEX [--format FORMAT]` reads the collection whose files are BASE.docs, BASE.freqs and BASE.sizes and writes
+/// its index as the file INDEX, in format 2 where none is given. `query INDEX` checks that file whole and answers the lines of
+/// the input on out, each reply with its newline as one piece. `answer BASE` answers them from an index of format 2 that it
+/// builds and does not write. Every status but `Done` has its line on err, which takes no memory; an err that fails changes no
+/// status.
 pub fn run<D: Depot, I: Source, O: Sink, E: Sink, L: Ledger>(
     alloc: Global,
     words: &[String],
@@ -39,56 +46,53 @@ pub fn run<D: Depot, I: Source, O: Sink, E: Sink, L: Ledger>(
     ensures usage { command_of (texts words.now) ≡ None → IsUsage (E.state err.old) (E.state err.new) result
         × (depot.new ≡ depot.old) × (input.new ≡ input.old) × (out.new ≡ out.old) }
 
-    ensures answer { OnAnswer (texts words.now) (λ base. Answers base
-        (outside (D.state depot.old) (I.state input.old) (O.state out.old) (E.state err.old))
-        (outside (D.state depot.new) (I.state input.new) (O.state out.new) (E.state err.new)) result) }
-
-    // A broken collection is refused before anything is called on the input or out.
-    ensures broken { OnAnswer (texts words.now) (λ base. IsTrue (D.state depot.old).tells
-        → (fault : Fault) → HoldsFault base (D.state depot.old) fault
-        → (input.new ≡ input.old) × (out.new ≡ out.old)) }
-
-    // So is one that is refused over a depot that tells nothing.
-    ensures refused { result ≡ Status.Collection → (input.new ≡ input.old) × (out.new ≡ out.old) }
-
-    // After a failed start or read of a file nothing is called on them either.
-    ensures file_fault { (slot : Slot) → (D.state depot.old).faults slot < (D.state depot.new).faults slot
-        → (input.new ≡ input.old) × (out.new ≡ out.old) }
-
-    // Nothing is called on err where all is done.
-    ensures done { result ≡ Status.Done → err.new ≡ err.old }
-
-    // No part cost is counted.
-    ensures steps { steps.new ≡ steps.old }
+    // There is an outcome: the status and err's line are its own, what the command promises holds of it, and what it does
+    // not call is the same object.
+    ensures outcome { let command = command_of (texts words.now) in
+        let old = outside (D.state depot.old) (I.state input.old) (O.state out.old) (E.state err.old) steps.old in
+        let new = outside (D.state depot.new) (I.state input.new) (O.state out.new) (E.state err.new) steps.new in
+        (outcome : Outcome)
+        × Ends old new outcome result
+        × Performs command old new outcome
+        × LeavesUncalled command (Accepts command (D.state depot.old)) outcome
+        (objects depot.old input.old out.old) (objects depot.new input.new out.new)
+        × (outcome ≡ Done → err.new ≡ err.old) }
 {
-    collection_or_fault();
-    let ending = perform(alloc, words, depot, input, out);
+    let ending = perform(alloc, words, depot, input, out, steps);
     report(err, ending)
 }
 
 /// Carries out the command of the words.
-fn perform<D: Depot, I: Source, O: Sink>(
+fn perform<D: Depot, I: Source, O: Sink, L: Ledger>(
     alloc: Global,
     words: &[String],
     depot: &mut D,
     input: &mut I,
     out: &mut O,
+    steps: &mut Steps<L>,
 ) -> Result<(), Stop>
-    ensures usage { command_of (texts words.now) ≡ None → (result ≡ Err Stop.Usage)
-        × (depot.new ≡ depot.old) × (input.new ≡ input.old) × (out.new ≡ out.old) }
-    ensures answer { OnAnswer (texts words.now) (λ base.
-        StopsBefore base (D.state depot.old) (D.state depot.new) input.old input.new out.old out.new result
-        ⊎ Replies base longest_text (D.state depot.old) (D.state depot.new) (I.state input.old) (I.state input.new) (O.state out.old) (O.state out.new) result) }
+    ensures leaves { (e e' : SinkState) → Leaves (command_of (texts words.now))
+        (outside (D.state depot.old) (I.state input.old) (O.state out.old) e steps.old)
+        (outside (D.state depot.new) (I.state input.new) (O.state out.new) e' steps.new) (outcome_of result) }
+    ensures uncalled { let command = command_of (texts words.now) in
+        LeavesUncalled command (Accepts command (D.state depot.old)) (outcome_of result)
+        (objects depot.old input.old out.old) (objects depot.new input.new out.new) }
 {
-    match parse_words(words) {
-        None => Err(Stop::Usage),
-        Some(Command::Answer { base }) => answer(alloc, base, depot, input, LONGEST_TEXT, out),
+    let command = parse_words(alloc, words)?;
+    match command {
+        Command::Build {
+            base,
+            index,
+            format,
+        } => build(alloc, base, index, depot, format, steps),
+        Command::Query { index } => query(alloc, index, depot, input, out),
+        Command::Answer { base } => answer(alloc, base, depot, input, out, steps),
     }
 }
 
 /// The status of an ending, whose line is written on err. An err that fails changes no status.
 fn report<E: Sink>(err: &mut E, ending: Result<(), Stop>) -> Status
-    ensures ending { Reports (E.state err.old) (E.state err.new) ending result }
+    ensures ending { Reports (E.state err.old) (E.state err.new) (outcome_of ending) result }
     ensures done { IsOk ending → err.new ≡ err.old }
 {
     match ending {

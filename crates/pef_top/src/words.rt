@@ -1,25 +1,103 @@
-ghost use Rattle.std.specs.Prelude.{◌≡◌, option_map};
-ghost use Rattle.pef_top.specs.Command.{command_of, is_text, texts};
-ghost use Rattle.pef_top.specs.Asked.{asked};
+ghost use Rattle.std.specs.Prelude.{◌≡◌, ◌&&◌, ℕ, List, [], ◌∷◌, ◌++◌, bytes_eq, codes, is_some};
+ghost use Rattle.pef_top.specs.Command.{command_of, format_of, is_file_of, is_text, texts};
+
+use part_cost::Format;
 
 /// What the words of the command line ask for.
 #[derive(Clone, Copy, Debug, PartialEq, Eq)]
 pub(crate) enum Command<'a> {
-    Answer { base: &'a str },
+    Build {
+        base: &'a str,
+        index: &'a str,
+        format: Format,
+    },
+    Query {
+        index: &'a str,
+    },
+    Answer {
+        base: &'a str,
+    },
 }
 
-/// The command of the words, the program's name first; none where they are refused as usage.
-pub(crate) fn parse_words(words: &[String]) -> Option<Command<'_>>
-    ensures { option_map asked result ≡ command_of (texts words.now) }
+/// Whether the words are a command, the program's name first. The others are refused as usage.
+pub(crate) fn is_command(words: &[String]) -> bool
+    ensures { result ≡ is_some (command_of (texts words.now)) }
 {
     match words {
-        [_name, verb, base] if verb.as_str() == "answer" && can_be_text(base.as_str()) => {
-            Some(Command::Answer {
-                base: base.as_str(),
-            })
-        }
-        _ => None,
+        [_name, verb, text] => is_query_or_answer(verb.as_str(), text.as_str()),
+        [_name, verb, base, index] => is_build(verb.as_str(), base.as_str(), index.as_str()),
+        [_name, verb, base, index, option, format] => is_build_in(
+            verb.as_str(),
+            base.as_str(),
+            index.as_str(),
+            option.as_str(),
+            format.as_str(),
+        ),
+        _ => false,
     }
+}
+
+/// Whether a verb and one text are a command: `query` or `answer`.
+fn is_query_or_answer(verb: &str, text: &str) -> bool
+    ensures { (name : List ℕ) → result ≡ is_some (command_of (name ∷ verb.now ∷ text.now ∷ [])) }
+{
+    (verb == "query" || verb == "answer") && can_be_text(text)
+}
+
+/// Whether a verb and two texts are a command: `build`, where the index is none of the base's files.
+fn is_build(verb: &str, base: &str, index: &str) -> bool
+    ensures { (name : List ℕ) → result ≡ is_some (command_of (name ∷ verb.now ∷ base.now ∷ index.now ∷ [])) }
+{
+    verb == "build" && can_be_text(base) && can_be_text(index) && !is_file_of(base, index)
+}
+
+/// Whether a verb, two texts, and an option with its value are a command: `build` in a format.
+fn is_build_in(verb: &str, base: &str, index: &str, option: &str, format: &str) -> bool
+    ensures { (name : List ℕ) → result
+        ≡ is_some (command_of (name ∷ verb.now ∷ base.now ∷ index.now ∷ option.now ∷ format.now ∷ [])) }
+{
+    is_build(verb, base, index) && names_format(option, format)
+}
+
+/// Whether an option and its value name a format.
+fn names_format(option: &str, format: &str) -> bool
+    ensures { result ≡ (bytes_eq option.now (codes "--format") && is_some (format_of format.now)) }
+{
+    option == "--format" && parse_format(format).is_some()
+}
+
+/// The format of this name.
+pub(crate) fn parse_format(name: &str) -> Option<Format>
+    ensures { result ≡ format_of name.now }
+{
+    if name == "1" {
+        Some(Format::One)
+    } else if name == "2" {
+        Some(Format::Two)
+    } else {
+        None
+    }
+}
+
+/// Whether an index under this name would take the place of a file of the collection.
+fn is_file_of(base: &str, name: &str) -> bool
+    ensures { result ≡ is_file_of base.now name.now }
+{
+    let (base, name) = (base.as_bytes(), name.as_bytes());
+    is_joined(name, base, b".docs")
+        || is_joined(name, base, b".freqs")
+        || is_joined(name, base, b".sizes")
+}
+
+/// Whether a name is a text and then an ending.
+fn is_joined(name: &[u8], text: &[u8], ending: &[u8]) -> bool
+    ensures { result ≡ bytes_eq name.now (text.now ++ ending.now) }
+{
+    if name.len() < text.len() {
+        return false;
+    }
+    let (front, back) = name.split_at(text.len());
+    front == text && back == ending
 }
 
 /// Whether a word can be a text of a command: it is not empty, is not `help`, and begins with no minus sign.

@@ -2,6 +2,8 @@
 #![tactic(auto)]
 
 ghost use Rattle.std.specs.Prelude.{◌≡◌, ◌<◌};
+ghost use Rattle.std.specs.Process.{exit_status};
+ghost use Rattle.pef_top.specs.StatusNumber.{status_number};
 
 use pef_io::{Depot, NoMemory, Sink, Source, StdDepot, StdSink, StdSource, write_all_own};
 use pef_top::{Status, run};
@@ -34,6 +36,13 @@ fn main(rt: HostRuntime) -> ExitCode {
             Status::NoMemory
         }
     };
+    exit_code(status)
+}
+
+/// The code with which the process ends: the number of the status.
+fn exit_code(status: Status) -> ExitCode
+    ensures { exit_status result ≡ status_number status }
+{
     ExitCode::from(status.number())
 }
 

@@ -5,24 +5,24 @@ use Rattle.std.proofs.lemmas.Bool.{cond-true, cond-false, lt-ltb, le-ltb, not_fr
 use Rattle.std.proofs.lemmas.List.{length_push}
 use Rattle.std.proofs.lemmas.List.Folds.{list_all-append}
 use Rattle.query_text.specs.declared.query.Bad.TheVariants.{Number, Terms, Term}
-use Rattle.query_text.specs.Numbers.{number_before}
+use Rattle.query_text.specs.Numbers.{field_before}
 use Rattle.query_text.specs.TermSet.{most_query_terms, set_of}
 use Rattle.query_text.specs.Parse.{terms_named}
 
--- numbers that were read, and then those of the rest
-abbrev pub seen_and : List ℕ → Option (List ℕ) → Option (List ℕ)
+-- what was read, and then what the rest is
+abbrev pub seen_and : {X : Type 0} → List X → Option (List X) → Option (List X)
 seen_and seen rest = option_map (λ ns. seen ++ ns) rest
 
--- one more number read
-pub seen_and-push : (seen : List ℕ) (n : ℕ) (rest : Option (List ℕ)) → seen_and seen (number_before (Some n) rest) ≡ seen_and (seen ++ n ∷ []) rest
+-- one more field read
+pub seen_and-push : {X : Type 0} (seen : List X) (n : X) (rest : Option (List X)) → seen_and seen (field_before (Some n) rest) ≡ seen_and (seen ++ n ∷ []) rest
 seen_and-push seen n None = refl
 seen_and-push seen n (Some ns) = ap Some (sym (append_assoc seen (n ∷ []) ns))
 
--- all numbers are read
-pub seen_and-end : (seen : List ℕ) (whole rest : Option (List ℕ)) → whole ≡ seen_and seen rest → rest ≡ Some [] → whole ≡ Some seen
+-- all fields are read
+pub seen_and-end : {X : Type 0} (seen : List X) (whole rest : Option (List X)) → whole ≡ seen_and seen rest → rest ≡ Some [] → whole ≡ Some seen
 seen_and-end seen whole rest e done = e ∙ ap (seen_and seen) done ∙ ap Some (append-nil seen)
 
-and-true : (b : Bool) → (b && true) ≡ b
+pub and-true : (b : Bool) → (b && true) ≡ b
 and-true true = refl
 and-true false = refl
 
@@ -38,7 +38,7 @@ begin terms None = record { seen = []; whole_is = refl; counted = refl; are_ther
 begin terms (Some ns) = record { seen = []; whole_is = refl; counted = refl; are_there = refl }
 
 pub more : (terms : ℕ) (whole rest behind : Option (List ℕ)) (count n : ℕ) (there : Bool) → SoFar terms whole rest count there →
-    rest ≡ number_before (Some n) behind → SoFar terms whole behind (count + 1) (there && nat_lt n terms)
+    rest ≡ field_before (Some n) behind → SoFar terms whole behind (count + 1) (there && nat_lt n terms)
 more terms whole rest behind count n there s e = record {
   seen = s.seen ++ n ∷ [];
   whole_is = s.whole_is ∙ ap (seen_and s.seen) e ∙ seen_and-push s.seen n behind;

@@ -69,7 +69,7 @@ fields-run n bs some le before at =
     ap (filter has_bytes) r.cut ∙ ap (λ t. cond t (take n bs ∷ filter has_bytes r.rest) (filter has_bytes r.rest)) (has_bytes-some (take n bs) long) ∙ ap (λ t. take n bs ∷ t) (sym r.behind)
 
 -- the part of a slice from n on
-part_from : (n : ℕ) (bs : List ℕ) → take (length bs - n) (drop n bs) ≡ drop n bs
+pub part_from : (n : ℕ) (bs : List ℕ) → take (length bs - n) (drop n bs) ≡ drop n bs
 part_from n bs = take_all (length bs - n) (drop n bs) (omega (arith, length-drop n bs))
 
 -- a text of spaces has no field

@@ -8,15 +8,15 @@ use Rattle.std.proofs.lemmas.Map.Keys.{IsStrictlyIncreasing-dedup}
 use Rattle.query_text.specs.TermSet.{into_set, set_of}
 
 -- whether a number is among others
-abbrev has : ℕ → List ℕ → Bool
+abbrev pub has : ℕ → List ℕ → Bool
 has q xs = list_any (λ y. eqb q y) xs
 
 -- numbers that rise from above a number on
-abbrev Above : ℕ → List ℕ → Type 0
+abbrev pub Above : ℕ → List ℕ → Type 0
 Above a [] = Unit {0}
 Above a (x ∷ xs) = (a < x) × Above x xs
 
-abbrev Rising : List ℕ → Type 0
+abbrev pub Rising : List ℕ → Type 0
 Rising [] = Unit {0}
 Rising (x ∷ xs) = Above x xs
 
@@ -44,10 +44,10 @@ increasing-from [] h = λ k lt. absurd (omega arith)
 increasing-from (x ∷ xs) h = increasing-above x xs h
 
 -- a number is not among those that rise from above it
-eqb-below : (q x : ℕ) → q < x → eqb q x ≡ false
+pub eqb-below : (q x : ℕ) → q < x → eqb q x ≡ false
 eqb-below q x lt = ne_eqb q x (λ e. omega arith)
 
-absent : (q a : ℕ) (xs : List ℕ) → q ≤ a → Above a xs → has q xs ≡ false
+pub absent : (q a : ℕ) (xs : List ℕ) → q ≤ a → Above a xs → has q xs ≡ false
 absent q a [] le h = refl
 absent q a (x ∷ xs) le h = ap (λ t. t || has q xs) (eqb-below q x (omega arith)) ∙ absent q x xs (omega arith) h.1
 
@@ -71,7 +71,7 @@ has-into_set q t (x ∷ xs) =
     (λ below. refl)
     (λ behind. ap (λ b. eqb q x || b) (has-into_set q t xs) ∙ or_swap (eqb q x) (eqb q t) (has q xs)))
 
-has-set_of : (q : ℕ) (ts : List ℕ) → has q (set_of ts) ≡ has q ts
+pub has-set_of : (q : ℕ) (ts : List ℕ) → has q (set_of ts) ≡ has q ts
 has-set_of q [] = refl
 has-set_of q (t ∷ ts) = has-into_set q t (set_of ts) ∙ ap (λ b. eqb q t || b) (has-set_of q ts)
 
@@ -99,14 +99,14 @@ rising-into_set t (x ∷ xs) h =
     (λ below. (ltb-true t x below, h))
     (λ behind. above-into_set x t xs (after t x other behind) h))
 
-rising-set_of : (ts : List ℕ) → Rising (set_of ts)
+pub rising-set_of : (ts : List ℕ) → Rising (set_of ts)
 rising-set_of [] = tt
 rising-set_of (t ∷ ts) = rising-into_set t (set_of ts) (rising-set_of ts)
 
-has-first : (x : ℕ) (xs : List ℕ) → has x (x ∷ xs) ≡ true
+pub has-first : (x : ℕ) (xs : List ℕ) → has x (x ∷ xs) ≡ true
 has-first x xs = or_left (eqb x x) (has x xs) (eq-eqb x x refl)
 
-rising-above : (a : ℕ) (xs : List ℕ) → Above a xs → Rising xs
+pub rising-above : (a : ℕ) (xs : List ℕ) → Above a xs → Rising xs
 rising-above a [] h = tt
 rising-above a (x ∷ xs) h = h.1
 

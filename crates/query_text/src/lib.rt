@@ -7,10 +7,13 @@ mod parsing;
 mod query;
 mod replies;
 mod term_lists;
+mod weighted_lists;
+mod weighted_terms;
 
 pub use parsing::parse;
 pub use query::{Bad, NoMemory, ParseError, Query, Terms};
 pub use replies::{bad_reply, list_reply, next_reply, top_reply};
+pub use weighted_terms::Weighted;
 
 #[cfg(test)]
 mod tests;

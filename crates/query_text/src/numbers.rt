@@ -1,7 +1,7 @@
 // Numbers as fields spell them.
 ghost use Rattle.std.specs.Prelude.{◌≡◌, ◌<◌, ◌⊎◌, [], length, MatchOption, IfSome};
 ghost use Rattle.query_text.specs.Lines.{fields};
-ghost use Rattle.query_text.specs.Numbers.{number_of, number_before, numbers_of};
+ghost use Rattle.query_text.specs.Numbers.{number_of, field_before, numbers_of};
 
 use crate::fields::next_field;
 
@@ -27,7 +27,7 @@ pub fn number(field: &[u8]) -> Option<u32>
 pub fn next_number(text: &[u8]) -> Option<(u32, &[u8])>
     ensures first { MatchOption result
         ((numbers_of (fields text.now) ≡ Some []) ⊎ (numbers_of (fields text.now) ≡ None))
-        (λ cut. numbers_of (fields text.now) ≡ number_before (Some cut.0) (numbers_of (fields cut.1.now))) }
+        (λ cut. numbers_of (fields text.now) ≡ field_before (Some cut.0) (numbers_of (fields cut.1.now))) }
     ensures shorter { IfSome result (λ cut. length cut.1.now < length text.now) }
 {
     let (field, rest) = next_field(text)?;

@@ -5,9 +5,10 @@ ghost use Rattle.query_text.specs.Numbers.{numbers_of};
 ghost use Rattle.query_text.specs.Parse.{NamesTerms, Parses, fields_query, next_query, parse_line, top_query};
 
 use crate::fields::next_field;
-use crate::numbers::next_number;
+use crate::numbers::{next_number, number};
 use crate::query::{Bad, ParseError, Query};
 use crate::term_lists::read_terms;
+use crate::weighted_lists::read_weighted;
 use std::alloc::Global;
 
 // The most bytes of a line.
@@ -31,10 +32,11 @@ fn next_query(arguments: &[u8], terms: u32) -> Result<Query, Bad>
 
 // What `top` asks with the fields behind the verb.
 fn top_query(alloc: Global, arguments: &[u8], terms: u32) -> Result<Query, ParseError>
-    ensures { Parses result (top_query terms (numbers_of (fields arguments.now))) }
+    ensures { Parses result (top_query terms (fields arguments.now)) }
 {
-    let (k, arguments) = next_number(arguments).ok_or(ParseError::Bad(Bad::Number))?;
-    let terms = read_terms(alloc, arguments, terms)?;
+    let (count, arguments) = next_field(arguments).ok_or(ParseError::Bad(Bad::Number))?;
+    let k = number(count).ok_or(ParseError::Bad(Bad::Number))?;
+    let terms = read_weighted(alloc, arguments, terms)?;
     Ok(Query::Top { k, terms })
 }
 

@@ -98,6 +98,7 @@ pub fn bad_reply(bad: Bad) -> &'static [u8]
         Bad::Length => b"bad length\n",
         Bad::Verb => b"bad verb\n",
         Bad::Number => b"bad number\n",
+        Bad::Weight => b"bad weight\n",
         Bad::Terms => b"bad terms\n",
         Bad::Term => b"bad term\n",
     }

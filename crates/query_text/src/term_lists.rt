@@ -10,7 +10,7 @@ use crate::query::{Bad, NumberList, ParseError, Terms};
 use std::alloc::{AllocError, Global};
 
 // The most numbers of terms in a line, counted as written.
-const MOST_TERMS: usize = 1024;
+pub(crate) const MOST_TERMS: usize = 1024;
 
 // The first rule that numbers of terms break. Takes no memory.
 fn check_terms(arguments: &[u8], terms: u32) -> Result<(), Bad>

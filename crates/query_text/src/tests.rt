@@ -2,7 +2,7 @@ use crate::{Bad, ParseError, Query, bad_reply, list_reply, next_reply, parse, to
 use std::alloc::{AllocError, Global};
 use std::test::Fail;
 
-// The verb of a query and its numbers.
+// The verb of a query and its numbers: of `top` each term with its weight behind it.
 fn spelled(alloc: Global, query: &Query) -> Result<(&'static str, Vec<u32>), AllocError> {
     match query {
         Query::Next { term, doc } => Ok(("next", Vec::from_slice(alloc, &[*term, *doc])?)),
@@ -10,7 +10,9 @@ fn spelled(alloc: Global, query: &Query) -> Result<(&'static str, Vec<u32>), All
         Query::Or(terms) => Ok(("or", Vec::from_slice(alloc, terms.as_slice())?)),
         Query::Top { k, terms } => {
             let mut numbers = Vec::from_slice(alloc, &[*k])?;
-            numbers.extend_from_slice(terms.as_slice())?;
+            for (term, weight) in terms.terms().iter().zip(terms.weights()) {
+                numbers.extend_from_slice(&[*term, *weight])?;
+            }
             Ok(("top", numbers))
         }
     }
@@ -33,8 +35,13 @@ fn lines_ask(rt: HostRuntime) -> Result<(), Fail> {
             "or",
             [0, 1, 2, 3, 4, 5, 6, 7, 8, 9].as_slice(),
         ),
-        ("top 2 0 1", "top", [2, 0, 1].as_slice()),
-        ("top 9 0 0", "top", [9, 0].as_slice()),
+        ("top 2 0 1", "top", [2, 0, 1, 1, 1].as_slice()),
+        ("top 9 0 0", "top", [9, 0, 2].as_slice()),
+        ("top 3 0*2 1", "top", [3, 0, 2, 1, 1].as_slice()),
+        ("top 2 1*2 0", "top", [2, 0, 1, 1, 2].as_slice()),
+        ("top 1 0*65535", "top", [1, 0, 65_535].as_slice()),
+        ("top 2 0*00002 1", "top", [2, 0, 2, 1, 1].as_slice()),
+        ("top 4 9*3 0 9*4 0*5", "top", [4, 0, 6, 9, 7].as_slice()),
         ("top 4294967295", "top", [4_294_967_295].as_slice()),
     ];
     for (line, verb, numbers) in cases {
@@ -65,6 +72,22 @@ fn lines_break_rules(rt: HostRuntime) {
         ("top 4294967296 0", Bad::Number),
         ("top 1 0 2", Bad::Term),
         ("top", Bad::Number),
+        ("top 1 0*65536", Bad::Weight),
+        ("top 2 0 0*0", Bad::Weight),
+        ("top 1 9*0", Bad::Weight),
+        ("top 1 0*0 x", Bad::Number),
+        ("top x 0*0", Bad::Number),
+        ("top 1 0*", Bad::Number),
+        ("top 1 *2", Bad::Number),
+        ("top 1 *", Bad::Number),
+        ("top 1 0*2*3", Bad::Number),
+        ("top 1*2 0", Bad::Number),
+        ("top 1 0*4294967296", Bad::Number),
+        ("top 1 9*65535", Bad::Term),
+        ("and 0*2", Bad::Number),
+        ("or 0*1", Bad::Number),
+        ("next 0*1 0", Bad::Number),
+        ("next 0 1*1", Bad::Number),
         ("next\t0 1", Bad::Verb),
         ("near 0", Bad::Verb),
         ("And 0", Bad::Verb),
@@ -95,6 +118,39 @@ fn terms_are_counted_as_written(rt: HostRuntime) -> Result<(), Fail> {
         parse(rt.alloc(), &line, 1).err(),
         Some(ParseError::Bad(Bad::Terms))
     );
+    Ok(())
+}
+
+// A line of `top 1` with so many fields behind it.
+fn top_line(alloc: Global, field: &str, count: usize) -> Result<Vec<u8>, AllocError> {
+    let mut line = Vec::from_slice(alloc, b"top 1")?;
+    for _ in 0..count {
+        line.push(b' ')?;
+        line.extend_from_slice(field.as_bytes())?;
+    }
+    Ok(line)
+}
+
+#[test]
+fn weighted_fields_are_counted_as_written(rt: HostRuntime) -> Result<(), Fail> {
+    let line = top_line(rt.alloc(), "0*65535", 1024)?;
+    let query = parse(rt.alloc(), &line, 1)?;
+    let (_, numbers) = spelled(rt.alloc(), &query)?;
+    assert_eq!(rt; numbers.as_slice(), [1, 0, 67_107_840].as_slice());
+    let cases = [
+        ("0*0", Bad::Weight),
+        ("0*1", Bad::Terms),
+        ("7*1", Bad::Terms),
+        ("0*", Bad::Number),
+    ];
+    for (field, want) in cases {
+        let line = top_line(rt.alloc(), field, 1025)?;
+        assert_eq!(rt;
+            parse(rt.alloc(), &line, 1).err(),
+            Some(ParseError::Bad(want)),
+            "at {field}"
+        );
+    }
     Ok(())
 }
 
@@ -155,6 +211,7 @@ fn refusals_are_told(rt: HostRuntime) {
         (Bad::Length, "bad length\n"),
         (Bad::Verb, "bad verb\n"),
         (Bad::Number, "bad number\n"),
+        (Bad::Weight, "bad weight\n"),
         (Bad::Terms, "bad terms\n"),
         (Bad::Term, "bad term\n"),
     ];

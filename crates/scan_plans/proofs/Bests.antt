@@ -1,5 +1,5 @@
 -- Lemmas on top lists.
-use Rattle.std.proofs.Common.{◌≡◌, refl, sym, ap, ◌∙◌, subst, ℕ, zero, suc, ◌<◌, ◌≤◌, min, List, [], ◌∷◌, ◌++◌, map, take, reverse, arith}
+use Rattle.std.proofs.Common.{inl, inr, ◌≡◌, refl, sym, ap, ◌∙◌, subst, ℕ, zero, suc, ◌<◌, ◌≤◌, ◌^◌, min, List, [], ◌∷◌, ◌++◌, map, take, reverse, arith}
 use Rattle.std.specs.Prelude.{Contains, AllPairs}
 use Rattle.std.specs.List.{All, list_any}
 use Rattle.std.proofs.lemmas.List.{length-map, length-reverse, reverse-append}
@@ -10,100 +10,109 @@ use Rattle.scan_plans.specs.Matches.{has_doc, in_any, score}
 use Rattle.scan_plans.specs.IsTop.{Before, IsTop}
 use Rattle.scan_plans.specs.Ranking.{in_order, IsFirstK}
 use Rattle.scan_plans.proofs.Order.{Pair, same-pair, all-contained, in_order-more, first-k, first-k-more, IsFirstOf, first-one}
-use Rattle.scan_plans.proofs.Scans.{contains-map, contains-from_map, filter-below}
+use Rattle.scan_plans.proofs.Scans.{contains-split, contains-map, contains-from_map, filter-below}
 
 -- a document with its score
-abbrev pub scored : List (List Posting) → ℕ → Pair
-scored lists d = (d, score lists d)
+abbrev pub scored : List (List Posting) → List ℕ → ℕ → Pair
+scored lists weights d = (d, score lists weights d)
 
 -- some documents with their scores, the last first
-abbrev pub pairs_of : List (List Posting) → List ℕ → List Pair
-pairs_of lists docs = map (scored lists) (reverse docs)
+abbrev pub pairs_of : List (List Posting) → List ℕ → List ℕ → List Pair
+pairs_of lists weights docs = map (scored lists weights) (reverse docs)
 
-pairs-more : (lists : List (List Posting)) (docs : List ℕ) (d : ℕ) → pairs_of lists (docs ++ d ∷ []) ≡ scored lists d ∷ pairs_of lists docs
-pairs-more lists docs d = ap (map (scored lists)) (reverse-append docs (d ∷ []))
+pairs-more : (lists : List (List Posting)) (weights : List ℕ) (docs : List ℕ) (d : ℕ) → pairs_of lists weights (docs ++ d ∷ []) ≡ scored lists weights d ∷ pairs_of lists weights docs
+pairs-more lists weights docs d = ap (map (scored lists weights)) (reverse-append docs (d ∷ []))
 
-pairs-from : (lists : List (List Posting)) (docs : List ℕ) (x : Pair) → Contains (pairs_of lists docs) x → Contains docs x.0 × (x.1 ≡ score lists x.0)
-pairs-from lists docs x c =
-    let r = contains-from_map (scored lists) (reverse docs) x c in
+pairs-from : (lists : List (List Posting)) (weights : List ℕ) (docs : List ℕ) (x : Pair) → Contains (pairs_of lists weights docs) x → Contains docs x.0 × (x.1 ≡ score lists weights x.0)
+pairs-from lists weights docs x c =
+    let r = contains-from_map (scored lists weights) (reverse docs) x c in
     let e : ℕ = r.0 in
     let inside : Contains docs e = Contains-permutation (reverse docs) docs e (IsPermutation-sym docs (reverse docs) (IsPermutation-reverse docs)) r.1 in
     let doc : e ≡ x.0 = ap (λ (z : Pair). z.0) r.2 in
-    (subst (Contains docs) doc inside, sym (ap (λ (z : Pair). z.1) r.2) ∙ ap (score lists) doc)
+    (subst (Contains docs) doc inside, sym (ap (λ (z : Pair). z.1) r.2) ∙ ap (score lists weights) doc)
 
-pairs-to : (lists : List (List Posting)) (docs : List ℕ) (d : ℕ) → Contains docs d → Contains (pairs_of lists docs) (scored lists d)
-pairs-to lists docs d c = contains-map (scored lists) (reverse docs) d (Contains-permutation docs (reverse docs) d (IsPermutation-reverse docs) c)
+pairs-to : (lists : List (List Posting)) (weights : List ℕ) (docs : List ℕ) (d : ℕ) → Contains docs d → Contains (pairs_of lists weights docs) (scored lists weights d)
+pairs-to lists weights docs d c = contains-map (scored lists weights) (reverse docs) d (Contains-permutation docs (reverse docs) d (IsPermutation-reverse docs) c)
 
 -- the first k of some documents with their scores are held
-pub record IsBest (k : ℕ) (lists : List (List Posting)) (docs : List ℕ) (held : List Pair) : Type 0 where
-  pub ordered : AllPairs Before (in_order (pairs_of lists docs))
-  pub first : held ≡ take k (in_order (pairs_of lists docs))
+pub record IsBest (k : ℕ) (lists : List (List Posting)) (weights : List ℕ) (docs : List ℕ) (held : List Pair) : Type 0 where
+  pub ordered : AllPairs Before (in_order (pairs_of lists weights docs))
+  pub first : held ≡ take k (in_order (pairs_of lists weights docs))
 
 take-nil : (k : ℕ) → [] ≡ take k (in_order [])
 take-nil zero = refl
 take-nil (suc k) = refl
 
-pub best-none : (k : ℕ) (lists : List (List Posting)) → IsBest k lists [] []
-best-none k lists = record { ordered = λ i j d lt within. absurd (omega arith); first = take-nil k }
+pub best-none : (k : ℕ) (lists : List (List Posting)) (weights : List ℕ) → IsBest k lists weights [] []
+best-none k lists weights = record { ordered = λ i j d lt within. absurd (omega arith); first = take-nil k }
 
-pub best-more : (k : ℕ) (lists : List (List Posting)) (docs : List ℕ) (held new : List Pair) (d : ℕ) → IsBest k lists docs held → All (λ e. e < d) docs → IsFirstK k (scored lists d ∷ held) new → IsBest k lists (docs ++ d ∷ []) new
-best-more k lists docs held new d best below first =
-    let other : (x : Pair) → Contains (pairs_of lists docs) x → scored lists d ≡ x → ⊥ = λ x c same.
-    let lt = All-contains (λ e. e < d) docs x.0 below (pairs-from lists docs x c).0 in
+pub best-more : (k : ℕ) (lists : List (List Posting)) (weights : List ℕ) (docs : List ℕ) (held new : List Pair) (d : ℕ) → IsBest k lists weights docs held → All (λ e. e < d) docs → IsFirstK k (scored lists weights d ∷ held) new → IsBest k lists weights (docs ++ d ∷ []) new
+best-more k lists weights docs held new d best below first =
+    let other : (x : Pair) → Contains (pairs_of lists weights docs) x → scored lists weights d ≡ x → ⊥ = λ x c same.
+    let lt = All-contains (λ e. e < d) docs x.0 below (pairs-from lists weights docs x c).0 in
     let doc : d ≡ x.0 = ap (λ (z : Pair). z.0) same in
     absurd (omega arith) in
-    let more = pairs-more lists docs d in
+    let more = pairs-more lists weights docs d in
     record {
-      ordered = subst (λ (ps : List Pair). AllPairs Before (in_order ps)) (sym more) (in_order-more (scored lists d) (pairs_of lists docs) best.ordered other);
-      first = first-k-more k (scored lists d) (pairs_of lists docs) held new best.ordered other best.first first ∙ ap (λ (ps : List Pair). take k (in_order ps)) (sym more);
+      ordered = subst (λ (ps : List Pair). AllPairs Before (in_order ps)) (sym more) (in_order-more (scored lists weights d) (pairs_of lists weights docs) best.ordered other);
+      first = first-k-more k (scored lists weights d) (pairs_of lists weights docs) held new best.ordered other best.first first ∙ ap (λ (ps : List Pair). take k (in_order ps)) (sym more);
     }
 
-held-first : (k : ℕ) (lists : List (List Posting)) (docs : List ℕ) (held : List Pair) → IsBest k lists docs held → IsFirstK k (pairs_of lists docs) held
-held-first k lists docs held best = subst (IsFirstK k (pairs_of lists docs)) (sym best.first) (first-k k (pairs_of lists docs) best.ordered)
+held-first : (k : ℕ) (lists : List (List Posting)) (weights : List ℕ) (docs : List ℕ) (held : List Pair) → IsBest k lists weights docs held → IsFirstK k (pairs_of lists weights docs) held
+held-first k lists weights docs held best = subst (IsFirstK k (pairs_of lists weights docs)) (sym best.first) (first-k k (pairs_of lists weights docs) best.ordered)
 
-pub best-below : (k : ℕ) (lists : List (List Posting)) (docs : List ℕ) (held : List Pair) (d : ℕ) → IsBest k lists docs held → All (λ e. e < d) docs → All (λ (x : Pair). x.0 < d) held
-best-below k lists docs held d best below =
-    let first = held-first k lists docs held best in
-    all-contained (λ (x : Pair). x.0 < d) held (λ x c. All-contains (λ e. e < d) docs x.0 below (pairs-from lists docs x (All-contains (Contains (pairs_of lists docs)) held x first.of_them c)).0)
+pub best-below : (k : ℕ) (lists : List (List Posting)) (weights : List ℕ) (docs : List ℕ) (held : List Pair) (d : ℕ) → IsBest k lists weights docs held → All (λ e. e < d) docs → All (λ (x : Pair). x.0 < d) held
+best-below k lists weights docs held d best below =
+    let first = held-first k lists weights docs held best in
+    all-contained (λ (x : Pair). x.0 < d) held (λ x c. All-contains (λ e. e < d) docs x.0 below (pairs-from lists weights docs x (All-contains (Contains (pairs_of lists weights docs)) held x first.of_them c)).0)
 
-pub best-top : (n : ℕ) (lists : List (List Posting)) (k : ℕ) (held : List Pair) → IsBest k lists (in_any n lists) held → IsTop n lists k held
-best-top n lists k held best =
+pub best-top : (n : ℕ) (lists : List (List Posting)) (weights : List ℕ) (k : ℕ) (held : List Pair) → IsBest k lists weights (in_any n lists) held → IsTop n lists weights k held
+best-top n lists weights k held best =
     let docs : List ℕ = in_any n lists in
-    let first = held-first k lists docs held best in
-    let of : (x : Pair) → Contains held x → Contains docs x.0 × (x.1 ≡ score lists x.0) = λ x c. pairs-from lists docs x (All-contains (Contains (pairs_of lists docs)) held x first.of_them c) in
+    let first = held-first k lists weights docs held best in
+    let of : (x : Pair) → Contains held x → Contains docs x.0 × (x.1 ≡ score lists weights x.0) = λ x c. pairs-from lists weights docs x (All-contains (Contains (pairs_of lists weights docs)) held x first.of_them c) in
     record {
       ordered = first.ordered;
       found = all-contained (λ e. Contains docs e.0) held (λ x c. (of x c).0);
-      scored = all-contained (λ e. e.1 ≡ score lists e.0) held (λ x c. (of x c).1);
-      count = first.count ∙ ap (min k) (length-map (reverse docs) (scored lists) ∙ length-reverse docs);
-      others_after = λ d c absent. first.others_after (scored lists d) (pairs-to lists docs d c) (λ h. absent (contains-map (λ (e : Pair). e.0) held (scored lists d) h));
+      scored = all-contained (λ e. e.1 ≡ score lists weights e.0) held (λ x c. (of x c).1);
+      count = first.count ∙ ap (min k) (length-map (reverse docs) (scored lists weights) ∙ length-reverse docs);
+      others_after = λ d c absent. first.others_after (scored lists weights d) (pairs-to lists weights docs d c) (λ h. absent (contains-map (λ (e : Pair). e.0) held (scored lists weights d) h));
     }
 
-pub top-of-none : (n : ℕ) (lists : List (List Posting)) → IsTop n lists 0 []
-top-of-none n lists = record {
+pub top-of-none : (n : ℕ) (lists : List (List Posting)) (weights : List ℕ) → IsTop n lists weights 0 []
+top-of-none n lists weights = record {
   ordered = λ i j d lt within. absurd (omega arith);
   found = All-nil (λ (e : Pair). Contains (in_any n lists) e.0);
-  scored = All-nil (λ (e : Pair). e.1 ≡ score lists e.0);
+  scored = All-nil (λ (e : Pair). e.1 ≡ score lists weights e.0);
   count = omega arith;
-  others_after = λ d c absent. All-nil (λ (e : Pair). Before e (d, score lists d));
+  others_after = λ d c absent. All-nil (λ (e : Pair). Before e (d, score lists weights d));
 }
 
 -- a top list is the first of the documents with their scores
-top-first : (n : ℕ) (lists : List (List Posting)) (k : ℕ) (r : List Pair) → IsTop n lists k r → IsFirstOf (λ (x : Pair). Contains (in_any n lists) x.0 × (x.1 ≡ score lists x.0)) r
-top-first n lists k r top = record {
+top-first : (n : ℕ) (lists : List (List Posting)) (weights : List ℕ) (k : ℕ) (r : List Pair) → IsTop n lists weights k r → IsFirstOf (λ (x : Pair). Contains (in_any n lists) x.0 × (x.1 ≡ score lists weights x.0)) r
+top-first n lists weights k r top = record {
   ordered = top.ordered;
   among = λ i d within. (top.found i d within, top.scored i d within);
   after = λ x is absent.
-      let same : (x.0, score lists x.0) ≡ x = same-pair (x.0, score lists x.0) x refl (sym is.1) in
+      let same : (x.0, score lists weights x.0) ≡ x = same-pair (x.0, score lists weights x.0) x refl (sym is.1) in
       subst (λ (z : Pair). All (λ e. Before e z) r) same (top.others_after x.0 is.0 (λ c.
       let found = contains-from_map (λ (e : Pair). e.0) r x.0 c in
-      let score_of = All-contains (λ (e : Pair). e.1 ≡ score lists e.0) r found.0 top.scored found.1 in
-      absent (subst (Contains r) (same-pair found.0 x found.2 (score_of ∙ ap (score lists) found.2 ∙ sym is.1)) found.1)));
+      let score_of = All-contains (λ (e : Pair). e.1 ≡ score lists weights e.0) r found.0 top.scored found.1 in
+      absent (subst (Contains r) (same-pair found.0 x found.2 (score_of ∙ ap (score lists weights) found.2 ∙ sym is.1)) found.1)));
 }
 
-pub top-one : (n : ℕ) (lists : List (List Posting)) (k : ℕ) (r s : List Pair) → IsTop n lists k r → IsTop n lists k s → r ≡ s
-top-one n lists k r s t u = first-one (λ (x : Pair). Contains (in_any n lists) x.0 × (x.1 ≡ score lists x.0)) r s (t.count ∙ sym u.count) (top-first n lists k r t) (top-first n lists k s u)
+pub top-one : (n : ℕ) (lists : List (List Posting)) (weights : List ℕ) (k : ℕ) (r s : List Pair) → IsTop n lists weights k r → IsTop n lists weights k s → r ≡ s
+top-one n lists weights k r s t u = first-one (λ (x : Pair). Contains (in_any n lists) x.0 × (x.1 ≡ score lists weights x.0)) r s (t.count ∙ sym u.count) (top-first n lists weights k r t) (top-first n lists weights k s u)
 
 -- the documents found so far are below the next one
 pub any-below : (low d : ℕ) (lists : List (List Posting)) → low ≤ d → All (λ e. e < d) (in_any low lists)
 any-below low d lists le i x within = let h = filter-below (λ d. list_any (has_doc d) lists) low i x within in omega arith
+
+-- scores below a bound stay so
+pub still-below : (d s : ℕ) (held new : List Pair) → All (Contains ((d, s) ∷ held)) new → s < 2 ^ 58 → All (λ (e : Pair). e.1 < 2 ^ 58) held → All (λ (e : Pair). e.1 < 2 ^ 58) new
+still-below d s held new of_them lt all =
+    let P : Pair → Type 0 = λ e. e.1 < 2 ^ 58 in
+    all-contained P new (λ x c. elim (contains-split (d, s) held x (All-contains (Contains ((d, s) ∷ held)) new x of_them c)) as (λ _. P x) [
+      | inl is ↦ subst P is lt
+      | inr inside ↦ All-contains P held x all inside
+    ])

@@ -1,12 +1,13 @@
 -- Lemmas on one step over cursors.
-use Rattle.std.proofs.Common.{◌≡◌, refl, sym, ap, inl, inr, ◌∙◌, subst, ℕ, zero, suc, ◌+◌, ◌-◌, ◌<◌, ◌≤◌, ◌≢◌, true, false, List, [], ◌∷◌, ◌++◌, eqb, length, get_or, set, take, map, Some, None, arith}
+use Rattle.std.proofs.Common.{◌≡◌, refl, sym, ap, inl, inr, ◌∙◌, subst, ℕ, zero, suc, ◌+◌, ◌-◌, ◌*◌, ◌<◌, ◌≤◌, ◌≢◌, true, false, List, [], ◌∷◌, ◌++◌, eqb, length, get_or, set, take, map, Some, None, arith}
 use Rattle.std.specs.Prelude.{Contains}
-use Rattle.std.specs.List.{All, AllWithin, sum_by, filter, range_with_len}
+use Rattle.std.specs.List.{All, AllWithin, sum_by, filter, range_with_len, zip}
 use Rattle.std.proofs.lemmas.Bool.{cases_lt}
 use Rattle.std.proofs.lemmas.List.{map-set, set-get_or, get_or-map, length-map, length-set, get_or-set_other, get_or_default, take_all}
 use Rattle.std.proofs.lemmas.List.Elements.{All-contains, AllWithin-more, AllWithin-more_set}
 use Rattle.std.proofs.lemmas.List.Folds.{list_all_at}
 use Rattle.std.proofs.lemmas.List.Sums.{list_all-from_AllPass, sum_by_more, sum_by-cons}
+use Rattle.std.proofs.lemmas.Slice.Zip.{length-zip, get_or-zip}
 use Rattle.collection_model.specs.Collection.{Posting, docs_of}
 use Rattle.cursor_api.specs.NextGeq.{IsCursorAt, next_geq_place}
 use Rattle.cursor_api.specs.Laws.{NextGeqIsFirst}
@@ -14,6 +15,10 @@ use Rattle.scan_plans.specs.Matches.{AreBelow, has_doc, freq_of_doc, score, in_a
 use Rattle.scan_plans.specs.Scan.{doc_at, StandsFrom, HasPassed, in_each}
 use Rattle.scan_plans.proofs.Postings.{at-doc, not-at-doc, doc_at-some, doc_at-none, has_doc-at, has_doc-between, docs-rise, next_geq-stands}
 use Rattle.scan_plans.proofs.Scans.{contains-first, contained-all, contains-from_map, filter-yes, filter-skip, filter-same, below-has_none}
+
+-- what a list adds to the score of a document
+abbrev pub share : ℕ → List Posting × ℕ → ℕ
+share doc e = e.1 * freq_of_doc doc e.0
 
 module _ {X : Type 0} (list : X → List Posting) (place : X → ℕ) where
   -- a cursor that moves leaves the lists as they are
@@ -50,16 +55,17 @@ module _ {X : Type 0} (list : X → List Posting) (place : X → ℕ) where
   pub item-holds : (P : X → Type 0) (cs : List X) (i : ℕ) (x : X) → x ≡ get_or cs i x → i < length cs → All P cs → P x
   item-holds P cs i x is within all = subst P (sym is) (all i x within)
 
-  pub score-step : (doc : ℕ) (cs : List X) (i sum new : ℕ) (x : X) → x ≡ get_or cs i x → i < length cs → sum ≡ sum_by (freq_of_doc doc) (take i (map list cs)) → new ≡ sum + freq_of_doc doc (list x)
-      → new ≡ sum_by (freq_of_doc doc) (take (i + 1) (map list cs))
-  score-step doc cs i sum new x is within so_far adds =
+  pub score-step : (doc : ℕ) (cs : List X) (ws : List ℕ) (i sum new : ℕ) (x : X) (w : ℕ) → x ≡ get_or cs i x → w ≡ get_or ws i 0 → i < length cs → i < length ws → sum ≡ sum_by (share doc) (take i (zip (map list cs) ws)) → new ≡ sum + w * freq_of_doc doc (list x)
+      → new ≡ sum_by (share doc) (take (i + 1) (zip (map list cs) ws))
+  score-step doc cs ws i sum new x w is weight within weighed so_far adds =
       let l = length-map cs list in
-      let read : freq_of_doc doc (get_or (map list cs) i []) ≡ freq_of_doc doc (list x) = ap (freq_of_doc doc) (get_or-map list cs i x [] within ∙ ap list (sym is)) in
-      let more = sum_by_more (freq_of_doc doc) (map list cs) i [] (omega arith) in
+      let pair : get_or (zip (map list cs) ws) i ([], 0) ≡ (list x, w) = get_or-zip (map list cs) ws i ([], 0) (omega arith) weighed ∙ ap (λ (l : List Posting). (l, get_or ws i 0)) (get_or-map list cs i x [] within ∙ ap list (sym is)) ∙ ap (λ (n : ℕ). (list x, n)) (sym weight) in
+      let read : share doc (get_or (zip (map list cs) ws) i ([], 0)) ≡ w * freq_of_doc doc (list x) = ap (share doc) pair in
+      let more = sum_by_more (share doc) (zip (map list cs) ws) i ([], 0) (omega (arith, length-zip (map list cs) ws)) in
       omega arith
 
-  pub score-whole : (doc : ℕ) (cs : List X) (i sum : ℕ) → length cs ≤ i → sum ≡ sum_by (freq_of_doc doc) (take i (map list cs)) → sum ≡ score (map list cs) doc
-  score-whole doc cs i sum all is = let l = length-map cs list in is ∙ ap (sum_by (freq_of_doc doc)) (take_all i (map list cs) (omega arith))
+  pub score-whole : (doc : ℕ) (cs : List X) (ws : List ℕ) (i sum : ℕ) → length cs ≤ i → sum ≡ sum_by (share doc) (take i (zip (map list cs) ws)) → sum ≡ score (map list cs) ws doc
+  score-whole doc cs ws i sum all is = let l = length-map cs list in is ∙ ap (sum_by (share doc)) (take_all i (zip (map list cs) ws) (omega (arith, length-zip (map list cs) ws)))
 
   -- ---- cursors that pass a document, one on
   pub record Passes (doc : ℕ) (os cs : List X) (i : ℕ) : Type 0 where

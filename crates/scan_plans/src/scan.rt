@@ -1,6 +1,6 @@
-ghost use Rattle.std.specs.Prelude.{◌≡◌, ℕ, ◌+◌, ◌≤◌, ◌<◌, true, false, map, min, length, ◌↔◌, IsTrue, IfNone, IfSome};
+ghost use Rattle.std.specs.Prelude.{◌≡◌, ℕ, ◌+◌, ◌*◌, ◌^◌, ◌≤◌, ◌<◌, true, false, map, min, length, sum, ◌↔◌, IsTrue, IfNone, IfSome};
 ghost use Rattle.std.specs.List.{All, filter_map, reduce};
-ghost use Rattle.scan_plans.specs.Matches.{score};
+ghost use Rattle.scan_plans.specs.Matches.{freq_of_doc, score};
 ghost use Rattle.scan_plans.specs.Scan.{doc_at, StandsFrom, HasPassed, in_each};
 
 use cursor_api::{DocCursor, next_geq_is_first};
@@ -19,17 +19,30 @@ pub(crate) fn least_doc<C: DocCursor>(cursors: &[C]) -> Option<u32>
     cursors.iter().filter_map(|cursor| cursor.doc()).min()
 }
 
-// The sum of the frequencies of a document, where each cursor stands at it or at the first document after it.
-pub(crate) fn score_at<C: DocCursor>(cursors: &[C], doc: u32) -> u64
-    requires few { length cursors.now ≤ 1024 }
+// What a list adds to the score of a document, where its cursor stands at it or at the first document after it.
+fn weighted_freq<C: DocCursor>(cursor: &C, weight: u32, doc: u32) -> u64
+    requires stand { StandsFrom doc (C.list cursor.now) (C.place cursor.now) }
+    ensures value { result ≡ weight * freq_of_doc doc (C.list cursor.now) }
+    ensures bound { result ≤ weight * 4294967295 }
+{
+    if is_at(cursor, doc) {
+        u64::from(weight) * u64::from(cursor.freq())
+    } else {
+        0
+    }
+}
+
+// The score of a document, where each cursor stands at it or at the first document after it. It is below 2^58.
+pub(crate) fn score_at<C: DocCursor>(cursors: &[C], weights: &[u32], doc: u32) -> u64
+    requires each { length weights.now ≡ length cursors.now }
+    requires light { sum weights.now < 2 ^ 26 }
     requires stand { All (λ c. StandsFrom doc (C.list c) (C.place c)) cursors.now }
-    ensures { result ≡ score (map C.list cursors.now) doc }
+    ensures value { result ≡ score (map C.list cursors.now) weights.now doc }
+    ensures bound { result < 2 ^ 58 }
 {
     let mut sum = 0;
-    for cursor in cursors {
-        if is_at(cursor, doc) {
-            sum += cursor.freq() as u64;
-        }
+    for (cursor, weight) in cursors.iter().zip(weights) {
+        sum += weighted_freq(cursor, *weight, doc);
     }
     sum
 }

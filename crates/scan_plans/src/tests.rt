@@ -15,11 +15,29 @@ fn two_lists(rt: HostRuntime) {
     let any = or_docs(rt.alloc(), &mut cursors).expect(&rt, "memory");
     assert_eq!(rt; any.as_slice(), [1, 2, 4].as_slice());
     let mut cursors = starts;
-    let top = top_exhaustive(rt.alloc(), &mut cursors, 2, 5).expect(&rt, "memory");
+    let top = top_exhaustive(rt.alloc(), &mut cursors, &[1, 1], 2, 5).expect(&rt, "memory");
     assert_eq!(rt; top.as_slice(), [(4, 4), (1, 3)].as_slice());
     let mut cursors = starts;
-    let all = top_exhaustive(rt.alloc(), &mut cursors, 9, 5).expect(&rt, "memory");
+    let all = top_exhaustive(rt.alloc(), &mut cursors, &[1, 1], 9, 5).expect(&rt, "memory");
     assert_eq!(rt; all.as_slice(), [(4, 4), (1, 3), (2, 3)].as_slice());
+}
+
+// The same lists: a frequency counts as often as its list weighs.
+#[test]
+fn weighted_lists(rt: HostRuntime) {
+    let starts = [
+        PlainCursor::new(&[1, 4], &[2, 3]),
+        PlainCursor::new(&[1, 2, 4], &[1, 3, 1]),
+    ];
+    let mut cursors = starts;
+    let first = top_exhaustive(rt.alloc(), &mut cursors, &[2, 1], 3, 5).expect(&rt, "memory");
+    assert_eq!(rt; first.as_slice(), [(4, 7), (1, 5), (2, 3)].as_slice());
+    let mut cursors = starts;
+    let second = top_exhaustive(rt.alloc(), &mut cursors, &[1, 2], 2, 5).expect(&rt, "memory");
+    assert_eq!(rt; second.as_slice(), [(2, 6), (4, 5)].as_slice());
+    let mut cursors = starts;
+    let most = top_exhaustive(rt.alloc(), &mut cursors, &[65_535, 1], 1, 5).expect(&rt, "memory");
+    assert_eq!(rt; most.as_slice(), [(4, 196_606)].as_slice());
 }
 
 #[test]
@@ -32,10 +50,10 @@ fn one_list(rt: HostRuntime) {
     let any = or_docs(rt.alloc(), &mut cursors).expect(&rt, "memory");
     assert_eq!(rt; any.as_slice(), [0, 2].as_slice());
     let mut cursors = starts;
-    let top = top_exhaustive(rt.alloc(), &mut cursors, 1, 3).expect(&rt, "memory");
+    let top = top_exhaustive(rt.alloc(), &mut cursors, &[1], 1, 3).expect(&rt, "memory");
     assert_eq!(rt; top.as_slice(), [(2, 5)].as_slice());
     let mut cursors = starts;
-    let none = top_exhaustive(rt.alloc(), &mut cursors, 0, 3).expect(&rt, "memory");
+    let none = top_exhaustive(rt.alloc(), &mut cursors, &[1], 0, 3).expect(&rt, "memory");
     assert!(rt; none.is_empty());
 }
 
@@ -46,7 +64,7 @@ fn no_list(rt: HostRuntime) {
     assert!(rt; both.is_empty());
     let any = or_docs(rt.alloc(), &mut none).expect(&rt, "memory");
     assert!(rt; any.is_empty());
-    let top = top_exhaustive(rt.alloc(), &mut none, 3, 5).expect(&rt, "memory");
+    let top = top_exhaustive(rt.alloc(), &mut none, &[], 3, 5).expect(&rt, "memory");
     assert!(rt; top.is_empty());
 }
 

@@ -1,38 +1,15 @@
 // Answers and usage.
 use crate::collections::{
-    NINE_LISTS, Numbers, ONE_LIST, THREE_LISTS, TWO_LISTS, files as files_of,
+    NINE_LISTS, NO_LIST, ONE_LIST, THREE_LISTS, TWO_LISTS, files as files_of,
 };
-use crate::indexes::{built, replies_from};
-use crate::runs::{OPS, steady_run};
-use part_cost::Format;
+use crate::runs::{ANSWER, BUILD, BUILD_ONE, OPS, run_to_replies, steady_run};
 use pef_top::Status;
 
-const ANSWER: [&str; 3] = ["pefidx", "answer", "x"];
-
 const USAGE: &str =
-    "usage: pefidx build BASE INDEX | query INDEX [--plan PLAN] | answer BASE [--plan PLAN] | inspect INDEX | generate SEED N T\n";
-
-const NO_LIST: Numbers<'static> = Numbers {
-    docs: &[1, 0],
-    freqs: &[],
-    sizes: &[0],
-};
-
-/// Seventeen documents in one list, whose frequencies sum to 2^36.
-const GREATEST_SUM: Numbers<'static> = Numbers {
-    docs: &[
-        1, 17, 17, 0, 1, 2, 3, 4, 5, 6, 7, 8, 9, 10, 11, 12, 13, 14, 15, 16,
-    ],
-    freqs: &[
-        17, 4294967295, 4294967295, 4294967295, 4294967295, 4294967295, 4294967295, 4294967295,
-        4294967295, 4294967295, 4294967295, 4294967295, 4294967295, 4294967295, 4294967295,
-        4294967295, 4294967295, 16,
-    ],
-    sizes: &[17, 0, 0, 0, 0, 0, 0, 0, 0, 0, 0, 0, 0, 0, 0, 0, 0, 0],
-};
+    "usage: pefidx build BASE INDEX [--format FORMAT] | query INDEX [--plan PLAN] | answer BASE [--plan PLAN] | inspect INDEX | generate SEED N T\n";
 
 /// Words that are no command.
-const NO_COMMANDS: [&[&str]; 11] = [
+const NO_COMMANDS: [&[&str]; 21] = [
     &[],
     &["pefidx"],
     &["pefidx", "answer"],
@@ -43,7 +20,19 @@ const NO_COMMANDS: [&[&str]; 11] = [
     &["pefidx", "answer", "x", "--plan", "fast"],
     &["pefidx", "help"],
     &["pefidx", "Answer", "x"],
+    &["pefidx", "build", "x"],
     &["pefidx", "build", "x", "x.docs"],
+    &["pefidx", "build", "x", "x.freqs", "--format", "1"],
+    &["pefidx", "build", "x", "x.sizes"],
+    &["pefidx", "build", "x", "y", "--format", "3"],
+    &["pefidx", "build", "x", "y", "--format"],
+    &[
+        "pefidx", "build", "x", "y", "--format", "1", "--format", "1",
+    ],
+    &["pefidx", "build", "--format", "1", "x", "y"],
+    &["pefidx", "query", "-"],
+    &["pefidx", "query", "a", "b"],
+    &["pefidx", "inspect", "y"],
 ];
 
 #[test]
@@ -82,25 +71,14 @@ fn lines_are_answered(rt: HostRuntime) {
             "end\n1 3\n0 1\nend\nbad term\n",
         ),
         (NO_LIST, "next 0 0", "bad term\n"),
-        (
-            GREATEST_SUM,
-            "next 0 16\nnext 0 15\n",
-            "16 16\n15 4294967295\n",
-        ),
     ] {
-        let alloc = rt.alloc();
-        let files = files_of(alloc, numbers).expect(&rt, "memory");
-        let run = steady_run(alloc, &ANSWER, files, text.as_bytes()).expect(&rt, "memory");
-        assert_eq!(rt; run.status, Status::Done, "{text:?}");
-        assert_eq!(rt; run.out.bytes(), replies.as_bytes(), "{text:?}");
-        assert_eq!(rt; run.err.calls(), 0, "{text:?}");
-        for format in [Format::One, Format::Two] {
+        for words in [ANSWER.as_slice(), BUILD.as_slice(), BUILD_ONE.as_slice()] {
+            let alloc = rt.alloc();
             let files = files_of(alloc, numbers).expect(&rt, "memory");
-            let words = built(alloc, files, format)
-                .expect(&rt, "memory")
-                .expect(&rt, "words");
-            let out = replies_from(alloc, &words, text.as_bytes()).expect(&rt, "an index");
-            assert_eq!(rt; out.bytes(), replies.as_bytes(), "{text:?}");
+            let run = run_to_replies(alloc, words, files, text.as_bytes()).expect(&rt, "memory");
+            assert_eq!(rt; run.status, Status::Done, "{words:?} {text:?}");
+            assert_eq!(rt; run.out.bytes(), replies.as_bytes(), "{words:?} {text:?}");
+            assert_eq!(rt; run.err.calls(), 0, "{words:?} {text:?}");
         }
     }
 }
@@ -111,7 +89,7 @@ fn documents_of_terms_are_found(rt: HostRuntime) {
         (
             ONE_LIST,
             "top 0 0\nand\nor\ntop 5\ntop 9 0 0\ntop 4294967295 0\n",
-            "0\n0\n0\n0\n2 2:5 0:1\n2 2:5 0:1\n",
+            "0\n0\n0\n0\n2 2:10 0:2\n2 2:5 0:1\n",
         ),
         (
             TWO_LISTS,
@@ -121,7 +99,17 @@ fn documents_of_terms_are_found(rt: HostRuntime) {
         (
             TWO_LISTS,
             "top 3 1 0 1\nand 1 1\ntop 1 1\n",
-            "3 4:4 1:3 2:3\n3 1 2 4\n1 2:3\n",
+            "3 2:6 4:5 1:4\n3 1 2 4\n1 2:3\n",
+        ),
+        (
+            TWO_LISTS,
+            "top 3 0*2 1\ntop 2 0 1*2\ntop 2 1*2 0\ntop 2 0 0 1\ntop 2 0*00002 1\ntop 1 0*65535\ntop 2 0 1\ntop 1 1*3 0 1*4 0*5",
+            "3 4:7 1:5 2:3\n2 2:6 4:5\n2 2:6 4:5\n2 4:7 1:5\n2 4:7 1:5\n1 4:196605\n2 4:4 1:3\n1 4:25\n",
+        ),
+        (
+            TWO_LISTS,
+            "top 1 0*65536\ntop 2 0 0*0\ntop 1 9*0\ntop 1 0*\ntop 1 *2\ntop 1 0*2*3\nand 0*2\ntop 1*2 0\ntop 1 0*4294967296\ntop 1 9*2\nor 0*1\nnext 0*1 0",
+            "bad weight\nbad weight\nbad weight\nbad number\nbad number\nbad number\nbad number\nbad number\nbad number\nbad term\nbad number\nbad number\n",
         ),
         (
             TWO_LISTS,
@@ -139,36 +127,41 @@ fn documents_of_terms_are_found(rt: HostRuntime) {
             "1 1\n1 1\n1 1:9\n",
         ),
     ] {
-        let alloc = rt.alloc();
-        let files = files_of(alloc, numbers).expect(&rt, "memory");
-        let run = steady_run(alloc, &ANSWER, files, text.as_bytes()).expect(&rt, "memory");
-        assert_eq!(rt; run.status, Status::Done, "{text:?}");
-        assert_eq!(rt; run.out.bytes(), replies.as_bytes(), "{text:?}");
-        assert_eq!(rt; run.err.calls(), 0, "{text:?}");
-        for format in [Format::One, Format::Two] {
+        for words in [ANSWER.as_slice(), BUILD.as_slice(), BUILD_ONE.as_slice()] {
+            let alloc = rt.alloc();
             let files = files_of(alloc, numbers).expect(&rt, "memory");
-            let words = built(alloc, files, format)
-                .expect(&rt, "memory")
-                .expect(&rt, "words");
-            let out = replies_from(alloc, &words, text.as_bytes()).expect(&rt, "an index");
-            assert_eq!(rt; out.bytes(), replies.as_bytes(), "{text:?}");
+            let run = run_to_replies(alloc, words, files, text.as_bytes()).expect(&rt, "memory");
+            assert_eq!(rt; run.status, Status::Done, "{words:?} {text:?}");
+            assert_eq!(rt; run.out.bytes(), replies.as_bytes(), "{words:?} {text:?}");
+            assert_eq!(rt; run.err.calls(), 0, "{words:?} {text:?}");
         }
     }
 }
 
 #[test]
-fn a_line_has_at_most_1024_terms(rt: HostRuntime) {
-    for (terms, replies) in [(1_024, "2 1 4\n4 3\n"), (1_025, "bad terms\n4 3\n")] {
+fn a_line_has_at_most_1024_fields_of_terms(rt: HostRuntime) {
+    for (verb, field, fields, replies) in [
+        ("or", " 0", 1_024, "2 1 4\n4 3\n"),
+        ("or", " 0", 1_025, "bad terms\n4 3\n"),
+        ("top 1", " 0*65535", 1_024, "1 4:201323520\n4 3\n"),
+        ("top 1", " 0*1", 1_025, "bad terms\n4 3\n"),
+        ("top 1", " 0*0", 1_025, "bad weight\n4 3\n"),
+    ] {
         let alloc = rt.alloc();
-        let mut text = Vec::from_slice(alloc, b"or").expect(&rt, "memory");
-        for _ in 0..terms {
-            text.extend_from_slice(b" 0").expect(&rt, "memory");
+        let mut text = Vec::from_slice(alloc, verb.as_bytes()).expect(&rt, "memory");
+        for _ in 0..fields {
+            text.extend_from_slice(field.as_bytes())
+                .expect(&rt, "memory");
         }
         text.extend_from_slice(b"\nnext 0 2").expect(&rt, "memory");
         let files = files_of(alloc, TWO_LISTS).expect(&rt, "memory");
         let run = steady_run(alloc, &ANSWER, files, text.as_slice()).expect(&rt, "memory");
-        assert_eq!(rt; run.status, Status::Done, "{terms}");
-        assert_eq!(rt; run.out.bytes(), replies.as_bytes(), "{terms}");
+        assert_eq!(rt; run.status, Status::Done, "{verb} {field} {fields}");
+        assert_eq!(rt;
+            run.out.bytes(),
+            replies.as_bytes(),
+            "{verb} {field} {fields}"
+        );
     }
 }
 

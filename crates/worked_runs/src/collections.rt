@@ -11,6 +11,13 @@ pub(crate) struct Numbers<'a> {
     pub(crate) sizes: &'a [u32],
 }
 
+/// No document and no list.
+pub(crate) const NO_LIST: Numbers<'static> = Numbers {
+    docs: &[1, 0],
+    freqs: &[],
+    sizes: &[0],
+};
+
 /// Three documents of sizes 4, 0 and 7, and one list: document 0 once, document 2 five times.
 pub(crate) const ONE_LIST: Numbers<'static> = Numbers {
     docs: &[1, 3, 2, 0, 2],
@@ -76,4 +83,76 @@ pub(crate) fn cut_files(
             .ok()?;
     }
     Some(files)
+}
+
+/// The numbers of three files that are too many to write down.
+#[derive(Drop)]
+pub(crate) struct ManyNumbers {
+    docs: Vec<u32>,
+    freqs: Vec<u32>,
+    sizes: Vec<u32>,
+}
+
+impl ManyNumbers {
+    /// The numbers, lent.
+    pub(crate) fn numbers(&self) -> Numbers<'_> {
+        Numbers {
+            docs: &self.docs,
+            freqs: &self.freqs,
+            sizes: &self.sizes,
+        }
+    }
+}
+
+/// One list of all documents from 0 up to `count`, each of size 0 and as often as `frequency`, but the last, which is there
+/// `last` times.
+pub(crate) fn full_list(
+    alloc: Global,
+    count: u32,
+    frequency: u32,
+    last: u32,
+) -> Option<ManyNumbers> {
+    let documents = count.checked_add(1)?;
+    Some(ManyNumbers {
+        docs: counted(alloc, &[1, documents, documents], documents, &[])?,
+        freqs: repeated(alloc, &[documents], frequency, count, &[last])?,
+        sizes: repeated(alloc, &[documents], 0, documents, &[])?,
+    })
+}
+
+/// Documents of size 0 up to 1,000,000 and two lists: the documents 0 to 99,999 once each and 1,000,000 so often that the sums
+/// of the frequencies are one more than the documents; document 5 twice.
+pub(crate) fn far_document(alloc: Global) -> Option<ManyNumbers> {
+    let far = 1_000_000;
+    Some(ManyNumbers {
+        docs: counted(alloc, &[1, far + 1, 100_001], 100_000, &[far, 1, 5])?,
+        freqs: repeated(alloc, &[100_001], 1, 100_000, &[900_001, 1, 2])?,
+        sizes: repeated(alloc, &[far + 1], 0, far + 1, &[])?,
+    })
+}
+
+/// The numbers from 0 up to a last one, between some others.
+fn counted(alloc: Global, before: &[u32], count: u32, behind: &[u32]) -> Option<Vec<u32>> {
+    let mut numbers = Vec::from_slice(alloc, before).ok()?;
+    for x in 0..count {
+        numbers.push(x).ok()?;
+    }
+    numbers.extend_from_slice(behind).ok()?;
+    Some(numbers)
+}
+
+/// So many times the same number, between some others.
+fn repeated(
+    alloc: Global,
+    before: &[u32],
+    number: u32,
+    count: u32,
+    behind: &[u32],
+) -> Option<Vec<u32>> {
+    let mut numbers = Vec::from_slice(alloc, before).ok()?;
+    for _ in 0..count {
+        numbers.push(number).ok()?;
+    }
+    numbers.extend_from_slice(behind).ok()?;
+    Some(numbers)
 }

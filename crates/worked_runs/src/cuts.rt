@@ -1,7 +1,7 @@
 // Each file of the three lists is cut at each byte.
 use crate::collections::{THREE_LISTS, cut_files};
-use crate::runs::run_words;
-use pef_io::{MemSink, Slot, SteadyDepot, SteadySink, SteadySource};
+use crate::runs::{ANSWER, BUILD, BUILD_ONE, run_words};
+use pef_io::{MemSink, Op, Slot, SteadyDepot, SteadySink, SteadySource};
 use pef_top::Status;
 use std::alloc::Global;
 
@@ -22,46 +22,69 @@ fn fault_of_cut(cut: Slot, length: usize) -> &'static str {
     }
 }
 
-/// Answers the cut collection, where the write on err of this number fails: the status and err. None
-/// where anything was called on input or out.
-fn run_cut(alloc: Global, cut: Slot, length: usize, failing: u64) -> Option<(Status, MemSink)> {
+/// Runs the words over the cut collection, where the write on err of this number fails: the status and err. None where anything
+/// was called on input or out, or a file was created.
+fn run_cut(
+    alloc: Global,
+    words: &[&str],
+    cut: Slot,
+    length: usize,
+    failing: u64,
+) -> Option<(Status, MemSink)> {
     let files = cut_files(alloc, THREE_LISTS, cut, length)?;
     let mut depot = SteadyDepot::new(alloc, files, 4).ok()?;
     let mut input = SteadySource::new(Vec::new(alloc), 4);
     let mut out = SteadySink::new(alloc, 4).ok()?;
     let mut err = MemSink::new(alloc, 4, vec![in alloc; failing].ok()?).ok()?;
-    let words = ["pefidx", "answer", "x"];
-    let status = run_words(alloc, &words, &mut depot, &mut input, &mut out, &mut err)?;
-    if input.calls() > 0 || out.calls() > 0 {
+    let status = run_words(alloc, words, &mut depot, &mut input, &mut out, &mut err)?;
+    if input.calls() > 0 || out.calls() > 0 || depot.calls(Op::Create) > 0 {
         return None;
     }
     Some((status, err))
 }
 
+/// The words of runs, and a file of the collection with its length in bytes.
+fn cases() -> [(&'static [&'static str], Slot, usize); 9] {
+    [
+        (&ANSWER, Slot::Docs, 28),
+        (&ANSWER, Slot::Freqs, 20),
+        (&ANSWER, Slot::Sizes, 12),
+        (&BUILD, Slot::Docs, 28),
+        (&BUILD, Slot::Freqs, 20),
+        (&BUILD, Slot::Sizes, 12),
+        (&BUILD_ONE, Slot::Docs, 28),
+        (&BUILD_ONE, Slot::Freqs, 20),
+        (&BUILD_ONE, Slot::Sizes, 12),
+    ]
+}
+
 #[test]
 fn each_cut_has_its_fault_and_err_may_fail(rt: HostRuntime) {
-    for (cut, whole) in [(Slot::Docs, 28), (Slot::Freqs, 20), (Slot::Sizes, 12)] {
+    for (words, cut, whole) in cases() {
         for length in 0..whole {
             let line = fault_of_cut(cut, length).as_bytes();
             let mut failed = 0;
             for failing in 1..100 {
-                let run = run_cut(rt.alloc(), cut, length, failing);
-                let (status, err) = run.expect(&rt, "nothing is called on input or out");
-                assert_eq!(rt; status, Status::Collection, "{cut:?} {length}");
+                let run = run_cut(rt.alloc(), words, cut, length, failing);
+                let (status, err) = run.expect(&rt, "nothing is called or created");
+                assert_eq!(rt; status, Status::Collection, "{words:?} {cut:?} {length}");
                 if err.calls() < failing {
-                    assert_eq!(rt; err.bytes(), line, "{cut:?} {length}");
+                    assert_eq!(rt; err.bytes(), line, "{words:?} {cut:?} {length}");
                     break;
                 }
-                assert!(rt; line.starts_with(err.bytes()), "{cut:?} {length} {failing}");
+                assert!(rt;
+                    line.starts_with(err.bytes()),
+                    "{words:?} {cut:?} {length} {failing}"
+                );
                 assert!(rt;
                     err.bytes().len() < line.len(),
-                    "{cut:?} {length} {failing}"
+                    "{words:?} {cut:?} {length} {failing}"
                 );
                 failed = failing;
             }
             assert!(rt;
                 line.len() / 4 <= failed as usize && failed < 99,
-                "{cut:?} {length}"
+                "{words:?} {cut:?} {length}"
             );
         }
     }

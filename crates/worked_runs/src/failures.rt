@@ -2,7 +2,8 @@
 ghost use Rattle.std.specs.Prelude.{◌≤◌};
 
 use crate::collections::{ONE_LIST, THREE_LISTS, files};
-use crate::runs::{FileList, OPS, run_words};
+use crate::indexes::{ONE_LIST_WORDS_OF_TWO, bytes_of};
+use crate::runs::{ANSWER, BUILD, BUILD_ONE, FileList, OPS, QUERY, run_words};
 use pef_io::{MemDepot, MemSink, MemSource, Op, Slot};
 use pef_top::Status;
 use std::alloc::Global;
@@ -22,10 +23,11 @@ struct Failed {
     err: MemSink,
 }
 
-/// Answers the text where each call moves at most `most` bytes, and the calls with these numbers
+/// Runs the words over the text where each call moves at most `most` bytes, and the calls with these numbers
 /// fail: of the depot, reads of the input, writes on out.
 fn run_failing(
     alloc: Global,
+    words: &[&str],
     files: FileList,
     text: &[u8],
     most: usize,
@@ -37,8 +39,7 @@ fn run_failing(
     let mut input = MemSource::new(Vec::from_slice(alloc, text).ok()?, most, fails.1);
     let mut out = MemSink::new(alloc, most, fails.2).ok()?;
     let mut err = MemSink::new(alloc, most, Vec::new(alloc)).ok()?;
-    let words = ["pefidx", "answer", "x"];
-    let status = run_words(alloc, &words, &mut depot, &mut input, &mut out, &mut err)?;
+    let status = run_words(alloc, words, &mut depot, &mut input, &mut out, &mut err)?;
     Some(Failed {
         status,
         depot,
@@ -71,7 +72,7 @@ fn calls_on_the_files_fail_in_turn(rt: HostRuntime) {
             let held = files(alloc, THREE_LISTS).expect(&rt, "memory");
             let fails = vec![in alloc; (op, failing)].expect(&rt, "memory");
             let none = (fails, Vec::new(alloc), Vec::new(alloc));
-            let run = run_failing(alloc, held, TEXT, 4, none).expect(&rt, "memory");
+            let run = run_failing(alloc, &ANSWER, held, TEXT, 4, none).expect(&rt, "memory");
             if run.depot.calls(op) < failing {
                 assert_eq!(rt; run.status, Status::Done, "{op:?} {failing}");
                 assert_eq!(rt; run.out.bytes(), REPLIES, "{op:?} {failing}");
@@ -120,7 +121,7 @@ fn reads_of_the_input_and_writes_on_out_fail_in_turn(rt: HostRuntime) {
         let reads = vec![in alloc; failing_read].expect(&rt, "memory");
         let writes = vec![in alloc; failing_write].expect(&rt, "memory");
         let fails = (Vec::new(alloc), reads, writes);
-        let run = run_failing(alloc, held, TEXT, 4, fails).expect(&rt, "memory");
+        let run = run_failing(alloc, &ANSWER, held, TEXT, 4, fails).expect(&rt, "memory");
         assert_eq!(rt; run.status, status, "{failing_read} {failing_write}");
         assert_eq!(rt;
             run.err.bytes(),
@@ -142,7 +143,7 @@ fn the_second_write_of_two_bytes_fails(rt: HostRuntime) {
     let writes = vec![in alloc; 2].expect(&rt, "memory");
     let fails = (Vec::new(alloc), Vec::new(alloc), writes);
     let text = b"next 0 1\nnext 0 3\nand 0\nor 0 0\ntop 1 0";
-    let run = run_failing(alloc, held, text, 2, fails).expect(&rt, "memory");
+    let run = run_failing(alloc, &ANSWER, held, text, 2, fails).expect(&rt, "memory");
     assert_eq!(rt; run.status, Status::Write);
     assert_eq!(rt; run.err.bytes(), b"write fault: out\n".as_slice());
     assert_eq!(rt; run.out.bytes(), b"2 ".as_slice());
@@ -150,12 +151,62 @@ fn the_second_write_of_two_bytes_fails(rt: HostRuntime) {
 
 #[test]
 fn a_missing_file_is_a_read_fault(rt: HostRuntime) {
+    for words in [ANSWER.as_slice(), BUILD.as_slice(), BUILD_ONE.as_slice()] {
+        for (missing, line) in [
+            (0, "read fault: docs\n"),
+            (1, "read fault: freqs\n"),
+            (2, "read fault: sizes\n"),
+        ] {
+            let alloc = rt.alloc();
+            let mut held = files(alloc, ONE_LIST).expect(&rt, "memory");
+            assert!(rt; missing < held.len());
+            held.remove(missing);
+            let none = (Vec::new(alloc), Vec::new(alloc), Vec::new(alloc));
+            let run = run_failing(alloc, words, held, TEXT, 4, none).expect(&rt, "memory");
+            assert_eq!(rt; run.status, Status::Read, "{words:?} {missing}");
+            assert_eq!(rt; run.err.bytes(), line.as_bytes(), "{words:?} {missing}");
+            assert_eq!(rt;
+                (run.input.calls(), run.out.calls()),
+                (0, 0),
+                "{words:?} {missing}"
+            );
+            assert_eq!(rt; run.depot.calls(Op::Create), 0, "{words:?} {missing}");
+            assert_eq!(rt; run.depot.file("y"), None, "{words:?} {missing}");
+        }
+    }
+}
+
+#[test]
+fn a_missing_index_is_a_read_fault(rt: HostRuntime) {
     let alloc = rt.alloc();
-    let mut held = files(alloc, ONE_LIST).expect(&rt, "memory");
-    held.truncate(2);
+    let held = files(alloc, ONE_LIST).expect(&rt, "memory");
     let none = (Vec::new(alloc), Vec::new(alloc), Vec::new(alloc));
-    let run = run_failing(alloc, held, TEXT, 4, none).expect(&rt, "memory");
+    let run = run_failing(alloc, &QUERY, held, TEXT, 4, none).expect(&rt, "memory");
     assert_eq!(rt; run.status, Status::Read);
-    assert_eq!(rt; run.err.bytes(), b"read fault: sizes\n".as_slice());
+    assert_eq!(rt; run.err.bytes(), b"read fault: index\n".as_slice());
     assert_eq!(rt; (run.input.calls(), run.out.calls()), (0, 0));
+}
+
+#[test]
+fn a_build_whose_calls_fail_leaves_a_front_or_no_file(rt: HostRuntime) {
+    let alloc = rt.alloc();
+    let whole = bytes_of(alloc, &ONE_LIST_WORDS_OF_TWO).expect(&rt, "memory");
+    let read = (Status::Read, "read fault: freqs\n");
+    let write = (Status::Write, "write fault: index\n");
+    for (most, fail, (status, line), left) in [
+        (4, (Op::Read(Slot::Freqs), 3), read, None),
+        (8, (Op::Create, 1), write, None),
+        (8, (Op::Write, 2), write, Some(b"PEFINDEX".as_slice())),
+        (8, (Op::Finish, 1), write, Some(whole.as_slice())),
+    ] {
+        let alloc = rt.alloc();
+        let held = files(alloc, ONE_LIST).expect(&rt, "memory");
+        let fails = vec![in alloc; fail].expect(&rt, "memory");
+        let fails = (fails, Vec::new(alloc), Vec::new(alloc));
+        let run = run_failing(alloc, &BUILD, held, TEXT, most, fails).expect(&rt, "memory");
+        assert_eq!(rt; run.status, status, "{fail:?}");
+        assert_eq!(rt; run.err.bytes(), line.as_bytes(), "{fail:?}");
+        assert_eq!(rt; run.depot.file("y"), left, "{fail:?}");
+        assert_eq!(rt; (run.input.calls(), run.out.calls()), (0, 0), "{fail:?}");
+    }
 }

@@ -1,25 +1,12 @@
 // Broken collections, each named by its first fault.
-use crate::collections::{Numbers, ONE_LIST, cut_files};
+use crate::collections::{Numbers, ONE_LIST, cut_files, files as files_of, full_list};
 use crate::indexes::built;
-use crate::runs::steady_run;
+use crate::runs::{ANSWER, BUILD, BUILD_ONE, run_to_replies, steady_run};
 use collection_reader::Fault;
 use part_cost::Format;
-use pef_io::Slot;
+use pef_io::{Op, Slot};
 use pef_top::{BuildError, Status};
 use std::alloc::Global;
-
-/// Seventeen documents in one list, whose frequencies sum to one more than 2^36.
-const SUM_TOO_LARGE: Numbers<'static> = Numbers {
-    docs: &[
-        1, 17, 17, 0, 1, 2, 3, 4, 5, 6, 7, 8, 9, 10, 11, 12, 13, 14, 15, 16,
-    ],
-    freqs: &[
-        17, 4294967295, 4294967295, 4294967295, 4294967295, 4294967295, 4294967295, 4294967295,
-        4294967295, 4294967295, 4294967295, 4294967295, 4294967295, 4294967295, 4294967295,
-        4294967295, 4294967295, 17,
-    ],
-    sizes: &[17, 0, 0, 0, 0, 0, 0, 0, 0, 0, 0, 0, 0, 0, 0, 0, 0, 0],
-};
 
 /// What a fault is called on the error output.
 fn name_of(alloc: Global, fault: Fault) -> Option<String> {
@@ -49,16 +36,10 @@ fn broken_collections_are_named(rt: HostRuntime) {
     let whole = (Slot::Index, 0);
     for (numbers, cut, line) in [
         (
-            numbers(&[1, 268_435_456], &[], &[]),
-            whole,
-            "C3 docs term 0 place 0",
-        ),
-        (
             numbers(&[1, 268_435_455], &[], &[]),
             whole,
             "C1 sizes term 0 place 0",
         ),
-        (SUM_TOO_LARGE, whole, "C8 freqs term 0 place 16"),
         (
             numbers(&[1, 5, 2, 4, 4], &[2, 1, 1], &[5, 0, 0, 0, 0, 0]),
             whole,
@@ -116,14 +97,21 @@ fn broken_collections_are_named(rt: HostRuntime) {
             "C12 sizes term 1 place 3",
         ),
     ] {
+        for words in [ANSWER.as_slice(), BUILD.as_slice(), BUILD_ONE.as_slice()] {
+            let alloc = rt.alloc();
+            let files = cut_files(alloc, numbers, cut.0, cut.1).expect(&rt, "memory");
+            let run = steady_run(alloc, words, files, b"next 0 1").expect(&rt, "memory");
+            assert_eq!(rt; run.status, Status::Collection, "{words:?} {line}");
+            let wanted = format!(in alloc; "collection {line}\n").expect(&rt, "memory");
+            assert_eq!(rt; run.err.bytes(), wanted.as_bytes(), "{words:?} {line}");
+            assert_eq!(rt;
+                (run.input.calls(), run.out.calls()),
+                (0, 0),
+                "{words:?} {line}"
+            );
+            assert_eq!(rt; run.depot.calls(Op::Create), 0, "{words:?} {line}");
+        }
         let alloc = rt.alloc();
-        let files = cut_files(alloc, numbers, cut.0, cut.1).expect(&rt, "memory");
-        let words = ["pefidx", "answer", "x"];
-        let run = steady_run(alloc, &words, files, b"next 0 1").expect(&rt, "memory");
-        assert_eq!(rt; run.status, Status::Collection, "{line}");
-        let wanted = format!(in alloc; "collection {line}\n").expect(&rt, "memory");
-        assert_eq!(rt; run.err.bytes(), wanted.as_bytes(), "{line}");
-        assert_eq!(rt; (run.input.calls(), run.out.calls()), (0, 0), "{line}");
         let files = cut_files(alloc, numbers, cut.0, cut.1).expect(&rt, "memory");
         let words = built(alloc, files, Format::One).expect(&rt, "memory");
         let Err(BuildError::Broken(fault)) = words else {
@@ -131,5 +119,52 @@ fn broken_collections_are_named(rt: HostRuntime) {
         };
         let name = name_of(alloc, fault).expect(&rt, "memory");
         assert_eq!(rt; name.as_bytes(), line.as_bytes());
+    }
+}
+
+// A collection that the first format refuses may be one of the second, or break another rule there. The sums of the full lists
+// are 2^36, 2^48, and one more than each.
+#[test]
+fn limits_of_a_run_are_those_of_its_format(rt: HostRuntime) {
+    let alloc = rt.alloc();
+    let first_greatest = full_list(alloc, 16, u32::MAX, 16).expect(&rt, "memory");
+    let above_first = full_list(alloc, 16, u32::MAX, 17).expect(&rt, "memory");
+    let second_greatest = full_list(alloc, 65_536, u32::MAX, 65_536).expect(&rt, "memory");
+    let above_second = full_list(alloc, 65_536, u32::MAX, 65_537).expect(&rt, "memory");
+    let many = numbers(&[1, 268_435_456], &[], &[]);
+    let [answer, build, build_one] = [ANSWER.as_slice(), BUILD.as_slice(), BUILD_ONE.as_slice()];
+    let sizes = "collection C1 sizes term 0 place 0\n";
+    let c3 = "collection C3 docs term 0 place 0\n";
+    let c8_first = "collection C8 freqs term 0 place 16\n";
+    let c8_second = "collection C8 freqs term 0 place 65536\n";
+    for (numbers, words, line, replies) in [
+        (many, answer, sizes, ""),
+        (many, build, sizes, ""),
+        (many, build_one, c3, ""),
+        (first_greatest.numbers(), build_one, "", "16 16\nend\n"),
+        (above_first.numbers(), answer, "", "16 17\nend\n"),
+        (above_first.numbers(), build, "", "16 17\nend\n"),
+        (above_first.numbers(), build_one, c8_first, ""),
+        (
+            second_greatest.numbers(),
+            build,
+            "",
+            "16 4294967295\n65536 65536\n",
+        ),
+        (second_greatest.numbers(), build_one, c8_first, ""),
+        (above_second.numbers(), answer, c8_second, ""),
+        (above_second.numbers(), build, c8_second, ""),
+    ] {
+        let files = files_of(alloc, numbers).expect(&rt, "memory");
+        let text = b"next 0 16\nnext 0 65536";
+        let run = run_to_replies(alloc, words, files, text).expect(&rt, "memory");
+        let status = if line.is_empty() {
+            Status::Done
+        } else {
+            Status::Collection
+        };
+        assert_eq!(rt; run.status, status, "{words:?} {line}");
+        assert_eq!(rt; run.err.bytes(), line.as_bytes(), "{words:?} {line}");
+        assert_eq!(rt; run.out.bytes(), replies.as_bytes(), "{words:?} {line}");
     }
 }

@@ -1,13 +1,15 @@
-// Indexes that are built of collections, and answers from them.
-ghost use Rattle.std.specs.Prelude.{◌≡◌, ◌<◌, ◌^◌, length};
+// The words of indexes: by `build_words`, and in the file that `build` leaves.
+ghost use Rattle.std.specs.Prelude.{◌≡◌, ◌<◌};
 
-use crate::collections::{Numbers, ONE_LIST, THREE_LISTS, files};
-use crate::runs::FileList;
+use crate::collections::{
+    NO_LIST, Numbers, ONE_LIST, THREE_LISTS, far_document, files as files_of, full_list,
+};
+use crate::runs::{BUILD, BUILD_ONE, FileList, QUERY, run_over, steady_run};
 use collection_reader::{Fault, Rule};
-use index_file::Index;
+use index_file::read_words;
 use part_cost::Format;
-use pef_io::{Depot, Slot, SteadyDepot, SteadySink, SteadySource};
-use pef_top::{BuildError, Plan, answer_text, build_words};
+use pef_io::{Depot, Slot, SteadyDepot};
+use pef_top::{BuildError, Status, build_words};
 use std::alloc::Global;
 use std::marker::Brand;
 use std::sync::ledger::{Blank, Ledger};
@@ -18,6 +20,141 @@ const OPENING: u64 = 6_360_565_151_758_173_520;
 
 /// The word at the end of a file, the bytes `XEDNIFEP`.
 const CLOSING: u64 = 5_784_106_577_086_924_120;
+
+/// The words of the one list in the first format.
+pub(crate) const ONE_LIST_WORDS: [u64; 18] = [
+    OPENING,
+    1,
+    137438953474,
+    0,
+    5,
+    137438953477,
+    0,
+    33,
+    4,
+    7,
+    2,
+    5,
+    4294967298,
+    21474836481,
+    3,
+    1,
+    8,
+    CLOSING,
+];
+
+/// The words of the one list in the second format.
+pub(crate) const ONE_LIST_WORDS_OF_TWO: [u64; 20] = [
+    OPENING,
+    2,
+    2,
+    2,
+    0,
+    5,
+    5,
+    2,
+    0,
+    33,
+    4,
+    7,
+    2,
+    6,
+    4294967298,
+    21474836481,
+    3,
+    1,
+    10,
+    CLOSING,
+];
+
+/// The words of the three lists in the first format.
+const THREE_LISTS_WORDS: [u64; 29] = [
+    OPENING,
+    1,
+    68719476736,
+    0,
+    68719476736,
+    0,
+    68719476737,
+    0,
+    2,
+    68719476738,
+    0,
+    4,
+    4294967297,
+    2,
+    4,
+    4294967297,
+    4294967297,
+    6,
+    6,
+    0,
+    0,
+    6,
+    9,
+    4294967297,
+    12884901889,
+    2,
+    3,
+    12,
+    CLOSING,
+];
+
+/// The words of the three lists in the second format.
+const THREE_LISTS_WORDS_OF_TWO: [u64; 33] = [
+    OPENING,
+    2,
+    0,
+    1,
+    0,
+    0,
+    1,
+    0,
+    1,
+    1,
+    0,
+    2,
+    2,
+    1,
+    0,
+    4,
+    4294967297,
+    2,
+    5,
+    4294967297,
+    4294967297,
+    8,
+    8,
+    0,
+    0,
+    8,
+    12,
+    4294967297,
+    12884901889,
+    2,
+    3,
+    16,
+    CLOSING,
+];
+
+/// The bytes of these words.
+pub(crate) fn bytes_of(alloc: Global, words: &[u64]) -> Option<Vec<u8>> {
+    let mut bytes = Vec::new(alloc);
+    for word in words {
+        bytes.extend_from_slice(&word.to_le_bytes()).ok()?;
+    }
+    Some(bytes)
+}
+
+/// Words with so many zeros between them.
+fn around_zeros(alloc: Global, before: &[u64], zeros: usize, behind: &[u64]) -> Option<Vec<u64>> {
+    let mut words = Vec::from_slice(alloc, before).ok()?;
+    for _ in 0..zeros {
+        words.push(0).ok()?;
+    }
+    words.extend_from_slice(behind).ok()?;
+    Some(words)
+}
 
 /// The words of the index of the files under the base `x`; none where memory for the files is wanting.
 pub(crate) fn built(
@@ -54,200 +191,70 @@ fn built_counted<D: Depot, L: Ledger>(
     build_words(alloc, "x", depot, format, &mut steps)
 }
 
-/// What out got of the replies to a text, from the index that words are; none where they are no index, where the text is not
-/// answered whole, or memory is wanting.
-pub(crate) fn replies_from(alloc: Global, words: &[u64], text: &[u8]) -> Option<SteadySink> {
-    if words.len() >= 1 << 40 {
-        return None;
+/// The words of a run that builds in a format.
+fn build_of(format: Format) -> &'static [&'static str] {
+    match format {
+        Format::One => &BUILD_ONE,
+        Format::Two => &BUILD,
     }
-    let index = Index::view(words).ok()?;
-    let mut input = SteadySource::new(Vec::from_slice(alloc, text).ok()?, 8192);
-    let mut out = SteadySink::new(alloc, 8192).ok()?;
-    let plan = Plan::Exhaustive;
-    answer_text(alloc, &index, plan, &mut input, 1 << 40, &mut out).ok()?;
-    Some(out)
 }
 
+// The thousand documents are in one list, each once: both sequences are one part without payload.
 #[test]
-fn words_of_small_collections(rt: HostRuntime) {
-    let rows: [(Numbers<'static>, Format, &[u64]); 5] = [
-        (
-            ONE_LIST,
-            Format::One,
-            &[
-                OPENING,
-                1,
-                137438953474,
-                0,
-                5,
-                137438953477,
-                0,
-                33,
-                4,
-                7,
-                2,
-                5,
-                4294967298,
-                21474836481,
-                3,
-                1,
-                8,
-                CLOSING,
-            ],
-        ),
-        (
-            ONE_LIST,
-            Format::Two,
-            &[
-                OPENING,
-                2,
-                2,
-                2,
-                0,
-                5,
-                5,
-                2,
-                0,
-                33,
-                4,
-                7,
-                2,
-                6,
-                4294967298,
-                21474836481,
-                3,
-                1,
-                10,
-                CLOSING,
-            ],
-        ),
-        (
-            THREE_LISTS,
-            Format::One,
-            &[
-                OPENING,
-                1,
-                68719476736,
-                0,
-                68719476736,
-                0,
-                68719476737,
-                0,
-                2,
-                68719476738,
-                0,
-                4,
-                4294967297,
-                2,
-                4,
-                4294967297,
-                4294967297,
-                6,
-                6,
-                0,
-                0,
-                6,
-                9,
-                4294967297,
-                12884901889,
-                2,
-                3,
-                12,
-                CLOSING,
-            ],
-        ),
-        (NO_DOCUMENT, Format::One, &[OPENING, 1, 0, 0, 2, CLOSING]),
-        (NO_DOCUMENT, Format::Two, &[OPENING, 2, 0, 0, 2, CLOSING]),
+fn indexes_have_their_words(rt: HostRuntime) {
+    let alloc = rt.alloc();
+    let thousand = full_list(alloc, 999, 1, 1).expect(&rt, "memory");
+    let thousand_words = around_zeros(
+        alloc,
+        &[OPENING, 1, 68719476736999, 0, 68719476736999, 0],
+        500,
+        &[2, 4, 4294968296, 4294967297, 1000, 1, 6, CLOSING],
+    )
+    .expect(&rt, "memory");
+    let thousand_words_of_two = around_zeros(
+        alloc,
+        &[OPENING, 2, 999, 1000, 0, 999, 1000, 0],
+        500,
+        &[2, 5, 4294968296, 4294967297, 1000, 1, 8, CLOSING],
+    )
+    .expect(&rt, "memory");
+    let rows: [(Numbers<'_>, Format, &[u64]); 8] = [
+        (NO_LIST, Format::One, &[OPENING, 1, 0, 0, 2, CLOSING]),
+        (NO_LIST, Format::Two, &[OPENING, 2, 0, 0, 2, CLOSING]),
+        (ONE_LIST, Format::One, &ONE_LIST_WORDS),
+        (ONE_LIST, Format::Two, &ONE_LIST_WORDS_OF_TWO),
+        (THREE_LISTS, Format::One, &THREE_LISTS_WORDS),
+        (THREE_LISTS, Format::Two, &THREE_LISTS_WORDS_OF_TWO),
+        (thousand.numbers(), Format::One, &thousand_words),
+        (thousand.numbers(), Format::Two, &thousand_words_of_two),
     ];
     for (numbers, format, want) in rows {
-        let alloc = rt.alloc();
-        let files = files(alloc, numbers).expect(&rt, "memory");
+        let files = files_of(alloc, numbers).expect(&rt, "memory");
         let words = built(alloc, files, format)
             .expect(&rt, "memory")
             .expect(&rt, "a collection");
         assert_eq!(rt; words.as_slice(), want, "{format:?}");
+        let files = files_of(alloc, numbers).expect(&rt, "memory");
+        let run = steady_run(alloc, build_of(format), files, b"").expect(&rt, "memory");
+        assert_eq!(rt; run.status, Status::Done, "{format:?}");
+        let bytes = bytes_of(alloc, want).expect(&rt, "memory");
+        assert_eq!(rt; run.depot.file("y"), Some(bytes.as_slice()), "{format:?}");
+        assert_eq!(rt; (run.input.calls(), run.out.calls()), (0, 0), "{format:?}");
+        assert_eq!(rt; run.err.calls(), 0, "{format:?}");
     }
 }
 
-/// No document and no list.
-const NO_DOCUMENT: Numbers<'static> = Numbers {
-    docs: &[1, 0],
-    freqs: &[],
-    sizes: &[0],
-};
-
-/// The numbers from 0 up to a last one, behind some others.
-fn counted(alloc: Global, before: &[u32], count: u32, behind: &[u32]) -> Option<Vec<u32>> {
-    let mut numbers = Vec::from_slice(alloc, before).ok()?;
-    for x in 0..count {
-        numbers.push(x).ok()?;
-    }
-    numbers.extend_from_slice(behind).ok()?;
-    Some(numbers)
-}
-
-/// So many times the same number, between some others.
-fn repeated(
-    alloc: Global,
-    before: &[u32],
-    number: u32,
-    count: u32,
-    behind: &[u32],
-) -> Option<Vec<u32>> {
-    let mut numbers = Vec::from_slice(alloc, before).ok()?;
-    for _ in 0..count {
-        numbers.push(number).ok()?;
-    }
-    numbers.extend_from_slice(behind).ok()?;
-    Some(numbers)
-}
-
-// A thousand documents in one list, each once: both sequences are one part without payload.
-#[test]
-fn words_of_a_full_list(rt: HostRuntime) {
-    let alloc = rt.alloc();
-    let docs = counted(alloc, &[1, 1000, 1000], 1000, &[]).expect(&rt, "memory");
-    let freqs = repeated(alloc, &[1000], 1, 1000, &[]).expect(&rt, "memory");
-    let sizes = repeated(alloc, &[1000], 0, 1000, &[]).expect(&rt, "memory");
-    let one: &[u64] = &[68719476736999, 0, 68719476736999, 0];
-    let two: &[u64] = &[999, 1000, 0, 999, 1000, 0];
-    for (format, count, sequences) in [(Format::One, 514, one), (Format::Two, 516, two)] {
-        let numbers = Numbers {
-            docs: &docs,
-            freqs: &freqs,
-            sizes: &sizes,
-        };
-        let files = files(alloc, numbers).expect(&rt, "memory");
-        let words = built(alloc, files, format)
-            .expect(&rt, "memory")
-            .expect(&rt, "a collection");
-        assert_eq!(rt; words.len(), count);
-        let end = 2 + sequences.len();
-        assert!(rt; end <= words.len());
-        assert_eq!(rt; &words[2..end], sequences);
-    }
-}
-
-// The documents 0 to 99,999 and a far one, in frequencies whose sums are the same numbers, and a second list: both sequences of
-// the first are cut in two, which costs 277 bits in the first format and 405 in the second.
+// Both sequences of the first list are cut in two, which costs 277 bits in the first format and 405 in the second.
 #[test]
 fn a_far_document_is_cut_off(rt: HostRuntime) {
     let alloc = rt.alloc();
-    let docs = counted(alloc, &[1, 1_000_001, 100_001], 100_000, &[1_000_000, 1, 5]).expect(
-        &rt, "memory",
-    );
-    let freqs = repeated(alloc, &[100_001], 1, 100_000, &[900_001, 1, 2]).expect(&rt, "memory");
-    let sizes = repeated(alloc, &[1_000_001], 0, 1_000_001, &[]).expect(&rt, "memory");
+    let far = far_document(alloc).expect(&rt, "memory");
     for (format, length) in [(Format::One, 5), (Format::Two, 7)] {
-        let numbers = Numbers {
-            docs: &docs,
-            freqs: &freqs,
-            sizes: &sizes,
-        };
-        let files = files(alloc, numbers).expect(&rt, "memory");
-        let words = built(alloc, files, format)
-            .expect(&rt, "memory")
-            .expect(&rt, "a collection");
+        let files = files_of(alloc, far.numbers()).expect(&rt, "memory");
+        let build = steady_run(alloc, build_of(format), files, b"").expect(&rt, "memory");
+        assert_eq!(rt; build.status, Status::Done, "{format:?}");
+        let file = build.depot.file("y").expect(&rt, "a file");
+        let words = read_words(alloc, file).expect(&rt, "whole words");
         assert!(rt; 12 <= words.len());
         let directory = words.len() - 12;
         assert_eq!(rt; words[directory], 2);
@@ -255,15 +262,16 @@ fn a_far_document_is_cut_off(rt: HostRuntime) {
         assert_eq!(rt; words[directory + 2], 100_001 + (2 << 32));
         assert_eq!(rt; words[directory + 3], 2 + (900_001 << 32));
         let text = b"next 0 100000\nnext 0 99999\ntop 2 0 1\nand 1 0\nnext 1 6\n";
-        let out = replies_from(alloc, &words, text).expect(&rt, "an index");
+        let query = run_over(alloc, &QUERY, build.depot, text).expect(&rt, "memory");
+        assert_eq!(rt; query.status, Status::Done, "{format:?}");
         assert_eq!(rt;
-            out.bytes(),
+            query.out.bytes(),
             b"1000000 900001\n99999 1\n2 1000000:900001 5:3\n1 5\nend\n".as_slice()
         );
     }
 }
 
-// The second format has other limits: more documents than the first are too few sizes, and a sum that it refuses is built.
+// The second format has other limits: more documents than the first are too few sizes.
 #[test]
 fn limits_are_those_of_the_format(rt: HostRuntime) {
     let alloc = rt.alloc();
@@ -272,15 +280,13 @@ fn limits_are_those_of_the_format(rt: HostRuntime) {
         freqs: &[],
         sizes: &[],
     };
-    for (format, rule) in [(Format::One, Rule::C3), (Format::Two, Rule::C1)] {
-        let files = files(alloc, numbers).expect(&rt, "memory");
+    for (format, rule, file) in [
+        (Format::One, Rule::C3, Slot::Docs),
+        (Format::Two, Rule::C1, Slot::Sizes),
+    ] {
+        let files = files_of(alloc, numbers).expect(&rt, "memory");
         let words = built(alloc, files, format).expect(&rt, "memory");
         let fault = words.err().expect(&rt, "a refusal");
-        let file = if rule == Rule::C3 {
-            Slot::Docs
-        } else {
-            Slot::Sizes
-        };
         let want = Fault {
             rule,
             file,
@@ -295,7 +301,7 @@ fn limits_are_those_of_the_format(rt: HostRuntime) {
 #[test]
 fn refused_memory_is_told(rt: HostRuntime) {
     let alloc = rt.alloc();
-    let Some(files) = files(alloc, ONE_LIST) else {
+    let Some(files) = files_of(alloc, ONE_LIST) else {
         return;
     };
     match built(alloc, files, Format::Two) {

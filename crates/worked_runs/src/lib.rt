@@ -9,6 +9,8 @@ mod collections;
 #[cfg(test)]
 mod cuts;
 #[cfg(test)]
+mod edited_files;
+#[cfg(test)]
 mod failures;
 #[cfg(test)]
 mod faults;

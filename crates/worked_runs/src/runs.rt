@@ -11,6 +11,18 @@ use step_count::Steps;
 /// Files by name.
 pub(crate) type FileList = Vec<(String, Vec<u8>)>;
 
+/// The words of a run that answers from the collection `x`.
+pub(crate) const ANSWER: [&str; 3] = ["pefidx", "answer", "x"];
+
+/// The words of a run that builds the index `y` of the collection `x`.
+pub(crate) const BUILD: [&str; 4] = ["pefidx", "build", "x", "y"];
+
+/// The words of a run that builds it in the first format.
+pub(crate) const BUILD_ONE: [&str; 6] = ["pefidx", "build", "x", "y", "--format", "1"];
+
+/// The words of a run that answers from the index `y`.
+pub(crate) const QUERY: [&str; 3] = ["pefidx", "query", "y"];
+
 /// The kinds of call of a depot.
 pub(crate) const OPS: [Op; 11] = [
     Op::Start(Slot::Docs),
@@ -79,7 +91,17 @@ pub(crate) fn steady_run(
     files: FileList,
     text: &[u8],
 ) -> Option<Outcome> {
-    let mut depot = SteadyDepot::new(alloc, files, 8192).ok()?;
+    let depot = SteadyDepot::new(alloc, files, 8192).ok()?;
+    run_over(alloc, words, depot, text)
+}
+
+/// Runs the words over the files that a depot holds and this query text, where no call fails.
+pub(crate) fn run_over(
+    alloc: Global,
+    words: &[&str],
+    mut depot: SteadyDepot,
+    text: &[u8],
+) -> Option<Outcome> {
     let mut input = SteadySource::new(Vec::from_slice(alloc, text).ok()?, 8192);
     let mut out = SteadySink::new(alloc, 8192).ok()?;
     let mut err = SteadySink::new(alloc, 8192).ok()?;
@@ -91,4 +113,19 @@ pub(crate) fn steady_run(
         input,
         depot,
     })
+}
+
+/// Runs the words over these files, and `query` where they built the index `y`: what stands after the run that replies to
+/// the text, or that was refused.
+pub(crate) fn run_to_replies(
+    alloc: Global,
+    words: &[&str],
+    files: FileList,
+    text: &[u8],
+) -> Option<Outcome> {
+    let run = steady_run(alloc, words, files, text)?;
+    if run.depot.file("y").is_none() {
+        return Some(run);
+    }
+    run_over(alloc, &QUERY, run.depot, text)
 }

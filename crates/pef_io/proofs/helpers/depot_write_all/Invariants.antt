@@ -1,5 +1,6 @@
 use Rattle.std.proofs.Common.{◌≡◌, ◌-◌, ◌≤◌, ◌++◌, [], length, take, unwrap_or, IsTrue}
 use Rattle.pef_io.specs.DepotState.{SameFilesBut, SameSlots, SameWriting}
+use Rattle.pef_io.specs.Helpers.{HasFile}
 use Rattle.pef_io.proofs.helpers.depot_write_all.Given as goal
 
 abbrev pub invariant-loop-at : goal.invariant-loop-at
@@ -14,6 +15,7 @@ invariant-loop-at g l =
     × SameWriting old now
     × (now.writing_faults ≡ old.writing_faults)
     × ((slot : _) → now.faults slot ≡ old.faults slot)
+    × (IsTrue old.tells → HasFile old old.name → HasFile now old.name)
 
 abbrev pub decreases-loop-at : goal.decreases-loop-at
 decreases-loop-at g l = length l.piece - l.at

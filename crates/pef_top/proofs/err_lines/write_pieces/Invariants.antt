@@ -1,7 +1,7 @@
 use Rattle.std.proofs.Common.{take}
 use Rattle.std.specs.Prelude.{Ok}
 use Rattle.pef_io.specs.Helpers.{WritesAll}
-use Rattle.pef_top.specs.ErrPieces.{joined}
+use Rattle.pef_top.specs.Private.ErrPieces.{joined}
 use Rattle.pef_top.proofs.err_lines.write_pieces.Given as goal
 
 abbrev pub invariant-loop-piece : goal.invariant-loop-piece

@@ -1,27 +1,25 @@
 use Rattle.pef_top.specs.Command.{command_of, texts}
-use Rattle.pef_top.proofs.Answering.{by_command}
-use Rattle.pef_top.proofs.Ends.{answers, untouched_where_broken, untouched_where_refused, untouched_where_file_failed}
+use Rattle.pef_top.specs.Uncalled.{Accepts}
+use Rattle.pef_top.specs.Private.Stops.{outcome_of}
+use Rattle.pef_top.proofs.RunEnds.{run_ends, usage_reported, usage_uncalled, is_ok}
 use Rattle.pef_top.proofs.top.run.Goals as goal
 
-pub returns-clause-answer : goal.returns-clause-answer
-returns-clause-answer g c = λ base is.
-    let laws = c.collection_or_fault.ensures in
-    answers g.I.Source.state g.O.Sink.state base _ _ _ _ _ _ _ (c.perform-ending.ensures.answer base is) _ _ _
-    laws.one_collection laws.one_fault c.report.ensures.ending
+pub returns-clause-usage : goal.returns-clause-usage
+returns-clause-usage g c = λ none.
+    let command = command_of (texts c.args.words.now) in
+    let outcome = outcome_of c.perform-ending.result in
+    let left = c.perform-ending.ensures.leaves (g.E.Sink.state c.args.err.now) (g.E.Sink.state c.report.new.err) in
+    let same = usage_uncalled command (Accepts command (g.D.Depot.state c.args.depot.now)) outcome _ _ _ _ _ _ none c.perform-ending.ensures.uncalled in
+    (usage_reported command _ _ outcome _ left c.report.ensures.ending none, same.0, same.1, same.2)
 
-pub returns-clause-broken : goal.returns-clause-broken
-returns-clause-broken g c = λ base is told fault holds.
-    untouched_where_broken g.I.Source.state g.O.Sink.state base _ _ _ _ _ _ _ (c.perform-ending.ensures.answer base is) fault told holds
-
-pub returns-clause-refused : goal.returns-clause-refused
-returns-clause-refused g c = λ is.
-    by_command _ (command_of (texts c.args.words.now))
-    (λ none. let u = c.perform-ending.ensures.usage none in (u.2, u.3))
-    (λ base some. untouched_where_refused g.I.Source.state g.O.Sink.state base _ _ _ _ _ _ _ (c.perform-ending.ensures.answer base some) _ _ _
-    c.report.ensures.ending is)
-
-pub returns-clause-file_fault : goal.returns-clause-file_fault
-returns-clause-file_fault g c = λ slot rose.
-    by_command _ (command_of (texts c.args.words.now))
-    (λ none. let u = c.perform-ending.ensures.usage none in (u.2, u.3))
-    (λ base some. untouched_where_file_failed g.I.Source.state g.O.Sink.state base _ _ _ _ _ _ _ (c.perform-ending.ensures.answer base some) slot rose)
+pub returns-clause-outcome : goal.returns-clause-outcome
+returns-clause-outcome g c =
+    let command = command_of (texts c.args.words.now) in
+    let outcome = outcome_of c.perform-ending.result in
+    let left = c.perform-ending.ensures.leaves (g.E.Sink.state c.args.err.now) (g.E.Sink.state c.report.new.err) in (
+      outcome,
+      run_ends command _ _ outcome _ left c.report.ensures.ending,
+      left.performs,
+      c.perform-ending.ensures.uncalled,
+      λ done. c.report.ensures.done (is_ok c.perform-ending.result done),
+    )

@@ -1,35 +1,26 @@
-use Rattle.std.proofs.Common.{◌≡◌, sym, ◌∙◌, ◌+◌, arith}
-use Rattle.std.proofs.lemmas.Bool.{false≢true}
-use Rattle.std.proofs.lemmas.Option.{get_or_from_slice_get}
-use Rattle.collection_model.specs.Collection.{freqs_of}
-use Rattle.scan_plans.specs.Matches.{freq_of_doc}
-use Rattle.scan_plans.specs.Scan.{StandsFrom}
-use Rattle.scan_plans.proofs.Postings.{at-doc, not-at-doc}
-use Rattle.scan_plans.proofs.Steps.{item-holds, score-step, score-whole}
+use Rattle.std.proofs.Common.{◌≡◌, ◌≤◌, ap, subst, ℕ, ◌+◌, ◌*◌, [], ◌∷◌, ◌++◌, map, length, take, arith, rules}
+use Rattle.std.specs.List.{sum, sum_by, zip}
+use Rattle.std.proofs.lemmas.List.{length_push}
+use Rattle.std.proofs.lemmas.List.Sums.{sum_by_more}
+use Rattle.std.proofs.lemmas.Slice.Zip.{zip_turn, zip_end}
+use Rattle.scan_plans.proofs.Steps.{share, score-step, score-whole}
 use Rattle.scan_plans.proofs.scan.score_at.Goals as goal
-use Rattle.scan_plans.proofs.scan.score_at.Goals.{then-is_at, else-is_at}
-
-pub overflow_add-sum : goal.overflow_add-sum
-overflow_add-sum g c = omega (arith, c.requires.few, c.loop-cursor.invariant.bound, c.freq.type_inv)
 
 pub loop-cursor-preserved : goal.loop-cursor-preserved
 loop-cursor-preserved g c =
-    let x = c.cursor-item.result in
-    let list = g.C.DocCursor.list x in
-    let place = g.C.DocCursor.place x in
-    let good = g.met.C.DocCursor.well_formed x in
-    let stands : StandsFrom c.args.doc list place = item-holds g.C.DocCursor.list g.C.DocCursor.place (λ x. StandsFrom c.args.doc (g.C.DocCursor.list x) (g.C.DocCursor.place x)) c.args.cursors.now c.loop-cursor.cursor-index x c.cursor-item.is (omega arith) c.requires.stand in
+    let i : ℕ = length c.loop-cursor.yielded in
+    let turn = zip_turn c.args.cursors.now c.args.weights.now c.loop-cursor.yielded c.into_iter-cursor-iterator.result c.loop-cursor.cursor-iterator c.next.new.self c.next.result (search rules) (search rules) c.loop-cursor.yielded_by (c.in-Some.cursor, c.in-Some.weight) c.in-Some.is c.next.ensures.steps in
+    let next : length c.loop-cursor.yielded + 1 ≡ length (c.loop-cursor.yielded ++ (c.in-Some.cursor, c.in-Some.weight) ∷ []) = omega (arith, length_push c.loop-cursor.yielded (c.in-Some.cursor, c.in-Some.weight)) in
+    let heavier = sum_by_more (λ w. w) c.args.weights.now i 0 turn.1 in
+    let weight = turn.3 0 in
+    let added = c.weighted_freq-sum.ensures.bound in
     record {
-      sum = score-step g.C.DocCursor.list g.C.DocCursor.place c.args.doc c.args.cursors.now c.loop-cursor.cursor-index c.loop-cursor.sum c.if-is_at.sum x c.cursor-item.is (omega arith) c.loop-cursor.invariant.sum
-          (elim c.if-is_at.branch as (λ _. c.if-is_at.sum ≡ c.loop-cursor.sum + freq_of_doc c.args.doc list) [
-            | then-is_at w ↦ (let read = get_or_from_slice_get (freqs_of list) place w.freq.result 0 w.freq.ensures in
-                let at = at-doc list c.args.doc place good.well_formed stands (c.is_at.ensures.0 w.if-is_at.true) in
-                let is = at.freq in let sums = w.sum-is in omega arith)
-            | else-is_at w ↦ (let at = not-at-doc list c.args.doc place good.well_formed stands (λ is. false≢true (sym w.if-is_at.false ∙ c.is_at.ensures.1 is)) in
-                let none = at.freq in let sums = w.sum-is in omega arith)
-          ]);
-      bound = elim c.if-is_at.branch [ then-is_at w ↦ omega (arith, c.loop-cursor.invariant.bound, w.sum-is, w.freq.type_inv) | else-is_at w ↦ omega (arith, c.loop-cursor.invariant.bound, w.sum-is) ];
+      so_far = subst (λ (n : ℕ). c.loop-cursor.sum + c.weighted_freq-sum.result ≡ sum_by (share c.args.doc) (take n (zip (map g.C.DocCursor.list c.args.cursors.now) c.args.weights.now))) next
+          (score-step g.C.DocCursor.list g.C.DocCursor.place c.args.doc c.args.cursors.now c.args.weights.now i c.loop-cursor.sum _ c.in-Some.cursor.now c.in-Some.weight.now (turn.2 c.in-Some.cursor.now) weight turn.0 turn.1 c.loop-cursor.invariant.so_far (ap (λ (n : ℕ). c.loop-cursor.sum + n) c.weighted_freq-sum.ensures.value));
+      bound = subst (λ (n : ℕ). c.loop-cursor.sum + c.weighted_freq-sum.result ≤ sum (take n c.args.weights.now) * 4294967295) next (omega (arith, c.loop-cursor.invariant.bound));
     }
 
-pub returns : goal.returns
-returns g c = score-whole g.C.DocCursor.list g.C.DocCursor.place c.args.doc c.args.cursors.now c.loop-cursor.cursor-index c.loop-cursor.sum c.loop-cursor-test.false c.loop-cursor.invariant.sum
+pub returns-clause-value : goal.returns-clause-value
+returns-clause-value g c =
+    let end = zip_end c.args.cursors.now c.args.weights.now c.loop-cursor.yielded c.into_iter-cursor-iterator.result c.loop-cursor.cursor-iterator c.next.new.self c.next.result (search rules) (search rules) c.loop-cursor.yielded_by c.in-None.is c.next.ensures.steps in
+    score-whole g.C.DocCursor.list g.C.DocCursor.place c.args.doc c.args.cursors.now c.args.weights.now (length c.loop-cursor.yielded) c.loop-cursor.sum (omega (arith, end, c.requires.each)) c.loop-cursor.invariant.so_far

@@ -1,4 +1,4 @@
-use Rattle.std.proofs.Common.{◌≡◌, ℕ, ◌-◌, map, length}
+use Rattle.std.proofs.Common.{◌≡◌, ℕ, ◌-◌, ◌<◌, ◌^◌, map, length}
 use Rattle.std.specs.List.{All, sum_by}
 use Rattle.scan_plans.specs.Matches.{in_any}
 use Rattle.scan_plans.specs.Scan.{StandsFrom}
@@ -12,7 +12,8 @@ invariant-loop-doc g l = record {
   stand : All (λ c. StandsFrom low (g.C.DocCursor.list c) (g.C.DocCursor.place c)) l.cursors;
   k : l.top.k ≡ l.fn.k;
   n : l.top.n ≡ l.fn.n;
-  best : IsBest l.fn.k (map g.C.DocCursor.list l.initial.cursors) (in_any low (map g.C.DocCursor.list l.initial.cursors)) l.top.held;
+  best : IsBest l.fn.k (map g.C.DocCursor.list l.initial.cursors) l.weights (in_any low (map g.C.DocCursor.list l.initial.cursors)) l.top.held;
+  bound : All (λ e. e.1 < 2 ^ 58) l.top.held;
 }
 
 abbrev pub decreases-loop-doc : goal.decreases-loop-doc

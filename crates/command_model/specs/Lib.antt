@@ -1,0 +1,5 @@
+pub mod Found
+pub mod Built
+pub mod Replies
+pub mod GotReplies
+pub mod Written

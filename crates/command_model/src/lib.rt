@@ -1,0 +1,2 @@
+// What a command finds, builds, answers and writes: the definitions that the contracts of the program cite.
+#![tactic(auto)]

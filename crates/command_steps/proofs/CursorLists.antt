@@ -1,0 +1,127 @@
+use Rattle.std.proofs.Common.{◌≡◌, refl, sym, ◌∙◌, ap, subst, zero-add, ℕ, zero, suc, ◌+◌, ◌<◌, List, [], ◌∷◌, ◌++◌, length, get_or, take, map, arith}
+use Rattle.std.specs.Prelude.{Option, Some, None, option_map, Result, Ok, Err, IfOk, Vec}
+use Rattle.std.specs.declared.alloc.Global.{Global}
+use Rattle.std.specs.List.{All, slice_get}
+use Rattle.std.proofs.lemmas.List.{map-append, length-map}
+use Rattle.std.proofs.lemmas.List.Elements.{All-get_or, All-weaker, All-map, All-append}
+use Rattle.std.proofs.lemmas.List.Folds.{find_at}
+use Rattle.std.proofs.lemmas.Option.{slice_get-map, slice_get_within, none-some}
+use Rattle.std.proofs.Math.Seq.{take-suc}
+use Rattle.collection_model.specs.FormatNumbers.{FormatNumbers}
+use Rattle.collection_model.specs.Collection.{Posting, Collection, WellFormed, IsPostingList, docs_of, freqs_of, list_of, first_at_least}
+use Rattle.cursor_api.specs.NextGeq.{next_geq_place}
+use Rattle.scan_plans.specs.Matches.{AreBelow, in_all, in_any}
+use Rattle.query_text.specs.declared.query.Query.{Query}
+use Rattle.query_text.specs.declared.query.Query.TheVariants.{Next, And, Or, Top}
+use Rattle.query_text.specs.declared.query.NoMemory.{NoMemory}
+use Rattle.query_text.specs.Parse.{NamesTerms}
+use Rattle.query_text.specs.Texts.{list_text}
+use Rattle.command_model.specs.Replies.{IsAnswer, lists_of, terms_of}
+
+-- ---- the terms that a line asks for
+
+-- what holds of an element holds of each of it alone
+one-at : {X : Type 0} (P : X → Type 0) (x d : X) (k : ℕ) → k < 1 → P x → P (get_or (x ∷ []) k d)
+one-at P x d zero lt h = h
+one-at P x d (suc k) lt h = absurd (omega arith)
+
+terms-below : (n : ℕ) (query : Query) → NamesTerms n query → All (λ t. t < n) (terms_of query)
+terms-below n (Next t d) named = λ k d lt. one-at (λ t. t < n) t d k lt named
+terms-below n (And terms) named = named.below
+terms-below n (Or terms) named = named.below
+terms-below n (Top k terms) named = named.0.below
+
+-- the documents of their lists are those of the collection
+lists-below : (format : FormatNumbers) (c : Collection) (terms : List ℕ) → WellFormed format c → All (λ t. t < length c.lists) terms → AreBelow c.documents (lists_of c terms)
+lists-below format c terms well below =
+    All-map (λ list. All (λ d. d < c.documents) (docs_of list)) (list_of c) terms
+    (
+    All-weaker (λ t. t < length c.lists) (λ t. All (λ d. d < c.documents) (docs_of (list_of c t)))
+    (λ t lt. (All-get_or (IsPostingList format c.documents) c.lists t [] lt well.lists).in_range)
+    terms
+    below
+    )
+
+-- and so are those of the cursors over them
+pub cursors-below : {C : Type 0} (list_at : C → List Posting) (format : FormatNumbers) (c : Collection) (query : Query) (terms : List ℕ) (made cursors : List C) (n : ℕ) →
+    WellFormed format c → NamesTerms (length c.lists) query → n ≡ c.documents → terms ≡ terms_of query → map list_at made ≡ lists_of c terms → cursors ≡ made → AreBelow n (map list_at cursors)
+cursors-below list_at format c query terms made cursors n well named documents asked so same =
+    let lists : map list_at cursors ≡ lists_of c (terms_of query) = ap (map list_at) same ∙ so ∙ ap (lists_of c) asked in
+    subst (λ n. AreBelow n (map list_at cursors)) (sym documents)
+    (subst (AreBelow c.documents) (sym lists) (lists-below format c (terms_of query) well (terms-below (length c.lists) query named)))
+
+-- ---- cursors that are made one after the other
+
+pub lists-pushed : {C : Type 0} (list_at : C → List Posting) (c : Collection) (terms : List ℕ) (k : ℕ) (cursors more : List C) (cursor : C) →
+    map list_at cursors ≡ lists_of c (take k terms) → more ≡ cursors ++ cursor ∷ [] → list_at cursor ≡ list_of c (get_or terms k 0) → k < length terms →
+    map list_at more ≡ lists_of c (take (k + 1) terms)
+lists-pushed list_at c terms k cursors more cursor so pushed of within =
+    let next : suc k ≡ k + 1 = omega arith in
+    let last : List ℕ = get_or terms k 0 ∷ [] in
+    ap (map list_at) pushed ∙ map-append list_at cursors (cursor ∷ []) ∙ (λ i. so i ++ of i ∷ [])
+    ∙ sym (map-append (list_of c) (take k terms) last) ∙ sym (ap (lists_of c) (take-suc terms k 0 within)) ∙ ap (λ n. lists_of c (take n terms)) next
+
+pub starts-pushed : {C : Type 0} (place_at : C → ℕ) (cursors more : List C) (cursor : C) →
+    All (λ c. place_at c ≡ 0) cursors → more ≡ cursors ++ cursor ∷ [] → place_at cursor ≡ 0 → All (λ c. place_at c ≡ 0) more
+starts-pushed {C} place_at cursors more cursor so pushed start =
+    let P : C → Type 0 = λ c. place_at c ≡ 0 in
+    subst (All P) (sym pushed) (All-append P cursors (cursor ∷ []) so (λ k d lt. one-at P cursor d k lt start))
+
+-- ---- the first posting of a list whose document is at least d
+
+-- it stands where a cursor goes from the start of the list
+first-is_next : (list : List Posting) (d : ℕ) → first_at_least list d ≡ slice_get list (next_geq_place list 0 d)
+first-is_next list d = find_at _ list ∙ ap (slice_get list) (sym (zero-add _))
+
+-- where a cursor went that stood there
+first-at : (old new : List Posting) (start place d : ℕ) → start ≡ 0 → new ≡ old → place ≡ next_geq_place old start d → slice_get new place ≡ first_at_least old d
+first-at old new start place d at same went =
+    ap (λ list. slice_get list place) same ∙ ap (slice_get old) (went ∙ ap (λ n. next_geq_place old n d) at) ∙ sym (first-is_next old d)
+
+abbrev pub pair_of : Posting → ℕ × ℕ
+pair_of p = (p.doc, p.freq)
+
+none-mapped : (o : Option Posting) → option_map (λ p. p.doc) o ≡ None → option_map pair_of o ≡ None
+none-mapped None e = refl
+none-mapped (Some p) e = absurd (none-some p.doc (sym e))
+
+some-mapped : (o : Option Posting) (doc freq : ℕ) → option_map (λ p. p.doc) o ≡ Some doc → option_map (λ p. p.freq) o ≡ Some freq → option_map pair_of o ≡ Some (doc, freq)
+some-mapped None doc freq d f = absurd (none-some doc d)
+some-mapped (Some p) doc freq d f = cc
+
+pub some-within : (list : List Posting) (place doc : ℕ) → option_map (λ p. p.doc) (slice_get list place) ≡ Some doc → place < length list
+some-within list place doc e =
+    omega (arith, slice_get_within (docs_of list) place doc (slice_get-map (λ p. p.doc) list place ∙ e), length-map list (λ p. p.doc))
+
+pub none-found : (old new : List Posting) (start place d : ℕ) → start ≡ 0 → new ≡ old → place ≡ next_geq_place old start d →
+    option_map (λ p. p.doc) (slice_get new place) ≡ None → option_map pair_of (first_at_least old d) ≡ None
+none-found old new start place d at same went none =
+    let is = first-at old new start place d at same went in
+    none-mapped (first_at_least old d) (ap (option_map (λ p. p.doc)) (sym is) ∙ none)
+
+pub found : (old new : List Posting) (start place d doc freq : ℕ) → start ≡ 0 → new ≡ old → place ≡ next_geq_place old start d →
+    option_map (λ p. p.doc) (slice_get new place) ≡ Some doc → slice_get (freqs_of new) place ≡ Some freq →
+    option_map pair_of (first_at_least old d) ≡ Some (doc, freq)
+found old new start place d doc freq at same went some of =
+    let is = first-at old new start place d at same went in
+    some-mapped (first_at_least old d) doc freq
+    (ap (option_map (λ p. p.doc)) (sym is) ∙ some)
+    (ap (option_map (λ p. p.freq)) (sym is) ∙ sym (slice_get-map (λ p. p.freq) new place) ∙ of)
+
+-- ---- the texts of replies
+
+pub and-text : (c : Collection) (query : Query) (terms : List ℕ) (n : ℕ) (lists : List (List Posting)) (r : Result (Vec ℕ Global) NoMemory) → query ≡ And terms →
+    c.documents ≡ n → lists ≡ lists_of c (terms_of query) → IfOk r (λ text. text.items ≡ list_text (in_all n lists)) → IfOk r (λ text. IsAnswer c query text.items)
+and-text c query terms n lists (Err e) is documents same text = tt
+and-text c query terms n lists (Ok text) is documents same all =
+    let P : Query → Type 0 = λ q. IsAnswer c q text.items in
+    let of : lists ≡ lists_of c terms = same ∙ ap (λ q. lists_of c (terms_of q)) is in
+    subst P (sym is) (all ∙ (λ i. list_text (in_all (sym documents i) (of i))))
+
+pub or-text : (c : Collection) (query : Query) (terms : List ℕ) (n : ℕ) (lists : List (List Posting)) (r : Result (Vec ℕ Global) NoMemory) → query ≡ Or terms →
+    c.documents ≡ n → lists ≡ lists_of c (terms_of query) → IfOk r (λ text. text.items ≡ list_text (in_any n lists)) → IfOk r (λ text. IsAnswer c query text.items)
+or-text c query terms n lists (Err e) is documents same text = tt
+or-text c query terms n lists (Ok text) is documents same any =
+    let P : Query → Type 0 = λ q. IsAnswer c q text.items in
+    let of : lists ≡ lists_of c terms = same ∙ ap (λ q. lists_of c (terms_of q)) is in
+    subst P (sym is) (any ∙ (λ i. list_text (in_any (sym documents i) (of i))))

@@ -1,0 +1,13 @@
+pub mod LinesOfText
+pub mod Newline
+pub mod Held
+pub mod Answered
+pub mod Taken
+pub mod TermLists
+pub mod CursorLists
+pub mod Parsed
+pub mod TextEnds
+pub mod WholeText
+pub mod Building
+pub mod LoadedFile
+pub mod WrittenFile

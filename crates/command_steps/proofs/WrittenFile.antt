@@ -1,0 +1,277 @@
+-- How words are written piece by piece to a file that is created and finished.
+use Rattle.std.proofs.Common.{◌≡◌, refl, sym, ap, ◌∙◌, subst, ℕ, ◌+◌, List, [], ◌++◌, length, take, inl, inr, ◌⊎◌, IsTrue, Option, Some, Result, Ok, Err, arith, append_assoc, append-nil}
+use Rattle.std.specs.Prelude.{unwrap_or}
+use Rattle.std.proofs.Math.Seq.{take-append-add}
+use Rattle.std.proofs.lemmas.List.{length-append, take-append-le, take_all}
+use Rattle.std.proofs.lemmas.List.Concat.{flat_map-append}
+use Rattle.collection_model.specs.Bytes.{le64, word_bytes}
+use Rattle.pef_io.specs.declared.fail.IoFail.{IoFail}
+use Rattle.pef_io.specs.declared.fail.IoFail.TheVariants as call
+use Rattle.pef_io.specs.Calls.{Rose}
+use Rattle.pef_io.specs.DepotState.{DepotState, Creates, Finishes, CountsWriting}
+use Rattle.pef_io.specs.Helpers.{HasFile, WritesAllToFile}
+use Rattle.command_model.specs.Written.{IsUnwritten, IsWrittenInPart, IsBeingWritten, OnlyWrites}
+use Rattle.command_steps.specs.declared.writing.WriteIndexError.TheVariants.{NoMemory}
+use Rattle.command_steps.specs.WriteIndex.{WritesWords}
+use Rattle.command_steps.specs.WriteFile.{write_error}
+
+-- ---- pieces
+
+-- the count of a call after one that did not fail
+counts-then : (a b c : DepotState) (r : Result (Unit {0}) IoFail) → CountsWriting {A = Unit {0}} a b (Ok tt) → CountsWriting b c r → CountsWriting a c r
+counts-then a b c r p q = record {
+  this = record {
+    never_falls = omega (arith, p.this.never_falls, q.this.never_falls);
+    failed_only_where_it_rose = λ is. let P : ℕ → Type 0 = λ n. Rose n c.writing_faults in subst P (p.this.same_at_ok refl) (q.this.failed_only_where_it_rose is);
+    same_at_ok = λ is. q.this.same_at_ok is ∙ p.this.same_at_ok refl;
+    same_at_no_memory = λ is. q.this.same_at_no_memory is ∙ p.this.same_at_ok refl;
+  };
+  others = λ slot. q.others slot ∙ p.others slot;
+}
+
+-- nothing is written yet
+pub none-written : (s : DepotState) → WritesAllToFile s s [] (Ok tt)
+none-written s = record {
+  tells = refl;
+  whole = λ t. sym (append-nil (unwrap_or (s.file s.name) []));
+  front = λ t. tt;
+  stays = λ t f. f;
+  other_files = λ t name ne. refl;
+  slots = λ slot. (refl, λ t. refl);
+  writing = (refl, λ t. refl);
+  counts = record {
+    this = record {
+      never_falls = omega arith;
+      failed_only_where_it_rose = λ is. cc;
+      same_at_ok = λ is. refl;
+      same_at_no_memory = λ is. cc;
+    };
+    others = λ slot. refl;
+  };
+}
+
+-- a file that stays one over two pieces
+file-stays : (a b c : DepotState) (xs ys : List ℕ) (r : Result (Unit {0}) IoFail) → WritesAllToFile a b xs (Ok tt) → WritesAllToFile b c ys r → IsTrue a.tells → HasFile a a.name → HasFile c a.name
+file-stays a b c xs ys r p q t f =
+    let same = p.writing.1 t in
+    let B : List ℕ → Type 0 = λ name. HasFile b name in
+    let C : List ℕ → Type 0 = λ name. HasFile c name in
+    subst C same (q.stays (p.tells ∙ t) (subst B (sym same) (p.stays t f)))
+
+-- one more piece
+pub piece-written : (a b c : DepotState) (xs ys : List ℕ) → WritesAllToFile a b xs (Ok tt) → WritesAllToFile b c ys (Ok tt) → WritesAllToFile a c (xs ++ ys) (Ok tt)
+piece-written a b c xs ys p q = record {
+  tells = q.tells ∙ p.tells;
+  whole = λ t.
+      let same = p.writing.1 t in
+      ap (λ name. unwrap_or (c.file name) []) (sym same)
+      ∙ q.whole (p.tells ∙ t)
+      ∙ ap (λ name. unwrap_or (b.file name) [] ++ ys) same
+      ∙ ap (λ zs. zs ++ ys) (p.whole t)
+      ∙ append_assoc (unwrap_or (a.file a.name) []) xs ys;
+  front = λ t. tt;
+  stays = λ t f. file-stays a b c xs ys (Ok tt) p q t f;
+  other_files = λ t name ne. q.other_files (p.tells ∙ t) name (λ e. ne (e ∙ p.writing.1 t)) ∙ p.other_files t name ne;
+  slots = λ slot. ((q.slots slot).0 ∙ (p.slots slot).0, λ t. (q.slots slot).1 (p.tells ∙ t) ∙ (p.slots slot).1 t);
+  writing = (q.writing.0 ∙ p.writing.0, λ t. q.writing.1 (p.tells ∙ t) ∙ p.writing.1 t);
+  counts = counts-then a b c (Ok tt) p.counts q.counts;
+}
+
+-- a piece that is refused, and what would have come behind it
+pub piece-refused : (a b c : DepotState) (xs ys zs whole : List ℕ) (e : IoFail) → WritesAllToFile a b xs (Ok tt) → WritesAllToFile b c ys (Err e) → whole ≡ xs ++ (ys ++ zs) → WritesAllToFile a c whole (Err e)
+piece-refused a b c xs ys zs whole e p q is = record {
+  tells = q.tells ∙ p.tells;
+  whole = λ t. tt;
+  front = λ t.
+      let same = p.writing.1 t in
+      let f = q.front (p.tells ∙ t) in
+      let all : take (length xs + f.0) whole ≡ xs ++ take f.0 ys =
+      ap (λ ws. take (length xs + f.0) ws) is ∙ take-append-add xs (ys ++ zs) f.0 ∙ ap (λ ws. xs ++ ws) (take-append-le f.0 ys zs f.1) in (
+        length xs + f.0,
+        omega (arith, f.1, ap length is, length-append xs (ys ++ zs), length-append ys zs),
+        ap (λ name. unwrap_or (c.file name) []) (sym same)
+            ∙ f.2
+            ∙ ap (λ name. unwrap_or (b.file name) [] ++ take f.0 ys) same
+            ∙ ap (λ ws. ws ++ take f.0 ys) (p.whole t)
+            ∙ append_assoc (unwrap_or (a.file a.name) []) xs (take f.0 ys)
+            ∙ ap (λ ws. unwrap_or (a.file a.name) [] ++ ws) (sym all),
+      );
+  stays = λ t f. file-stays a b c xs ys (Err e) p q t f;
+  other_files = λ t name ne. q.other_files (p.tells ∙ t) name (λ d. ne (d ∙ p.writing.1 t)) ∙ p.other_files t name ne;
+  slots = λ slot. ((q.slots slot).0 ∙ (p.slots slot).0, λ t. (q.slots slot).1 (p.tells ∙ t) ∙ (p.slots slot).1 t);
+  writing = (q.writing.0 ∙ p.writing.0, λ t. q.writing.1 (p.tells ∙ t) ∙ p.writing.1 t);
+  counts = counts-then a b c (Err e) p.counts q.counts;
+}
+
+-- Some of the words are written, and these are left.
+pub record HasWritten (start now : DepotState) (words left : List ℕ) : Type 0 where
+  pub done : List ℕ
+  pub parts : done ++ left ≡ words
+  pub written : WritesAllToFile start now (word_bytes done) (Ok tt)
+
+pub begun : (start : DepotState) (words left : List ℕ) → left ≡ words → HasWritten start start words left
+begun start words left all = record { done = []; parts = all; written = none-written start }
+
+pub more : (start old new : DepotState) (words left part rest bytes : List ℕ) → HasWritten start old words left → left ≡ part ++ rest → bytes ≡ word_bytes part → WritesAllToFile old new bytes (Ok tt)
+    → HasWritten start new words rest
+more start old new words left part rest bytes h e are w = record {
+  done = h.done ++ part;
+  parts = append_assoc h.done part rest ∙ ap (λ ws. h.done ++ ws) (sym e) ∙ h.parts;
+  written =
+      let P : List ℕ → Type 0 = λ bytes. WritesAllToFile start new bytes (Ok tt) in
+      subst P (ap (λ bs. word_bytes h.done ++ bs) are ∙ sym (flat_map-append le64 h.done part)) (piece-written start old new (word_bytes h.done) bytes h.written w);
+}
+
+pub stopped : (start old new : DepotState) (words left part rest bytes : List ℕ) (e : IoFail) → HasWritten start old words left → left ≡ part ++ rest → bytes ≡ word_bytes part
+    → WritesAllToFile old new bytes (Err e) → WritesAllToFile start new (word_bytes words) (Err e)
+stopped start old new words left part rest bytes e h is are w =
+    piece-refused start old new (word_bytes h.done) bytes (word_bytes rest) (word_bytes words) e h.written w
+    (ap word_bytes (sym h.parts ∙ ap (λ ws. h.done ++ ws) is)
+    ∙ flat_map-append le64 h.done (part ++ rest)
+    ∙ ap (λ bs. word_bytes h.done ++ bs) (flat_map-append le64 part rest)
+    ∙ ap (λ bs. word_bytes h.done ++ (bs ++ word_bytes rest)) (sym are))
+
+pub ended : (start now : DepotState) (words left : List ℕ) → HasWritten start now words left → left ≡ [] → WritesAllToFile start now (word_bytes words) (Ok tt)
+ended start now words left h none =
+    let P : List ℕ → Type 0 = λ ws. WritesAllToFile start now (word_bytes ws) (Ok tt) in
+    subst P (sym (append-nil h.done) ∙ ap (λ ws. h.done ++ ws) (sym none) ∙ h.parts) h.written
+
+-- ---- the file
+
+some-of : (f : Option (List ℕ)) (bytes : List ℕ) → (now : List ℕ) × (f ≡ Some now) → unwrap_or f [] ≡ bytes → f ≡ Some bytes
+some-of f bytes there e = there.1 ∙ ap Some (sym (ap (λ g. unwrap_or g []) there.1) ∙ e)
+
+created-only : (name : List ℕ) (a b : DepotState) (r : Result (Unit {0}) IoFail) → Creates a b name r → OnlyWrites name a b
+created-only name a b r c = record {
+  tells = c.tells;
+  other_files = c.other_files;
+  slots = c.slots;
+  slot_counts = c.counts.others;
+  never_falls = c.counts.this.never_falls;
+}
+
+written-only : (name bytes : List ℕ) (a b c : DepotState) (r : Result (Unit {0}) IoFail) → Creates a b name (Ok tt) → WritesAllToFile b c bytes r → OnlyWrites name a c
+written-only name bytes a b c r k w = record {
+  tells = w.tells ∙ k.tells;
+  other_files = λ t n ne. w.other_files (k.tells ∙ t) n (λ e. ne (e ∙ k.named t)) ∙ k.other_files t n ne;
+  slots = λ slot. ((w.slots slot).0 ∙ (k.slots slot).0, λ t. (w.slots slot).1 (k.tells ∙ t) ∙ (k.slots slot).1 t);
+  slot_counts = λ slot. w.counts.others slot ∙ k.counts.others slot;
+  never_falls = omega (arith, k.counts.this.never_falls, w.counts.this.never_falls);
+}
+
+-- the created file is the one that is being written
+written-on : (name bytes : List ℕ) (a b c : DepotState) (r : Result (Unit {0}) IoFail) → Creates a b name (Ok tt) → WritesAllToFile b c bytes r → IsBeingWritten name a c
+written-on name bytes a b c r k w = record {
+  created = w.writing.0 ∙ k.created;
+  named = λ t. w.writing.1 (k.tells ∙ t) ∙ k.named t;
+}
+
+finished-only : (name : List ℕ) (a b c : DepotState) (r : Result (Unit {0}) IoFail) → OnlyWrites name a b → Finishes b c r → OnlyWrites name a c
+finished-only name a b c r o f = record {
+  tells = f.tells ∙ o.tells;
+  other_files = λ t n ne. f.files (o.tells ∙ t) n ∙ o.other_files t n ne;
+  slots = λ slot. ((f.slots slot).0 ∙ (o.slots slot).0, λ t. (f.slots slot).1 (o.tells ∙ t) ∙ (o.slots slot).1 t);
+  slot_counts = λ slot. f.counts.others slot ∙ o.slot_counts slot;
+  never_falls = omega (arith, o.never_falls, f.counts.this.never_falls);
+}
+
+-- the created file is there, and empty
+begun-file : (name : List ℕ) (a b : DepotState) → Creates a b name (Ok tt) → IsTrue a.tells → b.file b.name ≡ Some []
+begun-file name a b k t = ap b.file (k.named t) ∙ k.empty_file t
+
+-- all bytes are in it
+whole-file : (name bytes : List ℕ) (a b c : DepotState) → Creates a b name (Ok tt) → WritesAllToFile b c bytes (Ok tt) → IsTrue a.tells → c.file name ≡ Some bytes
+whole-file name bytes a b c k w t =
+    let told = k.tells ∙ t in
+    let empty = begun-file name a b k t in
+    ap c.file (sym (k.named t)) ∙ some-of (c.file b.name) bytes (w.stays told ([], empty)) (w.whole told ∙ ap (λ f. unwrap_or f [] ++ bytes) empty)
+
+-- a front of them is
+front-file : (name bytes : List ℕ) (a b c : DepotState) (e : IoFail) → Creates a b name (Ok tt) → WritesAllToFile b c bytes (Err e) → IsTrue a.tells → (n : ℕ) × (c.file name ≡ Some (take n bytes))
+front-file name bytes a b c e k w t =
+    let told = k.tells ∙ t in
+    let empty = begun-file name a b k t in
+    let f = w.front told in (
+      f.0,
+      ap c.file (sym (k.named t)) ∙ some-of (c.file b.name) (take f.0 bytes) (w.stays told ([], empty)) (f.2 ∙ ap (λ g. unwrap_or g [] ++ take f.0 bytes) empty),
+    )
+
+-- ---- the answer
+
+-- a refusal is one of the writing
+refusal : (words name : List ℕ) (a b : DepotState) (fail : IoFail) → CountsWriting {A = Unit {0}} a b (Err fail) → IsWrittenInPart name a b (word_bytes words) → IsUnwritten a b ⊎ IsBeingWritten name a b → OnlyWrites name a b
+    → WritesWords words name a b (Err (write_error fail))
+refusal words name a b call.Failed k part begun only = record {
+  written = tt;
+  refused = part;
+  begun = begun;
+  write_only_where_it_rose = λ is. k.this.failed_only_where_it_rose refl;
+  count_rises_only_there = inl refl;
+  writes = only;
+}
+refusal words name a b call.NoMemory k part begun only = record {
+  written = tt;
+  refused = part;
+  begun = begun;
+  write_only_where_it_rose = λ is. cc;
+  count_rises_only_there = inr (k.this.same_at_no_memory refl);
+  writes = only;
+}
+
+-- no room for a piece
+pub room-refused : (words name : List ℕ) (a : DepotState) → WritesWords words name a a (Err NoMemory)
+room-refused words name a = record {
+  written = tt;
+  refused = inl (record { files = λ t n. refl; writing = (refl, λ t. refl) });
+  begun = inl (record { files = λ t n. refl; writing = (refl, λ t. refl) });
+  write_only_where_it_rose = λ is. cc;
+  count_rises_only_there = inr refl;
+  writes = record {
+    tells = refl;
+    other_files = λ t n ne. refl;
+    slots = λ slot. (refl, λ t. refl);
+    slot_counts = λ slot. refl;
+    never_falls = omega arith;
+  };
+}
+
+pub create-refused : (words name : List ℕ) (a b : DepotState) (fail : IoFail) → Creates a b name (Err fail) → WritesWords words name a b (Err (write_error fail))
+create-refused words name a b fail k =
+    let same : IsUnwritten a b = record { files = k.unchanged.files; writing = k.unchanged.writing } in
+    refusal words name a b fail k.counts (inl same) (inl same) (created-only name a b (Err fail) k)
+
+pub write-refused : (words name : List ℕ) (a b c : DepotState) (fail : IoFail) → Creates a b name (Ok tt) → WritesAllToFile b c (word_bytes words) (Err fail) → WritesWords words name a c (Err (write_error fail))
+write-refused words name a b c fail k w =
+    let only = written-only name (word_bytes words) a b c (Err fail) k w in
+    refusal words name a c fail (counts-then a b c (Err fail) k.counts w.counts)
+    (inr (λ t. let f = front-file name (word_bytes words) a b c fail k w t in (f.0, f.1, only.other_files t)))
+    (inr (written-on name (word_bytes words) a b c (Err fail) k w)) only
+
+pub finish-refused : (words name : List ℕ) (a b c d : DepotState) (fail : IoFail) → Creates a b name (Ok tt) → WritesAllToFile b c (word_bytes words) (Ok tt) → Finishes c d (Err fail)
+    → WritesWords words name a d (Err (write_error fail))
+finish-refused words name a b c d fail k w f =
+    let bytes = word_bytes words in
+    let before = written-only name bytes a b c (Ok tt) k w in
+    let only = finished-only name a c d (Err fail) before f in
+    let begun = written-on name bytes a b c (Ok tt) k w in
+    refusal words name a d fail (counts-then a c d (Err fail) (counts-then a b c (Ok tt) k.counts w.counts) f.counts)
+    (inr (λ t. (length bytes, f.files (before.tells ∙ t) name ∙ whole-file name bytes a b c k w t ∙ ap Some (sym (take_all (length bytes) bytes (omega arith))), only.other_files t)))
+    (inr (record { created = f.unchanged.writing.0 ∙ begun.created; named = λ t. f.unchanged.writing.1 (before.tells ∙ t) ∙ begun.named t })) only
+
+pub all-written : (words name : List ℕ) (a b c d : DepotState) → Creates a b name (Ok tt) → WritesAllToFile b c (word_bytes words) (Ok tt) → Finishes c d (Ok tt) → WritesWords words name a d (Ok tt)
+all-written words name a b c d k w f =
+    let bytes = word_bytes words in
+    let before = written-only name bytes a b c (Ok tt) k w in
+    let only = finished-only name a c d (Ok tt) before f in
+    record {
+      written = record {
+        file = λ t. f.files (before.tells ∙ t) name ∙ whole-file name bytes a b c k w t;
+        others = only.other_files;
+        none_created = f.ended;
+      };
+      refused = tt;
+      begun = tt;
+      write_only_where_it_rose = λ is. cc;
+      count_rises_only_there = inr (f.counts.this.same_at_ok refl ∙ w.counts.this.same_at_ok refl ∙ k.counts.this.same_at_ok refl);
+      writes = only;
+    }

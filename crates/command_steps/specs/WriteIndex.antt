@@ -1,0 +1,19 @@
+use Rattle.std.specs.Prelude.{◌≡◌, ℕ, ◌⊎◌, List, Result, Err, OnOk, OnErr}
+use Rattle.collection_model.specs.Bytes.{word_bytes}
+use Rattle.pef_io.specs.Calls.{Rose}
+use Rattle.pef_io.specs.DepotState.{DepotState}
+use Rattle.command_model.specs.Written.{IsWritten, IsUnwritten, IsWrittenInPart, IsBeingWritten, OnlyWrites}
+use Rattle.command_steps.specs.declared.writing.WriteIndexError.{WriteIndexError}
+use Rattle.command_steps.specs.declared.writing.WriteIndexError.TheVariants.{Write}
+
+-- What writing words as the file under a name gives.
+pub record WritesWords (words name : List ℕ) (old new : DepotState) (result : Result (Unit {0}) WriteIndexError) : Type 0 where
+  pub written : OnOk result (IsWritten name old new (word_bytes words))
+  pub refused : OnErr result (IsWrittenInPart name old new (word_bytes words))
+  -- What was begun stays begun.
+  pub begun : OnErr result (IsUnwritten old new ⊎ IsBeingWritten name old new)
+  -- The first call that fails ends the writing.
+  pub write_only_where_it_rose : result ≡ Err Write → Rose old.writing_faults new.writing_faults
+  pub count_rises_only_there : (result ≡ Err Write) ⊎ (new.writing_faults ≡ old.writing_faults)
+  -- One name is created, written and finished, and nothing else is called.
+  pub writes : OnlyWrites name old new

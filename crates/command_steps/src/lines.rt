@@ -1,0 +1,93 @@
+ghost use Rattle.std.specs.Prelude.{◌≡◌, ◌≢◌, ◌==◌, ◌-◌, ℕ, length, take, [], ◌∷◌, ◌++◌, MatchResult, Ok, List};
+ghost use Rattle.std.specs.List.{All, position};
+ghost use Rattle.pef_io.specs.SinkState.{SinkState};
+ghost use Rattle.query_text.specs.Lines.{newline};
+ghost use Rattle.command_steps.specs.AnswersLines.{AnswersLines};
+ghost use Rattle.command_steps.specs.Unended.{AnswersBytes};
+
+use crate::lists::Answerer;
+use crate::plan::Plan;
+use pef_io::{IoFail, Sink, write_all_own};
+use query_text::{NoMemory, ParseError, bad_reply, parse};
+use std::alloc::Global;
+
+/// The byte that ends a line.
+const NEWLINE: u8 = b'\n';
+
+/// The most bytes of a line that are held: one more than a line may have, which tells that it is too long.
+const MOST_HELD: usize = 65_536;
+
+/// Takes the next bytes of a text. Each line that ends in them is answered, and what they leave unended is held.
+pub(crate) fn answer_piece<L: Answerer, O: Sink>(
+    alloc: Global,
+    lists: &L,
+    plan: Plan,
+    held: &mut Vec<u8>,
+    piece: &[u8],
+    out: &mut O,
+) -> Result<(), IoFail>
+    ensures { (read : List ℕ) → (start : SinkState) → AnswersBytes (L.collection lists.now) read held.old.items start (O.state out.old) (Ok tt)
+        → AnswersBytes (L.collection lists.now) (read ++ piece.now) held.new.items start (O.state out.new) result }
+{
+    let mut rest = piece;
+    while let Some(at) = next_newline(rest) {
+        end_line(alloc, lists, plan, held, &rest[..at], out)?;
+        rest = &rest[at + 1..];
+    }
+    hold(held, rest)
+}
+
+/// Takes the last bytes of a line, and answers it.
+fn end_line<L: Answerer, O: Sink>(
+    alloc: Global,
+    lists: &L,
+    plan: Plan,
+    held: &mut Vec<u8>,
+    bytes: &[u8],
+    out: &mut O,
+) -> Result<(), IoFail>
+    requires { All (λ b. b ≢ newline) bytes.now }
+    ensures { (read : List ℕ) → (start : SinkState) → AnswersBytes (L.collection lists.now) read held.old.items start (O.state out.old) (Ok tt)
+        → AnswersBytes (L.collection lists.now) (read ++ (bytes.now ++ newline ∷ [])) held.new.items start (O.state out.new) result }
+{
+    hold(held, bytes)?;
+    answer_line(alloc, lists, plan, held, out)?;
+    held.clear();
+    Ok(())
+}
+
+/// Answers one line: its reply, with the newline, is one piece.
+pub(crate) fn answer_line<L: Answerer, O: Sink>(
+    alloc: Global,
+    lists: &L,
+    plan: Plan,
+    line: &[u8],
+    out: &mut O,
+) -> Result<(), IoFail>
+    ensures { AnswersLines (L.collection lists.now) (line.now ∷ []) (O.state out.old) (O.state out.new) result }
+{
+    match parse(alloc, line, lists.terms()) {
+        Ok(query) => match lists.answer(alloc, plan, &query) {
+            Ok(reply) => write_all_own(out, reply.as_slice()),
+            Err(NoMemory) => Err(IoFail::NoMemory),
+        },
+        Err(ParseError::Bad(bad)) => write_all_own(out, bad_reply(bad)),
+        Err(ParseError::NoMemory) => Err(IoFail::NoMemory),
+    }
+}
+
+/// Holds the next bytes of a line, as many as there is room for.
+fn hold(held: &mut Vec<u8>, bytes: &[u8]) -> Result<(), IoFail>
+    ensures { MatchResult result (λ _. held.new.items ≡ held.old.items ++ take (MOST_HELD - length held.old.items) bytes.now) (λ fail. fail ≡ IoFail.NoMemory) }
+{
+    let room = MOST_HELD.saturating_sub(held.len());
+    held.extend_from_slice(&bytes[..room.min(bytes.len())])
+        .map_err(|_| IoFail::NoMemory)
+}
+
+/// The place of the first newline.
+fn next_newline(bytes: &[u8]) -> Option<usize>
+    ensures { result ≡ position (λ b. b == newline) bytes.now }
+{
+    bytes.iter().position(|b| *b == NEWLINE)
+}

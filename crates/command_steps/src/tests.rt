@@ -1,0 +1,500 @@
+ghost use Rattle.std.specs.Prelude.{◌<◌, ◌^◌, IfOk, length};
+ghost use Rattle.collection_model.specs.FormatNumbers.{format_one};
+ghost use Rattle.collection_model.specs.Collection.{WellFormed};
+
+use crate::plan::Plan;
+use crate::text::{RunFault, answer_collection, answer_text};
+use collection_reader::{Collection, read_collection};
+use index_file::Index;
+use part_cost::Format;
+use pef_io::{MemSink, MemSource, SteadyDepot};
+use std::alloc::{AllocError, Global};
+use std::process::Abort;
+use std::test::Fail;
+
+/// More than any text here has.
+const FAR: u64 = 1 << 40;
+
+/// The bytes of these numbers.
+fn spelled(alloc: Global, numbers: &[u32]) -> Result<Vec<u8>, AllocError> {
+    let mut bytes = Vec::new(alloc);
+    for number in numbers {
+        bytes.extend_from_slice(&number.to_le_bytes())?;
+    }
+    Ok(bytes)
+}
+
+/// The numbers of documents, of frequencies and of sizes.
+type Numbers = [&'static [u32]; 3];
+
+/// Three documents of sizes 4, 0 and 7, and the list (0,1)(2,5).
+const ONE_LIST: Numbers = [&[1, 3, 2, 0, 2], &[2, 1, 5], &[3, 4, 0, 7]];
+
+/// The same documents, that list, the list (0,1), and a list of nothing.
+const THREE_LISTS: Numbers = [
+    &[1, 3, 2, 0, 2, 1, 0, 0],
+    &[2, 1, 5, 1, 1, 0],
+    &[3, 4, 0, 7],
+];
+
+/// The words of the one list in the first format.
+const ONE_LIST_OF_ONE: &[u64] = &[
+    6360565151758173520,
+    1,
+    137438953474,
+    0,
+    5,
+    137438953477,
+    0,
+    33,
+    4,
+    7,
+    2,
+    5,
+    4294967298,
+    21474836481,
+    3,
+    1,
+    8,
+    5784106577086924120,
+];
+
+/// The same where the documents are cut into two parts.
+const ONE_LIST_IN_TWO_PARTS: &[u64] = &[
+    6360565151758173520,
+    1,
+    68719476736,
+    0,
+    137438953474,
+    0,
+    2,
+    137438953477,
+    0,
+    33,
+    4,
+    7,
+    2,
+    7,
+    8589934594,
+    21474836481,
+    3,
+    1,
+    10,
+    5784106577086924120,
+];
+
+/// The words of the one list in the second format.
+const ONE_LIST_OF_TWO: &[u64] = &[
+    6360565151758173520,
+    2,
+    2,
+    2,
+    0,
+    5,
+    5,
+    2,
+    0,
+    33,
+    4,
+    7,
+    2,
+    6,
+    4294967298,
+    21474836481,
+    3,
+    1,
+    10,
+    5784106577086924120,
+];
+
+/// The words of the three lists in the first format.
+const THREE_LISTS_OF_ONE: &[u64] = &[
+    6360565151758173520,
+    1,
+    137438953474,
+    0,
+    5,
+    137438953477,
+    0,
+    33,
+    68719476736,
+    0,
+    68719476736,
+    0,
+    4,
+    7,
+    2,
+    5,
+    4294967298,
+    21474836481,
+    8,
+    10,
+    4294967297,
+    4294967297,
+    12,
+    12,
+    0,
+    0,
+    3,
+    3,
+    12,
+    5784106577086924120,
+];
+
+/// The words of the three lists in the second format.
+const THREE_LISTS_OF_TWO: &[u64] = &[
+    6360565151758173520,
+    2,
+    2,
+    2,
+    0,
+    5,
+    5,
+    2,
+    0,
+    33,
+    0,
+    1,
+    0,
+    0,
+    1,
+    0,
+    4,
+    7,
+    2,
+    6,
+    4294967298,
+    21474836481,
+    10,
+    13,
+    4294967297,
+    4294967297,
+    16,
+    16,
+    0,
+    0,
+    3,
+    3,
+    16,
+    5784106577086924120,
+];
+
+/// The collection of these numbers.
+fn collection(alloc: Global, numbers: Numbers) -> Result<Collection, Fail>
+    ensures { IfOk result (WellFormed format_one) }
+{
+    let mut files = Vec::new(alloc);
+    for (name, numbers) in ["x.docs", "x.freqs", "x.sizes"].into_iter().zip(numbers) {
+        files.push((String::from_str(alloc, name)?, spelled(alloc, numbers)?))?;
+    }
+    let mut depot = SteadyDepot::new(alloc, files, 8)?;
+    match read_collection(alloc, "x", &mut depot, Format::One) {
+        Ok(collection) => Ok(collection),
+        Err(e) => Err(Fail::from(e)),
+    }
+}
+
+/// A text, how many bytes move at once, which reads and writes fail and what limit stands; how it ends, and what is written.
+#[derive(Drop)]
+struct Case {
+    text: &'static str,
+    most: usize,
+    reads: &'static [u64],
+    writes: &'static [u64],
+    limit: u64,
+    want: Result<(), RunFault>,
+    out: &'static str,
+}
+
+/// A case where nothing fails and all is answered.
+fn whole(text: &'static str, out: &'static str) -> Case {
+    Case {
+        text,
+        most: 100,
+        reads: &[],
+        writes: &[],
+        limit: FAR,
+        want: Ok(()),
+        out,
+    }
+}
+
+/// The input of a case.
+fn input_of(alloc: Global, case: &Case) -> Result<MemSource, Fail> {
+    let text = Vec::from_slice(alloc, case.text.as_bytes())?;
+    let reads = Vec::from_slice(alloc, case.reads)?;
+    Ok(MemSource::new(text, case.most.max(1), reads))
+}
+
+/// The out of a case.
+fn out_of(alloc: Global, case: &Case) -> Result<MemSink, Fail> {
+    let writes = Vec::from_slice(alloc, case.writes)?;
+    Ok(MemSink::new(alloc, case.most.max(1), writes)?)
+}
+
+/// How a text ends, and what was written.
+type Ended = (Result<(), RunFault>, Vec<u8>);
+
+/// How a text ends that is answered from a collection.
+fn from_collection(alloc: Global, collection: &Collection, case: &Case) -> Result<Ended, Fail>
+    requires { WellFormed format_one collection.now }
+{
+    let mut input = input_of(alloc, case)?;
+    let mut out = out_of(alloc, case)?;
+    let end = answer_collection(
+        alloc,
+        collection,
+        Plan::Exhaustive,
+        &mut input,
+        case.limit,
+        &mut out,
+    );
+    Ok((end, Vec::from_slice(alloc, out.bytes())?))
+}
+
+/// How a text ends that is answered from an index of these words.
+fn from_words(alloc: Global, words: &[u64], case: &Case) -> Result<Ended, Fail>
+    requires { length words.now < 2 ^ 57 }
+{
+    let mut input = input_of(alloc, case)?;
+    let mut out = out_of(alloc, case)?;
+    let end = match Index::view(words) {
+        Ok(index) => answer_text(
+            alloc,
+            &index,
+            Plan::Exhaustive,
+            &mut input,
+            case.limit,
+            &mut out,
+        ),
+        Err(fault) => return Err(Fail::from(fault)),
+    };
+    Ok((end, Vec::from_slice(alloc, out.bytes())?))
+}
+
+/// Ends each case from the collection and from each of the indexes of it.
+fn check_cases(
+    rt: &impl Abort,
+    alloc: Global,
+    numbers: Numbers,
+    indexes: &[&[u64]],
+    cases: &[Case],
+) -> Result<(), Fail> {
+    let collection = collection(alloc, numbers)?;
+    for case in cases {
+        let (end, out) = from_collection(alloc, &collection, case)?;
+        assert_eq!(rt; end, case.want, "at {}", case.text);
+        assert_eq!(rt; out.as_slice(), case.out.as_bytes(), "at {}", case.text);
+        for words in indexes {
+            assert!(rt; words.len() < 100);
+            let (end, out) = from_words(alloc, words, case)?;
+            assert_eq!(rt; end, case.want, "at {} from {}", case.text, words.len());
+            assert_eq!(rt;
+                out.as_slice(),
+                case.out.as_bytes(),
+                "at {} from {}",
+                case.text,
+                words.len()
+            );
+        }
+    }
+    Ok(())
+}
+
+const FIVE_LINES: &str = "next 0 1\nnext 0 3\nand 0\n\ntop 1 0";
+
+#[test]
+fn texts_are_answered(rt: HostRuntime) -> Result<(), Fail> {
+    let cases = [
+        Case {
+            text: FIVE_LINES,
+            most: 100,
+            reads: &[],
+            writes: &[],
+            limit: FAR,
+            want: Ok(()),
+            out: "2 5\nend\n2 0 2\nbad verb\n1 2:5\n",
+        },
+        Case {
+            text: FIVE_LINES,
+            most: 1,
+            reads: &[],
+            writes: &[],
+            limit: FAR,
+            want: Ok(()),
+            out: "2 5\nend\n2 0 2\nbad verb\n1 2:5\n",
+        },
+        Case {
+            text: "",
+            most: 9,
+            reads: &[],
+            writes: &[],
+            limit: 0,
+            want: Ok(()),
+            out: "",
+        },
+        Case {
+            text: "next 0 1\nnext 0 3\n",
+            most: 100,
+            reads: &[],
+            writes: &[],
+            limit: 9,
+            want: Err(RunFault::TooLarge),
+            out: "2 5\n",
+        },
+        Case {
+            text: "next 0 1\nnext 0 3\n",
+            most: 4,
+            reads: &[],
+            writes: &[],
+            limit: 17,
+            want: Err(RunFault::TooLarge),
+            out: "2 5\n",
+        },
+        Case {
+            text: "next 0 1\nnext 0 3\n",
+            most: 4,
+            reads: &[],
+            writes: &[],
+            limit: 18,
+            want: Ok(()),
+            out: "2 5\nend\n",
+        },
+        Case {
+            text: "next 2 0\nnext 0\n",
+            most: 9,
+            reads: &[],
+            writes: &[],
+            limit: 16,
+            want: Ok(()),
+            out: "bad term\nbad number\n",
+        },
+        Case {
+            text: FIVE_LINES,
+            most: 9,
+            reads: &[1],
+            writes: &[],
+            limit: FAR,
+            want: Err(RunFault::Read),
+            out: "",
+        },
+        Case {
+            text: "next 0 1\nnext 0",
+            most: 9,
+            reads: &[3],
+            writes: &[],
+            limit: FAR,
+            want: Err(RunFault::Read),
+            out: "2 5\n",
+        },
+        Case {
+            text: FIVE_LINES,
+            most: 2,
+            reads: &[],
+            writes: &[2],
+            limit: FAR,
+            want: Err(RunFault::Write),
+            out: "2 ",
+        },
+        Case {
+            text: FIVE_LINES,
+            most: 1,
+            reads: &[],
+            writes: &[3],
+            limit: FAR,
+            want: Err(RunFault::Write),
+            out: "2 ",
+        },
+        Case {
+            text: FIVE_LINES,
+            most: 100,
+            reads: &[],
+            writes: &[3],
+            limit: FAR,
+            want: Err(RunFault::Write),
+            out: "2 5\nend\n",
+        },
+    ];
+    let indexes = [ONE_LIST_OF_ONE, ONE_LIST_IN_TWO_PARTS, ONE_LIST_OF_TWO];
+    check_cases(&rt, rt.alloc(), ONE_LIST, &indexes, &cases)
+}
+
+#[test]
+fn lines_are_answered(rt: HostRuntime) -> Result<(), Fail> {
+    let cases = [
+        whole(
+            "next 0 1\nnext 0 3\nand 0\nor 0 0\ntop 1 0",
+            "2 5\nend\n2 0 2\n2 0 2\n1 2:5\n",
+        ),
+        whole("next 0 0\nnext 0 2\n", "0 1\n2 5\n"),
+        whole(
+            "\n\nnear 0\n next  00 001 \n",
+            "bad verb\nbad verb\nbad verb\n2 5\n",
+        ),
+        whole(
+            "next 0 1\r\nNEXT 0 1\n\tnext 0 1\n",
+            "bad number\nbad verb\nbad verb\n",
+        ),
+        whole(
+            "next 0 4294967296\nnext 0 4294967295\nnext 1 0\nnext 4294967295 0\n",
+            "bad number\nend\nbad term\nbad term\n",
+        ),
+        whole(
+            "top 0 0\nand\nor\ntop 5\ntop 9 0 0\ntop 4294967295 0\n",
+            "0\n0\n0\n0\n2 2:10 0:2\n2 2:5 0:1\n",
+        ),
+    ];
+    let indexes = [ONE_LIST_OF_ONE, ONE_LIST_IN_TWO_PARTS, ONE_LIST_OF_TWO];
+    check_cases(&rt, rt.alloc(), ONE_LIST, &indexes, &cases)
+}
+
+#[test]
+fn lines_name_several_terms(rt: HostRuntime) -> Result<(), Fail> {
+    let cases = [
+        whole(
+            "next 0 1\nnext 1 0\nnext 1 1\nnext 2 0\nnext 3 0\n",
+            "2 5\n0 1\nend\nend\nbad term\n",
+        ),
+        whole("and 0 1\nand 1 0\nand 0 2\nand 2\n", "1 0\n1 0\n0\n0\n"),
+        whole("or 0 1\nor 2 1\nor 2 1 0\nor 2\n", "2 0 2\n1 0\n2 0 2\n0\n"),
+        whole(
+            "top 2 0 1 2\ntop 1 1 0\ntop 3 1 2\ntop 3 2\n",
+            "2 2:5 0:2\n1 2:5\n1 0:1\n0\n",
+        ),
+        whole(
+            "top 2 1*9 0\ntop 1 0*2 1\ntop 1 3*0\ntop 1 0*\n",
+            "2 0:10 2:5\n1 2:10\nbad weight\nbad number\n",
+        ),
+    ];
+    let indexes = [THREE_LISTS_OF_ONE, THREE_LISTS_OF_TWO];
+    check_cases(&rt, rt.alloc(), THREE_LISTS, &indexes, &cases)
+}
+
+#[test]
+fn lines_are_long(rt: HostRuntime) -> Result<(), Fail> {
+    let alloc = rt.alloc();
+    let collection = collection(alloc, ONE_LIST)?;
+    for (length, out) in [
+        (65_535, "bad verb\n0 1\n"),
+        (65_536, "bad length\n0 1\n"),
+        (200_000, "bad length\n0 1\n"),
+    ] {
+        let mut text = vec![in alloc; b'a'; length]?;
+        text.extend_from_slice(b"\nnext 0 0\n")?;
+        let mut input = MemSource::new(text, 1000, Vec::new(alloc));
+        let mut sink = MemSink::new(alloc, 1000, Vec::new(alloc))?;
+        assert_eq!(rt;
+            answer_collection(
+                alloc,
+                &collection,
+                Plan::Exhaustive,
+                &mut input,
+                FAR,
+                &mut sink
+            ),
+            Ok(())
+        );
+        assert_eq!(rt; sink.bytes(), out.as_bytes(), "at {length}");
+    }
+    Ok(())
+}

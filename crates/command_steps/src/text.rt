@@ -1,0 +1,129 @@
+ghost use Rattle.std.specs.Prelude.{◌≡◌};
+ghost use Rattle.collection_model.specs.FormatNumbers.{format_one};
+ghost use Rattle.collection_model.specs.Collection.{WellFormed};
+ghost use Rattle.command_steps.specs.AnswerText.{AnswersText};
+ghost use Rattle.command_steps.specs.AnswersEnded.{AnswersEnded};
+ghost use Rattle.command_steps.specs.Faults.{input_fault, out_fault};
+
+use crate::indexed::IndexLists;
+use crate::lines::{answer_line, answer_piece};
+use crate::lists::Answerer;
+use crate::plain::PlainLists;
+use crate::plan::Plan;
+use collection_reader::Collection;
+use index_file::Index;
+use pef_io::{IoFail, Sink, Source};
+use std::alloc::Global;
+
+/// The most bytes that are read at once.
+const PIECE: usize = 8192;
+
+/// Why a query text was not answered whole.
+#[derive(Clone, Copy, Debug, PartialEq, Eq)]
+pub enum RunFault {
+    /// A read of the input failed: the lines that ended within the bytes read are answered.
+    Read,
+    /// A write on out failed: a front of the replies is written.
+    Write,
+    /// More bytes than the limit came: the lines that ended within the limit are answered.
+    TooLarge,
+    /// Memory was refused: a front of the replies is written.
+    NoMemory,
+}
+
+/// Answers the lines of the input, of which at most `limit` bytes are taken, from an opened index. Each reply, with its
+/// newline, is given to out as one piece, as soon as the bytes that end its line are read. The replies are the same by
+/// every plan.
+pub fn answer_text<I: Source, O: Sink>(
+    alloc: Global,
+    index: &Index<'_>,
+    plan: Plan,
+    input: &mut I,
+    limit: u64,
+    out: &mut O,
+) -> Result<(), RunFault>
+    ensures { AnswersText index.now.collection limit (I.state input.old) (I.state input.new) (O.state out.old) (O.state out.new) result }
+{
+    answer_from(alloc, &IndexLists::new(index), plan, input, limit, out)
+}
+
+/// The same from a collection in memory, with no index.
+pub fn answer_collection<I: Source, O: Sink>(
+    alloc: Global,
+    collection: &Collection,
+    plan: Plan,
+    input: &mut I,
+    limit: u64,
+    out: &mut O,
+) -> Result<(), RunFault>
+    requires { WellFormed format_one collection.now }
+    ensures { AnswersText collection.now limit (I.state input.old) (I.state input.new) (O.state out.old) (O.state out.new) result }
+{
+    answer_from(alloc, &PlainLists::new(collection), plan, input, limit, out)
+}
+
+/// Answers the lines of the input from any lists.
+fn answer_from<L: Answerer, I: Source, O: Sink>(
+    alloc: Global,
+    lists: &L,
+    plan: Plan,
+    input: &mut I,
+    limit: u64,
+    out: &mut O,
+) -> Result<(), RunFault>
+    ensures { AnswersText (L.collection lists.now) limit (I.state input.old) (I.state input.new) (O.state out.old) (O.state out.new) result }
+{
+    let last = answer_ended_lines(alloc, lists, plan, input, limit, out)?;
+    if last.is_empty() {
+        return Ok(());
+    }
+    answer_line(alloc, lists, plan, last.as_slice(), out).map_err(out_fault)
+}
+
+/// Answers each line that a newline ends, and gives what is held of the line behind the last newline.
+fn answer_ended_lines<L: Answerer, I: Source, O: Sink>(
+    alloc: Global,
+    lists: &L,
+    plan: Plan,
+    input: &mut I,
+    limit: u64,
+    out: &mut O,
+) -> Result<Vec<u8>, RunFault>
+    ensures { AnswersEnded (L.collection lists.now) limit (I.state input.old) (I.state input.new) (O.state out.old) (O.state out.new) result }
+{
+    let mut held = Vec::new(alloc);
+    let mut piece = [0; PIECE];
+    let mut rest = limit;
+    'pieces: loop {
+        let n = input.read(&mut piece).map_err(input_fault)?;
+        if n == 0 {
+            return Ok(held);
+        }
+        let within = rest.min(n as u64) as usize;
+        answer_piece(alloc, lists, plan, &mut held, &piece[..within], out).map_err(out_fault)?;
+        if within < n {
+            return Err(RunFault::TooLarge);
+        }
+        rest -= n as u64;
+    }
+}
+
+/// What a refusal of a read is to the text.
+fn input_fault(fail: IoFail) -> RunFault
+    ensures { result ≡ input_fault fail }
+{
+    match fail {
+        IoFail::Failed => RunFault::Read,
+        IoFail::NoMemory => RunFault::NoMemory,
+    }
+}
+
+/// What a refusal of a write is to the text.
+fn out_fault(fail: IoFail) -> RunFault
+    ensures { result ≡ out_fault fail }
+{
+    match fail {
+        IoFail::Failed => RunFault::Write,
+        IoFail::NoMemory => RunFault::NoMemory,
+    }
+}

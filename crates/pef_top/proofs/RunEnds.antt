@@ -1,0 +1,128 @@
+-- What a run leaves, from what its command left and what was reported.
+use Rattle.std.proofs.Common.{◌≡◌, refl, sym, ◌∙◌, ap, subst, ℕ, List}
+use Rattle.std.specs.Prelude.{◌≢◌, not, IsTrue, Result, Ok, Err, IsOk, Option, Some, None}
+use Rattle.part_cost.specs.declared.formats.Format.{Format}
+use Rattle.pef_io.specs.SourceState.{SourceState}
+use Rattle.pef_io.specs.SinkState.{SinkState}
+use Rattle.pef_io.specs.DepotState.{DepotState}
+use Rattle.pef_top.specs.declared.status.Status.{Status}
+use Rattle.pef_top.specs.declared.stop.Stop.{Stop}
+use Rattle.pef_top.specs.declared.stop.Stop.TheVariants as stop
+use Rattle.pef_top.specs.Command.{Command, Build, Query, Answer}
+use Rattle.pef_top.specs.Outside.{Outside, GotText, outside}
+use Rattle.pef_top.specs.Outcome.{Outcome, Done, Usage, BrokenCollection, BrokenIndex, FileFault, InputFault, IndexWriteFault, OutFault, NoMemory, IndexTooLarge, InputTooLarge, is_refusal, status_of, line_of}
+use Rattle.pef_top.specs.Ends.{Ends}
+use Rattle.pef_top.specs.Commands.{IsUsage, Performs}
+use Rattle.pef_top.specs.Uncalled.{LeavesUncalled, calls_depot, reads_input, prints, objects}
+use Rattle.pef_top.specs.Private.Leaves.{Leaves, Reports}
+use Rattle.pef_top.specs.Private.Stops.{outcome_of, outcome_of_stop}
+use Rattle.pef_top.proofs.Counted.{stays, not_true}
+
+-- words that are no command
+pub no_command : (d : DepotState) (i : SourceState) (o e e' : SinkState) (s : ℕ) → Leaves None (outside d i o e s) (outside d i o e' s) Usage
+no_command d i o e e' s = record {
+  performs = record { usage = refl; costs = refl };
+  faults = record {
+    slots = λ slot. stays (FileFault slot) Usage _ _ (λ h. cc) refl;
+    writing = stays IndexWriteFault Usage _ _ (λ h. cc) refl;
+    input = stays InputFault Usage _ _ (λ h. cc) refl;
+    out = stays OutFault Usage _ _ (λ h. cc) refl;
+  };
+  depot_tells = refl;
+  input_tells = refl;
+  out_tells = refl;
+}
+
+-- What is the same object: where there is no command, and in each one.
+module _ {D I O : Type 0} (accepted : Type 0) where
+  pub none_uncalled : (outcome : Outcome) (d : D) (i : I) (o : O) → LeavesUncalled None accepted outcome (objects d i o) (objects d i o)
+  none_uncalled outcome d i o = record {
+    depot = λ h. refl;
+    input = λ h. refl;
+    out = λ h. refl;
+    refused = λ h. record { input = refl; out = refl };
+    unaccepted = λ h. record { input = refl; out = refl };
+  }
+
+  pub build_uncalled : (base index : List ℕ) (format : Format) (outcome : Outcome) (d d' : D) (i : I) (o : O)
+      → LeavesUncalled (Some (Build base index format)) accepted outcome (objects d i o) (objects d' i o)
+  build_uncalled base index format outcome d d' i o = record {
+    depot = λ h. absurd (not_true h);
+    input = λ h. refl;
+    out = λ h. refl;
+    refused = λ h. record { input = refl; out = refl };
+    unaccepted = λ h. record { input = refl; out = refl };
+  }
+
+  pub query_uncalled : (index : List ℕ) (outcome : Outcome) (d d' : D) (i i' : I) (o o' : O)
+      → (IsTrue (is_refusal outcome) → (i' ≡ i) × (o' ≡ o)) → (¬ accepted → (i' ≡ i) × (o' ≡ o))
+      → LeavesUncalled (Some (Query index)) accepted outcome (objects d i o) (objects d' i' o')
+  query_uncalled index outcome d d' i i' o o' refused unaccepted = record {
+    depot = λ h. absurd (not_true h);
+    input = λ h. absurd (not_true h);
+    out = λ h. absurd (not_true h);
+    refused = λ h. let same = refused h in record { input = same.0; out = same.1 };
+    unaccepted = λ h. let same = unaccepted h in record { input = same.0; out = same.1 };
+  }
+
+  pub answer_uncalled : (base : List ℕ) (outcome : Outcome) (d d' : D) (i i' : I) (o o' : O)
+      → (IsTrue (is_refusal outcome) → (i' ≡ i) × (o' ≡ o)) → (¬ accepted → (i' ≡ i) × (o' ≡ o))
+      → LeavesUncalled (Some (Answer base)) accepted outcome (objects d i o) (objects d' i' o')
+  answer_uncalled base outcome d d' i i' o o' refused unaccepted = record {
+    depot = λ h. absurd (not_true h);
+    input = λ h. absurd (not_true h);
+    out = λ h. absurd (not_true h);
+    refused = λ h. let same = refused h in record { input = same.0; out = same.1 };
+    unaccepted = λ h. let same = unaccepted h in record { input = same.0; out = same.1 };
+  }
+
+-- all is done only where nothing stopped the run
+not_done : (s : Stop) → outcome_of_stop s ≢ Done
+not_done stop.Usage h = let e : Usage ≡ Done = h in cc
+not_done (stop.Collection fault) h = let e : BrokenCollection fault ≡ Done = h in cc
+not_done (stop.Index fault) h = let e : BrokenIndex fault ≡ Done = h in cc
+not_done (stop.File slot) h = let e : FileFault slot ≡ Done = h in cc
+not_done stop.Input h = let e : InputFault ≡ Done = h in cc
+not_done stop.IndexWrite h = let e : IndexWriteFault ≡ Done = h in cc
+not_done stop.Out h = let e : OutFault ≡ Done = h in cc
+not_done stop.NoMemory h = let e : NoMemory ≡ Done = h in cc
+not_done stop.LargeIndex h = let e : IndexTooLarge ≡ Done = h in cc
+not_done stop.LongInput h = let e : InputTooLarge ≡ Done = h in cc
+
+pub is_ok : (ending : Result (Unit {0}) Stop) → outcome_of ending ≡ Done → IsOk ending
+is_ok (Ok u) h = refl
+is_ok (Err s) h = absurd (not_done s h)
+
+-- One run.
+module _ (command : Option Command) (old new : Outside) (outcome : Outcome) (result : Status)
+    (leaves : Leaves command old new outcome) (reports : Reports old.err new.err outcome result) where
+  -- what holds whatever the command
+  pub run_ends : Ends old new outcome result
+  run_ends = record {
+    status = reports.status;
+    line = reports.line;
+    faults = leaves.faults;
+    telling = record { depot = leaves.depot_tells; input = leaves.input_tells; out = leaves.out_tells; err = reports.tells };
+  }
+
+  -- words that are none end as usage
+  is_usage : command ≡ None → outcome ≡ Usage
+  is_usage none = let P : Option Command → Type 0 = λ c. Performs c old new outcome in (subst P none leaves.performs).usage
+
+  pub usage_reported : command ≡ None → IsUsage old.err new.err result
+  usage_reported none =
+      let is : outcome ≡ Usage = is_usage none in
+      let P : Outcome → Type 0 = λ o. GotText old.err new.err (line_of o) in
+      record {
+        status = reports.status ∙ ap status_of is;
+        err = subst P is (reports.line (λ done. let bad : Usage ≡ Done = sym is ∙ done in cc));
+      }
+
+-- and call nothing but err
+pub usage_uncalled : {D I O : Type 0} (command : Option Command) (accepted : Type 0) (outcome : Outcome) (d d' : D) (i i' : I) (o o' : O) → command ≡ None
+    → LeavesUncalled command accepted outcome (objects d i o) (objects d' i' o') → (d' ≡ d) × (i' ≡ i) × (o' ≡ o)
+usage_uncalled command accepted outcome d d' i i' o o' none leaves = (
+  leaves.depot (subst (λ c. IsTrue (not (calls_depot c))) (sym none) refl),
+  leaves.input (subst (λ c. IsTrue (not (reads_input c))) (sym none) refl),
+  leaves.out (subst (λ c. IsTrue (not (prints c))) (sym none) refl),
+)

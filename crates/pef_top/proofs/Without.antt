@@ -1,0 +1,65 @@
+use Rattle.std.proofs.Common.{refl, ℕ, inl, inr, arith}
+use Rattle.std.specs.Prelude.{◌≡◌, Some}
+use Rattle.pef_io.specs.declared.fail.Slot.{Slot}
+use Rattle.pef_io.specs.SourceState.{SourceState}
+use Rattle.pef_io.specs.SinkState.{SinkState}
+use Rattle.pef_io.specs.DepotState.{DepotState, OnlyReads}
+use Rattle.pef_top.specs.declared.status.Status.TheVariants as status
+use Rattle.pef_top.specs.Outside.{outside, GotText}
+use Rattle.pef_top.specs.ErrLines.{memory_line}
+use Rattle.pef_top.specs.Outcome.{NoMemory}
+use Rattle.pef_top.specs.Ends.{Ends}
+use Rattle.pef_top.specs.Command.{Command, Build, Query, Answer}
+use Rattle.pef_top.specs.Commands.{Performs}
+
+-- a depot of which nothing was called
+same : (touched : Slot → Type 0) (d : DepotState) → OnlyReads touched d d
+same touched d = record {
+  tells = refl;
+  files = λ t name. refl;
+  writing = (refl, λ t. refl);
+  writing_count = refl;
+  stay_started = λ slot h. h;
+  other_slots = λ slot h. (refl, λ t. refl);
+  never_fall = λ slot. omega arith;
+  other_counts = λ slot h. refl;
+}
+
+-- a run that is refused memory ends so
+pub ends : (d : DepotState) (i : SourceState) (o e e' : SinkState) (s : ℕ) → GotText e e' memory_line → e'.tells ≡ e.tells
+    → Ends (outside d i o e s) (outside d i o e' s) NoMemory status.NoMemory
+ends d i o e e' s got tells = record {
+  status = refl;
+  line = λ h. got;
+  faults = record {
+    slots = λ slot. record { only_where_it_rose = λ h. cc; changes_only_there = inr refl; never_falls = omega arith };
+    writing = record { only_where_it_rose = λ h. cc; changes_only_there = inr refl; never_falls = omega arith };
+    input = record { only_where_it_rose = λ h. cc; changes_only_there = inr refl; never_falls = omega arith };
+    out = record { only_where_it_rose = λ h. cc; changes_only_there = inr refl; never_falls = omega arith };
+  };
+  telling = record { depot = refl; input = refl; out = refl; err = tells };
+}
+
+-- what each command promises holds of it
+pub performs : (command : Command) (d : DepotState) (i : SourceState) (o e e' : SinkState) (s : ℕ)
+    → Performs (Some command) (outside d i o e s) (outside d i o e' s) NoMemory
+performs (Build base index format) d i o e e' s = record {
+  ends = inl (record { files = λ t name. refl; writing = (refl, λ t. refl) });
+  refuses = record { broken = λ t f h. inr (inr refl); sound = λ t c h f e. cc };
+  opens = λ h. cc;
+  complete = λ t c h n. inr (inr refl);
+  depot = record { refused = λ h. same _ d; unaccepted = λ h. same _ d; stay_started = λ slot h. h; other_slots = λ slot h. (refl, λ t. refl) };
+}
+performs (Query index) d i o e e' s = record {
+  ends = inl (record { input = refl; out = refl });
+  refuses = record { broken = λ t f h. inr (inr refl); longer = λ t h. inr (inr refl); sound = λ t c h. (λ e. cc, λ f e. cc) };
+  answers = record { complete = λ t c h n l. inr (inr refl); limited = λ t c h n l. inr (inr refl) };
+  depot = same _ d;
+  costs = refl;
+}
+performs (Answer base) d i o e e' s = record {
+  ends = inl (record { input = refl; out = refl });
+  refuses = record { broken = λ t f h. inr (inr refl); sound = λ t c h f e. cc };
+  answers = record { complete = λ t c h n l. inr (inr refl); limited = λ t c h n l. inr (inr refl) };
+  depot = same _ d;
+}

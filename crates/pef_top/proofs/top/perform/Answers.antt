@@ -1,0 +1,41 @@
+use Rattle.std.proofs.Common.{rules, ◌≡◌, sym, ◌∙◌, ap, subst}
+use Rattle.std.specs.Prelude.{Option, Some, Result, Err}
+use Rattle.pef_top.specs.declared.stop.Stop.{Stop}
+use Rattle.pef_top.specs.Command.{Command, command_of, texts}
+use Rattle.pef_top.specs.Outside.{outside}
+use Rattle.pef_top.specs.Private.Asked.{asked}
+use Rattle.pef_top.specs.Private.Leaves.{Leaves}
+use Rattle.pef_top.specs.Private.Stops.{outcome_of}
+use Rattle.pef_top.proofs.Stopped.{stopped}
+use Rattle.pef_top.proofs.top.perform.Goals as goal
+
+pub returns-in_err-command-clause-leaves : goal.returns-in_err-command-clause-leaves
+returns-in_err-command-clause-leaves g c = λ e e'.
+    let command = command_of (texts c.args.words.now) in
+    let P : Result (Unit {0}) Stop → Type 0 = λ result. Leaves command
+    (outside (g.D.Depot.state c.args.depot.now) (g.I.Source.state c.args.input.now) (g.O.Sink.state c.args.out.now) e c.args.steps.now)
+    (outside (g.D.Depot.state c.args.depot.now) (g.I.Source.state c.args.input.now) (g.O.Sink.state c.args.out.now) e' c.args.steps.now) (outcome_of result) in
+    let is : c.from_residual.result ≡ Err c.in_err-command.field-0.0 = search rules in
+    subst P (sym is) (stopped command c.in_err-command.field-0.0 (g.D.Depot.state c.args.depot.now) (g.I.Source.state c.args.input.now) (g.O.Sink.state c.args.out.now)
+    e e' c.args.steps.now c.in_err-command.ensures.stop)
+
+pub returns-in-Build-clause-leaves : goal.returns-in-Build-clause-leaves
+returns-in-Build-clause-leaves g c = λ e e'.
+    let P : Option Command → Type 0 = λ command. Leaves command
+    (outside (g.D.Depot.state c.args.depot.now) (g.I.Source.state c.args.input.now) (g.O.Sink.state c.args.out.now) e c.args.steps.now)
+    (outside (g.D.Depot.state c.build.new.depot) (g.I.Source.state c.args.input.now) (g.O.Sink.state c.args.out.now) e' c.build.new.steps) (outcome_of c.build.result) in
+    subst P (sym (ap (λ x. Some (asked x)) c.in-Build.is) ∙ c.in_ok-command.ensures.command) (c.build.ensures (g.I.Source.state c.args.input.now) (g.O.Sink.state c.args.out.now) e e')
+
+pub returns-in-Query-clause-leaves : goal.returns-in-Query-clause-leaves
+returns-in-Query-clause-leaves g c = λ e e'.
+    let P : Option Command → Type 0 = λ command. Leaves command
+    (outside (g.D.Depot.state c.args.depot.now) (g.I.Source.state c.args.input.now) (g.O.Sink.state c.args.out.now) e c.args.steps.now)
+    (outside (g.D.Depot.state c.query.new.depot) (g.I.Source.state c.query.new.input) (g.O.Sink.state c.query.new.out) e' c.args.steps.now) (outcome_of c.query.result) in
+    subst P (sym (ap (λ x. Some (asked x)) c.in-Query.is) ∙ c.in_ok-command.ensures.command) (c.query.ensures.leaves e e' c.args.steps.now)
+
+pub returns-in-Answer-clause-leaves : goal.returns-in-Answer-clause-leaves
+returns-in-Answer-clause-leaves g c = λ e e'.
+    let P : Option Command → Type 0 = λ command. Leaves command
+    (outside (g.D.Depot.state c.args.depot.now) (g.I.Source.state c.args.input.now) (g.O.Sink.state c.args.out.now) e c.args.steps.now)
+    (outside (g.D.Depot.state c.answer.new.depot) (g.I.Source.state c.answer.new.input) (g.O.Sink.state c.answer.new.out) e' c.answer.new.steps) (outcome_of c.answer.result) in
+    subst P (sym (ap (λ x. Some (asked x)) c.in-Answer.is) ∙ c.in_ok-command.ensures.command) (c.answer.ensures.leaves e e')

@@ -1,0 +1,56 @@
+use Rattle.std.specs.Prelude.{◌≡◌, Bool, true, false, not, IsTrue, Option, Some, None}
+use Rattle.collection_model.specs.Collection.{Collection}
+use Rattle.part_cost.specs.Formats.{numbers_of}
+use Rattle.pef_io.specs.DepotState.{DepotState}
+use Rattle.command_model.specs.Found.{FindsCollection}
+use Rattle.pef_top.specs.Command.{Command, Build, Query, Answer}
+use Rattle.pef_top.specs.Outcome.{Outcome, is_refusal}
+use Rattle.pef_top.specs.FoundIndex.{FindsIndexOf}
+use Rattle.pef_top.specs.Answer.{IsAnswerable}
+
+-- the objects on which a command works, whole
+pub record Objects (D I O : Type 0) : Type 0 where
+  pub depot : D
+  pub input : I
+  pub out : O
+
+-- them put together
+abbrev pub objects : {D I O : Type 0} → D → I → O → Objects D I O
+objects depot input out = record { depot = depot; input = input; out = out }
+
+-- whether a command calls the depot
+abbrev pub calls_depot : Option Command → Bool
+calls_depot None = false
+calls_depot (Some command) = true
+
+-- whether it reads the input
+abbrev pub reads_input : Option Command → Bool
+reads_input (Some (Query index)) = true
+reads_input (Some (Answer base)) = true
+reads_input command = false
+
+-- whether it prints on out
+abbrev pub prints : Option Command → Bool
+prints None = false
+prints (Some (Build base index format)) = false
+prints (Some command) = true
+
+-- What a command reads is accepted: a collection stands under its base, or an index under its name.
+abbrev pub Accepts : Option Command → DepotState → Type 0
+Accepts None depot = ⊥
+Accepts (Some (Build base index format)) depot = (c : Collection) × FindsCollection (numbers_of format) base depot c
+Accepts (Some (Query index)) depot = (c : Collection) × FindsIndexOf index depot c
+Accepts (Some (Answer base)) depot = (c : Collection) × IsAnswerable base depot c
+
+-- Neither the input nor out was called.
+pub record IsSilent {D I O : Type 0} (old new : Objects D I O) : Type 0 where
+  pub input : new.input ≡ old.input
+  pub out : new.out ≡ old.out
+
+-- What is not called is the same object: what the command has no use for, and the input and out of a run that is refused or accepts nothing.
+pub record LeavesUncalled {D I O : Type 0} (command : Option Command) (accepted : Type 0) (outcome : Outcome) (old new : Objects D I O) : Type 0 where
+  pub depot : IsTrue (not (calls_depot command)) → new.depot ≡ old.depot
+  pub input : IsTrue (not (reads_input command)) → new.input ≡ old.input
+  pub out : IsTrue (not (prints command)) → new.out ≡ old.out
+  pub refused : IsTrue (is_refusal outcome) → IsSilent old new
+  pub unaccepted : ¬ accepted → IsSilent old new

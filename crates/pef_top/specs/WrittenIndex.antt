@@ -1,0 +1,33 @@
+use Rattle.std.specs.Prelude.{◌≡◌, ℕ, ◌⊎◌, IsTrue, List}
+use Rattle.collection_model.specs.Bytes.{word_bytes}
+use Rattle.collection_model.specs.Collection.{Collection}
+use Rattle.part_cost.specs.declared.formats.Format.{Format}
+use Rattle.part_cost.specs.Formats.{numbers_of}
+use Rattle.pef_io.specs.declared.fail.Slot.{Slot}
+use Rattle.pef_io.specs.DepotState.{OnlyReads}
+use Rattle.index_file.specs.FileWords.{ListParts, file_words}
+use Rattle.command_model.specs.Written.{IsWritten, IsUnwritten, IsWrittenInPart}
+use Rattle.pef_top.specs.Outside.{Outside}
+use Rattle.pef_top.specs.Outcome.{Outcome, Done, IndexWriteFault, NoMemory, is_refusal}
+use Rattle.pef_top.specs.Built.{AreBuilt}
+
+-- The words of a collection of this property were built, and P holds of their bytes.
+abbrev pub OnBuiltBytes : Format → (Collection → Type 0) → Outside → Outside → (List ℕ → Type 0) → Type 0
+OnBuiltBytes format Is old new P =
+    (c : Collection) × (parts : List ListParts) × AreBuilt format Is old.costs new.costs c parts × P (word_bytes (file_words (numbers_of format) c parts))
+
+-- A run writes the words of a collection of this property under the name, and ends so. Want of memory may come before they are built.
+abbrev pub WritesIndex : Format → (Collection → Type 0) → List ℕ → Outside → Outside → Outcome → Type 0
+WritesIndex format Is name old new Done = OnBuiltBytes format Is old new (IsWritten name old.depot new.depot)
+WritesIndex format Is name old new IndexWriteFault = OnBuiltBytes format Is old new (IsWrittenInPart name old.depot new.depot)
+WritesIndex format Is name old new NoMemory =
+    IsUnwritten old.depot new.depot ⊎ OnBuiltBytes format Is old new (IsWrittenInPart name old.depot new.depot)
+WritesIndex format Is name old new outcome = ⊥
+
+-- Only these slots are started and read; files are changed, and names created, only where a collection is accepted and the run is not refused.
+pub record WritesOnlyAccepted (touched : Slot → Type 0) (accepted : Type 0) (old new : Outside) (outcome : Outcome) : Type 0 where
+  pub refused : IsTrue (is_refusal outcome) → OnlyReads touched old.depot new.depot
+  pub unaccepted : ¬ accepted → OnlyReads touched old.depot new.depot
+  pub stay_started : (slot : Slot) → IsTrue (old.depot.started slot) → IsTrue (new.depot.started slot)
+  pub other_slots : (slot : Slot) → ¬ touched slot →
+      (new.depot.started slot ≡ old.depot.started slot) × (IsTrue old.depot.tells → new.depot.left slot ≡ old.depot.left slot)

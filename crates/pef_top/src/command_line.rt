@@ -1,0 +1,121 @@
+ghost use Rattle.std.specs.Prelude.{◌≡◌, false, IfErr, IfOk, Some, option_map};
+ghost use Rattle.clap.specs.Words.{app_of, first_of, found_of, rows_of, subcommand_rows_of};
+ghost use Rattle.clap.specs.declared.builder.command.Command.TheViews.{out-Command};
+ghost use Rattle.pef_top.specs.Command.{command_of, texts};
+ghost use Rattle.pef_top.specs.Private.Asked.{asked};
+ghost use Rattle.pef_top.specs.Private.CommandLine.{program_app, build_app, query_app, answer_app, asked_in, asked_of, build_with, AreRead, FailsForMemory};
+ghost use Rattle.pef_top.specs.Private.Stops.{stop_of_words};
+
+use crate::stop::Stop;
+use crate::words::{Command, is_command, parse_format};
+use clap::{Arg, ArgMatches};
+use std::alloc::{AllocError, Global};
+
+/// The command of the words, the program's name first. Words that are none are usage, and for them no memory is taken.
+pub(crate) fn parse_words<'a>(alloc: Global, words: &'a [String]) -> Result<Command<'a>, Stop>
+    ensures command { IfOk result (λ command. Some (asked command) ≡ command_of (texts words.entry.now)) }
+    ensures stop { IfErr result (λ stop. stop ≡ stop_of_words (command_of (texts words.entry.now))) }
+{
+    if !is_command(words) {
+        return Err(Stop::Usage);
+    }
+    let matches = match_words(alloc, words)?;
+    read_command(&matches).ok_or(Stop::Usage)
+}
+
+/// The matches of the words. Of words that are a command there are none only where memory is refused.
+fn match_words<'a>(alloc: Global, words: &'a [String]) -> Result<ArgMatches<'a>, clap::Error>
+    ensures matches { IfOk result (AreRead (texts words.entry.now)) }
+    ensures error { IfErr result (FailsForMemory (texts words.entry.now)) }
+{
+    program(alloc)?.try_get_matches_from(words)
+}
+
+/// What the matches of the words ask for.
+fn read_command<'a>(matches: &ArgMatches<'a>) -> Option<Command<'a>>
+    ensures { option_map asked result ≡ asked_in (subcommand_rows_of matches.now) }
+{
+    let (verb, texts) = matches.subcommand()?;
+    read_subcommand(verb, texts)
+}
+
+/// What a subcommand asks for with these texts.
+fn read_subcommand<'a>(verb: &str, texts: &ArgMatches<'a>) -> Option<Command<'a>>
+    ensures { option_map asked result ≡ asked_of verb.now (rows_of (found_of texts.now)) }
+{
+    if verb == "build" {
+        read_build(texts)
+    } else if verb == "query" {
+        let index = text_of(texts, "index")?;
+        Some(Command::Query { index })
+    } else if verb == "answer" {
+        let base = text_of(texts, "base")?;
+        Some(Command::Answer { base })
+    } else {
+        None
+    }
+}
+
+/// What `build` asks for with these texts.
+fn read_build<'a>(texts: &ArgMatches<'a>) -> Option<Command<'a>>
+    ensures { option_map asked result ≡ build_with (rows_of (found_of texts.now)) }
+{
+    let base = text_of(texts, "base")?;
+    let index = text_of(texts, "index")?;
+    let format = parse_format(text_of(texts, "format")?)?;
+    Some(Command::Build {
+        base,
+        index,
+        format,
+    })
+}
+
+/// The text of the argument of this name.
+fn text_of<'a>(texts: &ArgMatches<'a>, id: &str) -> Option<&'a str>
+    ensures { option_map (λ text. text.now) result ≡ first_of id.now (rows_of (found_of texts.now)) }
+{
+    texts.get_str(id)
+}
+
+/// The command line of the program: one level of subcommands, whose arguments are texts.
+fn program<'a>(alloc: Global) -> Result<clap::Command<'a>, AllocError>
+    ensures { IfOk result (λ command. app_of command ≡ program_app) }
+{
+    let (build, query, answer) = (build(alloc)?, query(alloc)?, answer(alloc)?);
+    clap::Command::new(alloc, "pefidx")
+        .subcommand(build)?
+        .subcommand(query)?
+        .subcommand(answer)
+}
+
+/// `build BASE INDEX [--format FORMAT]`
+fn build<'a>(alloc: Global) -> Result<clap::Command<'a>, AllocError>
+    ensures app { IfOk result (λ command. app_of command ≡ build_app) }
+    ensures local { IfOk result (λ command. (out-Command command).has_globals ≡ false) }
+{
+    let base = Arg::new(alloc, "base").required(true);
+    let index = Arg::new(alloc, "index").required(true);
+    let format = Arg::new(alloc, "format").long("format").default_value("2");
+    clap::Command::new(alloc, "build")
+        .arg(base)?
+        .arg(index)?
+        .arg(format)
+}
+
+/// `query INDEX`
+fn query<'a>(alloc: Global) -> Result<clap::Command<'a>, AllocError>
+    ensures app { IfOk result (λ command. app_of command ≡ query_app) }
+    ensures local { IfOk result (λ command. (out-Command command).has_globals ≡ false) }
+{
+    let index = Arg::new(alloc, "index").required(true);
+    clap::Command::new(alloc, "query").arg(index)
+}
+
+/// `answer BASE`
+fn answer<'a>(alloc: Global) -> Result<clap::Command<'a>, AllocError>
+    ensures app { IfOk result (λ command. app_of command ≡ answer_app) }
+    ensures local { IfOk result (λ command. (out-Command command).has_globals ≡ false) }
+{
+    let base = Arg::new(alloc, "base").required(true);
+    clap::Command::new(alloc, "answer").arg(base)
+}
