@@ -3,7 +3,10 @@ pub mod Words
 pub mod Ranges
 pub mod WordRanges
 pub mod Writing
+pub mod OneAfter
+pub mod OnesWritten
 pub mod WordLaws
+pub mod WordsBehind
 pub mod Pieces
 pub mod Fronts
 pub mod AllBits

@@ -56,6 +56,10 @@ pub record IsWordWithin (bits : List ℕ) (i from to word : ℕ) : Type 0 where
   pub before : (k : ℕ) → 64 * i + k < from → bit_at word k ≡ 0
   pub behind : (k : ℕ) → to ≤ 64 * i + k → bit_at word k ≡ 0
 
+-- so many zeros and then a one
+abbrev pub one_after : ℕ → List ℕ
+one_after zeros = replicate zeros 0 ++ 1 ∷ []
+
 -- The bits after are those before and a front of the new ones.
 abbrev pub AppendsBits : List ℕ → List ℕ → List ℕ → Type 0
 AppendsBits old new bits = (n : ℕ) × (n ≤ length bits) × (new ≡ old ++ take n bits)

@@ -128,3 +128,33 @@ fn counts_and_finds_in_each_range(rt: HostRuntime) -> Result<(), Fail> {
     }
     Ok(())
 }
+
+// Zeros and then a one, behind the bits of a word: how many zeros, the place of the one, and the words.
+#[test]
+fn puts_a_one_after_zeros(rt: HostRuntime) -> Result<(), Fail> {
+    for (begun, zeros, len, want) in [
+        (0, 0, 65, &[7_u64, 1][..]),
+        (0, 63, 128, &[7, 0x8000_0000_0000_0000]),
+        (0, 64, 129, &[7, 0, 1]),
+        (3, 0, 68, &[7, 8]),
+        (3, 60, 128, &[7, 0x8000_0000_0000_0000]),
+        (3, 61, 129, &[7, 0, 1]),
+        (3, 125, 193, &[7, 0, 0, 1]),
+        (63, 0, 128, &[7, 0x8000_0000_0000_0000]),
+        (63, 1, 129, &[7, 0, 1]),
+        (63, 130, 258, &[7, 0, 0, 0, 2]),
+    ] {
+        assert!(rt; begun < 64 && zeros < 192);
+        let mut writer = BitWriter::after(vec![in rt.alloc(); 7]?);
+        assert_eq!(rt; writer.len(), 64);
+        writer.put(0, begun).expect(&rt, "memory");
+        writer.put_one_after(zeros).expect(&rt, "memory");
+        assert_eq!(rt; writer.len(), len, "{zeros} zeros behind {begun}");
+        assert_eq!(rt;
+            writer.into_words().as_slice(),
+            want,
+            "{zeros} zeros behind {begun}"
+        );
+    }
+    Ok(())
+}

@@ -1,5 +1,5 @@
 ghost use Rattle.std.specs.Prelude.{◌≡◌, ◌≤◌, ◌<◌, ◌+◌, ◌*◌, ◌/◌, ◌^◌, [], ◌∷◌, ◌++◌, length, OnOk, OnErr, IfOk, IsOk};
-ghost use Rattle.bit_words.specs.Bits.{field_bits, bits_of, bits_value, padded, words_of, HoldNumber};
+ghost use Rattle.bit_words.specs.Bits.{field_bits, bits_of, bits_value, one_after, padded, padding, words_of, AppendsBits, HoldNumber};
 
 use std::alloc::{AllocError, Global};
 use std::marker::Model;
@@ -45,6 +45,15 @@ impl BitWriter {
         })
     }
 
+    /// The bits of words, which are appended to where the words stand. It takes no memory.
+    pub fn after(words: Vec<u64>) -> BitWriter
+        requires room { length words.items < 2 ^ 57 }
+        ensures { result ≡ bits_of words.items }
+    {
+        let len = 64 * words.len() as u64;
+        BitWriter { words, len }
+    }
+
     /// Appends the lowest bits of the value, the lowest first. A refusal leaves the list as it was.
     pub fn put(&mut self, value: u64, width: u32) -> Result<(), NoMemory>
         requires width { width ≤ 64 }
@@ -52,10 +61,25 @@ impl BitWriter {
         requires room { length self.old + width < 2 ^ 63 }
         ensures ok { OnOk result (self.new ≡ self.old ++ field_bits width value) }
         ensures err { OnErr result (self.new ≡ self.old) }
+        // It takes no memory where the last word has room.
+        ensures fitting { width ≤ padding (length self.old) → IsOk result }
     {
         append(&mut self.words, self.len, value, width)?;
         self.len += width as u64;
         Ok(())
+    }
+
+    /// Appends so many zeros and then a one, by whole words. A refusal leaves a front of them.
+    pub fn put_one_after(&mut self, zeros: u64) -> Result<(), NoMemory>
+        requires room { length self.old + zeros + 1 < 2 ^ 63 }
+        ensures ok { OnOk result (self.new ≡ self.old ++ one_after zeros) }
+        ensures err { OnErr result (AppendsBits self.old self.new (one_after zeros)) }
+    {
+        for _ in 0..zeros / 64 {
+            self.put(0, 64)?;
+        }
+        let rest = (zeros % 64) as u32;
+        self.put(1 << rest, rest + 1)
     }
 
     /// Appends zeros up to the end of a word. It takes no memory.
@@ -94,6 +118,7 @@ fn append(words: &mut Vec<u64>, len: u64, value: u64, width: u32) -> Result<(), 
     ensures count { OnOk result (length words.new.items ≡ (len + width + 63) / 64) }
     ensures value { OnOk result (bits_value (bits_of words.new.items) ≡ bits_value (bits_of words.old.items) + 2 ^ len * value) }
     ensures err { OnErr result (words.new.items ≡ words.old.items) }
+    ensures fitting { width ≤ padding len → IsOk result }
 {
     let used = (len % 64) as u32;
     if used == 0 {
@@ -115,6 +140,7 @@ fn append_fresh(words: &mut Vec<u64>, word: u64, width: u32) -> Result<(), NoMem
     ensures none { width ≡ 0 → OnOk result (words.new.items ≡ words.old.items) }
     ensures some { 0 < width → OnOk result (words.new.items ≡ words.old.items ++ word ∷ []) }
     ensures err { OnErr result (words.new.items ≡ words.old.items) }
+    ensures nothing { width ≡ 0 → IsOk result }
 {
     if width == 0 {
         return Ok(());

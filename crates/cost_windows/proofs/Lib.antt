@@ -1,2 +1,4 @@
 pub mod Table
+pub mod Filled
+pub mod Counts
 pub mod Moving

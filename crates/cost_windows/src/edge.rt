@@ -1,6 +1,6 @@
 ghost use Rattle.std.specs.Prelude.{◌≡◌, ℕ, ◌+◌, ◌<◌, ◌≤◌, Some, None, IsSome};
 ghost use Rattle.cost_windows.specs.WindowEnds.{StandsAt};
-ghost use Rattle.cost_windows.specs.EdgeFacts.{Knows};
+ghost use Rattle.cost_windows.specs.EdgeFacts.{Knows, IsAsked};
 
 use part_cost::SpanCost;
 use std::sync::ledger::Ledger;
@@ -18,7 +18,7 @@ pub struct Edge {
 }
 
 impl Edge {
-    /// No part yet, at place i.
+    /// An edge that ends here, nothing known of its cost; at the place itself there is no part yet.
     pub fn at(i: u64) -> Edge
         ensures { result ≡ record { end = i; cost = None; next = None } }
     {
@@ -34,6 +34,7 @@ impl Edge {
         ensures knows { (cost : ℕ → ℕ → ℕ) (n i : ℕ) → position ≤ n → Knows cost n i self → Knows cost n i result }
         ensures forward { self.end ≤ result.end }
         ensures reaches { position ≤ result.end }
+        ensures stays { result.end ≡ self.end → result ≡ self }
         ensures one_of { (position < result.end → result ≡ self) × (self.end < result.end → result.end ≡ position) }
         ensures fresh { self.cost ≡ None → self.next ≡ None → (result.cost ≡ None) × (result.next ≡ None) }
     {
@@ -58,6 +59,7 @@ impl Edge {
         ensures counted { steps.old ≤ steps.new }
         ensures bounded { steps.new ≤ steps.old + 1 }
         ensures asks { self.now.next ≡ None → steps.old + 1 ≤ steps.new }
+        ensures known { IsSome self.now.next → steps.new ≡ steps.old }
     {
         match self.next {
             Some(known) => known,
@@ -84,6 +86,8 @@ impl Edge {
         ensures counted { steps.old ≤ steps.new }
         ensures bounded { steps.new + self.end ≤ steps.old + result.end + 1 }
         ensures asks { self.next ≡ None → self.end < C.count cost.now → steps.old + 1 ≤ steps.new }
+        ensures known { (self.end < C.count cost.now → IsSome self.next) → result.end ≡ self.end → steps.new ≡ steps.old }
+        ensures next { result.end < C.count cost.now → IsSome result.next }
     {
         let mut edge = self;
         while edge.end < cost.len() {
@@ -110,7 +114,8 @@ impl Edge {
         ensures counted { steps.old ≤ steps.new }
         ensures bounded { steps.new ≤ steps.old + 1 }
         ensures asks { self.cost ≡ None → i < self.end → steps.old + 1 ≤ steps.new }
-        ensures known { IsSome self.cost → steps.new ≡ steps.old }
+        ensures known { (i < self.end → IsSome self.cost) → steps.new ≡ steps.old }
+        ensures next { result.next ≡ self.next }
     {
         if self.cost.is_none() && i < self.end {
             Edge {
@@ -143,6 +148,9 @@ impl Edge {
         ensures counted { steps.old ≤ steps.new }
         ensures bounded { steps.new + position ≤ steps.old + result.end + 2 }
         ensures asks { self.cost ≡ None → self.next ≡ None → steps.old + 1 ≤ steps.new }
+        ensures asked { IsAsked (C.count cost.now) i result }
+        // Nothing is asked again where the end stays.
+        ensures known { IsAsked (C.count cost.now) i self → result.end ≡ self.end → steps.new ≡ steps.old }
     {
         self.moved_to(position)
             .lengthened(i, bound, cost, steps)

@@ -1,7 +1,7 @@
 ghost use Rattle.std.specs.Prelude.{◌≡◌, ℕ, ◌≤◌, ◌<◌, ◌+◌, ◌*◌, length, slice_index, replicate, IsSome, IfOk};
-ghost use Rattle.cost_windows.specs.WindowEnds.{rise};
+ghost use Rattle.cost_windows.specs.WindowEnds.{rise, open_count, end_count};
 ghost use Rattle.cost_windows.specs.WindowBounds.{window_bounds};
-ghost use Rattle.cost_windows.specs.Windows.{new_windows, KeepCosts, NoneFell, AllAtLongest, window_end};
+ghost use Rattle.cost_windows.specs.Windows.{new_windows, KeepCosts, NoneFell, AllAtLongest, StandTogether, window_end};
 
 use crate::edge::Edge;
 use crate::tables::{bounds, bounds_follow_rule};
@@ -20,19 +20,23 @@ pub struct NoMemory;
 pub struct Windows {
     format: Format,
     place: u64,
+    /// Where the windows stand, up to the first that has come to the end of the sequence: all wider ones stand there too.
     positions: Vec<u64>,
+    /// What the parts up to there cost.
     costs: Vec<u64>,
 }
 
 impl Model for Windows {
+    ghost use Rattle.std.specs.Prelude.{◌≡◌, length};
     ghost use Rattle.cost_windows.specs.Windows as model;
     ghost use Rattle.cost_windows.specs.WindowBounds.{window_bounds};
 
     ghost Value = { model.Windows };
 
-    ghost view = { λ w. record { bounds = window_bounds w.format; place = w.place; positions = w.positions.items; costs = w.costs.items } };
+    ghost view = { λ w. model.windows_by (window_bounds w.format) w.place w.positions.items w.costs.items };
 
-    ghost invariant = { λ w. model.AreWindows (record { bounds = window_bounds w.format; place = w.place; positions = w.positions.items; costs = w.costs.items }) };
+    ghost invariant = { λ w. model.AreWindows (model.windows_by (window_bounds w.format) w.place w.positions.items w.costs.items)
+        × (length w.costs.items ≡ length w.positions.items) };
 }
 
 impl Windows {
@@ -53,9 +57,7 @@ impl Windows {
     }
 
     /// Moves all windows to place i, which never falls, by counted costs of one and the same sequence. Each goes on from
-    /// where it stood. A cost that one window asked for is not asked for again by a wider one: windows with the same end
-    /// share its cost and that of one number more, and a window that has come to the end of the sequence settles all
-    /// that are wider.
+    /// where it stood, and those that are wider than one at the end of the sequence are not looked at.
     pub fn advance<C: SpanCost, L: Ledger>(&mut self, i: u64, cost: &C, steps: &mut Steps<L>)
         requires same_format { self.old.bounds ≡ window_bounds (C.format_of cost.now) }
         requires forward { self.old.place ≤ i }
@@ -66,19 +68,29 @@ impl Windows {
         ensures longest { AllAtLongest (C.cost_of cost.now) (C.count cost.now) self.new }
         ensures costs { KeepCosts (C.cost_of cost.now) (C.count cost.now) self.new }
         ensures forward { NoneFell self.old.positions self.new.positions }
+        // All but the last of the distinct windows are open.
+        ensures distinct { self.new.distinct ≤ open_count (C.count cost.now) self.new.positions + 1 }
         ensures counted { steps.old + 1 ≤ steps.new }
-        // At most one cost for each place that a window moved on, and two for each window.
+        // At most one cost for each place that a window moved on, and two for each window,
         ensures bounded { steps.new ≤ steps.old + rise self.old.positions self.new.positions + 2 * length self.old.bounds }
+        // two for each window that is still open and for the first at the end,
+        ensures bounded_by_open { steps.new ≤ steps.old + rise self.old.positions self.new.positions + 2 * (open_count (C.count cost.now) self.new.positions + 1) }
+        // and two for each end, however many windows stand there.
+        ensures bounded_by_ends { steps.new ≤ steps.old + rise self.old.positions self.new.positions + 2 * end_count self.new.positions }
     {
         bounds_cover();
         bounds_follow_rule();
         let bounds = bounds(self.format);
         let mut edge = Edge::at(i);
-        for window in 0..bounds.len() {
-            edge = edge.stretched(i, self.positions[window], bounds[window], cost, steps);
-            self.positions[window] = edge.end;
-            self.costs[window] = edge.cost.unwrap_or(0);
+        let mut moved = 0;
+        while moved < self.positions.len() && edge.end < cost.len() {
+            edge = edge.stretched(i, self.positions[moved], bounds[moved], cost, steps);
+            self.positions[moved] = edge.end;
+            self.costs[moved] = edge.cost.unwrap_or(0);
+            moved += 1;
         }
+        self.positions.truncate(moved);
+        self.costs.truncate(moved);
         self.place = i;
     }
 
@@ -86,6 +98,17 @@ impl Windows {
     pub fn count(&self) -> usize
         ensures bounds { result ≡ length self.now.bounds }
         ensures positions { result ≡ length self.now.positions }
+    {
+        bounds(self.format).len()
+    }
+
+    /// How many windows are looked at by themselves: those that are open and the first at the end of the sequence. All
+    /// wider ones stand where the last of these stands.
+    pub fn distinct(&self) -> usize
+        ensures value { result ≡ self.now.distinct }
+        ensures some { 0 < result }
+        ensures within { result ≤ length self.now.bounds }
+        ensures together { StandTogether self.now }
     {
         self.positions.len()
     }
@@ -96,7 +119,7 @@ impl Windows {
         requires window { k < length self.now.bounds }
         ensures { result ≡ window_end self.now k }
     {
-        let end = self.positions[k];
+        let end = self.positions[self.held(k)];
         if self.place < end { Some(end) } else { None }
     }
 
@@ -107,7 +130,17 @@ impl Windows {
         ensures value { result ≡ slice_index self.now.costs k }
         ensures affordable { result ≤ slice_index self.now.bounds k }
     {
-        self.costs[k]
+        self.costs[self.held(k)]
+    }
+
+    /// The widest window that is kept and stands where window k stands.
+    fn held(&self, k: usize) -> usize
+        requires window { k < length self.now.bounds }
+        ensures within { result < self.now.distinct }
+        ensures position { slice_index self.now.positions result ≡ slice_index self.now.positions k }
+        ensures cost { slice_index self.now.costs result ≡ slice_index self.now.costs k }
+    {
+        k.min(self.positions.len() - 1)
     }
 }
 

@@ -1,14 +1,16 @@
 -- Lemmas on the places of a cursor.
-use Rattle.std.proofs.Common.{◌≡◌, refl, sym, ap, inl, inr, ◌∙◌, ℕ, ◌+◌, ◌-◌, ◌<◌, ◌≤◌, Bool, true, false, leb, List, [], ◌∷◌, length, get_or, drop, max, arith, length-drop}
-use Rattle.std.specs.List.{position_or_len, fold, reduce}
+use Rattle.std.proofs.Common.{◌≡◌, refl, sym, ap, inl, inr, ◌∙◌, ℕ, ◌+◌, ◌-◌, ◌<◌, ◌≤◌, Bool, true, false, leb, ltb, List, [], ◌∷◌, length, get_or, drop, max, arith, length-drop}
+use Rattle.std.specs.List.{between, position_or_len, fold, reduce}
 use Rattle.std.specs.Option.{unwrap_or}
-use Rattle.std.specs.List.Sorted.{IsStrictlyIncreasing, IsNonDecreasingBy}
-use Rattle.std.proofs.lemmas.Bool.{leb-true, leb-false, le-leb, lt-leb, cases_lt}
+use Rattle.std.specs.List.Sorted.{IsStrictlyIncreasing, IsNonDecreasingBy, IsPartitionPoint, IsPartitionedBy}
+use Rattle.std.proofs.lemmas.Bool.{leb-true, leb-false, le-leb, lt-leb, ltb-true, ltb-false, cases_lt}
 use Rattle.std.proofs.lemmas.List.{get_or-drop, get_or-map}
+use Rattle.std.proofs.lemmas.List.Edits.{length-between, get_or-between}
+use Rattle.std.proofs.lemmas.List.Sorted.{IsPartitionedBy-ltb}
 use Rattle.std.proofs.lemmas.List.Sums.{prefix_len-le-length, position_or_len_is, fails_before_first, passes_at_first}
 use Rattle.std.proofs.lemmas.List.Kept.{AllPairs-from_increasing}
 use Rattle.collection_model.specs.Collection.{Posting, docs_of, greatest}
-use Rattle.cursor_api.specs.NextGeq.{next_geq_place}
+use Rattle.cursor_api.specs.NextGeq.{IsFirstFrom, next_geq_place}
 use Rattle.cursor_api.specs.Laws.{IsNextGeq}
 
 abbrev no_posting : Posting
@@ -61,6 +63,37 @@ rising-from docs place rising i j d le within =
       | inl lt ↦ (let below : get_or docs (place + i) d < get_or docs (place + j) d = AllPairs-from_increasing docs rising (place + i) (place + j) d (omega arith) (omega arith) in omega (arith, get_or-drop place docs i d, get_or-drop place docs j d))
       | inr ge ↦ (let same : i ≡ j = omega arith in let e : get_or (drop place docs) i d ≡ get_or (drop place docs) j d = ap (λ k. get_or (drop place docs) k d) same in omega arith)
     ]
+
+-- a part of numbers that do not fall is parted at each number
+pub part-is_parted : (docs : List ℕ) (low high d : ℕ) → IsNonDecreasingBy (λ x. x) docs → high ≤ length docs → IsPartitionedBy (λ y. ltb y d) (between low high docs)
+part-is_parted docs low high d rise within =
+    let count : length (between low high docs) ≡ high - low = length-between docs low high within in
+    IsPartitionedBy-ltb (λ x. x) (between low high docs) d
+    (λ i j e le inside. omega (arith, rise (low + i) (low + j) e (omega arith) (omega arith), get_or-between docs low high i e (omega arith), get_or-between docs low high j e (omega arith)))
+
+-- the place that a search of a part gives, where the numbers before the part are below d, and the last of it is not unless it ends the list
+pub part-finds : (docs : List ℕ) (low high d r : ℕ) → low ≤ high → high ≤ length docs → IsPartitionPoint (λ y. ltb y d ≡ true) (λ y. ltb y d ≡ false) (between low high docs) r → r ≤ length (between low high docs) → ((k : ℕ) → k < low → get_or docs k 0 < d)
+    → (high < length docs → (low < high) × (d ≤ get_or docs (high - 1) 0)) → IsFirstFrom docs d (low + r)
+part-finds docs low high d r le within point bound before last =
+    let count : length (between low high docs) ≡ high - low = length-between docs low high within in
+    let below : (j : ℕ) → j < r → get_or docs (low + j) 0 < d = λ j lt. omega (arith, ltb-true _ _ (point.0 j 0 (omega arith) lt), get_or-between docs low high j 0 (omega arith)) in
+    record {
+      within = omega arith;
+      passed = λ k lt. elim (cases_lt k low) as (λ _. get_or docs k 0 < d) [
+        | inl early ↦ before k early
+        | inr late ↦ (let h = below (k - low) (omega arith) in let e : low + (k - low) ≡ k = omega arith in let read = ap (λ i. get_or docs i 0) e in omega arith)
+      ];
+      reached = λ inside. elim (cases_lt r (high - low)) as (λ _. d ≤ get_or docs (low + r) 0) [
+        | inl lt ↦ omega (arith, ltb-false _ _ (point.1 r 0 (omega arith) (omega arith)), get_or-between docs low high r 0 (omega arith))
+        | inr ge ↦ (let end = last (omega arith) in
+            let from = end.0 in
+            let least = end.1 in
+            let h = below (high - 1 - low) (omega arith) in
+            let e : low + (high - 1 - low) ≡ high - 1 = omega arith in
+            let read = ap (λ i. get_or docs i 0) e in
+            absurd (omega arith))
+      ];
+    }
 
 -- the numbers folded from a first one
 greatest-fold : (a : ℕ) (xs : List ℕ) → fold max a xs ≡ max a (greatest xs)

@@ -1,6 +1,7 @@
 ghost use Rattle.std.specs.Prelude.{◌≡◌, ◌≤◌, [], length};
+ghost use Rattle.std.specs.List.Sorted.{IsNonDecreasingBy};
 ghost use Rattle.collection_model.specs.Collection.{postings_of};
-ghost use Rattle.cursor_api.specs.NextGeq.{IsCursorList, IsCursorAt};
+ghost use Rattle.cursor_api.specs.NextGeq.{IsCursorList, IsCursorAt, IsFirstFrom};
 ghost use Rattle.cursor_api.specs.Postings.{postings-stand_at};
 
 use crate::cursor::DocCursor;
@@ -46,7 +47,7 @@ impl<'a> DocCursor for PlainCursor<'a> {
         self.docs.get(self.at).copied()
     }
 
-    fn freq(&self) -> u32 {
+    fn freq(&mut self) -> u32 {
         self.freqs[self.at]
     }
 
@@ -55,8 +56,8 @@ impl<'a> DocCursor for PlainCursor<'a> {
     }
 
     fn next_geq(&mut self, d: u32) {
-        let rest = &self.docs[self.at..];
-        self.at += rest.partition_point(|doc| *doc < d);
+        let passed = gallop(&self.docs[self.at..], d);
+        self.at += passed;
     }
 
     fn max_freq(&self) -> u32 {
@@ -68,4 +69,17 @@ impl<'a> DocCursor for PlainCursor<'a> {
     }
 
     ghost well_formed = { λ c. postings-stand_at c.docs.now c.freqs.now c.at c.same_length c.lent c.within };
+}
+
+// How many of the first documents are below `d`: a reach that doubles until it passes them, and a search by halves inside it.
+fn gallop(docs: &[u32], d: u32) -> usize
+    requires rising { IsNonDecreasingBy (λ x. x) docs.now }
+    ensures { IsFirstFrom docs.now d result }
+{
+    let mut low = 0;
+    while low < docs.len() - low && docs[2 * low] < d {
+        low = 2 * low + 1;
+    }
+    let high = low + (docs.len() - low).min(low + 1);
+    low + docs[low..high].partition_point(|doc| *doc < d)
 }

@@ -1,4 +1,4 @@
-use Rattle.std.proofs.Common.{◌≡◌, ℕ, zero, suc, ◌+◌, ◌-◌, ◌/◌, ◌^◌, ◌<◌, ◌≤◌, List, length, get_or, arith}
+use Rattle.std.proofs.Common.{◌≡◌, ℕ, zero, suc, ◌+◌, ◌-◌, ◌/◌, ◌^◌, ◌<◌, ◌≤◌, List, length, get_or, refl, sym, ap, ◌∙◌, arith}
 use Rattle.std.specs.List.Sorted.{IsStrictlyIncreasing}
 use Rattle.std.proofs.lemmas.Nat.{pow_pos, le-div}
 use Rattle.std.proofs.Math.Nat.{div-mul-le_self}
@@ -42,6 +42,10 @@ pub before-past : (ys : List ℕ) (l : ℕ) → IsStrictlyIncreasing ys → (j k
 before-past ys l up j zero lt fit = absurd (omega arith)
 before-past ys l up j (suc k) lt fit = omega (arith, places-rise ys l up j k (omega arith) (omega arith))
 
-pub past-number : (ys : List ℕ) → IsStrictlyIncreasing ys → (k : ℕ) → k < length ys → past ys k ≤ get_or ys k 0
-past-number ys up zero lt = omega arith
-past-number ys up (suc k) lt = omega (arith, rises ys up k (suc k) (omega arith) lt)
+pub past_place-next : (l : ℕ) (ys : List ℕ) (k : ℕ) → past_place l ys (k + 1) ≡ high_place l k (get_or ys k 0) + 1
+past_place-next l ys k = ap (past_place l ys) (let e : k + 1 ≡ suc k = omega arith in e)
+
+-- the last number's one is the last of the high bits
+pub last-place : (l : ℕ) (ys : List ℕ) (n : ℕ) → 0 < n → past_place l ys n ≡ n + (past ys n - 1) / 2 ^ l
+last-place l ys zero some = absurd (omega arith)
+last-place l ys (suc n) some = let e : past ys (suc n) - 1 ≡ get_or ys n 0 = omega arith in omega (arith, ap (λ v. v / 2 ^ l) e)

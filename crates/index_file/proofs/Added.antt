@@ -5,7 +5,7 @@ use Rattle.std.specs.List.Sorted.{IsStrictlyIncreasing}
 use Rattle.std.proofs.lemmas.List.{drop-append-le}
 use Rattle.std.proofs.lemmas.List.Elements.{All-push, All-weaker}
 use Rattle.collection_model.specs.FormatNumbers.{FormatNumbers, most_terms, part_charge}
-use Rattle.collection_model.specs.Collection.{docs_of, freqs_of, postings_of, IsPostingList, greatest}
+use Rattle.collection_model.specs.Collection.{Posting, docs_of, freqs_of, postings_of, IsPostingList, greatest}
 use Rattle.collection_model.specs.Sequences.{doc_sequence, freq_sequence, lessened, sums_from}
 use Rattle.collection_model.proofs.Lists.{rising-length, docs-of_postings, freqs-of_postings, docs_of-length}
 use Rattle.part_cost.specs.declared.formats.Format.{Format}
@@ -48,6 +48,16 @@ postings-are format n docs freqs same list =
       count = count;
       few = omega (arith, rising-length (docs_of (postings_of docs freqs)) n list.rising list.in_range, ap length docs_are);
     }
+
+-- a list over some documents is one over more
+pub list-within : (format : FormatNumbers) (n most : ℕ) (list : List Posting) → n ≤ most → IsPostingList format n list → IsPostingList format most list
+list-within format n most list le h = record {
+  rising = h.rising;
+  in_range = All-weaker (λ d. d < n) (λ d. d < most) (λ d small. omega (arith, le)) (docs_of list) h.in_range;
+  not_zero = h.not_zero;
+  fit = h.fit;
+  sum_within = h.sum_within;
+}
 
 -- values that can be cut into parts
 pub record AreValues (format : FormatNumbers) (m : ℕ) (xs : List ℕ) : Type 0 where

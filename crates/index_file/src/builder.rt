@@ -1,7 +1,7 @@
 ghost use Rattle.std.specs.Prelude.{◌≡◌, ℕ, ◌≤◌, ◌<◌, ◌+◌, ◌*◌, ◌/◌, ◌^◌, List, [], length, IfOk, OnOk, OnErr};
 ghost use Rattle.collection_model.specs.FormatNumbers.{most_terms, part_charge};
 ghost use Rattle.collection_model.specs.Collection.{postings_of, IsPostingList};
-ghost use Rattle.collection_model.specs.Sequences.{doc_sequence};
+ghost use Rattle.collection_model.specs.Sequences.{doc_sequence, freq_sequence};
 ghost use Rattle.part_cost.specs.Formats.{numbers_of};
 ghost use Rattle.part_cost.specs.Span.{cost_of_part};
 ghost use Rattle.part_cost.specs.Partition.{partition_cost};
@@ -91,31 +91,25 @@ impl Builder {
     {
         sequences_of_a_list_rise();
         formats_have_room();
-        let doc_cuts = cut(
-            self.alloc,
-            &doc_values(self.alloc, docs)?,
-            self.format,
-            steps,
-        )?;
-        let freq_cuts = cut(
-            self.alloc,
-            &freq_sums(self.alloc, freqs)?,
-            self.format,
-            steps,
-        )?;
-        self.append(docs, freqs, &doc_cuts, &freq_cuts)
+        let values = doc_values(self.alloc, docs)?;
+        let doc_cuts = cut(self.alloc, &values, self.format, steps)?;
+        let sums = freq_sums(self.alloc, freqs)?;
+        let freq_cuts = cut(self.alloc, &sums, self.format, steps)?;
+        self.append(&values, &sums, freqs, &doc_cuts, &freq_cuts)
     }
 
-    // Appends a list whose sequences are cut so.
+    // Appends a list whose sequences are these, and are cut so.
     fn append(
         &mut self,
-        docs: &[u32],
+        docs: &[u64],
+        sums: &[u64],
         freqs: &[u32],
         doc_cuts: &Cuts,
         freq_cuts: &Cuts,
     ) -> Result<(), NoMemory>
         requires same_length { length docs.now ≡ length freqs.now }
         requires list { IsPostingList (numbers_of self.old.format) self.old.documents (postings_of docs.now freqs.now) }
+        requires sums { sums.now ≡ freq_sequence (postings_of docs.now freqs.now) }
         requires room { lists_added self.old < most_terms }
         requires near { IsNearCut (numbers_of self.old.format) (cut_list docs.now freqs.now doc_cuts.now.ends freq_cuts.now.ends) }
         requires total { doc_cuts.now.total ≡ partition_cost (cost_of_part (part_charge (numbers_of self.old.format)) (doc_sequence (postings_of docs.now freqs.now))) doc_cuts.now.ends }
@@ -129,7 +123,7 @@ impl Builder {
         write_postings(
             self.alloc,
             docs,
-            freqs,
+            sums,
             doc_cuts.ends(),
             freq_cuts.ends(),
             self.format,

@@ -5,7 +5,7 @@ use Rattle.std.proofs.lemmas.List.{length-take-le, length-drop, length-map, get_
 use Rattle.std.proofs.lemmas.List.Elements.{All-get_or}
 use Rattle.std.specs.List.Sorted.{IsStrictlyIncreasing}
 use Rattle.part_cost.specs.Payload.{payload, widest_low}
-use Rattle.part_cost.specs.Span.{past, universe, relative_values}
+use Rattle.part_cost.specs.Span.{past, universe, relative_values, AreRelative}
 use Rattle.part_cost.specs.Laws.{PayloadsGrow, CostsGrow, PartsGrow, SingleIsAllowed, PartHasRoom, PartIsWithin, PartIsRelative}
 use Rattle.part_cost.proofs.Growth.{payload-grows, one-number-is-short}
 
@@ -31,6 +31,10 @@ past-rises xs up i j (suc d) e h =
     let so_far = past-rises xs up i (i + d) d refl (omega arith) in
     let last = past-next xs up (i + d) (omega arith) in
     subst (λ x. past xs i + suc d ≤ past xs x) (sym next) (omega (arith, so_far, last))
+
+-- a part begins no later than its first number
+pub past-number : (xs : List ℕ) → IsStrictlyIncreasing xs → (k : ℕ) → k < length xs → past xs k ≤ slice_index xs k
+past-number xs up k lt = omega (arith, past-next xs up k lt)
 
 pub rises : (xs : List ℕ) → IsStrictlyIncreasing xs → (i j : ℕ) → i ≤ j → j ≤ length xs → past xs i + (j - i) ≤ past xs j
 rises xs up i j h fit = past-rises xs up i j (j - i) (omega arith) fit
@@ -101,3 +105,11 @@ single-is-allowed charge limit room xs up below i h =
     let one : 1 ≡ i + 1 - i = omega arith in
     let short = one-number-is-short (universe xs i (i + 1)) (omega (arith, fit)) within in
     omega (arith, room, short, ap (payload (universe xs i (i + 1))) one)
+
+-- rising numbers are the relative values of a part whose universe ends with the last
+pub relative-past : (ys : List ℕ) → IsStrictlyIncreasing ys → 0 < length ys → AreRelative (past ys (length ys)) (length ys) ys
+relative-past ys up some = record { rising = up; count = refl; some = some; last = sym (past-at ys (length ys) some) }
+
+-- and of no part with another universe
+pub past-is : (u : ℕ) (ys : List ℕ) → AreRelative u (length ys) ys → past ys (length ys) ≡ u
+past-is u ys h = past-at ys (length ys) h.some ∙ h.last

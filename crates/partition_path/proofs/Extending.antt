@@ -1,11 +1,11 @@
-use Rattle.std.proofs.Common.{◌≡◌, refl, sym, ◌∙◌, subst, ℕ, ◌+◌, ◌-◌, ◌*◌, ◌^◌, ◌≤◌, ◌<◌, ◌⊎◌, inl, inr, Bool, true, false, Some, None, List, length, get_or, arith}
+use Rattle.std.proofs.Common.{◌≡◌, refl, sym, ap, ◌∙◌, subst, ℕ, ◌+◌, ◌-◌, ◌*◌, ◌^◌, ◌≤◌, ◌<◌, ◌⊎◌, inl, inr, Bool, true, false, Some, None, List, length, get_or, arith}
 use Rattle.std.specs.Prelude.{nat_lt, if◌then◌else◌}
 use Rattle.std.specs.List.{All}
 use Rattle.std.proofs.lemmas.Nat.{mul-le}
-use Rattle.std.proofs.lemmas.Bool.{ltb-true, ltb-false, cases_eq}
+use Rattle.std.proofs.lemmas.Bool.{ltb-true, ltb-false, cases_eq, cases_lt}
 use Rattle.std.proofs.Math.Nat.{eq-or-lt_of_le}
-use Rattle.cost_windows.specs.Windows.{Windows, window_end}
-use Rattle.partition_path.specs.Tables.{Tables, IsSameAt, IsByWindow, AreExtended, IsOffered, unreached}
+use Rattle.cost_windows.specs.Windows.{Windows, KeepCosts, StandTogether, window_end}
+use Rattle.partition_path.specs.Tables.{Tables, IsSameAt, IsByWindow, AreExtended, ShareCosts, IsOffered, unreached}
 
 -- what a window that has an end says
 end_from_test : (place p e : ℕ) (t : Bool) → nat_lt place p ≡ t → (if t then Some p else None) ≡ Some e → (place < p) × (p ≡ e)
@@ -44,10 +44,9 @@ module _ (w : Windows) (k : ℕ) (old middle new : Tables) (x : AreExtended w k 
         | inr by ↦ inr (by.0, omega (arith, by.1), record { after = by.2.after; position = by.2.position; costs = s.costs ∙ by.2.costs; starts = s.starts ∙ by.2.starts; parts = s.parts ∙ by.2.parts })
       ]
 
-  -- a window that has no end
-  pub extended-past : middle ≡ new → get_or w.positions k 0 ≤ w.place → AreExtended w (k + 1) old new
-  extended-past e l =
-      subst (λ (t : Tables). AreExtended w (k + 1) old t) e (
+  -- a window whose end is not offered: it has none, or another window with that end and that cost was tried
+  pub extended-past : (w.place < get_or w.positions k 0 → (m : ℕ) × (m < k) × (get_or w.positions m 0 ≡ get_or w.positions k 0) × (get_or w.costs m 0 ≡ get_or w.costs k 0)) → AreExtended w (k + 1) old middle
+  extended-past before =
       record {
         places = x.places;
         cheaper = x.cheaper;
@@ -55,14 +54,18 @@ module _ (w : Windows) (k : ℕ) (old middle new : Tables) (x : AreExtended w k 
         tried = λ m b a.
             let le : m ≤ k = omega arith in
             elim (eq-or-lt_of_le le) [
-              | inl same ↦ let there = subst (λ (y : ℕ). w.place < get_or w.positions y 0) same a in absurd (omega arith)
-              | inr before ↦ x.tried m before a
+              | inl same ↦
+                  subst (λ (y : ℕ). get_or middle.costs (get_or w.positions y 0) 0 ≤ get_or old.costs w.place 0 + get_or w.costs y 0) (sym same) (
+                  let first = before (subst (λ (y : ℕ). w.place < get_or w.positions y 0) same a) in
+                  let t = x.tried first.0 first.1 (omega (arith, first.2, subst (λ (y : ℕ). w.place < get_or w.positions y 0) same a)) in
+                  let at = subst (λ (p : ℕ). get_or middle.costs p 0 ≤ get_or old.costs w.place 0 + get_or w.costs first.0 0) first.2 t in
+                  omega (arith, at, first.3))
+              | inr earlier ↦ x.tried m earlier a
             ];
       }
-      )
 
   -- a window whose end is offered
-  pub extended-more : w.place < get_or w.positions k 0 → IsOffered w.place (get_or w.positions k 0) (get_or w.costs k 0) middle new → AreExtended w (k + 1) old new
+  pub extended-more : w.place < get_or w.positions k 0 → IsOffered w.place (get_or w.positions k 0) (get_or old.costs w.place 0 + get_or w.costs k 0) middle new → AreExtended w (k + 1) old new
   extended-more after o =
       let end = get_or w.positions k 0 in
       let place_same : IsSameAt old middle w.place = elim (x.each w.place) [ inl s ↦ s | inr by ↦ absurd (omega (arith, by.2.after)) ] in
@@ -76,7 +79,7 @@ module _ (w : Windows) (k : ℕ) (old middle new : Tables) (x : AreExtended w k 
         each = λ j. elim (cases_eq j end) [
           | inl e ↦ subst (λ (y : ℕ). IsSameAt old new y ⊎ ((m : ℕ) × (m < k + 1) × IsByWindow w old new y m)) (sym e) (elim o.at_end [
             | inl s ↦ each-same end s.0
-            | inr t ↦ inr (k, omega arith, record { after = after; position = refl; costs = (let a = t.costs in let b = place_same.costs in omega arith); starts = t.starts; parts = (let a = t.parts in let b = place_same.parts in omega arith) })
+            | inr t ↦ inr (k, omega arith, record { after = after; position = refl; costs = t.costs; starts = t.starts; parts = (let a = t.parts in let b = place_same.parts in omega arith) })
           ])
           | inr ne ↦ each-same j (o.others j ne)
         ];
@@ -84,25 +87,65 @@ module _ (w : Windows) (k : ℕ) (old middle new : Tables) (x : AreExtended w k 
             let le : m ≤ k = omega arith in
             elim (eq-or-lt_of_le le) [
               | inl same ↦ subst (λ (y : ℕ). get_or new.costs (get_or w.positions y 0) 0 ≤ get_or old.costs w.place 0 + get_or w.costs y 0) (sym same) (elim o.at_end [
-                | inl s ↦ let c = s.0.costs in let d = s.1 in let f = place_same.costs in omega arith
-                | inr t ↦ let c = t.costs in let f = place_same.costs in omega arith
+                | inl s ↦ let c = s.0.costs in let d = s.1 in omega arith
+                | inr t ↦ let c = t.costs in omega arith
               ])
               | inr before ↦ let c = cheaper (get_or w.positions m 0) in let d = x.tried m before a in omega arith
             ];
       }
 
   -- the same by what is read of the window
-  pub extended-some : (i end cost : ℕ) → w.place ≡ i → window_end w k ≡ Some end → cost ≡ get_or w.costs k 0 → IsOffered i end cost middle new → AreExtended w (k + 1) old new
-  extended-some i end cost here says price o =
+  pub extended-some : (i end total : ℕ) → w.place ≡ i → window_end w k ≡ Some end → total ≡ get_or old.costs i 0 + get_or w.costs k 0 → IsOffered i end total middle new → AreExtended w (k + 1) old new
+  extended-some i end total here says sum o =
       let s = end_says w k end says in
-      let a = subst (λ (y : ℕ). IsOffered y end cost middle new) (sym here) o in
-      let b = subst (λ (y : ℕ). IsOffered w.place y cost middle new) (sym s.1) a in
-      let d = subst (λ (y : ℕ). IsOffered w.place (get_or w.positions k 0) y middle new) price b in
+      let at = subst (λ (y : ℕ). total ≡ get_or old.costs y 0 + get_or w.costs k 0) (sym here) sum in
+      let a = subst (λ (y : ℕ). IsOffered y end total middle new) (sym here) o in
+      let b = subst (λ (y : ℕ). IsOffered w.place y total middle new) (sym s.1) a in
+      let d = subst (λ (y : ℕ). IsOffered w.place (get_or w.positions k 0) y middle new) at b in
       extended-more s.0 d
 
--- there is room for the cost of the part to a window's end
-pub room_for : (w : Windows) (k i : ℕ) (old middle : Tables) (cost : ℕ) → AreExtended w k old middle → w.place ≡ i → k < length w.bounds → cost ≤ get_or w.bounds k 0 → All (λ b. get_or old.costs i 0 + b < unreached) w.bounds → get_or middle.costs i 0 + cost < unreached
-room_for w k i old middle cost x here l a room = let c = x.cheaper i in let r = room k 0 l in omega (arith, a, c, r)
+-- The end that was tried last is the place itself, or that of a window before k.
+abbrev pub IsTried : Windows → ℕ → ℕ → Type 0
+IsTried w k tried = (tried ≡ w.place) ⊎ ((m : ℕ) × (m < k) × (get_or w.positions m 0 ≡ tried))
+
+pub tried-later : (w : Windows) (k tried : ℕ) → IsTried w k tried → IsTried w (k + 1) tried
+tried-later w k tried (inl e) = inl e
+tried-later w k tried (inr b) = inr (b.0, omega (arith, b.1), b.2)
+
+-- an end that is no other than the last is not tried again
+pub extended-again : (w : Windows) (k end tried : ℕ) (old middle : Tables) → AreExtended w k old middle → k < length w.bounds → ShareCosts w → window_end w k ≡ Some end → end ≡ tried → IsTried w k tried → AreExtended w (k + 1) old middle
+extended-again w k end tried old middle x below share says same last =
+    let s = end_says w k end says in
+    extended-past w k old middle middle x (λ a.
+    elim last [
+      | inl e ↦ absurd (omega (arith, e, same, s.0, s.1))
+      | inr b ↦
+          let at : get_or w.positions b.0 0 ≡ get_or w.positions k 0 = omega (arith, b.2, same, s.1) in
+          (b.0, b.1, at, share b.0 k (omega (arith, b.1, below)) below a at)
+    ])
+
+-- a window that has no end
+pub extended-none_there : (w : Windows) (k : ℕ) (old middle : Tables) → AreExtended w k old middle → window_end w k ≡ None → AreExtended w (k + 1) old middle
+extended-none_there w k old middle x says = let l = none_says w k says in extended-past w k old middle middle x (λ a. absurd (omega (arith, a, l)))
+
+-- The wider windows stand where the last of the distinct ones stands, so all are tried.
+pub extended-all : (w : Windows) (d : ℕ) (old new : Tables) → AreExtended w d old new → d ≡ w.distinct → 0 < d → d ≤ length w.bounds → StandTogether w → AreExtended w (length w.bounds) old new
+extended-all w d old new x e some within together =
+    record {
+      places = x.places;
+      cheaper = x.cheaper;
+      each = λ j. elim (x.each j) [ inl s ↦ inl s | inr by ↦ inr (by.0, omega (arith, by.1, within), by.2) ];
+      tried = λ m b a.
+          elim (cases_lt m d) [
+            | inl tried ↦ x.tried m tried a
+            | inr wider ↦
+                let position = subst (λ (y : ℕ). get_or w.positions m 0 ≡ get_or w.positions (y - 1) 0) (sym e) (together.positions m (omega (arith, e, wider)) b) in
+                let price = subst (λ (y : ℕ). get_or w.costs m 0 ≡ get_or w.costs (y - 1) 0) (sym e) (together.costs m (omega (arith, e, wider)) b) in
+                let t = x.tried (d - 1) (omega arith) (omega (arith, a, position)) in
+                let at = subst (λ (p : ℕ). get_or new.costs p 0 ≤ get_or old.costs w.place 0 + get_or w.costs (d - 1) 0) (sym position) t in
+                omega (arith, at, price)
+          ];
+    }
 
 -- there is room for one more allowed part, for as many numbers as a sequence has
 pub room_within : (limit n i cost : ℕ) → limit < 2 ^ 32 → n < 2 ^ 32 → i < n → cost ≤ limit * i → cost + limit < unreached
@@ -113,3 +156,10 @@ room_within limit n i cost small few l c =
 -- so there is room for each of the bounds, which are at most the limit
 pub room_for_each : (bounds : List ℕ) (limit cost : ℕ) → All (λ b. b ≤ limit) bounds → cost + limit < unreached → All (λ b. cost + b < unreached) bounds
 room_for_each bounds limit cost within room = λ k d l. let b = within k d l in omega (arith, b, room)
+
+-- windows that keep the costs of their parts share them
+pub kept-shared : (cost : ℕ → ℕ → ℕ) (n : ℕ) (w : Windows) → KeepCosts cost n w → ShareCosts w
+kept-shared cost n w kept j k lj lk a same =
+    let first = kept.costs j lj (omega (arith, same, a)) in
+    let second = kept.costs k lk a in
+    first ∙ ap (cost w.place) same ∙ sym second

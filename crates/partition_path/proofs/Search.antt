@@ -67,6 +67,7 @@ searched-none limit cost bounds n before =
       kept = record {
         within = zeros-within bounds n;
         costs = λ k l a. absurd (let e = get_or-replicate {A = ℕ} (length bounds) k 0 0 l in omega (arith, e));
+        closed = λ l. absurd (omega (arith, l));
       };
       behind = omega arith;
       forward = NoneFell-same (zeros bounds);

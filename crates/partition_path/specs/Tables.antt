@@ -65,15 +65,19 @@ pub record AreExtended (w : Windows) (k : ℕ) (old new : Tables) : Type 0 where
   pub each : (j : ℕ) → IsSameAt old new j ⊎ ((m : ℕ) × (m < k) × IsByWindow w old new j m)
   pub tried : (m : ℕ) → m < k → w.place < slice_index w.positions m → slice_index new.costs (slice_index w.positions m) ≤ slice_index old.costs w.place + slice_index w.costs m
 
--- The route to place end is now the one by a part from start, which is cheaper.
-pub record IsTaken (start end cost : ℕ) (old new : Tables) : Type 0 where
+-- Windows with the same end have the same cost.
+abbrev pub ShareCosts : Windows → Type 0
+ShareCosts w = (j k : ℕ) → j < length w.bounds → k < length w.bounds → w.place < slice_index w.positions k → slice_index w.positions j ≡ slice_index w.positions k → slice_index w.costs j ≡ slice_index w.costs k
+
+-- The route to place end is now the one by a part from start, at this total, which is cheaper.
+pub record IsTaken (start end total : ℕ) (old new : Tables) : Type 0 where
   pub cheaper : slice_index new.costs end < slice_index old.costs end
-  pub costs : slice_index new.costs end ≡ slice_index old.costs start + cost
+  pub costs : slice_index new.costs end ≡ total
   pub starts : slice_index new.starts end ≡ start
   pub parts : slice_index new.parts end ≡ slice_index old.parts start + 1
 
--- The route to place end by a part from start is taken where it is cheaper, and all other routes are kept.
-pub record IsOffered (start end cost : ℕ) (old new : Tables) : Type 0 where
+-- The route to place end by a part from start is taken where its total is cheaper, and all other routes are kept.
+pub record IsOffered (start end total : ℕ) (old new : Tables) : Type 0 where
   pub places : length new.costs ≡ length old.costs
   pub others : (j : ℕ) → j ≢ end → IsSameAt old new j
-  pub at_end : (IsSameAt old new end × (slice_index old.costs end ≤ slice_index old.costs start + cost)) ⊎ IsTaken start end cost old new
+  pub at_end : (IsSameAt old new end × (slice_index old.costs end ≤ total)) ⊎ IsTaken start end total old new

@@ -3,7 +3,7 @@ ghost use Rattle.std.specs.List.{All};
 ghost use Rattle.part_cost.specs.Formats.{numbers_of};
 ghost use Rattle.part_cost.specs.Partition.{IsAllowed, partition_cost};
 ghost use Rattle.cost_windows.specs.WindowBounds.{window_bounds};
-ghost use Rattle.partition_path.specs.Tables.{IsReached, AreRoutes, AreExtended, IsOffered, new_tables, unreached};
+ghost use Rattle.partition_path.specs.Tables.{IsReached, AreRoutes, AreExtended, ShareCosts, IsOffered, new_tables, unreached};
 ghost use Rattle.partition_path.specs.Chains.{IsChain};
 
 use crate::cuts::NoMemory;
@@ -94,14 +94,12 @@ impl Routes {
         cost < UNREACHED && (rival <= i || cost < self.costs[rival as usize])
     }
 
-    /// Takes the route to a place by a part from another, at this cost of the part, where it is cheaper.
-    fn offer(&mut self, start: u64, end: u64, cost: u64)
+    /// Takes the route to a place by a part from another, at this total, where it is cheaper.
+    fn offer(&mut self, start: u64, end: u64, total: u64)
         requires order { start < end }
         requires within { end < length self.old.costs }
-        requires room { slice_index self.old.costs start + cost < unreached }
-        ensures { IsOffered start end cost self.old self.new }
+        ensures { IsOffered start end total self.old self.new }
     {
-        let total = self.costs[start as usize] + cost;
         if total < self.costs[end as usize] {
             self.costs[end as usize] = total;
             self.starts[end as usize] = start;
@@ -122,20 +120,27 @@ impl Routes {
         }
     }
 
-    /// Tries the part from place i to the end of each window, and gives the rival of the places behind i.
+    /// Tries the parts from place i to the ends of the windows, each once, and gives the rival of the places behind i.
     fn extend(&mut self, i: u64, windows: &Windows, rival: u64) -> u64
         requires place { windows.now.place ≡ i }
+        requires start { i < length self.old.costs }
         requires within { All (λ p. p < length self.old.costs) windows.now.positions }
         requires room { All (λ b. slice_index self.old.costs i + b < unreached) windows.now.bounds }
+        requires shared { ShareCosts windows.now }
         requires rival { rival < length self.old.costs }
         ensures extended { AreExtended windows.now (length windows.now.bounds) self.old self.new }
         ensures rival { result < length self.new.costs }
     {
+        let here = self.costs[i as usize];
         let mut rival = rival;
-        for k in 0..windows.count() {
+        let mut tried = i;
+        for k in 0..windows.distinct() {
             if let Some(end) = windows.end(k) {
-                self.offer(i, end, windows.cost(k));
-                rival = self.better_rival(i, rival, end);
+                if end != tried {
+                    self.offer(i, end, here + windows.cost(k));
+                    rival = self.better_rival(i, rival, end);
+                    tried = end;
+                }
             }
         }
         rival

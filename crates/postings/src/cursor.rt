@@ -1,7 +1,6 @@
-ghost use Rattle.std.specs.Prelude.{◌≡◌, ◌≤◌, ◌<◌, ◌^◌, [], length, slice_index};
-ghost use Rattle.std.specs.List.{All};
+ghost use Rattle.std.specs.Prelude.{◌≡◌, ◌≤◌, ◌<◌, ◌^◌, [], length};
 ghost use Rattle.collection_model.specs.Collection.{greatest_freq};
-ghost use Rattle.collection_model.specs.Sequences.{postings_in, steps_from};
+ghost use Rattle.collection_model.specs.Sequences.{postings_in};
 ghost use Rattle.part_cost.specs.Span as span;
 ghost use Rattle.cursor_api.specs.NextGeq.{IsCursorList, IsCursorAt};
 
@@ -9,37 +8,23 @@ use cursor_api::DocCursor;
 use part_cost::Format;
 use two_level::{SeqCursor, SeqView};
 
-/// A cursor over the two sequences of a list: its documents, and the sums of its frequencies. The sums are read in step with the
-/// documents, and not while documents are skipped.
+/// A cursor over the two sequences of a list: its documents, and the sums of its frequencies. Only the documents are read while it
+/// moves; the sums follow where a frequency is asked, in step with the documents or by one jump after a skip.
 #[derive(Drop)]
 pub struct PostingCursor<'a> {
     docs: SeqCursor<'a>,
-    sums: SeqView<'a>,
-    // A place in the sums, which may lag behind the documents.
-    at: SeqCursor<'a>,
-    // One more than the sum before that place, 0 at the start.
+    // It stands at the place of the documents or before it.
+    sums: SeqCursor<'a>,
+    // One more than the sum before the place of the sums, 0 at the start.
     past: u64,
+    len: u32,
     max: u32,
-    ghost same_length: { length docs.sequence.values ≡ length sums.values },
-    ghost same_sums: { at.sequence ≡ sums },
-    ghost before: { past ≡ span.past sums.values at.place },
-    ghost cursor: { IsCursorAt (postings_in docs.sequence.values sums.values) docs.place },
-    ghost greatest: { max ≡ greatest_freq (postings_in docs.sequence.values sums.values) },
-}
-
-// How far value k of the sums lies past the value before it.
-fn step_at(sums: &SeqView, k: u32) -> u32
-    requires within { k < length sums.now.values }
-    requires not_zero { All (λ f. 1 ≤ f) (steps_from 0 sums.now.values) }
-    requires fit { All (λ f. f < 2 ^ 32) (steps_from 0 sums.now.values) }
-    ensures { result ≡ slice_index (steps_from 0 sums.now.values) k }
-{
-    let sum = sums.get(k);
-    if k == 0 {
-        (sum + 1) as u32
-    } else {
-        (sum - sums.get(k - 1)) as u32
-    }
+    ghost same_length: { length docs.sequence.values ≡ length sums.sequence.values },
+    ghost count: { len ≡ length docs.sequence.values },
+    ghost lag: { sums.place ≤ docs.place },
+    ghost before: { past ≡ span.past sums.sequence.values sums.place },
+    ghost cursor: { IsCursorAt (postings_in docs.sequence.values sums.sequence.values) docs.place },
+    ghost greatest: { max ≡ greatest_freq (postings_in docs.sequence.values sums.sequence.values) },
 }
 
 // The sequence of no values.
@@ -60,18 +45,34 @@ impl<'a> PostingCursor<'a> {
         ensures start { ⟦<PostingCursor<'a> as DocCursor>⟧.place result ≡ 0 }
     {
         PostingCursor {
+            len: docs.len(),
             docs: docs.cursor(),
-            at: freqs.cursor(),
-            sums: freqs,
+            sums: freqs.cursor(),
             past: 0,
             max,
+        }
+    }
+
+    // Brings the sums to the place of the documents.
+    fn catch_up(&mut self)
+        requires within { self.old.docs.place < length self.old.docs.sequence.values }
+        ensures docs { self.new.docs ≡ self.old.docs }
+        ensures sums { self.new.sums.sequence ≡ self.old.sums.sequence }
+        ensures place { self.new.sums.place ≡ self.old.docs.place }
+        ensures few { self.old.docs.place < 2 ^ 32 }
+    {
+        let place = self.docs.place();
+        if self.sums.place() < place {
+            self.sums.move_to(place - 1);
+            self.past = self.sums.value() + 1;
+            self.sums.next();
         }
     }
 }
 
 /// At an empty list.
 impl<'a> Default for PostingCursor<'a> {
-    ghost is_default = { λ c. (postings_in c.docs.sequence.values c.sums.values ≡ []) × (c.docs.place ≡ 0) };
+    ghost is_default = { λ c. (postings_in c.docs.sequence.values c.sums.sequence.values ≡ []) × (c.docs.place ≡ 0) };
 
     fn default() -> PostingCursor<'a> {
         PostingCursor::new(no_values(), no_values(), 0)
@@ -79,31 +80,24 @@ impl<'a> Default for PostingCursor<'a> {
 }
 
 impl<'a> DocCursor for PostingCursor<'a> {
-    ghost list = { λ c. postings_in c.docs.sequence.values c.sums.values };
+    ghost list = { λ c. postings_in c.docs.sequence.values c.sums.sequence.values };
 
     ghost place = { λ c. c.docs.place };
 
     fn doc(&self) -> Option<u32> {
-        if self.docs.place() < self.sums.len() {
+        if self.docs.place() < self.len {
             Some(self.docs.value() as u32)
         } else {
             None
         }
     }
 
-    fn freq(&self) -> u32 {
-        let place = self.docs.place();
-        if self.at.place() == place {
-            (self.at.value() + 1 - self.past) as u32
-        } else {
-            step_at(&self.sums, place)
-        }
+    fn freq(&mut self) -> u32 {
+        self.catch_up();
+        (self.sums.value() + 1 - self.past) as u32
     }
 
     fn advance(&mut self) {
-        self.at.move_to(self.docs.place());
-        self.past = self.at.value() + 1;
-        self.at.next();
         self.docs.next();
     }
 
@@ -116,7 +110,7 @@ impl<'a> DocCursor for PostingCursor<'a> {
     }
 
     fn len(&self) -> u32 {
-        self.sums.len()
+        self.len
     }
 
     ghost well_formed = { λ c. c.cursor };

@@ -17,7 +17,7 @@ fn writes_two_postings(rt: HostRuntime) -> Result<(), Fail> {
     let two: &[u64] = &[7, 2, 2, 0, 5, 5, 2, 0, 33];
     for (format, want) in [(Format::One, one), (Format::Two, two)] {
         let mut words = vec![in rt.alloc(); 7]?;
-        write_postings(rt.alloc(), &[0, 2], &[1, 5], &[2], &[2], format, &mut words).expect(
+        write_postings(rt.alloc(), &[0, 2], &[0, 5], &[2], &[2], format, &mut words).expect(
             &rt, "memory",
         );
         assert_eq!(rt; words.as_slice(), want);

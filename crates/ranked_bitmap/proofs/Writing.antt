@@ -1,15 +1,18 @@
-use Rattle.std.proofs.Common.{◌≡◌, ℕ, ◌+◌, ◌-◌, ◌*◌, ◌/◌, ◌%◌, ◌^◌, ◌<◌, ◌≤◌, cond, List, [], ◌∷◌, ◌++◌, length, take, get_or, sum, sym, ap, ◌∙◌, subst, arith, append_assoc}
+use Rattle.std.proofs.Common.{◌≡◌, ℕ, zero, suc, ◌+◌, ◌-◌, ◌*◌, ◌/◌, ◌%◌, ◌^◌, ◌<◌, ◌≤◌, cond, List, [], ◌∷◌, ◌++◌, length, take, get_or, sum, sym, ap, ◌∙◌, subst, arith, inl, inr}
 use Rattle.std.specs.List.{flat_map}
-use Rattle.std.proofs.lemmas.Bool.{false_from_ne_true}
+use Rattle.std.specs.List.Sorted.{IsStrictlyIncreasing}
+use Rattle.std.proofs.lemmas.Bool.{cases_lt, false_from_ne_true}
 use Rattle.std.proofs.lemmas.List.{length-append, length-take-le, take_more, take_all}
 use Rattle.std.proofs.Math.Nat.{mul-le-mul_left}
 use Rattle.bit_words.specs.Bits.{AppendsBits, field_bits}
 use Rattle.bit_words.proofs.Pieces.{length-fields}
 use Rattle.bit_words.proofs.Fronts.{appends-front, appends-behind, appends-both, pieces-more, pieces-front}
+use Rattle.bit_words.proofs.OnesWritten.{IsOneNext}
 use Rattle.bit_words.proofs.WordLaws.{each_bit}
 use Rattle.bit_words.proofs.Numbers.{rises}
 use Rattle.part_cost.specs.Payload.{digits}
-use Rattle.part_cost.specs.Span.{AreRelative}
+use Rattle.part_cost.specs.Span.{past, AreRelative}
+use Rattle.part_cost.proofs.Parts.{past-number, relative-past, past-is}
 use Rattle.ranked_bitmap.specs.MapBits.{marks, map_samples, map_bits}
 use Rattle.ranked_bitmap.proofs.Ones.{AreBelow, sum-suc, one_count, below-number, count-below}
 use Rattle.ranked_bitmap.proofs.Marks.{has_number, has_number-at, found-number, length-marks, mark-at, bits-marks, marks-are-ones}
@@ -20,43 +23,30 @@ pub marks-below : (ys : List ℕ) (u p : ℕ) → AreRelative u (length ys) ys �
 marks-below ys u p h =
     count-below (marks ys u) ys p (each_bit (marks ys u) (bits-marks ys u)) (marks-are-ones ys u h.rising (λ k lt. below-universe u (length ys) ys h k lt))
 
--- the place of the next number is marked
-pub mark-here : (ys : List ℕ) (u place count : ℕ) → place < u → count < length ys → get_or ys count 0 ≡ place → 1 ≡ get_or (marks ys u) place 0
-mark-here ys u place count lt within is =
-    sym (mark-at ys u place lt ∙ ap (λ b. cond b 1 0) (has_number-at place ys count within is))
+-- no number lies between one and the next
+between-numbers : (ys : List ℕ) → IsStrictlyIncreasing ys → (k : ℕ) → k < length ys → (q : ℕ) → past ys k ≤ q → q < get_or ys k 0
+    → (i : ℕ) → i < length ys → get_or ys i 0 ≡ q → ⊥
+between-numbers ys up zero lt q from to i within is = omega (arith, rises ys up 0 i (omega arith) within)
+between-numbers ys up (suc k) lt q from to i within is =
+    elim (cases_lt i (suc k)) [
+      | inl less ↦ omega (arith, rises ys up i k (omega arith) (omega arith))
+      | inr more ↦ omega (arith, rises ys up (suc k) i more within)
+    ]
 
--- no other is: the numbers before lie below it, the others above
-pub mark-not_here : (ys : List ℕ) (u place count : ℕ) → AreRelative u (length ys) ys → place < u → count ≡ sum (take place (marks ys u))
-    → (count < length ys → get_or ys count 0 ≡ place → ⊥) → 0 ≡ get_or (marks ys u) place 0
-mark-not_here ys u place count h lt is other =
-    sym (mark-at ys u place lt
-    ∙ ap (λ b. cond b 1 0)
-    (false_from_ne_true (has_number place ys)
-    (λ set.
-    let found = found-number place ys set in
-    let same : found.0 ≡ count =
-    one_count ys place found.0 (sum (take place (marks ys u))) (subst (λ n. AreBelow ys n found.0) found.2 (below-number ys h.rising found.0 found.1))
-    (marks-below ys u place h) ∙ sym is in
-    other (omega (arith, found.1)) (ap (λ n. get_or ys n 0) (sym same) ∙ found.2))))
-
--- a bit alone is a field of one bit
-pub bit-alone : (b : ℕ) → b < 2 → field_bits 1 b ≡ b ∷ []
-bit-alone b h = ap (λ n. n ∷ []) (let e : b / 2 ^ 0 % 2 ≡ b = omega arith in e)
-
--- one more mark
-pub mark-more : (old to ys : List ℕ) (u place b : ℕ) → place < u → b < 2 → b ≡ get_or (marks ys u) place 0
-    → to ≡ old ++ take place (marks ys u) → to ++ field_bits 1 b ≡ old ++ take (place + 1) (marks ys u)
-mark-more old to ys u place b lt small is e =
-    ap (λ xs. xs ++ field_bits 1 b) e ∙ append_assoc old (take place (marks ys u)) (field_bits 1 b)
-    ∙ ap (λ xs. old ++ xs)
-    (ap (λ xs. take place (marks ys u) ++ xs) (bit-alone b small ∙ ap (λ n. n ∷ []) is)
-    ∙ sym (take_more (marks ys u) place 0 (omega (arith, length-marks ys u))))
-
-pub length-some-marks : (ys : List ℕ) (u place : ℕ) → place ≤ u → length (take place (marks ys u)) ≡ place
-length-some-marks ys u place h = length-take-le place (marks ys u) (omega (arith, length-marks ys u))
-
-pub marks-front : (old to ys : List ℕ) (u place : ℕ) → place ≤ u → to ≡ old ++ take place (marks ys u) → AppendsBits old to (marks ys u)
-marks-front old to ys u place h e = (place, omega (arith, length-marks ys u), e)
+-- behind the marks up to the first numbers, the next one is that of the next
+pub next-mark : (ys : List ℕ) (k : ℕ) → IsStrictlyIncreasing ys → 0 < length ys → k < length ys → IsOneNext (marks ys (past ys (length ys))) (past ys k) (get_or ys k 0 - past ys k)
+next-mark ys k up some lt =
+    let u : ℕ = past ys (length ys) in
+    let place : past ys k + (get_or ys k 0 - past ys k) ≡ get_or ys k 0 = let h = past-number ys up k lt in omega arith in
+    let below : get_or ys k 0 < u = below-universe u (length ys) ys (relative-past ys up some) k lt in
+    record {
+      within = omega (arith, length-marks ys u);
+      clear = λ q from to.
+          mark-at ys u q (omega arith)
+          ∙ ap (λ b. cond b 1 0)
+          (false_from_ne_true (has_number q ys) (λ set. let found = found-number q ys set in between-numbers ys up k lt q from (omega arith) found.0 found.1 found.2));
+      one = mark-at ys u (past ys k + (get_or ys k 0 - past ys k)) (omega arith) ∙ ap (λ b. cond b 1 0) (has_number-at (past ys k + (get_or ys k 0 - past ys k)) ys k lt (sym place));
+    }
 
 -- the first samples
 abbrev pub first_samples : ℕ → List ℕ → ℕ → ℕ → List ℕ
@@ -99,16 +89,9 @@ found-below ys u end count h fit below next =
     }
     (marks-below ys u end h)
 
--- no more marks than places
-pub marks-few : (ys : List ℕ) (u p : ℕ) → sum (take p (marks ys u)) ≤ p
-marks-few ys u p = few-ones (marks ys u) (each_bit (marks ys u) (bits-marks ys u)) p
-
-pub mark-count : (ys : List ℕ) (u place count b : ℕ) → count ≡ sum (take place (marks ys u)) → b ≡ get_or (marks ys u) place 0
-    → count + b ≡ sum (take (place + 1) (marks ys u))
-mark-count ys u place count b is bit = omega (arith, sum-suc place (marks ys u))
-
-pub marks-all : (old to ys : List ℕ) (u place : ℕ) → place ≡ u → to ≡ old ++ take place (marks ys u) → to ≡ old ++ marks ys u
-marks-all old to ys u place e written = written ∙ ap (λ xs. old ++ xs) (take_all place (marks ys u) (omega (arith, length-marks ys u)))
+-- the marks of a part are those of its numbers up to the last
+pub marks-of : (u : ℕ) (old new ys : List ℕ) → AreRelative u (length ys) ys → new ≡ old ++ marks ys (past ys (length ys)) → new ≡ old ++ marks ys u
+marks-of u old new ys h e = e ∙ ap (λ v. old ++ marks ys v) (past-is u ys h)
 
 -- the marks and then the samples are the part
 pub part-whole : (q u : ℕ) (old mid new ys : List ℕ) → mid ≡ old ++ marks ys u → new ≡ mid ++ map_samples q ys u → new ≡ old ++ map_bits q ys u

@@ -1,24 +1,19 @@
 -- Lemmas on top lists.
-use Rattle.std.proofs.Common.{inl, inr, ◌≡◌, refl, sym, ap, ◌∙◌, subst, ℕ, zero, suc, ◌<◌, ◌≤◌, ◌^◌, min, List, [], ◌∷◌, ◌++◌, map, take, reverse, arith}
+use Rattle.std.proofs.Common.{inl, inr, ◌≡◌, refl, sym, ap, ◌∙◌, subst, ℕ, zero, suc, ◌+◌, ◌<◌, ◌≤◌, ◌^◌, true, false, min, List, [], ◌∷◌, ◌++◌, map, take, reverse, length, get_or, arith}
 use Rattle.std.specs.Prelude.{Contains, AllPairs}
 use Rattle.std.specs.List.{All, list_any}
+use Rattle.std.proofs.lemmas.Bool.{false_from_ne_true}
 use Rattle.std.proofs.lemmas.List.{length-map, length-reverse, reverse-append}
 use Rattle.std.proofs.lemmas.List.Elements.{All-contains, All-nil}
 use Rattle.std.proofs.lemmas.List.Sorted.{IsPermutation-reverse, IsPermutation-sym, Contains-permutation}
 use Rattle.collection_model.specs.Collection.{Posting}
 use Rattle.scan_plans.specs.Matches.{has_doc, in_any, score}
 use Rattle.scan_plans.specs.IsTop.{Before, IsTop}
-use Rattle.scan_plans.specs.Ranking.{in_order, IsFirstK}
+use Rattle.scan_plans.specs.Ranking.{Ranking, in_order, IsFirstK}
+use Rattle.scan_plans.specs.Best.{scored, pairs_of, IsBest}
+use Rattle.scan_plans.specs.Window.{AreScored}
 use Rattle.scan_plans.proofs.Order.{Pair, same-pair, all-contained, in_order-more, first-k, first-k-more, IsFirstOf, first-one}
-use Rattle.scan_plans.proofs.Scans.{contains-split, contains-map, contains-from_map, filter-below}
-
--- a document with its score
-abbrev pub scored : List (List Posting) → List ℕ → ℕ → Pair
-scored lists weights d = (d, score lists weights d)
-
--- some documents with their scores, the last first
-abbrev pub pairs_of : List (List Posting) → List ℕ → List ℕ → List Pair
-pairs_of lists weights docs = map (scored lists weights) (reverse docs)
+use Rattle.scan_plans.proofs.Scans.{contains-split, contains-map, contains-from_map, filter-below, any-next, any-same}
 
 pairs-more : (lists : List (List Posting)) (weights : List ℕ) (docs : List ℕ) (d : ℕ) → pairs_of lists weights (docs ++ d ∷ []) ≡ scored lists weights d ∷ pairs_of lists weights docs
 pairs-more lists weights docs d = ap (map (scored lists weights)) (reverse-append docs (d ∷ []))
@@ -33,11 +28,6 @@ pairs-from lists weights docs x c =
 
 pairs-to : (lists : List (List Posting)) (weights : List ℕ) (docs : List ℕ) (d : ℕ) → Contains docs d → Contains (pairs_of lists weights docs) (scored lists weights d)
 pairs-to lists weights docs d c = contains-map (scored lists weights) (reverse docs) d (Contains-permutation docs (reverse docs) d (IsPermutation-reverse docs) c)
-
--- the first k of some documents with their scores are held
-pub record IsBest (k : ℕ) (lists : List (List Posting)) (weights : List ℕ) (docs : List ℕ) (held : List Pair) : Type 0 where
-  pub ordered : AllPairs Before (in_order (pairs_of lists weights docs))
-  pub first : held ≡ take k (in_order (pairs_of lists weights docs))
 
 take-nil : (k : ℕ) → [] ≡ take k (in_order [])
 take-nil zero = refl
@@ -116,3 +106,67 @@ still-below d s held new of_them lt all =
       | inl is ↦ subst P is lt
       | inr inside ↦ All-contains P held x all inside
     ])
+
+-- one document of a window on: it is offered where a list has it
+pub best-next : (k : ℕ) (lists : List (List Posting)) (weights : List ℕ) (d e s : ℕ) (held new : List Pair) → d + 1 ≡ e → list_any (has_doc d) lists ≡ true → s ≡ score lists weights d → IsBest k lists weights (in_any d lists) held → IsFirstK k ((d, s) ∷ held) new
+    → IsBest k lists weights (in_any e lists) new
+best-next k lists weights d e s held new next is scores best first =
+    let below : d ≤ d = omega arith in
+    subst (λ (docs : List ℕ). IsBest k lists weights docs new) (sym (any-next d e lists next is))
+    (best-more k lists weights (in_any d lists) held new d best (any-below d d lists below) (subst (λ (n : ℕ). IsFirstK k ((d, n) ∷ held) new) scores first))
+
+pub best-same : (k : ℕ) (lists : List (List Posting)) (weights : List ℕ) (d e : ℕ) (held : List Pair) → d + 1 ≡ e → list_any (has_doc d) lists ≡ false → IsBest k lists weights (in_any d lists) held → IsBest k lists weights (in_any e lists) held
+best-same k lists weights d e held next is best = subst (λ (docs : List ℕ). IsBest k lists weights docs held) (sym (any-same d e lists next is)) best
+
+-- what is held after an offer is below the next document
+pub offered-below : (d e s : ℕ) (held new : List Pair) → d < e → All (Contains ((d, s) ∷ held)) new → All (λ (x : Pair). x.0 < d) held → All (λ (x : Pair). x.0 < e) new
+offered-below d e s held new lt of_them all =
+    let P : Pair → Type 0 = λ x. x.0 < e in
+    all-contained P new (λ x c. elim (contains-split (d, s) held x (All-contains (Contains ((d, s) ∷ held)) new x of_them c)) as (λ _. P x) [
+      | inl is ↦ subst P is lt
+      | inr inside ↦ (let h = All-contains (λ (x : Pair). x.0 < d) held x all inside in omega arith)
+    ])
+
+-- ---- the documents of a window that have a score, offered one after another
+pub record IsOffered (first at : ℕ) (scores : List ℕ) (old now : Ranking) : Type 0 where
+  pub k : now.k ≡ old.k
+  pub n : now.n ≡ old.n
+  pub above : All (λ (e : Pair). e.0 < first + at) now.held
+  pub best : (lists : List (List Posting)) (weights : List ℕ) → AreScored lists weights first scores → IsBest old.k lists weights (in_any first lists) old.held → IsBest old.k lists weights (in_any (first + at) lists) now.held
+  pub bound : All (λ s. s < 2 ^ 58) scores → All (λ (e : Pair). e.1 < 2 ^ 58) old.held → All (λ (e : Pair). e.1 < 2 ^ 58) now.held
+
+pub offered-none : (first : ℕ) (scores : List ℕ) (old : Ranking) → All (λ (e : Pair). e.0 < first) old.held → IsOffered first 0 scores old old
+offered-none first scores old below =
+    let start : first ≡ first + 0 = omega arith in
+    record {
+      k = refl;
+      n = refl;
+      above = λ i x within. let h = below i x within in omega arith;
+      best = λ lists weights scores best. subst (λ (n : ℕ). IsBest old.k lists weights (in_any n lists) old.held) start best;
+      bound = λ small held. held;
+    }
+
+pub offered-more : (first at s : ℕ) (scores : List ℕ) (old now new : Ranking) → at < length scores → s ≡ get_or scores at 0 → 0 < s → new.k ≡ now.k → new.n ≡ now.n → IsFirstK now.k ((first + at, s) ∷ now.held) new.held → IsOffered first at scores old now → IsOffered first (at + 1) scores old new
+offered-more first at s scores old now new within is some k n firsts so_far =
+    let next : first + at + 1 ≡ first + (at + 1) = omega arith in
+    record {
+      k = k ∙ so_far.k;
+      n = n ∙ so_far.n;
+      above = offered-below (first + at) (first + (at + 1)) s now.held new.held (omega arith) firsts.of_them so_far.above;
+      best = λ lists weights are best.
+          best-next old.k lists weights (first + at) (first + (at + 1)) s now.held new.held next ((are.found at within).0 (subst (λ (x : ℕ). 0 < x) is some)) (is ∙ are.scored at within) (so_far.best lists weights are best)
+          (subst (λ (x : ℕ). IsFirstK x ((first + at, s) ∷ now.held) new.held) so_far.k firsts);
+      bound = λ small held. still-below (first + at) s now.held new.held firsts.of_them (subst (λ (x : ℕ). x < 2 ^ 58) (sym is) (small at 0 within)) (so_far.bound small held);
+    }
+
+pub offered-same : (first at s : ℕ) (scores : List ℕ) (old now : Ranking) → at < length scores → s ≡ get_or scores at 0 → s ≤ 0 → IsOffered first at scores old now → IsOffered first (at + 1) scores old now
+offered-same first at s scores old now within is none so_far =
+    let next : first + at + 1 ≡ first + (at + 1) = omega arith in
+    record {
+      k = so_far.k;
+      n = so_far.n;
+      above = λ i x inside. let h = so_far.above i x inside in omega arith;
+      best = λ lists weights are best.
+          best-same old.k lists weights (first + at) (first + (at + 1)) now.held next (false_from_ne_true (list_any (has_doc (first + at)) lists) (λ has. let above = (are.found at within).1 has in absurd (omega arith))) (so_far.best lists weights are best);
+      bound = so_far.bound;
+    }

@@ -6,3 +6,7 @@ mod Scans
 mod Steps
 mod Heap
 mod Bests
+mod Reordered
+mod Windows
+mod Found
+mod Skipping

@@ -2,11 +2,11 @@
 use Rattle.std.proofs.Common.{◌≡◌, sym, ap, inl, inr, ◌⊎◌, ◌∙◌, ℕ, ◌+◌, ◌<◌, ◌≤◌, true, false, eqb, List, length, get_or, Option, Some, None, arith}
 use Rattle.std.specs.List.{slice_get, find, position_or_len}
 use Rattle.std.specs.Option.{option_map, unwrap_or}
-use Rattle.std.proofs.lemmas.Bool.{cases_lt, eq-eqb, ne_eqb}
+use Rattle.std.proofs.lemmas.Bool.{cases_lt, eq-eqb, ne_eqb, false≢true}
 use Rattle.std.proofs.lemmas.List.{get_or-map, length-map}
 use Rattle.std.proofs.lemmas.List.Elements.{All-from_get_or}
-use Rattle.std.proofs.lemmas.List.Folds.{list_any_at, list_any_none, find_at}
-use Rattle.std.proofs.lemmas.List.Sums.{position_or_len_is}
+use Rattle.std.proofs.lemmas.List.Folds.{list_any_at, list_any_none, find_at, Any-from_list_any}
+use Rattle.std.proofs.lemmas.List.Sums.{position_or_len_is, fails_before_first, passes_at_first}
 use Rattle.std.proofs.lemmas.List.Kept.{AllPairs-from_increasing}
 use Rattle.std.proofs.lemmas.Option.{slice_get-get_or, slice_get_past}
 use Rattle.collection_model.specs.Collection.{Posting, docs_of, freqs_of}
@@ -128,6 +128,32 @@ not-at-doc list d place good stands not =
       freq = ap (λ o. unwrap_or (option_map (λ p. p.freq) o) 0) first;
       after = record { passed = λ k before. let h = stands.passed k before in omega arith; left = λ k after within. let h = left k after within in omega arith };
     }
+
+-- a document that a list has, has a frequency there, and no other has
+pub has-freq : (list : List Posting) (d : ℕ) → IsCursorList list → has_doc d list ≡ true → 1 ≤ freq_of_doc d list
+has-freq list d good has =
+    let at : ℕ = position_or_len (λ p. eqb p.doc d) list in
+    let any = Any-from_list_any (λ p. eqb p.doc d) list has in
+    elim (cases_lt at (length list)) as (λ _. 1 ≤ freq_of_doc d list) [
+      | inl within ↦ (let first : find (λ p. eqb p.doc d) list ≡ Some (get_or list at no_posting) = find_at (λ p. eqb p.doc d) list ∙ slice_get-get_or list at no_posting within in
+          let freq : freq_of_doc d list ≡ (get_or list at no_posting).freq = ap (λ o. unwrap_or (option_map (λ p. p.freq) o) 0) first in
+          let read = freq-read list at within in
+          let some : 1 ≤ get_or (freqs_of list) at 0 = good.not_zero at 0 (omega (arith, length-map list (λ p. p.freq))) in
+          omega arith)
+      | inr past ↦ (let within = any.2 in
+          let fails : eqb (get_or list any.0 any.1).doc d ≡ false = fails_before_first (λ p. eqb p.doc d) list any.0 any.1 (omega arith) in
+          absurd (false≢true (sym fails ∙ ap (λ (p : Posting). eqb p.doc d) any.3 ∙ any.4)))
+    ]
+
+pub has-no-freq : (list : List Posting) (d : ℕ) → has_doc d list ≡ false → freq_of_doc d list ≡ 0
+has-no-freq list d none =
+    let at : ℕ = position_or_len (λ p. eqb p.doc d) list in
+    elim (cases_lt at (length list)) as (λ _. freq_of_doc d list ≡ 0) [
+      | inl within ↦ (let has : has_doc d list ≡ true = list_any_at (λ p. eqb p.doc d) list at no_posting within (passes_at_first (λ p. eqb p.doc d) list no_posting within) in
+          absurd (false≢true (sym none ∙ has)))
+      | inr past ↦ (let first : find (λ p. eqb p.doc d) list ≡ None = find_at (λ p. eqb p.doc d) list ∙ slice_get_past list at past in
+          ap (λ o. unwrap_or (option_map (λ p. p.freq) o) 0) first)
+    ]
 
 -- `next_geq` goes to where the documents from d on are left
 pub next_geq-stands : NextGeqIsFirst → (list : List Posting) (d place : ℕ) → IsCursorAt list place → HasPassed d list place → StandsFrom d list (next_geq_place list place d)

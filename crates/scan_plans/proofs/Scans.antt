@@ -6,12 +6,12 @@ use Rattle.std.proofs.lemmas.Bool.{cases_lt, false≢true}
 use Rattle.std.proofs.lemmas.List.{append-nil, length-map}
 use Rattle.std.proofs.lemmas.List.Elements.{filter-append, All-contains, All-filter, Contains-get_or}
 use Rattle.std.proofs.lemmas.List.FromFn.{length-range_with_len, get_or-range_with_len}
-use Rattle.std.proofs.lemmas.List.Folds.{list_any_at, list_any_none}
+use Rattle.std.proofs.lemmas.List.Folds.{list_any_none}
 use Rattle.collection_model.specs.Collection.{Posting, docs_of}
 use Rattle.cursor_api.specs.NextGeq.{IsCursorAt}
 use Rattle.scan_plans.specs.Matches.{AreBelow, has_doc, in_any}
 use Rattle.scan_plans.specs.Scan.{doc_at, StandsFrom}
-use Rattle.scan_plans.proofs.Postings.{doc_at-some, doc_at-within, has_doc-at, has_doc-none, has_doc-between, stands-later}
+use Rattle.scan_plans.proofs.Postings.{doc_at-some, doc_at-within, has_doc-none, has_doc-between, stands-later}
 
 -- ---- membership
 module _ {X : Type 0} where
@@ -149,8 +149,14 @@ module _ (p : ℕ → Bool) where
 pub any-none : (lists : List (List Posting)) (e : ℕ) → ((l : List Posting) → Contains lists l → has_doc e l ≡ false) → list_any (has_doc e) lists ≡ false
 any-none lists e none = list_any_none (has_doc e) lists (contained-all (λ l. has_doc e l ≡ false) lists none)
 
-pub any-some : (lists : List (List Posting)) (e : ℕ) (l : List Posting) → Contains lists l → has_doc e l ≡ true → list_any (has_doc e) lists ≡ true
-any-some lists e l c is = list_any_at (has_doc e) lists c.0 l c.1 (ap (has_doc e) c.2 ∙ is)
+-- one document on
+pub any-next : (d e : ℕ) (lists : List (List Posting)) → d + 1 ≡ e → list_any (has_doc d) lists ≡ true → in_any e lists ≡ in_any d lists ++ d ∷ []
+any-next d e lists next is = filter-yes (λ x. list_any (has_doc x) lists) d e next is
+
+pub any-same : (d e : ℕ) (lists : List (List Posting)) → d + 1 ≡ e → list_any (has_doc d) lists ≡ false → in_any e lists ≡ in_any d lists
+any-same d e lists next is =
+    filter-skip (λ x. list_any (has_doc x) lists) d e (omega arith)
+    (λ x from before. let same : d ≡ x = omega arith in subst (λ (y : ℕ). list_any (has_doc y) lists ≡ false) same is)
 
 -- no list has a document that is not below n
 pub below-has_none : (n : ℕ) (lists : List (List Posting)) → AreBelow n lists → (e : ℕ) → n ≤ e → (l : List Posting) → Contains lists l → has_doc e l ≡ false
@@ -167,8 +173,7 @@ module _ {X : Type 0} (list : X → List Posting) (place : X → ℕ) (good : (c
     pub low_first : low ≤ d
     pub stand : All (λ c. StandsFrom d (list c) (place c)) cs
     pub at : (c : X) × Contains cs c × (doc_at (list c) (place c) ≡ Some d)
-    pub is_any : list_any (has_doc d) (map list cs) ≡ true
-    pub more : in_any (d + 1) (map list cs) ≡ in_any low (map list cs) ++ d ∷ []
+    pub skipped : in_any low (map list cs) ≡ in_any d (map list cs)
 
   pub next-doc : (cs : List X) (low d : ℕ) → All (λ c. StandsFrom low (list c) (place c)) cs → reduce min (filter_map (λ c. doc_at (list c) (place c)) cs) ≡ Some d → IsNextDoc cs low d
   next-doc cs low d stands is =
@@ -185,13 +190,11 @@ module _ {X : Type 0} (list : X → List Posting) (place : X → ℕ) (good : (c
       let none : (e : ℕ) → low ≤ e → e < d → list_any (has_doc e) (map list cs) ≡ false = λ e from before. any-none (map list cs) e
       (λ l k. let r = contains-from_map list cs l k in
       ap (has_doc e) (sym r.2) ∙ has_doc-between (list r.0) low d (place r.0) e (All-contains (λ c. StandsFrom low (list c) (place c)) cs r.0 stands r.1).passed (All-contains (λ c. StandsFrom d (list c) (place c)) cs r.0 stand r.1).left from before) in
-      let has : list_any (has_doc d) (map list cs) ≡ true = any-some (map list cs) d (list first) (contains-map list cs first at.1) (has_doc-at (list first) d (place first) within is_d) in
       record {
         low_first = from_low;
         stand = stand;
         at = at;
-        is_any = has;
-        more = filter-yes (λ d. list_any (has_doc d) (map list cs)) d (d + 1) refl has ∙ ap (λ l. l ++ d ∷ []) (filter-skip (λ d. list_any (has_doc d) (map list cs)) low d from_low none);
+        skipped = sym (filter-skip (λ d. list_any (has_doc d) (map list cs)) low d from_low none);
       }
 
   -- no cursor stands at a document

@@ -4,16 +4,16 @@ use Rattle.std.specs.Prelude.{Contains}
 use Rattle.std.specs.List.{All, AllWithin, sum_by, filter, range_with_len, zip}
 use Rattle.std.proofs.lemmas.Bool.{cases_lt}
 use Rattle.std.proofs.lemmas.List.{map-set, set-get_or, get_or-map, length-map, length-set, get_or-set_other, get_or_default, take_all}
-use Rattle.std.proofs.lemmas.List.Elements.{All-contains, AllWithin-more, AllWithin-more_set}
+use Rattle.std.proofs.lemmas.List.Elements.{All-contains}
 use Rattle.std.proofs.lemmas.List.Folds.{list_all_at}
 use Rattle.std.proofs.lemmas.List.Sums.{list_all-from_AllPass, sum_by_more, sum_by-cons}
 use Rattle.std.proofs.lemmas.Slice.Zip.{length-zip, get_or-zip}
 use Rattle.collection_model.specs.Collection.{Posting, docs_of}
-use Rattle.cursor_api.specs.NextGeq.{IsCursorAt, next_geq_place}
+use Rattle.cursor_api.specs.NextGeq.{IsCursorList, IsCursorAt, next_geq_place}
 use Rattle.cursor_api.specs.Laws.{NextGeqIsFirst}
 use Rattle.scan_plans.specs.Matches.{AreBelow, has_doc, freq_of_doc, score, in_all}
 use Rattle.scan_plans.specs.Scan.{doc_at, StandsFrom, HasPassed, in_each}
-use Rattle.scan_plans.proofs.Postings.{at-doc, not-at-doc, doc_at-some, doc_at-none, has_doc-at, has_doc-between, docs-rise, next_geq-stands}
+use Rattle.scan_plans.proofs.Postings.{doc_at-some, doc_at-none, has_doc-at, has_doc-between, docs-rise, next_geq-stands}
 use Rattle.scan_plans.proofs.Scans.{contains-first, contained-all, contains-from_map, filter-yes, filter-skip, filter-same, below-has_none}
 
 -- what a list adds to the score of a document
@@ -67,46 +67,17 @@ module _ {X : Type 0} (list : X → List Posting) (place : X → ℕ) where
   pub score-whole : (doc : ℕ) (cs : List X) (ws : List ℕ) (i sum : ℕ) → length cs ≤ i → sum ≡ sum_by (share doc) (take i (zip (map list cs) ws)) → sum ≡ score (map list cs) ws doc
   score-whole doc cs ws i sum all is = let l = length-map cs list in is ∙ ap (sum_by (share doc)) (take_all i (zip (map list cs) ws) (omega (arith, length-zip (map list cs) ws)))
 
-  -- ---- cursors that pass a document, one on
-  pub record Passes (doc : ℕ) (os cs : List X) (i : ℕ) : Type 0 where
-    pub lists : map list cs ≡ map list os
-    pub done : AllWithin (λ c. StandsFrom (doc + 1) (list c) (place c)) cs 0 i
-    pub rest : AllWithin (λ c. StandsFrom doc (list c) (place c)) cs i (length cs)
-
-  pub pass-at : (doc : ℕ) (os cs : List X) (i : ℕ) (new d : X) → i < length cs → IsCursorAt (list (get_or cs i d)) (place (get_or cs i d)) → Passes doc os cs i → doc_at (list (get_or cs i d)) (place (get_or cs i d)) ≡ Some doc
-      → list new ≡ list (get_or cs i d) → place new ≡ place (get_or cs i d) + 1 → Passes doc os (set cs i new) (i + 1)
-  pass-at doc os cs i new d within good so_far is lists places =
-      let old : X = get_or cs i d in
-      let at = at-doc (list old) doc (place old) good.well_formed (so_far.rest i d (omega arith) within) is in
-      let stands : StandsFrom (doc + 1) (list new) (place new) = subst (λ (p : ℕ). StandsFrom (doc + 1) (list new) p) (sym places) (subst (λ (l : List Posting). StandsFrom (doc + 1) l (place old + 1)) (sym lists) at.after) in
-      record {
-        lists = lists-set cs i new d within lists ∙ so_far.lists;
-        done = AllWithin-more_set cs i new within (λ c. StandsFrom (doc + 1) (list c) (place c)) so_far.done stands;
-        rest = rest-set (λ c. StandsFrom doc (list c) (place c)) cs i new so_far.rest;
-      }
-
-  pub pass-not-at : (doc : ℕ) (os cs : List X) (i : ℕ) (d : X) → i < length cs → IsCursorAt (list (get_or cs i d)) (place (get_or cs i d)) → Passes doc os cs i → (doc_at (list (get_or cs i d)) (place (get_or cs i d)) ≡ Some doc → ⊥) → Passes doc os cs (i + 1)
-  pass-not-at doc os cs i d within good so_far not =
-      let old : X = get_or cs i d in
-      let P : X → Type 0 = λ c. StandsFrom (doc + 1) (list c) (place c) in
-      let beside = not-at-doc (list old) doc (place old) good.well_formed (so_far.rest i d (omega arith) within) not in
-      record {
-        lists = so_far.lists;
-        done = AllWithin-more P cs 0 i so_far.done (λ e. subst P (get_or_default cs i d e within) beside.after);
-        rest = λ k e from inside. so_far.rest k e (omega arith) inside;
-      }
-
   -- ---- how much is left of the lists
-  left-less : (l m : List Posting) (d p q : ℕ) → m ≡ l → StandsFrom d l p → StandsFrom (d + 1) m q → p ≤ length l → length m - q ≤ length l - p
-  left-less l m d p q same before after within =
+  left-less : (l m : List Posting) (d e p q : ℕ) → m ≡ l → d < e → StandsFrom d l p → StandsFrom e m q → p ≤ length l → length m - q ≤ length l - p
+  left-less l m d e p q same forward before after within =
       let count = ap length same in
       elim (cases_lt q p) as (λ _. length m - q ≤ length l - p) [
         | inl lt ↦ (let low = before.passed q lt in let high = after.left q (omega arith) (omega arith) in let doc = ap (λ (l : List Posting). get_or (docs_of l) q 0) same in absurd (omega arith))
         | inr ge ↦ omega arith
       ]
 
-  left-fewer : (l m : List Posting) (d p q : ℕ) → m ≡ l → doc_at l p ≡ Some d → StandsFrom (d + 1) m q → length m - q < length l - p
-  left-fewer l m d p q same is after =
+  left-fewer : (l m : List Posting) (d e p q : ℕ) → m ≡ l → d < e → doc_at l p ≡ Some d → StandsFrom e m q → length m - q < length l - p
+  left-fewer l m d e p q same forward is after =
       let count = ap length same in
       let here = doc_at-some l p d is in
       let within = here.0 in
@@ -143,23 +114,23 @@ module _ {X : Type 0} (list : X → List Posting) (place : X → ℕ) where
       let others = sums-less f xs ys k (omega arith) (λ k d within. le (suc k) d (omega arith)) (omega arith) lt in
       omega arith
 
-  -- one document passed, less is left
-  pub pass-leaves-less : ((c : X) → IsCursorAt (list c) (place c)) → (d : ℕ) (cs ns : List X) → map list ns ≡ map list cs → All (λ c. StandsFrom d (list c) (place c)) cs → All (λ c. StandsFrom (d + 1) (list c) (place c)) ns
+  -- some documents passed, less is left
+  pub passing-leaves-less : ((c : X) → IsCursorAt (list c) (place c)) → (d e : ℕ) (cs ns : List X) → d < e → map list ns ≡ map list cs → All (λ c. StandsFrom d (list c) (place c)) cs → All (λ c. StandsFrom e (list c) (place c)) ns
       → (c : X) × Contains cs c × (doc_at (list c) (place c) ≡ Some d) → sum_by (λ c. length (list c) - place c) ns < sum_by (λ c. length (list c) - place c) cs
-  pass-leaves-less good d cs ns lists before after at =
+  passing-leaves-less good d e cs ns forward lists before after at =
       let counts = ap length lists in
       let cs-count = length-map cs list in
       let ns-count = length-map ns list in
-      let same : (k : ℕ) (e : X) → k < length cs → list (get_or ns k e) ≡ list (get_or cs k e) = λ k e w. sym (get_or-map list ns k e [] (omega arith)) ∙ ap (λ (ls : List (List Posting)). get_or ls k []) lists ∙ get_or-map list cs k e [] w in
+      let same : (k : ℕ) (x : X) → k < length cs → list (get_or ns k x) ≡ list (get_or cs k x) = λ k x w. sym (get_or-map list ns k x [] (omega arith)) ∙ ap (λ (ls : List (List Posting)). get_or ls k []) lists ∙ get_or-map list cs k x [] w in
       let first : X = at.0 in
       let place-of : ℕ = at.1.0 in
       let w : place-of < length cs = at.1.1 in
       sums-less (λ c. length (list c) - place c) cs ns place-of (omega arith)
-      (λ k e w. left-less (list (get_or cs k e)) (list (get_or ns k e)) d (place (get_or cs k e)) (place (get_or ns k e)) (same k e w) (before k e w) (after k e (omega arith)) (good (get_or cs k e)).within)
+      (λ k x w. left-less (list (get_or cs k x)) (list (get_or ns k x)) d e (place (get_or cs k x)) (place (get_or ns k x)) (same k x w) forward (before k x w) (after k x (omega arith)) (good (get_or cs k x)).within)
       w
-      (λ e. let is : get_or cs place-of e ≡ first = get_or_default cs place-of e first w ∙ at.1.2 in
-      left-fewer (list (get_or cs place-of e)) (list (get_or ns place-of e)) d (place (get_or cs place-of e)) (place (get_or ns place-of e)) (same place-of e w)
-      (subst (λ (c : X). doc_at (list c) (place c) ≡ Some d) (sym is) at.2) (after place-of e (omega arith)))
+      (λ x. let is : get_or cs place-of x ≡ first = get_or_default cs place-of x first w ∙ at.1.2 in
+      left-fewer (list (get_or cs place-of x)) (list (get_or ns place-of x)) d e (place (get_or cs place-of x)) (place (get_or ns place-of x)) (same place-of x w) forward
+      (subst (λ (c : X). doc_at (list c) (place c) ≡ Some d) (sym is) at.2) (after place-of x (omega arith)))
 
   -- ---- all cursors at their start
   pub starts-stand : (cs : List X) → All (λ c. place c ≡ 0) cs → All (λ c. StandsFrom 0 (list c) (place c)) cs
@@ -174,6 +145,10 @@ module _ {X : Type 0} (list : X → List Posting) (place : X → ℕ) where
   -- the documents of cursors are below the greatest number
   pub all-below : ((c : X) → IsCursorAt (list c) (place c)) → (cs : List X) → AreBelow 4294967295 (map list cs)
   all-below good cs = contained-all (λ l. All (λ d. d < 4294967295) (docs_of l)) (map list cs) (λ l c. let r = contains-from_map list cs l c in subst (λ (l : List Posting). All (λ d. d < 4294967295) (docs_of l)) r.2 (good r.0).well_formed.docs)
+
+  -- the lists of cursors are those that a cursor may have
+  pub all-rising : ((c : X) → IsCursorAt (list c) (place c)) → (cs : List X) → All IsCursorList (map list cs)
+  all-rising good cs = contained-all IsCursorList (map list cs) (λ l c. let r = contains-from_map list cs l c in subst IsCursorList r.2 (good r.0).well_formed)
 
 -- ---- where `next_geq` has led
 pub nothing-left : (list : List Posting) (low place e : ℕ) → StandsFrom low list place → doc_at list place ≡ None → low ≤ e → has_doc e list ≡ false

@@ -3,3 +3,6 @@ pub mod IsTop
 pub mod Ranking
 pub mod Scan
 pub mod Held
+pub mod Window
+pub mod Best
+pub mod Skips

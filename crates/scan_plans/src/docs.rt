@@ -1,13 +1,18 @@
-ghost use Rattle.std.specs.Prelude.{◌≡◌, ℕ, ◌≤◌, ◌<◌, [], ◌∷◌, ◌++◌, map, length, IfOk, OnOk};
+ghost use Rattle.std.specs.Prelude.{◌≡◌, ℕ, ◌+◌, ◌^◌, ◌≤◌, ◌<◌, true, false, List, [], ◌∷◌, ◌++◌, map, length, slice_index_or, IfOk, OnOk};
 ghost use Rattle.std.specs.List.{All};
+ghost use Rattle.std.specs.List.Sorted.{IsPermutation, IsNonDecreasingBy};
+ghost use Rattle.collection_model.specs.Collection.{Posting};
 ghost use Rattle.scan_plans.specs.Matches.{AreBelow, in_all, in_any};
+ghost use Rattle.scan_plans.specs.Window.{AreMarked};
 
 use crate::NoMemory;
-use crate::scan::{least_doc, next_shared, pass};
+use crate::scan::{least_doc, next_shared};
+use crate::window::{clear_marks, doc_in, mark_lists, new_marks};
 use cursor_api::DocCursor;
 use std::alloc::Global;
 
-/// The documents that are in all the lists, rising; none where there is no list. It steps from list to list by `next_geq`.
+/// The documents that are in all the lists, rising; none where there is no list. It goes from the shortest list, whose documents
+/// the others are asked for by `next_geq`, and leaves the cursors in the order of their lists' lengths.
 pub fn and_docs<C: DocCursor>(alloc: Global, cursors: &mut [C]) -> Result<Vec<u32>, NoMemory>
     requires few { length cursors.old ≤ 1024 }
     requires at_start { All (λ c. C.place c ≡ 0) cursors.old }
@@ -17,6 +22,7 @@ pub fn and_docs<C: DocCursor>(alloc: Global, cursors: &mut [C]) -> Result<Vec<u3
     if cursors.is_empty() {
         return Ok(docs);
     }
+    shortest_first(cursors);
     let mut from = 0;
     while let Some(doc) = next_shared(cursors, from) {
         append(&mut docs, doc)?;
@@ -25,18 +31,44 @@ pub fn and_docs<C: DocCursor>(alloc: Global, cursors: &mut [C]) -> Result<Vec<u3
     Ok(docs)
 }
 
-/// The documents that are in any of the lists, rising, each once. It touches each posting once.
+// Puts the cursors into the order of their lists' lengths.
+fn shortest_first<C: DocCursor>(cursors: &mut [C])
+    ensures same { IsPermutation cursors.old cursors.new }
+    ensures rising { IsNonDecreasingBy (λ c. length (C.list c)) cursors.new }
+{
+    cursors.sort_unstable_by_key(|cursor| cursor.len());
+}
+
+/// The documents that are in any of the lists, rising, each once. It touches each posting once: window by window of documents, it
+/// marks those of one list after another.
 pub fn or_docs<C: DocCursor>(alloc: Global, cursors: &mut [C]) -> Result<Vec<u32>, NoMemory>
     requires few { length cursors.old ≤ 1024 }
     requires at_start { All (λ c. C.place c ≡ 0) cursors.old }
     ensures { (n : ℕ) → AreBelow n (map C.list cursors.old) → IfOk result (λ r. r.items ≡ in_any n (map C.list cursors.old)) }
 {
     let mut docs = Vec::new(alloc);
-    while let Some(doc) = least_doc(cursors) {
-        append(&mut docs, doc)?;
-        pass(cursors, doc);
+    let mut buffer = new_marks(alloc)?;
+    let marks = buffer.as_mut_slice();
+    while let Some(first) = least_doc(cursors) {
+        clear_marks(marks);
+        mark_lists(cursors, first, marks);
+        append_marked(&mut docs, first, marks)?;
     }
     Ok(docs)
+}
+
+// Adds the marked documents of a window from `first` on.
+fn append_marked(docs: &mut Vec<u32>, first: u32, marks: &[bool]) -> Result<(), NoMemory>
+    requires fit { (k : ℕ) → k < length marks.now → slice_index_or marks.now k false ≡ true → first + k < 2 ^ 32 }
+    ensures { OnOk result ((lists : List (List Posting)) → AreMarked lists first marks.now → docs.old.items ≡ in_any first lists → docs.new.items ≡ in_any (first + length marks.now) lists) }
+{
+    for at in 0..marks.len() {
+        if marks[at] {
+            let doc = doc_in(first, at);
+            append(docs, doc)?;
+        }
+    }
+    Ok(())
 }
 
 fn append(docs: &mut Vec<u32>, doc: u32) -> Result<(), NoMemory>

@@ -4,11 +4,14 @@
 mod docs;
 mod laws;
 mod scan;
+mod skips;
 mod top;
 mod top_k;
+mod window;
 
 pub use docs::{and_docs, or_docs};
 pub use laws::top_list_is_one;
+pub use skips::{cursors_stand, cursors_tell, top_list_grows};
 pub use top::top_exhaustive;
 pub use top_k::TopK;
 

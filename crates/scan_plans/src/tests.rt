@@ -57,6 +57,25 @@ fn one_list(rt: HostRuntime) {
     assert!(rt; none.is_empty());
 }
 
+// A window has 4,096 documents from its first on: here 0 to 4,095 and then 4,096 to 8,191.
+#[test]
+fn documents_at_the_border_of_a_window(rt: HostRuntime) {
+    let starts = [
+        PlainCursor::new(&[0, 4095, 4096], &[1, 2, 3]),
+        PlainCursor::new(&[4096, 4097], &[6, 7]),
+    ];
+    let mut cursors = starts;
+    let both = and_docs(rt.alloc(), &mut cursors).expect(&rt, "memory");
+    assert_eq!(rt; both.as_slice(), [4096].as_slice());
+    let mut cursors = starts;
+    let any = or_docs(rt.alloc(), &mut cursors).expect(&rt, "memory");
+    assert_eq!(rt; any.as_slice(), [0, 4095, 4096, 4097].as_slice());
+    let mut cursors = starts;
+    let top = top_exhaustive(rt.alloc(), &mut cursors, &[1, 1], 9, 4098).expect(&rt, "memory");
+    let best = [(4096, 9), (4097, 7), (4095, 2), (0, 1)];
+    assert_eq!(rt; top.as_slice(), best.as_slice());
+}
+
 #[test]
 fn no_list(rt: HostRuntime) {
     let mut none: [PlainCursor; 0] = [];

@@ -1,16 +1,20 @@
-ghost use Rattle.std.specs.Prelude.{◌≡◌, ◌≤◌, ◌<◌, ◌^◌, map, length, sum, IfOk};
+ghost use Rattle.std.specs.Prelude.{◌≡◌, ℕ, ◌+◌, ◌≤◌, ◌<◌, ◌^◌, List, map, length, slice_index, sum, IfOk};
 ghost use Rattle.std.specs.List.{All};
-ghost use Rattle.scan_plans.specs.Matches.{AreBelow};
+ghost use Rattle.collection_model.specs.Collection.{Posting};
+ghost use Rattle.scan_plans.specs.Matches.{AreBelow, in_any};
 ghost use Rattle.scan_plans.specs.IsTop.{IsTop};
+ghost use Rattle.scan_plans.specs.Best.{IsBest};
+ghost use Rattle.scan_plans.specs.Window.{AreScored};
 
-use crate::scan::{least_doc, pass, score_at};
+use crate::scan::least_doc;
+use crate::window::{add_lists, clear_scores, doc_in, new_scores};
 use crate::{NoMemory, TopK};
 use cursor_api::DocCursor;
 use std::alloc::Global;
 
 /// The first k of the documents that are in any of the lists, by score falling and then document rising, each with its score:
 /// the sum over the lists of the weight times the frequency. `n` is the number of documents. It scores every document that
-/// a list has. The weights are those of the cursors' lists, in the same order; a score stays below 2^58.
+/// a list has, window by window of documents, and touches each posting once. The weights are those of the cursors' lists, in the same order; a score stays below 2^58.
 pub fn top_exhaustive<C: DocCursor>(
     alloc: Global,
     cursors: &mut [C],
@@ -31,9 +35,31 @@ pub fn top_exhaustive<C: DocCursor>(
         return Ok(Vec::new(alloc));
     }
     let mut top = TopK::new(alloc, k, n)?;
-    while let Some(doc) = least_doc(cursors) {
-        top.offer(doc, score_at(cursors, weights, doc));
-        pass(cursors, doc);
+    let mut buffer = new_scores(alloc)?;
+    let scores = buffer.as_mut_slice();
+    while let Some(first) = least_doc(cursors) {
+        clear_scores(scores);
+        add_lists(cursors, weights, first, scores);
+        offer_scored(&mut top, first, scores);
     }
     top.into_list()
+}
+
+// Offers the documents of a window from `first` on that any list has: those whose score is above 0.
+fn offer_scored(top: &mut TopK, first: u32, scores: &[u64])
+    requires narrow { top.old.n < 2 ^ 32 }
+    requires in_range { (k : ℕ) → k < length scores.now → 0 < slice_index scores.now k → first + k < top.old.n }
+    requires above { All (λ e. e.0 < first) top.old.held }
+    ensures k { top.new.k ≡ top.old.k }
+    ensures n { top.new.n ≡ top.old.n }
+    ensures best { (lists : List (List Posting)) (weights : List ℕ) → AreScored lists weights first scores.now → IsBest top.old.k lists weights (in_any first lists) top.old.held → IsBest top.old.k lists weights (in_any (first + length scores.now) lists) top.new.held }
+    ensures bound { All (λ s. s < 2 ^ 58) scores.now → All (λ e. e.1 < 2 ^ 58) top.old.held → All (λ e. e.1 < 2 ^ 58) top.new.held }
+{
+    for at in 0..scores.len() {
+        let score = scores[at];
+        if score > 0 {
+            let doc = doc_in(first, at);
+            top.offer(doc, score);
+        }
+    }
 }

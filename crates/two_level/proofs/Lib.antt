@@ -7,5 +7,6 @@ pub mod Accepting
 pub mod Entries
 pub mod Parts
 pub mod Places
+pub mod Probes
 pub mod Takes
 pub mod AtAWord

@@ -169,14 +169,34 @@ restored-here format words xs parts q from past to p f b t =
     (subst (λ n. Restores xs from n (past_before format words 0 q)) (sym t)
     (subst (λ n. Restores xs n (stated_end format words 0 q) (past_before format words 0 q)) (sym f) p.restored))
 
+-- how many relative values a part that is held has
+pub relative-count : (part : HeldPart) (xs : List ℕ) → HoldsValues part xs → length (relative_values xs part.from part.to) ≡ part.to - part.from
+relative-count part xs h =
+    let from : ℕ = part.from in
+    length-map (slice_range xs from part.to) (λ y. y - past xs from) ∙ length-take-le (part.to - from) (drop from xs) (omega (arith, length-drop from xs, h.within))
+
+-- a number of a part is the value at its place, less what stands before the part
+pub number-here : (part : HeldPart) (xs : List ℕ) → HoldsValues part xs → (place : ℕ) → part.from ≤ place → place < part.to
+    → slice_index (relative_values xs part.from part.to) (place - part.from) + part.past ≡ slice_index xs place
+number-here part xs h place after before =
+    let here = h.restored (place - part.from) (omega (arith, after, before)) in
+    let same : slice_index xs (part.from + (place - part.from)) ≡ slice_index xs place = ap (slice_index xs) (let e : part.from + (place - part.from) ≡ place = omega (arith, after) in e) in
+    omega (arith, here, same)
+
+-- the value at the place of a number that was found
+pub value-here : (part : HeldPart) (xs : List ℕ) → HoldsValues part xs → (from x k number : ℕ) → IsFirstAtLeast (relative_values xs part.from part.to) from x k
+    → number ≡ slice_index (relative_values xs part.from part.to) k → number + part.past ≡ slice_index xs (part.from + k)
+value-here part xs h from x k number first is =
+    let here = h.restored k (omega (arith, first.within, relative-count part xs h)) in
+    omega (arith, here, is)
+
 -- the first number of a part that is large enough is the first value there
 pub first-here : (part : HeldPart) (xs : List ℕ) → HoldsValues part xs → (place x least number : ℕ) → part.from ≤ place → least ≡ x - part.past
     → IsFirstAtLeast (relative_values xs part.from part.to) (place - part.from) least number → IsFirstAtLeast xs place x (part.from + number)
 first-here part xs h place x least number after l first =
     let from : ℕ = part.from in
     let ys : List ℕ = relative_values xs from part.to in
-    let count : length ys ≡ part.to - from =
-    length-map (slice_range xs from part.to) (λ y. y - past xs from) ∙ length-take-le (part.to - from) (drop from xs) (omega (arith, length-drop from xs, h.within)) in
+    let count : length ys ≡ part.to - from = relative-count part xs h in
     let lt : from + number < part.to = omega (arith, first.within, count) in
     let value = h.restored number lt in
     record {

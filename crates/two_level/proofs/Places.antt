@@ -20,7 +20,7 @@ true-le a b h = grind (arith, nat_tests)
 le-true : (a b : ℕ) → nat_le a b ≡ true → a ≤ b
 le-true a b h = grind (arith, nat_tests)
 
-never-falls : (xs : List ℕ) → IsStrictlyIncreasing xs → (j d : ℕ) → j + d < length xs → slice_index xs j ≤ slice_index xs (j + d)
+pub never-falls : (xs : List ℕ) → IsStrictlyIncreasing xs → (j d : ℕ) → j + d < length xs → slice_index xs j ≤ slice_index xs (j + d)
 never-falls xs up j zero lt = omega (arith, ap (slice_index xs) (let e : j + 0 ≡ j = omega arith in e))
 never-falls xs up j (suc d) lt =
     let step : slice_index xs (j + d) < slice_index xs (j + d + 1) = up (j + d) (omega (arith, lt)) in
@@ -100,3 +100,28 @@ ends-rise format words parts part (suc q) v d le fit =
       | inl less ↦ omega (arith, ends-rise format words parts part q v d (omega (arith, less)) (omega (arith, fit)), (d.part q (omega (arith, fit))).some)
       | inr more ↦ omega (arith, ap (end_before format words 0) (let e : part ≡ suc q = omega (arith, le, more) in e))
     ]
+
+-- the place that is found lies within
+pub place-within : (xs : List ℕ) (from x : ℕ) → from ≤ length xs → place_at_least xs from x ≤ length xs
+place-within xs from x fit =
+    let rest : List ℕ = drop from xs in
+    omega (arith, prefix_len-le-length (λ y. not (nat_le x y)) rest, length-drop from xs, fit)
+
+-- the value before it is too small
+pub place-before : (xs : List ℕ) (from x : ℕ) → from < place_at_least xs from x → slice_index xs (place_at_least xs from x - 1) < x
+place-before xs from x lt =
+    let rest : List ℕ = drop from xs in
+    let n : ℕ = position_or_len (λ y. nat_le x y) rest in
+    let small = le-false x (get_or rest (n - 1) 0) (fails_before_first (λ y. nat_le x y) rest (n - 1) 0 (omega (arith, lt))) in
+    let here : get_or rest (n - 1) 0 ≡ slice_index xs (from + (n - 1)) = get_or-drop from xs (n - 1) 0 in
+    let same : slice_index xs (from + (n - 1)) ≡ slice_index xs (from + n - 1) = ap (slice_index xs) (let e : from + (n - 1) ≡ from + n - 1 = omega (arith, lt) in e) in
+    omega (arith, small, here, same)
+
+-- the value there is large enough
+pub place-reached : (xs : List ℕ) (from x : ℕ) → from ≤ length xs → place_at_least xs from x < length xs → x ≤ slice_index xs (place_at_least xs from x)
+place-reached xs from x fit lt =
+    let rest : List ℕ = drop from xs in
+    let n : ℕ = position_or_len (λ y. nat_le x y) rest in
+    let most = le-true x (get_or rest n 0) (passes_at_first (λ y. nat_le x y) rest 0 (omega (arith, lt, length-drop from xs, fit))) in
+    let here : get_or rest n 0 ≡ slice_index xs (from + n) = get_or-drop from xs n 0 in
+    omega (arith, most, here)

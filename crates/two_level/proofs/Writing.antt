@@ -1,8 +1,12 @@
-use Rattle.std.proofs.Common.{◌≡◌, ℕ, zero, suc, ◌+◌, ◌-◌, ◌*◌, ◌^◌, ◌<◌, ◌≤◌, List, [], ◌∷◌, ◌++◌, length, take, drop, map, get_or, sym, ap, ◌∙◌, subst, arith, append_assoc}
+use Rattle.std.proofs.Common.{◌≡◌, ℕ, zero, suc, ◌+◌, ◌-◌, ◌*◌, ◌^◌, ◌<◌, ◌≤◌, List, [], ◌∷◌, ◌++◌, length, take, drop, map, get_or, refl, sym, ap, ◌∙◌, subst, arith, append_assoc}
 use Rattle.std.specs.List.{All, slice_range}
 use Rattle.std.specs.List.Sorted.{IsStrictlyIncreasing}
-use Rattle.std.proofs.lemmas.List.{length-append, length-take-le, length-drop, append-nil, drop_more, drop_all, get_or-take, get_or-drop, take_more, map-append}
+use Rattle.std.proofs.lemmas.List.{length-append, length-take-le, length-drop, append-nil, drop_more, drop_all, get_or-take, get_or-drop, take_more, take_at, take-append-drop, map-append}
+use Rattle.std.proofs.lemmas.List.Elements.{All-take}
+use Rattle.std.proofs.Math.Seq.{take-append-add}
 use Rattle.collection_model.specs.FormatNumbers.{FormatNumbers}
+use Rattle.bit_words.specs.Bits.{AppendsBits, AreBits, bits_of, words_of}
+use Rattle.bit_words.proofs.WordsBehind.{words-behind}
 use Rattle.part_cost.specs.Payload.{widest_low}
 use Rattle.part_cost.specs.Span.{past, universe, payload_of_part, relative_values, AreRelative}
 use Rattle.part_cost.specs.Partition.{IsPartitionFrom, cost_from}
@@ -10,7 +14,7 @@ use Rattle.part_cost.specs.Laws.{PartHasRoom, PartIsWithin, PartIsRelative}
 use Rattle.part_codec.specs.PartBits.{part_bits}
 use Rattle.part_cost.proofs.Growth.{payload-short}
 use Rattle.two_level.specs.EntryWords.{entry}
-use Rattle.two_level.specs.SequenceWords.{directory_from, payload_from}
+use Rattle.two_level.specs.SequenceWords.{directory_from, payload_from, Extends}
 use Rattle.two_level.proofs.Lengths.{PartLaws, ends-within, length-payload}
 
 -- a part ends past the value before it, and no further than the bound
@@ -91,13 +95,63 @@ pub whole-short : PartLaws → (xs : List ℕ) → IsStrictlyIncreasing xs → A
 whole-short laws xs up below ends h =
     omega (arith, length-payload laws xs up below 0 ends h, payloads-at_most laws.room xs up 0 ends h, past-most laws.within (2 ^ widest_low) xs below (length xs) (omega arith))
 
--- and a part of them fits behind those before it
-pub part-fits : (xs ends bits whole : List ℕ) (from k : ℕ) → k < length ends → bits ++ payload_from xs from (drop k ends) ≡ whole → length whole ≤ 2 * 2 ^ widest_low
-    → length bits + length (part_bits (relative_values xs from (get_or ends k 0)) (universe xs from (get_or ends k 0))) < 2 ^ 63
-part-fits xs ends bits whole from k lt h short =
+-- a part of bits that fit fits behind those before it
+pub part-fits : (xs ends bits whole : List ℕ) (from k most : ℕ) → k < length ends → bits ++ payload_from xs from (drop k ends) ≡ whole → length whole < most
+    → length bits + length (part_bits (relative_values xs from (get_or ends k 0)) (universe xs from (get_or ends k 0))) < most
+part-fits xs ends bits whole from k most lt h short =
     let end : ℕ = get_or ends k 0 in
     let piece : List ℕ = part_bits (relative_values xs from end) (universe xs from end) in
     omega (arith, ap length (payload-more xs ends bits whole from k lt h), length-append (bits ++ piece) (payload_from xs end (drop (k + 1) ends)), length-append bits piece)
+
+-- what is written of some bits behind others is a front of them
+pub front-of : (old whole bits rest : List ℕ) → bits ++ rest ≡ old ++ whole → length old ≤ length bits → AppendsBits old bits whole
+front-of old whole bits rest e grown =
+    let n : ℕ = length bits - length old in (
+      n,
+      omega (arith, ap length e, length-append bits rest, length-append old whole),
+      sym (take_at bits rest (length bits) refl) ∙ ap (take (length bits)) e
+          ∙ ap (λ m. take m (old ++ whole)) (let e : length bits ≡ length old + n = omega arith in e) ∙ take-append-add old whole n,
+    )
+
+-- and so it is with a front of a part more
+pub front-part : (xs ends old bits new whole : List ℕ) (from k : ℕ) → k < length ends → bits ++ payload_from xs from (drop k ends) ≡ old ++ whole → length old ≤ length bits
+    → AppendsBits bits new (part_bits (relative_values xs from (get_or ends k 0)) (universe xs from (get_or ends k 0))) → AppendsBits old new whole
+front-part xs ends old bits new whole from k lt h grown front =
+    let end : ℕ = get_or ends k 0 in
+    let piece : List ℕ = part_bits (relative_values xs from end) (universe xs from end) in
+    let begun : List ℕ = take front.0 piece in
+    let left : List ℕ = drop front.0 piece in
+    let rest : List ℕ = payload_from xs end (drop (k + 1) ends) in
+    let both : begun ++ left ≡ piece = take-append-drop front.0 piece in
+    let behind : (bits ++ begun) ++ (left ++ rest) ≡ old ++ whole =
+    sym (append_assoc (bits ++ begun) left rest) ∙ ap (λ ys. ys ++ rest) (append_assoc bits begun left ∙ ap (λ ys. bits ++ ys) both) ∙ payload-more xs ends bits (old ++ whole) from k lt h in
+    front-of old whole new (left ++ rest) (ap (λ ys. ys ++ (left ++ rest)) front.2 ∙ behind) (omega (arith, ap length front.2, length-append bits begun))
+
+-- bits that were written behind those of words are in the words behind these
+pub words-written : (ws result start new payload : List ℕ) → All (λ w. w < 2 ^ 64) ws → AreBits payload → start ≡ bits_of ws → new ≡ start ++ payload → result ≡ words_of new
+    → result ≡ ws ++ words_of payload
+words-written ws result start new payload fit are from e words = words ∙ ap words_of (e ∙ ap (λ b. b ++ payload) from) ∙ words-behind ws payload fit are
+
+-- and so is a front of them
+pub front-written : (ws result start new payload : List ℕ) → All (λ w. w < 2 ^ 64) ws → AreBits payload → start ≡ bits_of ws → AppendsBits start new payload → result ≡ words_of new
+    → Extends ws result
+front-written ws result start new payload fit are from front words =
+    let begun : List ℕ = take front.0 payload in
+    (words_of begun, words-written ws result start new begun fit (All-take (λ b. b < 2) front.0 payload are) from front.2 words)
+
+-- words that are extended twice
+pub extends-twice : (old mid new more : List ℕ) → mid ≡ old ++ more → Extends mid new → Extends old new
+extends-twice old mid new more e h = (more ++ h.0, h.1 ∙ ap (λ xs. xs ++ h.0) e ∙ append_assoc old more h.0)
+
+pub extends-more : (old mid new more : List ℕ) → Extends old mid → new ≡ mid ++ more → Extends old new
+extends-more old mid new more h e = extends-twice old mid new h.0 h.1 (more, e)
+
+pub extends-same : (old new : List ℕ) → new ≡ old → Extends old new
+extends-same old new e = ([], e ∙ sym (append-nil old))
+
+-- they begin with those that there were
+pub extended-front : (old new : List ℕ) → Extends old new → take (length old) new ≡ old
+extended-front old new h = ap (take (length old)) h.1 ∙ take_at old h.0 (length old) refl
 
 -- the relative values that a part is written from
 pub relative-given : PartIsRelative → (xs : List ℕ) → IsStrictlyIncreasing xs → (i end u : ℕ) (ys : List ℕ) → i < end → end ≤ length xs → u ≡ universe xs i end → ys ≡ relative_values xs i end

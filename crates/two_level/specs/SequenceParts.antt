@@ -9,6 +9,7 @@ use Rattle.part_cost.specs.Stored.{HoldsPart}
 use Rattle.part_codec.specs.PartBits.{part_bits}
 use Rattle.part_codec.specs.PartView.{Holds, universe_of, count_of}
 use Rattle.two_level.specs.declared.held.HeldPart.{HeldPart}
+use Rattle.two_level.specs.declared.held.HeldValue.{HeldValue}
 use Rattle.two_level.specs.SequenceFault.{stated_last, stated_end, stated_offset, end_before, past_before, stated_count, stated_universe, payload_before, word_behind, first_bit}
 use Rattle.two_level.specs.SequenceView.{SequenceView, sequence_stated, words_used}
 
@@ -59,7 +60,8 @@ pub record IsHeldPart (format : FormatNumbers) (words : List ℕ) (parts : ℕ) 
   pub last : part.last ≡ stated_last format words 0 part.index
   pub values : HoldsValues part (sequence_stated format words parts).values
 
--- A place lies in the part that is held, or is the end and none is held.
-abbrev pub LiesIn : FormatNumbers → List ℕ → ℕ → ℕ → Option HeldPart → Type 0
-LiesIn format words parts place (Some part) = IsHeldPart format words parts part × (part.from ≤ place) × (place < part.to)
+-- A place lies in the part whose value there is held, or is the end and none is held.
+abbrev pub LiesIn : FormatNumbers → List ℕ → ℕ → ℕ → Option HeldValue → Type 0
+LiesIn format words parts place (Some held) =
+    IsHeldPart format words parts held.part × (held.part.from ≤ place) × (place < held.part.to) × (held.value ≡ slice_index (sequence_stated format words parts).values place)
 LiesIn format words parts place None = place ≡ length (sequence_stated format words parts).values

@@ -1,13 +1,15 @@
 ghost use Rattle.std.specs.Prelude.{◌≡◌, ℕ, ◌≤◌, ◌<◌, ◌+◌, length, slice_index};
 ghost use Rattle.two_level.specs.SequenceView.{place_at_least};
 
-use crate::held::{HeldPart, first_from_part, hold_if_any, hold_place};
+use crate::held::{
+    Following, HeldValue, behind_place, first_from_part, hold_if_any, hold_value, keep_value,
+};
 use crate::laws::directory_states_its_parts;
 use part_cost::Format;
 use std::marker::Model;
 
-/// A place in a sequence, which may be its end. The part in which it lies is held, so that the values of a part are read
-/// one after another without a search of the directory.
+/// A place in a sequence, which may be its end. The value at the place and its part are held, so that the values of a part
+/// are read one after another, each by the one before it, without a search.
 #[derive(Drop)]
 pub struct SeqCursor<'a> {
     words: &'a [u64],
@@ -15,7 +17,7 @@ pub struct SeqCursor<'a> {
     m: u32,
     format: Format,
     place: u32,
-    held: Option<HeldPart<'a>>,
+    held: Option<HeldValue<'a>>,
 }
 
 impl<'a> Model for SeqCursor<'a> {
@@ -67,7 +69,7 @@ impl<'a> SeqCursor<'a> {
         ensures { result ≡ slice_index self.now.sequence.values self.now.place }
     {
         match &self.held {
-            Some(part) => part.value(self.place),
+            Some(held) => held.value,
             None => unreachable!(),
         }
     }
@@ -78,12 +80,13 @@ impl<'a> SeqCursor<'a> {
         ensures sequence { self.new.sequence ≡ self.old.sequence }
         ensures place { self.new.place ≡ self.old.place + 1 }
     {
-        let Some(part) = self.held else {
-            unreachable!()
-        };
+        let place = self.place;
         self.place += 1;
-        if !part.has(self.place) {
-            self.held = hold_if_any(self.words, self.parts, part.index + 1, self.format);
+        match behind_place(&self.held, place) {
+            Following::Value(value) => keep_value(&mut self.held, value),
+            Following::End(part) => {
+                self.held = hold_if_any(self.words, self.parts, part + 1, self.format);
+            }
         }
     }
 
@@ -93,17 +96,20 @@ impl<'a> SeqCursor<'a> {
         ensures place { self.new.place ≡ place_at_least self.old.sequence.values self.old.place x }
     {
         directory_states_its_parts();
-        let Some(part) = self.held else {
+        let Some(held) = &mut self.held else {
             return;
         };
-        if x <= part.last {
-            self.place = part.first_at_least(self.place, x);
+        if x <= held.value {
+            return;
+        }
+        if x <= held.part.last {
+            (self.place, held.value) = held.part.first_at_least(self.place, x);
         } else {
             (self.place, self.held) = first_from_part(
                 self.words,
                 self.parts,
                 self.m,
-                part.index + 1,
+                held.part.index + 1,
                 x,
                 self.format,
             );
@@ -116,10 +122,26 @@ impl<'a> SeqCursor<'a> {
         ensures sequence { self.new.sequence ≡ self.old.sequence }
         ensures place { self.new.place ≡ k }
     {
+        match k.checked_sub(self.place) {
+            Some(0) => {}
+            Some(1) => self.next(),
+            _ => self.jump_to(k),
+        }
+    }
+
+    // Goes to place k, which may be the end, by its part.
+    fn jump_to(&mut self, k: u32)
+        requires within { k ≤ length self.old.sequence.values }
+        ensures sequence { self.new.sequence ≡ self.old.sequence }
+        ensures place { self.new.place ≡ k }
+    {
         let held = self.held;
         self.held = match held {
-            Some(part) if part.has(k) => held,
-            _ if k < self.m => Some(hold_place(self.words, self.parts, k, self.format)),
+            Some(HeldValue { part, .. }) if part.has(k) => Some(HeldValue {
+                part,
+                value: part.value(k),
+            }),
+            _ if k < self.m => Some(hold_value(self.words, self.parts, k, self.format)),
             _ => None,
         };
         self.place = k;

@@ -127,25 +127,3 @@ pub(crate) fn part_of_place(words: &[u64], parts: u32, place: u32, format: Forma
     }
     low
 }
-
-// The first part at or after one whose last value is at least x, else the number of parts.
-pub(crate) fn part_reaching(words: &[u64], parts: u32, part: u32, x: u64, format: Format) -> u32
-    requires room { entry_words (numbers_of format) * parts ≤ length words.now }
-    requires within { part ≤ parts }
-    ensures after { part ≤ result }
-    ensures within { result ≤ parts }
-    ensures before { part < result → stated_last (numbers_of format) words.now 0 (result - 1) < x }
-    ensures reached { result < parts → x ≤ stated_last (numbers_of format) words.now 0 result }
-{
-    let mut low = part;
-    let mut high = parts;
-    while low < high {
-        let middle = low + (high - low) / 2;
-        if entry_at(words, middle, format).last < x {
-            low = middle + 1;
-        } else {
-            high = middle;
-        }
-    }
-    low
-}

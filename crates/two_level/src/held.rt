@@ -1,13 +1,15 @@
-ghost use Rattle.std.specs.Prelude.{◌≡◌, ℕ, ◌≤◌, ◌<◌, ◌^◌, IsTrue, ◌↔◌, List, length, slice_index, IfSome};
+ghost use Rattle.std.specs.Prelude.{◌≡◌, ℕ, ◌≤◌, ◌<◌, ◌+◌, ◌^◌, IsTrue, ◌↔◌, List, length, slice_index, Some};
 ghost use Rattle.part_cost.specs.Stored.{IsFirstAtLeast};
 ghost use Rattle.part_codec.specs.PartView.{Holds, universe_of, count_of};
 ghost use Rattle.part_cost.specs.Formats.{numbers_of};
 ghost use Rattle.two_level.specs.SequenceFault.{end_before};
 ghost use Rattle.two_level.specs.SequenceView.{BeginWith, sequence_stated, place_at_least};
 ghost use Rattle.two_level.specs.SequenceParts.{HoldsValues, IsHeldPart, LiesIn};
+ghost use Rattle.two_level.specs.declared.held.HeldValue.{HeldValue};
 
+use crate::directory::part_reaching;
 use crate::entry::directory_bits;
-use crate::finding::{part_of_place, part_reaching, stretch_at};
+use crate::finding::{part_of_place, stretch_at};
 use crate::laws::directory_states_its_parts;
 use bit_words::Bits;
 use part_codec::{PartCodec, PartView};
@@ -19,10 +21,24 @@ use part_cost::{Format, formats_have_room};
 pub(crate) struct HeldPart<'a> {
     pub(crate) index: u32,
     from: u64,
-    to: u64,
+    pub(crate) to: u64,
     past: u64,
     pub(crate) last: u64,
     view: PartView<'a>,
+}
+
+// A value of a part that is held, and the part.
+#[derive(Clone, Copy)]
+pub(crate) struct HeldValue<'a> {
+    pub(crate) part: HeldPart<'a>,
+    pub(crate) value: u64,
+}
+
+// What comes behind a value of a part: the next value of the part, or the end of the part, which is named.
+#[derive(Clone, Copy)]
+pub(crate) enum Following {
+    Value(u64),
+    End(u32),
 }
 
 // Number k of a part that holds some numbers.
@@ -34,15 +50,24 @@ fn number_in_part(view: &PartView, k: u64) -> u64
     view.get(k)
 }
 
-// Which number of a part that holds some is the first at or after number k that is at least x.
-fn first_in_part(view: &PartView, x: u64, k: u64) -> u64
+// Number k + 1 of a part that holds some numbers, by number k.
+fn number_after(view: &PartView, k: u64, number: u64) -> u64
+    requires held { (ys : List ℕ) × Holds view.now ys }
+    requires within { k + 1 < count_of view.now }
+    requires number { (ys : List ℕ) → Holds view.now ys → number ≡ slice_index ys k }
+    ensures { (ys : List ℕ) → Holds view.now ys → result ≡ slice_index ys (k + 1) }
+{
+    view.after(k, number)
+}
+
+// Which number of a part that holds some is the first at or after number k that is at least x, and that number.
+fn first_in_part(view: &PartView, x: u64, k: u64) -> (u64, u64)
     requires held { (ys : List ℕ) × Holds view.now ys }
     requires reached { x < universe_of view.now }
     requires within { k < count_of view.now }
-    ensures { (ys : List ℕ) → Holds view.now ys → IsFirstAtLeast ys k x result }
+    ensures { (ys : List ℕ) → Holds view.now ys → IsFirstAtLeast ys k x result.0 × (result.1 ≡ slice_index ys result.0) }
 {
-    let (place, _) = view.next_geq(x, k);
-    place
+    view.next_geq(x, k)
 }
 
 impl<'a> HeldPart<'a> {
@@ -63,19 +88,31 @@ impl<'a> HeldPart<'a> {
         number_in_part(&self.view, place as u64 - self.from) + self.past
     }
 
-    // The first place at or after one in the part whose value is at least x.
-    pub(crate) fn first_at_least(&self, place: u32, x: u64) -> u32
+    // The value behind a place in the part, by the value at that place.
+    pub(crate) fn value_after(&self, place: u32, value: u64) -> u64
+        requires values { (xs : List ℕ) × HoldsValues self.now xs × (value ≡ slice_index xs place) }
+        requires after { self.now.from ≤ place }
+        requires before { place + 1 < self.now.to }
+        ensures { (xs : List ℕ) → HoldsValues self.now xs → result ≡ slice_index xs (place + 1) }
+    {
+        let number = value - self.past;
+        number_after(&self.view, place as u64 - self.from, number) + self.past
+    }
+
+    // The first place at or after one in the part whose value is at least x, and that value.
+    pub(crate) fn first_at_least(&self, place: u32, x: u64) -> (u32, u64)
         requires values { (xs : List ℕ) × HoldsValues self.now xs }
         requires after { self.now.from ≤ place }
         requires before { place < self.now.to }
         requires reached { x ≤ self.now.last }
-        ensures after { self.now.from ≤ result }
-        ensures before { result < self.now.to }
-        ensures first { (xs : List ℕ) → HoldsValues self.now xs → IsFirstAtLeast xs place x result }
+        ensures after { self.now.from ≤ result.0 }
+        ensures before { result.0 < self.now.to }
+        ensures first { (xs : List ℕ) → HoldsValues self.now xs → IsFirstAtLeast xs place x result.0 }
+        ensures value { (xs : List ℕ) → HoldsValues self.now xs → result.1 ≡ slice_index xs result.0 }
     {
         let least = x.saturating_sub(self.past);
-        let number = first_in_part(&self.view, least, place as u64 - self.from);
-        (self.from + number) as u32
+        let (k, number) = first_in_part(&self.view, least, place as u64 - self.from);
+        ((self.from + k) as u32, number + self.past)
     }
 }
 
@@ -107,23 +144,24 @@ pub(crate) fn hold<'a>(words: &'a [u64], parts: u32, part: u32, format: Format) 
     }
 }
 
-// Holds a part of the sequence with which the words begin, and none behind the last.
+// Holds the first value of a part of the sequence with which the words begin, and none behind the last part.
 pub(crate) fn hold_if_any<'a>(
     words: &'a [u64],
     parts: u32,
     part: u32,
     format: Format,
-) -> Option<HeldPart<'a>>
+) -> Option<HeldValue<'a>>
     requires words { length words.now < 2 ^ 57 }
     requires begun { (m : ℕ) × BeginWith words.now parts m (sequence_stated (numbers_of format) words.now parts) }
     requires few { length (sequence_stated (numbers_of format) words.now parts).values < 2 ^ 32 }
     requires within { part ≤ parts }
-    ensures index { IfSome result (λ held. held.index ≡ part) }
     ensures lies { LiesIn (numbers_of format) words.entry.now parts (end_before (numbers_of format) words.entry.now 0 part) result }
 {
     directory_states_its_parts();
     if part < parts {
-        Some(hold(words, parts, part, format))
+        let part = hold(words, parts, part, format);
+        let value = part.value(part.from as u32);
+        Some(HeldValue { part, value })
     } else {
         None
     }
@@ -153,7 +191,25 @@ pub(crate) fn hold_place<'a>(
     )
 }
 
-// The first place from the start of a part on whose value is at least x, with the part in which it lies; else the end.
+// Holds the value at a place of the sequence with which the words begin.
+pub(crate) fn hold_value<'a>(
+    words: &'a [u64],
+    parts: u32,
+    place: u32,
+    format: Format,
+) -> HeldValue<'a>
+    requires words { length words.now < 2 ^ 57 }
+    requires begun { (m : ℕ) × BeginWith words.now parts m (sequence_stated (numbers_of format) words.now parts) }
+    requires few { length (sequence_stated (numbers_of format) words.now parts).values < 2 ^ 32 }
+    requires within { place < length (sequence_stated (numbers_of format) words.now parts).values }
+    ensures { LiesIn (numbers_of format) words.entry.now parts place (Some result) }
+{
+    let part = hold_place(words, parts, place, format);
+    let value = part.value(place);
+    HeldValue { part, value }
+}
+
+// The first place from the start of a part on whose value is at least x, with that value and its part; else the end.
 pub(crate) fn first_from_part<'a>(
     words: &'a [u64],
     parts: u32,
@@ -161,7 +217,7 @@ pub(crate) fn first_from_part<'a>(
     part: u32,
     x: u64,
     format: Format,
-) -> (u32, Option<HeldPart<'a>>)
+) -> (u32, Option<HeldValue<'a>>)
     requires words { length words.now < 2 ^ 57 }
     requires begun { BeginWith words.now parts m (sequence_stated (numbers_of format) words.now parts) }
     requires within { part ≤ parts }
@@ -170,9 +226,12 @@ pub(crate) fn first_from_part<'a>(
 {
     directory_states_its_parts();
     let reaching = part_reaching(words, parts, part, x, format);
-    match hold_if_any(words, parts, reaching, format) {
-        Some(held) => (held.first_at_least(held.from as u32, x), Some(held)),
-        None => (m, None),
+    if reaching < parts {
+        let part = hold(words, parts, reaching, format);
+        let (place, value) = part.first_at_least(part.from as u32, x);
+        (place, Some(HeldValue { part, value }))
+    } else {
+        (m, None)
     }
 }
 
@@ -185,4 +244,27 @@ pub(crate) fn value_at(words: &[u64], parts: u32, place: u32, format: Format) ->
     ensures { result ≡ slice_index (sequence_stated (numbers_of format) words.now parts).values place }
 {
     hold_place(words, parts, place, format).value(place)
+}
+
+// What comes behind the value at a place, which is held.
+pub(crate) fn behind_place(held: &Option<HeldValue>, place: u32) -> Following
+    requires some { (at : HeldValue) × (held.now ≡ Some at) × (at.part.from ≤ place) × (place < at.part.to) × ((xs : List ℕ) × HoldsValues at.part xs × (at.value ≡ slice_index xs place)) }
+    ensures value { (at : HeldValue) (value : ℕ) → held.now ≡ Some at → result ≡ Following.Value value → (place + 1 < at.part.to) × ((xs : List ℕ) → HoldsValues at.part xs → value ≡ slice_index xs (place + 1)) }
+    ensures end { (at : HeldValue) (part : ℕ) → held.now ≡ Some at → result ≡ Following.End part → (at.part.to ≡ place + 1) × (part ≡ at.part.index) }
+{
+    let Some(at) = held else { unreachable!() };
+    if u64::from(place) + 1 < at.part.to {
+        Following::Value(at.part.value_after(place, at.value))
+    } else {
+        Following::End(at.part.index)
+    }
+}
+
+// Puts a value in place of the one that is held.
+pub(crate) fn keep_value(held: &mut Option<HeldValue>, value: u64)
+    ensures { (before : HeldValue) → held.old ≡ Some before → held.new ≡ Some (record { part = before.part; value = value }) }
+{
+    if let Some(held) = held {
+        held.value = value;
+    }
 }

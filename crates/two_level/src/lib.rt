@@ -4,8 +4,10 @@
 mod check;
 mod checking;
 mod cursor;
+mod directory;
 mod entry;
 mod finding;
+mod galloping;
 mod held;
 mod laws;
 mod part;
@@ -18,6 +20,7 @@ pub use bit_words::NoMemory;
 pub use check::Check;
 pub use checking::{SeqFault, parts_fit};
 pub use cursor::SeqCursor;
+pub use galloping::{Lasts, gallop};
 pub use laws::{
     checks_accept_a_sequence, checks_refuse_no_sequence, checks_stand_at_a_word, one_sequence,
     sequence_takes_its_cost, words_state_their_sequence,

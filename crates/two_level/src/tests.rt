@@ -7,8 +7,12 @@ ghost use Rattle.part_cost.specs.Partition.{IsPartition};
 use super::*;
 use part_cost::Format;
 use std::alloc::{AllocError, Global};
+use std::cell::Cell;
+use std::marker::Brand;
 use std::process::Abort;
+use std::sync::ledger::{Blank, Ledger};
 use std::test::Fail;
+use step_count::Steps;
 
 // Whether the words of a sequence are these.
 fn writes(
@@ -464,6 +468,161 @@ fn a_part_with_a_sample_is_read_back(rt: HostRuntime) -> Result<(), Fail> {
             changed[directory + word] ^= 1 << bit;
             assert_eq!(rt; found(&changed, 2, 130, bound, format), Err(fault));
         }
+    }
+    Ok(())
+}
+
+// Whether a cursor comes from each place to each later one by each of its calls, and goes on from there.
+fn goes_on(rt: &impl Abort, words: &[u64], values: &[u64], parts: u32, bound: u64, format: Format)
+    requires words { length words.now < 2 ^ 57 }
+    requires bound { bound ≤ (numbers_of format).most_sum }
+    requires few { length values.now < 2 ^ 32 }
+{
+    let m = values.len() as u32;
+    let view = SeqView::check(words, parts, m, bound, format).expect(rt, "a sequence");
+    for from in 0..m {
+        for to in from..m {
+            let value = values[to as usize];
+            let mut cursor = view.cursor();
+            cursor.move_to(from);
+            cursor.next_geq(value);
+            assert_eq!(rt; cursor.place(), to, "for {value} from {from}");
+            assert_eq!(rt; cursor.value(), value, "for {value} from {from}");
+            cursor.move_to(from);
+            cursor.move_to(to);
+            assert_eq!(rt; cursor.value(), value, "from {from} to {to}");
+            cursor.next();
+            assert_eq!(rt; cursor.place(), to + 1, "behind {to}");
+            if to + 1 < m {
+                assert_eq!(rt; cursor.value(), values[to as usize + 1], "behind {to}");
+            }
+        }
+    }
+}
+
+// Five parts: 0 to 9; 100, 1000, 5000 in Elias-Fano form; ten of the fifteen values from 5001 to 5015 as a bitmap; 2^30
+// alone; and the five values behind it.
+#[test]
+fn five_parts_are_read_by_every_call(rt: HostRuntime) {
+    let values = [
+        0,
+        1,
+        2,
+        3,
+        4,
+        5,
+        6,
+        7,
+        8,
+        9,
+        100,
+        1_000,
+        5_000,
+        5_001,
+        5_003,
+        5_004,
+        5_006,
+        5_007,
+        5_009,
+        5_010,
+        5_012,
+        5_013,
+        5_015,
+        1_073_741_824,
+        1_073_741_825,
+        1_073_741_826,
+        1_073_741_827,
+        1_073_741_828,
+        1_073_741_829,
+    ];
+    for format in [Format::One, Format::Two] {
+        assert!(rt; is_sequence(&values, format));
+        let mut words = Vec::new(rt.alloc());
+        write_seq(
+            rt.alloc(),
+            &values,
+            &[10, 13, 23, 24, 29],
+            format,
+            &mut words,
+        )
+        .expect(&rt, "memory");
+        assert!(rt; words.len() < 100);
+        let bound = format.most_sum();
+        reads_back(&rt, &words, &values, 5, bound, format);
+        finds_places(&rt, &words, &values, 5, bound, format);
+        has_parts(&rt, &words, &values, &[10, 13, 23, 24, 29], bound, format);
+        goes_on(&rt, &words, &values, 5, bound, format);
+    }
+}
+
+// The last values of parts, and how many times one was asked for.
+#[derive(Drop)]
+struct LentLasts<'a> {
+    lasts: &'a [u64],
+    asked: Cell<u32>,
+    ghost rising: { IsStrictlyIncreasing lasts.now },
+    ghost few: { length lasts.now < 2 ^ 32 },
+}
+
+impl<'a> Lasts for LentLasts<'a> {
+    ghost lasts = { λ d. d.lasts.now };
+
+    fn parts(&self) -> u32 {
+        self.lasts.len() as u32
+    }
+
+    fn last<L: Ledger>(&self, q: u32, probes: &mut Steps<L>) -> u64 {
+        probes.tick();
+        self.asked.set(self.asked.get().saturating_add(1));
+        self.lasts[q as usize]
+    }
+
+    ghost rising = { λ d. d.rising };
+}
+
+// The part that a gallop from another finds for x, and how many last values it asks for.
+fn galloped<L: Ledger>(blank: Blank, lasts: &[u64], from: u32, x: u64) -> (u32, u32)
+    requires name { blank.name ≡ L.name }
+    requires parts { blank.parts ≡ L.parts }
+    requires ledger { 0 < L.parts }
+    requires rising { IsStrictlyIncreasing lasts.now }
+    requires few { length lasts.now < 2 ^ 32 }
+    requires within { from ≤ length lasts.now }
+{
+    let lasts = LentLasts {
+        lasts,
+        asked: Cell::new(0),
+    };
+    let mut probes = Steps::<L>::new(blank);
+    let part = gallop(&lasts, from, x, &mut probes);
+    (part, lasts.asked.get())
+}
+
+// A hundred parts, of which part q ends with 10q + 9.
+#[test]
+fn gallops_to_the_part_that_reaches(rt: HostRuntime) -> Result<(), Fail> {
+    let mut lasts = Vec::new(rt.alloc());
+    for q in 0..100 {
+        lasts.push(10 * q + 9)?;
+    }
+    assert!(rt; is_sequence(&lasts, Format::Two) && lasts.len() == 100);
+    for (from, x, part, most) in [
+        (0, 355, 35, 12),
+        (35, 355, 35, 2),
+        (90, 1_000, 100, 8),
+        (0, 0, 0, 2),
+        (0, 9, 0, 2),
+        (0, 10, 1, 4),
+        (0, 999, 99, 14),
+        (0, 1_000, 100, 14),
+        (36, 0, 36, 2),
+        (99, 1_000, 100, 4),
+        (100, 0, 100, 2),
+    ] {
+        assert!(rt; from <= 100);
+        let (found, asked) = galloped::<Brand>(Blank::new(1), &lasts, from, x);
+        assert_eq!(rt; found, part, "for {x} from {from}");
+        assert!(rt; asked <= most, "{asked} for {x} from {from}");
     }
     Ok(())
 }

@@ -1,19 +1,20 @@
-ghost use Rattle.std.specs.Prelude.{◌≡◌, ℕ, ◌+◌, ◌<◌, ◌≤◌, ◌^◌, [], ◌∷◌, ◌++◌, length, IfOk, OnOk, OnErr};
+ghost use Rattle.std.specs.Prelude.{◌≡◌, ℕ, ◌+◌, ◌<◌, ◌≤◌, ◌^◌, [], ◌∷◌, ◌++◌, length, OnOk, OnErr};
 ghost use Rattle.std.specs.List.{All};
 ghost use Rattle.std.specs.List.Sorted.{IsStrictlyIncreasing};
-ghost use Rattle.bit_words.specs.Bits.{words_of};
+ghost use Rattle.bit_words.specs.Bits.{words_of, AppendsBits};
 ghost use Rattle.part_cost.specs.Formats.{numbers_of};
 ghost use Rattle.part_cost.specs.Payload.{widest_low};
 ghost use Rattle.part_cost.specs.Partition.{IsPartition};
 ghost use Rattle.part_cost.specs.Span.{past, universe, relative_values};
 ghost use Rattle.two_level.specs.EntryWords.{entry};
-ghost use Rattle.two_level.specs.SequenceWords.{directory_from, payload_from, sequence_words};
+ghost use Rattle.two_level.specs.SequenceWords.{directory_from, payload_from, sequence_words, Extends};
 
 use crate::entry::Entry;
 use bit_words::{BitWriter, NoMemory};
 use part_codec::{part_takes_its_payload, write_part};
 use part_cost::{Format, formats_have_room, part_is_relative, payload_bits};
 use std::alloc::Global;
+use std::mem;
 
 /// Appends the words of a sequence in parts: its directory, and then the payload of its parts from a fresh word on. A refusal
 /// leaves the words as they were.
@@ -31,17 +32,44 @@ pub fn write_seq(
     ensures ok { OnOk result (to.new.items ≡ to.old.items ++ sequence_words (numbers_of format) values.now ends.now) }
     ensures err { OnErr result (to.new.items ≡ to.old.items) }
 {
+    let first = to.len();
+    let written = append_seq(alloc, values, ends, format, to);
+    if written.is_err() {
+        to.truncate(first);
+    }
+    written
+}
+
+// More words than any memory holds, and so few that the bits of a sequence behind them can be counted.
+const MOST_WORDS: u64 = 1 << 56;
+
+// Appends the words of a sequence. A refusal may leave some words behind those that were there.
+fn append_seq(
+    alloc: Global,
+    values: &[u64],
+    ends: &[u64],
+    format: Format,
+    to: &mut Vec<u64>,
+) -> Result<(), NoMemory>
+    requires rising { IsStrictlyIncreasing values.now }
+    requires below { All (λ x. x < (numbers_of format).most_sum) values.now }
+    requires few { length values.now ≤ (numbers_of format).most_documents }
+    requires partition { IsPartition (length values.now) ends.now }
+    ensures ok { OnOk result (to.new.items ≡ to.old.items ++ sequence_words (numbers_of format) values.now ends.now) }
+    ensures err { OnErr result (Extends to.old.items to.new.items) }
+{
     formats_have_room();
-    let mut words = directory(alloc, values, ends, format)?;
-    let parts = payload(alloc, values, ends)?;
-    words.extend_from_slice(&parts)?;
-    to.extend_from_slice(&words)?;
-    Ok(())
+    push_directory(values, ends, format, to)?;
+    if to.len() as u64 > MOST_WORDS {
+        return Err(NoMemory);
+    }
+    push_payload(alloc, values, ends, to)
 }
 
 // Appends a word.
 fn push(words: &mut Vec<u64>, word: u64) -> Result<(), NoMemory>
-    ensures { OnOk result (words.new.items ≡ words.old.items ++ word ∷ []) }
+    ensures ok { OnOk result (words.new.items ≡ words.old.items ++ word ∷ []) }
+    ensures err { OnErr result (words.new.items ≡ words.old.items) }
 {
     match words.push(word) {
         Ok(()) => Ok(()),
@@ -53,7 +81,8 @@ fn push(words: &mut Vec<u64>, word: u64) -> Result<(), NoMemory>
 fn push_entry(words: &mut Vec<u64>, part: Entry, format: Format) -> Result<(), NoMemory>
     requires last { part.last < (numbers_of format).most_sum }
     requires end { part.end ≤ (numbers_of format).most_documents }
-    ensures { OnOk result (words.new.items ≡ words.old.items ++ entry (numbers_of format) part.last part.end part.offset) }
+    ensures ok { OnOk result (words.new.items ≡ words.old.items ++ entry (numbers_of format) part.last part.end part.offset) }
+    ensures err { OnErr result (Extends words.old.items words.new.items) }
 {
     match format {
         Format::One => push(words, part.last + format.most_sum() * part.end)?,
@@ -90,47 +119,46 @@ fn universe_of_part(values: &[u64], from: u64, end: u64) -> u64
     past_value(values, end) - past_value(values, from)
 }
 
-// The values of a part, counted from the first place past the value before it.
-fn relative_part(alloc: Global, values: &[u64], from: u64, end: u64) -> Result<Vec<u64>, NoMemory>
+// Puts the values of a part, counted from the first place past the value before it, in place of what was there.
+fn fill_part(values: &[u64], from: u64, end: u64, part: &mut Vec<u64>) -> Result<(), NoMemory>
     requires rising { IsStrictlyIncreasing values.now }
     requires below { All (λ x. x < 2 ^ widest_low) values.now }
     requires some { from < end }
     requires within { end ≤ length values.now }
-    ensures { IfOk result (λ part. part.items ≡ relative_values values.now from end) }
+    ensures { OnOk result (part.new.items ≡ relative_values values.now from end) }
 {
     part_is_relative();
     let past = past_value(values, from);
-    let span = &values[from as usize..end as usize];
-    let mut part = Vec::new(alloc);
-    for value in span {
-        push(&mut part, *value - past)?;
+    part.clear();
+    for value in &values[from as usize..end as usize] {
+        push(part, *value - past)?;
     }
-    Ok(part)
+    Ok(())
 }
 
-// The entries of the parts.
-fn directory(
-    alloc: Global,
+// Appends the entries of the parts.
+fn push_directory(
     values: &[u64],
     ends: &[u64],
     format: Format,
-) -> Result<Vec<u64>, NoMemory>
+    to: &mut Vec<u64>,
+) -> Result<(), NoMemory>
     requires rising { IsStrictlyIncreasing values.now }
     requires below { All (λ x. x < (numbers_of format).most_sum) values.now }
     requires few { length values.now ≤ (numbers_of format).most_documents }
     requires partition { IsPartition (length values.now) ends.now }
-    ensures { IfOk result (λ words. words.items ≡ directory_from (numbers_of format) values.now 0 0 ends.now) }
+    ensures ok { OnOk result (to.new.items ≡ to.old.items ++ directory_from (numbers_of format) values.now 0 0 ends.now) }
+    ensures err { OnErr result (Extends to.old.items to.new.items) }
 {
     formats_have_room();
     part_is_relative();
-    let mut words = Vec::new(alloc);
     let mut from = 0;
     let mut offset = 0;
     for end in ends {
         let universe = universe_of_part(values, from, *end);
         let last = past_value(values, *end) - 1;
         push_entry(
-            &mut words,
+            to,
             Entry {
                 last,
                 end: *end,
@@ -141,24 +169,52 @@ fn directory(
         offset += payload_bits(universe, *end - from);
         from = *end;
     }
-    Ok(words)
+    Ok(())
 }
 
-// The words of the payload of the parts.
-fn payload(alloc: Global, values: &[u64], ends: &[u64]) -> Result<Vec<u64>, NoMemory>
+// Appends the words of the payload of the parts. Its bits are written where the words stand.
+fn push_payload(
+    alloc: Global,
+    values: &[u64],
+    ends: &[u64],
+    to: &mut Vec<u64>,
+) -> Result<(), NoMemory>
     requires rising { IsStrictlyIncreasing values.now }
     requires below { All (λ x. x < 2 ^ widest_low) values.now }
     requires partition { IsPartition (length values.now) ends.now }
-    ensures { IfOk result (λ words. words.items ≡ words_of (payload_from values.now 0 ends.now)) }
+    requires room { length to.old.items ≤ 2 ^ 56 }
+    ensures ok { OnOk result (to.new.items ≡ to.old.items ++ words_of (payload_from values.now 0 ends.now)) }
+    ensures err { OnErr result (Extends to.old.items to.new.items) }
 {
     part_takes_its_payload();
     part_is_relative();
-    let mut bits = BitWriter::new(alloc)?;
+    let mut bits = BitWriter::after(mem::replace(to, Vec::new(alloc)));
+    let written = write_parts(alloc, values, ends, &mut bits);
+    *to = bits.into_words();
+    written
+}
+
+// Appends the payload of the parts. A refusal leaves a front of it.
+fn write_parts(
+    alloc: Global,
+    values: &[u64],
+    ends: &[u64],
+    bits: &mut BitWriter,
+) -> Result<(), NoMemory>
+    requires rising { IsStrictlyIncreasing values.now }
+    requires below { All (λ x. x < 2 ^ widest_low) values.now }
+    requires partition { IsPartition (length values.now) ends.now }
+    requires room { length bits.old + length (payload_from values.now 0 ends.now) < 2 ^ 63 }
+    ensures ok { OnOk result (bits.new ≡ bits.old ++ payload_from values.now 0 ends.now) }
+    ensures err { OnErr result (AppendsBits bits.old bits.new (payload_from values.now 0 ends.now)) }
+{
+    part_is_relative();
+    let mut part = Vec::new(alloc);
     let mut from = 0;
     for end in ends {
-        let part = relative_part(alloc, values, from, *end)?;
-        write_part(&part, universe_of_part(values, from, *end), &mut bits)?;
+        fill_part(values, from, *end, &mut part)?;
+        write_part(&part, universe_of_part(values, from, *end), bits)?;
         from = *end;
     }
-    Ok(bits.into_words())
+    Ok(())
 }

@@ -5,7 +5,8 @@ use Rattle.bit_words.proofs.Value.{bits-bits_of, length-bits_of}
 use Rattle.part_cost.specs.Span.{past}
 use Rattle.elias_fano.specs.EfBits.{high_place}
 use Rattle.elias_fano.specs.EfView.{Holds}
-use Rattle.elias_fano.proofs.Rising.{past-before, past-number}
+use Rattle.part_cost.proofs.Parts.{past-number}
+use Rattle.elias_fano.proofs.Rising.{past-before}
 use Rattle.elias_fano.proofs.Scanning.{sample-read}
 use Rattle.elias_fano.proofs.Views.{view-read-at, read-view-at, places-fit-at}
 use Rattle.elias_fano.proofs.Checking.{AreBegun, begun-more, begun-all, past-last}

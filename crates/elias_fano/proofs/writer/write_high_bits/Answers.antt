@@ -1,44 +1,62 @@
-use Rattle.std.proofs.Common.{◌+◌, ◌^◌, length, refl, sym, ◌∙◌, subst, arith}
-use Rattle.elias_fano.proofs.Rising.{relative-fit}
+use Rattle.std.proofs.Common.{◌≡◌, ℕ, ◌+◌, ◌-◌, ◌^◌, ◌<◌, ◌++◌, length, take, get_or, sym, subst, ap, ◌∙◌, arith}
+use Rattle.bit_words.specs.Bits.{AppendsBits, one_after}
+use Rattle.bit_words.proofs.OnesWritten.{ones-more, ones-front, ones-room, ones-all}
 use Rattle.bit_words.proofs.Outcomes.{on-err}
-use Rattle.elias_fano.proofs.Writing.{AreWritten, written-one, written-zero, high-room, high-front, high-all}
+use Rattle.part_cost.specs.Span.{past}
+use Rattle.elias_fano.specs.EfBits.{high_place, high_bits}
+use Rattle.elias_fano.specs.EfPlaces.{past_place}
+use Rattle.elias_fano.proofs.Rising.{past-before, past_place-next}
+use Rattle.elias_fano.proofs.Writing.{next-high, high-gap, high-end}
 use Rattle.elias_fano.proofs.writer.write_high_bits.Goals as goal
-use Rattle.elias_fano.proofs.writer.write_high_bits.Goals.{then-has_place+in_ok-put, else-has_place+in_ok-put-2}
 
-pub has_place-requires-clause-few : goal.has_place-requires-clause-few
-has_place-requires-clause-few c = omega (arith, c.loop-place.invariant.few, relative-fit c.args.u (length c.args.values.now) c.args.values.now c.requires.values, c.requires.in_range)
+pub overflow_sub-high : goal.overflow_sub-high
+overflow_sub-high c =
+    omega (arith, c.loop-value.invariant.last, past-before c.args.values.now c.args.low c.requires.rising c.loop-value.value-index c.loop-value-test.true)
 
-pub put-requires-clause-room : goal.put-requires-clause-room
-put-requires-clause-room c =
-    high-room c.args.low c.args.u c.args.values.now c.loop-place.place c.loop-place.k (2 ^ 63) c.args.to.now c.loop-place.to c.loop-place.invariant c.loop-place-test.true c.requires.room
-
-pub put-requires-else-has_place-clause-room : goal.put-requires-else-has_place-clause-room
-put-requires-else-has_place-clause-room c =
-    high-room c.args.low c.args.u c.args.values.now c.loop-place.place c.loop-place.k (2 ^ 63) c.args.to.now c.loop-place.to c.loop-place.invariant c.loop-place-test.true c.requires.room
-
-pub returns-in_err-put-clause-err : goal.returns-in_err-put-clause-err
-returns-in_err-put-clause-err c =
-    on-err _ _ (high-front c.args.low c.args.u c.args.values.now c.loop-place.place c.loop-place.k c.args.to.now c.loop-place.to c.put.new.self c.loop-place.invariant c.loop-place-test.true c.in_err-put.ensures.err)
-
-pub returns-in_err-put-2-clause-err : goal.returns-in_err-put-2-clause-err
-returns-in_err-put-2-clause-err c =
-    on-err _ _ (high-front c.args.low c.args.u c.args.values.now c.loop-place.place c.loop-place.k c.args.to.now c.loop-place.to c.put-else-has_place.new.self c.loop-place.invariant c.loop-place-test.true c.in_err-put-2.ensures.err)
-
-pub loop-place-preserved : goal.loop-place-preserved
-loop-place-preserved c =
+pub put_one_after-requires : goal.put_one_after-requires
+put_one_after-requires c =
+    let l = c.args.low in
     let ys = c.args.values.now in
-    elim c.if-has_place.branch [
-      | then-has_place+in_ok-put w ↦
-          let here = w.if-has_place.ensures.0 refl in
-          subst (λ n. AreWritten c.args.low c.args.u ys (c.loop-place.place + 1) n c.args.to.now c.if-has_place.to) (sym w.k-is)
-          (written-one c.args.low c.args.u ys c.loop-place.place c.loop-place.k c.args.to.now c.loop-place.to c.if-has_place.to c.requires.values.rising c.loop-place.invariant
-          c.loop-place-test.true here.0 here.1 (w.to-is ∙ w.in_ok-put.ensures.ok))
-      | else-has_place+in_ok-put-2 w ↦
-          subst (λ n. AreWritten c.args.low c.args.u ys (c.loop-place.place + 1) n c.args.to.now c.if-has_place.to) (sym w.k-is)
-          (written-zero c.args.low c.args.u ys c.loop-place.place c.loop-place.k c.args.to.now c.loop-place.to c.if-has_place.to c.requires.values.rising c.loop-place.invariant
-          c.loop-place-test.true (λ here. let set = w.if-has_place.ensures.1 here in cc) (w.to-is ∙ w.in_ok-put-2.ensures.ok))
-    ]
+    let k = c.loop-value.value-index in
+    let bits = high_bits l (past ys (length ys)) ys in
+    let gap : ℕ = high_place l k (get_or ys k 0) - past_place l ys k in
+    let room : length c.loop-value.to + gap + 1 < 2 ^ 63 =
+    ones-room c.args.to.now c.loop-value.to bits (past_place l ys k) gap (2 ^ 63) (next-high l k ys c.requires.rising c.requires.some c.loop-value-test.true) c.loop-value.invariant.written c.requires.room in
+    record { room = subst (λ n. length c.loop-value.to + n + 1 < 2 ^ 63) (sym (high-gap l k c.loop-value.last ys c.loop-value.invariant.last)) room }
+
+pub returns-in_err-put_one_after-clause-err : goal.returns-in_err-put_one_after-clause-err
+returns-in_err-put_one_after-clause-err c =
+    let l = c.args.low in
+    let ys = c.args.values.now in
+    let k = c.loop-value.value-index in
+    let bits = high_bits l (past ys (length ys)) ys in
+    let gap : ℕ = high_place l k (get_or ys k 0) - past_place l ys k in
+    on-err _ _
+    (ones-front c.args.to.now c.loop-value.to c.put_one_after.new.self bits (past_place l ys k) gap (next-high l k ys c.requires.rising c.requires.some c.loop-value-test.true) c.loop-value.invariant.written
+    (subst (λ n. AppendsBits c.loop-value.to c.put_one_after.new.self (one_after n)) (high-gap l k c.loop-value.last ys c.loop-value.invariant.last) c.in_err-put_one_after.ensures.err))
+
+pub loop-value-preserved : goal.loop-value-preserved
+loop-value-preserved c =
+    let l = c.args.low in
+    let ys = c.args.values.now in
+    let k = c.loop-value.value-index in
+    let bits = high_bits l (past ys (length ys)) ys in
+    let gap : ℕ = high_place l k (get_or ys k 0) - past_place l ys k in
+    let next = past_place-next l ys k in
+    let more =
+    ones-more c.args.to.now c.loop-value.to c.put_one_after.new.self bits (past_place l ys k) gap (next-high l k ys c.requires.rising c.requires.some c.loop-value-test.true) c.loop-value.invariant.written
+    (c.in_ok-put_one_after.ensures.ok ∙ ap (λ n. c.loop-value.to ++ one_after n) (high-gap l k c.loop-value.last ys c.loop-value.invariant.last)) in
+    let place : past_place l ys k + gap + 1 ≡ past_place l ys (k + 1) = omega (arith, next, past-before ys l c.requires.rising k c.loop-value-test.true) in
+    record {
+      last = omega (arith, next);
+      written = more ∙ ap (λ n. c.args.to.now ++ take n bits) place;
+    }
 
 pub returns-clause-ok : goal.returns-clause-ok
 returns-clause-ok c =
-    high-all c.args.low c.args.u c.args.values.now c.loop-place.place c.loop-place.k c.args.to.now c.loop-place.to c.loop-place.invariant c.loop-place-test.false
+    let l = c.args.low in
+    let ys = c.args.values.now in
+    let bits = high_bits l (past ys (length ys)) ys in
+    let all : c.loop-value.value-index ≡ length ys = omega arith in
+    let end : past_place l ys c.loop-value.value-index ≡ length bits = ap (past_place l ys) all ∙ high-end l ys c.requires.some in
+    ones-all c.args.to.now c.loop-value.to bits (past_place l ys c.loop-value.value-index) end c.loop-value.invariant.written

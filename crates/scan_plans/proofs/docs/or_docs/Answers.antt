@@ -1,37 +1,69 @@
-use Rattle.std.proofs.Common.{◌≡◌, sym, ap, ◌∙◌, subst, ℕ, ◌+◌, List, [], ◌∷◌, ◌++◌}
+use Rattle.std.proofs.Common.{◌≡◌, refl, sym, ap, ◌∙◌, subst, ℕ, ◌+◌, true, List, length, map, arith}
+use Rattle.std.specs.List.{All, list_any}
 use Rattle.collection_model.specs.Collection.{Posting}
-use Rattle.scan_plans.specs.Matches.{AreBelow, in_any}
-use Rattle.scan_plans.proofs.Scans.{next-doc, no-next-doc}
-use Rattle.scan_plans.proofs.Steps.{pass-leaves-less}
+use Rattle.scan_plans.specs.Matches.{AreBelow, has_doc, in_any}
+use Rattle.scan_plans.specs.Scan.{StandsFrom}
+use Rattle.scan_plans.specs.Window.{AreMarked}
+use Rattle.scan_plans.proofs.Scans.{next-doc, no-next-doc, any-bound}
+use Rattle.scan_plans.proofs.Steps.{passing-leaves-less, starts-stand, all-below}
 use Rattle.scan_plans.proofs.docs.or_docs.Goals as goal
 
-pub pass-requires : goal.pass-requires
-pass-requires g c =
-    let n = next-doc g.C.DocCursor.list g.C.DocCursor.place g.met.C.DocCursor.well_formed c.loop-doc.cursors c.loop-doc.invariant.low c.in-Some.doc c.loop-doc.invariant.stand (sym c.least_doc.ensures ∙ c.in-Some.is) in
-    record { stand = n.stand }
+pub loop-first-init : goal.loop-first-init
+loop-first-init g c = record {
+  low = 0;
+  lists = refl;
+  stand = starts-stand g.C.DocCursor.list g.C.DocCursor.place c.args.cursors.now c.requires.at_start;
+  docs = c.new-docs.ensures.items;
+  some = let same = ap length c.as_mut_slice-marks.ensures.value in let some = c.in_ok-buffer.ensures in omega arith;
+}
 
-pub loop-doc-smaller : goal.loop-doc-smaller
-loop-doc-smaller g c =
-    let n = next-doc g.C.DocCursor.list g.C.DocCursor.place g.met.C.DocCursor.well_formed c.loop-doc.cursors c.loop-doc.invariant.low c.in-Some.doc c.loop-doc.invariant.stand (sym c.least_doc.ensures ∙ c.in-Some.is) in
-    pass-leaves-less g.C.DocCursor.list g.C.DocCursor.place g.met.C.DocCursor.well_formed c.in-Some.doc c.loop-doc.cursors c.pass.new.cursors c.pass.ensures.lists n.stand c.pass.ensures.stand n.at
+pub mark_lists-requires-clause-stand : goal.mark_lists-requires-clause-stand
+mark_lists-requires-clause-stand g c =
+    let next = next-doc g.C.DocCursor.list g.C.DocCursor.place g.met.C.DocCursor.well_formed c.loop-first.cursors c.loop-first.invariant.low c.in-Some.first c.loop-first.invariant.stand (sym c.least_doc.ensures ∙ c.in-Some.is) in
+    next.stand
 
-pub loop-doc-preserved : goal.loop-doc-preserved
-loop-doc-preserved g c =
-    let doc : ℕ = c.in-Some.doc in
-    let low : ℕ = c.loop-doc.invariant.low in
-    let n = next-doc g.C.DocCursor.list g.C.DocCursor.place g.met.C.DocCursor.well_formed c.loop-doc.cursors low doc c.loop-doc.invariant.stand (sym c.least_doc.ensures ∙ c.in-Some.is) in
-    let more = subst (λ (ls : List (List Posting)). in_any (doc + 1) ls ≡ in_any low ls ++ doc ∷ []) c.loop-doc.invariant.lists n.more in
+pub append_marked-requires : goal.append_marked-requires
+append_marked-requires g c =
+    let lists : List (List Posting) = map g.C.DocCursor.list c.loop-first.cursors in
     record {
-      low = doc + 1;
-      lists = c.pass.ensures.lists ∙ c.loop-doc.invariant.lists;
-      stand = c.pass.ensures.stand;
-      docs = c.in_ok-append.ensures ∙ ap (λ (l : List ℕ). l ++ doc ∷ []) c.loop-doc.invariant.docs ∙ sym more;
+      fit = λ k within is_marked.
+          let has : list_any (has_doc (c.in-Some.first + k)) lists ≡ true = sym (c.mark_lists.ensures.marks k within) ∙ is_marked in
+          let below = any-bound 4294967295 lists (c.in-Some.first + k) (all-below g.C.DocCursor.list g.C.DocCursor.place g.met.C.DocCursor.well_formed c.loop-first.cursors) has in
+          omega arith;
+    }
+
+pub loop-first-smaller : goal.loop-first-smaller
+loop-first-smaller g c =
+    let next = next-doc g.C.DocCursor.list g.C.DocCursor.place g.met.C.DocCursor.well_formed c.loop-first.cursors c.loop-first.invariant.low c.in-Some.first c.loop-first.invariant.stand (sym c.least_doc.ensures ∙ c.in-Some.is) in
+    let some = c.loop-first.invariant.some in
+    let cleared = c.clear_marks.ensures.count in
+    passing-leaves-less g.C.DocCursor.list g.C.DocCursor.place g.met.C.DocCursor.well_formed c.in-Some.first (c.in-Some.first + length c.clear_marks.new.marks) c.loop-first.cursors c.mark_lists.new.cursors (omega arith) c.mark_lists.ensures.lists next.stand c.mark_lists.ensures.stand next.at
+
+pub loop-first-preserved : goal.loop-first-preserved
+loop-first-preserved g c =
+    let first : ℕ = c.in-Some.first in
+    let low : ℕ = c.loop-first.invariant.low in
+    let same = c.loop-first.invariant.lists in
+    let given : List (List Posting) = map g.C.DocCursor.list c.args.cursors.now in
+    let now : List (List Posting) = map g.C.DocCursor.list c.loop-first.cursors in
+    let next = next-doc g.C.DocCursor.list g.C.DocCursor.place g.met.C.DocCursor.well_formed c.loop-first.cursors low first c.loop-first.invariant.stand (sym c.least_doc.ensures ∙ c.in-Some.is) in
+    let skipped : in_any low given ≡ in_any first given = subst (λ (ls : List (List Posting)). in_any low ls ≡ in_any first ls) same next.skipped in
+    let marked : AreMarked given first c.mark_lists.new.marks = subst (λ (ls : List (List Posting)). AreMarked ls first c.mark_lists.new.marks) same c.mark_lists.ensures.marks in
+    let some = c.loop-first.invariant.some in
+    let cleared = c.clear_marks.ensures.count in
+    let count = c.mark_lists.ensures.count in
+    record {
+      low = first + length c.mark_lists.new.marks;
+      lists = c.mark_lists.ensures.lists ∙ same;
+      stand = subst (λ (n : ℕ). All (λ x. StandsFrom (first + n) (g.C.DocCursor.list x) (g.C.DocCursor.place x)) c.mark_lists.new.cursors) (sym count) c.mark_lists.ensures.stand;
+      docs = c.in_ok-append_marked.ensures given marked (c.loop-first.invariant.docs ∙ skipped);
+      some = omega arith;
     }
 
 pub returns : goal.returns
 returns g c = λ n below.
-    let lists = c.loop-doc.invariant.lists in
-    let low : ℕ = c.loop-doc.invariant.low in
-    c.loop-doc.invariant.docs ∙ ap (in_any low) (sym lists)
-    ∙ no-next-doc g.C.DocCursor.list g.C.DocCursor.place g.met.C.DocCursor.well_formed c.loop-doc.cursors low n c.loop-doc.invariant.stand (sym c.least_doc.ensures ∙ c.in_default.is) (subst (AreBelow n) (sym lists) below)
+    let lists = c.loop-first.invariant.lists in
+    let low : ℕ = c.loop-first.invariant.low in
+    c.loop-first.invariant.docs ∙ ap (in_any low) (sym lists)
+    ∙ no-next-doc g.C.DocCursor.list g.C.DocCursor.place g.met.C.DocCursor.well_formed c.loop-first.cursors low n c.loop-first.invariant.stand (sym c.least_doc.ensures ∙ c.in_default.is) (subst (AreBelow n) (sym lists) below)
     ∙ ap (in_any n) lists

@@ -1,92 +1,113 @@
-use Rattle.std.proofs.Common.{◌≡◌, sym, ap, ◌∙◌, subst, ℕ, ◌+◌, ◌^◌, ◌<◌, List, [], ◌∷◌, ◌++◌, map}
+use Rattle.std.proofs.Common.{◌≡◌, refl, sym, ap, ◌∙◌, subst, ℕ, ◌+◌, ◌^◌, ◌<◌, true, List, [], length, map, arith}
 use Rattle.std.specs.List.{All, list_any}
+use Rattle.std.proofs.lemmas.List.{length-map}
 use Rattle.std.proofs.lemmas.List.Elements.{All-nil}
 use Rattle.std.proofs.lemmas.Result.{IfOk-weaker}
 use Rattle.collection_model.specs.Collection.{Posting}
-use Rattle.scan_plans.specs.Matches.{AreBelow, has_doc, in_any, score}
+use Rattle.scan_plans.specs.Best.{IsBest}
 use Rattle.scan_plans.specs.IsTop.{IsTop}
-use Rattle.scan_plans.specs.Ranking.{Ranking, IsFirstK}
+use Rattle.scan_plans.specs.Matches.{AreBelow, has_doc, in_any}
+use Rattle.scan_plans.specs.Ranking.{Ranking}
+use Rattle.scan_plans.specs.Scan.{StandsFrom}
+use Rattle.scan_plans.specs.Window.{AreScored}
+use Rattle.scan_plans.proofs.Bests.{best-none, best-below, best-top, any-below}
 use Rattle.scan_plans.proofs.Scans.{next-doc, no-next-doc, any-bound}
-use Rattle.scan_plans.proofs.Steps.{pass-leaves-less, starts-stand}
-use Rattle.scan_plans.proofs.Bests.{IsBest, best-none, best-more, best-below, best-top, any-below, still-below}
+use Rattle.scan_plans.proofs.Steps.{passing-leaves-less, starts-stand}
 use Rattle.scan_plans.proofs.top.top_exhaustive.Goals as goal
 
-pub loop-doc-init : goal.loop-doc-init
-loop-doc-init g c =
+pub loop-first-init : goal.loop-first-init
+loop-first-init g c =
     let lists : List (List Posting) = map g.C.DocCursor.list c.args.cursors.now in
     let held : c.in_ok-top.top.held ≡ [] = ap (λ (r : Ranking). r.held) c.in_ok-top.ensures in
     record {
       low = 0;
-      lists = λ i. lists;
+      lists = refl;
       stand = starts-stand g.C.DocCursor.list g.C.DocCursor.place c.args.cursors.now c.requires.at_start;
+      some = let same = ap length c.as_mut_slice-scores.ensures.value in let some = c.in_ok-buffer.ensures in omega arith;
       k = ap (λ (r : Ranking). r.k) c.in_ok-top.ensures;
       n = ap (λ (r : Ranking). r.n) c.in_ok-top.ensures;
       best = subst (IsBest c.args.k lists c.args.weights.now []) (sym held) (best-none c.args.k lists c.args.weights.now);
       bound = subst (All (λ (e : ℕ × ℕ). e.1 < 2 ^ 58)) (sym held) (All-nil (λ (e : ℕ × ℕ). e.1 < 2 ^ 58));
     }
 
-pub score_at-requires-clause-stand : goal.score_at-requires-clause-stand
-score_at-requires-clause-stand g c =
-    let next = next-doc g.C.DocCursor.list g.C.DocCursor.place g.met.C.DocCursor.well_formed c.loop-doc.cursors c.loop-doc.invariant.low c.in-Some.doc c.loop-doc.invariant.stand (sym c.least_doc.ensures ∙ c.in-Some.is) in
+pub add_lists-requires-clause-stand : goal.add_lists-requires-clause-stand
+add_lists-requires-clause-stand g c =
+    let next = next-doc g.C.DocCursor.list g.C.DocCursor.place g.met.C.DocCursor.well_formed c.loop-first.cursors c.loop-first.invariant.low c.in-Some.first c.loop-first.invariant.stand (sym c.least_doc.ensures ∙ c.in-Some.is) in
     next.stand
 
-pub offer-requires-clause-in_range : goal.offer-requires-clause-in_range
-offer-requires-clause-in_range g c =
-    let doc : ℕ = c.in-Some.doc in
-    let next = next-doc g.C.DocCursor.list g.C.DocCursor.place g.met.C.DocCursor.well_formed c.loop-doc.cursors c.loop-doc.invariant.low doc c.loop-doc.invariant.stand (sym c.least_doc.ensures ∙ c.in-Some.is) in
-    subst (λ (n : ℕ). doc < n) (sym c.loop-doc.invariant.n)
-    (any-bound c.args.n (map g.C.DocCursor.list c.args.cursors.now) doc c.requires.in_range (ap (list_any (has_doc doc)) (sym c.loop-doc.invariant.lists) ∙ next.is_any))
+pub add_lists-requires-clause-each : goal.add_lists-requires-clause-each
+add_lists-requires-clause-each g c =
+    let same = ap length c.loop-first.invariant.lists in
+    let now-mapped = length-map c.loop-first.cursors g.C.DocCursor.list in
+    let old-mapped = length-map c.args.cursors.now g.C.DocCursor.list in
+    let each = c.requires.each in
+    omega arith
 
-pub offer-requires-clause-above : goal.offer-requires-clause-above
-offer-requires-clause-above g c =
-    let doc : ℕ = c.in-Some.doc in
-    let low : ℕ = c.loop-doc.invariant.low in
+pub offer_scored-requires-clause-narrow : goal.offer_scored-requires-clause-narrow
+offer_scored-requires-clause-narrow g c = omega (arith, c.loop-first.invariant.n, c.ranges.n.fits)
+
+pub offer_scored-requires-clause-in_range : goal.offer_scored-requires-clause-in_range
+offer_scored-requires-clause-in_range g c = λ k within above.
     let lists : List (List Posting) = map g.C.DocCursor.list c.args.cursors.now in
-    let next = next-doc g.C.DocCursor.list g.C.DocCursor.place g.met.C.DocCursor.well_formed c.loop-doc.cursors low doc c.loop-doc.invariant.stand (sym c.least_doc.ensures ∙ c.in-Some.is) in
-    best-below c.args.k lists c.args.weights.now (in_any low lists) c.loop-doc.top.held doc c.loop-doc.invariant.best (any-below low doc lists next.low_first)
+    let same = c.loop-first.invariant.lists in
+    let doc : ℕ = c.in-Some.first + k in
+    let has : list_any (has_doc doc) lists ≡ true = ap (list_any (has_doc doc)) (sym same) ∙ (c.add_lists.ensures.scores.found k within).0 above in
+    subst (λ (n : ℕ). doc < n) (sym c.loop-first.invariant.n) (any-bound c.args.n lists doc c.requires.in_range has)
 
-pub pass-requires : goal.pass-requires
-pass-requires g c =
-    let next = next-doc g.C.DocCursor.list g.C.DocCursor.place g.met.C.DocCursor.well_formed c.loop-doc.cursors c.loop-doc.invariant.low c.in-Some.doc c.loop-doc.invariant.stand (sym c.least_doc.ensures ∙ c.in-Some.is) in
-    record { stand = next.stand }
-
-pub loop-doc-smaller : goal.loop-doc-smaller
-loop-doc-smaller g c =
-    let next = next-doc g.C.DocCursor.list g.C.DocCursor.place g.met.C.DocCursor.well_formed c.loop-doc.cursors c.loop-doc.invariant.low c.in-Some.doc c.loop-doc.invariant.stand (sym c.least_doc.ensures ∙ c.in-Some.is) in
-    pass-leaves-less g.C.DocCursor.list g.C.DocCursor.place g.met.C.DocCursor.well_formed c.in-Some.doc c.loop-doc.cursors c.pass.new.cursors c.pass.ensures.lists next.stand c.pass.ensures.stand next.at
-
-pub loop-doc-preserved : goal.loop-doc-preserved
-loop-doc-preserved g c =
-    let doc : ℕ = c.in-Some.doc in
-    let low : ℕ = c.loop-doc.invariant.low in
+pub offer_scored-requires-clause-above : goal.offer_scored-requires-clause-above
+offer_scored-requires-clause-above g c =
+    let first : ℕ = c.in-Some.first in
+    let low : ℕ = c.loop-first.invariant.low in
     let lists : List (List Posting) = map g.C.DocCursor.list c.args.cursors.now in
-    let held : List (ℕ × ℕ) = c.loop-doc.top.held in
-    let new : List (ℕ × ℕ) = c.offer.new.self.held in
-    let next = next-doc g.C.DocCursor.list g.C.DocCursor.place g.met.C.DocCursor.well_formed c.loop-doc.cursors low doc c.loop-doc.invariant.stand (sym c.least_doc.ensures ∙ c.in-Some.is) in
-    let more = subst (λ (ls : List (List Posting)). in_any (doc + 1) ls ≡ in_any low ls ++ doc ∷ []) c.loop-doc.invariant.lists next.more in
-    let scored : c.score_at.result ≡ score lists c.args.weights.now doc = c.score_at.ensures.value ∙ ap (λ (ls : List (List Posting)). score ls c.args.weights.now doc) c.loop-doc.invariant.lists in
-    let first = subst (λ (k : ℕ). IsFirstK k ((doc, score lists c.args.weights.now doc) ∷ held) new) c.loop-doc.invariant.k (subst (λ (s : ℕ). IsFirstK c.loop-doc.top.k ((doc, s) ∷ held) new) scored c.offer.ensures.first) in
+    let next = next-doc g.C.DocCursor.list g.C.DocCursor.place g.met.C.DocCursor.well_formed c.loop-first.cursors c.loop-first.invariant.low c.in-Some.first c.loop-first.invariant.stand (sym c.least_doc.ensures ∙ c.in-Some.is) in
+    best-below c.args.k lists c.args.weights.now (in_any low lists) c.loop-first.top.held first c.loop-first.invariant.best (any-below low first lists next.low_first)
+
+pub loop-first-smaller : goal.loop-first-smaller
+loop-first-smaller g c =
+    let next = next-doc g.C.DocCursor.list g.C.DocCursor.place g.met.C.DocCursor.well_formed c.loop-first.cursors c.loop-first.invariant.low c.in-Some.first c.loop-first.invariant.stand (sym c.least_doc.ensures ∙ c.in-Some.is) in
+    let some = c.loop-first.invariant.some in
+    let cleared = c.clear_scores.ensures.count in
+    passing-leaves-less g.C.DocCursor.list g.C.DocCursor.place g.met.C.DocCursor.well_formed c.in-Some.first (c.in-Some.first + length c.clear_scores.new.scores) c.loop-first.cursors c.add_lists.new.cursors (omega arith) c.add_lists.ensures.lists next.stand c.add_lists.ensures.stand next.at
+
+pub loop-first-preserved : goal.loop-first-preserved
+loop-first-preserved g c =
+    let first : ℕ = c.in-Some.first in
+    let low : ℕ = c.loop-first.invariant.low in
+    let same = c.loop-first.invariant.lists in
+    let lists : List (List Posting) = map g.C.DocCursor.list c.args.cursors.now in
+    let weights : List ℕ = c.args.weights.now in
+    let held : List (ℕ × ℕ) = c.loop-first.top.held in
+    let next = next-doc g.C.DocCursor.list g.C.DocCursor.place g.met.C.DocCursor.well_formed c.loop-first.cursors c.loop-first.invariant.low c.in-Some.first c.loop-first.invariant.stand (sym c.least_doc.ensures ∙ c.in-Some.is) in
+    let skipped : in_any low lists ≡ in_any first lists = subst (λ (ls : List (List Posting)). in_any low ls ≡ in_any first ls) same next.skipped in
+    let scored : AreScored lists weights first c.add_lists.new.scores = subst (λ (ls : List (List Posting)). AreScored ls weights first c.add_lists.new.scores) same c.add_lists.ensures.scores in
+    let k = c.loop-first.invariant.k in
+    let before : IsBest c.args.k lists weights (in_any first lists) held = subst (λ (docs : List ℕ). IsBest c.args.k lists weights docs held) skipped c.loop-first.invariant.best in
+    let more = c.offer_scored.ensures.best lists weights scored (subst (λ (n : ℕ). IsBest n lists weights (in_any first lists) held) (sym k) before) in
+    let some = c.loop-first.invariant.some in
+    let cleared = c.clear_scores.ensures.count in
+    let count = c.add_lists.ensures.count in
     record {
-      low = doc + 1;
-      lists = c.pass.ensures.lists ∙ c.loop-doc.invariant.lists;
-      stand = c.pass.ensures.stand;
-      k = c.offer.ensures.k ∙ c.loop-doc.invariant.k;
-      n = c.offer.ensures.n ∙ c.loop-doc.invariant.n;
-      best = subst (λ (docs : List ℕ). IsBest c.args.k lists c.args.weights.now docs new) (sym more) (best-more c.args.k lists c.args.weights.now (in_any low lists) held new doc c.loop-doc.invariant.best (any-below low doc lists next.low_first) first);
-      bound = still-below doc c.score_at.result held new c.offer.ensures.first.of_them c.score_at.ensures.bound c.loop-doc.invariant.bound;
+      low = first + length c.add_lists.new.scores;
+      lists = c.add_lists.ensures.lists ∙ same;
+      stand = subst (λ (n : ℕ). All (λ x. StandsFrom (first + n) (g.C.DocCursor.list x) (g.C.DocCursor.place x)) c.add_lists.new.cursors) (sym count) c.add_lists.ensures.stand;
+      some = omega arith;
+      k = c.offer_scored.ensures.k ∙ k;
+      n = c.offer_scored.ensures.n ∙ c.loop-first.invariant.n;
+      best = subst (λ (n : ℕ). IsBest n lists weights (in_any (first + length c.add_lists.new.scores) lists) c.offer_scored.new.top.held) k more;
+      bound = c.offer_scored.ensures.bound c.add_lists.ensures.bound c.loop-first.invariant.bound;
     }
 
 pub returns-clause-bound : goal.returns-clause-bound
 returns-clause-bound g c =
-    IfOk-weaker c.into_list.result (λ r. r.items ≡ c.loop-doc.top.held) (λ r. All (λ e. e.1 < 2 ^ 58) r.items) (λ r is. subst (All (λ (e : ℕ × ℕ). e.1 < 2 ^ 58)) (sym is) c.loop-doc.invariant.bound) c.into_list.ensures
+    IfOk-weaker c.into_list.result (λ r. r.items ≡ c.loop-first.top.held) (λ r. All (λ e. e.1 < 2 ^ 58) r.items) (λ r is. subst (All (λ (e : ℕ × ℕ). e.1 < 2 ^ 58)) (sym is) c.loop-first.invariant.bound) c.into_list.ensures
 
 pub returns-clause-first : goal.returns-clause-first
 returns-clause-first g c =
-    let same = c.loop-doc.invariant.lists in
-    let low : ℕ = c.loop-doc.invariant.low in
+    let same = c.loop-first.invariant.lists in
+    let low : ℕ = c.loop-first.invariant.low in
     let lists : List (List Posting) = map g.C.DocCursor.list c.args.cursors.now in
     let all : in_any low lists ≡ in_any c.args.n lists = ap (in_any low) (sym same)
-    ∙ no-next-doc g.C.DocCursor.list g.C.DocCursor.place g.met.C.DocCursor.well_formed c.loop-doc.cursors low c.args.n c.loop-doc.invariant.stand (sym c.least_doc.ensures ∙ c.in_default.is) (subst (AreBelow c.args.n) (sym same) c.requires.in_range)
+    ∙ no-next-doc g.C.DocCursor.list g.C.DocCursor.place g.met.C.DocCursor.well_formed c.loop-first.cursors low c.args.n c.loop-first.invariant.stand (sym c.least_doc.ensures ∙ c.in_default.is) (subst (AreBelow c.args.n) (sym same) c.requires.in_range)
     ∙ ap (in_any c.args.n) same in
-    let best = subst (λ (docs : List ℕ). IsBest c.args.k lists c.args.weights.now docs c.loop-doc.top.held) all c.loop-doc.invariant.best in
-    IfOk-weaker c.into_list.result (λ r. r.items ≡ c.loop-doc.top.held) (λ r. IsTop c.args.n lists c.args.weights.now c.args.k r.items) (λ r is. subst (IsTop c.args.n lists c.args.weights.now c.args.k) (sym is) (best-top c.args.n lists c.args.weights.now c.args.k c.loop-doc.top.held best)) c.into_list.ensures
+    let best = subst (λ (docs : List ℕ). IsBest c.args.k lists c.args.weights.now docs c.loop-first.top.held) all c.loop-first.invariant.best in
+    IfOk-weaker c.into_list.result (λ r. r.items ≡ c.loop-first.top.held) (λ r. IsTop c.args.n lists c.args.weights.now c.args.k r.items) (λ r is. subst (IsTop c.args.n lists c.args.weights.now c.args.k) (sym is) (best-top c.args.n lists c.args.weights.now c.args.k c.loop-first.top.held best)) c.into_list.ensures

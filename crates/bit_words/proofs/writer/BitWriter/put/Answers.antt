@@ -1,5 +1,5 @@
-use Rattle.std.proofs.Common.{arith, ap, ◌∙◌, ◌++◌, length}
-use Rattle.bit_words.specs.Bits.{field_bits}
+use Rattle.std.proofs.Common.{arith, ap, ◌∙◌, ◌++◌, ◌≤◌, length, rules, sym, subst}
+use Rattle.bit_words.specs.Bits.{field_bits, padding}
 use Rattle.bit_words.proofs.Writing.{length-held, held-put, view-put}
 use Rattle.bit_words.proofs.writer.BitWriter.put.Goals as goal
 
@@ -14,3 +14,9 @@ pub returns-clause-ok : goal.returns-clause-ok
 returns-clause-ok c =
     view-put c.self.inside.words.items c.append.new.words.items c.self.inside.len c.args.width c.args.value c.self.invariant c.requires.fits c.in_ok-append.ensures.count c.in_ok-append.ensures.value
     ∙ ap (λ bits. bits ++ field_bits c.args.width c.args.value) c.self.view_is
+
+pub returns-in_err-append-clause-fitting : goal.returns-in_err-append-clause-fitting
+returns-in_err-append-clause-fitting c = λ fit.
+    let same = length-held c.self.inside.words.items c.self.inside.len c.self.invariant in
+    let ok = c.in_err-append.ensures.fitting (subst (λ n. c.args.width ≤ padding n) (sym (ap length c.self.view_is) ∙ same) fit) in
+    search rules

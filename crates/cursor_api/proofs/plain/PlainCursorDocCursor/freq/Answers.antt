@@ -8,8 +8,8 @@ use Rattle.cursor_api.proofs.plain.PlainCursorDocCursor.freq.Goals as goal
 pub bounds-self-self : goal.bounds-self-self
 bounds-self-self c = let s = c.args.self.now in omega (arith, c.requires, s.same_length, postings-length s.docs.now s.freqs.now s.same_length)
 
-pub returns : goal.returns
-returns c =
+pub returns-clause-value : goal.returns-clause-value
+returns-clause-value c =
     let s = c.args.self.now in
     let within : s.at < length s.freqs.now = omega (arith, c.requires, s.same_length, postings-length s.docs.now s.freqs.now s.same_length) in
     ap (λ xs. slice_get xs s.at) (freqs-of_postings s.docs.now s.freqs.now s.same_length) ∙ slice_get-get_or s.freqs.now s.at 0 within

@@ -2,13 +2,14 @@ use Rattle.std.proofs.Common.{◌≡◌, ◌∙◌, sym, ap, subst, rules, arith
 use Rattle.collection_model.specs.FormatNumbers.{most_terms, part_charge}
 use Rattle.collection_model.specs.Sequences.{doc_sequence, freq_sequence}
 use Rattle.two_level.specs.SequenceWords.{sequence_words}
-use Rattle.collection_model.specs.Collection.{postings_of, IsPostingList}
+use Rattle.collection_model.specs.Collection.{postings_of, freqs_of, IsPostingList}
 use Rattle.part_cost.specs.Formats.{numbers_of}
 use Rattle.part_cost.specs.Span.{cost_of_part}
 use Rattle.part_cost.specs.Partition.{IsPartition, partition_cost}
 use Rattle.index_file.specs.FileWords.{CutList, doc_words, freq_words, list_entry}
 use Rattle.index_file.specs.Builder.{IsNearCut, cut_list, with_list, lists_added}
-use Rattle.index_file.proofs.Added.{postings-are, parts-few, entry-is, KeepsMore, keeps-more}
+use Rattle.postings.proofs.Steps.{sums-length}
+use Rattle.index_file.proofs.Added.{postings-are, list-within, parts-few, entry-is, KeepsMore, keeps-more}
 use Rattle.index_file.proofs.builder.Builder.append.Goals as goal
 
 pub list_entry-entry-requires-clause-postings : goal.list_entry-entry-requires-clause-postings
@@ -37,7 +38,16 @@ write_postings-requires-clause-doc_parts c =
 pub write_postings-requires-clause-freq_parts : goal.write_postings-requires-clause-freq_parts
 write_postings-requires-clause-freq_parts c =
     let are = postings-are (numbers_of c.args.self.now.format) c.args.self.now.documents c.args.docs.now c.args.freqs.now c.requires.same_length c.requires.list in
-    subst (IsPartition (length c.args.freqs.now)) (sym c.ends-2.ensures) (subst (λ m. IsPartition m c.args.freq_cuts.now.ends) (are.count ∙ c.requires.same_length) c.requires.near.freqs.allowed.partition)
+    let count : length c.args.sums.now ≡ length c.args.freqs.now = ap length c.requires.sums ∙ sums-length 0 (freqs_of (postings_of c.args.docs.now c.args.freqs.now)) ∙ ap length are.freqs_are in
+    subst (IsPartition (length c.args.sums.now)) (sym c.ends-2.ensures) (subst (λ m. IsPartition m c.args.freq_cuts.now.ends) (are.count ∙ c.requires.same_length ∙ sym count) c.requires.near.freqs.allowed.partition)
+
+pub write_postings-requires-clause-list : goal.write_postings-requires-clause-list
+write_postings-requires-clause-list c =
+    let s = c.self.inside in
+    let list = postings_of c.args.docs.now c.args.freqs.now in
+    let are = postings-are (numbers_of c.args.self.now.format) c.args.self.now.documents c.args.docs.now c.args.freqs.now c.requires.same_length c.requires.list in
+    let good : IsPostingList (numbers_of s.format) s.documents list = subst (λ b. IsPostingList (numbers_of b.format) b.documents list) (sym c.self.view_is) c.requires.list in
+    (list, list-within (numbers_of s.format) s.documents (numbers_of s.format).most_documents list c.self.invariant.documents good, sym are.docs_are, c.requires.sums)
 
 keeps : (c : goal.Else-is_err) → KeepsMore c.self.inside.format c.self.inside.documents c.self.inside.words.items c.self.inside.directory.items c.write_postings.new.to.items c.extend_from_slice.new.self.items
     (cut_list c.args.docs.now c.args.freqs.now c.args.doc_cuts.now.ends c.args.freq_cuts.now.ends)
@@ -49,7 +59,9 @@ keeps c =
     let total : c.args.doc_cuts.now.total ≡ partition_cost (cost_of_part (part_charge (numbers_of s.format)) (doc_sequence list.list)) c.args.doc_cuts.now.ends =
     subst (λ b. c.args.doc_cuts.now.total ≡ partition_cost (cost_of_part (part_charge (numbers_of b.format)) (doc_sequence list.list)) c.args.doc_cuts.now.ends) (sym c.self.view_is) c.requires.total in
     let room : length s.directory.items / 4 < most_terms = subst (λ b. lists_added b < most_terms) (sym c.self.view_is) c.requires.room in
-    let written : c.write_postings.new.to.items ≡ s.words.items ++ doc_words (numbers_of s.format) list ++ freq_words (numbers_of s.format) list = c.in_ok-write_postings.ensures.ok ∙ (λ t. s.words.items ++ sequence_words (numbers_of s.format) (doc_sequence list.list) (c.ends.ensures t) ++ sequence_words (numbers_of s.format) (freq_sequence list.list) (c.ends-2.ensures t)) in
+    let are = postings-are (numbers_of s.format) s.documents c.args.docs.now c.args.freqs.now c.requires.same_length good in
+    let docs_are : c.args.docs.now ≡ doc_sequence list.list = sym are.docs_are in
+    let written : c.write_postings.new.to.items ≡ s.words.items ++ doc_words (numbers_of s.format) list ++ freq_words (numbers_of s.format) list = c.in_ok-write_postings.ensures.ok ∙ (λ t. s.words.items ++ sequence_words (numbers_of s.format) (docs_are t) (c.ends.ensures t) ++ sequence_words (numbers_of s.format) (c.requires.sums t) (c.ends-2.ensures t)) in
     let place : c.len-first.result ≡ length s.words.items = search rules in
     let entry : c.list_entry-entry.result ≡ list_entry (numbers_of s.format) (length s.words.items) list =
     c.list_entry-entry.ensures ∙ entry-is (numbers_of s.format) (c.formats_have_room.ensures s.format) s.documents _ c.args.doc_cuts.now.total c.args.docs.now c.args.freqs.now c.args.doc_cuts.now.ends c.args.freq_cuts.now.ends (c.sequence_takes_its_cost.ensures s.format) c.requires.same_length c.self.invariant.documents good near total ∙ ap (λ p. list_entry (numbers_of s.format) p list) place in

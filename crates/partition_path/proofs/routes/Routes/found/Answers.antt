@@ -6,8 +6,8 @@ use Rattle.part_cost.specs.Formats.{numbers_of}
 use Rattle.cost_windows.specs.WindowBounds.{window_bounds}
 use Rattle.cost_windows.specs.Windows.{Windows, new_windows}
 use Rattle.partition_path.specs.Tables.{Tables, new_tables, unreached}
-use Rattle.partition_path.proofs.Extending.{room_within, room_for_each}
-use Rattle.partition_path.proofs.Search.{Searched, searched-none, searched-past, searched-more, few-costs, last-reached, last-near}
+use Rattle.partition_path.proofs.Extending.{room_within, room_for_each, kept-shared}
+use Rattle.partition_path.proofs.Search.{Searched, searched-none, searched-past, searched-more, few-costs, all-routes, last-reached, last-near}
 use Rattle.partition_path.proofs.routes.Routes.found.Goals.{then-is_open, else-is_open}
 use Rattle.partition_path.proofs.routes.Routes.found.Goals as goal
 
@@ -26,6 +26,9 @@ loop-i-init g c =
 
 pub extend-rival-requires-clause-within : goal.extend-rival-requires-clause-within
 extend-rival-requires-clause-within g c = λ k d l. omega (arith, c.advance.ensures.costs.within k d l, c.loop-i.invariant.routes.places)
+
+pub extend-rival-requires-clause-shared : goal.extend-rival-requires-clause-shared
+extend-rival-requires-clause-shared g c = kept-shared (g.C.SpanCost.cost_of c.args.cost.now) (g.C.SpanCost.count c.args.cost.now) c.advance.new.self c.advance.ensures.costs
 
 pub extend-rival-requires-clause-room : goal.extend-rival-requires-clause-room
 extend-rival-requires-clause-room g c =
@@ -67,6 +70,11 @@ loop-i-preserved g c =
           let past = searched-past limit cost bounds n i before c.loop-i.steps c.loop-i.windows c.loop-i.routes c.loop-i.rival s within (w.if-is_open.ensures.passed refl) in
           rw (w.steps-is, w.windows-is, w.routes-is, w.rival-is) past
     ]
+
+pub returns-clause-routes : goal.returns-clause-routes
+returns-clause-routes g c =
+    let format = g.C.SpanCost.format_of c.args.cost.now in
+    all-routes (numbers_of format).limit (g.C.SpanCost.cost_of c.args.cost.now) (window_bounds format) (g.C.SpanCost.count c.args.cost.now) c.loop-i.i c.args.steps.now c.loop-i.steps c.loop-i.windows c.loop-i.routes c.loop-i.rival c.loop-i.invariant (omega (arith, c.loop-i-test.false, c.len-count.ensures, c.loop-i.auto.i-end))
 
 pub returns-clause-reached : goal.returns-clause-reached
 returns-clause-reached g c =

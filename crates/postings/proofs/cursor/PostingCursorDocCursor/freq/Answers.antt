@@ -6,71 +6,87 @@ use Rattle.collection_model.specs.Sequences.{postings_in, steps_from}
 use Rattle.part_cost.specs.Span.{past}
 use Rattle.postings.specs.declared.cursor.PostingCursor.{PostingCursor}
 use Rattle.postings.proofs.Steps.{IsStepAt, step-read, steps-length}
-use Rattle.postings.proofs.Lists.{within-sums, in-freqs}
+use Rattle.postings.proofs.Lists.{within-sums, in-length, in-freqs}
 use Rattle.postings.proofs.cursor.PostingCursorDocCursor.freq.Goals as goal
 
 -- the cursor of the documents does not stand at the end
 abbrev HasPosting : PostingCursor → Type 0
-HasPosting s = s.docs.place < length (postings_in s.docs.sequence.values s.sums.values)
+HasPosting s = s.docs.place < length (postings_in s.docs.sequence.values s.sums.sequence.values)
 
-within : (s : PostingCursor) → HasPosting s → s.docs.place < length s.sums.values
-within s some = within-sums s.docs.sequence.values s.sums.values s.docs.place s.same_length some
+within : (s : PostingCursor) → HasPosting s → s.docs.place < length s.sums.sequence.values
+within s some = within-sums s.docs.sequence.values s.sums.sequence.values s.docs.place s.same_length some
 
-not_zero : (s : PostingCursor) → All (λ f. 1 ≤ f) (steps_from 0 s.sums.values)
-not_zero s = subst (All (λ f. 1 ≤ f)) (in-freqs s.docs.sequence.values s.sums.values s.same_length) s.cursor.well_formed.not_zero
+not_zero : (s : PostingCursor) → All (λ f. 1 ≤ f) (steps_from 0 s.sums.sequence.values)
+not_zero s = subst (All (λ f. 1 ≤ f)) (in-freqs s.docs.sequence.values s.sums.sequence.values s.same_length) s.cursor.well_formed.not_zero
 
-fit : (s : PostingCursor) → All (λ f. f < 2 ^ 32) (steps_from 0 s.sums.values)
-fit s = subst (All (λ f. f < 2 ^ 32)) (in-freqs s.docs.sequence.values s.sums.values s.same_length) s.cursor.well_formed.fit
+fit : (s : PostingCursor) → All (λ f. f < 2 ^ 32) (steps_from 0 s.sums.sequence.values)
+fit s = subst (All (λ f. f < 2 ^ 32)) (in-freqs s.docs.sequence.values s.sums.sequence.values s.same_length) s.cursor.well_formed.fit
 
--- the frequency at the place of the documents is the step there
-freq-at : (s : PostingCursor) (f : ℕ) → HasPosting s → f ≡ get_or (steps_from 0 s.sums.values) s.docs.place 0
-    → slice_get (freqs_of (postings_in s.docs.sequence.values s.sums.values)) s.docs.place ≡ Some f
+-- the frequency at a place of the list is the step there
+freq-at : (s : PostingCursor) (f : ℕ) → HasPosting s → f ≡ get_or (steps_from 0 s.sums.sequence.values) s.docs.place 0
+    → slice_get (freqs_of (postings_in s.docs.sequence.values s.sums.sequence.values)) s.docs.place ≡ Some f
 freq-at s f some read =
-    ap (λ xs. slice_get xs s.docs.place) (in-freqs s.docs.sequence.values s.sums.values s.same_length)
-    ∙ slice_get-get_or (steps_from 0 s.sums.values) s.docs.place 0 (omega (arith, within s some, steps-length 0 s.sums.values)) ∙ ap Some (sym read)
+    ap (λ xs. slice_get xs s.docs.place) (in-freqs s.docs.sequence.values s.sums.sequence.values s.same_length)
+    ∙ slice_get-get_or (steps_from 0 s.sums.sequence.values) s.docs.place 0 (omega (arith, within s some, steps-length 0 s.sums.sequence.values)) ∙ ap Some (sym read)
 
--- what is read where the two cursors stand at one place
-read-in_step : (s : PostingCursor) (value : ℕ) → HasPosting s → s.at.place ≡ s.docs.place → value ≡ get_or s.at.sequence.values s.at.place 0
-    → IsStepAt s.sums.values s.docs.place value s.past
+-- what is read where the sums stand at the place of the documents
+read-in_step : (s : PostingCursor) (value : ℕ) → HasPosting s → s.sums.place ≡ s.docs.place → value ≡ get_or s.sums.sequence.values s.sums.place 0
+    → IsStepAt s.sums.sequence.values s.docs.place value s.past
 read-in_step s value some here read =
-    step-read s.sums.values s.docs.place value s.past (within s some) (not_zero s) (fit s)
-    (read ∙ (λ i. get_or (s.same_sums i).values (here i) 0)) (s.before ∙ ap (past s.sums.values) here)
+    step-read s.sums.sequence.values s.docs.place value s.past (within s some) (not_zero s) (fit s)
+    (read ∙ ap (λ k. get_or s.sums.sequence.values k 0) here) (s.before ∙ ap (past s.sums.sequence.values) here)
+
+-- a cursor that caught up has its posting, and its sums stand there
+record CaughtUp (s : PostingCursor) : Type 0 where
+  pub some : HasPosting s
+  pub here : s.sums.place ≡ s.docs.place
+
+caught-up : (before s : PostingCursor) → HasPosting before → s.docs ≡ before.docs → s.sums.place ≡ before.docs.place → CaughtUp s
+caught-up before s some docs place =
+    let same_place : s.docs.place ≡ before.docs.place = ap (λ d. d.place) docs in
+    let count : length s.docs.sequence.values ≡ length before.docs.sequence.values = ap (λ d. length d.sequence.values) docs in
+    record {
+      some = omega (arith, some, same_place, count, in-length before.docs.sequence.values before.sums.sequence.values before.same_length, in-length s.docs.sequence.values s.sums.sequence.values s.same_length);
+      here = place ∙ sym same_place;
+    }
+
+pub catch_up-requires : goal.catch_up-requires
+catch_up-requires c =
+    let s = c.args.self.now in
+    record { within = omega (arith, c.requires, in-length s.docs.sequence.values s.sums.sequence.values s.same_length) }
 
 pub value-requires : goal.value-requires
 value-requires c =
-    let s = c.args.self.now in
-    record { within = omega (arith, c.place.ensures, c.if-place.true, c.place-place.ensures, within s c.requires, ap (λ q. length q.values) s.same_sums) }
+    let s = c.catch_up.new.self in
+    let up = caught-up c.args.self.now s c.requires c.catch_up.ensures.docs c.catch_up.ensures.place in
+    record { within = omega (arith, up.here, within s up.some) }
 
 pub overflow_add-result : goal.overflow_add-result
 overflow_add-result c =
-    let is = read-in_step c.args.self.now c.value.result c.requires (sym c.place.ensures ∙ c.if-place.true ∙ c.place-place.ensures) c.value.ensures in
-    omega (arith, is.few, c.place-place.ensures)
+    let s = c.catch_up.new.self in
+    let up = caught-up c.args.self.now s c.requires c.catch_up.ensures.docs c.catch_up.ensures.place in
+    let is = read-in_step s c.value.result up.some up.here c.value.ensures in
+    omega (arith, is.few, c.catch_up.ensures.few, c.catch_up.ensures.place, up.here)
 
 pub overflow_sub-result : goal.overflow_sub-result
 overflow_sub-result c =
-    let is = read-in_step c.args.self.now c.value.result c.requires (sym c.place.ensures ∙ c.if-place.true ∙ c.place-place.ensures) c.value.ensures in is.forward
+    let s = c.catch_up.new.self in
+    let up = caught-up c.args.self.now s c.requires c.catch_up.ensures.docs c.catch_up.ensures.place in
+    let is = read-in_step s c.value.result up.some up.here c.value.ensures in is.forward
 
 pub overflow_cast-result : goal.overflow_cast-result
 overflow_cast-result c =
-    let is = read-in_step c.args.self.now c.value.result c.requires (sym c.place.ensures ∙ c.if-place.true ∙ c.place-place.ensures) c.value.ensures in
+    let s = c.catch_up.new.self in
+    let up = caught-up c.args.self.now s c.requires c.catch_up.ensures.docs c.catch_up.ensures.place in
+    let is = read-in_step s c.value.result up.some up.here c.value.ensures in
     omega (arith, is.fits)
 
-pub returns-then-place : goal.returns-then-place
-returns-then-place c =
-    let s = c.args.self.now in
-    let is = read-in_step s c.value.result c.requires (sym c.place.ensures ∙ c.if-place.true ∙ c.place-place.ensures) c.value.ensures in
-    freq-at s (c.value.result + 1 - s.past) c.requires (sym is.is)
-
-pub step_at-requires-clause-within : goal.step_at-requires-clause-within
-step_at-requires-clause-within c = omega (arith, c.place-place.ensures, within c.args.self.now c.requires)
-
-pub step_at-requires-clause-not_zero : goal.step_at-requires-clause-not_zero
-step_at-requires-clause-not_zero c = not_zero c.args.self.now
-
-pub step_at-requires-clause-fit : goal.step_at-requires-clause-fit
-step_at-requires-clause-fit c = fit c.args.self.now
-
-pub returns-else-place : goal.returns-else-place
-returns-else-place c =
-    let s = c.args.self.now in
-    freq-at s c.step_at.result c.requires (c.step_at.ensures ∙ ap (λ k. get_or (steps_from 0 s.sums.values) k 0) c.place-place.ensures)
+pub returns-clause-value : goal.returns-clause-value
+returns-clause-value c =
+    let s = c.catch_up.new.self in
+    let up = caught-up c.args.self.now s c.requires c.catch_up.ensures.docs c.catch_up.ensures.place in
+    let is = read-in_step s c.value.result up.some up.here c.value.ensures in
+    let before = c.args.self.now in
+    subst (λ docs. slice_get (freqs_of (postings_in docs.sequence.values before.sums.sequence.values)) docs.place ≡ Some (c.value.result + 1 - s.past)) c.catch_up.ensures.docs
+    (subst (λ sums. slice_get (freqs_of (postings_in s.docs.sequence.values sums.values)) s.docs.place ≡ Some (c.value.result + 1 - s.past)) c.catch_up.ensures.sums
+    (freq-at s (c.value.result + 1 - s.past) up.some (sym is.is)))

@@ -7,22 +7,22 @@ use Rattle.two_level.proofs.Parts.{end-before-next}
 use Rattle.two_level.proofs.Places.{found-first, later-place, below-last}
 use Rattle.two_level.proofs.cursor.SeqCursor.next_geq.Goals as goal
 
-pub returns-then-x-part-clause-place : goal.returns-then-x-part-clause-place
-returns-then-x-part-clause-place c =
+pub returns-then-x-held-2-clause-place : goal.returns-then-x-held-2-clause-place
+returns-then-x-held-2-clause-place c =
     let s = c.self.inside in
     let xs : List ℕ = (sequence_stated (numbers_of s.format) s.words.now s.parts).values in
     let lies = subst (LiesIn (numbers_of s.format) s.words.now s.parts s.place) c.in-Some.is c.self.invariant.2 in
-    subst (λ p. c.first_at_least-self-inside.result ≡ place_at_least p.sequence.values p.place c.args.x) c.self.view_is
-    (found-first xs s.place c.first_at_least-self-inside.result c.args.x (c.first_at_least-self-inside.ensures.first xs lies.0.values))
+    subst (λ p. c.first_at_least.result.0 ≡ place_at_least p.sequence.values p.place c.args.x) c.self.view_is
+    (found-first xs s.place c.first_at_least.result.0 c.args.x (c.first_at_least.ensures.first xs lies.0.values))
 
-pub returns-else-x-part-clause-place : goal.returns-else-x-part-clause-place
-returns-else-x-part-clause-place c =
+pub returns-else-x-held-2-clause-place : goal.returns-else-x-held-2-clause-place
+returns-else-x-held-2-clause-place c =
     let s = c.self.inside in
-    let part = c.in-Some.part in
+    let part = c.in-Some.held.part in
     let v : SequenceView = sequence_stated (numbers_of s.format) s.words.now s.parts in
     let lies = subst (LiesIn (numbers_of s.format) s.words.now s.parts s.place) c.in-Some.is c.self.invariant.2 in
     let d = c.directory_states_its_parts.ensures s.format s.words.now s.parts s.m c.self.invariant.0 in
-    let small : stated_last (numbers_of s.format) s.words.now 0 part.index < c.args.x = omega (arith, lies.0.last, c.if-x-part.false) in
+    let small : stated_last (numbers_of s.format) s.words.now 0 part.index < c.args.x = omega (arith, lies.0.last, c.if-x-held-2.false) in
     let end : end_before (numbers_of s.format) s.words.now 0 (part.index + 1) ≡ stated_end (numbers_of s.format) s.words.now 0 part.index = end-before-next (numbers_of s.format) s.words.now part.index in
     let next : ℕ = end_before (numbers_of s.format) s.words.now 0 (part.index + 1) in
     subst (λ p. c.first_from_part.result.0 ≡ place_at_least p.sequence.values p.place c.args.x) c.self.view_is

@@ -1,0 +1,99 @@
+use Rattle.std.proofs.Common.{◌≡◌, refl, sym, ap, ◌∙◌, subst, ℕ, ◌+◌, ◌<◌, true, List, length, get_or, map, arith}
+use Rattle.std.specs.Prelude.{◌↔◌}
+use Rattle.std.specs.List.{list_any}
+use Rattle.std.proofs.lemmas.List.{get_or_default, length-map}
+use Rattle.std.proofs.lemmas.List.Elements.{AllWithin-more_set}
+use Rattle.std.proofs.lemmas.List.Sums.{sum_by_more, sum_by-take-le}
+use Rattle.collection_model.specs.Collection.{Posting}
+use Rattle.scan_plans.specs.Matches.{has_doc, score}
+use Rattle.scan_plans.specs.Scan.{StandsFrom}
+use Rattle.scan_plans.proofs.Found.{score-found}
+use Rattle.scan_plans.proofs.Steps.{lists-set, rest-set, score-whole, all-rising}
+use Rattle.scan_plans.proofs.Windows.{scores-step}
+use Rattle.scan_plans.proofs.window.add_lists.Goals as goal
+
+pub loop-i-init : goal.loop-i-init
+loop-i-init g c = record {
+  lists = refl;
+  done = λ k d from within. absurd (omega arith);
+  rest = λ k d from within. c.requires.stand k d within;
+  count = refl;
+  scored = λ k within. c.requires.clear k 0 within;
+  bound = λ k within. let none = c.requires.clear k 0 within in omega arith;
+}
+
+pub add_list-requires-clause-stand : goal.add_list-requires-clause-stand
+add_list-requires-clause-stand g c = c.loop-i.invariant.rest c.loop-i.i c.index-cursors-i.result (omega arith) (omega arith)
+
+pub add_list-requires-clause-room : goal.add_list-requires-clause-room
+add_list-requires-clause-room g c = λ k d within.
+    let so_far = c.loop-i.invariant in
+    let i : ℕ = c.loop-i.i in
+    let weights : List ℕ = c.args.weights.now in
+    let count = so_far.count in
+    let read = get_or_default c.loop-i.scores k d 0 within in
+    let bound = so_far.bound k (omega arith) in
+    let mapped = ap length so_far.lists in
+    let now-mapped = length-map c.loop-i.cursors g.C.DocCursor.list in
+    let old-mapped = length-map c.args.cursors.now g.C.DocCursor.list in
+    let each = c.requires.each in
+    let heavier = sum_by_more (λ w. w) weights i 0 (omega arith) in
+    let whole = sum_by-take-le (λ w. w) weights (i + 1) in
+    let light = c.requires.light in
+    omega arith
+
+pub loop-i-preserved : goal.loop-i-preserved
+loop-i-preserved g c =
+    let so_far = c.loop-i.invariant in
+    let cs = c.loop-i.cursors in
+    let i : ℕ = c.loop-i.i in
+    let item = c.index-cursors-i.result in
+    let new = c.add_list.new.cursor in
+    let weights : List ℕ = c.args.weights.now in
+    let mapped = ap length so_far.lists in
+    let now-mapped = length-map cs g.C.DocCursor.list in
+    let old-mapped = length-map c.args.cursors.now g.C.DocCursor.list in
+    let each = c.requires.each in
+    let within : i < length cs = omega arith in
+    let weighed : i < length weights = omega arith in
+    let count = so_far.count in
+    let heavier = sum_by_more (λ w. w) weights i 0 weighed in
+    record {
+      lists = lists-set g.C.DocCursor.list g.C.DocCursor.place cs i new item within c.add_list.ensures.list ∙ so_far.lists;
+      done = AllWithin-more_set cs i new within (λ x. StandsFrom (c.args.first + length c.args.scores.now) (g.C.DocCursor.list x) (g.C.DocCursor.place x)) so_far.done
+          (subst (λ (n : ℕ). StandsFrom (c.args.first + n) (g.C.DocCursor.list new) (g.C.DocCursor.place new)) so_far.count c.add_list.ensures.stand);
+      rest = rest-set g.C.DocCursor.list g.C.DocCursor.place (λ x. StandsFrom c.args.first (g.C.DocCursor.list x) (g.C.DocCursor.place x)) cs i new so_far.rest;
+      count = c.add_list.ensures.count ∙ so_far.count;
+      scored = scores-step g.C.DocCursor.list g.C.DocCursor.place c.args.first i (length c.args.scores.now) cs c.args.cursors.now weights c.loop-i.scores c.add_list.new.scores item so_far.lists within weighed so_far.scored
+          (λ k inside. c.add_list.ensures.scores k (omega arith));
+      bound = λ k inside. let before = so_far.bound k inside in let more = c.add_list.ensures.bound k (omega arith) in omega arith;
+    }
+
+pub returns-clause-stand : goal.returns-clause-stand
+returns-clause-stand g c = λ k d within. c.loop-i.invariant.done k d (omega arith) (let mapped = ap length c.loop-i.invariant.lists in let now-mapped = length-map c.loop-i.cursors g.C.DocCursor.list in let old-mapped = length-map c.args.cursors.now g.C.DocCursor.list in omega arith)
+
+pub returns-clause-scores : goal.returns-clause-scores
+returns-clause-scores g c =
+    let so_far = c.loop-i.invariant in
+    let weights : List ℕ = c.args.weights.now in
+    let lists : List (List Posting) = map g.C.DocCursor.list c.args.cursors.now in
+    let count = so_far.count in
+    let old-mapped = length-map c.args.cursors.now g.C.DocCursor.list in
+    let each = c.requires.each in
+    let scored : (k : ℕ) → k < length c.loop-i.scores → get_or c.loop-i.scores k 0 ≡ score lists weights (c.args.first + k) = λ k within.
+    score-whole g.C.DocCursor.list g.C.DocCursor.place (c.args.first + k) c.args.cursors.now weights c.loop-i.i (get_or c.loop-i.scores k 0) (omega arith) (so_far.scored k (omega arith)) in
+    record {
+      scored = scored;
+      found = λ k within. subst (λ (s : ℕ). (0 < s) ↔ (list_any (has_doc (c.args.first + k)) lists ≡ true)) (sym (scored k within))
+          (score-found lists weights (c.args.first + k) (omega arith) c.requires.some (all-rising g.C.DocCursor.list g.C.DocCursor.place g.met.C.DocCursor.well_formed c.args.cursors.now));
+    }
+
+pub returns-clause-bound : goal.returns-clause-bound
+returns-clause-bound g c = λ k d within.
+    let so_far = c.loop-i.invariant in
+    let count = so_far.count in
+    let read = get_or_default c.loop-i.scores k d 0 within in
+    let bound = so_far.bound k (omega arith) in
+    let whole = sum_by-take-le (λ w. w) c.args.weights.now c.loop-i.i in
+    let light = c.requires.light in
+    omega arith

@@ -1,0 +1,31 @@
+ghost use Rattle.scan_plans.specs.Skips.{TopOfNone, TopAfterOffer, TopAfterSkips, TopIsBelow, HasOnlyBelow};
+ghost use Rattle.scan_plans.specs.Skips.{StandsWhereItIs, StandsOneLater, StandsAtNextGeq};
+ghost use Rattle.scan_plans.specs.Skips.{HasWhereItStands, HasNotWhereItStands, NothingBetween, NothingLeft};
+
+use cursor_api::next_geq_is_first;
+
+/// A top list is made document after document: each is offered in turn, or skipped where it cannot enter.
+pub fn top_list_grows()
+    ensures none { TopOfNone }
+    ensures offered { TopAfterOffer }
+    ensures skipped { TopAfterSkips }
+    ensures below { TopIsBelow }
+    ensures in_range { HasOnlyBelow }
+{}
+
+/// Where a cursor stands that has passed no document from a given one on.
+pub fn cursors_stand()
+    ensures here { StandsWhereItIs }
+    ensures one_later { StandsOneLater }
+    ensures next_geq { StandsAtNextGeq }
+{
+    next_geq_is_first();
+}
+
+/// What a cursor that stands from a document on tells of its list.
+pub fn cursors_tell()
+    ensures at { HasWhereItStands }
+    ensures not_at { HasNotWhereItStands }
+    ensures between { NothingBetween }
+    ensures left { NothingLeft }
+{}
