@@ -1,0 +1,7 @@
+mod Scores
+mod Cursors
+mod Moves
+mod Tops
+mod Rows
+mod Orders
+mod Pivots

@@ -1,0 +1,72 @@
+-- The terms of a query, and what they add to scores.
+use Rattle.std.specs.Prelude.{◌≡◌, ℕ, ◌+◌, ◌*◌, ◌<◌, ◌≤◌, ◌^◌, ◌⊎◌, nat_lt, List, [], map, length, drop, Option, Some, None, Bool, true, false, slice_index, slice_index_or, IfSome}
+use Rattle.std.specs.List.{All, sum_by, list_any, range_with_len}
+use Rattle.std.specs.List.Sorted.{IsPermutation}
+use Rattle.collection_model.specs.Collection.{Posting, greatest_freq}
+use Rattle.scan_plans.specs.Matches.{has_doc, freq_of_doc, score}
+use Rattle.scan_plans.specs.IsTop.{IsTop}
+use Rattle.topk_pruning.specs.declared.term.Term.{Term}
+
+-- the term of a list: its place among the lists, its weight, and the most that it adds to a score
+abbrev pub term_of : List (List Posting) → List ℕ → ℕ → Term
+term_of lists weights i = record { list = i; weight = slice_index weights i; bound = slice_index weights i * greatest_freq (slice_index_or lists i []) }
+
+-- a term for each of some lists
+abbrev pub terms_of : List (List Posting) → List ℕ → List Term
+terms_of lists weights = map (term_of lists weights) (range_with_len 0 (length lists))
+
+-- the list of a term
+abbrev pub list_of : List (List Posting) → Term → List Posting
+list_of lists t = slice_index_or lists t.list []
+
+-- what a term adds to the score of a document
+abbrev pub share : List (List Posting) → ℕ → Term → ℕ
+share lists d t = t.weight * freq_of_doc d (list_of lists t)
+
+-- the score of a document in the lists of some terms
+abbrev pub score_in : List (List Posting) → ℕ → List Term → ℕ
+score_in lists d terms = sum_by (share lists d) terms
+
+-- whether the list of one of some terms has a document
+abbrev pub in_lists : List (List Posting) → ℕ → List Term → Bool
+in_lists lists d terms = list_any (λ t. has_doc d (list_of lists t)) terms
+
+-- the bounds of some terms together
+abbrev pub bounds : List Term → ℕ
+bounds terms = sum_by (λ t. t.bound) terms
+
+-- whether a score beats the least score held; any does while there is none
+abbrev pub beats : Option ℕ → ℕ → Bool
+beats None score = true
+beats (Some least) score = nat_lt least score
+
+-- terms of some of the lists, each with the bound of its list
+pub record AreTerms (lists : List (List Posting)) (terms : List Term) : Type 0 where
+  pub within : All (λ t. t.list < length lists) terms
+  pub bounded : All (λ t. t.bound ≡ t.weight * greatest_freq (list_of lists t)) terms
+  pub light : bounds terms < 2 ^ 58
+
+-- the terms of a query, in any order
+pub record AreAllTerms (lists : List (List Posting)) (weights : List ℕ) (terms : List Term) : Type 0 where
+  pub each : length weights ≡ length lists
+  pub all : IsPermutation (terms_of lists weights) terms
+
+-- the first document from a number on that the list of one of some terms has, None where there is none
+pub record IsFirstDoc (lists : List (List Posting)) (terms : List Term) (from : ℕ) (found : Option ℕ) : Type 0 where
+  pub none_before : (d : ℕ) → from ≤ d → IfSome found (λ doc. d < doc) → in_lists lists d terms ≡ false
+  pub one_has_it : IfSome found (λ doc. (from ≤ doc) × (in_lists lists doc terms ≡ true))
+
+-- so many first terms are essential: there are no others, or k are held and the others' bounds together beat none of their scores
+pub record AreSpared (k : ℕ) (held : List (ℕ × ℕ)) (terms : List Term) (essential : ℕ) : Type 0 where
+  pub within : essential ≤ length terms
+  pub spared : (essential ≡ length terms) ⊎ ((length held ≡ k) × All (λ e. bounds (drop essential terms) ≤ e.1) held)
+
+-- the terms after a number of first ones do not beat the least score held, and with one more they would
+pub record IsEssential (terms : List Term) (threshold : Option ℕ) (count : ℕ) : Type 0 where
+  pub within : count ≤ length terms
+  pub spared : (count ≡ length terms) ⊎ (beats threshold (bounds (drop count terms)) ≡ false)
+  pub needed : (i : ℕ) → i < count → beats threshold (bounds (drop i terms)) ≡ true
+
+-- what is held after a document is the top list up to it, where what was held is the top list of those before it
+abbrev pub Follows : List (List Posting) → List Term → ℕ → ℕ → List (ℕ × ℕ) → List (ℕ × ℕ) → Type 0
+Follows lists terms k doc held new = (weights : List ℕ) → AreAllTerms lists weights terms → in_lists lists doc terms ≡ true → IsTop doc lists weights k held → IsTop (doc + 1) lists weights k new

@@ -1,0 +1,58 @@
+use super::*;
+use cursor_api::PlainCursor;
+
+// Five documents; a list has the documents 1 and 4, another 1, 2 and 4.
+#[test]
+fn two_lists(rt: HostRuntime) {
+    let starts = [
+        PlainCursor::new(&[1, 4], &[2, 3]),
+        PlainCursor::new(&[1, 2, 4], &[1, 3, 1]),
+    ];
+    let mut cursors = starts;
+    let top = top_maxscore(rt.alloc(), &mut cursors, &[1, 1], 2, 5).expect(&rt, "memory");
+    assert_eq!(rt; top.as_slice(), [(4, 4), (1, 3)].as_slice());
+    let mut cursors = starts;
+    let top = top_wand(rt.alloc(), &mut cursors, &[1, 1], 2, 5).expect(&rt, "memory");
+    assert_eq!(rt; top.as_slice(), [(4, 4), (1, 3)].as_slice());
+    for (weights, k, wanted) in [
+        ([2, 1], 3, [(4, 7), (1, 5), (2, 3)].as_slice()),
+        ([1, 2], 2, [(2, 6), (4, 5)].as_slice()),
+        ([65_535, 1], 1, [(4, 196_606)].as_slice()),
+        ([1, 1], 9, [(4, 4), (1, 3), (2, 3)].as_slice()),
+        ([1, 1], 0, [].as_slice()),
+    ] {
+        let mut cursors = starts;
+        let top = top_maxscore(rt.alloc(), &mut cursors, &weights, k, 5).expect(&rt, "memory");
+        assert_eq!(rt; top.as_slice(), wanted);
+        let mut cursors = starts;
+        let top = top_wand(rt.alloc(), &mut cursors, &weights, k, 5).expect(&rt, "memory");
+        assert_eq!(rt; top.as_slice(), wanted);
+    }
+}
+
+// The candidates of one list lie between those of the other.
+#[test]
+fn documents_of_one_list_each(rt: HostRuntime) {
+    let starts = [
+        PlainCursor::new(&[0, 5], &[1, 1]),
+        PlainCursor::new(&[3], &[1]),
+    ];
+    let mut cursors = starts;
+    let top = top_maxscore(rt.alloc(), &mut cursors, &[1, 1], 3, 6).expect(&rt, "memory");
+    assert_eq!(rt; top.as_slice(), [(0, 1), (3, 1), (5, 1)].as_slice());
+    let mut cursors = starts;
+    let top = top_wand(rt.alloc(), &mut cursors, &[1, 1], 3, 6).expect(&rt, "memory");
+    assert_eq!(rt; top.as_slice(), [(0, 1), (3, 1), (5, 1)].as_slice());
+}
+
+// A `k` above the number of documents takes no room for more than these.
+#[test]
+fn one_list(rt: HostRuntime) {
+    let starts = [PlainCursor::new(&[0, 2], &[2, 10])];
+    let mut cursors = starts;
+    let top = top_maxscore(rt.alloc(), &mut cursors, &[1], 4_294_967_295, 3).expect(&rt, "memory");
+    assert_eq!(rt; top.as_slice(), [(2, 10), (0, 2)].as_slice());
+    let mut cursors = starts;
+    let top = top_wand(rt.alloc(), &mut cursors, &[1], 4_294_967_295, 3).expect(&rt, "memory");
+    assert_eq!(rt; top.as_slice(), [(2, 10), (0, 2)].as_slice());
+}
