@@ -23,7 +23,7 @@ use Rattle.command_steps.specs.AnswersLines.{AnswersLines}
 -- ---- replies
 
 -- the replies to some lines and then to more
-replies-append : (c : Collection) (lines more : List (List ℕ)) (text next : List ℕ) →
+pub replies-append : (c : Collection) (lines more : List (List ℕ)) (text next : List ℕ) →
     AreReplies c lines text → AreReplies c more next → AreReplies c (lines ++ more) (text ++ next)
 replies-append c [] more text next r s = let P : List ℕ → Type 0 = λ t. AreReplies c more (t ++ next) in subst P (sym r) s
 replies-append c (line ∷ lines) more text next (first, rest, is, are, e) s =
@@ -167,8 +167,8 @@ answered-cut c m line old new r far h = record {
   refusals = h.refusals;
 }
 
--- a reply that is written as a piece
-one-reply : (c : Collection) (line text : List ℕ) → IsReply c line text → AreReplies c (line ∷ []) text
+-- the reply to one line
+pub one-reply : (c : Collection) (line text : List ℕ) → IsReply c line text → AreReplies c (line ∷ []) text
 one-reply c line text is = (text, [], is, refl, sym (append-nil text))
 
 pub answered-written : (c : Collection) (line text : List ℕ) (old new : SinkState) (r : Result (Unit {0}) IoFail) →

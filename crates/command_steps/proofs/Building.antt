@@ -8,7 +8,7 @@ use Rattle.std.proofs.lemmas.List.{map_push, length_push, length-map, get_or_pus
 use Rattle.std.proofs.lemmas.List.Sums.{sum_by_push}
 use Rattle.std.proofs.lemmas.List.Elements.{All-get_or}
 use Rattle.collection_model.specs.FormatNumbers.{FormatNumbers, most_terms}
-use Rattle.collection_model.specs.Collection.{Posting, Collection, postings_of, IsPostingList}
+use Rattle.collection_model.specs.Collection.{Posting, Collection, WellFormed, postings_of, IsPostingList}
 use Rattle.collection_model.proofs.Lists.{docs_of-length, docs-of_postings}
 use Rattle.part_cost.specs.declared.formats.Format.{Format}
 use Rattle.part_cost.specs.Formats.{numbers_of}
@@ -31,7 +31,7 @@ use Rattle.index_file.specs.Laws.{ListsAreCounted, FilesSpellCollections}
 use Rattle.command_steps.specs.declared.build.BuildError.{BuildError}
 use Rattle.command_steps.specs.declared.build.BuildError.TheVariants.{Broken, Read, TooLarge, NoMemory}
 use Rattle.command_model.specs.Found.{FindsCollection, HasFault}
-use Rattle.command_model.specs.Built.{AreCounted, AreCut}
+use Rattle.command_model.specs.Built.{AreNear, AreCounted, AreCut}
 use Rattle.command_steps.specs.Building.{build_error, finish_error, AreAdded, IsBuilding}
 use Rattle.command_steps.specs.BuildWords.{words_built, BuildsWords}
 
@@ -227,6 +227,46 @@ with-own_parts : (cs : List CutList) → with_parts (map (λ c. c.list) cs) (map
 with-own_parts [] = refl
 with-own_parts (c ∷ cs) = ap (λ rest. c ∷ rest) (with-own_parts cs)
 
+-- the parts in which a collection was cut, and its words
+pub record IsAllAdded (format : Format) (b : Built) (c : Collection) (before after : ℕ) : Type 0 where
+  pub parts : List ListParts
+  pub cuts : List CutList
+  pub near : AreNear (numbers_of format) c parts
+  pub counted : AreCounted format c.lists before after
+  pub stands : StandsFor b cuts
+  pub spells : Spells (numbers_of format) (words_of_file (numbers_of b.format) b.documents cuts c.sizes) c parts
+
+-- where all lists of a collection were added, the words are those of the collection
+pub all-added : (format : Format) → FilesSpellCollections → (b : Built) (c : Collection) (before after : ℕ)
+    → AreAdded format b c.documents c.lists before after → WellFormed (numbers_of format) c → IsAllAdded format b c before after
+all-added format spell b c before after added good =
+    let cuts = added.cuts in
+    let as_lists : length cuts ≡ length c.lists = sym (length-map cuts (λ c. c.list)) ∙ ap length added.lists_are in
+    let words : List ℕ = words_of_file (numbers_of b.format) b.documents cuts c.sizes in
+    let made : Spells (numbers_of b.format) (words_of_file (numbers_of b.format) b.documents cuts c.sizes) (record { documents = b.documents; lists = map (λ c. c.list) cuts; sizes = c.sizes }) (map (λ c. c.parts) cuts) =
+    spell b cuts c.sizes added.stands
+    (subst (λ f. b.documents ≤ (numbers_of f).most_documents) (sym added.format_is) (subst (λ n. n ≤ (numbers_of format).most_documents) (sym added.documents) good.documents))
+    (omega (arith, as_lists, good.terms))
+    (good.size_each ∙ sym added.documents)
+    good.sizes in
+    let same : record { documents = b.documents; lists = map (λ c. c.list) cuts; sizes = c.sizes } ≡ c = λ i. record { documents = added.documents i; lists = added.lists_are i; sizes = c.sizes } in
+    let spells : Spells (numbers_of format) (words_of_file (numbers_of b.format) b.documents cuts c.sizes) c (map (λ c. c.parts) cuts) =
+    subst (λ f. Spells (numbers_of f) words c (map (λ c. c.parts) cuts)) added.format_is
+    (subst (λ d. Spells (numbers_of b.format) words d (map (λ c. c.parts) cuts)) same made) in
+    let near : All (IsNearCut (numbers_of format)) cuts = subst (λ f. All (IsNearCut (numbers_of f)) cuts) added.format_is added.stands.near in
+    record {
+      parts = map (λ c. c.parts) cuts;
+      cuts = cuts;
+      near = record {
+        partitions = spells.partitions;
+        near = subst (λ l. All (IsNearCut (numbers_of format)) (with_parts l (map (λ c. c.parts) cuts))) added.lists_are
+            (subst (All (IsNearCut (numbers_of format))) (sym (with-own_parts cuts)) near);
+      };
+      counted = added.counted;
+      stands = added.stands;
+      spells = spells;
+    }
+
 -- the collection that was read, and the parts in which it was cut
 record IsCutSo (format : Format) (base : List ℕ) (old now : DepotState) (b : Built) (sizes : List ℕ) (before after : ℕ) : Type 0 where
   c : Collection
@@ -241,39 +281,18 @@ all-read : (format : Format) → ReadsInTurn (numbers_of format) → FilesSpellC
     → HasBuilt format base old between r b before after → ReadsSizes r next between now sizes end → end ≡ Ok tt → All (λ s. s < 2 ^ 32) sizes → IsCutSo format base old now b sizes before after
 all-read format turn spell base old between now r next b sizes before after end built reads is fit =
     let at = subst (ReadsSizes r next between now sizes) is reads in
-    let cuts = built.added.cuts in
     let c : Collection = record { documents = next.documents; lists = built.lists; sizes = sizes } in
     let reading = turn.sizes base old between now r next built.lists sizes built.read at fit in
     let good = reading.well_formed in
-    let documents : b.documents ≡ next.documents = built.added.documents ∙ sym at.documents in
-    let as_lists : length cuts ≡ length built.lists = sym (length-map cuts (λ c. c.list)) ∙ ap length built.added.lists_are in
-    let made : Spells (numbers_of b.format) (words_of_file (numbers_of b.format) b.documents cuts sizes) (record { documents = b.documents; lists = map (λ c. c.list) cuts; sizes = sizes }) (map (λ c. c.parts) cuts) =
-    spell b cuts sizes built.added.stands
-    (subst (λ f. b.documents ≤ (numbers_of f).most_documents) (sym built.added.format_is) (subst (λ n. n ≤ (numbers_of format).most_documents) (sym documents) good.documents))
-    (omega (arith, as_lists, good.terms))
-    (good.size_each ∙ sym documents)
-    fit in
-    let same : record { documents = b.documents; lists = map (λ c. c.list) cuts; sizes = sizes } ≡ c = λ i. record { documents = documents i; lists = built.added.lists_are i; sizes = sizes } in
-    let spells : Spells (numbers_of format) (words_of_file (numbers_of b.format) b.documents cuts sizes) c (map (λ c. c.parts) cuts) =
-    subst (λ f. Spells (numbers_of f) (words_of_file (numbers_of b.format) b.documents cuts sizes) c (map (λ c. c.parts) cuts)) built.added.format_is
-    (subst (λ d. Spells (numbers_of b.format) (words_of_file (numbers_of b.format) b.documents cuts sizes) d (map (λ c. c.parts) cuts)) same made) in
-    let near : All (IsNearCut (numbers_of format)) cuts = subst (λ f. All (IsNearCut (numbers_of f)) cuts) built.added.format_is built.added.stands.near in
+    let all = all-added format spell b c before after (subst (λ n. AreAdded format b n built.lists before after) (sym at.documents) built.added) good in
     record {
       c = c;
-      parts = map (λ c. c.parts) cuts;
-      cuts = cuts;
+      parts = all.parts;
+      cuts = all.cuts;
       reading_is = reading;
-      cut = record {
-        collection = record { well_formed = good; files = reading.spelled_so };
-        near = record {
-          partitions = spells.partitions;
-          near = subst (λ l. All (IsNearCut (numbers_of format)) (with_parts l (map (λ c. c.parts) cuts))) built.added.lists_are
-              (subst (All (IsNearCut (numbers_of format))) (sym (with-own_parts cuts)) near);
-        };
-        counted = built.added.counted;
-      };
-      stands = built.added.stands;
-      words_are = spells.spelled;
+      cut = record { collection = record { well_formed = good; files = reading.spelled_so }; near = all.near; counted = all.counted };
+      stands = all.stands;
+      words_are = all.spells.spelled;
     }
 
 -- what every answer says once the collection was read

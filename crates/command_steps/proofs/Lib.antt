@@ -11,3 +11,7 @@ pub mod WholeText
 pub mod Building
 pub mod LoadedFile
 pub mod WrittenFile
+pub mod PrintedLine
+pub mod PartCosts
+pub mod Generating
+pub mod AskedLines

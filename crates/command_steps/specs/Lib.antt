@@ -3,8 +3,12 @@ pub mod BuildWords
 pub mod AnswerText
 pub mod LoadIndex
 pub mod WriteIndex
+pub mod PrintLine
+pub mod PrintText
+pub mod GenerateWords
 -- what private functions and proofs cite
 pub mod Building
+pub mod Generating
 pub mod AnswersLines
 pub mod Unended
 pub mod AnswersEnded

@@ -1,7 +1,9 @@
-ghost use Rattle.std.specs.Prelude.{◌≡◌, ◌≢◌, ◌==◌, ◌-◌, ℕ, length, take, [], ◌∷◌, ◌++◌, MatchResult, Ok, List};
+ghost use Rattle.std.specs.Prelude.{◌≡◌, ◌≢◌, ◌==◌, ◌-◌, ℕ, length, take, [], ◌∷◌, ◌++◌, IfOk, MatchResult, Ok, List};
+ghost use Rattle.std.specs.Cow.{cow_slice_items};
 ghost use Rattle.std.specs.List.{All, position};
 ghost use Rattle.pef_io.specs.SinkState.{SinkState};
 ghost use Rattle.query_text.specs.Lines.{newline};
+ghost use Rattle.command_model.specs.Replies.{IsReply};
 ghost use Rattle.command_steps.specs.AnswersLines.{AnswersLines};
 ghost use Rattle.command_steps.specs.Unended.{AnswersBytes};
 
@@ -10,6 +12,7 @@ use crate::plan::Plan;
 use pef_io::{IoFail, Sink, write_all_own};
 use query_text::{NoMemory, ParseError, bad_reply, parse};
 use std::alloc::Global;
+use std::borrow::CowSlice;
 
 /// The byte that ends a line.
 const NEWLINE: u8 = b'\n';
@@ -66,13 +69,23 @@ pub(crate) fn answer_line<L: Answerer, O: Sink>(
 ) -> Result<(), IoFail>
     ensures { AnswersLines (L.collection lists.now) (line.now ∷ []) (O.state out.old) (O.state out.new) result }
 {
+    let reply = reply_to(alloc, lists, plan, line).map_err(|_| IoFail::NoMemory)?;
+    write_all_own(out, &reply)
+}
+
+/// The reply to one line, with its newline. That to a line which asks nothing is lent.
+pub(crate) fn reply_to<L: Answerer>(
+    alloc: Global,
+    lists: &L,
+    plan: Plan,
+    line: &[u8],
+) -> Result<CowSlice<'static, u8>, NoMemory>
+    ensures { IfOk result (λ reply. IsReply (L.collection lists.now) line.now (cow_slice_items reply)) }
+{
     match parse(alloc, line, lists.terms()) {
-        Ok(query) => match lists.answer(alloc, plan, &query) {
-            Ok(reply) => write_all_own(out, reply.as_slice()),
-            Err(NoMemory) => Err(IoFail::NoMemory),
-        },
-        Err(ParseError::Bad(bad)) => write_all_own(out, bad_reply(bad)),
-        Err(ParseError::NoMemory) => Err(IoFail::NoMemory),
+        Ok(query) => Ok(CowSlice::Owned(lists.answer(alloc, plan, &query)?)),
+        Err(ParseError::Bad(bad)) => Ok(CowSlice::Borrowed(bad_reply(bad))),
+        Err(ParseError::NoMemory) => Err(NoMemory),
     }
 }
 

@@ -1,6 +1,46 @@
+ghost use Rattle.std.specs.Prelude.{◌≡◌, ◌≤◌, ◌<◌, ◌^◌, map, length, sum, IfOk};
+ghost use Rattle.std.specs.List.{All};
+ghost use Rattle.scan_plans.specs.IsTop.{IsTop};
+ghost use Rattle.scan_plans.specs.Matches.{AreBelow};
+
+use cursor_api::DocCursor;
+use scan_plans::{NoMemory, top_exhaustive};
+use std::alloc::Global;
+use topk_pruning::{top_maxscore, top_wand};
+
 /// How `top` is answered. The reply is the same by every plan.
 #[derive(Clone, Copy, Debug, PartialEq, Eq)]
 pub enum Plan {
     /// Every document that a list has is scored.
     Exhaustive,
+    /// WAND: the cursors go to the first document at which the bounds of their lists together beat the least score held.
+    Wand,
+    /// MaxScore: candidates come from the lists without which no document can beat the least score held.
+    MaxScore,
+}
+
+/// The first k of the documents that are in any of the lists, by score falling and then document rising, each with its score, by this
+/// plan. `n` is the number of documents. The weights are those of the cursors' lists, in the same order; a score stays below 2^58.
+pub fn plan_top<C: DocCursor>(
+    alloc: Global,
+    plan: Plan,
+    cursors: &mut [C],
+    weights: &[u32],
+    k: u32,
+    n: u32,
+) -> Result<Vec<(u32, u64)>, NoMemory>
+    requires few { length cursors.old ≤ 1024 }
+    requires at_start { All (λ c. C.place c ≡ 0) cursors.old }
+    requires in_range { AreBelow n (map C.list cursors.old) }
+    requires each { length weights.now ≡ length cursors.old }
+    requires some { All (λ w. 1 ≤ w) weights.now }
+    requires light { sum weights.now < 2 ^ 26 }
+    ensures first { IfOk result (λ r. IsTop n (map C.list cursors.old) weights.now k r.items) }
+    ensures bound { IfOk result (λ r. All (λ e. e.1 < 2 ^ 58) r.items) }
+{
+    match plan {
+        Plan::Exhaustive => top_exhaustive(alloc, cursors, weights, k, n),
+        Plan::Wand => top_wand(alloc, cursors, weights, k, n),
+        Plan::MaxScore => top_maxscore(alloc, cursors, weights, k, n),
+    }
 }

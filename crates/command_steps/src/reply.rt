@@ -7,10 +7,10 @@ ghost use Rattle.query_text.specs.Texts.{list_text};
 ghost use Rattle.scan_plans.specs.Matches.{AreBelow, in_all, in_any};
 ghost use Rattle.command_model.specs.Replies.{IsAnswer, IsTopText, lists_of, terms_of};
 
-use crate::plan::Plan;
+use crate::plan::{Plan, plan_top};
 use cursor_api::DocCursor;
 use query_text::{NoMemory, Query, list_reply, next_reply, top_reply};
-use scan_plans::{and_docs, or_docs, top_exhaustive};
+use scan_plans::{and_docs, or_docs};
 use std::alloc::Global;
 use std::slice;
 
@@ -93,8 +93,6 @@ fn top_answer<C: DocCursor>(
     requires weights { AreWeights weights.now }
     ensures { IfOk result (λ text. IsTopText n (map C.list cursors.old) weights.now k text.items) }
 {
-    let top = match plan {
-        Plan::Exhaustive => top_exhaustive(alloc, cursors, weights, k, n).map_err(|_| NoMemory)?,
-    };
+    let top = plan_top(alloc, plan, cursors, weights, k, n).map_err(|_| NoMemory)?;
     top_reply(alloc, top.as_slice())
 }

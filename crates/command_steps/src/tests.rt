@@ -25,16 +25,23 @@ fn spelled(alloc: Global, numbers: &[u32]) -> Result<Vec<u8>, AllocError> {
 }
 
 /// The numbers of documents, of frequencies and of sizes.
-type Numbers = [&'static [u32]; 3];
+type Numbers<'a> = [&'a [u32]; 3];
 
 /// Three documents of sizes 4, 0 and 7, and the list (0,1)(2,5).
-const ONE_LIST: Numbers = [&[1, 3, 2, 0, 2], &[2, 1, 5], &[3, 4, 0, 7]];
+const ONE_LIST: Numbers<'static> = [&[1, 3, 2, 0, 2], &[2, 1, 5], &[3, 4, 0, 7]];
 
 /// The same documents, that list, the list (0,1), and a list of nothing.
-const THREE_LISTS: Numbers = [
+const THREE_LISTS: Numbers<'static> = [
     &[1, 3, 2, 0, 2, 1, 0, 0],
     &[2, 1, 5, 1, 1, 0],
     &[3, 4, 0, 7],
+];
+
+/// Five documents of size 1, and the lists (1,2)(4,3) and (1,1)(2,3)(4,1).
+const TWO_LISTS: Numbers<'static> = [
+    &[1, 5, 2, 1, 4, 3, 1, 2, 4],
+    &[2, 2, 3, 3, 1, 3, 1],
+    &[5, 1, 1, 1, 1, 1],
 ];
 
 /// The words of the one list in the first format.
@@ -180,7 +187,7 @@ const THREE_LISTS_OF_TWO: &[u64] = &[
 ];
 
 /// The collection of these numbers.
-fn collection(alloc: Global, numbers: Numbers) -> Result<Collection, Fail>
+pub(crate) fn collection(alloc: Global, numbers: Numbers) -> Result<Collection, Fail>
     ensures { IfOk result (WellFormed format_one) }
 {
     let mut files = Vec::new(alloc);
@@ -236,43 +243,37 @@ fn out_of(alloc: Global, case: &Case) -> Result<MemSink, Fail> {
 type Ended = (Result<(), RunFault>, Vec<u8>);
 
 /// How a text ends that is answered from a collection.
-fn from_collection(alloc: Global, collection: &Collection, case: &Case) -> Result<Ended, Fail>
+fn from_collection(
+    alloc: Global,
+    collection: &Collection,
+    plan: Plan,
+    case: &Case,
+) -> Result<Ended, Fail>
     requires { WellFormed format_one collection.now }
 {
     let mut input = input_of(alloc, case)?;
     let mut out = out_of(alloc, case)?;
-    let end = answer_collection(
-        alloc,
-        collection,
-        Plan::Exhaustive,
-        &mut input,
-        case.limit,
-        &mut out,
-    );
+    let end = answer_collection(alloc, collection, plan, &mut input, case.limit, &mut out);
     Ok((end, Vec::from_slice(alloc, out.bytes())?))
 }
 
 /// How a text ends that is answered from an index of these words.
-fn from_words(alloc: Global, words: &[u64], case: &Case) -> Result<Ended, Fail>
+fn from_words(alloc: Global, words: &[u64], plan: Plan, case: &Case) -> Result<Ended, Fail>
     requires { length words.now < 2 ^ 57 }
 {
     let mut input = input_of(alloc, case)?;
     let mut out = out_of(alloc, case)?;
     let end = match Index::view(words) {
-        Ok(index) => answer_text(
-            alloc,
-            &index,
-            Plan::Exhaustive,
-            &mut input,
-            case.limit,
-            &mut out,
-        ),
+        Ok(index) => answer_text(alloc, &index, plan, &mut input, case.limit, &mut out),
         Err(fault) => return Err(Fail::from(fault)),
     };
     Ok((end, Vec::from_slice(alloc, out.bytes())?))
 }
 
-/// Ends each case from the collection and from each of the indexes of it.
+/// The plans of `top`.
+const PLANS: [Plan; 3] = [Plan::Exhaustive, Plan::Wand, Plan::MaxScore];
+
+/// Ends each case by each plan, from the collection and from each of the indexes of it.
 fn check_cases(
     rt: &impl Abort,
     alloc: Global,
@@ -282,20 +283,22 @@ fn check_cases(
 ) -> Result<(), Fail> {
     let collection = collection(alloc, numbers)?;
     for case in cases {
-        let (end, out) = from_collection(alloc, &collection, case)?;
-        assert_eq!(rt; end, case.want, "at {}", case.text);
-        assert_eq!(rt; out.as_slice(), case.out.as_bytes(), "at {}", case.text);
-        for words in indexes {
-            assert!(rt; words.len() < 100);
-            let (end, out) = from_words(alloc, words, case)?;
-            assert_eq!(rt; end, case.want, "at {} from {}", case.text, words.len());
-            assert_eq!(rt;
-                out.as_slice(),
-                case.out.as_bytes(),
-                "at {} from {}",
-                case.text,
-                words.len()
-            );
+        for plan in PLANS {
+            let (end, out) = from_collection(alloc, &collection, plan, case)?;
+            assert_eq!(rt; end, case.want, "at {}", case.text);
+            assert_eq!(rt; out.as_slice(), case.out.as_bytes(), "at {}", case.text);
+            for words in indexes {
+                assert!(rt; words.len() < 100);
+                let (end, out) = from_words(alloc, words, plan, case)?;
+                assert_eq!(rt; end, case.want, "at {} from {}", case.text, words.len());
+                assert_eq!(rt;
+                    out.as_slice(),
+                    case.out.as_bytes(),
+                    "at {} from {}",
+                    case.text,
+                    words.len()
+                );
+            }
         }
     }
     Ok(())
@@ -468,6 +471,21 @@ fn lines_name_several_terms(rt: HostRuntime) -> Result<(), Fail> {
     ];
     let indexes = [THREE_LISTS_OF_ONE, THREE_LISTS_OF_TWO];
     check_cases(&rt, rt.alloc(), THREE_LISTS, &indexes, &cases)
+}
+
+#[test]
+fn terms_have_weights(rt: HostRuntime) -> Result<(), Fail> {
+    let cases = [
+        whole(
+            "top 2 0 1\nand 1 0\nor 0 1\n",
+            "2 4:4 1:3\n2 1 4\n3 1 2 4\n",
+        ),
+        whole(
+            "top 3 0*2 1\ntop 2 0 1*2\ntop 2 1*2 0\ntop 2 0 0 1\ntop 1 0*65535\ntop 1 1*3 0 1*4 0*5",
+            "3 4:7 1:5 2:3\n2 2:6 4:5\n2 2:6 4:5\n2 4:7 1:5\n1 4:196605\n1 4:25\n",
+        ),
+    ];
+    check_cases(&rt, rt.alloc(), TWO_LISTS, &[], &cases)
 }
 
 #[test]

@@ -15,6 +15,7 @@ use Rattle.command_steps.specs.declared.text.RunFault.{RunFault}
 use Rattle.command_steps.specs.BuildWords.{BuildsWords, words_built}
 use Rattle.command_steps.specs.AnswerText.{AnswersText}
 use Rattle.pef_top.specs.declared.stop.Stop.{Stop}
+use Rattle.command_steps.specs.declared.plan.Plan.{Plan}
 use Rattle.pef_top.specs.Command.{Answer}
 use Rattle.pef_top.specs.Outside.{Outside, outside}
 use Rattle.pef_top.specs.Outcome.{Outcome, Done, FileFault, IndexWriteFault, InputTooLarge}
@@ -27,10 +28,10 @@ use Rattle.pef_top.proofs.WordsBuilt.{unbuilt, unbuilt_ends, unbuilt_refuses, un
 use Rattle.pef_top.proofs.TextAnswered.{text_outcome, not_broken, not_file, not_writing, behind_building, answers_input, must_answer, input_ends, out_ends}
 
 -- the words were not built, and nothing was called on the input or out
-pub not_answered : (base : List ℕ) (d d' : DepotState) (i : SourceState) (o e e' : SinkState) (s s' : ℕ) (error : BuildError)
+pub not_answered : (base : List ℕ) (plan : Plan) (d d' : DepotState) (i : SourceState) (o e e' : SinkState) (s s' : ℕ) (error : BuildError)
     → BuildsWords answer_format base d d' s s' (Err error)
-    → Leaves (Some (Answer base)) (outside d i o e s) (outside d' i o e' s') (unbuilt error)
-not_answered base d d' i o e e' s s' error w = record {
+    → Leaves (Some (Answer base plan)) (outside d i o e s) (outside d' i o e' s') (unbuilt error)
+not_answered base plan d d' i o e e' s s' error w = record {
   performs = record {
     ends = unbuilt_ends answer_format base old new error (AnswersInput (IsBuiltFrom base old new) old new) (inl (record { input = refl; out = refl })) w;
     refuses = unbuilt_refuses answer_format base old new error w;
@@ -71,11 +72,11 @@ same_collection one base d d' s s' words w index spells =
     (one index.format answer_format words index.collection cut.0 index.parts cut.1 spells (in_format base d d' s s' words w)).1
 
 -- the words were built, and the text was answered from them, or a part of it
-pub is_answered : OneIndex → (base : List ℕ) (d d' : DepotState) (i i' : SourceState) (o o' e e' : SinkState) (s s' : ℕ) (words : List ℕ)
+pub is_answered : OneIndex → (base : List ℕ) (plan : Plan) (d d' : DepotState) (i i' : SourceState) (o o' e e' : SinkState) (s s' : ℕ) (words : List ℕ)
     (w : BuildsWords answer_format base d d' s s' (Ok words)) (index : IndexView) → Spells (numbers_of index.format) words index.collection index.parts
     → (r : Result (Unit {0}) RunFault) → AnswersText index.collection longest_text i i' o o' r
-    → Leaves (Some (Answer base)) (outside d i o e s) (outside d' i' o' e' s') (text_outcome r)
-is_answered one base d d' i i' o o' e e' s s' words w index spells r a = record {
+    → Leaves (Some (Answer base plan)) (outside d i o e s) (outside d' i' o' e' s') (text_outcome r)
+is_answered one base plan d d' i i' o o' e e' s s' words w index spells r a = record {
   performs = record {
     ends = behind_building answer_format base (IsAnswerable base d) old new (AnswersInput (IsBuiltFrom base old new) old new) r
         (answers_input (IsBuiltFrom base old new) index.collection built old new r a);
@@ -107,14 +108,14 @@ is_answered one base d d' i i' o o' e e' s s' words w index spells r a = record 
     built = subst (IsBuiltFrom base old new) (sym (same_collection one base d d' s s' words w index spells)) (cut.1, cut.2)
 
 -- the same of what `answer` gives: its words were refused
-pub answer_refused : (base : List ℕ) (d d' : DepotState) (i : SourceState) (o e e' : SinkState) (s s' : ℕ)
+pub answer_refused : (base : List ℕ) (plan : Plan) (d d' : DepotState) (i : SourceState) (o e e' : SinkState) (s s' : ℕ)
     (built : Result (Vec ℕ Global) BuildError) (error : BuildError) (r : Result (Unit {0}) Stop)
     → BuildsWords answer_format base d d' s s' (words_built built) → built ≡ Err error → r ≡ Err (stop_of_building error)
-    → Leaves (Some (Answer base)) (outside d i o e s) (outside d' i o e' s') (outcome_of r)
-answer_refused base d d' i o e e' s s' built error r w was is =
+    → Leaves (Some (Answer base plan)) (outside d i o e s) (outside d' i o e' s') (outcome_of r)
+answer_refused base plan d d' i o e e' s s' built error r w was is =
     let W : Result (Vec ℕ Global) BuildError → Type 0 = λ x. BuildsWords answer_format base d d' s s' (words_built x) in
-    let P : Result (Unit {0}) Stop → Type 0 = λ x. Leaves (Some (Answer base)) (outside d i o e s) (outside d' i o e' s') (outcome_of x) in
-    subst P (sym is) (not_answered base d d' i o e e' s s' error (subst W was w))
+    let P : Result (Unit {0}) Stop → Type 0 = λ x. Leaves (Some (Answer base plan)) (outside d i o e s) (outside d' i o e' s') (outcome_of x) in
+    subst P (sym is) (not_answered base plan d d' i o e e' s s' error (subst W was w))
 
 -- the words that were built, as they are lent
 lent_built : (base : List ℕ) (d d' : DepotState) (s s' : ℕ) (built : Result (Vec ℕ Global) BuildError) (words : Vec ℕ Global) (lent : List ℕ)
@@ -138,12 +139,12 @@ lent_are_found base d d' s s' built words lent w was lends =
     let cut = cut_of answer_format base d d' s s' lent (lent_built base d d' s s' built words lent w was lends) in (cut.0, cut.2.cut.collection)
 
 -- or the text was answered from them, or a part of it
-pub answer_ended : OneIndex → (base : List ℕ) (d d' : DepotState) (i i' : SourceState) (o o' e e' : SinkState) (s s' : ℕ)
+pub answer_ended : OneIndex → (base : List ℕ) (plan : Plan) (d d' : DepotState) (i i' : SourceState) (o o' e e' : SinkState) (s s' : ℕ)
     (built : Result (Vec ℕ Global) BuildError) (words : Vec ℕ Global) (lent : List ℕ) (index : IndexView) (answer : Result (Unit {0}) RunFault) (r : Result (Unit {0}) Stop)
     → BuildsWords answer_format base d d' s s' (words_built built) → built ≡ Ok words → lent ≡ words.items
     → Spells (numbers_of index.format) lent index.collection index.parts
     → AnswersText index.collection longest_text i i' o o' answer → outcome_of r ≡ text_outcome answer
-    → Leaves (Some (Answer base)) (outside d i o e s) (outside d' i' o' e' s') (outcome_of r)
-answer_ended one base d d' i i' o o' e e' s s' built words lent index answer r w was lends spells a is =
-    let P : Outcome → Type 0 = λ x. Leaves (Some (Answer base)) (outside d i o e s) (outside d' i' o' e' s') x in
-    subst P (sym is) (is_answered one base d d' i i' o o' e e' s s' lent (lent_built base d d' s s' built words lent w was lends) index spells answer a)
+    → Leaves (Some (Answer base plan)) (outside d i o e s) (outside d' i' o' e' s') (outcome_of r)
+answer_ended one base plan d d' i i' o o' e e' s s' built words lent index answer r w was lends spells a is =
+    let P : Outcome → Type 0 = λ x. Leaves (Some (Answer base plan)) (outside d i o e s) (outside d' i' o' e' s') x in
+    subst P (sym is) (is_answered one base plan d d' i i' o o' e e' s s' lent (lent_built base d d' s s' built words lent w was lends) index spells answer a)

@@ -6,7 +6,7 @@ use Rattle.pef_io.specs.declared.fail.Slot.{Slot}
 use Rattle.pef_io.specs.declared.fail.Slot.TheVariants.{Docs, Freqs, Sizes, Index}
 use Rattle.pef_io.specs.Calls.{Rose}
 use Rattle.pef_top.specs.Outcome.{Outcome}
-use Rattle.pef_top.specs.Ends.{EndsByFault}
+use Rattle.pef_top.specs.Ends.{EndsByFault, OrNoMemory, OrTooLarge}
 
 -- a count that stays, where the run does not end by that fault
 pub stays : (fault outcome : Outcome) (before now : ℕ) → outcome ≢ fault → now ≡ before → EndsByFault fault outcome before now
@@ -51,3 +51,8 @@ not_both_lengths a b le lt = omega (arith, le, lt)
 -- a text of which more than the limit was read is longer
 pub longer_than : (left rest : List ℕ) (limit : ℕ) → (bytes : List ℕ) × (left ≡ bytes ++ rest) × (limit < length bytes) → limit < length left
 longer_than left rest limit read = omega (arith, ap length read.1, length-append read.0 rest, read.2)
+
+-- an outcome that is one of two is one of three
+pub or_larger : (this outcome : Outcome) → OrNoMemory this outcome → OrTooLarge this outcome
+or_larger this outcome (inl is) = inl is
+or_larger this outcome (inr is) = inr (inr is)

@@ -1,6 +1,6 @@
 -- What `build` leaves.
 use Rattle.std.proofs.Common.{◌≡◌, ℕ, ◌^◌, ◌≤◌, ◌<◌, refl, sym, ◌∙◌, ap, subst, List, [], inl, inr}
-use Rattle.std.specs.Prelude.{◌≢◌, IsTrue, Result, Ok, Err, Some, Vec, unwrap_or}
+use Rattle.std.specs.Prelude.{◌≢◌, ◌⊎◌, IsTrue, Result, Ok, Err, Some, Vec, unwrap_or}
 use Rattle.std.specs.List.{All}
 use Rattle.std.specs.declared.alloc.Global.{Global}
 use Rattle.collection_model.specs.Bytes.{word_bytes}
@@ -15,7 +15,7 @@ use Rattle.pef_io.specs.DepotState.{DepotState, bytes_under}
 use Rattle.collection_reader.specs.declared.fault.Fault.{Fault}
 use Rattle.collection_reader.specs.ReadCollection.{IsCollectionSlot}
 use Rattle.command_model.specs.Found.{FindsCollection, AreOfWords}
-use Rattle.command_model.specs.Written.{IsWritten, IsWrittenInPart}
+use Rattle.command_model.specs.Written.{IsWritten, IsUnwritten, IsWrittenInPart, IsBeingWritten}
 use Rattle.command_steps.specs.declared.build.BuildError.{BuildError}
 use Rattle.command_steps.specs.declared.writing.WriteIndexError.{WriteIndexError}
 use Rattle.command_steps.specs.declared.writing.WriteIndexError.TheVariants as writing
@@ -29,7 +29,7 @@ use Rattle.pef_top.specs.Ends.{EndsByFault, OrTooLarge}
 use Rattle.pef_top.specs.FoundIndex.{FindsIndexOf}
 use Rattle.pef_top.specs.Built.{BuildsWordsThen}
 use Rattle.pef_top.specs.ReadingCollection.{ReadsCollectionThen}
-use Rattle.pef_top.specs.WrittenIndex.{OnBuiltBytes, WritesIndex, WritesOnlyAccepted}
+use Rattle.pef_top.specs.WrittenIndex.{OnBuiltBytes, IsLeftInPart, WritesIndex, WritesOnlyAccepted}
 use Rattle.pef_top.specs.Private.Leaves.{Leaves}
 use Rattle.pef_top.specs.Private.Stops.{outcome_of, outcome_of_stop, stop_of_building, stop_of_writing}
 use Rattle.pef_top.proofs.Counted.{stays, rises, second, not_true}
@@ -109,12 +109,19 @@ module _ (format : Format) (base index : List ℕ) (d d1 d2 : DepotState) (i : S
     none_created = h.none_created;
   }
 
-  part_from : (bytes : List ℕ) → IsWrittenInPart index d1 d2 bytes → IsWrittenInPart index d d2 bytes
-  part_from bytes (inl h) = inl (record {
+  unwritten_from : IsUnwritten d1 d2 → IsUnwritten d d2
+  unwritten_from h = record {
     files = λ t name. h.files (told t) name ∙ w.reads.files t name;
     writing = (h.writing.0 ∙ w.reads.writing.0, λ t. h.writing.1 (told t) ∙ w.reads.writing.1 t);
-  })
+  }
+
+  part_from : (bytes : List ℕ) → IsWrittenInPart index d1 d2 bytes → IsWrittenInPart index d d2 bytes
+  part_from bytes (inl h) = inl (unwritten_from h)
   part_from bytes (inr h) = inr (λ t. let p = h (told t) in (p.0, p.1, λ name other. p.2 name other ∙ w.reads.files t name))
+
+  left_from : (bytes : List ℕ) → IsWrittenInPart index d1 d2 bytes → (IsUnwritten d1 d2 ⊎ IsBeingWritten index d1 d2) → IsLeftInPart index d d2 bytes
+  left_from bytes part (inl h) = inl (unwritten_from h)
+  left_from bytes part (inr h) = inr (record { created = h.created; named = λ t. h.named (told t) }, part_from bytes part)
 
   on_built : (P : List ℕ → Type 0) → P (word_bytes words) → OnBuiltBytes format (FindsCollection (numbers_of format) base d) old new P
   on_built P p =
@@ -124,8 +131,8 @@ module _ (format : Format) (base index : List ℕ) (d d1 d2 : DepotState) (i : S
   writes : (r : Result (Unit {0}) WriteIndexError) → WritesWords words index d1 d2 r
       → WritesIndex format (FindsCollection (numbers_of format) base d) index old new (written_outcome r)
   writes (Ok u) v = on_built (IsWritten index d d2) (written_from (word_bytes words) v.written)
-  writes (Err writing.Write) v = on_built (IsWrittenInPart index d d2) (part_from (word_bytes words) v.refused)
-  writes (Err writing.NoMemory) v = inr (on_built (IsWrittenInPart index d d2) (part_from (word_bytes words) v.refused))
+  writes (Err writing.Write) v = on_built (IsLeftInPart index d d2) (left_from (word_bytes words) v.refused v.begun)
+  writes (Err writing.NoMemory) v = inr (on_built (IsLeftInPart index d d2) (left_from (word_bytes words) v.refused v.begun))
 
   -- where they were written, they stand under the name as an index
   found_index : IsWritten index d1 d2 (word_bytes words) → d2.tells ≡ d1.tells

@@ -1,155 +1,34 @@
 -- What `query` leaves.
-use Rattle.std.proofs.Common.{◌≡◌, ℕ, zero, suc, ◌*◌, ◌<◌, ◌≤◌, ◌^◌, arith, refl, sym, ◌∙◌, ap, subst, List, [], ◌∷◌, length, inl, inr}
-use Rattle.std.specs.Prelude.{◌≢◌, ◌%◌, ◌==◌, not, true, false, IsTrue, MatchBool, Result, Ok, Err, Some, Vec}
+use Rattle.std.proofs.Common.{◌≡◌, ℕ, ◌<◌, ◌^◌, arith, refl, sym, subst, List, length, inl}
+use Rattle.std.specs.Prelude.{Result, Ok, Err, Some, Vec}
 use Rattle.std.specs.declared.alloc.Global.{Global}
-use Rattle.std.proofs.lemmas.List.{length-append}
-use Rattle.std.proofs.Math.Dec.{eqb-suc-zero}
-use Rattle.collection_model.specs.Bytes.{word_bytes, le64}
 use Rattle.collection_model.specs.Collection.{Collection}
 use Rattle.part_cost.specs.Formats.{numbers_of}
-use Rattle.pef_io.specs.declared.fail.Slot.{Slot}
-use Rattle.pef_io.specs.declared.fail.Slot.TheVariants.{Index}
 use Rattle.pef_io.specs.SourceState.{SourceState}
 use Rattle.pef_io.specs.SinkState.{SinkState}
-use Rattle.pef_io.specs.DepotState.{DepotState, bytes_under}
+use Rattle.pef_io.specs.DepotState.{DepotState}
 use Rattle.index_file.specs.declared.fault.OpenFault.{OpenFault}
-use Rattle.index_file.specs.FileWords.{IsIndex, Spells, file_words}
+use Rattle.index_file.specs.FileWords.{IsIndex, Spells}
 use Rattle.index_file.specs.FirstBroken.{IsFirstBroken}
 use Rattle.index_file.specs.IndexView.{IndexView}
-use Rattle.index_file.specs.Builder.{most_words}
 use Rattle.index_file.specs.Laws.{WordsAreRead, OneBrokenCheck}
-use Rattle.command_model.specs.Found.{AreOfWords, most_bytes}
 use Rattle.command_steps.specs.declared.loading.LoadIndexError.{LoadIndexError}
-use Rattle.command_steps.specs.declared.loading.LoadIndexError.TheVariants as loading
 use Rattle.command_steps.specs.declared.text.RunFault.{RunFault}
 use Rattle.command_steps.specs.AnswerText.{AnswersText}
-use Rattle.command_steps.specs.LoadIndex.{LoadsWords, ragged_fault, words_loaded}
+use Rattle.command_steps.specs.LoadIndex.{LoadsWords, words_loaded}
 use Rattle.pef_top.specs.declared.stop.Stop.{Stop}
 use Rattle.pef_top.specs.declared.stop.Stop.TheVariants as stop
+use Rattle.command_steps.specs.declared.plan.Plan.{Plan}
 use Rattle.pef_top.specs.Command.{Query}
-use Rattle.pef_top.specs.Outside.{Outside, NoCallFailed, outside}
-use Rattle.pef_top.specs.Outcome.{Outcome, Done, BrokenIndex, FileFault, InputFault, IndexWriteFault, OutFault, NoMemory, IndexTooLarge, InputTooLarge}
-use Rattle.pef_top.specs.Ends.{EndsByFault, OrTooLarge}
-use Rattle.pef_top.specs.FoundIndex.{FindsIndexOf, IsFirstBrokenOfFile, HasBroken}
-use Rattle.pef_top.specs.ReadingIndex.{ReadsIndexThen, RefusesBrokenIndex}
+use Rattle.pef_top.specs.Outside.{Outside, outside}
+use Rattle.pef_top.specs.Outcome.{Outcome, Done, BrokenIndex, FileFault, InputFault, IndexWriteFault, OutFault, InputTooLarge}
+use Rattle.pef_top.specs.FoundIndex.{FindsIndexOf}
 use Rattle.pef_top.specs.AnsweredText.{AnswersInput, longest_text}
 use Rattle.pef_top.specs.Private.Leaves.{Leaves}
-use Rattle.pef_top.specs.Private.Stops.{outcome_of, outcome_of_stop, stop_of_loading}
-use Rattle.pef_top.proofs.Counted.{stays, second, by_slot, not_both_lengths}
+use Rattle.pef_top.specs.Private.Stops.{outcome_of, stop_of_loading}
+use Rattle.pef_top.proofs.Counted.{stays, or_larger}
 use Rattle.pef_top.proofs.TextAnswered.{text_outcome, not_no_index, not_too_large, not_file, not_writing, behind_reading, answers_input, must_answer, input_ends, out_ends}
-
--- ---- bytes and words
-
--- words take eight bytes each
-eights : (ws : List ℕ) → length (word_bytes ws) ≡ 8 * length ws
-eights [] = refl
-eights (w ∷ ws) = omega (arith, length-append (le64 w) (word_bytes ws), eight w, eights ws)
-  where
-    eight : (w : ℕ) → length (le64 w) ≡ 8
-    eight w = refl
-
-length_of : (bytes words : List ℕ) → AreOfWords bytes words → length bytes ≡ 8 * length words
-length_of bytes words of = ap length of.bytes_are ∙ eights words
-
-even : (bytes words : List ℕ) → AreOfWords bytes words → length bytes % 8 ≡ 0
-even bytes words of = omega (arith, length_of bytes words of)
-
--- words that are not too many have bytes that are not too many
-short : (bytes words : List ℕ) → AreOfWords bytes words → length words ≤ most_words → length bytes ≤ most_bytes
-short bytes words of le = omega (arith, length_of bytes words of, le)
-
-is_even : (n : ℕ) → n ≡ 0 → not (n == 0) ≡ false
-is_even n e = rw e refl
-
-is_ragged : (n : ℕ) → n ≢ 0 → not (n == 0) ≡ true
-is_ragged zero h = absurd (h refl)
-is_ragged (suc n) h = ap not (eqb-suc-zero n)
-
--- the first check of bytes that are no whole words, and of those of words
-ragged_breaks : (bytes : List ℕ) (fault : OpenFault) → length bytes % 8 ≢ 0 → fault ≡ ragged_fault → IsFirstBrokenOfFile bytes fault
-ragged_breaks bytes fault h e =
-    subst (λ b. MatchBool b (fault ≡ ragged_fault) ((ws : List ℕ) × AreOfWords bytes ws × IsFirstBroken ws fault)) (sym (is_ragged (length bytes % 8) h)) e
-
-ragged_broken : (bytes : List ℕ) (fault : OpenFault) → length bytes % 8 ≢ 0 → IsFirstBrokenOfFile bytes fault → fault ≡ ragged_fault
-ragged_broken bytes fault h first =
-    subst (λ b. MatchBool b (fault ≡ ragged_fault) ((ws : List ℕ) × AreOfWords bytes ws × IsFirstBroken ws fault)) (is_ragged (length bytes % 8) h) first
-
-words_break : (bytes words : List ℕ) (fault : OpenFault) → AreOfWords bytes words → IsFirstBroken words fault → IsFirstBrokenOfFile bytes fault
-words_break bytes words fault of first =
-    subst (λ b. MatchBool b (fault ≡ ragged_fault) ((ws : List ℕ) × AreOfWords bytes ws × IsFirstBroken ws fault)) (sym (is_even (length bytes % 8) (even bytes words of)))
-    (words, of, first)
-
-words_broken : WordsAreRead → (bytes words : List ℕ) (fault : OpenFault) → AreOfWords bytes words → IsFirstBrokenOfFile bytes fault → IsFirstBroken words fault
-words_broken read bytes words fault of first =
-    let it : (ws : List ℕ) × AreOfWords bytes ws × IsFirstBroken ws fault =
-    subst (λ b. MatchBool b (fault ≡ ragged_fault) ((ws : List ℕ) × AreOfWords bytes ws × IsFirstBroken ws fault)) (is_even (length bytes % 8) (even bytes words of)) first in
-    let P : List ℕ → Type 0 = λ ws. IsFirstBroken ws fault in
-    subst P (read it.0 words it.1.fit of.fit (sym it.1.bytes_are ∙ of.bytes_are)) it.2
-
--- the file of an index is not too large, and its words are an index
-index_is_short : (name : List ℕ) (d : DepotState) (c : Collection) → IsTrue d.tells → FindsIndexOf name d c → length (bytes_under d name) ≤ most_bytes
-index_is_short name d c t (format, parts, found) = short (bytes_under d name) (file_words (numbers_of format) c parts) (found.bytes t) found.within
-
-index_is_even : (name : List ℕ) (d : DepotState) (c : Collection) → IsTrue d.tells → FindsIndexOf name d c → length (bytes_under d name) % 8 ≡ 0
-index_is_even name d c t (format, parts, found) = even (bytes_under d name) (file_words (numbers_of format) c parts) (found.bytes t)
-
-index_words : WordsAreRead → (name : List ℕ) (d : DepotState) (words : List ℕ) (c : Collection) → IsTrue d.tells → AreOfWords (bytes_under d name) words
-    → FindsIndexOf name d c → IsIndex words
-index_words read name d words c t of (format, parts, found) =
-    let its = found.bytes t in (
-      format,
-      (
-        c,
-        parts,
-        record {
-          well_formed = found.well_formed;
-          partitions = found.partitions;
-          spelled = read words (file_words (numbers_of format) c parts) of.fit its.fit (sym of.bytes_are ∙ its.bytes_are);
-        },
-      ),
-    )
-
--- ---- words that are not loaded
-
--- how a run ends whose words are not loaded
-abbrev pub unloaded : LoadIndexError → Outcome
-unloaded e = outcome_of_stop (stop_of_loading e)
-
-abbrev refused : LoadIndexError → Result (List ℕ) LoadIndexError
-refused e = Err e
-
-same_error : (e f : LoadIndexError) → refused e ≡ refused f → e ≡ f
-same_error e f h = cc
-
-is_read : (e : LoadIndexError) (slot : Slot) → unloaded e ≡ FileFault slot → e ≡ loading.Read
-is_read (loading.Broken f) slot h = let s : BrokenIndex f ≡ FileFault slot = h in cc
-is_read loading.Read slot h = refl
-is_read loading.TooLarge slot h = let s : IndexTooLarge ≡ FileFault slot = h in cc
-is_read loading.NoMemory slot h = let s : NoMemory ≡ FileFault slot = h in cc
-
-is_index_slot : (e : LoadIndexError) (slot : Slot) → unloaded e ≡ FileFault slot → slot ≡ Index
-is_index_slot (loading.Broken f) slot h = let s : BrokenIndex f ≡ FileFault slot = h in cc
-is_index_slot loading.Read slot h = let s : FileFault Index ≡ FileFault slot = h in cc
-is_index_slot loading.TooLarge slot h = let s : IndexTooLarge ≡ FileFault slot = h in cc
-is_index_slot loading.NoMemory slot h = let s : NoMemory ≡ FileFault slot = h in cc
-
-unloaded_writing : (e : LoadIndexError) → unloaded e ≢ IndexWriteFault
-unloaded_writing (loading.Broken f) h = let s : BrokenIndex f ≡ IndexWriteFault = h in cc
-unloaded_writing loading.Read h = let s : FileFault Index ≡ IndexWriteFault = h in cc
-unloaded_writing loading.TooLarge h = let s : IndexTooLarge ≡ IndexWriteFault = h in cc
-unloaded_writing loading.NoMemory h = let s : NoMemory ≡ IndexWriteFault = h in cc
-
-unloaded_input : (e : LoadIndexError) → unloaded e ≢ InputFault
-unloaded_input (loading.Broken f) h = let s : BrokenIndex f ≡ InputFault = h in cc
-unloaded_input loading.Read h = let s : FileFault Index ≡ InputFault = h in cc
-unloaded_input loading.TooLarge h = let s : IndexTooLarge ≡ InputFault = h in cc
-unloaded_input loading.NoMemory h = let s : NoMemory ≡ InputFault = h in cc
-
-unloaded_out : (e : LoadIndexError) → unloaded e ≢ OutFault
-unloaded_out (loading.Broken f) h = let s : BrokenIndex f ≡ OutFault = h in cc
-unloaded_out loading.Read h = let s : FileFault Index ≡ OutFault = h in cc
-unloaded_out loading.TooLarge h = let s : IndexTooLarge ≡ OutFault = h in cc
-unloaded_out loading.NoMemory h = let s : NoMemory ≡ OutFault = h in cc
+use Rattle.pef_top.proofs.IndexLoaded.{unloaded, unloaded_writing, unloaded_input, unloaded_out, ends_unloaded, refuses_unloaded, complete_unloaded, slots_unloaded, loaded_counts, lent_loaded, breaks, refuses_broken, refuses_none, found_index, index_words}
 
 module _ (name : List ℕ) (d d' : DepotState) (i : SourceState) (o e e' : SinkState) (n : ℕ) where
   abbrev old : Outside
@@ -158,71 +37,21 @@ module _ (name : List ℕ) (d d' : DepotState) (i : SourceState) (o e e' : SinkS
   abbrev new : Outside
   new = outside d' i o e' n
 
-  ends_unloaded : (error : LoadIndexError) → LoadsWords name d d' (Err error) → ReadsIndexThen name old (AnswersInput (FindsIndexOf name d) old new) (unloaded error)
-  ends_unloaded (loading.Broken fault) w =
-      λ t. let r = w.ragged t fault refl in record { within = r.0; first = ragged_breaks (bytes_under d name) fault r.1 (w.first_check fault refl) }
-  ends_unloaded loading.Read w = refl
-  ends_unloaded loading.TooLarge w = λ t. w.too_large t refl
-  ends_unloaded loading.NoMemory w = inl (record { input = refl; out = refl })
-
-  refuses_unloaded : (error : LoadIndexError) → LoadsWords name d d' (Err error) → RefusesBrokenIndex name old (unloaded error)
-  refuses_unloaded (loading.Broken f) w = record {
-    broken = λ t fault h. inl (ap BrokenIndex (w.first_check f refl ∙ sym (ragged_broken (bytes_under d name) fault (w.ragged t f refl).1 h.first)));
-    longer = λ t h. absurd (not_both_lengths _ _ (w.ragged t f refl).0 h);
-    sound = λ t c found. (λ h. let s : BrokenIndex f ≡ IndexTooLarge = h in cc, λ fault h. (w.ragged t f refl).1 (index_is_even name d c t found));
-  }
-  refuses_unloaded loading.Read w = record {
-    broken = λ t fault h. inr (inl refl);
-    longer = λ t h. inr (inl refl);
-    sound = λ t c found. (λ h. let s : FileFault Index ≡ IndexTooLarge = h in cc, λ fault h. let s : FileFault Index ≡ BrokenIndex fault = h in cc);
-  }
-  refuses_unloaded loading.TooLarge w = record {
-    broken = λ t fault h. absurd (not_both_lengths _ _ h.within (w.too_large t refl));
-    longer = λ t h. inl refl;
-    sound = λ t c found. (
-      λ h. not_both_lengths _ _ (index_is_short name d c t found) (w.too_large t refl),
-      λ fault h. let s : IndexTooLarge ≡ BrokenIndex fault = h in cc,
-    );
-  }
-  refuses_unloaded loading.NoMemory w = record {
-    broken = λ t fault h. inr (inr refl);
-    longer = λ t h. inr (inr refl);
-    sound = λ t c found. (λ h. let s : NoMemory ≡ IndexTooLarge = h in cc, λ fault h. let s : NoMemory ≡ BrokenIndex fault = h in cc);
-  }
-
-  complete_unloaded : (this : Outcome) (error : LoadIndexError) → LoadsWords name d d' (Err error) → IsTrue d.tells → (c : Collection) → FindsIndexOf name d c
-      → NoCallFailed old new → OrTooLarge this (unloaded error)
-  complete_unloaded this (loading.Broken f) w t c found none = absurd ((w.ragged t f refl).1 (index_is_even name d c t found))
-  complete_unloaded this loading.Read w t c found none = absurd (none.slots Index (w.read_only_where_it_rose refl))
-  complete_unloaded this loading.TooLarge w t c found none = inr (inl refl)
-  complete_unloaded this loading.NoMemory w t c found none = inr (inr refl)
-
-  slots_unloaded : (error : LoadIndexError) → LoadsWords name d d' (Err error)
-      → (slot : Slot) → EndsByFault (FileFault slot) (unloaded error) (d.faults slot) (d'.faults slot)
-  slots_unloaded error w =
-      by_slot (λ slot. EndsByFault (FileFault slot) (unloaded error) (d.faults slot) (d'.faults slot))
-      (record {
-        only_where_it_rose = λ h. w.read_only_where_it_rose (ap refused (is_read error Index h));
-        changes_only_there = elim w.count_rises_only_there [ inl is ↦ inl (ap unloaded (same_error error loading.Read is)) | inr same ↦ inr same ];
-        never_falls = w.reads.never_fall Index;
-      })
-      (λ slot other. stays (FileFault slot) (unloaded error) _ _ (λ h. other (is_index_slot error slot h)) (w.reads.other_counts slot other))
-
   -- no words were loaded, and nothing was called on the input or out
-  pub not_loaded : (error : LoadIndexError) → LoadsWords name d d' (Err error) → Leaves (Some (Query name)) old new (unloaded error)
-  not_loaded error w = record {
+  pub not_loaded : (plan : Plan) (error : LoadIndexError) → LoadsWords name d d' (Err error) → Leaves (Some (Query name plan)) old new (unloaded error)
+  not_loaded plan error w = record {
     performs = record {
-      ends = ends_unloaded error w;
-      refuses = refuses_unloaded error w;
+      ends = ends_unloaded name d d' i o e e' n (AnswersInput (FindsIndexOf name d) old new) (inl (record { input = refl; out = refl })) error w;
+      refuses = refuses_unloaded name d d' i o e e' n error w;
       answers = record {
-        complete = λ t c found none len. complete_unloaded Done error w t.depot c found none;
-        limited = λ t c found none len. complete_unloaded InputTooLarge error w t.depot c found none;
+        complete = λ t c found none len. or_larger Done _ (complete_unloaded name d d' i o e e' n Done error w t.depot c found none);
+        limited = λ t c found none len. or_larger InputTooLarge _ (complete_unloaded name d d' i o e e' n InputTooLarge error w t.depot c found none);
       };
       depot = w.reads;
       costs = refl;
     };
     faults = record {
-      slots = slots_unloaded error w;
+      slots = slots_unloaded name d d' i o e e' n error w;
       writing = stays IndexWriteFault (unloaded error) _ _ (unloaded_writing error) w.reads.writing_count;
       input = stays InputFault (unloaded error) _ _ (unloaded_input error) refl;
       out = stays OutFault (unloaded error) _ _ (unloaded_out error) refl;
@@ -232,29 +61,14 @@ module _ (name : List ℕ) (d d' : DepotState) (i : SourceState) (o e e' : SinkS
     out_tells = refl;
   }
 
--- ---- words that are loaded
-
-loaded_counts : (name : List ℕ) (d d' : DepotState) (words : List ℕ) → LoadsWords name d d' (Ok words) → (slot : Slot) → d'.faults slot ≡ d.faults slot
-loaded_counts name d d' words w =
-    by_slot (λ slot. d'.faults slot ≡ d.faults slot)
-    (second w.count_rises_only_there (λ h. let s : ◌≡◌ {A = Result (List ℕ) LoadIndexError} (Ok words) (Err loading.Read) = h in cc))
-    (λ slot other. w.reads.other_counts slot other)
-
 module _ (words_read : WordsAreRead) (one : OneBrokenCheck) (name : List ℕ) (d d' : DepotState) (words : List ℕ) (w : LoadsWords name d d' (Ok words)) where
   -- they are no index, and their first broken check is the file's
-  pub not_opened : (i : SourceState) (o e e' : SinkState) (n : ℕ) (fault : OpenFault) → ¬ IsIndex words → IsFirstBroken words fault
-      → Leaves (Some (Query name)) (outside d i o e n) (outside d' i o e' n) (BrokenIndex fault)
-  not_opened i o e e' n fault denied first = record {
+  pub not_opened : (plan : Plan) (i : SourceState) (o e e' : SinkState) (n : ℕ) (fault : OpenFault) → ¬ IsIndex words → IsFirstBroken words fault
+      → Leaves (Some (Query name plan)) (outside d i o e n) (outside d' i o e' n) (BrokenIndex fault)
+  not_opened plan i o e e' n fault denied first = record {
     performs = record {
-      ends = λ t. record {
-        within = short (bytes_under d name) words (w.words t) w.within;
-        first = words_break (bytes_under d name) words fault (w.words t) first;
-      };
-      refuses = record {
-        broken = λ t other h. inl (ap BrokenIndex (one.one words fault other first (words_broken words_read (bytes_under d name) words other (w.words t) h.first)));
-        longer = λ t h. absurd (not_both_lengths _ _ (short (bytes_under d name) words (w.words t) w.within) h);
-        sound = λ t c found. (λ h. denied (index_words words_read name d words c t (w.words t) found), λ f h. denied (index_words words_read name d words c t (w.words t) found));
-      };
+      ends = λ t. breaks words_read one name d d' words w fault first t;
+      refuses = refuses_broken words_read one name d d' words w i o e n fault denied first;
       answers = record {
         complete = λ t c found none len. absurd (denied (index_words words_read name d words c t.depot (w.words t.depot) found));
         limited = λ t c found none len. absurd (denied (index_words words_read name d words c t.depot (w.words t.depot) found));
@@ -273,37 +87,14 @@ module _ (words_read : WordsAreRead) (one : OneBrokenCheck) (name : List ℕ) (d
     out_tells = refl;
   }
 
-  -- they are an index, which stands under the name
-  pub found_index : (index : IndexView) → Spells (numbers_of index.format) words index.collection index.parts → FindsIndexOf name d index.collection
-  found_index index spells =
-      let P : List ℕ → Type 0 = λ ws. length ws ≤ most_words in
-      let Q : List ℕ → Type 0 = λ ws. AreOfWords (bytes_under d name) ws in (
-        index.format,
-        index.parts,
-        record {
-          well_formed = spells.well_formed;
-          partitions = spells.partitions;
-          within = subst P spells.spelled w.within;
-          bytes = λ t. subst Q spells.spelled (w.words t);
-        },
-      )
-
-  unbroken : (index : IndexView) → Spells (numbers_of index.format) words index.collection index.parts → IsTrue d.tells → (fault : OpenFault) → HasBroken name d fault → ⊥
-  unbroken index spells t fault h =
-      one.none_in_index words fault (index.format, (index.collection, index.parts, spells)) (words_broken words_read (bytes_under d name) words fault (w.words t) h.first)
-
   -- and the text was answered from it, or a part of the text
-  pub is_answered : (i i' : SourceState) (o o' e e' : SinkState) (n : ℕ) (index : IndexView) → Spells (numbers_of index.format) words index.collection index.parts
+  pub is_answered : (plan : Plan) (i i' : SourceState) (o o' e e' : SinkState) (n : ℕ) (index : IndexView) → Spells (numbers_of index.format) words index.collection index.parts
       → (r : Result (Unit {0}) RunFault) → AnswersText index.collection longest_text i i' o o' r
-      → Leaves (Some (Query name)) (outside d i o e n) (outside d' i' o' e' n) (text_outcome r)
-  is_answered i i' o o' e e' n index spells r a = record {
+      → Leaves (Some (Query name plan)) (outside d i o e n) (outside d' i' o' e' n) (text_outcome r)
+  is_answered plan i i' o o' e e' n index spells r a = record {
     performs = record {
-      ends = behind_reading name before (AnswersInput (FindsIndexOf name d) before after) r (answers_input (FindsIndexOf name d) index.collection (found_index index spells) before after r a);
-      refuses = record {
-        broken = λ t fault h. absurd (unbroken index spells t fault h);
-        longer = λ t h. absurd (not_both_lengths _ _ (short (bytes_under d name) words (w.words t) w.within) h);
-        sound = λ t c found. (not_too_large r, not_no_index r);
-      };
+      ends = behind_reading name before (AnswersInput (FindsIndexOf name d) before after) r (answers_input (FindsIndexOf name d) index.collection (found_index words_read one name d d' words w index spells) before after r a);
+      refuses = refuses_none words_read one name d d' words w i o e n index spells (text_outcome r) (not_too_large r) (not_no_index r);
       answers = must_answer (FindsIndexOf name d) index.collection before after r a;
       depot = w.reads;
       costs = refl;
@@ -328,47 +119,39 @@ module _ (words_read : WordsAreRead) (one : OneBrokenCheck) (name : List ℕ) (d
 -- ---- the same of what `query` gives
 
 -- its words were not loaded
-pub query_refused : (name : List ℕ) (d d' : DepotState) (i : SourceState) (o e e' : SinkState) (n : ℕ)
+pub query_refused : (name : List ℕ) (plan : Plan) (d d' : DepotState) (i : SourceState) (o e e' : SinkState) (n : ℕ)
     (loaded : Result (Vec ℕ Global) LoadIndexError) (error : LoadIndexError) (r : Result (Unit {0}) Stop)
     → LoadsWords name d d' (words_loaded loaded) → loaded ≡ Err error → r ≡ Err (stop_of_loading error)
-    → Leaves (Some (Query name)) (outside d i o e n) (outside d' i o e' n) (outcome_of r)
-query_refused name d d' i o e e' n loaded error r w was is =
+    → Leaves (Some (Query name plan)) (outside d i o e n) (outside d' i o e' n) (outcome_of r)
+query_refused name plan d d' i o e e' n loaded error r w was is =
     let W : Result (Vec ℕ Global) LoadIndexError → Type 0 = λ x. LoadsWords name d d' (words_loaded x) in
-    let P : Result (Unit {0}) Stop → Type 0 = λ x. Leaves (Some (Query name)) (outside d i o e n) (outside d' i o e' n) (outcome_of x) in
-    subst P (sym is) (not_loaded name d d' i o e e' n error (subst W was w))
-
--- the words that were loaded, as they are lent
-lent_loaded : (name : List ℕ) (d d' : DepotState) (loaded : Result (Vec ℕ Global) LoadIndexError) (words : Vec ℕ Global) (lent : List ℕ)
-    → LoadsWords name d d' (words_loaded loaded) → loaded ≡ Ok words → lent ≡ words.items → LoadsWords name d d' (Ok lent)
-lent_loaded name d d' loaded words lent w was lends =
-    let W : Result (Vec ℕ Global) LoadIndexError → Type 0 = λ x. LoadsWords name d d' (words_loaded x) in
-    let V : List ℕ → Type 0 = λ ws. LoadsWords name d d' (Ok ws) in
-    subst V (sym lends) (subst W was w)
+    let P : Result (Unit {0}) Stop → Type 0 = λ x. Leaves (Some (Query name plan)) (outside d i o e n) (outside d' i o e' n) (outcome_of x) in
+    subst P (sym is) (not_loaded name d d' i o e e' n plan error (subst W was w))
 
 pub lent_are_few : (name : List ℕ) (d d' : DepotState) (loaded : Result (Vec ℕ Global) LoadIndexError) (words : Vec ℕ Global) (lent : List ℕ)
     → LoadsWords name d d' (words_loaded loaded) → loaded ≡ Ok words → lent ≡ words.items → length lent < 2 ^ 57
 lent_are_few name d d' loaded words lent w was lends = omega (arith, (lent_loaded name d d' loaded words lent w was lends).within)
 
 -- they are no index
-pub query_unopened : WordsAreRead → OneBrokenCheck → (name : List ℕ) (d d' : DepotState) (i : SourceState) (o e e' : SinkState) (n : ℕ)
+pub query_unopened : WordsAreRead → OneBrokenCheck → (name : List ℕ) (plan : Plan) (d d' : DepotState) (i : SourceState) (o e e' : SinkState) (n : ℕ)
     (loaded : Result (Vec ℕ Global) LoadIndexError) (words : Vec ℕ Global) (lent : List ℕ) (fault : OpenFault) (r : Result (Unit {0}) Stop)
     → LoadsWords name d d' (words_loaded loaded) → loaded ≡ Ok words → lent ≡ words.items
     → ¬ IsIndex lent → IsFirstBroken lent fault → r ≡ Err (stop.Index fault)
-    → Leaves (Some (Query name)) (outside d i o e n) (outside d' i o e' n) (outcome_of r)
-query_unopened read one name d d' i o e e' n loaded words lent fault r w was lends denied first is =
-    let P : Result (Unit {0}) Stop → Type 0 = λ x. Leaves (Some (Query name)) (outside d i o e n) (outside d' i o e' n) (outcome_of x) in
-    subst P (sym is) (not_opened read one name d d' lent (lent_loaded name d d' loaded words lent w was lends) i o e e' n fault denied first)
+    → Leaves (Some (Query name plan)) (outside d i o e n) (outside d' i o e' n) (outcome_of r)
+query_unopened read one name plan d d' i o e e' n loaded words lent fault r w was lends denied first is =
+    let P : Result (Unit {0}) Stop → Type 0 = λ x. Leaves (Some (Query name plan)) (outside d i o e n) (outside d' i o e' n) (outcome_of x) in
+    subst P (sym is) (not_opened read one name d d' lent (lent_loaded name d d' loaded words lent w was lends) plan i o e e' n fault denied first)
 
 -- the text was answered from them, or a part of it
-pub query_ended : WordsAreRead → OneBrokenCheck → (name : List ℕ) (d d' : DepotState) (i i' : SourceState) (o o' e e' : SinkState) (n : ℕ)
+pub query_ended : WordsAreRead → OneBrokenCheck → (name : List ℕ) (plan : Plan) (d d' : DepotState) (i i' : SourceState) (o o' e e' : SinkState) (n : ℕ)
     (loaded : Result (Vec ℕ Global) LoadIndexError) (words : Vec ℕ Global) (lent : List ℕ) (index : IndexView) (answer : Result (Unit {0}) RunFault) (r : Result (Unit {0}) Stop)
     → LoadsWords name d d' (words_loaded loaded) → loaded ≡ Ok words → lent ≡ words.items
     → Spells (numbers_of index.format) lent index.collection index.parts
     → AnswersText index.collection longest_text i i' o o' answer → outcome_of r ≡ text_outcome answer
-    → Leaves (Some (Query name)) (outside d i o e n) (outside d' i' o' e' n) (outcome_of r)
-query_ended read one name d d' i i' o o' e e' n loaded words lent index answer r w was lends spells a is =
-    let P : Outcome → Type 0 = λ x. Leaves (Some (Query name)) (outside d i o e n) (outside d' i' o' e' n) x in
-    subst P (sym is) (is_answered read one name d d' lent (lent_loaded name d d' loaded words lent w was lends) i i' o o' e e' n index spells answer a)
+    → Leaves (Some (Query name plan)) (outside d i o e n) (outside d' i' o' e' n) (outcome_of r)
+query_ended read one name plan d d' i i' o o' e e' n loaded words lent index answer r w was lends spells a is =
+    let P : Outcome → Type 0 = λ x. Leaves (Some (Query name plan)) (outside d i o e n) (outside d' i' o' e' n) x in
+    subst P (sym is) (is_answered read one name d d' lent (lent_loaded name d d' loaded words lent w was lends) plan i i' o o' e e' n index spells answer a)
 
 pub lent_are_found : WordsAreRead → OneBrokenCheck → (name : List ℕ) (d d' : DepotState) (loaded : Result (Vec ℕ Global) LoadIndexError) (words : Vec ℕ Global) (lent : List ℕ)
     (index : IndexView) → LoadsWords name d d' (words_loaded loaded) → loaded ≡ Ok words → lent ≡ words.items

@@ -35,7 +35,7 @@ replies_of_each one base old new answers told c found =
 -- where memory was refused and no collection stands under the base, nothing is answered
 pub unanswered : (base : List ℕ) (old new : Outside) → Answers base old new NoMemory
     → ((c : Collection) → ¬ IsAnswerable base old.depot c) → IsUnanswered old new
-unanswered base old new answers none = elim (answers.ends) [ inl h ↦ h | inr part ↦ elim (none (part.0) (part.1.1.cut.collection)) [ ] ]
+unanswered base old new answers none = elim (answers.ends) [ inl h ↦ h | inr part ↦ elim (none (part.replies.0) (part.replies.1.1.cut.collection)) [ ] ]
 
 -- where the files are broken, the run refuses them for their first fault, or a call on one of them failed, or memory was refused
 pub broken : (base : List ℕ) (old new : Outside) (outcome : Outcome) → Answers base old new outcome → IsTrue old.depot.tells

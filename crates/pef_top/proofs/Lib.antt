@@ -7,6 +7,9 @@ pub mod FileWritten
 pub mod TextAnswered
 pub mod BaseAnswered
 pub mod IndexAnswered
+pub mod TextPrinted
+pub mod SummaryPrinted
+pub mod GenerationPrinted
 pub mod RunEnds
 mod Rows
 mod Excluded
@@ -16,6 +19,8 @@ mod Landed
 mod PlainWalk
 mod Taken
 mod WordsRead
+mod NumbersParsed
 mod TextsRead
 mod Stopped
+mod IndexLoaded
 mod Headline

@@ -38,6 +38,23 @@ four (x ∷ y ∷ z ∷ w ∷ []) a b c d v t u lo hi ea eb ec ed ev et eu =
     let e4 : d ≡ w = ed in cc
 four (x ∷ y ∷ z ∷ w ∷ k ∷ words) a b c d v t u lo hi ea eb ec ed ev et eu = absurd (omega (arith, hi))
 
+pub five : (words : Words) (a b c d e : String Global) (v t u o : List ℕ) → 5 ≤ length words → length words < 6
+    → a ≡ get_or words 0 a → b ≡ get_or words 1 b → c ≡ get_or words 2 c → d ≡ get_or words 3 d → e ≡ get_or words 4 e
+    → v ≡ string_bytes b → t ≡ string_bytes c → u ≡ string_bytes d → o ≡ string_bytes e
+    → texts words ≡ string_bytes a ∷ v ∷ t ∷ u ∷ o ∷ []
+five [] a b c d e v t u o lo hi ea eb ec ed ee ev et eu eo = absurd (omega (arith, lo))
+five (x ∷ []) a b c d e v t u o lo hi ea eb ec ed ee ev et eu eo = absurd (omega (arith, lo))
+five (x ∷ y ∷ []) a b c d e v t u o lo hi ea eb ec ed ee ev et eu eo = absurd (omega (arith, lo))
+five (x ∷ y ∷ z ∷ []) a b c d e v t u o lo hi ea eb ec ed ee ev et eu eo = absurd (omega (arith, lo))
+five (x ∷ y ∷ z ∷ w ∷ []) a b c d e v t u o lo hi ea eb ec ed ee ev et eu eo = absurd (omega (arith, lo))
+five (x ∷ y ∷ z ∷ w ∷ k ∷ []) a b c d e v t u o lo hi ea eb ec ed ee ev et eu eo =
+    let e1 : a ≡ x = ea in
+    let e2 : b ≡ y = eb in
+    let e3 : c ≡ z = ec in
+    let e4 : d ≡ w = ed in
+    let e5 : e ≡ k = ee in cc
+five (x ∷ y ∷ z ∷ w ∷ k ∷ n ∷ words) a b c d e v t u o lo hi ea eb ec ed ee ev et eu eo = absurd (omega (arith, hi))
+
 pub six : (words : Words) (a b c d e f : String Global) (v t u o m : List ℕ) → 6 ≤ length words → length words < 7
     → a ≡ get_or words 0 a → b ≡ get_or words 1 b → c ≡ get_or words 2 c → d ≡ get_or words 3 d → e ≡ get_or words 4 e → f ≡ get_or words 5 f
     → v ≡ string_bytes b → t ≡ string_bytes c → u ≡ string_bytes d → o ≡ string_bytes e → m ≡ string_bytes f
@@ -59,13 +76,20 @@ six (x ∷ y ∷ z ∷ w ∷ k ∷ n ∷ q ∷ words) a b c d e f v t u o m lo h
 
 -- ---- verbs
 
-abbrev builds_if : Bool → Bool → Bool → Option Command → Option Command
-builds_if b q a built = if b then built else if q then None else if a then None else None
+-- verbs of which none has so many words
+abbrev none_asked : List Bool → Option Command
+none_asked [] = None
+none_asked (is ∷ others) = if is then None else none_asked others
 
-not_built : (q a : Bool) (built : Option Command) → builds_if false q a built ≡ None
-not_built true a built = refl
-not_built false true built = refl
-not_built false false built = refl
+nothing_asked : (verbs : List Bool) → none_asked verbs ≡ None
+nothing_asked [] = refl
+nothing_asked (true ∷ others) = refl
+nothing_asked (false ∷ others) = nothing_asked others
+
+-- which verb it is, `build` apart
+abbrev other_verbs : List ℕ → List Bool
+other_verbs verb =
+    bytes_eq verb (codes "query") ∷ bytes_eq verb (codes "answer") ∷ bytes_eq verb (codes "inspect") ∷ bytes_eq verb (codes "generate") ∷ []
 
 -- ---- so many words are one command
 
@@ -73,7 +97,7 @@ not_built false false built = refl
 pub in_format : (name verb base index option format : List ℕ) (b f : Bool) → b ≡ is_some (command_of (name ∷ verb ∷ base ∷ index ∷ []))
     → f ≡ (bytes_eq option (codes "--format") && is_some (format_of format)) → (b && f) ≡ is_some (command_of (name ∷ verb ∷ base ∷ index ∷ option ∷ format ∷ []))
 in_format name verb base index option format b f hb hf =
-    ap₂ (λ x y. x && y) hb hf ∙ go (bytes_eq verb (codes "build")) (bytes_eq verb (codes "query")) (bytes_eq verb (codes "answer")) (bytes_eq option (codes "--format"))
+    ap₂ (λ x y. x && y) hb hf ∙ go (bytes_eq verb (codes "build")) (other_verbs verb) (bytes_eq option (codes "--format"))
   where
     tested : (t : Bool) (command other : Command) → (is_some (if t then Some command else None) && true) ≡ is_some (if t then Some other else None)
     tested true command other = refl
@@ -87,19 +111,17 @@ in_format name verb base index option format b f hb hf =
     two None = never (is_some (build_in base index (Some Two)))
     two (Some format) = tested (is_text base && is_text index && not (is_file_of base index)) (Build base index Two) (Build base index format)
 
-    go : (b q a o : Bool) → (is_some (builds_if b q a (build_in base index (Some Two))) && (o && is_some (format_of format)))
-        ≡ is_some (builds_if b q a (if o then build_in base index (format_of format) else None))
-    go true q a true = two (format_of format)
-    go true q a false = never (is_some (build_in base index (Some Two)))
-    go false true a o = refl
-    go false false true o = refl
-    go false false false o = refl
+    go : (b : Bool) (others : List Bool) (o : Bool) → (is_some (if b then build_in base index (Some Two) else none_asked others) && (o && is_some (format_of format)))
+        ≡ is_some (if b then (if o then build_in base index (format_of format) else None) else none_asked others)
+    go true others true = two (format_of format)
+    go true others false = never (is_some (build_in base index (Some Two)))
+    go false others o = ap (λ c. is_some c && (o && is_some (format_of format))) (nothing_asked others) ∙ sym (ap is_some (nothing_asked others))
 
 -- ---- so many words are none
 
-ifs_none : (b q a : Bool) → builds_if b q a None ≡ None
-ifs_none true q a = refl
-ifs_none false q a = not_built q a None
+-- words whose verb is followed by as many texts as no command has
+no_verb : (verb : List ℕ) → none_asked (bytes_eq verb (codes "build") ∷ other_verbs verb) ≡ None
+no_verb verb = nothing_asked (bytes_eq verb (codes "build") ∷ other_verbs verb)
 
 none_built : {command : Option Command} → command ≡ None → false ≡ is_some command
 none_built e = sym (ap is_some e)
@@ -107,19 +129,8 @@ none_built e = sym (ap is_some e)
 pub too_few : (words : Words) → length words < 3 → false ≡ is_some (command_of (texts words))
 too_few [] lt = refl
 too_few (x ∷ []) lt = refl
-too_few (x ∷ v ∷ []) lt =
-    none_built (ifs_none (bytes_eq (string_bytes v) (codes "build")) (bytes_eq (string_bytes v) (codes "query")) (bytes_eq (string_bytes v) (codes "answer")))
+too_few (x ∷ v ∷ []) lt = none_built (no_verb (string_bytes v))
 too_few (x ∷ v ∷ a ∷ words) lt = absurd (omega (arith, lt))
-
-pub five : (words : Words) → 5 ≤ length words → length words < 6 → false ≡ is_some (command_of (texts words))
-five [] lo hi = absurd (omega (arith, lo))
-five (x ∷ []) lo hi = absurd (omega (arith, lo))
-five (x ∷ v ∷ []) lo hi = absurd (omega (arith, lo))
-five (x ∷ v ∷ a ∷ []) lo hi = absurd (omega (arith, lo))
-five (x ∷ v ∷ a ∷ b ∷ []) lo hi = absurd (omega (arith, lo))
-five (x ∷ v ∷ a ∷ b ∷ c ∷ []) lo hi =
-    none_built (ifs_none (bytes_eq (string_bytes v) (codes "build")) (bytes_eq (string_bytes v) (codes "query")) (bytes_eq (string_bytes v) (codes "answer")))
-five (x ∷ v ∷ a ∷ b ∷ c ∷ d ∷ words) lo hi = absurd (omega (arith, hi))
 
 pub too_many : (words : Words) → 7 ≤ length words → false ≡ is_some (command_of (texts words))
 too_many [] lo = absurd (omega (arith, lo))
@@ -129,5 +140,4 @@ too_many (x ∷ v ∷ a ∷ []) lo = absurd (omega (arith, lo))
 too_many (x ∷ v ∷ a ∷ b ∷ []) lo = absurd (omega (arith, lo))
 too_many (x ∷ v ∷ a ∷ b ∷ c ∷ []) lo = absurd (omega (arith, lo))
 too_many (x ∷ v ∷ a ∷ b ∷ c ∷ d ∷ []) lo = absurd (omega (arith, lo))
-too_many (x ∷ v ∷ a ∷ b ∷ c ∷ d ∷ e ∷ words) lo =
-    none_built (ifs_none (bytes_eq (string_bytes v) (codes "build")) (bytes_eq (string_bytes v) (codes "query")) (bytes_eq (string_bytes v) (codes "answer")))
+too_many (x ∷ v ∷ a ∷ b ∷ c ∷ d ∷ e ∷ words) lo = none_built (no_verb (string_bytes v))

@@ -1,19 +1,29 @@
 use Rattle.std.proofs.Common.{◌≡◌, refl, [], ◌∷◌, Some, None}
 use Rattle.std.specs.Prelude.{codes}
 use Rattle.part_cost.specs.declared.formats.Format.TheVariants.{One, Two}
+use Rattle.command_steps.specs.declared.plan.Plan.TheVariants.{Exhaustive, Wand, MaxScore}
 use Rattle.pef_io.specs.declared.fail.Slot.TheVariants.{Docs}
 use Rattle.pef_top.specs.declared.status.Status.TheVariants as status
 use Rattle.pef_top.specs.Outcome.{FileFault, IndexWriteFault, IndexTooLarge, status_of, line_of}
-use Rattle.pef_top.specs.Command.{command_of, Build, Query, Answer}
+use Rattle.pef_top.specs.Command.{command_of, Build, Query, Answer, Inspect, Generate}
 
 name-alone : command_of (codes "pefidx" ∷ []) ≡ None
 name-alone = refl
 
-answer-x : command_of (codes "pefidx" ∷ codes "answer" ∷ codes "x" ∷ []) ≡ Some (Answer (codes "x"))
+answer-x : command_of (codes "pefidx" ∷ codes "answer" ∷ codes "x" ∷ []) ≡ Some (Answer (codes "x") Exhaustive)
 answer-x = refl
 
-query-x : command_of (codes "pefidx" ∷ codes "query" ∷ codes "x" ∷ []) ≡ Some (Query (codes "x"))
+query-x : command_of (codes "pefidx" ∷ codes "query" ∷ codes "x" ∷ []) ≡ Some (Query (codes "x") Exhaustive)
 query-x = refl
+
+inspect-x : command_of (codes "pefidx" ∷ codes "inspect" ∷ codes "x" ∷ []) ≡ Some (Inspect (codes "x"))
+inspect-x = refl
+
+inspect-nothing : command_of (codes "pefidx" ∷ codes "inspect" ∷ []) ≡ None
+inspect-nothing = refl
+
+inspect-help : command_of (codes "pefidx" ∷ codes "inspect" ∷ codes "help" ∷ []) ≡ None
+inspect-help = refl
 
 two-texts : command_of (codes "pefidx" ∷ codes "query" ∷ codes "a" ∷ codes "b" ∷ []) ≡ None
 two-texts = refl
@@ -27,8 +37,50 @@ help-text = refl
 empty-text : command_of (codes "pefidx" ∷ codes "answer" ∷ [] ∷ []) ≡ None
 empty-text = refl
 
-no-plan-yet : command_of (codes "pefidx" ∷ codes "answer" ∷ codes "x" ∷ codes "--plan" ∷ codes "wand" ∷ []) ≡ None
-no-plan-yet = refl
+answer-by-wand : command_of (codes "pefidx" ∷ codes "answer" ∷ codes "x" ∷ codes "--plan" ∷ codes "wand" ∷ []) ≡ Some (Answer (codes "x") Wand)
+answer-by-wand = refl
+
+query-by-maxscore : command_of (codes "pefidx" ∷ codes "query" ∷ codes "x" ∷ codes "--plan" ∷ codes "maxscore" ∷ []) ≡ Some (Query (codes "x") MaxScore)
+query-by-maxscore = refl
+
+query-by-exhaustive : command_of (codes "pefidx" ∷ codes "query" ∷ codes "x" ∷ codes "--plan" ∷ codes "exhaustive" ∷ []) ≡ Some (Query (codes "x") Exhaustive)
+query-by-exhaustive = refl
+
+fast-plan : command_of (codes "pefidx" ∷ codes "answer" ∷ codes "x" ∷ codes "--plan" ∷ codes "fast" ∷ []) ≡ None
+fast-plan = refl
+
+no-plan : command_of (codes "pefidx" ∷ codes "answer" ∷ codes "x" ∷ codes "--plan" ∷ []) ≡ None
+no-plan = refl
+
+two-plans : command_of (codes "pefidx" ∷ codes "answer" ∷ codes "x" ∷ codes "--plan" ∷ codes "wand" ∷ codes "--plan" ∷ codes "wand" ∷ []) ≡ None
+two-plans = refl
+
+plan-first : command_of (codes "pefidx" ∷ codes "query" ∷ codes "--plan" ∷ codes "wand" ∷ codes "x" ∷ []) ≡ None
+plan-first = refl
+
+plan-of-inspect : command_of (codes "pefidx" ∷ codes "inspect" ∷ codes "x" ∷ codes "--plan" ∷ codes "wand" ∷ []) ≡ None
+plan-of-inspect = refl
+
+generate-numbers : command_of (codes "pefidx" ∷ codes "generate" ∷ codes "1" ∷ codes "3" ∷ codes "2" ∷ []) ≡ Some (Generate 1 3 2)
+generate-numbers = refl
+
+generate-leading-zeros : command_of (codes "pefidx" ∷ codes "generate" ∷ codes "0001" ∷ codes "03" ∷ codes "2" ∷ []) ≡ Some (Generate 1 3 2)
+generate-leading-zeros = refl
+
+generate-largest : command_of (codes "pefidx" ∷ codes "generate" ∷ codes "1" ∷ codes "4294967295" ∷ codes "1" ∷ []) ≡ Some (Generate 1 4294967295 1)
+generate-largest = refl
+
+generate-larger : command_of (codes "pefidx" ∷ codes "generate" ∷ codes "1" ∷ codes "4294967296" ∷ codes "1" ∷ []) ≡ None
+generate-larger = refl
+
+generate-word : command_of (codes "pefidx" ∷ codes "generate" ∷ codes "x" ∷ codes "1" ∷ codes "1" ∷ []) ≡ None
+generate-word = refl
+
+generate-plus : command_of (codes "pefidx" ∷ codes "generate" ∷ codes "+1" ∷ codes "1" ∷ codes "1" ∷ []) ≡ None
+generate-plus = refl
+
+generate-two-numbers : command_of (codes "pefidx" ∷ codes "generate" ∷ codes "1" ∷ codes "2" ∷ []) ≡ None
+generate-two-numbers = refl
 
 no-index : command_of (codes "pefidx" ∷ codes "build" ∷ codes "x" ∷ []) ≡ None
 no-index = refl

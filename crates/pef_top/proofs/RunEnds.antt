@@ -1,6 +1,6 @@
 -- What a run leaves, from what its command left and what was reported.
 use Rattle.std.proofs.Common.{◌≡◌, refl, sym, ◌∙◌, ap, subst, ℕ, List}
-use Rattle.std.specs.Prelude.{◌≢◌, not, IsTrue, Result, Ok, Err, IsOk, Option, Some, None}
+use Rattle.std.specs.Prelude.{◌≢◌, ⊤, not, IsTrue, Result, Ok, Err, IsOk, Option, Some, None}
 use Rattle.part_cost.specs.declared.formats.Format.{Format}
 use Rattle.pef_io.specs.SourceState.{SourceState}
 use Rattle.pef_io.specs.SinkState.{SinkState}
@@ -8,7 +8,8 @@ use Rattle.pef_io.specs.DepotState.{DepotState}
 use Rattle.pef_top.specs.declared.status.Status.{Status}
 use Rattle.pef_top.specs.declared.stop.Stop.{Stop}
 use Rattle.pef_top.specs.declared.stop.Stop.TheVariants as stop
-use Rattle.pef_top.specs.Command.{Command, Build, Query, Answer}
+use Rattle.command_steps.specs.declared.plan.Plan.{Plan}
+use Rattle.pef_top.specs.Command.{Command, Build, Query, Answer, Inspect, Generate}
 use Rattle.pef_top.specs.Outside.{Outside, GotText, outside}
 use Rattle.pef_top.specs.Outcome.{Outcome, Done, Usage, BrokenCollection, BrokenIndex, FileFault, InputFault, IndexWriteFault, OutFault, NoMemory, IndexTooLarge, InputTooLarge, is_refusal, status_of, line_of}
 use Rattle.pef_top.specs.Ends.{Ends}
@@ -54,10 +55,10 @@ module _ {D I O : Type 0} (accepted : Type 0) where
     unaccepted = λ h. record { input = refl; out = refl };
   }
 
-  pub query_uncalled : (index : List ℕ) (outcome : Outcome) (d d' : D) (i i' : I) (o o' : O)
+  pub query_uncalled : (index : List ℕ) (plan : Plan) (outcome : Outcome) (d d' : D) (i i' : I) (o o' : O)
       → (IsTrue (is_refusal outcome) → (i' ≡ i) × (o' ≡ o)) → (¬ accepted → (i' ≡ i) × (o' ≡ o))
-      → LeavesUncalled (Some (Query index)) accepted outcome (objects d i o) (objects d' i' o')
-  query_uncalled index outcome d d' i i' o o' refused unaccepted = record {
+      → LeavesUncalled (Some (Query index plan)) accepted outcome (objects d i o) (objects d' i' o')
+  query_uncalled index plan outcome d d' i i' o o' refused unaccepted = record {
     depot = λ h. absurd (not_true h);
     input = λ h. absurd (not_true h);
     out = λ h. absurd (not_true h);
@@ -65,16 +66,37 @@ module _ {D I O : Type 0} (accepted : Type 0) where
     unaccepted = λ h. let same = unaccepted h in record { input = same.0; out = same.1 };
   }
 
-  pub answer_uncalled : (base : List ℕ) (outcome : Outcome) (d d' : D) (i i' : I) (o o' : O)
+  pub answer_uncalled : (base : List ℕ) (plan : Plan) (outcome : Outcome) (d d' : D) (i i' : I) (o o' : O)
       → (IsTrue (is_refusal outcome) → (i' ≡ i) × (o' ≡ o)) → (¬ accepted → (i' ≡ i) × (o' ≡ o))
-      → LeavesUncalled (Some (Answer base)) accepted outcome (objects d i o) (objects d' i' o')
-  answer_uncalled base outcome d d' i i' o o' refused unaccepted = record {
+      → LeavesUncalled (Some (Answer base plan)) accepted outcome (objects d i o) (objects d' i' o')
+  answer_uncalled base plan outcome d d' i i' o o' refused unaccepted = record {
     depot = λ h. absurd (not_true h);
     input = λ h. absurd (not_true h);
     out = λ h. absurd (not_true h);
     refused = λ h. let same = refused h in record { input = same.0; out = same.1 };
     unaccepted = λ h. let same = unaccepted h in record { input = same.0; out = same.1 };
   }
+
+  pub inspect_uncalled : (index : List ℕ) (outcome : Outcome) (d d' : D) (i : I) (o o' : O) → (IsTrue (is_refusal outcome) → o' ≡ o) → (¬ accepted → o' ≡ o)
+      → LeavesUncalled (Some (Inspect index)) accepted outcome (objects d i o) (objects d' i o')
+  inspect_uncalled index outcome d d' i o o' refused unaccepted = record {
+    depot = λ h. absurd (not_true h);
+    input = λ h. refl;
+    out = λ h. absurd (not_true h);
+    refused = λ h. record { input = refl; out = refused h };
+    unaccepted = λ h. record { input = refl; out = unaccepted h };
+  }
+
+-- what reads nothing accepts always
+pub generate_uncalled : {D I O : Type 0} (seed n t : ℕ) (outcome : Outcome) (d : D) (i : I) (o o' : O) → (IsTrue (is_refusal outcome) → o' ≡ o)
+    → LeavesUncalled (Some (Generate seed n t)) ⊤ outcome (objects d i o) (objects d i o')
+generate_uncalled seed n t outcome d i o o' refused = record {
+  depot = λ h. refl;
+  input = λ h. refl;
+  out = λ h. absurd (not_true h);
+  refused = λ h. record { input = refl; out = refused h };
+  unaccepted = λ h. absurd (h tt);
+}
 
 -- all is done only where nothing stopped the run
 not_done : (s : Stop) → outcome_of_stop s ≢ Done

@@ -97,9 +97,10 @@ answers_input Is c is old new (Ok u) a = record {
   within = λ t. (a.to_end t).1;
 }
 answers_input Is c is old new (Err answering.Read) a = (c, is, λ t. a.read t refl)
-answers_input Is c is old new (Err answering.Write) a = (c, is, λ t. a.write t refl)
+answers_input Is c is old new (Err answering.Write) a = record { replies = (c, is, λ t. (a.write t refl, a.limited t)); taken = λ t. a.taken t }
 answers_input Is c is old new (Err answering.TooLarge) a = record { replies = (c, is, λ t. a.too_large t refl); longer = λ t. a.longer t refl }
-answers_input Is c is old new (Err answering.NoMemory) a = inr (c, is, λ t. a.no_memory t refl)
+answers_input Is c is old new (Err answering.NoMemory) a =
+    inr (record { replies = (c, is, λ t. (a.no_memory t refl, a.limited t)); taken = λ t. a.taken t })
 
 -- a text within the limit is answered whole, and a longer one is not
 pub must_answer : (Is : Collection → Type 0) (c : Collection) (old new : Outside) (r : Answer)

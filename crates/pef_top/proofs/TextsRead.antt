@@ -4,8 +4,9 @@ use Rattle.std.specs.Prelude.{List, Option, Some, None, codes, option_map, optio
 use Rattle.std.specs.Borrow.{Bor}
 use Rattle.clap.specs.Words.{Row, Text, first_of}
 use Rattle.part_cost.specs.declared.formats.Format.{Format}
-use Rattle.pef_top.specs.Command.{Build, format_of}
-use Rattle.pef_top.specs.Private.CommandLine.{build_from, build_with}
+use Rattle.command_steps.specs.declared.plan.Plan.{Plan}
+use Rattle.pef_top.specs.Command.{Command, Build, format_of}
+use Rattle.pef_top.specs.Private.CommandLine.{build_from, build_with, answering_from}
 
 -- a text, as the borrowed text that is read
 abbrev pub now_of : Option (Bor Text) → Option Text
@@ -57,6 +58,22 @@ module _ (rows : List Row) where
   all_three base index name format eb ei en ef =
       sym (ap (λ o. build_from o index_in (option_and_then format_of format_in)) eb ∙ ap (λ o. build_from (Some base) o (option_and_then format_of format_in)) ei
       ∙ ap (λ o. build_from (Some base) (Some index) (option_and_then format_of o)) en ∙ ap (build_from (Some base) (Some index)) ef)
+
+-- ---- `query` and `answer`
+
+module _ (make : Text → Plan → Command) where
+  pub no_text : (text : Option Text) (plan : Option Plan) → text ≡ None → None ≡ answering_from make text plan
+  no_text text plan e = sym (ap (λ o. answering_from make o plan) e)
+
+  without_plan : (text : Option Text) → answering_from make text None ≡ None
+  without_plan None = refl
+  without_plan (Some text) = refl
+
+  pub no_plan : (text : Option Text) (plan : Option Plan) → plan ≡ None → None ≡ answering_from make text plan
+  no_plan text plan e = sym (ap (answering_from make text) e ∙ without_plan text)
+
+  pub text_and_plan : (text : Option Text) (plan : Option Plan) (t : Text) (p : Plan) → text ≡ Some t → plan ≡ Some p → Some (make t p) ≡ answering_from make text plan
+  text_and_plan text plan t p et ep = sym (ap (λ o. answering_from make o plan) et ∙ ap (answering_from make (Some t)) ep)
 
 -- ---- the subcommand
 

@@ -9,7 +9,7 @@ use Rattle.pef_top.specs.Outside.{outside, GotText}
 use Rattle.pef_top.specs.ErrLines.{memory_line}
 use Rattle.pef_top.specs.Outcome.{NoMemory}
 use Rattle.pef_top.specs.Ends.{Ends}
-use Rattle.pef_top.specs.Command.{Command, Build, Query, Answer}
+use Rattle.pef_top.specs.Command.{Command, Build, Query, Answer, Inspect, Generate}
 use Rattle.pef_top.specs.Commands.{Performs}
 
 -- a depot of which nothing was called
@@ -50,16 +50,27 @@ performs (Build base index format) d i o e e' s = record {
   complete = λ t c h n. inr (inr refl);
   depot = record { refused = λ h. same _ d; unaccepted = λ h. same _ d; stay_started = λ slot h. h; other_slots = λ slot h. (refl, λ t. refl) };
 }
-performs (Query index) d i o e e' s = record {
+performs (Query index plan) d i o e e' s = record {
   ends = inl (record { input = refl; out = refl });
   refuses = record { broken = λ t f h. inr (inr refl); longer = λ t h. inr (inr refl); sound = λ t c h. (λ e. cc, λ f e. cc) };
   answers = record { complete = λ t c h n l. inr (inr refl); limited = λ t c h n l. inr (inr refl) };
   depot = same _ d;
   costs = refl;
 }
-performs (Answer base) d i o e e' s = record {
+performs (Answer base plan) d i o e e' s = record {
   ends = inl (record { input = refl; out = refl });
   refuses = record { broken = λ t f h. inr (inr refl); sound = λ t c h f e. cc };
   answers = record { complete = λ t c h n l. inr (inr refl); limited = λ t c h n l. inr (inr refl) };
   depot = same _ d;
+}
+performs (Inspect index) d i o e e' s = record {
+  ends = inl refl;
+  refuses = record { broken = λ t f h. inr (inr refl); longer = λ t h. inr (inr refl); sound = λ t c h. (λ e. cc, λ f e. cc) };
+  complete = λ t c h n. inr refl;
+  depot = same _ d;
+  costs = refl;
+}
+performs (Generate seed n t) d i o e e' s = record {
+  ends = inl refl;
+  complete = λ none. inr (inr refl);
 }

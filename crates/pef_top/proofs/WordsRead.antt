@@ -1,14 +1,20 @@
 -- `clap` reads each command as the words ask for it.
 use Rattle.std.proofs.Common.{◌≡◌, refl, sym, ap, ◌∙◌, subst, true≢false}
 use Rattle.std.specs.Prelude.{◌==◌, ◌&&◌, not, ℕ, Bool, true, false, List, [], ◌∷◌, codes, bytes_eq, is_some, if◌then◌else◌, Option, Some, None}
+use Rattle.std.specs.Char.{is_ascii_digit}
 use Rattle.std.specs.Cmp.Lexicographic.{same_text}
+use Rattle.std.proofs.lemmas.Bool.{eqb-true}
 use Rattle.clap.specs.Walk.{Text}
 use Rattle.clap.specs.Simple.{subcommand_of}
 use Rattle.clap.specs.Takes.{takes}
 use Rattle.part_cost.specs.declared.formats.Format.{Format}
 use Rattle.part_cost.specs.declared.formats.Format.TheVariants.{One, Two}
-use Rattle.pef_top.specs.Command.{Command, Build, Query, Answer, command_of, build_command, build_in, format_of, text_command, is_text, is_file_of}
+use Rattle.query_text.specs.Numbers.{number_of}
+use Rattle.command_steps.specs.declared.plan.Plan.{Plan}
+use Rattle.command_steps.specs.declared.plan.Plan.TheVariants.{Exhaustive, Wand, MaxScore}
+use Rattle.pef_top.specs.Command.{Command, Build, Query, Answer, Inspect, command_of, build_command, build_in, format_of, answering_command, answered_by, plan_of, text_command, generate_command, generate_of, is_text, is_file_of}
 use Rattle.pef_top.specs.Private.CommandLine.{program_app, asked_in}
+use Rattle.pef_top.proofs.Taken.{format_name, format_words, plan_name, plan_words}
 use Rattle.pef_top.proofs.Taken as clap
 
 -- the words are taken, and their matches ask for this command
@@ -27,41 +33,108 @@ no_minus false h = refl
 plain : (x : ℕ) (xs : Text) → is_text (x ∷ xs) ≡ true → (x == 45) ≡ false
 plain x xs h = no_minus (x == 45) (both _ _ h).1
 
--- ---- one text
-
-query_text : (name text : Text) → is_text text ≡ true → IsRead (name ∷ codes "query" ∷ text ∷ []) (Some (Query text))
-query_text name [] h = cc
-query_text name (x ∷ xs) h = (clap.query_taken name x xs (plain x xs h), clap.query_asked name x xs (plain x xs h))
-
-answer_text : (name text : Text) → is_text text ≡ true → IsRead (name ∷ codes "answer" ∷ text ∷ []) (Some (Answer text))
-answer_text name [] h = cc
-answer_text name (x ∷ xs) h = (clap.answer_taken name x xs (plain x xs h), clap.answer_asked name x xs (plain x xs h))
-
 -- where there is a command after a test, the test passed
 chosen : (b : Bool) (command : Command) → is_some (if b then Some command else None) ≡ true → (b ≡ true) × ((if b then Some command else None) ≡ Some command)
 chosen true command h = (refl, refl)
 chosen false command h = cc
 
-query_read : (name : Text) (args : List Text) → is_some (text_command Query args) ≡ true → IsRead (name ∷ codes "query" ∷ args) (text_command Query args)
-query_read name [] h = cc
-query_read name (text ∷ []) h =
-    let is = chosen (is_text text) (Query text) h in
-    subst (IsRead (name ∷ codes "query" ∷ text ∷ [])) (sym is.1) (query_text name text is.0)
-query_read name (text ∷ word ∷ words) h = cc
+-- ---- an option and its value
 
-answer_read : (name : Text) (args : List Text) → is_some (text_command Answer args) ≡ true → IsRead (name ∷ codes "answer" ∷ args) (text_command Answer args)
-answer_read name [] h = cc
-answer_read name (text ∷ []) h =
-    let is = chosen (is_text text) (Answer text) h in
-    subst (IsRead (name ∷ codes "answer" ∷ text ∷ [])) (sym is.1) (answer_text name text is.0)
-answer_read name (text ∷ word ∷ words) h = cc
+-- where an option with a value is a command, the option is this one and the value names something
+module _ {A : Type 0} (known : Text) (of : Text → Option A) (f : Option A → Option Command) (nothing : f None ≡ None) (option value : Text) where
+  abbrev Named : Option A → Type 0
+  Named named = (a : A) × (named ≡ Some a) × (option ≡ known) × ((if bytes_eq option known then f (of value) else None) ≡ f (Some a))
+
+  pub named : is_some (if bytes_eq option known then f (of value) else None) ≡ true → Named (of value)
+  named h = go (bytes_eq option known) refl (of value) refl
+    where
+      go : (b : Bool) → bytes_eq option known ≡ b → (o : Option A) → of value ≡ o → Named (of value)
+      go false e o eo = let none : is_some (if bytes_eq option known then f (of value) else None) ≡ false = rw e refl in absurd (true≢false (sym h ∙ none))
+      go true e None eo =
+          let none : is_some (if bytes_eq option known then f (of value) else None) ≡ false = ap (λ b. is_some (if b then f (of value) else None)) e ∙ ap (λ o. is_some (f o)) eo ∙ ap is_some nothing in
+          absurd (true≢false (sym h ∙ none))
+      go true e (Some a) eo = (a, eo, same_text option known (sym e), ap (λ b. if b then f (of value) else None) e ∙ ap f eo)
+
+format_named : (name : Text) (format : Format) → format_of name ≡ Some format → name ≡ format_name format
+format_named name format h = go (bytes_eq name (codes "1")) refl (bytes_eq name (codes "2")) refl format h
+  where
+    go : (b : Bool) → bytes_eq name (codes "1") ≡ b → (d : Bool) → bytes_eq name (codes "2") ≡ d
+        → (format : Format) → (if b then Some One else if d then Some Two else None) ≡ Some format → name ≡ format_name format
+    go true e d f One h = same_text name (codes "1") (sym e)
+    go true e d f Two h = cc
+    go false e true f One h = cc
+    go false e true f Two h = same_text name (codes "2") (sym f)
+    go false e false f format h = cc
+
+plan_named : (name : Text) (plan : Plan) → plan_of name ≡ Some plan → name ≡ plan_name plan
+plan_named name plan h = go (bytes_eq name (codes "exhaustive")) refl (bytes_eq name (codes "wand")) refl (bytes_eq name (codes "maxscore")) refl plan h
+  where
+    go : (b : Bool) → bytes_eq name (codes "exhaustive") ≡ b → (d : Bool) → bytes_eq name (codes "wand") ≡ d → (m : Bool) → bytes_eq name (codes "maxscore") ≡ m
+        → (plan : Plan) → (if b then Some Exhaustive else if d then Some Wand else if m then Some MaxScore else None) ≡ Some plan → name ≡ plan_name plan
+    go true e d f m g Exhaustive h = same_text name (codes "exhaustive") (sym e)
+    go true e d f m g Wand h = cc
+    go true e d f m g MaxScore h = cc
+    go false e true f m g Exhaustive h = cc
+    go false e true f m g Wand h = same_text name (codes "wand") (sym f)
+    go false e true f m g MaxScore h = cc
+    go false e false f true g Exhaustive h = cc
+    go false e false f true g Wand h = cc
+    go false e false f true g MaxScore h = same_text name (codes "maxscore") (sym g)
+    go false e false f false g plan h = cc
+
+-- ---- one text
+
+inspect_text : (name text : Text) → is_text text ≡ true → IsRead (name ∷ codes "inspect" ∷ text ∷ []) (Some (Inspect text))
+inspect_text name [] h = cc
+inspect_text name (x ∷ xs) h = (clap.inspect_taken name x xs (plain x xs h), clap.inspect_asked name x xs (plain x xs h))
+
+inspect_read : (name : Text) (args : List Text) → is_some (text_command Inspect args) ≡ true → IsRead (name ∷ codes "inspect" ∷ args) (text_command Inspect args)
+inspect_read name [] h = cc
+inspect_read name (text ∷ []) h =
+    let is = chosen (is_text text) (Inspect text) h in
+    subst (IsRead (name ∷ codes "inspect" ∷ text ∷ [])) (sym is.1) (inspect_text name text is.0)
+inspect_read name (text ∷ word ∷ words) h = cc
+
+-- ---- one text, and a plan
+
+query_text : (name text : Text) → is_text text ≡ true → IsRead (name ∷ codes "query" ∷ text ∷ []) (Some (Query text Exhaustive))
+query_text name [] h = cc
+query_text name (x ∷ xs) h = (clap.query_taken name x xs (plain x xs h), clap.query_asked name x xs (plain x xs h))
+
+query_text_by : (name text : Text) (plan : Plan) → is_text text ≡ true → IsRead (name ∷ codes "query" ∷ text ∷ plan_words plan) (Some (Query text plan))
+query_text_by name [] plan h = cc
+query_text_by name (x ∷ xs) plan h = (clap.query_by_taken name x xs (plain x xs h) plan, clap.query_by_asked name x xs (plain x xs h) plan)
+
+answer_text : (name text : Text) → is_text text ≡ true → IsRead (name ∷ codes "answer" ∷ text ∷ []) (Some (Answer text Exhaustive))
+answer_text name [] h = cc
+answer_text name (x ∷ xs) h = (clap.answer_taken name x xs (plain x xs h), clap.answer_asked name x xs (plain x xs h))
+
+answer_text_by : (name text : Text) (plan : Plan) → is_text text ≡ true → IsRead (name ∷ codes "answer" ∷ text ∷ plan_words plan) (Some (Answer text plan))
+answer_text_by name [] plan h = cc
+answer_text_by name (x ∷ xs) plan h = (clap.answer_by_taken name x xs (plain x xs h) plan, clap.answer_by_asked name x xs (plain x xs h) plan)
+
+module _ (name verb : Text) (make : Text → Plan → Command)
+    (alone : (text : Text) → is_text text ≡ true → IsRead (name ∷ verb ∷ text ∷ []) (Some (make text Exhaustive)))
+    (by : (text : Text) (plan : Plan) → is_text text ≡ true → IsRead (name ∷ verb ∷ text ∷ plan_words plan) (Some (make text plan))) where
+  answered_by_read : (text : Text) (words : List Text) (plan : Plan) → is_some (answered_by make text (Some plan)) ≡ true
+      → (is_text text ≡ true → IsRead (name ∷ verb ∷ text ∷ words) (Some (make text plan)))
+      → IsRead (name ∷ verb ∷ text ∷ words) (answered_by make text (Some plan))
+  answered_by_read text words plan h reads =
+      let is = chosen (is_text text) (make text plan) h in
+      subst (IsRead (name ∷ verb ∷ text ∷ words)) (sym is.1) (reads is.0)
+
+  answering_read : (args : List Text) → is_some (answering_command make args) ≡ true → IsRead (name ∷ verb ∷ args) (answering_command make args)
+  answering_read [] h = cc
+  answering_read (text ∷ []) h = answered_by_read text [] Exhaustive h (alone text)
+  answering_read (text ∷ option ∷ []) h = cc
+  answering_read (text ∷ option ∷ value ∷ []) h =
+      let is = named (codes "--plan") plan_of (answered_by make text) refl option value h in
+      let words : option ∷ value ∷ [] ≡ plan_words is.0 = ap (λ o. o ∷ value ∷ []) is.2 ∙ ap (λ v. codes "--plan" ∷ v ∷ []) (plan_named value is.0 is.1) in
+      let read = answered_by_read text (plan_words is.0) is.0 (ap is_some (sym is.3) ∙ h) (by text is.0) in
+      subst (λ w. IsRead (name ∷ verb ∷ text ∷ w) (answering_command make (text ∷ option ∷ value ∷ []))) (sym words) (subst (IsRead (name ∷ verb ∷ text ∷ plan_words is.0)) (sym is.3) read)
+  answering_read (text ∷ option ∷ plan ∷ word ∷ words) h = cc
 
 -- ---- two texts, and a format
-
--- what follows the texts, in a format
-abbrev option_words : Format → List Text
-option_words One = codes "--format" ∷ codes "1" ∷ []
-option_words Two = codes "--format" ∷ codes "2" ∷ []
 
 build_texts : (name base index : Text) → is_text base ≡ true → is_text index ≡ true
     → IsRead (name ∷ codes "build" ∷ base ∷ index ∷ []) (Some (Build base index Two))
@@ -70,25 +143,11 @@ build_texts name (x ∷ xs) [] hb hi = cc
 build_texts name (x ∷ xs) (y ∷ ys) hb hi = (clap.build_taken name x y xs ys (plain x xs hb) (plain y ys hi), clap.build_asked name x y xs ys (plain x xs hb) (plain y ys hi))
 
 build_texts_in : (name base index : Text) (format : Format) → is_text base ≡ true → is_text index ≡ true
-    → IsRead (name ∷ codes "build" ∷ base ∷ index ∷ option_words format) (Some (Build base index format))
+    → IsRead (name ∷ codes "build" ∷ base ∷ index ∷ format_words format) (Some (Build base index format))
 build_texts_in name [] index format hb hi = cc
 build_texts_in name (x ∷ xs) [] format hb hi = cc
-build_texts_in name (x ∷ xs) (y ∷ ys) One hb hi = (clap.build_in_one_taken name x y xs ys (plain x xs hb) (plain y ys hi), clap.build_in_one_asked name x y xs ys (plain x xs hb) (plain y ys hi))
-build_texts_in name (x ∷ xs) (y ∷ ys) Two hb hi = (clap.build_in_two_taken name x y xs ys (plain x xs hb) (plain y ys hi), clap.build_in_two_asked name x y xs ys (plain x xs hb) (plain y ys hi))
-
--- a format that has a name has one of two names
-named : (name : Text) → is_some (format_of name) ≡ true → (format : Format) × (format_of name ≡ Some format) × (codes "--format" ∷ name ∷ [] ≡ option_words format)
-named name h = go (bytes_eq name (codes "1")) refl (bytes_eq name (codes "2")) refl
-  where
-    go : (b : Bool) → bytes_eq name (codes "1") ≡ b → (d : Bool) → bytes_eq name (codes "2") ≡ d
-        → (format : Format) × (format_of name ≡ Some format) × (codes "--format" ∷ name ∷ [] ≡ option_words format)
-    go true e d f = (One, rw e refl, ap (λ n. codes "--format" ∷ n ∷ []) (same_text name (codes "1") (sym e)))
-    go false e true f = (Two, rw (e, f) refl, ap (λ n. codes "--format" ∷ n ∷ []) (same_text name (codes "2") (sym f)))
-    go false e false f = let none : is_some (format_of name) ≡ false = rw (e, f) refl in absurd (true≢false (sym h ∙ none))
-
-no_format : (format : Option Format) → is_some format ≡ false → format ≡ None
-no_format None h = refl
-no_format (Some format) h = cc
+build_texts_in name (x ∷ xs) (y ∷ ys) format hb hi =
+    (clap.build_in_taken name x y xs ys (plain x xs hb) (plain y ys hi) format, clap.build_in_asked name x y xs ys (plain x xs hb) (plain y ys hi) format)
 
 build_in_read : (name base index : Text) (words : List Text) (format : Format) → is_some (build_in base index (Some format)) ≡ true
     → (is_text base ≡ true → is_text index ≡ true → IsRead (name ∷ codes "build" ∷ base ∷ index ∷ words) (Some (Build base index format)))
@@ -104,32 +163,63 @@ build_read name [] h = cc
 build_read name (base ∷ []) h = cc
 build_read name (base ∷ index ∷ []) h = build_in_read name base index [] Two h (build_texts name base index)
 build_read name (base ∷ index ∷ option ∷ []) h = cc
-build_read name (base ∷ index ∷ option ∷ format ∷ []) h = go (bytes_eq option (codes "--format")) refl (is_some (format_of format)) refl
-  where
-    P : List Text → Type 0
-    P words = IsRead (name ∷ codes "build" ∷ base ∷ index ∷ words) (build_command (base ∷ index ∷ option ∷ format ∷ []))
-
-    go : (b : Bool) → bytes_eq option (codes "--format") ≡ b → (d : Bool) → is_some (format_of format) ≡ d → P (option ∷ format ∷ [])
-    go false e d f = let none : is_some (build_command (base ∷ index ∷ option ∷ format ∷ [])) ≡ false = rw e refl in absurd (true≢false (sym h ∙ none))
-    go true e false f =
-        let none : format_of format ≡ None = no_format (format_of format) f in
-        let bad : is_some (build_command (base ∷ index ∷ option ∷ format ∷ [])) ≡ false = rw (e, none) refl in absurd (true≢false (sym h ∙ bad))
-    go true e true f =
-        let is = named format f in
-        let command : build_command (base ∷ index ∷ option ∷ format ∷ []) ≡ build_in base index (Some is.0) =
-        ap (λ b. if b then build_in base index (format_of format) else None) e ∙ ap (build_in base index) is.1 in
-        let words : option ∷ format ∷ [] ≡ option_words is.0 = ap (λ o. o ∷ format ∷ []) (same_text option (codes "--format") (sym e)) ∙ is.2 in
-        let read : IsRead (name ∷ codes "build" ∷ base ∷ index ∷ option_words is.0) (build_in base index (Some is.0)) =
-        build_in_read name base index (option_words is.0) is.0 (ap is_some (sym command) ∙ h) (build_texts_in name base index is.0) in
-        subst P (sym words) (subst (IsRead (name ∷ codes "build" ∷ base ∷ index ∷ option_words is.0)) (sym command) read)
+build_read name (base ∷ index ∷ option ∷ value ∷ []) h =
+    let is = named (codes "--format") format_of (build_in base index) refl option value h in
+    let words : option ∷ value ∷ [] ≡ format_words is.0 = ap (λ o. o ∷ value ∷ []) is.2 ∙ ap (λ v. codes "--format" ∷ v ∷ []) (format_named value is.0 is.1) in
+    let read = build_in_read name base index (format_words is.0) is.0 (ap is_some (sym is.3) ∙ h) (build_texts_in name base index is.0) in
+    subst (λ w. IsRead (name ∷ codes "build" ∷ base ∷ index ∷ w) (build_command (base ∷ index ∷ option ∷ value ∷ []))) (sym words)
+    (subst (IsRead (name ∷ codes "build" ∷ base ∷ index ∷ format_words is.0)) (sym is.3) read)
 build_read name (base ∷ index ∷ option ∷ format ∷ word ∷ words) h = cc
+
+-- ---- three numbers
+
+passed : {A : Type 0} (b : Bool) (a : A) → is_some (if b then Some a else None) ≡ true → b ≡ true
+passed true a h = refl
+passed false a h = cc
+
+-- a digit is no minus sign
+digit_plain : (x : ℕ) → is_ascii_digit x ≡ true → (x == 45) ≡ false
+digit_plain x h = go (x == 45) refl
+  where
+    go : (b : Bool) → (x == 45) ≡ b → b ≡ false
+    go false e = refl
+    go true e = let is : x ≡ 45 = eqb-true x 45 e in let bad : is_ascii_digit 45 ≡ true = subst (λ c. is_ascii_digit c ≡ true) is h in cc
+
+number_plain : (x : ℕ) (xs : Text) → is_some (number_of (x ∷ xs)) ≡ true → (x == 45) ≡ false
+number_plain x xs h = digit_plain x (both _ _ (both _ _ (both _ _ (passed _ _ h)).0).1).0
+
+all_three : (seed n t : Option ℕ) → is_some (generate_of seed n t) ≡ true → (is_some seed ≡ true) × (is_some n ≡ true) × (is_some t ≡ true)
+all_three None n t h = cc
+all_three (Some seed) None t h = cc
+all_three (Some seed) (Some n) None h = cc
+all_three (Some seed) (Some n) (Some t) h = (refl, refl, refl)
+
+numbers_read : (name seed n t : Text) → is_some (number_of seed) ≡ true → is_some (number_of n) ≡ true → is_some (number_of t) ≡ true
+    → IsRead (name ∷ codes "generate" ∷ seed ∷ n ∷ t ∷ []) (generate_command (seed ∷ n ∷ t ∷ []))
+numbers_read name [] n t hs hn ht = cc
+numbers_read name (x ∷ xs) [] t hs hn ht = cc
+numbers_read name (x ∷ xs) (y ∷ ys) [] hs hn ht = cc
+numbers_read name (x ∷ xs) (y ∷ ys) (z ∷ zs) hs hn ht = (
+  clap.generate_taken name x y z xs ys zs (number_plain x xs hs) (number_plain y ys hn) (number_plain z zs ht),
+  clap.generate_asked name x y z xs ys zs (number_plain x xs hs) (number_plain y ys hn) (number_plain z zs ht),
+)
+
+generate_read : (name : Text) (args : List Text) → is_some (generate_command args) ≡ true → IsRead (name ∷ codes "generate" ∷ args) (generate_command args)
+generate_read name [] h = cc
+generate_read name (seed ∷ []) h = cc
+generate_read name (seed ∷ n ∷ []) h = cc
+generate_read name (seed ∷ n ∷ t ∷ []) h =
+    let are = all_three (number_of seed) (number_of n) (number_of t) h in
+    numbers_read name seed n t are.0 are.1 are.2
+generate_read name (seed ∷ n ∷ t ∷ word ∷ words) h = cc
 
 -- ---- any words
 
 pub read : (words : List Text) → is_some (command_of words) ≡ true → IsRead words (command_of words)
 read [] h = cc
 read (name ∷ []) h = cc
-read (name ∷ verb ∷ args) h = go (bytes_eq verb (codes "build")) refl (bytes_eq verb (codes "query")) refl (bytes_eq verb (codes "answer")) refl
+read (name ∷ verb ∷ args) h =
+    go (bytes_eq verb (codes "build")) refl (bytes_eq verb (codes "query")) refl (bytes_eq verb (codes "answer")) refl (bytes_eq verb (codes "inspect")) refl (bytes_eq verb (codes "generate")) refl
   where
     Goal : Type 0
     Goal = IsRead (name ∷ verb ∷ args) (command_of (name ∷ verb ∷ args))
@@ -140,8 +230,11 @@ read (name ∷ verb ∷ args) h = go (bytes_eq verb (codes "build")) refl (bytes
         let same : verb ≡ known = same_text verb known (sym e) in
         subst (λ v. IsRead (name ∷ v ∷ args) (command_of (name ∷ v ∷ args))) (sym same) (reads (ap (λ v. is_some (command_of (name ∷ v ∷ args))) (sym same) ∙ h))
 
-    go : (b : Bool) → bytes_eq verb (codes "build") ≡ b → (q : Bool) → bytes_eq verb (codes "query") ≡ q → (a : Bool) → bytes_eq verb (codes "answer") ≡ a → Goal
-    go true e q f a g = is (codes "build") e (build_read name args)
-    go false e true f a g = is (codes "query") f (query_read name args)
-    go false e false f true g = is (codes "answer") g (answer_read name args)
-    go false e false f false g = let none : is_some (command_of (name ∷ verb ∷ args)) ≡ false = rw (e, f, g) refl in absurd (true≢false (sym h ∙ none))
+    go : (b : Bool) → bytes_eq verb (codes "build") ≡ b → (q : Bool) → bytes_eq verb (codes "query") ≡ q → (a : Bool) → bytes_eq verb (codes "answer") ≡ a
+        → (i : Bool) → bytes_eq verb (codes "inspect") ≡ i → (n : Bool) → bytes_eq verb (codes "generate") ≡ n → Goal
+    go true e q f a g i k n l = is (codes "build") e (build_read name args)
+    go false e true f a g i k n l = is (codes "query") f (answering_read name (codes "query") Query (query_text name) (query_text_by name) args)
+    go false e false f true g i k n l = is (codes "answer") g (answering_read name (codes "answer") Answer (answer_text name) (answer_text_by name) args)
+    go false e false f false g true k n l = is (codes "inspect") k (inspect_read name args)
+    go false e false f false g false k true l = is (codes "generate") l (generate_read name args)
+    go false e false f false g false k false l = let none : is_some (command_of (name ∷ verb ∷ args)) ≡ false = rw (e, f, g, k, l) refl in absurd (true≢false (sym h ∙ none))

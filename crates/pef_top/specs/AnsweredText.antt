@@ -25,9 +25,11 @@ abbrev pub AnswersRead : (Collection → Type 0) → Outside → Outside → Typ
 AnswersRead Is old new = OnAccepted Is old (λ c. (read : List ℕ) × (old.input.left ≡ read ++ new.input.left) × (length read ≤ longest_text)
     × GotReplies c (ended_lines read) old.out new.out)
 
--- Out got a front of the replies.
-abbrev pub AnswersInPart : (Collection → Type 0) → Outside → Outside → Type 0
-AnswersInPart Is old new = OnAccepted Is old (λ c. GotFrontOfReplies c (text_lines old.input.left) old.out new.out)
+-- Out got a front of the replies, also of those to the lines of the bytes within the limit, and what is left of the input is what was not read.
+pub record AnswersInPart (Is : Collection → Type 0) (old new : Outside) : Type 0 where
+  pub replies : OnAccepted Is old (λ c. GotFrontOfReplies c (text_lines old.input.left) old.out new.out
+      × GotFrontOfReplies c (text_lines (take longest_text old.input.left)) old.out new.out)
+  pub taken : IsTrue old.input.tells → (read : List ℕ) × (old.input.left ≡ read ++ new.input.left)
 
 -- More bytes than the limit were read, and the lines that ended within the limit are answered.
 pub record AnswersWithin (Is : Collection → Type 0) (old new : Outside) : Type 0 where

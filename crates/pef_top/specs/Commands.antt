@@ -2,13 +2,15 @@ use Rattle.std.specs.Prelude.{◌≡◌, Option, Some, None}
 use Rattle.pef_io.specs.SinkState.{SinkState}
 use Rattle.pef_top.specs.declared.status.Status.{Status}
 use Rattle.pef_top.specs.declared.status.Status.TheVariants as status
-use Rattle.pef_top.specs.Command.{Command, Build, Query, Answer}
+use Rattle.pef_top.specs.Command.{Command, Build, Query, Answer, Inspect, Generate}
 use Rattle.pef_top.specs.ErrLines.{usage_line}
 use Rattle.pef_top.specs.Outside.{Outside, GotText}
 use Rattle.pef_top.specs.Outcome.{Outcome, Usage}
 use Rattle.pef_top.specs.Build.{Builds}
 use Rattle.pef_top.specs.Query.{Queries}
 use Rattle.pef_top.specs.Answer.{Answers}
+use Rattle.pef_top.specs.Inspect.{Inspects}
+use Rattle.pef_top.specs.Generate.{Generates}
 
 -- Words that are no command end the run with the usage line.
 pub record IsUsage (old new : SinkState) (result : Status) : Type 0 where
@@ -24,5 +26,7 @@ pub record RefusesWords (old new : Outside) (outcome : Outcome) : Type 0 where
 abbrev pub Performs : Option Command → Outside → Outside → Outcome → Type 0
 Performs None old new outcome = RefusesWords old new outcome
 Performs (Some (Build base index format)) old new outcome = Builds format base index old new outcome
-Performs (Some (Query index)) old new outcome = Queries index old new outcome
-Performs (Some (Answer base)) old new outcome = Answers base old new outcome
+Performs (Some (Query index plan)) old new outcome = Queries index old new outcome
+Performs (Some (Answer base plan)) old new outcome = Answers base old new outcome
+Performs (Some (Inspect index)) old new outcome = Inspects index old new outcome
+Performs (Some (Generate seed n t)) old new outcome = Generates seed n t old new outcome

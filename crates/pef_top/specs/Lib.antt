@@ -9,10 +9,13 @@ pub mod Built
 pub mod ReadingCollection
 pub mod ReadingIndex
 pub mod AnsweredText
+pub mod PrintedText
 pub mod WrittenIndex
 pub mod Build
 pub mod Query
 pub mod Answer
+pub mod Inspect
+pub mod Generate
 pub mod Commands
 pub mod Uncalled
 pub mod Laws

@@ -1,9 +1,9 @@
-use Rattle.std.specs.Prelude.{◌≡◌, Bool, true, false, not, IsTrue, Option, Some, None}
+use Rattle.std.specs.Prelude.{◌≡◌, ⊤, Bool, true, false, not, IsTrue, Option, Some, None}
 use Rattle.collection_model.specs.Collection.{Collection}
 use Rattle.part_cost.specs.Formats.{numbers_of}
 use Rattle.pef_io.specs.DepotState.{DepotState}
 use Rattle.command_model.specs.Found.{FindsCollection}
-use Rattle.pef_top.specs.Command.{Command, Build, Query, Answer}
+use Rattle.pef_top.specs.Command.{Command, Build, Query, Answer, Inspect, Generate}
 use Rattle.pef_top.specs.Outcome.{Outcome, is_refusal}
 use Rattle.pef_top.specs.FoundIndex.{FindsIndexOf}
 use Rattle.pef_top.specs.Answer.{IsAnswerable}
@@ -21,12 +21,13 @@ objects depot input out = record { depot = depot; input = input; out = out }
 -- whether a command calls the depot
 abbrev pub calls_depot : Option Command → Bool
 calls_depot None = false
+calls_depot (Some (Generate seed n t)) = false
 calls_depot (Some command) = true
 
 -- whether it reads the input
 abbrev pub reads_input : Option Command → Bool
-reads_input (Some (Query index)) = true
-reads_input (Some (Answer base)) = true
+reads_input (Some (Query index plan)) = true
+reads_input (Some (Answer base plan)) = true
 reads_input command = false
 
 -- whether it prints on out
@@ -35,12 +36,14 @@ prints None = false
 prints (Some (Build base index format)) = false
 prints (Some command) = true
 
--- What a command reads is accepted: a collection stands under its base, or an index under its name.
+-- What a command reads is accepted: a collection stands under its base, or an index under its name. `generate` reads nothing.
 abbrev pub Accepts : Option Command → DepotState → Type 0
 Accepts None depot = ⊥
 Accepts (Some (Build base index format)) depot = (c : Collection) × FindsCollection (numbers_of format) base depot c
-Accepts (Some (Query index)) depot = (c : Collection) × FindsIndexOf index depot c
-Accepts (Some (Answer base)) depot = (c : Collection) × IsAnswerable base depot c
+Accepts (Some (Query index plan)) depot = (c : Collection) × FindsIndexOf index depot c
+Accepts (Some (Answer base plan)) depot = (c : Collection) × IsAnswerable base depot c
+Accepts (Some (Inspect index)) depot = (c : Collection) × FindsIndexOf index depot c
+Accepts (Some (Generate seed n t)) depot = ⊤
 
 -- Neither the input nor out was called.
 pub record IsSilent {D I O : Type 0} (old new : Objects D I O) : Type 0 where

@@ -4,9 +4,9 @@ use Rattle.collection_model.specs.Collection.{Collection}
 use Rattle.part_cost.specs.declared.formats.Format.{Format}
 use Rattle.part_cost.specs.Formats.{numbers_of}
 use Rattle.pef_io.specs.declared.fail.Slot.{Slot}
-use Rattle.pef_io.specs.DepotState.{OnlyReads}
+use Rattle.pef_io.specs.DepotState.{DepotState, OnlyReads}
 use Rattle.index_file.specs.FileWords.{ListParts, file_words}
-use Rattle.command_model.specs.Written.{IsWritten, IsUnwritten, IsWrittenInPart}
+use Rattle.command_model.specs.Written.{IsWritten, IsUnwritten, IsWrittenInPart, IsBeingWritten}
 use Rattle.pef_top.specs.Outside.{Outside}
 use Rattle.pef_top.specs.Outcome.{Outcome, Done, IndexWriteFault, NoMemory, is_refusal}
 use Rattle.pef_top.specs.Built.{AreBuilt}
@@ -16,12 +16,16 @@ abbrev pub OnBuiltBytes : Format → (Collection → Type 0) → Outside → Out
 OnBuiltBytes format Is old new P =
     (c : Collection) × (parts : List ListParts) × AreBuilt format Is old.costs new.costs c parts × P (word_bytes (file_words (numbers_of format) c parts))
 
+-- Nothing is written, or the name is still the one that is being written, and a front of these bytes may stand under it.
+abbrev pub IsLeftInPart : List ℕ → DepotState → DepotState → List ℕ → Type 0
+IsLeftInPart name old new bytes = IsUnwritten old new ⊎ (IsBeingWritten name old new × IsWrittenInPart name old new bytes)
+
 -- A run writes the words of a collection of this property under the name, and ends so. Want of memory may come before they are built.
 abbrev pub WritesIndex : Format → (Collection → Type 0) → List ℕ → Outside → Outside → Outcome → Type 0
 WritesIndex format Is name old new Done = OnBuiltBytes format Is old new (IsWritten name old.depot new.depot)
-WritesIndex format Is name old new IndexWriteFault = OnBuiltBytes format Is old new (IsWrittenInPart name old.depot new.depot)
+WritesIndex format Is name old new IndexWriteFault = OnBuiltBytes format Is old new (IsLeftInPart name old.depot new.depot)
 WritesIndex format Is name old new NoMemory =
-    IsUnwritten old.depot new.depot ⊎ OnBuiltBytes format Is old new (IsWrittenInPart name old.depot new.depot)
+    IsUnwritten old.depot new.depot ⊎ OnBuiltBytes format Is old new (IsLeftInPart name old.depot new.depot)
 WritesIndex format Is name old new outcome = ⊥
 
 -- Only these slots are started and read; files are changed, and names created, only where a collection is accepted and the run is not refused.

@@ -23,12 +23,13 @@ use step_count::Steps;
 pub(crate) fn answer<D: Depot, I: Source, O: Sink, L: Ledger>(
     alloc: Global,
     base: &str,
+    plan: Plan,
     depot: &mut D,
     input: &mut I,
     out: &mut O,
     steps: &mut Steps<L>,
 ) -> Result<(), Stop>
-    ensures leaves { (e e' : SinkState) → Leaves (Some (words.Answer base.now))
+    ensures leaves { (e e' : SinkState) → Leaves (Some (words.Answer base.now plan))
         (outside (D.state depot.old) (I.state input.old) (O.state out.old) e steps.old)
         (outside (D.state depot.new) (I.state input.new) (O.state out.new) e' steps.new) (outcome_of result) }
     ensures refused { IsTrue (is_refusal (outcome_of result)) → (input.new ≡ input.old) × (out.new ≡ out.old) }
@@ -37,19 +38,12 @@ pub(crate) fn answer<D: Depot, I: Source, O: Sink, L: Ledger>(
     one_index();
     let words = build_words(alloc, base, depot, Format::Two, steps)?;
     let index = view_index(&words);
-    answer_text(
-        alloc,
-        &index,
-        Plan::Exhaustive,
-        input,
-        crate::top::LONGEST_TEXT,
-        out,
-    )?;
+    answer_text(alloc, &index, plan, input, crate::top::LONGEST_TEXT, out)?;
     Ok(())
 }
 
 /// The index that words are.
-fn view_index<'a>(words: &'a [u64]) -> Index<'a>
+pub(crate) fn view_index<'a>(words: &'a [u64]) -> Index<'a>
     requires words { length words.now < 2 ^ 57 }
     requires index { IsIndex words.now }
     ensures { Spells (numbers_of result.format) words.entry.now result.collection result.parts }

@@ -1,14 +1,15 @@
-ghost use Rattle.std.specs.Prelude.{◌≡◌, false, IfErr, IfOk, Some, option_map};
-ghost use Rattle.clap.specs.Words.{app_of, first_of, found_of, rows_of, subcommand_rows_of};
+ghost use Rattle.std.specs.Prelude.{◌≡◌, codes, false, IfErr, IfOk, Some, option_and_then, option_map};
+ghost use Rattle.clap.specs.Words.{app_of, first_of, found_of, rows_of, rule_of, subcommand_rows_of};
 ghost use Rattle.clap.specs.declared.builder.command.Command.TheViews.{out-Command};
-ghost use Rattle.pef_top.specs.Command.{command_of, texts};
+ghost use Rattle.pef_top.specs.Command.{command_of, plan_of, texts};
 ghost use Rattle.pef_top.specs.Private.Asked.{asked};
-ghost use Rattle.pef_top.specs.Private.CommandLine.{program_app, build_app, query_app, answer_app, asked_in, asked_of, build_with, AreRead, FailsForMemory};
+ghost use Rattle.pef_top.specs.Private.CommandLine.{program_app, generate_app, generate_with, number_in, build_app, query_app, answer_app, inspect_app, answering_app, asked_in, asked_of, plan_option, build_with, query_with, answer_with, AreRead, FailsForMemory};
 ghost use Rattle.pef_top.specs.Private.Stops.{stop_of_words};
 
 use crate::stop::Stop;
-use crate::words::{Command, is_command, parse_format};
+use crate::words::{Command, is_command, parse_format, parse_number, parse_plan};
 use clap::{Arg, ArgMatches};
+use command_steps::Plan;
 use std::alloc::{AllocError, Global};
 
 /// The command of the words, the program's name first. Words that are none are usage, and for them no memory is taken.
@@ -46,11 +47,14 @@ fn read_subcommand<'a>(verb: &str, texts: &ArgMatches<'a>) -> Option<Command<'a>
     if verb == "build" {
         read_build(texts)
     } else if verb == "query" {
-        let index = text_of(texts, "index")?;
-        Some(Command::Query { index })
+        read_query(texts)
     } else if verb == "answer" {
-        let base = text_of(texts, "base")?;
-        Some(Command::Answer { base })
+        read_answer(texts)
+    } else if verb == "inspect" {
+        let index = text_of(texts, "index")?;
+        Some(Command::Inspect { index })
+    } else if verb == "generate" {
+        read_generate(texts)
     } else {
         None
     }
@@ -70,6 +74,52 @@ fn read_build<'a>(texts: &ArgMatches<'a>) -> Option<Command<'a>>
     })
 }
 
+/// What `query` asks for with these texts.
+fn read_query<'a>(texts: &ArgMatches<'a>) -> Option<Command<'a>>
+    ensures { option_map asked result ≡ query_with (rows_of (found_of texts.now)) }
+{
+    let index = text_of(texts, "index")?;
+    let plan = read_plan(texts)?;
+    Some(Command::Query { index, plan })
+}
+
+/// What `answer` asks for with these texts.
+fn read_answer<'a>(texts: &ArgMatches<'a>) -> Option<Command<'a>>
+    ensures { option_map asked result ≡ answer_with (rows_of (found_of texts.now)) }
+{
+    let base = text_of(texts, "base")?;
+    let plan = read_plan(texts)?;
+    Some(Command::Answer { base, plan })
+}
+
+/// What `generate` asks for with these texts.
+fn read_generate<'a>(texts: &ArgMatches<'a>) -> Option<Command<'a>>
+    ensures { option_map asked result ≡ generate_with (rows_of (found_of texts.now)) }
+{
+    let seed = read_number(texts, "seed")?;
+    let documents = read_number(texts, "documents")?;
+    let terms = read_number(texts, "terms")?;
+    Some(Command::Generate {
+        seed,
+        documents,
+        terms,
+    })
+}
+
+/// The number of this name among these texts.
+fn read_number(texts: &ArgMatches<'_>, id: &str) -> Option<u32>
+    ensures { result ≡ number_in (rows_of (found_of texts.now)) id.now }
+{
+    parse_number(text_of(texts, id)?)
+}
+
+/// The plan that these texts name.
+fn read_plan(texts: &ArgMatches<'_>) -> Option<Plan>
+    ensures { result ≡ option_and_then plan_of (first_of (codes "plan") (rows_of (found_of texts.now))) }
+{
+    parse_plan(text_of(texts, "plan")?)
+}
+
 /// The text of the argument of this name.
 fn text_of<'a>(texts: &ArgMatches<'a>, id: &str) -> Option<&'a str>
     ensures { option_map (λ text. text.now) result ≡ first_of id.now (rows_of (found_of texts.now)) }
@@ -80,6 +130,14 @@ fn text_of<'a>(texts: &ArgMatches<'a>, id: &str) -> Option<&'a str>
 /// The command line of the program: one level of subcommands, whose arguments are texts.
 fn program<'a>(alloc: Global) -> Result<clap::Command<'a>, AllocError>
     ensures { IfOk result (λ command. app_of command ≡ program_app) }
+{
+    let (inspect, generate) = (inspect(alloc)?, generate(alloc)?);
+    answering(alloc)?.subcommand(inspect)?.subcommand(generate)
+}
+
+/// The same without `inspect` and `generate`.
+fn answering<'a>(alloc: Global) -> Result<clap::Command<'a>, AllocError>
+    ensures { IfOk result (λ command. app_of command ≡ answering_app) }
 {
     let (build, query, answer) = (build(alloc)?, query(alloc)?, answer(alloc)?);
     clap::Command::new(alloc, "pefidx")
@@ -102,20 +160,57 @@ fn build<'a>(alloc: Global) -> Result<clap::Command<'a>, AllocError>
         .arg(format)
 }
 
-/// `query INDEX`
+/// `query INDEX [--plan PLAN]`
 fn query<'a>(alloc: Global) -> Result<clap::Command<'a>, AllocError>
     ensures app { IfOk result (λ command. app_of command ≡ query_app) }
     ensures local { IfOk result (λ command. (out-Command command).has_globals ≡ false) }
 {
     let index = Arg::new(alloc, "index").required(true);
-    clap::Command::new(alloc, "query").arg(index)
+    clap::Command::new(alloc, "query")
+        .arg(index)?
+        .arg(plan(alloc))
 }
 
-/// `answer BASE`
+/// `answer BASE [--plan PLAN]`
 fn answer<'a>(alloc: Global) -> Result<clap::Command<'a>, AllocError>
     ensures app { IfOk result (λ command. app_of command ≡ answer_app) }
     ensures local { IfOk result (λ command. (out-Command command).has_globals ≡ false) }
 {
     let base = Arg::new(alloc, "base").required(true);
-    clap::Command::new(alloc, "answer").arg(base)
+    clap::Command::new(alloc, "answer")
+        .arg(base)?
+        .arg(plan(alloc))
+}
+
+/// `--plan PLAN`
+fn plan<'a>(alloc: Global) -> Arg<'a>
+    ensures rule { rule_of result ≡ plan_option }
+    ensures local { result.global ≡ false }
+{
+    Arg::new(alloc, "plan")
+        .long("plan")
+        .default_value("exhaustive")
+}
+
+/// `inspect INDEX`
+fn inspect<'a>(alloc: Global) -> Result<clap::Command<'a>, AllocError>
+    ensures app { IfOk result (λ command. app_of command ≡ inspect_app) }
+    ensures local { IfOk result (λ command. (out-Command command).has_globals ≡ false) }
+{
+    let index = Arg::new(alloc, "index").required(true);
+    clap::Command::new(alloc, "inspect").arg(index)
+}
+
+/// `generate SEED N T`
+fn generate<'a>(alloc: Global) -> Result<clap::Command<'a>, AllocError>
+    ensures app { IfOk result (λ command. app_of command ≡ generate_app) }
+    ensures local { IfOk result (λ command. (out-Command command).has_globals ≡ false) }
+{
+    let seed = Arg::new(alloc, "seed").required(true);
+    let documents = Arg::new(alloc, "documents").required(true);
+    let terms = Arg::new(alloc, "terms").required(true);
+    clap::Command::new(alloc, "generate")
+        .arg(seed)?
+        .arg(documents)?
+        .arg(terms)
 }

@@ -5,6 +5,8 @@ mod answer;
 mod build;
 mod command_line;
 mod err_lines;
+mod generate;
+mod inspect;
 mod laws;
 mod query;
 mod status;
@@ -12,7 +14,7 @@ mod stop;
 mod top;
 mod words;
 
-pub use command_steps::{BuildError, Plan, RunFault, answer_text, build_words};
+pub use command_steps::{BuildError, Plan, RunFault, answer_text, build_words, plan_top};
 pub use laws::built_files_answer;
 pub use status::Status;
 pub use top::run;

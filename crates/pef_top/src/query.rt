@@ -18,11 +18,12 @@ use std::alloc::Global;
 pub(crate) fn query<D: Depot, I: Source, O: Sink>(
     alloc: Global,
     index: &str,
+    plan: Plan,
     depot: &mut D,
     input: &mut I,
     out: &mut O,
 ) -> Result<(), Stop>
-    ensures leaves { (e e' : SinkState) (costs : ℕ) → Leaves (Some (words.Query index.now))
+    ensures leaves { (e e' : SinkState) (costs : ℕ) → Leaves (Some (words.Query index.now plan))
         (outside (D.state depot.old) (I.state input.old) (O.state out.old) e costs)
         (outside (D.state depot.new) (I.state input.new) (O.state out.new) e' costs) (outcome_of result) }
     ensures refused { IsTrue (is_refusal (outcome_of result)) → (input.new ≡ input.old) × (out.new ≡ out.old) }
@@ -32,13 +33,6 @@ pub(crate) fn query<D: Depot, I: Source, O: Sink>(
     words_and_bytes_undo_each_other();
     let words = load_index(alloc, index, depot)?;
     let index = Index::view(&words)?;
-    answer_text(
-        alloc,
-        &index,
-        Plan::Exhaustive,
-        input,
-        crate::top::LONGEST_TEXT,
-        out,
-    )?;
+    answer_text(alloc, &index, plan, input, crate::top::LONGEST_TEXT, out)?;
     Ok(())
 }

@@ -5,7 +5,9 @@ ghost use Rattle.pef_top.specs.Private.Stops.{outcome_of_stop};
 use crate::status::Status;
 use clap::error::ErrorKind;
 use collection_reader::Fault;
-use command_steps::{BuildError, LoadIndexError, RunFault, WriteIndexError};
+use command_steps::{
+    BuildError, GenerateError, LoadIndexError, PrintError, RunFault, WriteIndexError,
+};
 use index_file::OpenFault;
 use pef_io::Slot;
 
@@ -79,6 +81,19 @@ impl From<BuildError> for Stop {
     }
 }
 
+impl From<GenerateError> for Stop {
+    ghost use Rattle.pef_top.specs.Private.Stops.{stop_of_generating};
+
+    ghost from_gives = { λ e stop. stop ≡ stop_of_generating e };
+
+    fn from(e: GenerateError) -> Stop {
+        match e {
+            GenerateError::TooLarge(_) => Stop::LargeIndex,
+            GenerateError::NoMemory => Stop::NoMemory,
+        }
+    }
+}
+
 impl From<LoadIndexError> for Stop {
     ghost use Rattle.pef_top.specs.Private.Stops.{stop_of_loading};
 
@@ -113,6 +128,19 @@ impl From<WriteIndexError> for Stop {
         match e {
             WriteIndexError::Write => Stop::IndexWrite,
             WriteIndexError::NoMemory => Stop::NoMemory,
+        }
+    }
+}
+
+impl From<PrintError> for Stop {
+    ghost use Rattle.pef_top.specs.Private.Stops.{stop_of_printing};
+
+    ghost from_gives = { λ e stop. stop ≡ stop_of_printing e };
+
+    fn from(e: PrintError) -> Stop {
+        match e {
+            PrintError::Write => Stop::Out,
+            PrintError::NoMemory => Stop::NoMemory,
         }
     }
 }

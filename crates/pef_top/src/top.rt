@@ -13,6 +13,8 @@ use crate::answer::answer;
 use crate::build::build;
 use crate::command_line::parse_words;
 use crate::err_lines::write_line;
+use crate::generate::generate;
+use crate::inspect::inspect;
 use crate::query::query;
 use crate::status::Status;
 use crate::stop::Stop;
@@ -28,10 +30,13 @@ pub(crate) const LONGEST_TEXT: u64 = 1 << 40;
 /// Runs the command of the words, the program's name first.
 ///
 /// `build BASE INDEX [--format FORMAT]` reads the collection whose files are BASE.docs, BASE.freqs and BASE.sizes and writes
-/// its index as the file INDEX, in format 2 where none is given. `query INDEX` checks that file whole and answers the lines of
-/// the input on out, each reply with its newline as one piece. `answer BASE` answers them from an index of format 2 that it
-/// builds and does not write. Every status but `Done` has its line on err, which takes no memory; an err that fails changes no
-/// status.
+/// its index as the file INDEX, in format 2 where none is given. `query INDEX [--plan PLAN]` checks that file whole and answers
+/// the lines of the input on out, each reply with its newline as one piece; `top` is answered by the plan `exhaustive`, `wand`
+/// or `maxscore`, the first where none is given, and no reply depends on it. `answer BASE [--plan PLAN]` answers the lines from
+/// an index of format 2 that it builds and does not write. `inspect INDEX` checks that file whole and prints one line that sums
+/// it up. `generate SEED N T` builds the index of a generated collection of N documents and T lists, which it does not write, and
+/// prints what it counts and what it replies. Every status but `Done` has its line on err, which takes no memory; an err that
+/// fails changes no status.
 pub fn run<D: Depot, I: Source, O: Sink, E: Sink, L: Ledger>(
     alloc: Global,
     words: &[String],
@@ -85,8 +90,14 @@ fn perform<D: Depot, I: Source, O: Sink, L: Ledger>(
             index,
             format,
         } => build(alloc, base, index, depot, format, steps),
-        Command::Query { index } => query(alloc, index, depot, input, out),
-        Command::Answer { base } => answer(alloc, base, depot, input, out, steps),
+        Command::Query { index, plan } => query(alloc, index, plan, depot, input, out),
+        Command::Answer { base, plan } => answer(alloc, base, plan, depot, input, out, steps),
+        Command::Inspect { index } => inspect(alloc, index, depot, out),
+        Command::Generate {
+            seed,
+            documents,
+            terms,
+        } => generate(alloc, seed, documents, terms, out, steps),
     }
 }
 

@@ -1,6 +1,8 @@
 ghost use Rattle.std.specs.Prelude.{◌≡◌, ◌&&◌, ℕ, List, [], ◌∷◌, ◌++◌, bytes_eq, codes, is_some};
-ghost use Rattle.pef_top.specs.Command.{command_of, format_of, is_file_of, is_text, texts};
+ghost use Rattle.query_text.specs.Numbers.{number_of};
+ghost use Rattle.pef_top.specs.Command.{command_of, format_of, is_file_of, is_text, plan_of, texts};
 
+use command_steps::Plan;
 use part_cost::Format;
 
 /// What the words of the command line ask for.
@@ -13,9 +15,19 @@ pub(crate) enum Command<'a> {
     },
     Query {
         index: &'a str,
+        plan: Plan,
     },
     Answer {
         base: &'a str,
+        plan: Plan,
+    },
+    Inspect {
+        index: &'a str,
+    },
+    Generate {
+        seed: u32,
+        documents: u32,
+        terms: u32,
     },
 }
 
@@ -24,8 +36,14 @@ pub(crate) fn is_command(words: &[String]) -> bool
     ensures { result ≡ is_some (command_of (texts words.now)) }
 {
     match words {
-        [_name, verb, text] => is_query_or_answer(verb.as_str(), text.as_str()),
+        [_name, verb, text] => takes_one_text(verb.as_str(), text.as_str()),
         [_name, verb, base, index] => is_build(verb.as_str(), base.as_str(), index.as_str()),
+        [_name, verb, first, second, third] => takes_three_words(
+            verb.as_str(),
+            first.as_str(),
+            second.as_str(),
+            third.as_str(),
+        ),
         [_name, verb, base, index, option, format] => is_build_in(
             verb.as_str(),
             base.as_str(),
@@ -37,11 +55,23 @@ pub(crate) fn is_command(words: &[String]) -> bool
     }
 }
 
-/// Whether a verb and one text are a command: `query` or `answer`.
-fn is_query_or_answer(verb: &str, text: &str) -> bool
+/// Whether a verb and one text are a command: `query`, `answer` or `inspect`.
+fn takes_one_text(verb: &str, text: &str) -> bool
     ensures { (name : List ℕ) → result ≡ is_some (command_of (name ∷ verb.now ∷ text.now ∷ [])) }
 {
-    (verb == "query" || verb == "answer") && can_be_text(text)
+    (verb == "query" || verb == "answer" || verb == "inspect") && can_be_text(text)
+}
+
+/// Whether a verb and three words are a command: `generate` of three numbers, or `query` or `answer` of a text by a plan.
+fn takes_three_words(verb: &str, first: &str, second: &str, third: &str) -> bool
+    ensures { (name : List ℕ) → result
+        ≡ is_some (command_of (name ∷ verb.now ∷ first.now ∷ second.now ∷ third.now ∷ [])) }
+{
+    if verb == "generate" {
+        is_number(first) && is_number(second) && is_number(third)
+    } else {
+        (verb == "query" || verb == "answer") && can_be_text(first) && names_plan(second, third)
+    }
 }
 
 /// Whether a verb and two texts are a command: `build`, where the index is none of the base's files.
@@ -64,6 +94,45 @@ fn names_format(option: &str, format: &str) -> bool
     ensures { result ≡ (bytes_eq option.now (codes "--format") && is_some (format_of format.now)) }
 {
     option == "--format" && parse_format(format).is_some()
+}
+
+/// Whether a word is a number.
+fn is_number(word: &str) -> bool
+    ensures { result ≡ is_some (number_of word.now) }
+{
+    parse_number(word).is_some()
+}
+
+/// The number that a word is: decimal digits alone, with any leading zeros.
+pub(crate) fn parse_number(word: &str) -> Option<u32>
+    ensures { result ≡ number_of word.now }
+{
+    if word.starts_with('+') {
+        return None;
+    }
+    word.parse().ok()
+}
+
+/// Whether an option and its value name a plan.
+fn names_plan(option: &str, plan: &str) -> bool
+    ensures { result ≡ (bytes_eq option.now (codes "--plan") && is_some (plan_of plan.now)) }
+{
+    option == "--plan" && parse_plan(plan).is_some()
+}
+
+/// The plan of this name.
+pub(crate) fn parse_plan(name: &str) -> Option<Plan>
+    ensures { result ≡ plan_of name.now }
+{
+    if name == "exhaustive" {
+        Some(Plan::Exhaustive)
+    } else if name == "wand" {
+        Some(Plan::Wand)
+    } else if name == "maxscore" {
+        Some(Plan::MaxScore)
+    } else {
+        None
+    }
 }
 
 /// The format of this name.

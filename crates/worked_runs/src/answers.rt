@@ -9,7 +9,7 @@ const USAGE: &str =
     "usage: pefidx build BASE INDEX [--format FORMAT] | query INDEX [--plan PLAN] | answer BASE [--plan PLAN] | inspect INDEX | generate SEED N T\n";
 
 /// Words that are no command.
-const NO_COMMANDS: [&[&str]; 21] = [
+const NO_COMMANDS: [&[&str]; 30] = [
     &[],
     &["pefidx"],
     &["pefidx", "answer"],
@@ -18,6 +18,9 @@ const NO_COMMANDS: [&[&str]; 21] = [
     &["pefidx", "answer", "-x"],
     &["pefidx", "answer", "x", "y"],
     &["pefidx", "answer", "x", "--plan", "fast"],
+    &["pefidx", "answer", "x", "--plan"],
+    &["pefidx", "answer", "x", "--plan", "wand", "--plan", "wand"],
+    &["pefidx", "query", "--plan", "wand", "y"],
     &["pefidx", "help"],
     &["pefidx", "Answer", "x"],
     &["pefidx", "build", "x"],
@@ -32,7 +35,13 @@ const NO_COMMANDS: [&[&str]; 21] = [
     &["pefidx", "build", "--format", "1", "x", "y"],
     &["pefidx", "query", "-"],
     &["pefidx", "query", "a", "b"],
-    &["pefidx", "inspect", "y"],
+    &["pefidx", "inspect"],
+    &["pefidx", "inspect", "help"],
+    &["pefidx", "inspect", "y", "z"],
+    &["pefidx", "generate", "1", "4294967296", "1"],
+    &["pefidx", "generate", "x", "1", "1"],
+    &["pefidx", "generate", "+1", "1", "1"],
+    &["pefidx", "generate", "1", "2"],
 ];
 
 #[test]

@@ -131,6 +131,30 @@ pub(crate) fn far_document(alloc: Global) -> Option<ManyNumbers> {
     })
 }
 
+/// Documents of size 1 below 5,000 and two lists of a thousand: the multiples of five, once each but 15 nine times and 4,995 five
+/// times; the multiples of three below 3,000, once each but 3 seven times.
+pub(crate) fn two_long_lists(alloc: Global) -> Option<ManyNumbers> {
+    let mut docs = Vec::from_slice(alloc, &[1, 5_000, 1_000]).ok()?;
+    let mut freqs = Vec::from_slice(alloc, &[1_000]).ok()?;
+    for k in 0..1_000 {
+        docs.push(5 * k).ok()?;
+        let freq = match k {
+            3 => 9,
+            999 => 5,
+            _ => 1,
+        };
+        freqs.push(freq).ok()?;
+    }
+    docs.push(1_000).ok()?;
+    freqs.push(1_000).ok()?;
+    for k in 0..1_000 {
+        docs.push(3 * k).ok()?;
+        freqs.push(if k == 1 { 7 } else { 1 }).ok()?;
+    }
+    let sizes = repeated(alloc, &[5_000], 1, 5_000, &[])?;
+    Some(ManyNumbers { docs, freqs, sizes })
+}
+
 /// The numbers from 0 up to a last one, between some others.
 fn counted(alloc: Global, before: &[u32], count: u32, behind: &[u32]) -> Option<Vec<u32>> {
     let mut numbers = Vec::from_slice(alloc, before).ok()?;

@@ -5,7 +5,7 @@ use pef_top::Status;
 use std::alloc::Global;
 
 /// One file, of the name `y`.
-fn only(alloc: Global, bytes: &[u8]) -> Option<FileList> {
+pub(crate) fn only(alloc: Global, bytes: &[u8]) -> Option<FileList> {
     let mut files = Vec::new(alloc);
     let bytes = Vec::from_slice(alloc, bytes).ok()?;
     files

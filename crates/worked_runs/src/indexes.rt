@@ -16,10 +16,10 @@ use std::sync::ledger::{Blank, Ledger};
 use step_count::Steps;
 
 /// The word at the beginning of a file, the bytes `PEFINDEX`.
-const OPENING: u64 = 6_360_565_151_758_173_520;
+pub(crate) const OPENING: u64 = 6_360_565_151_758_173_520;
 
 /// The word at the end of a file, the bytes `XEDNIFEP`.
-const CLOSING: u64 = 5_784_106_577_086_924_120;
+pub(crate) const CLOSING: u64 = 5_784_106_577_086_924_120;
 
 /// The words of the one list in the first format.
 pub(crate) const ONE_LIST_WORDS: [u64; 18] = [
@@ -68,7 +68,7 @@ pub(crate) const ONE_LIST_WORDS_OF_TWO: [u64; 20] = [
 ];
 
 /// The words of the three lists in the first format.
-const THREE_LISTS_WORDS: [u64; 29] = [
+pub(crate) const THREE_LISTS_WORDS: [u64; 29] = [
     OPENING,
     1,
     68719476736,

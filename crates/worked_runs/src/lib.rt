@@ -15,6 +15,14 @@ mod failures;
 #[cfg(test)]
 mod faults;
 #[cfg(test)]
+mod generations;
+#[cfg(test)]
 mod indexes;
+#[cfg(test)]
+mod inspections;
+#[cfg(test)]
+mod long_lists;
+#[cfg(test)]
+mod plans;
 #[cfg(test)]
 mod runs;

@@ -1,9 +1,11 @@
 use Rattle.pef_top.specs.declared.words.Command as words
 use Rattle.pef_top.specs.declared.words.Command.TheVariants as word
-use Rattle.pef_top.specs.Command.{Command, Build, Query, Answer}
+use Rattle.pef_top.specs.Command.{Command, Build, Query, Answer, Inspect, Generate}
 
 -- what a command of the words asks for, with its texts as their bytes
 abbrev pub asked : words.Command → Command
 asked (word.Build base index format) = Build base.now index.now format
-asked (word.Query index) = Query index.now
-asked (word.Answer base) = Answer base.now
+asked (word.Query index plan) = Query index.now plan
+asked (word.Answer base plan) = Answer base.now plan
+asked (word.Inspect index) = Inspect index.now
+asked (word.Generate seed documents terms) = Generate seed documents terms

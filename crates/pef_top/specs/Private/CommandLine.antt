@@ -1,10 +1,12 @@
-use Rattle.std.specs.Prelude.{◌≡◌, is_some, List, [], ◌∷◌, true, codes, if◌then◌else◌, bytes_eq, Option, Some, None, option_map, option_and_then}
+use Rattle.std.specs.Prelude.{◌≡◌, ℕ, is_some, List, [], ◌∷◌, true, codes, if◌then◌else◌, bytes_eq, Option, Some, None, option_map, option_and_then}
 use Rattle.clap.specs.Words.{App, Row, Rule, Text, first_of, new_app, new_rule, with_rule, with_subcommand, kind_of, subcommand_rows_of}
 use Rattle.clap.specs.declared.error.Error.{Error}
 use Rattle.clap.specs.declared.error.kind.ErrorKind.TheVariants.{OutOfMemory}
 use Rattle.clap.specs.declared.parser.matches.ArgMatches.{ArgMatches}
 use Rattle.part_cost.specs.declared.formats.Format.{Format}
-use Rattle.pef_top.specs.Command.{Command, Build, Query, Answer, command_of, format_of}
+use Rattle.query_text.specs.Numbers.{number_of}
+use Rattle.command_steps.specs.declared.plan.Plan.{Plan}
+use Rattle.pef_top.specs.Command.{Command, Build, Query, Answer, Inspect, command_of, format_of, plan_of, generate_of}
 
 -- a positional that a subcommand requires
 abbrev pub required : Text → Rule
@@ -14,21 +16,37 @@ required id = record (new_rule id) { required = true }
 abbrev pub format_option : Rule
 format_option = record (new_rule (codes "format")) { long = Some (codes "format"); defaults = codes "2" ∷ [] }
 
+-- `--plan PLAN`, with its default
+abbrev pub plan_option : Rule
+plan_option = record (new_rule (codes "plan")) { long = Some (codes "plan"); defaults = codes "exhaustive" ∷ [] }
+
 -- `build BASE INDEX [--format FORMAT]`
 abbrev pub build_app : App
 build_app = with_rule (with_rule (with_rule (new_app (codes "build")) (required (codes "base"))) (required (codes "index"))) format_option
 
--- `query INDEX`
+-- `query INDEX [--plan PLAN]`
 abbrev pub query_app : App
-query_app = with_rule (new_app (codes "query")) (required (codes "index"))
+query_app = with_rule (with_rule (new_app (codes "query")) (required (codes "index"))) plan_option
 
--- `answer BASE`
+-- `answer BASE [--plan PLAN]`
 abbrev pub answer_app : App
-answer_app = with_rule (new_app (codes "answer")) (required (codes "base"))
+answer_app = with_rule (with_rule (new_app (codes "answer")) (required (codes "base"))) plan_option
+
+-- `inspect INDEX`
+abbrev pub inspect_app : App
+inspect_app = with_rule (new_app (codes "inspect")) (required (codes "index"))
+
+-- `generate SEED N T`
+abbrev pub generate_app : App
+generate_app = with_rule (with_rule (with_rule (new_app (codes "generate")) (required (codes "seed"))) (required (codes "documents"))) (required (codes "terms"))
+
+-- the command line without `inspect` and `generate`
+abbrev pub answering_app : App
+answering_app = with_subcommand (with_subcommand (with_subcommand (new_app (codes "pefidx")) build_app.top) query_app.top) answer_app.top
 
 -- the command line of the program
 abbrev pub program_app : App
-program_app = with_subcommand (with_subcommand (with_subcommand (new_app (codes "pefidx")) build_app.top) query_app.top) answer_app.top
+program_app = with_subcommand (with_subcommand answering_app inspect_app.top) generate_app.top
 
 -- a base, an index and a format, where there are all three
 abbrev pub build_from : Option Text → Option Text → Option Format → Option Command
@@ -39,12 +57,35 @@ build_from base index format = None
 abbrev pub build_with : List Row → Option Command
 build_with rows = build_from (first_of (codes "base") rows) (first_of (codes "index") rows) (option_and_then format_of (first_of (codes "format") rows))
 
+-- a text and a plan, where there are both
+abbrev pub answering_from : (Text → Plan → Command) → Option Text → Option Plan → Option Command
+answering_from make (Some text) (Some plan) = Some (make text plan)
+answering_from make text plan = None
+
+-- what `query` asks for with these texts
+abbrev pub query_with : List Row → Option Command
+query_with rows = answering_from Query (first_of (codes "index") rows) (option_and_then plan_of (first_of (codes "plan") rows))
+
+-- what `answer` asks for with these texts
+abbrev pub answer_with : List Row → Option Command
+answer_with rows = answering_from Answer (first_of (codes "base") rows) (option_and_then plan_of (first_of (codes "plan") rows))
+
+-- the number of this name among these texts
+abbrev pub number_in : List Row → Text → Option ℕ
+number_in rows id = option_and_then number_of (first_of id rows)
+
+-- what `generate` asks for with these texts
+abbrev pub generate_with : List Row → Option Command
+generate_with rows = generate_of (number_in rows (codes "seed")) (number_in rows (codes "documents")) (number_in rows (codes "terms"))
+
 -- what a subcommand asks for with these texts
 abbrev pub asked_of : Text → List Row → Option Command
 asked_of verb rows =
     if bytes_eq verb (codes "build") then build_with rows
-    else if bytes_eq verb (codes "query") then option_map Query (first_of (codes "index") rows)
-    else if bytes_eq verb (codes "answer") then option_map Answer (first_of (codes "base") rows)
+    else if bytes_eq verb (codes "query") then query_with rows
+    else if bytes_eq verb (codes "answer") then answer_with rows
+    else if bytes_eq verb (codes "inspect") then option_map Inspect (first_of (codes "index") rows)
+    else if bytes_eq verb (codes "generate") then generate_with rows
     else None
 
 -- what the matches of the words ask for

@@ -6,10 +6,14 @@ use Rattle.clap.specs.declared.error.kind.ErrorKind.TheVariants.{OutOfMemory}
 use Rattle.pef_io.specs.declared.fail.Slot.TheVariants.{Index}
 use Rattle.command_steps.specs.declared.build.BuildError.{BuildError}
 use Rattle.command_steps.specs.declared.build.BuildError.TheVariants as building
+use Rattle.command_steps.specs.declared.generate.GenerateError.{GenerateError}
+use Rattle.command_steps.specs.declared.generate.GenerateError.TheVariants as generating
 use Rattle.command_steps.specs.declared.loading.LoadIndexError.{LoadIndexError}
 use Rattle.command_steps.specs.declared.loading.LoadIndexError.TheVariants as loading
 use Rattle.command_steps.specs.declared.writing.WriteIndexError.{WriteIndexError}
 use Rattle.command_steps.specs.declared.writing.WriteIndexError.TheVariants as writing
+use Rattle.command_steps.specs.declared.printing.PrintError.{PrintError}
+use Rattle.command_steps.specs.declared.printing.PrintError.TheVariants as printing
 use Rattle.command_steps.specs.declared.text.RunFault.{RunFault}
 use Rattle.command_steps.specs.declared.text.RunFault.TheVariants as answering
 use Rattle.pef_top.specs.declared.stop.Stop.{Stop}
@@ -38,6 +42,11 @@ stop_of_building (building.Read slot) = stop.File slot
 stop_of_building (building.TooLarge count) = stop.LargeIndex
 stop_of_building building.NoMemory = stop.NoMemory
 
+-- where a run stops that could not make its words
+abbrev pub stop_of_generating : GenerateError → Stop
+stop_of_generating (generating.TooLarge count) = stop.LargeIndex
+stop_of_generating generating.NoMemory = stop.NoMemory
+
 -- where a run stops that could not load its words
 abbrev pub stop_of_loading : LoadIndexError → Stop
 stop_of_loading (loading.Broken fault) = stop.Index fault
@@ -56,6 +65,11 @@ stop_of_answering answering.Read = stop.Input
 stop_of_answering answering.Write = stop.Out
 stop_of_answering answering.TooLarge = stop.LongInput
 stop_of_answering answering.NoMemory = stop.NoMemory
+
+-- where a run stops that could not print its line
+abbrev pub stop_of_printing : PrintError → Stop
+stop_of_printing printing.Write = stop.Out
+stop_of_printing printing.NoMemory = stop.NoMemory
 
 -- how a run ended that stopped so
 abbrev pub outcome_of_stop : Stop → Outcome

@@ -14,4 +14,4 @@ freq-requires g c = some-within (g.C.DocCursor.list c.next_geq.new.self) (g.C.Do
 pub returns : goal.returns
 returns g c =
     sym (found (g.C.DocCursor.list c.args.cursor.now) (g.C.DocCursor.list c.next_geq.new.self) (g.C.DocCursor.place c.args.cursor.now) (g.C.DocCursor.place c.next_geq.new.self) c.args.doc
-    c.in_ok-found.found c.freq.result c.requires c.next_geq.ensures.list c.next_geq.ensures.place (sym c.doc.ensures ∙ c.in_ok-found.was) c.freq.ensures)
+    c.in_ok-found.found c.freq.result c.requires c.next_geq.ensures.list c.next_geq.ensures.place (sym c.doc.ensures ∙ c.in_ok-found.was) c.freq.ensures.value)

@@ -8,19 +8,19 @@ use Rattle.pef_top.proofs.query.query.Goals as goal
 pub returns-in_err-words-clause-leaves : goal.returns-in_err-words-clause-leaves
 returns-in_err-words-clause-leaves g c = λ e e' n.
     let p = err_from_is_err_and c.from_residual.result c.from_residual.ensures.1 in
-    query_refused c.args.index.now _ _ _ _ e e' n c.load_index.result _ c.from_residual.result c.load_index.ensures c.in_err-words.was (p.1 ∙ ap Err p.2)
+    query_refused c.args.index.now c.args.plan _ _ _ _ e e' n c.load_index.result _ c.from_residual.result c.load_index.ensures c.in_err-words.was (p.1 ∙ ap Err p.2)
 
 pub returns-in_err-index-clause-leaves : goal.returns-in_err-index-clause-leaves
 returns-in_err-index-clause-leaves g c = λ e e' n.
     let p = err_from_is_err_and c.from_residual-in_err-index.result c.from_residual-in_err-index.ensures.1 in
-    query_unopened c.words_and_bytes_undo_each_other.ensures.read c.one_broken_check.ensures c.args.index.now _ _ _ _ e e' n
+    query_unopened c.words_and_bytes_undo_each_other.ensures.read c.one_broken_check.ensures c.args.index.now c.args.plan _ _ _ _ e e' n
     c.load_index.result c.in_ok-words.words c.deref.result.now _ c.from_residual-in_err-index.result c.load_index.ensures c.in_ok-words.was c.deref.ensures.value
     c.in_err-index.ensures.no_index c.in_err-index.ensures.first (p.1 ∙ ap Err p.2)
 
 pub returns-in_err-answer_text-clause-leaves : goal.returns-in_err-answer_text-clause-leaves
 returns-in_err-answer_text-clause-leaves g c = λ e e' n.
     let p = err_from_is_err_and c.from_residual-in_err-answer_text.result c.from_residual-in_err-answer_text.ensures.1 in
-    query_ended c.words_and_bytes_undo_each_other.ensures.read c.one_broken_check.ensures c.args.index.now _ _ _ _ _ _ e e' n
+    query_ended c.words_and_bytes_undo_each_other.ensures.read c.one_broken_check.ensures c.args.index.now c.args.plan _ _ _ _ _ _ e e' n
     c.load_index.result c.in_ok-words.words c.deref.result.now c.in_ok-index.index c.answer_text.result c.from_residual-in_err-answer_text.result
     c.load_index.ensures c.in_ok-words.was c.deref.ensures.value c.in_ok-index.ensures.ok c.answer_text.ensures
     (ap outcome_of (p.1 ∙ ap Err p.2) ∙ sym (ap text_outcome c.in_err-answer_text.was))
@@ -32,6 +32,6 @@ returns-in_err-answer_text-clause-unaccepted g c = λ denied.
 
 pub returns-clause-leaves : goal.returns-clause-leaves
 returns-clause-leaves g c = λ e e' n.
-    query_ended c.words_and_bytes_undo_each_other.ensures.read c.one_broken_check.ensures c.args.index.now _ _ _ _ _ _ e e' n
+    query_ended c.words_and_bytes_undo_each_other.ensures.read c.one_broken_check.ensures c.args.index.now c.args.plan _ _ _ _ _ _ e e' n
     c.load_index.result c.in_ok-words.words c.deref.result.now c.in_ok-index.index c.answer_text.result (Ok tt)
     c.load_index.ensures c.in_ok-words.was c.deref.ensures.value c.in_ok-index.ensures.ok c.answer_text.ensures (sym (ap text_outcome c.in_ok-answer_text.was))

@@ -33,9 +33,24 @@ returns-in-Query-clause-leaves g c = λ e e'.
     (outside (g.D.Depot.state c.query.new.depot) (g.I.Source.state c.query.new.input) (g.O.Sink.state c.query.new.out) e' c.args.steps.now) (outcome_of c.query.result) in
     subst P (sym (ap (λ x. Some (asked x)) c.in-Query.is) ∙ c.in_ok-command.ensures.command) (c.query.ensures.leaves e e' c.args.steps.now)
 
+pub returns-in-Inspect-clause-leaves : goal.returns-in-Inspect-clause-leaves
+returns-in-Inspect-clause-leaves g c = λ e e'.
+    let P : Option Command → Type 0 = λ command. Leaves command
+    (outside (g.D.Depot.state c.args.depot.now) (g.I.Source.state c.args.input.now) (g.O.Sink.state c.args.out.now) e c.args.steps.now)
+    (outside (g.D.Depot.state c.inspect.new.depot) (g.I.Source.state c.args.input.now) (g.O.Sink.state c.inspect.new.out) e' c.args.steps.now) (outcome_of c.inspect.result) in
+    subst P (sym (ap (λ x. Some (asked x)) c.in-Inspect.is) ∙ c.in_ok-command.ensures.command) (c.inspect.ensures.leaves (g.I.Source.state c.args.input.now) e e' c.args.steps.now)
+
 pub returns-in-Answer-clause-leaves : goal.returns-in-Answer-clause-leaves
 returns-in-Answer-clause-leaves g c = λ e e'.
     let P : Option Command → Type 0 = λ command. Leaves command
     (outside (g.D.Depot.state c.args.depot.now) (g.I.Source.state c.args.input.now) (g.O.Sink.state c.args.out.now) e c.args.steps.now)
     (outside (g.D.Depot.state c.answer.new.depot) (g.I.Source.state c.answer.new.input) (g.O.Sink.state c.answer.new.out) e' c.answer.new.steps) (outcome_of c.answer.result) in
     subst P (sym (ap (λ x. Some (asked x)) c.in-Answer.is) ∙ c.in_ok-command.ensures.command) (c.answer.ensures.leaves e e')
+
+pub returns-in-Generate-clause-leaves : goal.returns-in-Generate-clause-leaves
+returns-in-Generate-clause-leaves g c = λ e e'.
+    let P : Option Command → Type 0 = λ command. Leaves command
+    (outside (g.D.Depot.state c.args.depot.now) (g.I.Source.state c.args.input.now) (g.O.Sink.state c.args.out.now) e c.args.steps.now)
+    (outside (g.D.Depot.state c.args.depot.now) (g.I.Source.state c.args.input.now) (g.O.Sink.state c.generate.new.out) e' c.generate.new.steps) (outcome_of c.generate.result) in
+    subst P (sym (ap (λ x. Some (asked x)) c.in-Generate.is) ∙ c.in_ok-command.ensures.command)
+    (c.generate.ensures.leaves (g.D.Depot.state c.args.depot.now) (g.I.Source.state c.args.input.now) e e')

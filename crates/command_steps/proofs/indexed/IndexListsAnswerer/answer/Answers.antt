@@ -10,7 +10,7 @@ use Rattle.command_steps.proofs.CursorLists.{cursors-below}
 use Rattle.command_steps.proofs.indexed.IndexListsAnswerer.answer.Goals as goal
 
 abbrev list_at : PostingCursor → List Posting
-list_at c = postings_in c.docs.sequence.values c.sums.values
+list_at c = postings_in c.docs.sequence.values c.sums.sequence.values
 
 pub answer-requires-clause-in_range : goal.answer-requires-clause-in_range
 answer-requires-clause-in_range c =

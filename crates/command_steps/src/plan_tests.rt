@@ -1,0 +1,117 @@
+// How often the plans of `top` move their cursors.
+ghost use Rattle.std.specs.Prelude.{◌≡◌, IfOk};
+ghost use Rattle.collection_model.specs.FormatNumbers.{format_one};
+ghost use Rattle.collection_model.specs.Collection.{WellFormed};
+
+use crate::lists::TermLists;
+use crate::plain::PlainLists;
+use crate::plan::{Plan, plan_top};
+use crate::tests::collection;
+use collection_reader::Collection;
+use cursor_api::DocCursor;
+use std::alloc::Global;
+use std::process::Abort;
+use std::test::Fail;
+
+/// A cursor that counts how often it is moved.
+#[derive(Drop)]
+struct Counting<C> {
+    cursor: C,
+    moves: u32,
+}
+
+impl<C: DocCursor> Counting<C> {
+    fn new(cursor: C) -> Counting<C>
+        ensures { result.cursor ≡ cursor }
+    {
+        Counting { cursor, moves: 0 }
+    }
+}
+
+impl<C: DocCursor> DocCursor for Counting<C> {
+    ghost list = { λ c. C.list c.cursor };
+
+    ghost place = { λ c. C.place c.cursor };
+
+    fn doc(&self) -> Option<u32> {
+        self.cursor.doc()
+    }
+
+    fn freq(&mut self) -> u32 {
+        self.cursor.freq()
+    }
+
+    fn advance(&mut self) {
+        self.moves = self.moves.saturating_add(1);
+        self.cursor.advance();
+    }
+
+    fn next_geq(&mut self, d: u32) {
+        self.moves = self.moves.saturating_add(1);
+        self.cursor.next_geq(d);
+    }
+
+    fn max_freq(&self) -> u32 {
+        self.cursor.max_freq()
+    }
+
+    fn len(&self) -> u32 {
+        self.cursor.len()
+    }
+
+    ghost well_formed = { λ c. C.well_formed c.cursor };
+}
+
+/// A list with the documents 0 to 999, once each, and one with document 0, five times.
+fn long_list_and_short_list(alloc: Global) -> Result<Collection, Fail>
+    ensures { IfOk result (WellFormed format_one) }
+{
+    let mut docs = vec![in alloc; 1, 1000, 1000]?;
+    for doc in 0..1000 {
+        docs.push(doc)?;
+    }
+    docs.extend_from_slice(&[1, 0])?;
+    let mut freqs = vec![in alloc; 1; 1001]?;
+    freqs[0] = 1000;
+    freqs.extend_from_slice(&[1, 5])?;
+    let mut sizes = vec![in alloc; 1; 1001]?;
+    sizes[0] = 1000;
+    collection(alloc, [docs.as_slice(), freqs.as_slice(), sizes.as_slice()])
+}
+
+/// How often the cursors of both lists are moved to find the first document of both, which has the score 6.
+fn moves_by(
+    rt: &impl Abort,
+    alloc: Global,
+    collection: &Collection,
+    plan: Plan,
+) -> Result<u32, Fail>
+    requires { WellFormed format_one collection.now }
+{
+    let lists = PlainLists::new(collection);
+    assert!(rt; lists.terms() == 2);
+    let mut cursors = [
+        Counting::new(lists.cursor(0)),
+        Counting::new(lists.cursor(1)),
+    ];
+    let top = plan_top(alloc, plan, &mut cursors, &[1, 1], 1, collection.documents).expect(
+        rt, "memory",
+    );
+    assert_eq!(rt; top.as_slice(), [(0, 6)].as_slice());
+    Ok(cursors[0].moves.saturating_add(cursors[1].moves))
+}
+
+#[test]
+fn plans_pass_over_documents(rt: HostRuntime) -> Result<(), Fail> {
+    let alloc = rt.alloc();
+    let collection = long_list_and_short_list(alloc)?;
+    for (plan, least, most) in [
+        (Plan::Exhaustive, 1000, 1010),
+        (Plan::Wand, 0, 10),
+        (Plan::MaxScore, 0, 10),
+    ] {
+        let moves = moves_by(&rt, alloc, &collection, plan)?;
+        assert!(rt; least <= moves && moves <= most, "{moves}");
+    }
+    Ok(())
+}

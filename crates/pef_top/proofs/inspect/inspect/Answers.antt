@@ -1,0 +1,38 @@
+use Rattle.std.proofs.Common.{sym, ◌∙◌, ap, Ok, Err}
+use Rattle.std.proofs.lemmas.Result.{err_from_is_err_and}
+use Rattle.pef_top.specs.Private.Stops.{outcome_of}
+use Rattle.pef_top.proofs.IndexAnswered.{lent_are_found}
+use Rattle.pef_top.proofs.TextPrinted.{print_outcome}
+use Rattle.pef_top.proofs.SummaryPrinted.{inspect_refused, inspect_unopened, inspect_ended}
+use Rattle.pef_top.proofs.inspect.inspect.Goals as goal
+
+pub returns-in_err-words-clause-leaves : goal.returns-in_err-words-clause-leaves
+returns-in_err-words-clause-leaves g c = λ i e e' n.
+    let p = err_from_is_err_and c.from_residual.result c.from_residual.ensures.1 in
+    inspect_refused c.args.index.now _ _ i _ e e' n c.load_index.result _ c.from_residual.result c.load_index.ensures c.in_err-words.was (p.1 ∙ ap Err p.2)
+
+pub returns-in_err-index-clause-leaves : goal.returns-in_err-index-clause-leaves
+returns-in_err-index-clause-leaves g c = λ i e e' n.
+    let p = err_from_is_err_and c.from_residual-in_err-index.result c.from_residual-in_err-index.ensures.1 in
+    inspect_unopened c.words_and_bytes_undo_each_other.ensures.read c.one_broken_check.ensures c.args.index.now _ _ i _ e e' n
+    c.load_index.result c.in_ok-words.words c.deref.result.now _ c.from_residual-in_err-index.result c.load_index.ensures c.in_ok-words.was c.deref.ensures.value
+    c.in_err-index.ensures.no_index c.in_err-index.ensures.first (p.1 ∙ ap Err p.2)
+
+pub returns-in_err-print_summary-clause-leaves : goal.returns-in_err-print_summary-clause-leaves
+returns-in_err-print_summary-clause-leaves g c = λ i e e' n.
+    let p = err_from_is_err_and c.from_residual-in_err-print_summary.result c.from_residual-in_err-print_summary.ensures.1 in
+    inspect_ended c.words_and_bytes_undo_each_other.ensures.read c.one_broken_check.ensures c.args.index.now _ _ i _ _ e e' n
+    c.load_index.result c.in_ok-words.words c.deref.result.now c.in_ok-index.index c.print_summary.result c.from_residual-in_err-print_summary.result
+    c.load_index.ensures c.in_ok-words.was c.deref.ensures.value c.in_ok-index.ensures.ok c.print_summary.ensures
+    (ap outcome_of (p.1 ∙ ap Err p.2) ∙ sym (ap print_outcome c.in_err-print_summary.was))
+
+pub returns-in_err-print_summary-clause-unaccepted : goal.returns-in_err-print_summary-clause-unaccepted
+returns-in_err-print_summary-clause-unaccepted g c = λ denied.
+    absurd (denied (lent_are_found c.words_and_bytes_undo_each_other.ensures.read c.one_broken_check.ensures c.args.index.now _ _
+    c.load_index.result c.in_ok-words.words c.deref.result.now c.in_ok-index.index c.load_index.ensures c.in_ok-words.was c.deref.ensures.value c.in_ok-index.ensures.ok))
+
+pub returns-clause-leaves : goal.returns-clause-leaves
+returns-clause-leaves g c = λ i e e' n.
+    inspect_ended c.words_and_bytes_undo_each_other.ensures.read c.one_broken_check.ensures c.args.index.now _ _ i _ _ e e' n
+    c.load_index.result c.in_ok-words.words c.deref.result.now c.in_ok-index.index c.print_summary.result (Ok tt)
+    c.load_index.ensures c.in_ok-words.was c.deref.ensures.value c.in_ok-index.ensures.ok c.print_summary.ensures (sym (ap print_outcome c.in_ok-print_summary.was))
