@@ -1,8 +1,8 @@
 -- Lemmas on top lists.
-use Rattle.std.proofs.Common.{inl, inr, ◌≡◌, refl, sym, ap, ◌∙◌, subst, ℕ, zero, suc, ◌+◌, ◌<◌, ◌≤◌, ◌^◌, true, false, min, List, [], ◌∷◌, ◌++◌, map, take, reverse, length, get_or, arith}
+use Rattle.std.proofs.Common.{inl, inr, ◌≡◌, refl, sym, ap, ◌∙◌, subst, ℕ, zero, suc, ◌+◌, ◌-◌, ◌<◌, ◌≤◌, ◌^◌, true, false, min, List, [], ◌∷◌, ◌++◌, map, take, reverse, length, get_or, arith}
 use Rattle.std.specs.Prelude.{Contains, AllPairs}
 use Rattle.std.specs.List.{All, list_any}
-use Rattle.std.proofs.lemmas.Bool.{false_from_ne_true}
+use Rattle.std.proofs.lemmas.Bool.{cases_lt, false_from_ne_true}
 use Rattle.std.proofs.lemmas.List.{length-map, length-reverse, reverse-append}
 use Rattle.std.proofs.lemmas.List.Elements.{All-contains, All-nil}
 use Rattle.std.proofs.lemmas.List.Sorted.{IsPermutation-reverse, IsPermutation-sym, Contains-permutation}
@@ -10,10 +10,10 @@ use Rattle.collection_model.specs.Collection.{Posting}
 use Rattle.scan_plans.specs.Matches.{has_doc, in_any, score}
 use Rattle.scan_plans.specs.IsTop.{Before, IsTop}
 use Rattle.scan_plans.specs.Ranking.{Ranking, in_order, IsFirstK}
-use Rattle.scan_plans.specs.Best.{scored, pairs_of, IsBest}
+use Rattle.scan_plans.specs.Best.{scored, pairs_of, IsBest, IsBar}
 use Rattle.scan_plans.specs.Window.{AreScored}
-use Rattle.scan_plans.proofs.Order.{Pair, same-pair, all-contained, in_order-more, first-k, first-k-more, IsFirstOf, first-one}
-use Rattle.scan_plans.proofs.Scans.{contains-split, contains-map, contains-from_map, filter-below, any-next, any-same}
+use Rattle.scan_plans.proofs.Order.{Pair, same-pair, contains-there, all-contained, in_order-more, first-k, first-k-more, IsFirstOf, first-one}
+use Rattle.scan_plans.proofs.Scans.{contains-split, contains-map, contains-from_map, filter-below, filter-skip, any-next, any-same}
 
 pairs-more : (lists : List (List Posting)) (weights : List ℕ) (docs : List ℕ) (d : ℕ) → pairs_of lists weights (docs ++ d ∷ []) ≡ scored lists weights d ∷ pairs_of lists weights docs
 pairs-more lists weights docs d = ap (map (scored lists weights)) (reverse-append docs (d ∷ []))
@@ -127,6 +127,25 @@ offered-below d e s held new lt of_them all =
       | inr inside ↦ (let h = All-contains (λ (x : Pair). x.0 < d) held x all inside in omega arith)
     ])
 
+-- what is held stands before a later document whose score is not above it
+pub held-before : (d s : ℕ) (held : List Pair) → All (λ (e : Pair). e.0 < d) held → All (λ (e : Pair). s ≤ e.1) held → All (λ (h : Pair). Before h (d, s)) held
+held-before d s held below least i z within =
+    let lower = least i z within in
+    let earlier = below i z within in
+    elim (cases_lt s (get_or held i z).1) as (λ _. Before (get_or held i z) (d, s)) [ inl lt ↦ inl lt | inr ge ↦ inr (omega arith, earlier) ]
+
+-- such a document does not enter where k are held
+full-stays : (k d s : ℕ) (held : List Pair) → AllPairs Before held → length held ≡ k → All (λ (e : Pair). e.0 < d) held → All (λ (e : Pair). s ≤ e.1) held → IsFirstK k ((d, s) ∷ held) held
+full-stays k d s held ordered full below least = record {
+  ordered = ordered;
+  of_them = all-contained (Contains ((d, s) ∷ held)) held (λ x c. contains-there (d, s) held x c);
+  count = omega arith;
+  others_after = λ e c absent. elim (contains-split (d, s) held e c) as (λ _. All (λ h. Before h e) held) [
+    | inl is ↦ subst (λ (z : Pair). All (λ h. Before h z) held) is (held-before d s held below least)
+    | inr inside ↦ absurd (absent inside)
+  ];
+}
+
 -- ---- the documents of a window that have a score, offered one after another
 pub record IsOffered (first at : ℕ) (scores : List ℕ) (old now : Ranking) : Type 0 where
   pub k : now.k ≡ old.k
@@ -170,3 +189,37 @@ offered-same first at s scores old now within is none so_far =
           best-same old.k lists weights (first + at) (first + (at + 1)) now.held next (false_from_ne_true (list_any (has_doc (first + at)) lists) (λ has. let above = (are.found at within).1 has in absurd (omega arith))) (so_far.best lists weights are best);
       bound = so_far.bound;
     }
+
+-- one whose score does not pass the bar
+pub offered-passed : (first at s bar : ℕ) (scores : List ℕ) (old now : Ranking) → at < length scores → s ≡ get_or scores at 0 → s ≤ bar → IsBar now bar → IsOffered first at scores old now → IsOffered first (at + 1) scores old now
+offered-passed first at s bar scores old now within is low (inl none) so_far = offered-same first at s scores old now within is (omega arith) so_far
+offered-passed first at s bar scores old now within is low (inr full) so_far =
+    let next : first + at + 1 ≡ first + (at + 1) = omega arith in
+    let doc : ℕ = first + at in
+    let least : All (λ (e : Pair). s ≤ e.1) now.held = λ i x inside. let h = full.1 i x inside in omega arith in
+    elim (cases_lt 0 s) as (λ _. IsOffered first (at + 1) scores old now) [
+      | inr none ↦ offered-same first at s scores old now within is none so_far
+      | inl some ↦ record {
+        k = so_far.k;
+        n = so_far.n;
+        above = λ i x inside. let h = so_far.above i x inside in omega arith;
+        best = λ lists weights are best.
+            let before = so_far.best lists weights are best in
+            let count : length now.held ≡ old.k = full.0 ∙ so_far.k in
+            best-next old.k lists weights doc (first + (at + 1)) s now.held now.held next ((are.found at within).0 (subst (λ (x : ℕ). 0 < x) is some)) (is ∙ are.scored at within) before
+            (full-stays old.k doc s now.held (held-first old.k lists weights (in_any doc lists) now.held before).ordered count so_far.above least);
+        bound = so_far.bound;
+      }
+    ]
+
+-- behind the places that were reached no list has a document
+pub offered-all : (first reached : ℕ) (scores : List ℕ) (old now : Ranking) → reached ≤ length scores → ((k : ℕ) → reached ≤ k → k < length scores → get_or scores k 0 ≡ 0) → IsOffered first reached scores old now
+    → (lists : List (List Posting)) (weights : List ℕ) → AreScored lists weights first scores → IsBest old.k lists weights (in_any first lists) old.held → IsBest old.k lists weights (in_any (first + length scores) lists) now.held
+offered-all first reached scores old now within behind so_far lists weights are best =
+    let none : (e : ℕ) → first + reached ≤ e → e < first + length scores → list_any (has_doc e) lists ≡ false = λ e from lt.
+    let k : ℕ = e - first in
+    let is : first + k ≡ e = omega arith in
+    let zero = behind k (omega arith) (omega arith) in
+    subst (λ (d : ℕ). list_any (has_doc d) lists ≡ false) is
+    (false_from_ne_true (list_any (has_doc (first + k)) lists) (λ has. let above = (are.found k (omega arith)).1 has in absurd (omega arith))) in
+    subst (λ (docs : List ℕ). IsBest old.k lists weights docs now.held) (sym (filter-skip (λ d. list_any (has_doc d) lists) (first + reached) (first + length scores) (omega arith) none)) (so_far.best lists weights are best)

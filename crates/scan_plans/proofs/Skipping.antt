@@ -2,7 +2,6 @@
 use Rattle.std.proofs.Common.{◌≡◌, refl, sym, ap, inl, inr, ◌⊎◌, ◌∙◌, subst, ℕ, zero, suc, ◌+◌, ◌-◌, ◌<◌, ◌≤◌, Bool, true, false, min, List, [], ◌∷◌, ◌++◌, take, length, get_or, Some, arith}
 use Rattle.std.specs.Prelude.{Contains}
 use Rattle.std.specs.List.{All, list_any}
-use Rattle.std.proofs.lemmas.Bool.{cases_lt}
 use Rattle.std.proofs.lemmas.List.{length-map, length_push}
 use Rattle.std.proofs.lemmas.List.Elements.{All-contains, All-nil, All-weaker, Contains-append_left, Contains-push_cases}
 use Rattle.std.proofs.lemmas.List.Kept.{AllPairs-from_increasing}
@@ -17,7 +16,7 @@ use Rattle.scan_plans.proofs.Order.{Pair}
 use Rattle.scan_plans.proofs.Scans.{filter-yes, filter-skip, filter-below}
 use Rattle.scan_plans.proofs.Postings.{doc_at-some, doc_at-within, docs-rise}
 use Rattle.scan_plans.specs.Best.{pairs_of, IsBest}
-use Rattle.scan_plans.proofs.Bests.{best-none, best-more, best-top, top-one, any-below}
+use Rattle.scan_plans.proofs.Bests.{best-none, best-more, best-top, top-one, any-below, held-before}
 
 -- a test says yes or no
 either : (b : Bool) → (b ≡ true) ⊎ (b ≡ false)
@@ -93,9 +92,7 @@ skip-full d lists weights k held has full least top =
       count = omega arith;
       others_after = λ x c absent. elim (Contains-push_cases docs d x (subst (λ (all : List ℕ). Contains all x) more c)) as (λ _. All (λ (e : Pair). Before e (x, score lists weights x)) held) [
         | inl before ↦ top.others_after x before absent
-        | inr same ↦ subst (λ (x : ℕ). All (λ (e : Pair). Before e (x, score lists weights x)) held) same
-            (λ i z within. let lower = least i z within in let earlier = below i z within in
-            elim (cases_lt (score lists weights d) (get_or held i z).1) as (λ _. Before (get_or held i z) (d, score lists weights d)) [ inl lt ↦ inl lt | inr ge ↦ inr (omega arith, earlier) ])
+        | inr same ↦ subst (λ (x : ℕ). All (λ (e : Pair). Before e (x, score lists weights x)) held) same (held-before d (score lists weights d) held below least)
       ];
     }
 

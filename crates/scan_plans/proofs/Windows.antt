@@ -1,6 +1,6 @@
 -- Lemmas on windows of documents.
-use Rattle.std.proofs.Common.{◌≡◌, refl, sym, ap, inl, inr, ◌∙◌, subst, ℕ, ◌+◌, ◌*◌, ◌<◌, ◌≤◌, ◌≢◌, ◌||◌, Bool, true, false, List, [], ◌∷◌, ◌++◌, length, get_or, set, take, map, Some, arith}
-use Rattle.std.specs.List.{list_any, sum_by, zip}
+use Rattle.std.proofs.Common.{◌≡◌, refl, sym, ap, inl, inr, ◌∙◌, subst, ℕ, ◌+◌, ◌-◌, ◌*◌, ◌<◌, ◌≤◌, ◌≢◌, ◌||◌, Bool, true, false, List, [], ◌∷◌, ◌++◌, length, get_or, set, take, map, Some, arith}
+use Rattle.std.specs.List.{All, list_any, sum_by, zip}
 use Rattle.std.proofs.lemmas.Bool.{cases_lt}
 use Rattle.std.proofs.lemmas.List.{get_or_default, length-map, length-set, get_or-map, get_or-set_same, get_or-set_other}
 use Rattle.std.proofs.lemmas.List.Folds.{list_any_more}
@@ -10,7 +10,7 @@ use Rattle.scan_plans.specs.Matches.{has_doc, freq_of_doc, in_any}
 use Rattle.scan_plans.specs.Scan.{doc_at, StandsFrom}
 use Rattle.scan_plans.specs.Window.{AreMarked}
 use Rattle.scan_plans.proofs.Postings.{IsNotAt, at-doc, not-at-doc, stands-later, doc_at-some}
-use Rattle.scan_plans.proofs.Scans.{any-next, any-same}
+use Rattle.scan_plans.proofs.Scans.{filter-skip, any-next, any-same}
 use Rattle.scan_plans.proofs.Steps.{next-is-later, share, score-step}
 
 pub plus-none : (v : ℕ) → v + 0 ≡ v
@@ -162,3 +162,44 @@ appended-same first at marks old now within absent so_far = record {
       let next : first + at + 1 ≡ first + (at + 1) = omega arith in
       so_far.docs lists marked is ∙ sym (any-same (first + at) (first + (at + 1)) lists next (sym (marked at within) ∙ absent));
 }
+
+-- behind the places that were reached nothing is marked
+pub appended-all : (first reached : ℕ) (marks : List Bool) (old now : List ℕ) → reached ≤ length marks → ((k : ℕ) → reached ≤ k → k < length marks → get_or marks k false ≡ false) → IsAppended first reached marks old now
+    → (lists : List (List Posting)) → AreMarked lists first marks → old ≡ in_any first lists → now ≡ in_any (first + length marks) lists
+appended-all first reached marks old now within behind so_far lists marked is =
+    let none : (e : ℕ) → first + reached ≤ e → e < first + length marks → list_any (has_doc e) lists ≡ false = λ e from lt.
+    let k : ℕ = e - first in
+    let at : first + k ≡ e = omega arith in
+    subst (λ (d : ℕ). list_any (has_doc d) lists ≡ false) at (sym (marked k (omega arith)) ∙ behind k (omega arith) (omega arith)) in
+    so_far.docs lists marked is ∙ sym (filter-skip (λ d. list_any (has_doc d) lists) (first + reached) (first + length marks) (omega arith) none)
+
+-- ---- a window that is taken back place by place: nothing is left before `at`, and from there on what was there
+pub record IsCleared {V : Type 0} (none : V) (at : ℕ) (old now : List V) : Type 0 where
+  pub count : length now ≡ length old
+  pub done : (k : ℕ) → k < at → get_or now k none ≡ none
+  pub rest : (k : ℕ) → at ≤ k → get_or now k none ≡ get_or old k none
+
+module _ {V : Type 0} (none : V) (old : List V) where
+  pub cleared-none : IsCleared none 0 old old
+  cleared-none = record { count = refl; done = λ k lt. absurd (omega arith); rest = λ k le. refl }
+
+  pub cleared-more : (at : ℕ) (now : List V) → at < length old → IsCleared none at old now → IsCleared none (at + 1) old (set now at none)
+  cleared-more at now within so_far =
+      let l = length-set now at none in
+      let count = so_far.count in
+      record {
+        count = omega arith;
+        done = λ k lt. elim (cases_lt k at) as (λ _. get_or (set now at none) k none ≡ none) [
+          | inl before ↦ (let other : k ≢ at = omega arith in get_or-set_other now at k none none other ∙ so_far.done k before)
+          | inr after ↦ (let same : at ≡ k = omega arith in subst (λ (j : ℕ). get_or (set now at none) j none ≡ none) same (get_or-set_same now at none none (omega arith)))
+        ];
+        rest = λ k le. let other : k ≢ at = omega arith in get_or-set_other now at k none none other ∙ so_far.rest k (omega arith);
+      }
+
+  pub cleared-all : (reached : ℕ) (now : List V) → ((k : ℕ) → reached ≤ k → k < length old → get_or old k none ≡ none) → IsCleared none reached old now → All (λ v. v ≡ none) now
+  cleared-all reached now behind so_far k d within =
+      let count = so_far.count in
+      get_or_default now k d none within ∙ elim (cases_lt k reached) as (λ _. get_or now k none ≡ none) [
+        | inl before ↦ so_far.done k before
+        | inr after ↦ so_far.rest k after ∙ behind k after (omega arith)
+      ]

@@ -7,7 +7,7 @@ ghost use Rattle.scan_plans.specs.Window.{AreMarked};
 
 use crate::NoMemory;
 use crate::scan::{least_doc, next_shared};
-use crate::window::{clear_marks, doc_in, mark_lists, new_marks};
+use crate::window::{doc_in, mark_lists, new_marks};
 use cursor_api::DocCursor;
 use std::alloc::Global;
 
@@ -50,20 +50,30 @@ pub fn or_docs<C: DocCursor>(alloc: Global, cursors: &mut [C]) -> Result<Vec<u32
     let mut buffer = new_marks(alloc)?;
     let marks = buffer.as_mut_slice();
     while let Some(first) = least_doc(cursors) {
-        clear_marks(marks);
-        mark_lists(cursors, first, marks);
-        append_marked(&mut docs, first, marks)?;
+        let reached = mark_lists(cursors, first, marks);
+        append_marked(&mut docs, first, reached, marks)?;
     }
     Ok(docs)
 }
 
-// Adds the marked documents of a window from `first` on.
-fn append_marked(docs: &mut Vec<u32>, first: u32, marks: &[bool]) -> Result<(), NoMemory>
-    requires fit { (k : ℕ) → k < length marks.now → slice_index_or marks.now k false ≡ true → first + k < 2 ^ 32 }
-    ensures { OnOk result ((lists : List (List Posting)) → AreMarked lists first marks.now → docs.old.items ≡ in_any first lists → docs.new.items ≡ in_any (first + length marks.now) lists) }
+// Adds the marked documents of a window from `first` on, of which so many places were reached, and takes their marks back.
+fn append_marked(
+    docs: &mut Vec<u32>,
+    first: u32,
+    reached: usize,
+    marks: &mut [bool],
+) -> Result<(), NoMemory>
+    requires within { reached ≤ length marks.old }
+    requires behind { (k : ℕ) → reached ≤ k → k < length marks.old → slice_index_or marks.old k false ≡ false }
+    requires fit { (k : ℕ) → k < length marks.old → slice_index_or marks.old k false ≡ true → first + k < 2 ^ 32 }
+    ensures docs { OnOk result ((lists : List (List Posting)) → AreMarked lists first marks.old → docs.old.items ≡ in_any first lists → docs.new.items ≡ in_any (first + length marks.old) lists) }
+    ensures count { length marks.new ≡ length marks.old }
+    ensures clear { OnOk result (All (λ m. m ≡ false) marks.new) }
 {
-    for at in 0..marks.len() {
-        if marks[at] {
+    for at in 0..reached {
+        let marked = marks[at];
+        marks[at] = false;
+        if marked {
             let doc = doc_in(first, at);
             append(docs, doc)?;
         }

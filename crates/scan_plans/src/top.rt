@@ -3,11 +3,11 @@ ghost use Rattle.std.specs.List.{All};
 ghost use Rattle.collection_model.specs.Collection.{Posting};
 ghost use Rattle.scan_plans.specs.Matches.{AreBelow, in_any};
 ghost use Rattle.scan_plans.specs.IsTop.{IsTop};
-ghost use Rattle.scan_plans.specs.Best.{IsBest};
+ghost use Rattle.scan_plans.specs.Best.{IsBest, IsBar};
 ghost use Rattle.scan_plans.specs.Window.{AreScored};
 
 use crate::scan::least_doc;
-use crate::window::{add_lists, clear_scores, doc_in, new_scores};
+use crate::window::{add_lists, doc_in, new_scores};
 use crate::{NoMemory, TopK};
 use cursor_api::DocCursor;
 use std::alloc::Global;
@@ -38,28 +38,45 @@ pub fn top_exhaustive<C: DocCursor>(
     let mut buffer = new_scores(alloc)?;
     let scores = buffer.as_mut_slice();
     while let Some(first) = least_doc(cursors) {
-        clear_scores(scores);
-        add_lists(cursors, weights, first, scores);
-        offer_scored(&mut top, first, scores);
+        let reached = add_lists(cursors, weights, first, scores);
+        offer_scored(&mut top, first, reached, scores);
     }
     top.into_list()
 }
 
-// Offers the documents of a window from `first` on that any list has: those whose score is above 0.
-fn offer_scored(top: &mut TopK, first: u32, scores: &[u64])
+// Offers the documents of a window from `first` on that any list has: those whose score is above 0, as far as they can enter. So
+// many of its places were reached; their scores are taken back.
+fn offer_scored(top: &mut TopK, first: u32, reached: usize, scores: &mut [u64])
+    requires within { reached ≤ length scores.old }
+    requires behind { (k : ℕ) → reached ≤ k → k < length scores.old → slice_index scores.old k ≡ 0 }
     requires narrow { top.old.n < 2 ^ 32 }
-    requires in_range { (k : ℕ) → k < length scores.now → 0 < slice_index scores.now k → first + k < top.old.n }
+    requires in_range { (k : ℕ) → k < length scores.old → 0 < slice_index scores.old k → first + k < top.old.n }
     requires above { All (λ e. e.0 < first) top.old.held }
     ensures k { top.new.k ≡ top.old.k }
     ensures n { top.new.n ≡ top.old.n }
-    ensures best { (lists : List (List Posting)) (weights : List ℕ) → AreScored lists weights first scores.now → IsBest top.old.k lists weights (in_any first lists) top.old.held → IsBest top.old.k lists weights (in_any (first + length scores.now) lists) top.new.held }
-    ensures bound { All (λ s. s < 2 ^ 58) scores.now → All (λ e. e.1 < 2 ^ 58) top.old.held → All (λ e. e.1 < 2 ^ 58) top.new.held }
+    ensures best { (lists : List (List Posting)) (weights : List ℕ) → AreScored lists weights first scores.old → IsBest top.old.k lists weights (in_any first lists) top.old.held → IsBest top.old.k lists weights (in_any (first + length scores.old) lists) top.new.held }
+    ensures bound { All (λ s. s < 2 ^ 58) scores.old → All (λ e. e.1 < 2 ^ 58) top.old.held → All (λ e. e.1 < 2 ^ 58) top.new.held }
+    ensures count { length scores.new ≡ length scores.old }
+    ensures clear { All (λ s. s ≡ 0) scores.new }
 {
-    for at in 0..scores.len() {
+    let mut bar = bar_of(top);
+    for at in 0..reached {
         let score = scores[at];
-        if score > 0 {
+        scores[at] = 0;
+        if score > bar {
             let doc = doc_in(first, at);
             top.offer(doc, score);
+            bar = bar_of(top);
         }
+    }
+}
+
+// The score that a later document must pass to enter: the least that is held once k are, and 0 before.
+fn bar_of(top: &TopK) -> u64
+    ensures { IsBar top.now result }
+{
+    match top.threshold() {
+        Some(least) => least,
+        None => 0,
     }
 }

@@ -23,25 +23,32 @@ loop-first-init g c =
       low = 0;
       lists = refl;
       stand = starts-stand g.C.DocCursor.list g.C.DocCursor.place c.args.cursors.now c.requires.at_start;
-      some = let same = ap length c.as_mut_slice-scores.ensures.value in let some = c.in_ok-buffer.ensures in omega arith;
+      some = let same = ap length c.as_mut_slice-scores.ensures.value in let some = c.in_ok-buffer.ensures.some in omega arith;
+      clear = subst (All (λ s. s ≡ 0)) (sym c.as_mut_slice-scores.ensures.value) c.in_ok-buffer.ensures.clear;
       k = ap (λ (r : Ranking). r.k) c.in_ok-top.ensures;
       n = ap (λ (r : Ranking). r.n) c.in_ok-top.ensures;
       best = subst (IsBest c.args.k lists c.args.weights.now []) (sym held) (best-none c.args.k lists c.args.weights.now);
       bound = subst (All (λ (e : ℕ × ℕ). e.1 < 2 ^ 58)) (sym held) (All-nil (λ (e : ℕ × ℕ). e.1 < 2 ^ 58));
     }
 
-pub add_lists-requires-clause-stand : goal.add_lists-requires-clause-stand
-add_lists-requires-clause-stand g c =
+pub add_lists-reached-requires-clause-stand : goal.add_lists-reached-requires-clause-stand
+add_lists-reached-requires-clause-stand g c =
     let next = next-doc g.C.DocCursor.list g.C.DocCursor.place g.met.C.DocCursor.well_formed c.loop-first.cursors c.loop-first.invariant.low c.in-Some.first c.loop-first.invariant.stand (sym c.least_doc.ensures ∙ c.in-Some.is) in
     next.stand
 
-pub add_lists-requires-clause-each : goal.add_lists-requires-clause-each
-add_lists-requires-clause-each g c =
+pub add_lists-reached-requires-clause-each : goal.add_lists-reached-requires-clause-each
+add_lists-reached-requires-clause-each g c =
     let same = ap length c.loop-first.invariant.lists in
     let now-mapped = length-map c.loop-first.cursors g.C.DocCursor.list in
     let old-mapped = length-map c.args.cursors.now g.C.DocCursor.list in
     let each = c.requires.each in
     omega arith
+
+pub offer_scored-requires-clause-within : goal.offer_scored-requires-clause-within
+offer_scored-requires-clause-within g c = let count = c.add_lists-reached.ensures.count in let within = c.add_lists-reached.ensures.within in omega arith
+
+pub offer_scored-requires-clause-behind : goal.offer_scored-requires-clause-behind
+offer_scored-requires-clause-behind g c = λ k from inside. let count = c.add_lists-reached.ensures.count in c.add_lists-reached.ensures.behind k from (omega arith)
 
 pub offer_scored-requires-clause-narrow : goal.offer_scored-requires-clause-narrow
 offer_scored-requires-clause-narrow g c = omega (arith, c.loop-first.invariant.n, c.ranges.n.fits)
@@ -51,7 +58,7 @@ offer_scored-requires-clause-in_range g c = λ k within above.
     let lists : List (List Posting) = map g.C.DocCursor.list c.args.cursors.now in
     let same = c.loop-first.invariant.lists in
     let doc : ℕ = c.in-Some.first + k in
-    let has : list_any (has_doc doc) lists ≡ true = ap (list_any (has_doc doc)) (sym same) ∙ (c.add_lists.ensures.scores.found k within).0 above in
+    let has : list_any (has_doc doc) lists ≡ true = ap (list_any (has_doc doc)) (sym same) ∙ (c.add_lists-reached.ensures.scores.found k within).0 above in
     subst (λ (n : ℕ). doc < n) (sym c.loop-first.invariant.n) (any-bound c.args.n lists doc c.requires.in_range has)
 
 pub offer_scored-requires-clause-above : goal.offer_scored-requires-clause-above
@@ -66,8 +73,7 @@ pub loop-first-smaller : goal.loop-first-smaller
 loop-first-smaller g c =
     let next = next-doc g.C.DocCursor.list g.C.DocCursor.place g.met.C.DocCursor.well_formed c.loop-first.cursors c.loop-first.invariant.low c.in-Some.first c.loop-first.invariant.stand (sym c.least_doc.ensures ∙ c.in-Some.is) in
     let some = c.loop-first.invariant.some in
-    let cleared = c.clear_scores.ensures.count in
-    passing-leaves-less g.C.DocCursor.list g.C.DocCursor.place g.met.C.DocCursor.well_formed c.in-Some.first (c.in-Some.first + length c.clear_scores.new.scores) c.loop-first.cursors c.add_lists.new.cursors (omega arith) c.add_lists.ensures.lists next.stand c.add_lists.ensures.stand next.at
+    passing-leaves-less g.C.DocCursor.list g.C.DocCursor.place g.met.C.DocCursor.well_formed c.in-Some.first (c.in-Some.first + length c.loop-first.scores) c.loop-first.cursors c.add_lists-reached.new.cursors (omega arith) c.add_lists-reached.ensures.lists next.stand c.add_lists-reached.ensures.stand next.at
 
 pub loop-first-preserved : goal.loop-first-preserved
 loop-first-preserved g c =
@@ -79,22 +85,23 @@ loop-first-preserved g c =
     let held : List (ℕ × ℕ) = c.loop-first.top.held in
     let next = next-doc g.C.DocCursor.list g.C.DocCursor.place g.met.C.DocCursor.well_formed c.loop-first.cursors c.loop-first.invariant.low c.in-Some.first c.loop-first.invariant.stand (sym c.least_doc.ensures ∙ c.in-Some.is) in
     let skipped : in_any low lists ≡ in_any first lists = subst (λ (ls : List (List Posting)). in_any low ls ≡ in_any first ls) same next.skipped in
-    let scored : AreScored lists weights first c.add_lists.new.scores = subst (λ (ls : List (List Posting)). AreScored ls weights first c.add_lists.new.scores) same c.add_lists.ensures.scores in
+    let scored : AreScored lists weights first c.add_lists-reached.new.scores = subst (λ (ls : List (List Posting)). AreScored ls weights first c.add_lists-reached.new.scores) same c.add_lists-reached.ensures.scores in
     let k = c.loop-first.invariant.k in
     let before : IsBest c.args.k lists weights (in_any first lists) held = subst (λ (docs : List ℕ). IsBest c.args.k lists weights docs held) skipped c.loop-first.invariant.best in
     let more = c.offer_scored.ensures.best lists weights scored (subst (λ (n : ℕ). IsBest n lists weights (in_any first lists) held) (sym k) before) in
     let some = c.loop-first.invariant.some in
-    let cleared = c.clear_scores.ensures.count in
-    let count = c.add_lists.ensures.count in
+    let kept = c.offer_scored.ensures.count in
+    let count = c.add_lists-reached.ensures.count in
     record {
-      low = first + length c.add_lists.new.scores;
-      lists = c.add_lists.ensures.lists ∙ same;
-      stand = subst (λ (n : ℕ). All (λ x. StandsFrom (first + n) (g.C.DocCursor.list x) (g.C.DocCursor.place x)) c.add_lists.new.cursors) (sym count) c.add_lists.ensures.stand;
+      low = first + length c.add_lists-reached.new.scores;
+      lists = c.add_lists-reached.ensures.lists ∙ same;
+      stand = subst (λ (n : ℕ). All (λ x. StandsFrom (first + n) (g.C.DocCursor.list x) (g.C.DocCursor.place x)) c.add_lists-reached.new.cursors) (sym count) c.add_lists-reached.ensures.stand;
       some = omega arith;
+      clear = c.offer_scored.ensures.clear;
       k = c.offer_scored.ensures.k ∙ k;
       n = c.offer_scored.ensures.n ∙ c.loop-first.invariant.n;
-      best = subst (λ (n : ℕ). IsBest n lists weights (in_any (first + length c.add_lists.new.scores) lists) c.offer_scored.new.top.held) k more;
-      bound = c.offer_scored.ensures.bound c.add_lists.ensures.bound c.loop-first.invariant.bound;
+      best = subst (λ (n : ℕ). IsBest n lists weights (in_any (first + length c.add_lists-reached.new.scores) lists) c.offer_scored.new.top.held) k more;
+      bound = c.offer_scored.ensures.bound c.add_lists-reached.ensures.bound c.loop-first.invariant.bound;
     }
 
 pub returns-clause-bound : goal.returns-clause-bound

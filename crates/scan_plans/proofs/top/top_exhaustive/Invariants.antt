@@ -11,6 +11,7 @@ invariant-loop-first g l = record {
   lists : map g.C.DocCursor.list l.cursors ≡ map g.C.DocCursor.list l.initial.cursors;
   stand : All (λ c. StandsFrom low (g.C.DocCursor.list c) (g.C.DocCursor.place c)) l.cursors;
   some : 0 < length l.scores;
+  clear : All (λ s. s ≡ 0) l.scores;
   k : l.top.k ≡ l.fn.k;
   n : l.top.n ≡ l.fn.n;
   best : IsBest l.fn.k (map g.C.DocCursor.list l.initial.cursors) l.weights (in_any low (map g.C.DocCursor.list l.initial.cursors)) l.top.held;

@@ -9,7 +9,7 @@ use Rattle.scan_plans.proofs.window.add_list.Goals as goal
 pub loop-at-init : goal.loop-at-init
 loop-at-init g c = record {
   low = c.args.first;
-  from = omega arith;
+  is = omega arith;
   to = omega arith;
   list = refl;
   stand = c.requires.stand;
@@ -20,7 +20,7 @@ loop-at-init g c = record {
 pub place_in-requires : goal.place_in-requires
 place_in-requires g c =
     let so_far = c.loop-at.invariant in
-    let start = so_far.from in
+    let start = so_far.is in
     record { from = λ d is. let later = next-is-later (g.C.DocCursor.list c.loop-at.cursor) so_far.low (g.C.DocCursor.place c.loop-at.cursor) d so_far.stand is in omega arith }
 
 pub weighted_freq-added-requires : goal.weighted_freq-added-requires
@@ -70,7 +70,7 @@ loop-at-preserved g c =
     let within : at < length before = omega arith in
     let good = g.met.C.DocCursor.well_formed cursor in
     let here = reached list (g.C.DocCursor.list cursor) so_far.list so_far.low place good so_far.stand doc c.in-Some.ensures.inside.1 in
-    let start = so_far.from in
+    let start = so_far.is in
     let adds : c.weighted_freq-added.result ≡ c.args.weight * freq_of_doc doc list = c.weighted_freq-added.ensures.value ∙ ap (λ (n : ℕ). c.args.weight * n) (sym here.freq) in
     let bound = c.weighted_freq-added.ensures.bound in
     let same = so_far.given.rest at within here.from in
@@ -78,7 +78,7 @@ loop-at-preserved g c =
     let later = c.advance.ensures.place ∙ ap (λ (n : ℕ). n + 1) c.weighted_freq-added.ensures.place in
     record {
       low = doc + 1;
-      from = omega arith;
+      is = omega arith;
       to = omega arith;
       list = kept ∙ so_far.list;
       stand = moved-stand (g.C.DocCursor.list c.advance.new.self) (g.C.DocCursor.list cursor) (doc + 1) (place + 1) (g.C.DocCursor.place c.advance.new.self) kept later here.after;
@@ -113,3 +113,16 @@ returns-clause-count g c = c.loop-at.invariant.given.count
 
 pub returns-clause-bound : goal.returns-clause-bound
 returns-clause-bound g c = c.loop-at.invariant.most
+
+pub returns-clause-within : goal.returns-clause-within
+returns-clause-within g c =
+    let so_far = c.loop-at.invariant in
+    let is = so_far.is in
+    let to = so_far.to in
+    omega arith
+
+pub returns-clause-behind : goal.returns-clause-behind
+returns-clause-behind g c = λ k behind within.
+    let so_far = c.loop-at.invariant in
+    let is = so_far.is in
+    so_far.given.rest k within (omega arith)

@@ -7,7 +7,7 @@ use Rattle.scan_plans.proofs.window.add_list.Given as goal
 abbrev pub invariant-loop-at : goal.invariant-loop-at
 invariant-loop-at g l = record {
   low : ℕ;
-  from : l.first ≤ low;
+  is : low ≡ l.first + l.reached;
   to : low ≤ l.first + length l.initial.scores;
   list : g.C.DocCursor.list l.cursor ≡ g.C.DocCursor.list l.initial.cursor;
   stand : StandsFrom low (g.C.DocCursor.list l.cursor) (g.C.DocCursor.place l.cursor);

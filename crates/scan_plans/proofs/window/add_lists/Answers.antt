@@ -1,4 +1,4 @@
-use Rattle.std.proofs.Common.{◌≡◌, refl, sym, ap, ◌∙◌, subst, ℕ, ◌+◌, ◌<◌, true, List, length, get_or, map, arith}
+use Rattle.std.proofs.Common.{◌≡◌, refl, sym, ap, ◌∙◌, subst, ℕ, ◌+◌, ◌<◌, true, List, length, get_or, map, max, arith}
 use Rattle.std.specs.Prelude.{◌↔◌}
 use Rattle.std.specs.List.{list_any}
 use Rattle.std.proofs.lemmas.List.{get_or_default, length-map}
@@ -20,6 +20,8 @@ loop-i-init g c = record {
   count = refl;
   scored = λ k within. c.requires.clear k 0 within;
   bound = λ k within. let none = c.requires.clear k 0 within in omega arith;
+  within = omega arith;
+  behind = λ k from within. c.requires.clear k 0 within;
 }
 
 pub add_list-requires-clause-stand : goal.add_list-requires-clause-stand
@@ -58,6 +60,9 @@ loop-i-preserved g c =
     let weighed : i < length weights = omega arith in
     let count = so_far.count in
     let heavier = sum_by_more (λ w. w) weights i 0 weighed in
+    let most : c.max-reached.result ≡ max c.add_list.result c.loop-i.reached = c.max-reached.ensures in
+    let behind-old = so_far.within in
+    let behind-new = c.add_list.ensures.within in
     record {
       lists = lists-set g.C.DocCursor.list g.C.DocCursor.place cs i new item within c.add_list.ensures.list ∙ so_far.lists;
       done = AllWithin-more_set cs i new within (λ x. StandsFrom (c.args.first + length c.args.scores.now) (g.C.DocCursor.list x) (g.C.DocCursor.place x)) so_far.done
@@ -67,6 +72,8 @@ loop-i-preserved g c =
       scored = scores-step g.C.DocCursor.list g.C.DocCursor.place c.args.first i (length c.args.scores.now) cs c.args.cursors.now weights c.loop-i.scores c.add_list.new.scores item so_far.lists within weighed so_far.scored
           (λ k inside. c.add_list.ensures.scores k (omega arith));
       bound = λ k inside. let before = so_far.bound k inside in let more = c.add_list.ensures.bound k (omega arith) in omega arith;
+      within = omega arith;
+      behind = λ k from inside. c.add_list.ensures.behind k (omega arith) (omega arith) ∙ so_far.behind k (omega arith) inside;
     }
 
 pub returns-clause-stand : goal.returns-clause-stand
@@ -97,3 +104,9 @@ returns-clause-bound g c = λ k d within.
     let whole = sum_by-take-le (λ w. w) c.args.weights.now c.loop-i.i in
     let light = c.requires.light in
     omega arith
+
+pub returns-clause-within : goal.returns-clause-within
+returns-clause-within g c = c.loop-i.invariant.within
+
+pub returns-clause-behind : goal.returns-clause-behind
+returns-clause-behind g c = c.loop-i.invariant.behind

@@ -12,4 +12,6 @@ invariant-loop-i g l = record {
   count : length l.scores ≡ length l.initial.scores;
   scored : (k : ℕ) → k < length l.initial.scores → slice_index l.scores k ≡ sum_by (share (l.first + k)) (take l.i (zip (map g.C.DocCursor.list l.initial.cursors) l.weights));
   bound : (k : ℕ) → k < length l.initial.scores → slice_index l.scores k ≤ sum (take l.i l.weights) * 4294967295;
+  within : l.reached ≤ length l.initial.scores;
+  behind : (k : ℕ) → l.reached ≤ k → k < length l.initial.scores → slice_index l.scores k ≡ 0;
 }

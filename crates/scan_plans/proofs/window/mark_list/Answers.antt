@@ -9,7 +9,7 @@ use Rattle.scan_plans.proofs.window.mark_list.Goals as goal
 pub loop-at-init : goal.loop-at-init
 loop-at-init g c = record {
   low = c.args.first;
-  from = omega arith;
+  is = omega arith;
   to = omega arith;
   list = refl;
   stand = c.requires.stand;
@@ -19,7 +19,7 @@ loop-at-init g c = record {
 pub place_in-requires : goal.place_in-requires
 place_in-requires g c =
     let so_far = c.loop-at.invariant in
-    let start = so_far.from in
+    let start = so_far.is in
     record { from = λ d is. let later = next-is-later (g.C.DocCursor.list c.loop-at.cursor) so_far.low (g.C.DocCursor.place c.loop-at.cursor) d so_far.stand is in omega arith }
 
 pub advance-requires : goal.advance-requires
@@ -48,10 +48,10 @@ loop-at-preserved g c =
     let within : at < length before = omega arith in
     let good = g.met.C.DocCursor.well_formed cursor in
     let here = reached list (g.C.DocCursor.list cursor) so_far.list so_far.low place good so_far.stand doc c.in-Some.ensures.inside.1 in
-    let start = so_far.from in
+    let start = so_far.is in
     record {
       low = doc + 1;
-      from = omega arith;
+      is = omega arith;
       to = omega arith;
       list = c.advance.ensures.list ∙ so_far.list;
       stand = moved-stand (g.C.DocCursor.list c.advance.new.self) (g.C.DocCursor.list cursor) (doc + 1) (place + 1) (g.C.DocCursor.place c.advance.new.self) c.advance.ensures.list c.advance.ensures.place here.after;
@@ -82,3 +82,16 @@ returns-clause-marks g c =
 
 pub returns-clause-count : goal.returns-clause-count
 returns-clause-count g c = c.loop-at.invariant.given.count
+
+pub returns-clause-within : goal.returns-clause-within
+returns-clause-within g c =
+    let so_far = c.loop-at.invariant in
+    let is = so_far.is in
+    let to = so_far.to in
+    omega arith
+
+pub returns-clause-behind : goal.returns-clause-behind
+returns-clause-behind g c = λ k behind within.
+    let so_far = c.loop-at.invariant in
+    let is = so_far.is in
+    so_far.given.rest k within (omega arith)

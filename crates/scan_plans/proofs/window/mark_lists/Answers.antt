@@ -1,4 +1,4 @@
-use Rattle.std.proofs.Common.{refl, ap, ◌∙◌, subst, ℕ, ◌+◌, ◌<◌, false, List, length, get_or, map, arith}
+use Rattle.std.proofs.Common.{◌≡◌, refl, ap, ◌∙◌, subst, ℕ, ◌+◌, ◌<◌, false, List, length, get_or, map, max, arith}
 use Rattle.std.specs.List.{list_any}
 use Rattle.std.proofs.lemmas.List.{length-map, take_all}
 use Rattle.std.proofs.lemmas.List.Elements.{AllWithin-more_set}
@@ -16,6 +16,8 @@ loop-cursor-init g c = record {
   rest = λ k d from within. c.requires.stand k d within;
   count = refl;
   marked = λ k within. c.requires.clear k false within;
+  within = omega arith;
+  behind = λ k from within. c.requires.clear k false within;
 }
 
 pub mark_list-requires : goal.mark_list-requires
@@ -30,6 +32,9 @@ loop-cursor-preserved g c =
     let new = c.mark_list.new.cursor in
     let within : i < length cs = omega arith in
     let count = so_far.count in
+    let most : c.max-reached.result ≡ max c.mark_list.result c.loop-cursor.reached = c.max-reached.ensures in
+    let behind-old = so_far.within in
+    let behind-new = c.mark_list.ensures.within in
     record {
       lists = lists-set g.C.DocCursor.list g.C.DocCursor.place cs i new item within c.mark_list.ensures.list ∙ so_far.lists;
       done = AllWithin-more_set cs i new within (λ x. StandsFrom (c.args.first + length c.args.marks.now) (g.C.DocCursor.list x) (g.C.DocCursor.place x)) so_far.done
@@ -38,6 +43,8 @@ loop-cursor-preserved g c =
       count = c.mark_list.ensures.count ∙ so_far.count;
       marked = λ k inside. any-step g.C.DocCursor.list (c.args.first + k) i cs (map g.C.DocCursor.list c.args.cursors.now) item (get_or c.loop-cursor.marks k false) (get_or c.mark_list.new.marks k false) so_far.lists within (so_far.marked k inside)
           (c.mark_list.ensures.marks k (omega arith));
+      within = omega arith;
+      behind = λ k from inside. c.mark_list.ensures.behind k (omega arith) (omega arith) ∙ so_far.behind k (omega arith) inside;
     }
 
 pub returns-clause-stand : goal.returns-clause-stand
@@ -52,3 +59,9 @@ returns-clause-marks g c = λ k within.
     let now-mapped = length-map c.loop-cursor.cursors g.C.DocCursor.list in
     let same = ap length so_far.lists in
     so_far.marked k (omega arith) ∙ ap (list_any (has_doc (c.args.first + k))) (take_all c.loop-cursor.cursor-index lists (omega arith))
+
+pub returns-clause-within : goal.returns-clause-within
+returns-clause-within g c = c.loop-cursor.invariant.within
+
+pub returns-clause-behind : goal.returns-clause-behind
+returns-clause-behind g c = c.loop-cursor.invariant.behind

@@ -1,4 +1,4 @@
-use Rattle.std.proofs.Common.{◌≡◌, ℕ, ◌+◌, ◌<◌, false, length, map, take, slice_index_or}
+use Rattle.std.proofs.Common.{◌≡◌, ℕ, ◌+◌, ◌<◌, ◌≤◌, false, length, map, take, slice_index_or}
 use Rattle.std.specs.List.{AllWithin, list_any}
 use Rattle.scan_plans.specs.Matches.{has_doc}
 use Rattle.scan_plans.specs.Scan.{StandsFrom}
@@ -11,4 +11,6 @@ invariant-loop-cursor g l = record {
   rest : AllWithin (λ c. StandsFrom l.first (g.C.DocCursor.list c) (g.C.DocCursor.place c)) l.cursors l.cursor-index (length l.cursors);
   count : length l.marks ≡ length l.initial.marks;
   marked : (k : ℕ) → k < length l.initial.marks → slice_index_or l.marks k false ≡ list_any (has_doc (l.first + k)) (take l.cursor-index (map g.C.DocCursor.list l.initial.cursors));
+  within : l.reached ≤ length l.initial.marks;
+  behind : (k : ℕ) → l.reached ≤ k → k < length l.initial.marks → slice_index_or l.marks k false ≡ false;
 }
