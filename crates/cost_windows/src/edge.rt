@@ -6,68 +6,30 @@ use part_cost::SpanCost;
 use std::sync::ledger::Ledger;
 use step_count::Steps;
 
-/// The part from a place to the end that the windows have come to, and what is known of its cost and of the next.
+/// The part from a place to an end, and what is known of its cost and of that of the part that is one number longer.
 #[derive(Clone, Copy)]
-pub struct Edge {
+pub(crate) struct Edge {
     /// Where the part ends; at the place itself there is no part yet.
-    pub end: u64,
+    pub(crate) end: u64,
     /// What the part costs, where that was asked.
-    pub cost: Option<u64>,
+    pub(crate) cost: Option<u64>,
     /// What the part that is one number longer costs, where that was asked.
-    pub next: Option<u64>,
+    next: Option<u64>,
 }
 
 impl Edge {
-    /// An edge that ends here, nothing known of its cost; at the place itself there is no part yet.
-    pub fn at(i: u64) -> Edge
-        ensures { result ≡ record { end = i; cost = None; next = None } }
+    /// The part to this end, nothing known of its cost.
+    pub(crate) fn at(end: u64) -> Edge
+        ensures { result ≡ record { end = end; cost = None; next = None } }
     {
         Edge {
-            end: i,
+            end,
             cost: None,
             next: None,
         }
     }
 
-    /// The edge to a position, where that lies further on.
-    pub fn moved_to(self, position: u64) -> Edge
-        ensures knows { (cost : ℕ → ℕ → ℕ) (n i : ℕ) → position ≤ n → Knows cost n i self → Knows cost n i result }
-        ensures forward { self.end ≤ result.end }
-        ensures reaches { position ≤ result.end }
-        ensures stays { result.end ≡ self.end → result ≡ self }
-        ensures one_of { (position < result.end → result ≡ self) × (self.end < result.end → result.end ≡ position) }
-        ensures fresh { self.cost ≡ None → self.next ≡ None → (result.cost ≡ None) × (result.next ≡ None) }
-    {
-        if position <= self.end {
-            self
-        } else if position - 1 == self.end {
-            Edge {
-                end: position,
-                cost: self.next,
-                next: None,
-            }
-        } else {
-            Edge::at(position)
-        }
-    }
-
-    /// What the part that is one number longer costs; asks where that is not known.
-    fn probe<C: SpanCost, L: Ledger>(&self, i: u64, cost: &C, steps: &mut Steps<L>) -> u64
-        requires knows { Knows (C.cost_of cost.now) (C.count cost.now) i self.now }
-        requires within { self.now.end < C.count cost.now }
-        ensures value { result ≡ C.cost_of cost.now i (self.now.end + 1) }
-        ensures counted { steps.old ≤ steps.new }
-        ensures bounded { steps.new ≤ steps.old + 1 }
-        ensures asks { self.now.next ≡ None → steps.old + 1 ≤ steps.new }
-        ensures known { IsSome self.now.next → steps.new ≡ steps.old }
-    {
-        match self.next {
-            Some(known) => known,
-            None => cost.cost(i, self.end + 1, steps),
-        }
-    }
-
-    /// The edge to the longest end under the bound, by asking for one number more at a time.
+    /// The part to the longest end under the bound, by asking for one number more at a time.
     fn lengthened<C: SpanCost, L: Ledger>(
         self,
         i: u64,
@@ -82,7 +44,6 @@ impl Edge {
         ensures stands { StandsAt (C.cost_of cost.now) (C.count cost.now) bound i result.end }
         ensures forward { self.end ≤ result.end }
         ensures same { result.end ≡ self.end → result.cost ≡ self.cost }
-        ensures priced { self.end < result.end → IsSome result.cost }
         ensures counted { steps.old ≤ steps.new }
         ensures bounded { steps.new + self.end ≤ steps.old + result.end + 1 }
         ensures asks { self.next ≡ None → self.end < C.count cost.now → steps.old + 1 ≤ steps.new }
@@ -91,7 +52,10 @@ impl Edge {
     {
         let mut edge = self;
         while edge.end < cost.len() {
-            let next = edge.probe(i, cost, steps);
+            let next = match edge.next {
+                Some(known) => known,
+                None => cost.cost(i, edge.end + 1, steps),
+            };
             if bound < next {
                 edge.next = Some(next);
                 return edge;
@@ -105,30 +69,8 @@ impl Edge {
         edge
     }
 
-    /// The edge with its cost, which is asked for only where there is a part whose cost is not known.
-    fn priced<C: SpanCost, L: Ledger>(self, i: u64, cost: &C, steps: &mut Steps<L>) -> Edge
-        requires knows { Knows (C.cost_of cost.now) (C.count cost.now) i self }
-        ensures knows { Knows (C.cost_of cost.now) (C.count cost.now) i result }
-        ensures end { result.end ≡ self.end }
-        ensures priced { i < self.end → result.cost ≡ Some (C.cost_of cost.now i self.end) }
-        ensures counted { steps.old ≤ steps.new }
-        ensures bounded { steps.new ≤ steps.old + 1 }
-        ensures asks { self.cost ≡ None → i < self.end → steps.old + 1 ≤ steps.new }
-        ensures known { (i < self.end → IsSome self.cost) → steps.new ≡ steps.old }
-        ensures next { result.next ≡ self.next }
-    {
-        if self.cost.is_none() && i < self.end {
-            Edge {
-                cost: Some(cost.cost(i, self.end, steps)),
-                ..self
-            }
-        } else {
-            self
-        }
-    }
-
-    /// The edge to the longest end under the bound, from the position where the bound's window stood.
-    pub fn stretched<C: SpanCost, L: Ledger>(
+    /// The part to the longest end under the bound, from the position where the bound's window stood.
+    pub(crate) fn stretched<C: SpanCost, L: Ledger>(
         self,
         i: u64,
         position: u64,
@@ -152,8 +94,18 @@ impl Edge {
         // Nothing is asked again where the end stays.
         ensures known { IsAsked (C.count cost.now) i self → result.end ≡ self.end → steps.new ≡ steps.old }
     {
-        self.moved_to(position)
-            .lengthened(i, bound, cost, steps)
-            .priced(i, cost, steps)
+        let from = if self.end < position {
+            Edge::at(position)
+        } else {
+            self
+        };
+        let edge = from.lengthened(i, bound, cost, steps);
+        if edge.cost.is_some() || edge.end == i {
+            return edge;
+        }
+        Edge {
+            cost: Some(cost.cost(i, edge.end, steps)),
+            ..edge
+        }
     }
 }

@@ -1,11 +1,14 @@
-use Rattle.std.proofs.Common.{◌≡◌, refl, sym, ap, ◌∙◌, subst, ℕ, ◌+◌, ◌-◌, ◌*◌, ◌^◌, ◌≤◌, ◌<◌, ◌⊎◌, inl, inr, Bool, true, false, Some, None, List, length, get_or, arith}
-use Rattle.std.specs.Prelude.{nat_lt, if◌then◌else◌}
+use Rattle.std.proofs.Common.{◌≡◌, refl, sym, ap, ◌∙◌, subst, ℕ, ◌+◌, ◌-◌, ◌*◌, ◌^◌, ◌≤◌, ◌<◌, ◌⊎◌, inl, inr, Bool, true, false, Option, Some, None, List, length, get_or, arith}
+use Rattle.std.specs.Prelude.{nat_lt, if◌then◌else◌, IfSome}
 use Rattle.std.specs.List.{All}
 use Rattle.std.proofs.lemmas.Nat.{mul-le}
 use Rattle.std.proofs.lemmas.Bool.{ltb-true, ltb-false, cases_eq, cases_lt}
+use Rattle.std.proofs.lemmas.List.{get_or_past}
 use Rattle.std.proofs.Math.Nat.{eq-or-lt_of_le}
 use Rattle.cost_windows.specs.Windows.{Windows, KeepCosts, StandTogether, window_end}
-use Rattle.partition_path.specs.Tables.{Tables, IsSameAt, IsByWindow, AreExtended, ShareCosts, IsOffered, unreached}
+use Rattle.partition_path.specs.declared.rival.Rival.{Rival}
+use Rattle.partition_path.specs.declared.routes.Route.{Route}
+use Rattle.partition_path.specs.Tables.{Table, IsSameAt, IsByWindow, AreExtended, ShareCosts, IsOffered, IsRival, route_cost, route_start, cost_to, unreached}
 
 -- what a window that has an end says
 end_from_test : (place p e : ℕ) (t : Bool) → nat_lt place p ≡ t → (if t then Some p else None) ≡ Some e → (place < p) × (p ≡ e)
@@ -15,6 +18,15 @@ end_from_test place p e false t h = cc
 pub end_says : (w : Windows) (k e : ℕ) → window_end w k ≡ Some e → (w.place < get_or w.positions k 0) × (get_or w.positions k 0 ≡ e)
 end_says w k e h = end_from_test w.place (get_or w.positions k 0) e (nat_lt w.place (get_or w.positions k 0)) refl h
 
+-- it lies where all windows stand
+pub end_within : (w : Windows) (k e most : ℕ) → All (λ p. p < most) w.positions → window_end w k ≡ Some e → e < most
+end_within w k e most within h =
+    let s = end_says w k e h in
+    elim (cases_lt k (length w.positions)) [
+      | inl l ↦ omega (arith, within k 0 l, s.1)
+      | inr over ↦ absurd (omega (arith, s.0, get_or_past w.positions k 0 over))
+    ]
+
 none_from_test : (place p : ℕ) (t : Bool) → nat_lt place p ≡ t → (if t then Some p else None) ≡ None → p ≤ place
 none_from_test place p true t h = cc
 none_from_test place p false t h = ltb-false _ _ t
@@ -23,25 +35,56 @@ pub none_says : (w : Windows) (k : ℕ) → window_end w k ≡ None → get_or w
 none_says w k h = none_from_test w.place (get_or w.positions k 0) (nat_lt w.place (get_or w.positions k 0)) refl h
 
 -- before the first window is tried
-pub extended-none : (w : Windows) (t : Tables) → AreExtended w 0 t t
+pub extended-none : (w : Windows) (t : Table) → AreExtended w 0 t t
 extended-none w t =
     record {
       places = refl;
       cheaper = λ j. omega arith;
-      each = λ j. inl (record { costs = refl; starts = refl; parts = refl });
+      each = λ j. inl (refl);
       tried = λ m l a. absurd (omega arith);
     }
 
-same-twice : (a b c : Tables) (j : ℕ) → IsSameAt a b j → IsSameAt b c j → IsSameAt a c j
-same-twice a b c j s t = record { costs = t.costs ∙ s.costs; starts = t.starts ∙ s.starts; parts = t.parts ∙ s.parts }
+-- the same route costs the same and starts at the same place
+pub same-cost : {old new : Option Route} → new ≡ old → route_cost new ≡ route_cost old
+same-cost s = ap (λ (r : Option Route). route_cost r) s
 
-module _ (w : Windows) (k : ℕ) (old middle new : Tables) (x : AreExtended w k old middle) where
+pub same-start : {old new : Option Route} → new ≡ old → route_start new ≡ route_start old
+same-start s = ap (λ (r : Option Route). route_start r) s
+
+-- what is read of a route that is told
+pub its-cost : {route : Option Route} {cost start : ℕ} → route ≡ Some (record { cost = cost; start = start }) → route_cost route ≡ cost
+its-cost e = ap (λ (r : Option Route). route_cost r) e
+
+pub its-start : {route : Option Route} {cost start : ℕ} → route ≡ Some (record { cost = cost; start = start }) → route_start route ≡ start
+its-start e = ap (λ (r : Option Route). route_start r) e
+
+-- an offer makes no route dearer
+pub offer-cheaper : (start end total : ℕ) (old new : Table) → IsOffered start end total old new → (j : ℕ) → cost_to new j ≤ cost_to old j
+offer-cheaper start end total old new o j =
+    elim (cases_eq j end) [
+      | inl e ↦ subst (λ (y : ℕ). cost_to new y ≤ cost_to old y) (sym e) (elim o.at_end [ inl s ↦ let c = same-cost s.0 in omega arith | inr t ↦ let c = its-cost t.0 in omega (arith, c, t.1) ])
+      | inr ne ↦ let c = same-cost (o.others j ne) in omega arith
+    ]
+
+-- so a rival stays one
+rival-kept : (old new : Table) → length new ≡ length old → ((j : ℕ) → cost_to new j ≤ cost_to old j) → (rival : Option Rival) → IfSome rival (λ r. IsRival old r) → IfSome rival (λ r. IsRival new r)
+rival-kept old new same cheaper None h = tt
+rival-kept old new same cheaper (Some r) h = record { within = omega (arith, same, h.within); cheaper = let c = cheaper r.place in omega (arith, c, h.cheaper) }
+
+-- and so is the place that was offered a route, at what that costs, or an earlier rival
+pub rival-more : (start end total cost : ℕ) (old new : Table) (rival : Option Rival) (chosen : Rival) → IsOffered start end total old new → end < length old → cost ≡ cost_to new end → IfSome rival (λ r. IsRival old r) → (chosen ≡ record { place = end; cost = cost }) ⊎ (rival ≡ Some chosen) → IsRival new chosen
+rival-more start end total cost old new rival chosen o within e h (inl here) =
+    subst (λ (r : Rival). IsRival new r) (sym here) (record { within = omega (arith, o.places, within); cheaper = omega (arith, e) })
+rival-more start end total cost old new rival chosen o within e h (inr earlier) =
+    subst (λ (p : Option Rival). IfSome p (λ r. IsRival new r)) earlier (rival-kept old new o.places (offer-cheaper start end total old new o) rival h)
+
+module _ (w : Windows) (k : ℕ) (old middle new : Table) (x : AreExtended w k old middle) where
   -- a place that an offer leaves alone
   each-same : (j : ℕ) → IsSameAt middle new j → IsSameAt old new j ⊎ ((m : ℕ) × (m < k + 1) × IsByWindow w old new j m)
   each-same j s =
       elim (x.each j) [
-        | inl t ↦ inl (same-twice old middle new j t s)
-        | inr by ↦ inr (by.0, omega (arith, by.1), record { after = by.2.after; position = by.2.position; costs = s.costs ∙ by.2.costs; starts = s.starts ∙ by.2.starts; parts = s.parts ∙ by.2.parts })
+        | inl t ↦ inl (s ∙ t)
+        | inr by ↦ inr (by.0, omega (arith, by.1), record { after = by.2.after; position = by.2.position; route = s ∙ by.2.route })
       ]
 
   -- a window whose end is not offered: it has none, or another window with that end and that cost was tried
@@ -55,50 +98,46 @@ module _ (w : Windows) (k : ℕ) (old middle new : Tables) (x : AreExtended w k 
             let le : m ≤ k = omega arith in
             elim (eq-or-lt_of_le le) [
               | inl same ↦
-                  subst (λ (y : ℕ). get_or middle.costs (get_or w.positions y 0) 0 ≤ get_or old.costs w.place 0 + get_or w.costs y 0) (sym same) (
+                  subst (λ (y : ℕ). cost_to middle (get_or w.positions y 0) ≤ cost_to old w.place + get_or w.costs y 0) (sym same) (
                   let first = before (subst (λ (y : ℕ). w.place < get_or w.positions y 0) same a) in
                   let t = x.tried first.0 first.1 (omega (arith, first.2, subst (λ (y : ℕ). w.place < get_or w.positions y 0) same a)) in
-                  let at = subst (λ (p : ℕ). get_or middle.costs p 0 ≤ get_or old.costs w.place 0 + get_or w.costs first.0 0) first.2 t in
+                  let at = subst (λ (p : ℕ). cost_to middle p ≤ cost_to old w.place + get_or w.costs first.0 0) first.2 t in
                   omega (arith, at, first.3))
               | inr earlier ↦ x.tried m earlier a
             ];
       }
 
   -- a window whose end is offered
-  pub extended-more : w.place < get_or w.positions k 0 → IsOffered w.place (get_or w.positions k 0) (get_or old.costs w.place 0 + get_or w.costs k 0) middle new → AreExtended w (k + 1) old new
+  pub extended-more : w.place < get_or w.positions k 0 → IsOffered w.place (get_or w.positions k 0) (cost_to old w.place + get_or w.costs k 0) middle new → AreExtended w (k + 1) old new
   extended-more after o =
       let end = get_or w.positions k 0 in
-      let place_same : IsSameAt old middle w.place = elim (x.each w.place) [ inl s ↦ s | inr by ↦ absurd (omega (arith, by.2.after)) ] in
-      let cheaper : (j : ℕ) → get_or new.costs j 0 ≤ get_or middle.costs j 0 = (λ j. elim (cases_eq j end) [
-        | inl e ↦ subst (λ (y : ℕ). get_or new.costs y 0 ≤ get_or middle.costs y 0) (sym e) (elim o.at_end [ inl s ↦ let c = s.0.costs in omega arith | inr t ↦ let c = t.cheaper in omega arith ])
-        | inr ne ↦ let c = (o.others j ne).costs in omega arith
-      ]) in
+      let cheaper = offer-cheaper w.place end (cost_to old w.place + get_or w.costs k 0) middle new o in
       record {
         places = o.places ∙ x.places;
         cheaper = λ j. let a = cheaper j in let b = x.cheaper j in omega arith;
         each = λ j. elim (cases_eq j end) [
           | inl e ↦ subst (λ (y : ℕ). IsSameAt old new y ⊎ ((m : ℕ) × (m < k + 1) × IsByWindow w old new y m)) (sym e) (elim o.at_end [
             | inl s ↦ each-same end s.0
-            | inr t ↦ inr (k, omega arith, record { after = after; position = refl; costs = t.costs; starts = t.starts; parts = (let a = t.parts in let b = place_same.parts in omega arith) })
+            | inr t ↦ inr (k, omega arith, record { after = after; position = refl; route = t.0 })
           ])
           | inr ne ↦ each-same j (o.others j ne)
         ];
         tried = λ m b a.
             let le : m ≤ k = omega arith in
             elim (eq-or-lt_of_le le) [
-              | inl same ↦ subst (λ (y : ℕ). get_or new.costs (get_or w.positions y 0) 0 ≤ get_or old.costs w.place 0 + get_or w.costs y 0) (sym same) (elim o.at_end [
-                | inl s ↦ let c = s.0.costs in let d = s.1 in omega arith
-                | inr t ↦ let c = t.costs in omega arith
+              | inl same ↦ subst (λ (y : ℕ). cost_to new (get_or w.positions y 0) ≤ cost_to old w.place + get_or w.costs y 0) (sym same) (elim o.at_end [
+                | inl s ↦ let c = same-cost s.0 in let d = s.1 in omega arith
+                | inr t ↦ let c = its-cost t.0 in omega arith
               ])
               | inr before ↦ let c = cheaper (get_or w.positions m 0) in let d = x.tried m before a in omega arith
             ];
       }
 
   -- the same by what is read of the window
-  pub extended-some : (i end total : ℕ) → w.place ≡ i → window_end w k ≡ Some end → total ≡ get_or old.costs i 0 + get_or w.costs k 0 → IsOffered i end total middle new → AreExtended w (k + 1) old new
+  pub extended-some : (i end total : ℕ) → w.place ≡ i → window_end w k ≡ Some end → total ≡ cost_to old i + get_or w.costs k 0 → IsOffered i end total middle new → AreExtended w (k + 1) old new
   extended-some i end total here says sum o =
       let s = end_says w k end says in
-      let at = subst (λ (y : ℕ). total ≡ get_or old.costs y 0 + get_or w.costs k 0) (sym here) sum in
+      let at = subst (λ (y : ℕ). total ≡ cost_to old y + get_or w.costs k 0) (sym here) sum in
       let a = subst (λ (y : ℕ). IsOffered y end total middle new) (sym here) o in
       let b = subst (λ (y : ℕ). IsOffered w.place y total middle new) (sym s.1) a in
       let d = subst (λ (y : ℕ). IsOffered w.place (get_or w.positions k 0) y middle new) at b in
@@ -113,7 +152,7 @@ tried-later w k tried (inl e) = inl e
 tried-later w k tried (inr b) = inr (b.0, omega (arith, b.1), b.2)
 
 -- an end that is no other than the last is not tried again
-pub extended-again : (w : Windows) (k end tried : ℕ) (old middle : Tables) → AreExtended w k old middle → k < length w.bounds → ShareCosts w → window_end w k ≡ Some end → end ≡ tried → IsTried w k tried → AreExtended w (k + 1) old middle
+pub extended-again : (w : Windows) (k end tried : ℕ) (old middle : Table) → AreExtended w k old middle → k < length w.bounds → ShareCosts w → window_end w k ≡ Some end → end ≡ tried → IsTried w k tried → AreExtended w (k + 1) old middle
 extended-again w k end tried old middle x below share says same last =
     let s = end_says w k end says in
     extended-past w k old middle middle x (λ a.
@@ -125,11 +164,11 @@ extended-again w k end tried old middle x below share says same last =
     ])
 
 -- a window that has no end
-pub extended-none_there : (w : Windows) (k : ℕ) (old middle : Tables) → AreExtended w k old middle → window_end w k ≡ None → AreExtended w (k + 1) old middle
+pub extended-none_there : (w : Windows) (k : ℕ) (old middle : Table) → AreExtended w k old middle → window_end w k ≡ None → AreExtended w (k + 1) old middle
 extended-none_there w k old middle x says = let l = none_says w k says in extended-past w k old middle middle x (λ a. absurd (omega (arith, a, l)))
 
 -- The wider windows stand where the last of the distinct ones stands, so all are tried.
-pub extended-all : (w : Windows) (d : ℕ) (old new : Tables) → AreExtended w d old new → d ≡ w.distinct → 0 < d → d ≤ length w.bounds → StandTogether w → AreExtended w (length w.bounds) old new
+pub extended-all : (w : Windows) (d : ℕ) (old new : Table) → AreExtended w d old new → d ≡ w.distinct → 0 < d → d ≤ length w.bounds → StandTogether w → AreExtended w (length w.bounds) old new
 extended-all w d old new x e some within together =
     record {
       places = x.places;
@@ -142,7 +181,7 @@ extended-all w d old new x e some within together =
                 let position = subst (λ (y : ℕ). get_or w.positions m 0 ≡ get_or w.positions (y - 1) 0) (sym e) (together.positions m (omega (arith, e, wider)) b) in
                 let price = subst (λ (y : ℕ). get_or w.costs m 0 ≡ get_or w.costs (y - 1) 0) (sym e) (together.costs m (omega (arith, e, wider)) b) in
                 let t = x.tried (d - 1) (omega arith) (omega (arith, a, position)) in
-                let at = subst (λ (p : ℕ). get_or new.costs p 0 ≤ get_or old.costs w.place 0 + get_or w.costs (d - 1) 0) (sym position) t in
+                let at = subst (λ (p : ℕ). cost_to new p ≤ cost_to old w.place + get_or w.costs (d - 1) 0) (sym position) t in
                 omega (arith, at, price)
           ];
     }

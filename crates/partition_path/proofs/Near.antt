@@ -1,25 +1,25 @@
-use Rattle.std.proofs.Common.{◌≡◌, subst, ℕ, zero, suc, ◌+◌, ◌-◌, ◌*◌, ◌≤◌, ◌<◌, ◌⊎◌, inl, inr, List, [], ◌∷◌, get_or, arith}
+use Rattle.std.proofs.Common.{◌≡◌, subst, ℕ, zero, suc, ◌+◌, ◌-◌, ◌*◌, ◌≤◌, ◌<◌, ◌⊎◌, inl, inr, List, [], ◌∷◌, arith}
 use Rattle.std.proofs.lemmas.Bool.{cases_lt}
 use Rattle.part_cost.specs.Partition.{IsPartitionFrom, WithinLimitFrom, cost_from}
-use Rattle.partition_path.specs.Tables.{IsReached}
+use Rattle.partition_path.specs.Tables.{Table, IsReached, cost_to}
 
 -- From place r each allowed part is answered: some place at or behind its end is reached for at most 103/100 of its cost more.
-abbrev pub IsSettled : ℕ → (ℕ → ℕ → ℕ) → ℕ → List ℕ → ℕ → Type 0
-IsSettled limit cost n costs r =
-    (e : ℕ) → r < e → e ≤ n → cost r e ≤ limit → (j : ℕ) × (e ≤ j) × (j ≤ n) × IsReached costs j × (100 * get_or costs j 0 ≤ 100 * get_or costs r 0 + 103 * cost r e)
+abbrev pub IsSettled : ℕ → (ℕ → ℕ → ℕ) → ℕ → Table → ℕ → Type 0
+IsSettled limit cost n t r =
+    (e : ℕ) → r < e → e ≤ n → cost r e ≤ limit → (j : ℕ) × (e ≤ j) × (j ≤ n) × IsReached t j × (100 * cost_to t j ≤ 100 * cost_to t r + 103 * cost r e)
 
 -- a later place costs no more
-abbrev pub IsPassed : ℕ → List ℕ → ℕ → Type 0
-IsPassed n costs r = (q : ℕ) × (r < q) × (q ≤ n) × (get_or costs q 0 ≤ get_or costs r 0)
+abbrev pub IsPassed : ℕ → Table → ℕ → Type 0
+IsPassed n t r = (q : ℕ) × (r < q) × (q ≤ n) × (cost_to t q ≤ cost_to t r)
 
 -- the last end of a partition lies at or behind its start
 start-before_end : (p n : ℕ) (ends : List ℕ) → IsPartitionFrom p n ends → p ≤ n
 start-before_end p n [] h = omega (arith, h)
 start-before_end p n (e ∷ ends) h = let more = start-before_end e n ends h.1 in omega (arith, h.0, more)
 
-module _ (limit : ℕ) (cost : ℕ → ℕ → ℕ) (n : ℕ) (costs : List ℕ) (monotone : (h i j k : ℕ) → h ≤ i → i < j → j ≤ k → k ≤ n → cost i j ≤ cost h k) where
+module _ (limit : ℕ) (cost : ℕ → ℕ → ℕ) (n : ℕ) (t : Table) (monotone : (h i j k : ℕ) → h ≤ i → i < j → j ≤ k → k ≤ n → cost i j ≤ cost h k) where
   -- a place that a later place passes over is settled where that one is
-  passed-settled : (r q : ℕ) → IsReached costs r → r < q → q ≤ n → get_or costs q 0 ≤ get_or costs r 0 → (q < n → IsSettled limit cost n costs q) → IsSettled limit cost n costs r
+  passed-settled : (r q : ℕ) → IsReached t r → r < q → q ≤ n → cost_to t q ≤ cost_to t r → (q < n → IsSettled limit cost n t q) → IsSettled limit cost n t r
   passed-settled r q reached after within cheap settled e l w a =
       elim (cases_lt q e) [
         | inl behind ↦
@@ -29,9 +29,9 @@ module _ (limit : ℕ) (cost : ℕ → ℕ → ℕ) (n : ℕ) (costs : List ℕ)
         | inr at ↦ (q, at, within, omega (arith, cheap, reached), omega (arith, cheap))
       ]
 
-  module _ (done : (r : ℕ) → r < n → IsReached costs r → IsSettled limit cost n costs r ⊎ IsPassed n costs r) where
+  module _ (done : (r : ℕ) → r < n → IsReached t r → IsSettled limit cost n t r ⊎ IsPassed n t r) where
     -- so each place that is reached is settled
-    all-settled : (fuel r : ℕ) → n ≤ r + fuel → r < n → IsReached costs r → IsSettled limit cost n costs r
+    all-settled : (fuel r : ℕ) → n ≤ r + fuel → r < n → IsReached t r → IsSettled limit cost n t r
     all-settled zero r f l reached = absurd (omega (arith, f))
     all-settled (suc fuel) r f l reached =
         elim (done r l reached) [
@@ -40,10 +40,10 @@ module _ (limit : ℕ) (cost : ℕ → ℕ → ℕ) (n : ℕ) (costs : List ℕ)
         ]
 
     -- The cheapest route to the end costs at most 103/100 of each allowed rest more than any route to a place behind its start.
-    pub near-rest : (p r : ℕ) (others : List ℕ) → p ≤ r → r ≤ n → IsReached costs r → IsPartitionFrom p n others → WithinLimitFrom limit cost p others → IsReached costs n × (100 * get_or costs n 0 ≤ 100 * get_or costs r 0 + 103 * cost_from cost p others)
+    pub near-rest : (p r : ℕ) (others : List ℕ) → p ≤ r → r ≤ n → IsReached t r → IsPartitionFrom p n others → WithinLimitFrom limit cost p others → IsReached t n × (100 * cost_to t n ≤ 100 * cost_to t r + 103 * cost_from cost p others)
     near-rest p r [] l w reached part within =
         let at : r ≡ n = omega (arith, part) in
-        subst (λ (x : ℕ). IsReached costs x × (100 * get_or costs x 0 ≤ 100 * get_or costs r 0 + 103 * 0)) at (reached, omega arith)
+        subst (λ (x : ℕ). IsReached t x × (100 * cost_to t x ≤ 100 * cost_to t r + 103 * 0)) at (reached, omega arith)
     near-rest p r (e ∷ others) l w reached part within =
         elim (cases_lt r e) [
           | inl behind ↦
@@ -58,12 +58,12 @@ module _ (limit : ℕ) (cost : ℕ → ℕ → ℕ) (n : ℕ) (costs : List ℕ)
         ]
 
     -- The end is reached, since one number alone is allowed.
-    pub end-reached : ((i : ℕ) → i < n → cost i (i + 1) ≤ limit) → (fuel r : ℕ) → n ≤ r + fuel → r ≤ n → IsReached costs r → IsReached costs n
-    end-reached one zero r f l reached = let at : r ≡ n = omega (arith, f) in subst (λ (x : ℕ). IsReached costs x) at reached
+    pub end-reached : ((i : ℕ) → i < n → cost i (i + 1) ≤ limit) → (fuel r : ℕ) → n ≤ r + fuel → r ≤ n → IsReached t r → IsReached t n
+    end-reached one zero r f l reached = let at : r ≡ n = omega (arith, f) in subst (λ (x : ℕ). IsReached t x) at reached
     end-reached one (suc fuel) r f l reached =
         elim (cases_lt r n) [
           | inl before ↦
               let s = all-settled (n - r) r (omega arith) before reached (r + 1) (omega arith) (omega arith) (one r before) in
               end-reached one fuel s.0 (omega (arith, s.1, f)) s.2 s.3
-          | inr at ↦ let same : r ≡ n = omega arith in subst (λ (x : ℕ). IsReached costs x) same reached
+          | inr at ↦ let same : r ≡ n = omega arith in subst (λ (x : ℕ). IsReached t x) same reached
         ]

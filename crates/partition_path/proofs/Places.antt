@@ -5,8 +5,9 @@ use Rattle.std.proofs.Math.Nat.{mul-le-mul_left, eq-or-lt_of_le}
 use Rattle.part_cost.specs.Bounds.{Cover}
 use Rattle.cost_windows.specs.WindowEnds.{IsLongestEnd, StandsAt, AllStand}
 use Rattle.cost_windows.specs.Windows.{Windows, KeepCosts, AllAtLongest}
-use Rattle.partition_path.specs.Tables.{Tables, IsReached, HasLastPart, AreRoutes, IsSameAt, IsByWindow, AreExtended, unreached}
+use Rattle.partition_path.specs.Tables.{Table, cost_to, start_to, IsReached, HasLastPart, AreRoutes, IsSameAt, IsByWindow, AreExtended, unreached}
 use Rattle.partition_path.proofs.Near.{IsSettled, IsPassed}
+use Rattle.partition_path.proofs.Extending.{same-cost, same-start, its-cost, its-start}
 
 -- a window stands where its bound says, by its place in the list
 stands-at : (cost : ℕ → ℕ → ℕ) (n i : ℕ) (bounds ps : List ℕ) → AllStand cost n i bounds ps → (m : ℕ) → m < length bounds → StandsAt cost n (get_or bounds m 0) i (get_or ps m 0)
@@ -33,14 +34,23 @@ find-place c (b ∷ bs) P h =
     ]
 
 -- places up to where the windows are stay as they are
-same-before : (w : Windows) (k : ℕ) (old new : Tables) → AreExtended w k old new → (j : ℕ) → j ≤ w.place → IsSameAt old new j
+same-before : (w : Windows) (k : ℕ) (old new : Table) → AreExtended w k old new → (j : ℕ) → j ≤ w.place → IsSameAt old new j
 same-before w k old new x j l =
     elim (x.each j) [
       | inl s ↦ s
       | inr by ↦ absurd (omega (arith, by.2.after))
     ]
 
-module _ (limit : ℕ) (cost : ℕ → ℕ → ℕ) (n i before middle after : ℕ) (w : Windows) (old new : Tables) (here : w.place ≡ i) (below : i < n) (stand : AllAtLongest cost n w) (kept : KeepCosts cost n w) (within : (m : ℕ) → m < length w.bounds → get_or w.bounds m 0 ≤ limit) (x : AreExtended w (length w.bounds) old new) where
+-- as many parts as before where a route is kept, and others where it is not
+abbrev parts-by : {A B : Type 0} → A ⊎ B → ℕ → ℕ → ℕ
+parts-by (inl a) kept others = kept
+parts-by (inr b) kept others = others
+
+kept-before : (w : Windows) (k : ℕ) (old new : Table) (j kept others : ℕ) (c : IsSameAt old new j ⊎ ((m : ℕ) × (m < k) × IsByWindow w old new j m)) → j ≤ w.place → parts-by c kept others ≡ kept
+kept-before w k old new j kept others (inl s) l = refl
+kept-before w k old new j kept others (inr by) l = absurd (omega (arith, l, by.2.after))
+
+module _ (limit : ℕ) (cost : ℕ → ℕ → ℕ) (n i before middle after : ℕ) (w : Windows) (old new : Table) (here : w.place ≡ i) (below : i < n) (stand : AllAtLongest cost n w) (kept : KeepCosts cost n w) (within : (m : ℕ) → m < length w.bounds → get_or w.bounds m 0 ≤ limit) (x : AreExtended w (length w.bounds) old new) where
   -- a window that has an end has the longest, and its cost
   longest-end : (m : ℕ) → m < length w.bounds → w.place < get_or w.positions m 0 → IsLongestEnd cost n (get_or w.bounds m 0) i (get_or w.positions m 0) × (get_or w.costs m 0 ≡ cost i (get_or w.positions m 0))
   longest-end m l a =
@@ -49,53 +59,70 @@ module _ (limit : ℕ) (cost : ℕ → ℕ → ℕ) (n i before middle after : �
       (longest-behind cost n (get_or w.bounds m 0) i (get_or w.positions m 0) stands (omega (arith, here)), price)
 
   -- a route that ends with the part to a window's end
-  by-window : (m j : ℕ) → m < length w.bounds → IsByWindow w old new j m → IsLongestEnd cost n (get_or w.bounds m 0) i j × (get_or new.costs j 0 ≡ get_or old.costs i 0 + cost i j)
+  by-window : (m j : ℕ) → m < length w.bounds → IsByWindow w old new j m → IsLongestEnd cost n (get_or w.bounds m 0) i j × (cost_to new j ≡ cost_to old i + cost i j)
   by-window m j l by =
       let facts = longest-end m l (omega (arith, by.after, by.position)) in
       let longest = subst (λ (p : ℕ). IsLongestEnd cost n (get_or w.bounds m 0) i p) by.position facts.0 in
       let price = subst (λ (p : ℕ). get_or w.costs m 0 ≡ cost i p) by.position facts.1 in
-      let sum = subst (λ (p : ℕ). get_or new.costs j 0 ≡ get_or old.costs p 0 + get_or w.costs m 0) here by.costs in
+      let sum = subst (λ (p : ℕ). cost_to new j ≡ cost_to old p + get_or w.costs m 0) here (its-cost by.route) in
       (longest, omega (arith, sum, price))
 
-  last-same : (routes : AreRoutes limit cost n i before middle old) (j : ℕ) → 0 < j → j ≤ n → IsSameAt old new j → IsReached new.costs j → HasLastPart limit cost (i + 1) new j
+  last-same : (routes : AreRoutes limit cost n i before middle old) (j : ℕ) → 0 < j → j ≤ n → IsSameAt old new j → IsReached new j → HasLastPart limit cost (i + 1) new j
   last-same routes j p l s reached =
-      let last = routes.last j p l (omega (arith, s.costs, reached)) in
-      let start = get_or old.starts j 0 in
+      let last = routes.last j p l (omega (arith, same-cost s, reached)) in
+      let start = start_to old j in
       let at = same-before w (length w.bounds) old new x start (omega (arith, here, last.earlier)) in
-      let e : get_or new.starts j 0 ≡ start = s.starts in
+      let e : start_to new j ≡ start = same-start s in
       let at_new = subst (λ (y : ℕ). IsSameAt old new y) (sym e) at in
       record {
         earlier = omega (arith, e, last.earlier);
         before = omega (arith, e, last.before);
-        reached = subst (λ (y : ℕ). IsReached new.costs y) (sym e) (omega (arith, at.costs, last.reached));
-        sum = subst (λ (y : ℕ). get_or new.costs j 0 ≡ get_or new.costs y 0 + cost y j) (sym e) (omega (arith, s.costs, at.costs, last.sum));
+        reached = subst (λ (y : ℕ). IsReached new y) (sym e) (omega (arith, same-cost at, last.reached));
+        sum = subst (λ (y : ℕ). cost_to new j ≡ cost_to new y + cost y j) (sym e) (omega (arith, same-cost s, same-cost at, last.sum));
         allowed = subst (λ (y : ℕ). cost y j ≤ limit) (sym e) last.allowed;
-        one_more = subst (λ (y : ℕ). get_or new.parts j 0 ≡ get_or new.parts y 0 + 1) (sym e) (omega (arith, s.parts, at.parts, last.one_more));
       }
 
-  last-by_window : IsReached old.costs i → (m j : ℕ) → m < length w.bounds → IsByWindow w old new j m → HasLastPart limit cost (i + 1) new j
+  last-by_window : IsReached old i → (m j : ℕ) → m < length w.bounds → IsByWindow w old new j m → HasLastPart limit cost (i + 1) new j
   last-by_window reached m j l by =
       let facts = by-window m j l by in
       let at = same-before w (length w.bounds) old new x i (omega (arith, here)) in
-      let e : get_or new.starts j 0 ≡ i = by.starts ∙ here in
-      let one = subst (λ (p : ℕ). get_or new.parts j 0 ≡ get_or old.parts p 0 + 1) here by.parts in
+      let e : start_to new j ≡ i = its-start by.route ∙ here in
       record {
         earlier = omega (arith, e);
         before = omega (arith, e, by.after, here);
-        reached = subst (λ (y : ℕ). IsReached new.costs y) (sym e) (omega (arith, at.costs, reached));
-        sum = subst (λ (y : ℕ). get_or new.costs j 0 ≡ get_or new.costs y 0 + cost y j) (sym e) (omega (arith, at.costs, facts.1));
+        reached = subst (λ (y : ℕ). IsReached new y) (sym e) (omega (arith, same-cost at, reached));
+        sum = subst (λ (y : ℕ). cost_to new j ≡ cost_to new y + cost y j) (sym e) (omega (arith, same-cost at, facts.1));
         allowed = subst (λ (y : ℕ). cost y j ≤ limit) (sym e) (let a = facts.0.affordable in let b = within m l in omega (arith, a, b));
-        one_more = subst (λ (y : ℕ). get_or new.parts j 0 ≡ get_or new.parts y 0 + 1) (sym e) (omega (arith, at.parts, one));
       }
 
+  -- a route by a window has one more part than the route to place i
+  abbrev more-parts : AreRoutes limit cost n i before middle old → ℕ → ℕ
+  more-parts routes j = parts-by (x.each j) (routes.parts j) (routes.parts i + 1)
+
+  parts-before : (routes : AreRoutes limit cost n i before middle old) (j : ℕ) → j ≤ i → more-parts routes j ≡ routes.parts j
+  parts-before routes j l = kept-before w (length w.bounds) old new j (routes.parts j) (routes.parts i + 1) (x.each j) (omega (arith, here, l))
+
+  one-more : (routes : AreRoutes limit cost n i before middle old) (j : ℕ) → 0 < j → j ≤ n → IsReached new j → (c : IsSameAt old new j ⊎ ((m : ℕ) × (m < length w.bounds) × IsByWindow w old new j m)) → parts-by c (routes.parts j) (routes.parts i + 1) ≡ more-parts routes (start_to new j) + 1
+  one-more routes j p l r (inl s) =
+      let reached : IsReached old j = omega (arith, same-cost s, r) in
+      let last = routes.last j p l reached in
+      let kept = parts-before routes (start_to old j) (omega (arith, last.earlier)) in
+      subst (λ (y : ℕ). routes.parts j ≡ more-parts routes y + 1) (sym (same-start s)) (omega (arith, routes.one_more j p l reached, kept))
+  one-more routes j p l r (inr by) =
+      let e : start_to new j ≡ i = its-start by.2.route ∙ here in
+      subst (λ (y : ℕ). routes.parts i + 1 ≡ more-parts routes y + 1) (sym e) (omega (arith, parts-before routes i (omega arith)))
+
+  few-parts : (routes : AreRoutes limit cost n i before middle old) → IsReached old i → middle + 1 ≤ after → (j : ℕ) → j ≤ n → IsReached new j → (c : IsSameAt old new j ⊎ ((m : ℕ) × (m < length w.bounds) × IsByWindow w old new j m)) → before + parts-by c (routes.parts j) (routes.parts i + 1) ≤ after
+  few-parts routes reached more j l r (inl s) = omega (arith, more, routes.counted j l (omega (arith, same-cost s, r)))
+  few-parts routes reached more j l r (inr by) = omega (arith, more, routes.counted i (omega arith) reached)
+
   -- the routes with the parts from place i
-  pub routes-more : AreRoutes limit cost n i before middle old → IsReached old.costs i → middle + 1 ≤ after → AreRoutes limit cost n (i + 1) before after new
+  pub routes-more : AreRoutes limit cost n i before middle old → IsReached old i → middle + 1 ≤ after → AreRoutes limit cost n (i + 1) before after new
   routes-more routes reached more =
       let first = same-before w (length w.bounds) old new x 0 (omega arith) in
       record {
         places = omega (arith, x.places, routes.places);
-        origin = omega (arith, first.costs, routes.origin);
-        no_parts = omega (arith, first.parts, routes.no_parts);
+        origin = omega (arith, same-cost first, routes.origin);
         last = λ j p l r.
             elim (x.each j) [
               | inl s ↦ last-same routes j p l s r
@@ -103,7 +130,7 @@ module _ (limit : ℕ) (cost : ℕ → ℕ → ℕ) (n i before middle after : �
             ];
         small = λ j l r.
             elim (x.each j) [
-              | inl s ↦ omega (arith, s.costs, routes.small j l (omega (arith, s.costs, r)))
+              | inl s ↦ omega (arith, same-cost s, routes.small j l (omega (arith, same-cost s, r)))
               | inr by ↦
                   let facts = by-window by.0 j by.1 by.2 in
                   let start = routes.small i (omega arith) reached in
@@ -113,17 +140,14 @@ module _ (limit : ℕ) (cost : ℕ → ℕ → ℕ) (n i before middle after : �
                   let b = within by.0 by.1 in
                   omega (arith, facts.1, start, grown, a, b)
             ];
-        counted = λ j l r.
-            elim (x.each j) [
-              | inl s ↦ omega (arith, s.parts, routes.counted j l (omega (arith, s.costs, r)))
-              | inr by ↦
-                  let one = subst (λ (p : ℕ). get_or new.parts j 0 ≡ get_or old.parts p 0 + 1) here by.2.parts in
-                  omega (arith, one, routes.counted i (omega arith) reached)
-            ];
+        parts = more-parts routes;
+        no_parts = parts-before routes 0 (omega arith) ∙ routes.no_parts;
+        one_more = λ j p l r. one-more routes j p l r (x.each j);
+        counted = λ j l r. few-parts routes reached more j l r (x.each j);
       }
 
   -- Place i is settled: the least bound that covers a part has an end at or behind the part's end.
-  pub settled-here : (charge : ℕ) → Cover charge limit w.bounds → ((e : ℕ) → i < e → e ≤ n → charge ≤ cost i e) → ((e : ℕ) → i < e → e ≤ n → cost i (i + 1) ≤ cost i e) → get_or old.costs i 0 + limit < unreached → IsSettled limit cost n new.costs i
+  pub settled-here : (charge : ℕ) → Cover charge limit w.bounds → ((e : ℕ) → i < e → e ≤ n → charge ≤ cost i e) → ((e : ℕ) → i < e → e ≤ n → cost i (i + 1) ≤ cost i e) → cost_to old i + limit < unreached → IsSettled limit cost n new i
   settled-here charge cover least grows room e a l c =
       let found = find-place (cost i e) w.bounds (λ b. 100 * b ≤ 103 * cost i e) (cover (cost i e) (least e a l) c) in
       let m = found.0 in
@@ -134,7 +158,7 @@ module _ (limit : ℕ) (cost : ℕ → ℕ → ℕ) (n i before middle after : �
             let j = get_or w.positions m 0 in
             let after_place : w.place < j = omega (arith, here, s.after) in
             let facts = longest-end m found.1 after_place in
-            let tried = subst (λ (p : ℕ). get_or new.costs j 0 ≤ get_or old.costs p 0 + get_or w.costs m 0) here (x.tried m found.1 after_place) in
+            let tried = subst (λ (p : ℕ). cost_to new j ≤ cost_to old p + get_or w.costs m 0) here (x.tried m found.1 after_place) in
             let a2 = s.affordable in
             let bound = within m found.1 in
             let near : 100 * get_or w.bounds m 0 ≤ 103 * cost i e = found.3 in
@@ -143,23 +167,23 @@ module _ (limit : ℕ) (cost : ℕ → ℕ → ℕ) (n i before middle after : �
               | inl short ↦ let over = s.longest e short l in absurd (omega (arith, over, found.2))
               | inr reach ↦ reach
             ] in
-            (j, behind, s.within, omega (arith, tried, facts.1, a2, bound, room), omega (arith, tried, facts.1, a2, near, at.costs))
+            (j, behind, s.within, omega (arith, tried, facts.1, a2, bound, room), omega (arith, tried, facts.1, a2, near, same-cost at))
         | inr s ↦ let one = grows e a l in absurd (omega (arith, s.1, one, found.2))
       ]
 
   -- places that were done stay done
-  pub done-more : ((r : ℕ) → r < i → IsReached old.costs r → IsSettled limit cost n old.costs r ⊎ IsPassed n old.costs r) → IsSettled limit cost n new.costs i → (r : ℕ) → r < i + 1 → IsReached new.costs r → IsSettled limit cost n new.costs r ⊎ IsPassed n new.costs r
+  pub done-more : ((r : ℕ) → r < i → IsReached old r → IsSettled limit cost n old r ⊎ IsPassed n old r) → IsSettled limit cost n new i → (r : ℕ) → r < i + 1 → IsReached new r → IsSettled limit cost n new r ⊎ IsPassed n new r
   done-more done settled r l reached =
       let le : r ≤ i = omega arith in
       elim (eq-or-lt_of_le le) [
-        | inl e ↦ inl (subst (λ (y : ℕ). IsSettled limit cost n new.costs y) (sym e) settled)
+        | inl e ↦ inl (subst (λ (y : ℕ). IsSettled limit cost n new y) (sym e) settled)
         | inr earlier ↦
             let at = same-before w (length w.bounds) old new x r (omega (arith, here)) in
-            elim (done r earlier (omega (arith, at.costs, reached))) [
+            elim (done r earlier (omega (arith, same-cost at, reached))) [
               | inl s ↦ inl (λ e a m c.
                   let t = s e a m c in
                   let cheaper = x.cheaper t.0 in
-                  (t.0, t.1, t.2, omega (arith, t.3, cheaper), omega (arith, t.4, cheaper, at.costs)))
-              | inr p ↦ let cheaper = x.cheaper p.0 in inr (p.0, p.1, p.2, omega (arith, p.3, cheaper, at.costs))
+                  (t.0, t.1, t.2, omega (arith, t.3, cheaper), omega (arith, t.4, cheaper, same-cost at)))
+              | inr p ↦ let cheaper = x.cheaper p.0 in inr (p.0, p.1, p.2, omega (arith, p.3, cheaper, same-cost at))
             ]
       ]

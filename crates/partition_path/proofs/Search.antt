@@ -1,4 +1,5 @@
-use Rattle.std.proofs.Common.{◌≡◌, refl, sym, ◌∙◌, subst, ap, ℕ, zero, suc, ◌+◌, ◌*◌, ◌≤◌, ◌<◌, ◌⊎◌, inl, inr, List, length, get_or, replicate, arith, get_or-set_same, get_or-set_other}
+use Rattle.std.proofs.Common.{◌≡◌, refl, sym, ◌∙◌, subst, ap, ℕ, zero, suc, ◌+◌, ◌*◌, ◌≤◌, ◌<◌, ◌⊎◌, inl, inr, Option, Some, None, List, length, get_or, replicate, arith, get_or-set_same, get_or-set_other}
+use Rattle.std.specs.Prelude.{IfSome, IsSomeAnd}
 use Rattle.std.specs.List.{All}
 use Rattle.std.proofs.lemmas.List.{length-set, length-replicate, get_or-replicate}
 use Rattle.std.proofs.lemmas.List.Elements.{All-from_get_or}
@@ -7,7 +8,9 @@ use Rattle.part_cost.specs.Bounds.{Cover}
 use Rattle.part_cost.specs.Partition.{IsAllowed, partition_cost}
 use Rattle.cost_windows.specs.WindowEnds.{rise}
 use Rattle.cost_windows.specs.Windows.{Windows, KeepCosts, NoneFell, AllAtLongest, new_windows}
-use Rattle.partition_path.specs.Tables.{Tables, IsReached, HasLastPart, AreRoutes, AreExtended, new_tables, unreached}
+use Rattle.partition_path.specs.Tables.{Table, IsReached, IsRival, HasLastPart, AreRoutes, AreExtended, cost_to, new_table, route_cost, unreached}
+use Rattle.partition_path.specs.declared.routes.Route.{Route}
+use Rattle.partition_path.specs.declared.rival.Rival.{Rival}
 use Rattle.partition_path.proofs.Near.{IsSettled, IsPassed, near-rest, end-reached}
 use Rattle.partition_path.proofs.Places.{routes-more, settled-here, done-more}
 use Rattle.partition_path.proofs.Rises.{rise-trans, rise-most, NoneFell-trans, NoneFell-count, NoneFell-same, rise-same}
@@ -17,48 +20,53 @@ abbrev zeros : List ℕ → List ℕ
 zeros bounds = replicate (length bounds) 0
 
 -- All parts that start before place i are tried, or passed over for a later place that costs no more.
-pub record Searched (limit : ℕ) (cost : ℕ → ℕ → ℕ) (bounds : List ℕ) (n i before after : ℕ) (w : Windows) (t : Tables) (rival : ℕ) : Type 0 where
+pub record Searched (limit : ℕ) (cost : ℕ → ℕ → ℕ) (bounds : List ℕ) (n i before after : ℕ) (w : Windows) (t : Table) (rival : Option Rival) : Type 0 where
   pub under : w.bounds ≡ bounds
   pub routes : AreRoutes limit cost n i before after t
-  pub done : (r : ℕ) → r < i → IsReached t.costs r → IsSettled limit cost n t.costs r ⊎ IsPassed n t.costs r
+  pub done : (r : ℕ) → r < i → IsReached t r → IsSettled limit cost n t r ⊎ IsPassed n t r
   pub kept : KeepCosts cost n w
   pub behind : w.place ≤ i
   pub forward : NoneFell (zeros bounds) w.positions
   pub risen : after ≤ before + rise (zeros bounds) w.positions + 2 * length bounds * i
-  pub in_range : rival < length t.costs
+  pub rivals : IfSome rival (λ r. IsRival t r)
 
-new-costs : (n j : ℕ) → 0 < j → j ≤ n → get_or (new_tables n).costs j 0 ≡ unreached
-new-costs n j some l = get_or-set_other (replicate (n + 1) unreached) 0 j 0 0 (λ e. omega arith) ∙ get_or-replicate (n + 1) j unreached 0 (omega arith)
+abbrev none_known : ℕ → Table
+none_known n = replicate (n + 1) None
 
-new-first : (n : ℕ) → get_or (new_tables n).costs 0 0 ≡ 0
-new-first n = get_or-set_same (replicate (n + 1) unreached) 0 0 0 (omega (arith, length-replicate {A = ℕ} (n + 1) unreached))
+abbrev origin : Option Route
+origin = Some (record { cost = 0; start = 0 })
 
-new-parts : (n : ℕ) → get_or (new_tables n).parts 0 0 ≡ 0
-new-parts n = get_or-replicate {A = ℕ} (n + 1) 0 0 0 (omega arith)
+new-costs : (n j : ℕ) → 0 < j → j ≤ n → cost_to (new_table n) j ≡ unreached
+new-costs n j some l = ap (λ (r : Option Route). route_cost r) (get_or-set_other (none_known n) 0 j origin None (λ e. omega arith) ∙ get_or-replicate {A = Option Route} (n + 1) j None None (omega arith))
 
-new-places : (n : ℕ) → length (new_tables n).costs ≡ n + 1
-new-places n = length-set (replicate (n + 1) unreached) 0 0 ∙ length-replicate {A = ℕ} (n + 1) unreached
+new-first : (n : ℕ) → cost_to (new_table n) 0 ≡ 0
+new-first n = ap (λ (r : Option Route). route_cost r) (get_or-set_same (none_known n) 0 origin None (omega (arith, length-replicate {A = Option Route} (n + 1) None)))
 
-only-first : (n j : ℕ) → j ≤ n → IsReached (new_tables n).costs j → j ≡ 0
+new-places : (n : ℕ) → length (new_table n) ≡ n + 1
+new-places n = length-set (none_known n) 0 origin ∙ length-replicate {A = Option Route} (n + 1) None
+
+only-first : (n j : ℕ) → j ≤ n → IsReached (new_table n) j → j ≡ 0
 only-first n zero l r = refl
 only-first n (suc j) l r = absurd (omega (arith, new-costs n (suc j) (omega arith) l, r))
 
-new-routes : (limit : ℕ) (cost : ℕ → ℕ → ℕ) (n before : ℕ) → AreRoutes limit cost n 0 before before (new_tables n)
+new-routes : (limit : ℕ) (cost : ℕ → ℕ → ℕ) (n before : ℕ) → AreRoutes limit cost n 0 before before (new_table n)
 new-routes limit cost n before =
     record {
       places = new-places n;
       origin = new-first n;
-      no_parts = new-parts n;
       last = λ j some l r. absurd (omega (arith, only-first n j l r));
-      small = λ j l r. let e = only-first n j l r in subst (λ (x : ℕ). get_or (new_tables n).costs x 0 ≤ limit * x) (sym e) (omega (arith, new-first n));
-      counted = λ j l r. let e = only-first n j l r in subst (λ (x : ℕ). before + get_or (new_tables n).parts x 0 ≤ before) (sym e) (omega (arith, new-parts n));
+      small = λ j l r. let e = only-first n j l r in subst (λ (x : ℕ). cost_to (new_table n) x ≤ limit * x) (sym e) (omega (arith, new-first n));
+      parts = λ j. 0;
+      no_parts = refl;
+      one_more = λ j some l r. absurd (omega (arith, only-first n j l r));
+      counted = λ j l r. omega arith;
     }
 
 zeros-within : (bounds : List ℕ) (n : ℕ) → All (λ p. p ≤ n) (zeros bounds)
 zeros-within bounds n = All-from_get_or (λ p. p ≤ n) (zeros bounds) 0 (λ k l. let e = get_or-replicate {A = ℕ} (length bounds) k 0 0 (omega (arith, length-replicate {A = ℕ} (length bounds) 0)) in omega (arith, e))
 
 -- before the first part is tried
-pub searched-none : (limit : ℕ) (cost : ℕ → ℕ → ℕ) (bounds : List ℕ) (n before : ℕ) → Searched limit cost bounds n 0 before before (new_windows bounds) (new_tables n) 0
+pub searched-none : (limit : ℕ) (cost : ℕ → ℕ → ℕ) (bounds : List ℕ) (n before : ℕ) → Searched limit cost bounds n 0 before before (new_windows bounds) (new_table n) None
 searched-none limit cost bounds n before =
     record {
       under = refl;
@@ -72,44 +80,57 @@ searched-none limit cost bounds n before =
       behind = omega arith;
       forward = NoneFell-same (zeros bounds);
       risen = omega (arith, rise-same (zeros bounds));
-      in_range = omega (arith, new-places n);
+      rivals = tt;
     }
 
-later : (limit : ℕ) (cost : ℕ → ℕ → ℕ) (i : ℕ) (t : Tables) (j : ℕ) → HasLastPart limit cost i t j → HasLastPart limit cost (i + 1) t j
-later limit cost i t j h = record { earlier = omega (arith, h.earlier); before = h.before; reached = h.reached; sum = h.sum; allowed = h.allowed; one_more = h.one_more }
+later : (limit : ℕ) (cost : ℕ → ℕ → ℕ) (i : ℕ) (t : Table) (j : ℕ) → HasLastPart limit cost i t j → HasLastPart limit cost (i + 1) t j
+later limit cost i t j h = record { earlier = omega (arith, h.earlier); before = h.before; reached = h.reached; sum = h.sum; allowed = h.allowed }
 
-module _ (limit : ℕ) (cost : ℕ → ℕ → ℕ) (bounds : List ℕ) (n i before middle : ℕ) (w : Windows) (t : Tables) (rival : ℕ) (s : Searched limit cost bounds n i before middle w t rival) (below : i < n) where
+-- the cost of a place that is open
+pub opened : (t : Table) (i cost : ℕ) (o : Option ℕ) → IfSome o (λ c. (c ≡ cost_to t i) × (c < unreached)) → o ≡ Some cost → (cost ≡ cost_to t i) × IsReached t i
+opened t i cost o h e =
+    let at = subst (λ (p : Option ℕ). IfSome p (λ c. (c ≡ cost_to t i) × (c < unreached))) e h in
+    (at.0, omega (arith, at.0, at.1))
+
+-- a rival behind place i that costs no more passes over it
+passed-for : (n : ℕ) (t : Table) (i : ℕ) (rival : Option Rival) → length t ≡ n + 1 → IfSome rival (λ r. IsRival t r) → IsSomeAnd rival (λ r. (i < r.place) × (r.cost ≤ cost_to t i)) → IsPassed n t i
+passed-for n t i None places h passed = elim passed [ ]
+passed-for n t i (Some r) places h passed = (r.place, passed.0, omega (arith, h.within, places), omega (arith, h.cheaper, passed.1))
+
+module _ (limit : ℕ) (cost : ℕ → ℕ → ℕ) (bounds : List ℕ) (n i before middle : ℕ) (w : Windows) (t : Table) (rival : Option Rival) (s : Searched limit cost bounds n i before middle w t rival) (below : i < n) where
   -- a place that is not reached, or passed over for its rival
-  pub searched-past : (IsReached t.costs i → (i < rival) × (get_or t.costs rival 0 ≤ get_or t.costs i 0)) → Searched limit cost bounds n (i + 1) before middle w t rival
+  pub searched-past : (IsReached t i → IsSomeAnd rival (λ r. (i < r.place) × (r.cost ≤ cost_to t i))) → Searched limit cost bounds n (i + 1) before middle w t rival
   searched-past passed =
       record {
         under = s.under;
         routes = record {
           places = s.routes.places;
           origin = s.routes.origin;
-          no_parts = s.routes.no_parts;
           last = λ j some l r. later limit cost i t j (s.routes.last j some l r);
           small = s.routes.small;
+          parts = s.routes.parts;
+          no_parts = s.routes.no_parts;
+          one_more = s.routes.one_more;
           counted = s.routes.counted;
         };
         done = λ r l reached.
             let le : r ≤ i = omega arith in
             elim (eq-or-lt_of_le le) [
               | inl e ↦
-                  let p = passed (subst (λ (x : ℕ). IsReached t.costs x) e reached) in
-                  inr (rival, omega (arith, p.0, e), omega (arith, s.in_range, s.routes.places), subst (λ (x : ℕ). get_or t.costs rival 0 ≤ get_or t.costs x 0) (sym e) p.1)
+                  let p = passed-for n t i rival s.routes.places s.rivals (passed (subst (λ (x : ℕ). IsReached t x) e reached)) in
+                  inr (subst (λ (x : ℕ). IsPassed n t x) (sym e) p)
               | inr earlier ↦ s.done r earlier reached
             ];
         kept = s.kept;
         behind = omega (arith, s.behind);
         forward = s.forward;
         risen = omega (arith, s.risen);
-        in_range = s.in_range;
+        rivals = s.rivals;
       }
 
   -- a place whose parts are tried
-  pub searched-more : (charge : ℕ) (after rival' : ℕ) (w' : Windows) (t' : Tables) → Cover charge limit bounds → ((h i j k : ℕ) → h ≤ i → i < j → j ≤ k → k ≤ n → cost i j ≤ cost h k) → ((i j : ℕ) → i < j → j ≤ n → charge ≤ cost i j) → All (λ b. b ≤ limit) bounds → get_or t.costs i 0 + limit < unreached → IsReached t.costs i → w'.bounds ≡ w.bounds → w'.place ≡ i → AllAtLongest cost n w' → KeepCosts cost n w' → NoneFell w.positions w'.positions → middle + 1 ≤ after → after ≤ middle + rise w.positions w'.positions + 2 * length w.bounds → AreExtended w' (length w'.bounds) t t' → rival' < length t'.costs → Searched limit cost bounds n (i + 1) before after w' t' rival'
-  searched-more charge after rival' w' t' cover monotone least within room reached same here stand kept forward counted bounded x in_range =
+  pub searched-more : (charge : ℕ) (after : ℕ) (rival' : Option Rival) (w' : Windows) (t' : Table) → Cover charge limit bounds → ((h i j k : ℕ) → h ≤ i → i < j → j ≤ k → k ≤ n → cost i j ≤ cost h k) → ((i j : ℕ) → i < j → j ≤ n → charge ≤ cost i j) → All (λ b. b ≤ limit) bounds → cost_to t i + limit < unreached → IsReached t i → w'.bounds ≡ w.bounds → w'.place ≡ i → AllAtLongest cost n w' → KeepCosts cost n w' → NoneFell w.positions w'.positions → middle + 1 ≤ after → after ≤ middle + rise w.positions w'.positions + 2 * length w.bounds → AreExtended w' (length w'.bounds) t t' → IfSome rival' (λ r. IsRival t' r) → Searched limit cost bounds n (i + 1) before after w' t' rival'
+  searched-more charge after rival' w' t' cover monotone least within room reached same here stand kept forward counted bounded x rivals =
       let under : w'.bounds ≡ bounds = same ∙ s.under in
       let many : length w.bounds ≡ length bounds = ap length s.under in
       let below_limit : (m : ℕ) → m < length w'.bounds → get_or w'.bounds m 0 ≤ limit = (λ m l. subst (λ (b : List ℕ). All (λ x. x ≤ limit) b) (sym under) within m 0 l) in
@@ -123,11 +144,11 @@ module _ (limit : ℕ) (cost : ℕ → ℕ → ℕ) (bounds : List ℕ) (n i bef
         behind = omega (arith, here);
         forward = NoneFell-trans (zeros bounds) w.positions w'.positions s.forward forward;
         risen = let sum = rise-trans (zeros bounds) w.positions w'.positions s.forward forward in omega (arith, sum, s.risen, bounded, many);
-        in_range = in_range;
+        rivals = rivals;
       }
 
 -- All parts are tried, or passed over.
-module _ (limit : ℕ) (cost : ℕ → ℕ → ℕ) (bounds : List ℕ) (n i before after : ℕ) (w : Windows) (t : Tables) (rival : ℕ) (searched : Searched limit cost bounds n i before after w t rival) (end : i ≡ n) where
+module _ (limit : ℕ) (cost : ℕ → ℕ → ℕ) (bounds : List ℕ) (n i before after : ℕ) (w : Windows) (t : Table) (rival : Option Rival) (searched : Searched limit cost bounds n i before after w t rival) (end : i ≡ n) where
   all-searched : Searched limit cost bounds n n before after w t rival
   all-searched = subst (λ (x : ℕ). Searched limit cost bounds n x before after w t rival) end searched
 
@@ -145,16 +166,16 @@ module _ (limit : ℕ) (cost : ℕ → ℕ → ℕ) (bounds : List ℕ) (n i bef
   all-routes = all-searched.routes
 
   module _ (monotone : (h i j k : ℕ) → h ≤ i → i < j → j ≤ k → k ≤ n → cost i j ≤ cost h k) where
-    first-reached : IsReached t.costs 0
+    first-reached : IsReached t 0
     first-reached = omega (arith, searched.routes.origin)
 
     -- the last place is reached
-    pub last-reached : ((i : ℕ) → i < n → cost i (i + 1) ≤ limit) → IsReached t.costs n
-    last-reached one = let s = all-searched in end-reached limit cost n t.costs monotone s.done one n 0 (omega arith) (omega arith) first-reached
+    pub last-reached : ((i : ℕ) → i < n → cost i (i + 1) ≤ limit) → IsReached t n
+    last-reached one = let s = all-searched in end-reached limit cost n t monotone s.done one n 0 (omega arith) (omega arith) first-reached
 
     -- for at most 103/100 of each allowed partition
-    pub last-near : (others : List ℕ) → IsAllowed limit cost n others → 100 * get_or t.costs n 0 ≤ 103 * partition_cost cost others
+    pub last-near : (others : List ℕ) → IsAllowed limit cost n others → 100 * cost_to t n ≤ 103 * partition_cost cost others
     last-near others a =
         let s = all-searched in
-        let near = near-rest limit cost n t.costs monotone s.done 0 0 others (omega arith) (omega arith) first-reached a.partition a.within in
+        let near = near-rest limit cost n t monotone s.done 0 0 others (omega arith) (omega arith) first-reached a.partition a.within in
         omega (arith, near.1, searched.routes.origin)

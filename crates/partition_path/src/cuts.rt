@@ -5,7 +5,7 @@ ghost use Rattle.cost_windows.specs.WindowBounds.{window_bounds};
 
 use crate::routes::Routes;
 use part_cost::SpanCost;
-use std::alloc::Global;
+use std::alloc::{AllocError, Global};
 use std::marker::Model;
 use std::sync::ledger::Ledger;
 use step_count::Steps;
@@ -13,6 +13,22 @@ use step_count::Steps;
 /// Memory was refused.
 #[derive(Clone, Copy, Debug, PartialEq, Eq)]
 pub struct NoMemory;
+
+impl From<AllocError> for NoMemory {
+    ghost from_gives = { λ _ _. Unit {0} };
+
+    fn from(_refused: AllocError) -> NoMemory {
+        NoMemory
+    }
+}
+
+impl From<cost_windows::NoMemory> for NoMemory {
+    ghost from_gives = { λ _ _. Unit {0} };
+
+    fn from(_refused: cost_windows::NoMemory) -> NoMemory {
+        NoMemory
+    }
+}
 
 /// A partition, with its cost.
 #[derive(Drop)]

@@ -1,7 +1,8 @@
-// A near-cheapest partition.
+//! A near-cheapest partition.
 #![tactic(auto)]
 
 mod cuts;
+mod rival;
 mod routes;
 #[cfg(test)]
 mod tests;

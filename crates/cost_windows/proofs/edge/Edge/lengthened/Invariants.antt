@@ -1,4 +1,4 @@
-use Rattle.std.proofs.Common.{◌≡◌, ◌+◌, ◌-◌, ◌<◌, ◌≤◌, None, IsSome}
+use Rattle.std.proofs.Common.{◌≡◌, ◌+◌, ◌-◌, ◌<◌, ◌≤◌, None}
 use Rattle.cost_windows.specs.EdgeFacts.{Knows}
 use Rattle.cost_windows.proofs.edge.Edge.lengthened.Given as goal
 
@@ -8,7 +8,6 @@ invariant-loop-edge g l =
     × (l.i < l.edge.end → g.C.SpanCost.cost_of l.cost l.i l.edge.end ≤ l.bound)
     × (l.initial.edge.end ≤ l.edge.end)
     × (l.edge.end ≡ l.initial.edge.end → (l.edge ≡ l.initial.edge) × (l.steps ≡ l.initial.steps))
-    × (l.initial.edge.end < l.edge.end → IsSome l.edge.cost)
     × (l.steps + l.initial.edge.end ≤ l.initial.steps + l.edge.end)
     × (l.initial.steps ≤ l.steps)
     × (l.initial.edge.next ≡ None → l.initial.edge.end < l.edge.end → l.initial.steps + 1 ≤ l.steps)

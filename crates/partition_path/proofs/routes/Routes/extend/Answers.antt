@@ -1,7 +1,6 @@
-use Rattle.std.proofs.Common.{◌≡◌, ◌∙◌, ap, ℕ, ◌+◌, ◌<◌, List, length, get_or, sym, inr, arith}
-use Rattle.std.proofs.lemmas.List.{get_or_read}
-use Rattle.partition_path.specs.Tables.{Tables}
-use Rattle.partition_path.proofs.Extending.{extended-some, extended-again, extended-none_there, tried-later, end_says}
+use Rattle.std.proofs.Common.{◌≡◌, ◌∙◌, ℕ, ◌+◌, ◌<◌, length, get_or, sym, inr, arith}
+use Rattle.partition_path.specs.Tables.{cost_to}
+use Rattle.partition_path.proofs.Extending.{extended-some, extended-again, extended-none_there, rival-more, tried-later, end_says, end_within}
 use Rattle.partition_path.proofs.routes.Routes.extend.Goals.{in-Some+then-end-tried, in-Some+else-end-tried, in_default}
 use Rattle.partition_path.proofs.routes.Routes.extend.Goals as goal
 
@@ -12,19 +11,18 @@ loop-k-preserved c =
     let i = c.args.i in
     let old = c.args.self.now in
     let middle = c.loop-k.self in
-    let inside = c.self.inside in
     let x = c.loop-k.invariant in
     let below : k < length w.bounds = omega (arith, c.loop-k-test.true, c.distinct-k-end.ensures.within) in
-    let costs_are : inside.costs.items ≡ old.costs = ap (λ (t : Tables). t.costs) c.self.view_is in
-    let within : i < length inside.costs.items = omega (arith, c.requires.start, ap (λ (xs : List ℕ). length xs) costs_are) in
-    let here : c.index-here.result.now ≡ get_or old.costs i 0 = get_or_read inside.costs.items i c.index-here.result.now within c.index-here.ensures 0 ∙ ap (λ (xs : List ℕ). get_or xs i 0) costs_are in
     elim c.match-end.branch [
       | in-Some+then-end-tried b ↦
           let end = b.in-Some.end in
           let says = sym c.end.ensures ∙ b.in-Some.is in
-          let sum : c.index-here.result.now + b.cost.result ≡ get_or old.costs i 0 + get_or w.costs k 0 = omega (arith, here, b.cost.ensures.value) in
-          let more = extended-some w k old middle b.offer.new.self x.0 i end (c.index-here.result.now + b.cost.result) c.requires.place says sum b.offer.ensures in
-          (rw b.self-is more, rw (b.self-is, b.rival-is) b.better_rival-rival.ensures, rw b.tried-is (inr (k, omega arith, (end_says w k end says).1)))
+          let total : ℕ = c.args.here + b.cost.result in
+          let sum : total ≡ cost_to old i + get_or w.costs k 0 = omega (arith, c.requires.here, b.cost.ensures.value) in
+          let more = extended-some w k old middle b.offer-cost.new.self x.0 i end total c.requires.place says sum b.offer-cost.ensures.offered in
+          let within : end < length middle = omega (arith, end_within w k end (length old) c.requires.within says, x.0.places) in
+          let rival = rival-more i end total b.offer-cost.result middle b.offer-cost.new.self c.loop-k.rival b.or_earlier.result b.offer-cost.ensures.offered within b.offer-cost.ensures.cost x.1 b.or_earlier.ensures.one_of in
+          (rw b.self-is more, rw (b.self-is, b.rival-is) rival, rw b.tried-is (inr (k, omega arith, (end_says w k end says).1)))
       | in-Some+else-end-tried b ↦
           let end = b.in-Some.end in
           let says = sym c.end.ensures ∙ b.in-Some.is in

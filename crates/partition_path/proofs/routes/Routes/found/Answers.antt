@@ -1,14 +1,15 @@
-use Rattle.std.proofs.Common.{◌≡◌, refl, ◌∙◌, ℕ, ◌+◌, ◌<◌, List, get_or, sym, subst, arith}
+use Rattle.std.proofs.Common.{◌≡◌, ◌∙◌, ℕ, ◌+◌, ◌<◌, ◌≤◌, Option, None, List, sym, subst, arith}
+use Rattle.std.specs.Prelude.{IfNone, IsSomeAnd}
 use Rattle.std.specs.List.{All}
 use Rattle.std.proofs.lemmas.Grind.{common_steps}
 use Rattle.collection_model.specs.FormatNumbers.{part_charge}
 use Rattle.part_cost.specs.Formats.{numbers_of}
 use Rattle.cost_windows.specs.WindowBounds.{window_bounds}
 use Rattle.cost_windows.specs.Windows.{Windows, new_windows}
-use Rattle.partition_path.specs.Tables.{Tables, new_tables, unreached}
+use Rattle.partition_path.specs.Tables.{Table, IsReached, cost_to, new_table, unreached}
 use Rattle.partition_path.proofs.Extending.{room_within, room_for_each, kept-shared}
-use Rattle.partition_path.proofs.Search.{Searched, searched-none, searched-past, searched-more, few-costs, all-routes, last-reached, last-near}
-use Rattle.partition_path.proofs.routes.Routes.found.Goals.{then-is_open, else-is_open}
+use Rattle.partition_path.proofs.Search.{Searched, searched-none, searched-past, searched-more, few-costs, all-routes, last-reached, last-near, opened}
+use Rattle.partition_path.proofs.routes.Routes.found.Goals.{in-Some, in_default}
 use Rattle.partition_path.proofs.routes.Routes.found.Goals as goal
 
 pub loop-i-init : goal.loop-i-init
@@ -19,10 +20,10 @@ loop-i-init g c =
     let cost = g.C.SpanCost.cost_of c.args.cost.now in
     let n = g.C.SpanCost.count c.args.cost.now in
     let windows_are : c.in_ok-windows.windows ≡ new_windows bounds = grind (arith, common_steps) in
-    let routes_are : c.in_ok-routes.routes ≡ new_tables n = subst (λ (x : ℕ). c.in_ok-routes.routes ≡ new_tables x) c.len-count.ensures c.in_ok-routes.ensures in
+    let routes_are : c.in_ok-routes.routes ≡ new_table n = subst (λ (x : ℕ). c.in_ok-routes.routes ≡ new_table x) c.len-count.ensures c.in_ok-routes.ensures in
     let none = searched-none limit cost bounds n c.args.steps.now in
-    let with_routes = subst (λ (t : Tables). Searched limit cost bounds n 0 c.args.steps.now c.args.steps.now (new_windows bounds) t 0) (sym routes_are) none in
-    subst (λ (w : Windows). Searched limit cost bounds n 0 c.args.steps.now c.args.steps.now w c.in_ok-routes.routes 0) (sym windows_are) with_routes
+    let with_routes = subst (λ (t : Table). Searched limit cost bounds n 0 c.args.steps.now c.args.steps.now (new_windows bounds) t None) (sym routes_are) none in
+    subst (λ (w : Windows). Searched limit cost bounds n 0 c.args.steps.now c.args.steps.now w c.in_ok-routes.routes None) (sym windows_are) with_routes
 
 pub extend-rival-requires-clause-within : goal.extend-rival-requires-clause-within
 extend-rival-requires-clause-within g c = λ k d l. omega (arith, c.advance.ensures.costs.within k d l, c.loop-i.invariant.routes.places)
@@ -38,11 +39,14 @@ extend-rival-requires-clause-room g c =
     let i = c.loop-i.i in
     let few = g.met.C.SpanCost.few c.args.cost.now in
     let within : i < g.C.SpanCost.count c.args.cost.now = omega (arith, c.loop-i-test.true, c.len-count.ensures) in
-    let small = c.loop-i.invariant.routes.small i (omega (arith, within)) (c.if-is_open.ensures.reached refl) in
-    let room = room_within limit (g.C.SpanCost.count c.args.cost.now) i (get_or c.loop-i.routes.costs i 0) (c.formats_have_room.ensures format).small few within small in
+    let at = opened c.loop-i.routes i c.in-Some.here c.open.result c.open.ensures.open c.in-Some.is in
+    let small = c.loop-i.invariant.routes.small i (omega (arith, within)) at.1 in
+    let room = room_within limit (g.C.SpanCost.count c.args.cost.now) i (cost_to c.loop-i.routes i) (c.formats_have_room.ensures format).small few within small in
     let bounded = c.bounds_cover.ensures.within (part_charge (numbers_of format)) limit bounds (c.bounds_follow_rule.ensures format) in
     let under : c.advance.new.self.bounds ≡ bounds = c.advance.ensures.bounds ∙ c.loop-i.invariant.under in
-    subst (λ (b : List ℕ). All (λ x. get_or c.loop-i.routes.costs i 0 + x < unreached) b) (sym under) (room_for_each bounds limit (get_or c.loop-i.routes.costs i 0) bounded room)
+    let all = room_for_each bounds limit (cost_to c.loop-i.routes i) bounded room in
+    let from_here = subst (λ (x : ℕ). All (λ b. x + b < unreached) bounds) (sym at.0) all in
+    subst (λ (b : List ℕ). All (λ x. c.in-Some.here + x < unreached) b) (sym under) from_here
 
 pub loop-i-preserved : goal.loop-i-preserved
 loop-i-preserved g c =
@@ -57,17 +61,18 @@ loop-i-preserved g c =
     let before = c.args.steps.now in
     let s = c.loop-i.invariant in
     let within : i < n = omega (arith, c.loop-i-test.true, c.len-count.ensures) in
-    elim c.if-is_open.branch [
-      | then-is_open w ↦
-          let reached = w.if-is_open.ensures.reached refl in
+    elim c.match-open.branch [
+      | in-Some w ↦
+          let reached = (opened c.loop-i.routes i w.in-Some.here c.open.result c.open.ensures.open w.in-Some.is).1 in
           let small = s.routes.small i (omega (arith, within)) reached in
-          let room = room_within limit n i (get_or c.loop-i.routes.costs i 0) (c.formats_have_room.ensures format).small (laws.few c.args.cost.now) within small in
+          let room = room_within limit n i (cost_to c.loop-i.routes i) (c.formats_have_room.ensures format).small (laws.few c.args.cost.now) within small in
           let rule = c.bounds_follow_rule.ensures format in
           let said = w.advance.ensures in
           let more = searched-more limit cost bounds n i before c.loop-i.steps c.loop-i.windows c.loop-i.routes c.loop-i.rival s within charge w.advance.new.steps w.extend-rival.result w.advance.new.self w.extend-rival.new.self (c.bounds_cover.ensures.cover charge limit bounds rule) (laws.monotone c.args.cost.now) (laws.at_least_charge c.args.cost.now) (c.bounds_cover.ensures.within charge limit bounds rule) room reached said.bounds said.place said.longest said.costs said.forward said.counted said.bounded w.extend-rival.ensures.extended w.extend-rival.ensures.rival in
           rw (w.steps-is, w.windows-is, w.routes-is, w.rival-is) more
-      | else-is_open w ↦
-          let past = searched-past limit cost bounds n i before c.loop-i.steps c.loop-i.windows c.loop-i.routes c.loop-i.rival s within (w.if-is_open.ensures.passed refl) in
+      | in_default w ↦
+          let passed = subst (λ (o : Option ℕ). IfNone o (IsReached c.loop-i.routes i → IsSomeAnd c.loop-i.rival (λ r. (i < r.place) × (r.cost ≤ cost_to c.loop-i.routes i)))) w.in_default.is c.open.ensures.passed in
+          let past = searched-past limit cost bounds n i before c.loop-i.steps c.loop-i.windows c.loop-i.routes c.loop-i.rival s within passed in
           rw (w.steps-is, w.windows-is, w.routes-is, w.rival-is) past
     ]
 
