@@ -1,5 +1,5 @@
 -- Lemmas on reading a collection: what its answer is at each refusal, and at the end.
-use Rattle.std.proofs.Common.{◌≡◌, refl, sym, ap, ◌∙◌, subst, ℕ, ◌^◌, ◌<◌, ◌≤◌, List, [], ◌++◌, inl, inr, length, IsTrue, Bool, true, false, ◌==◌, Option, Some, None, MatchBool, MatchOption, Result, Ok, Err, arith, append_assoc}
+use Rattle.std.proofs.Common.{◌≡◌, refl, sym, ap, ◌∙◌, subst, ℕ, ◌^◌, ◌<◌, ◌≤◌, List, [], ◌++◌, inl, inr, length, IsTrue, Bool, true, false, ◌==◌, Option, Some, None, MatchBool, MatchOption, Result, Ok, Err, IfErr, arith, append_assoc}
 use Rattle.std.specs.List.{All}
 use Rattle.std.proofs.lemmas.Bool.Decides.{nat_tests}
 use Rattle.std.proofs.lemmas.List.{append-nil}
@@ -13,15 +13,16 @@ use Rattle.collection_reader.specs.declared.fault.CollError.{CollError}
 use Rattle.collection_reader.specs.declared.fault.CollError.TheVariants.{Broken, Read}
 use Rattle.collection_reader.specs.declared.whole.Lists.{Lists as ListVectors}
 use Rattle.collection_reader.specs.FirstFault.{IsFront, IsLongestFront, head_fault, end_fault, IsFaultBehind, IsFirstFault}
-use Rattle.collection_reader.specs.Held.{lists_held}
+use Rattle.collection_reader.specs.Starting.{StartsInOrder}
 use Rattle.collection_reader.specs.ReadCollection.{files_at, IsCollectionSlot, ReadsCollection}
 use Rattle.collection_reader.specs.Reading.{Reading, rests, IsReadFault, IsNextFault, OnlyReadsCollection, StartsReading, ReadsSizes}
 use Rattle.collection_reader.specs.ReadLists.{HaveBeenRead, IsFaultBehindLists, ReadsLists}
 use Rattle.collection_reader.proofs.Fronts.{longest-from_blocked, longest-from_full, blocked-at_end}
 use Rattle.collection_reader.proofs.Breaks.{blocked-by_fault}
-use Rattle.collection_reader.proofs.FirstFaults.{one-first_fault, spelled-no_fault, head_fault-none, none-first, match_bool-cases}
-use Rattle.collection_reader.proofs.ListsRead.{calls-then, read_fault-then, no_fault-at_ok, not-ok}
+use Rattle.collection_reader.proofs.FirstFaults.{one-first_fault, spelled-no_fault, front-head, none-first, match_bool-cases}
+use Rattle.collection_reader.proofs.ListsRead.{calls-then, read_fault-then, no_fault-at_ok, not-ok, stay_started}
 use Rattle.collection_reader.proofs.ReadsFrom.{OnlyReads-trans}
+use Rattle.collection_reader.proofs.Starts.{all-started}
 
 -- the files of a well-formed collection have no first fault, and files with one are of none
 pub not-both : (format : FormatNumbers) → format.most_documents < 2 ^ 32 → (files : Files) (c : Collection) (fault : Fault) → WellFormed format c → files ≡ spelled c → IsFirstFault format files (Some fault) → ⊥
@@ -34,8 +35,8 @@ not-both format small files c fault good same broken =
 pub refused : (format : FormatNumbers) → format.most_documents < 2 ^ 32 → (old new : DepotState) (base : List ℕ) (answer : Result Collection CollError) (e : CollError) → answer ≡ Err e
     → (IsTrue old.tells → (fault : Fault) → e ≡ Broken fault → IsFirstFault format (files_at old base) (Some fault))
     → ((slot : Slot) → e ≡ Read slot → IsReadFault old new slot)
-    → OnlyReadsCollection old new answer → ReadsCollection format old new base answer
-refused format small old new base answer e is first_fault read_fault calls = record {
+    → OnlyReadsCollection old new answer → StartsInOrder old new e → ReadsCollection format old new base answer
+refused format small old new base answer e is first_fault read_fault calls order = record {
   well_formed = not-ok (WellFormed format) answer e is;
   spelled_so = λ told. not-ok (λ c. files_at old base ≡ spelled c) answer e is;
   no_fault = λ told c good same fault h. not-both format small (files_at old base) c fault good same (first_fault told fault cc);
@@ -44,6 +45,7 @@ refused format small old new base answer e is first_fault read_fault calls = rec
   read_only_where_it_rose = λ slot h. read_fault slot cc;
   count_rises_only_there = calls.count_rises_only_there;
   reads = calls.reads;
+  in_order = subst (λ r. IfErr r (StartsInOrder old new)) (sym is) order;
 }
 
 same-calls : {A B : Type 0} (old new : DepotState) (result : Result A CollError) (answer : Result B CollError) → ((slot : Slot) → result ≡ Err (Read slot) → answer ≡ Err (Read slot)) → OnlyReadsCollection old new result → OnlyReadsCollection old new answer
@@ -63,6 +65,7 @@ start-refused format small old new base result e answer starts is answered =
     (λ told fault h. some-first (head_fault format (files_at old base).docs) _ fault (starts.first_fault told fault cc))
     (λ slot h. starts.read_only_where_it_rose slot cc)
     (same-calls old new result answer (λ slot h. cc) starts.depot)
+    (subst (λ r. IfErr r (StartsInOrder old new)) is starts.in_order)
 
 -- the front of the files that some lists behind the head are
 front-read : (format : FormatNumbers) (old start : DepotState) (base : List ℕ) (first : Reading) (lists : List (List Posting)) (docs freqs : List ℕ) → StartsReading format old start base (Ok first) → IsTrue old.tells
@@ -79,8 +82,7 @@ front-read format old start base first lists docs freqs starts told within each 
 -- a first fault behind a longest front
 pub fault-behind : (format : FormatNumbers) → format.most_documents < 2 ^ 32 → (files : Files) (n : ℕ) (lists : List (List Posting)) (docs freqs : List ℕ) (fault : Fault) → IsLongestFront format files n lists docs freqs → IsFaultBehind format n (length lists) docs freqs files.sizes (Some fault) → IsFirstFault format files (Some fault)
 fault-behind format small files n lists docs freqs fault longest behind =
-    let front = longest.front in
-    let no_fault : head_fault format files.docs ≡ None = ap (head_fault format) (front.docs ∙ append_assoc (head_bytes n) (docs_bytes lists) docs) ∙ head_fault-none format n (docs_bytes lists ++ docs) small front.documents in
+    let no_fault = front-head format small files n lists docs freqs longest.front in
     none-first (head_fault format files.docs) _ _ no_fault (n, lists, docs, freqs, longest, behind)
 
 match_bool-at_false : (P Q : Type 0) (b : Bool) → b ≡ false → Q → MatchBool b P Q
@@ -117,6 +119,7 @@ lists-refused format small old start new base first now result e answer starts r
     next-faulty format small (files_at old base) first.documents found.lists found.docs_rest found.freqs_rest fault (front-read format old start base first found.lists found.docs_rest found.freqs_rest starts told found.within found.each found.docs found.freqs) found.next)
     (λ slot h. read_fault-then old start new slot (no_fault slot) (reads.read_only_where_it_rose slot cc))
     (calls-then old start new result answer no_fault starts.depot.reads reads.depot (λ slot h. cc))
+    (all-started old new e (stay_started start new starts.started reads.depot.reads))
 
 -- what is left once all lists are read
 record AllListsRead (format : FormatNumbers) (old start between : DepotState) (base : List ℕ) (now : Reading) (lists : List (List Posting)) : Type 0 where
@@ -163,6 +166,7 @@ sizes-refused format small old start between new base first now last lists sizes
     fault-behind format small (files_at old base) now.documents lists [] (rests now between).freqs fault (longest-from_blocked format small (files_at old base) now.documents lists [] (rests now between).freqs front (blocked-at_end format now.documents (rests now between).freqs)) behind)
     (λ slot h. read_fault-then old between new slot (read.no_fault slot) (reads.read_only_where_it_rose read.refusal slot cc))
     (calls-then old between new result answer read.no_fault read.reads reads.depot (λ slot h. cc))
+    (all-started old new e (stay_started between new (stay_started start between starts.started before.reads) reads.depot.reads))
 
 -- where all is read
 pub all-read : (format : FormatNumbers) → format.most_documents < 2 ^ 32 → (old start between new : DepotState) (base : List ℕ) (first now last : Reading) (lists : List (List Posting)) (n : ℕ) (sizes : List ℕ) (c : Collection)
@@ -193,4 +197,5 @@ all-read format small old start between new base first now last lists n sizes c 
       read_only_where_it_rose = λ slot h. absurd cc;
       count_rises_only_there = calls.count_rises_only_there;
       reads = calls.reads;
+      in_order = tt;
     }

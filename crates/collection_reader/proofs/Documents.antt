@@ -101,6 +101,7 @@ length_refused n t held mid docs a b e number = record {
   rest = λ u. tt;
   first_fault = λ u fault h. rw (lacks-there (rest_of held a Docs) 0 (number.too_short u fault (same-fault {A = Unit {0}} {B = ℕ} e fault h))) (number.cut fault (same-fault {A = Unit {0}} {B = ℕ} e fault h));
   depot = answers-err {A = ℕ} {B = Unit {0}} e number.depot;
+  fault_term = λ fault h. ap (λ f. f.term) (number.cut fault (same-fault {A = Unit {0}} {B = ℕ} e fault h));
 }
 
 pub document_refused : (n m t k : ℕ) (held mid last docs : List ℕ) (a b c : DepotState) (e : CollError) → k < m → DocumentsSoFar n m k held mid a b docs
@@ -115,6 +116,7 @@ document_refused n m t k held mid last docs a b c e lt so_far number = record {
       let short = number.too_short (so_far.depot.only.tells ∙ u) fault g in
       rw (so_far.rest u, number.cut fault g) (first-broken n t m docs (rest_of mid b Docs) C1 k so_far.good so_far.count lt so_far.claimed (cut-breaks n m docs (rest_of mid b Docs) k (sym so_far.count) short));
   depot = reads-then so_far.depot (answers-err {A = ℕ} {B = Unit {0}} e number.depot);
+  fault_term = λ fault h. ap (λ f. f.term) (number.cut fault (same-fault {A = Unit {0}} {B = ℕ} e fault h));
 }
 
 -- a document that was read breaks a rule
@@ -130,6 +132,7 @@ document_broken n m t k d held mid last docs a b c rule lt so_far number breaks 
       let is : record { rule = rule; file = Docs; term = t; place = k } ≡ fault = fault-of {A = Unit {0}} _ fault h in
       rw (so_far.rest u, ← is, number.number (so_far.depot.only.tells ∙ u)) (first-broken n t m docs (le32 d ++ rest_of last c Docs) rule k so_far.good so_far.count lt so_far.claimed (breaks (rest_of last c Docs)));
   depot = reads-then so_far.depot (answers-broken {A = ℕ} {B = Unit {0}} _ number.depot);
+  fault_term = λ fault h. ap (λ f. f.term) (sym (fault-of {A = Unit {0}} _ fault h));
 }
 
 pub document_high : (n m t k d : ℕ) (held mid last docs : List ℕ) (a b c : DepotState) → k < m → DocumentsSoFar n m k held mid a b docs
@@ -151,6 +154,7 @@ document_not_kept n m t k d held mid last docs more a b c so_far number = record
   rest = λ u. tt;
   first_fault = λ u fault h. absurd (no_memory-not-broken {A = Unit {0}} fault h);
   depot = reads-then so_far.depot (answers-no_memory {A = ℕ} {B = Unit {0}} number.depot);
+  fault_term = λ fault h. absurd (no_memory-not-broken {A = Unit {0}} fault h);
 }
 
 rising-more : (docs : List ℕ) (d k : ℕ) → length docs ≡ k → IsStrictlyIncreasing docs → (0 < k → get_or docs (k - 1) 0 < d) → IsStrictlyIncreasing (docs ++ d ∷ [])

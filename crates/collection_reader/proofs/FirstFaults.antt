@@ -1,19 +1,19 @@
 -- Lemmas on first faults: there is one only, and none where the files are a spelling.
-use Rattle.std.proofs.Common.{◌≡◌, refl, sym, ap, ◌∙◌, subst, ℕ, ◌+◌, ◌*◌, ◌^◌, ◌<◌, ◌≤◌, List, [], ◌∷◌, ◌++◌, inl, inr, length, drop, Bool, false, true, not, ◌==◌, nat_lt, if◌then◌else◌, Option, Some, None, MatchBool, MatchOption, IsSomeAnd, arith, lit<, lit≤, length-drop}
+use Rattle.std.proofs.Common.{◌≡◌, refl, sym, ap, ◌∙◌, subst, ℕ, ◌+◌, ◌*◌, ◌^◌, ◌<◌, ◌≤◌, List, [], ◌∷◌, ◌++◌, inl, inr, length, drop, Bool, false, true, not, ◌==◌, nat_lt, if◌then◌else◌, Option, Some, None, MatchBool, MatchOption, IsSomeAnd, arith, lit<, lit≤, append_assoc, length-drop}
 use Rattle.std.proofs.lemmas.Bool.{cases_lt, false≢true}
 use Rattle.std.proofs.lemmas.Bool.Decides.{nat_tests}
 use Rattle.std.proofs.lemmas.List.{append-nil, nil_from_length}
 use Rattle.std.proofs.lemmas.List.Elements.{All-nil, All-cons, All-drop}
 use Rattle.collection_model.specs.FormatNumbers.{FormatNumbers, most_terms}
 use Rattle.collection_model.specs.Bytes.{le32, number_sequence, AreBytes}
-use Rattle.collection_model.specs.Collection.{Posting, Collection, WellFormed}
+use Rattle.collection_model.specs.Collection.{Posting, Collection, WellFormed, IsPostingList}
 use Rattle.collection_model.specs.Spelling.{Files, head_bytes, docs_bytes, freqs_bytes, spelled}
 use Rattle.collection_model.proofs.Numbers.{AreNumbers, number_sequence-length, numbers-of_bytes}
 use Rattle.collection_reader.specs.declared.fault.Rule.{Rule}
 use Rattle.collection_reader.specs.declared.fault.Fault.{Fault}
-use Rattle.collection_reader.specs.FirstFault.{number_at, lacks, FirstBreak, doc_break, freq_break, IsListFault, IsLongestFront, head_fault, end_fault, IsFaultBehind, IsFirstFault}
-use Rattle.collection_reader.specs.Laws.{NoFaultMeansSpelled, OneFirstFault, SpelledHasNoFault}
-use Rattle.collection_reader.proofs.Numbers.{number_at-count, number_at-value, lacks-not, sequence-lacks_not, first-number}
+use Rattle.collection_reader.specs.FirstFault.{number_at, lacks, FirstBreak, doc_break, freq_break, IsListFault, IsFront, IsLongestFront, head_fault, end_fault, IsFaultBehind, IsFirstFault}
+use Rattle.collection_reader.specs.Laws.{NoFaultMeansSpelled, NoHeadFaultMeansFront, OneFirstFault, SpelledHasNoFault}
+use Rattle.collection_reader.proofs.Numbers.{number_at-drop, number_at-count, number_at-value, lacks-not, sequence-lacks_not, first-number}
 use Rattle.collection_reader.proofs.Breaks.{lt-not, same-not}
 use Rattle.collection_reader.proofs.Fronts.{longest-same, longest-from_blocked, blocked-at_end}
 
@@ -102,6 +102,11 @@ head_fault-none format n rest small within =
     (skip (not (number_at docs 0 == 1)) None _ (same-not (number_at docs 0) 1 count)
     (skip (lacks docs 1) _ _ (sequence-lacks_not (n ∷ []) rest 1 (lit≤ tt))
     (skip (nat_lt format.most_documents (number_at docs 1)) _ _ (lt-not format.most_documents (number_at docs 1) (omega arith)) refl)))
+
+-- none is in the head of a front
+pub front-head : (format : FormatNumbers) → format.most_documents < 2 ^ 32 → (files : Files) (n : ℕ) (lists : List (List Posting)) (docs freqs : List ℕ) → IsFront format files n lists docs freqs → head_fault format files.docs ≡ None
+front-head format small files n lists docs freqs front =
+    ap (head_fault format) (front.docs ∙ append_assoc (head_bytes n) (docs_bytes lists) docs) ∙ head_fault-none format n (docs_bytes lists ++ docs) small front.documents
 
 -- none is behind the lists where nothing but the sizes is left
 end_fault-none : (n t : ℕ) (sizes : List ℕ) → length sizes ≡ n → n < 2 ^ 32 → end_fault n t [] (number_sequence sizes) ≡ None
@@ -212,4 +217,44 @@ pub no_fault-means_spelled : (format : FormatNumbers) → format.most_documents 
 no_fault-means_spelled format small files bytes = (
   spelled-from_none format files bytes.sizes,
   λ (c, good, same). subst (λ f. IsFirstFault format f None) (sym same) (spelled-no_fault format small c good),
+)
+
+-- bytes that begin with two numbers
+two-numbers : (bytes : List ℕ) → AreBytes bytes → 8 ≤ length bytes → bytes ≡ le32 (number_at bytes 0) ++ (le32 (number_at bytes 1) ++ drop 4 (drop 4 bytes))
+two-numbers bytes small enough =
+    first-number bytes small (omega arith)
+    ∙ ap (λ b. le32 (number_at bytes 0) ++ b) (first-number (drop 4 bytes) (All-drop (λ b. b < 256) 4 bytes small) (omega (arith, length-drop 4 bytes)) ∙ ap (λ m. le32 m ++ drop 4 (drop 4 bytes)) (number_at-drop bytes 0))
+
+-- bytes whose head has no fault begin with a head
+head-front : (format : FormatNumbers) (files : Files) → AreBytes files.docs → head_fault format files.docs ≡ None → (n : ℕ) × (lists : List (List Posting)) × (docs : List ℕ) × (freqs : List ℕ) × IsFront format files n lists docs freqs
+head-front format files small is =
+    let docs = files.docs in
+    let a = skipped (lacks docs 0) _ _ is in
+    let b = skipped (not (number_at docs 0 == 1)) _ _ a.1 in
+    let c = skipped (lacks docs 1) _ _ b.1 in
+    let d = skipped (nat_lt format.most_documents (number_at docs 1)) _ _ c.1 in
+    let n = number_at docs 1 in
+    let rest = drop 4 (drop 4 docs) in
+    let enough = below-from (length docs) (4 * (1 + 1)) c.0 in
+    let spelled_so : docs ≡ head_bytes n ++ rest =
+    two-numbers docs small enough ∙ ap (λ m. le32 m ++ (le32 n ++ rest)) (same-from (number_at docs 0) 1 b.0)
+    ∙ ap (λ x. le32 1 ++ (x ++ rest)) (sym (append-nil (le32 n))) ∙ sym (append_assoc (le32 1) (le32 n ++ []) rest) in (
+      n,
+      [],
+      rest,
+      files.freqs,
+      record {
+        documents = below-from format.most_documents n d.0;
+        terms = lit≤ tt;
+        each = All-nil (IsPostingList format n);
+        docs = spelled_so ∙ ap (λ h. h ++ rest) (sym (append-nil (head_bytes n)));
+        freqs = refl;
+      },
+    )
+
+-- the head has no fault exactly where there is a front
+pub no_head_fault-means_front : (format : FormatNumbers) → format.most_documents < 2 ^ 32 → NoHeadFaultMeansFront format
+no_head_fault-means_front format small files bytes = (
+  head-front format files bytes,
+  λ (n, lists, docs, freqs, front). front-head format small files n lists docs freqs front,
 )

@@ -102,6 +102,7 @@ length_refused format t expected held mid freqs a b e number = record {
   rest = λ u. tt;
   first_fault = λ u fault h. rw (lacks-there (rest_of held a Freqs) 0 (number.too_short u fault (same-fault {A = Unit {0}} {B = ℕ} e fault h))) (number.cut fault (same-fault {A = Unit {0}} {B = ℕ} e fault h));
   depot = answers-err {A = ℕ} {B = Unit {0}} e number.depot;
+  fault_term = λ fault h. ap (λ f. f.term) (number.cut fault (same-fault {A = Unit {0}} {B = ℕ} e fault h));
 }
 
 pub frequency_refused : (format : FormatNumbers) (m t k total : ℕ) (held mid last freqs : List ℕ) (a b c : DepotState) (e : CollError) → k < m → FrequenciesSoFar format m k total held mid a b freqs
@@ -117,6 +118,7 @@ frequency_refused format m t k total held mid last freqs a b c e lt so_far numbe
       let short = number.too_short (so_far.depot.only.tells ∙ u) fault g in
       rw (so_far.rest u, number.cut fault g) (first-broken format t m freqs (rest_of mid b Freqs) C1 k so_far.good so_far.count lt so_far.claimed (cut-breaks format m freqs (rest_of mid b Freqs) k (sym so_far.count) short));
   depot = reads-then so_far.depot (answers-err {A = ℕ} {B = Unit {0}} e number.depot);
+  fault_term = λ fault h. ap (λ f. f.term) (number.cut fault (same-fault {A = Unit {0}} {B = ℕ} e fault h));
 }
 
 -- a frequency that was read breaks a rule
@@ -133,6 +135,7 @@ frequency_broken format m t k total f held mid last freqs a b c rule lt so_far n
       let is : record { rule = rule; file = Freqs; term = t; place = k } ≡ fault = fault-of {A = Unit {0}} _ fault h in
       rw (so_far.rest u, ← is, number.number (so_far.depot.only.tells ∙ u)) (first-broken format t m freqs (le32 f ++ rest_of last c Freqs) rule k so_far.good so_far.count lt so_far.claimed (breaks (rest_of last c Freqs)));
   depot = reads-then so_far.depot (answers-broken {A = ℕ} {B = Unit {0}} _ number.depot);
+  fault_term = λ fault h. ap (λ f. f.term) (sym (fault-of {A = Unit {0}} _ fault h));
 }
 
 pub frequency_zero : (format : FormatNumbers) (m t k total f : ℕ) (held mid last freqs : List ℕ) (a b c : DepotState) → k < m → FrequenciesSoFar format m k total held mid a b freqs

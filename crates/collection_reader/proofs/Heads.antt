@@ -25,6 +25,7 @@ head_cut format held held_after a b e number = record {
   rest = λ t. tt;
   first_fault = λ t fault h. cut-length format (rest_of held a Docs) (number.too_short t fault h) ∙ ap Some (sym (number.cut fault h));
   depot = number.depot;
+  fault_term = λ fault h. ap (λ f. f.term) (number.cut fault h);
 }
 
 -- a head that is cut in its number
@@ -42,4 +43,5 @@ number_cut format held mid held_after a b c e first number = record {
       let u = first.depot.only.tells ∙ t in
       rw (first.number t) (cut-number format (rest_of mid b Docs) (number.too_short u fault h) ∙ ap Some (sym (number.cut fault h)));
   depot = reads-then first.depot number.depot;
+  fault_term = λ fault h. ap (λ f. f.term) (number.cut fault h);
 }

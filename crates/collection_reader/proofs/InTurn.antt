@@ -1,17 +1,17 @@
 -- Lemmas on reading list by list: each step keeps what was read, and a refused one is that of the whole.
-use Rattle.std.proofs.Common.{◌≡◌, refl, sym, ap, ◌∙◌, subst, ℕ, ◌^◌, ◌<◌, List, [], ◌∷◌, ◌++◌, Bool, true, false, inr, IsTrue, Result, Ok, Err}
+use Rattle.std.proofs.Common.{◌≡◌, refl, sym, ap, ◌∙◌, ℕ, ◌^◌, ◌<◌, List, [], ◌∷◌, ◌++◌, true, false, inl, inr, IsTrue, Result, Ok, Err}
 use Rattle.std.specs.List.{All}
 use Rattle.collection_model.specs.FormatNumbers.{FormatNumbers}
-use Rattle.collection_model.specs.Collection.{Posting, Collection, postings_of}
+use Rattle.collection_model.specs.Collection.{Posting, postings_of}
 use Rattle.pef_io.specs.DepotState.{DepotState}
 use Rattle.collection_reader.specs.declared.fault.CollError.{CollError}
 use Rattle.collection_reader.specs.declared.fault.CollError.TheVariants.{NoMemory}
 use Rattle.collection_reader.specs.declared.phase.Phase.{Phase}
-use Rattle.collection_reader.specs.declared.phase.Phase.TheVariants.{Lists, Ended}
+use Rattle.collection_reader.specs.declared.phase.Phase.TheVariants.{Lists}
 use Rattle.collection_reader.specs.declared.whole.Lists.{Lists as ListVectors}
 use Rattle.collection_reader.specs.ReadCollection.{ReadsCollection}
-use Rattle.collection_reader.specs.Reading.{Reading, rests, after_lists, OnlyReadsCollection, StartsReading, ReadsList, ReadsSizes}
-use Rattle.collection_reader.specs.ReadLists.{HaveBeenRead, ReadsLists}
+use Rattle.collection_reader.specs.Reading.{Reading, rests, after_lists, StartsReading, ReadsList, ReadsSizes}
+use Rattle.collection_reader.specs.ReadLists.{ReadsLists}
 use Rattle.collection_reader.specs.InTurn.{HasRead, HasReadAll, ReadsInTurn}
 use Rattle.collection_reader.proofs.ListsRead.{nothing-read, read-more, read-end, answered-list, stay_started, no_fault-at_ok, list-refused}
 use Rattle.collection_reader.proofs.CollectionRead.{refused, start-refused, lists-refused, sizes-refused, all-read}
@@ -95,6 +95,7 @@ stopped-reading format small base old between now lists phase has =
       count_rises_only_there = λ slot. inr (has.read.no_fault slot ∙ no_fault-at_ok old has.start (Ok has.first) has.first refl has.starts.depot slot);
       reads = OnlyReads-trans has.starts.depot.reads has.read.reads;
     })
+    (inl has.started)
 
 pub reads-in_turn : (format : FormatNumbers) → format.most_documents < 2 ^ 32 → ReadsInTurn format
 reads-in_turn format small = record {

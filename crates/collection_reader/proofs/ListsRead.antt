@@ -17,8 +17,9 @@ use Rattle.collection_reader.specs.declared.fault.CollError.TheVariants.{Read}
 use Rattle.collection_reader.specs.declared.phase.Phase.TheVariants.{Lists, Ended}
 use Rattle.collection_reader.specs.declared.whole.Lists.{Lists as ListVectors}
 use Rattle.collection_reader.specs.Held.{lists_held, AreAligned}
+use Rattle.collection_reader.specs.Starting.{AreStarted}
 use Rattle.collection_reader.specs.ReadCollection.{IsCollectionSlot}
-use Rattle.collection_reader.specs.Reading.{Reading, rests, AreStarted, IsReadFault, IsNextFault, OnlyReadsCollection, ReadsList, GivesList, EndsLists}
+use Rattle.collection_reader.specs.Reading.{Reading, rests, IsReadFault, IsNextFault, OnlyReadsCollection, ReadsList, GivesList, EndsLists}
 use Rattle.collection_reader.specs.ReadLists.{AtFirstList, HaveBeenRead, ReadsLists}
 use Rattle.collection_reader.proofs.ReadsFrom.{OnlyReads-trans, OnlyReads-same}
 

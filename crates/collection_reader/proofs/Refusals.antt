@@ -20,6 +20,9 @@ list_refused r tried a b ds fs ds_after fs_after e none tries no_docs no_freqs =
   read_only_where_it_rose = λ kept slot h. tries.depot.read_only_where_it_rose slot h;
   refusal = record { kept = λ kept h. absurd (none kept h); first = refl; answer = tt };
   depot = record { count_rises_only_there = tries.depot.count_rises_only_there; reads = tries.depot.only };
+  unchanged = tries.unchanged;
+  fault_term = λ kept fault h. tries.fault_term fault h;
+  slots = tries.slots;
 }
 
 pub end_refused : (r tried : Reading) (a b : DepotState) (ss ss_after : List ℕ) (e : CollError) → ((kept : CollError) → r.refusal ≡ Some kept → ⊥)
@@ -33,4 +36,7 @@ end_refused r tried a b ss ss_after e none tries no_sizes = record {
   read_only_where_it_rose = λ kept slot h. tries.depot.read_only_where_it_rose slot h;
   refusal = record { kept = λ kept h. absurd (none kept h); first = refl; answer = tt };
   depot = record { count_rises_only_there = tries.depot.count_rises_only_there; reads = tries.depot.only };
+  unchanged = (tries.phase, tries.lists);
+  fault_term = λ kept fault h. tries.fault_term fault h;
+  slots = tries.slots;
 }

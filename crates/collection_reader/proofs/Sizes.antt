@@ -57,6 +57,7 @@ length_refused n t held mid sizes a b e number = record {
       let f = same-fault {A = Unit {0}} {B = ℕ} e fault h in
       cut-length n t (rest_of held a Sizes) (lacks-there (rest_of held a Sizes) 0 (number.too_short u fault f)) ∙ ap Some (sym (number.cut fault f));
   depot = answers-err {A = ℕ} {B = Unit {0}} e number.depot;
+  fault_term = λ fault h. ap (λ f. f.term) (number.cut fault (same-fault {A = Unit {0}} {B = ℕ} e fault h));
 }
 
 pub size_refused : (n t k : ℕ) (held mid last sizes : List ℕ) (a b c : DepotState) (e : CollError) → k < n → SizesSoFar n k held mid a b sizes
@@ -69,6 +70,7 @@ size_refused n t k held mid last sizes a b c e lt so_far number = record {
       let f = same-fault {A = Unit {0}} {B = ℕ} e fault h in
       ap (λ r. end_fault n t [] r) (so_far.rest u) ∙ cut-in n t k sizes (rest_of mid b Sizes) so_far.count lt so_far.claimed (number.too_short (so_far.depot.only.tells ∙ u) fault f) ∙ ap Some (sym (number.cut fault f));
   depot = reads-then so_far.depot (answers-err {A = ℕ} {B = Unit {0}} e number.depot);
+  fault_term = λ fault h. ap (λ f. f.term) (number.cut fault (same-fault {A = Unit {0}} {B = ℕ} e fault h));
 }
 
 pub end_refused : (n t : ℕ) (held mid last sizes : List ℕ) (a b c : DepotState) (e : CollError) → SizesSoFar n n held mid a b sizes
@@ -79,6 +81,7 @@ end_refused n t held mid last sizes a b c e so_far look = record {
   none_left = λ u. tt;
   first_fault = λ u fault h. absurd (look.no_fault fault (same-fault {A = Unit {0}} {B = Bool} e fault h));
   depot = reads-then so_far.depot (answers-err {A = Bool} {B = Unit {0}} e look.depot);
+  fault_term = λ fault h. absurd (look.no_fault fault (same-fault {A = Unit {0}} {B = Bool} e fault h));
 }
 
 pub more_left : (n t : ℕ) (held mid last sizes : List ℕ) (a b c : DepotState) → SizesSoFar n n held mid a b sizes
@@ -92,4 +95,5 @@ more_left n t held mid last sizes a b c so_far look = record {
       let some : 0 < length (rest_of mid b Sizes) = omega (arith, look.more refl, length-append last (c.left Sizes), ap length (look.same_rest (so_far.depot.only.tells ∙ u))) in
       ap (λ r. end_fault n t [] r) (so_far.rest u) ∙ left-over n t sizes (rest_of mid b Sizes) so_far.count so_far.claimed some ∙ ap Some is;
   depot = reads-then so_far.depot (answers-broken {A = Bool} {B = Unit {0}} _ look.depot);
+  fault_term = λ fault h. ap (λ f. f.term) (sym (fault-of {A = Unit {0}} _ fault h));
 }

@@ -9,8 +9,8 @@ use Rattle.collection_reader.specs.OneFile.{LooksAhead}
 use Rattle.collection_reader.specs.OneSequence.{ReadsToEnd}
 use Rattle.collection_reader.specs.OneReader.{TriesEnd}
 use Rattle.collection_reader.proofs.SameAnswer.{same-fault}
-use Rattle.collection_reader.proofs.ReadsFrom.{reads-then, reads-wider, answers-err}
-use Rattle.collection_reader.proofs.Starts.{freqs-is, sizes-is, docs-not_freqs, docs-not_sizes, freqs-not_sizes, sizes-not_freqs}
+use Rattle.collection_reader.proofs.ReadsFrom.{OnlyReads-trans, OnlyReads-wider, reads-then, reads-wider, answers-err}
+use Rattle.collection_reader.proofs.Starts.{freqs-is, sizes-is, freqs-last, sizes-last, docs-not_freqs, docs-not_sizes, freqs-not_sizes, sizes-not_freqs}
 
 -- the look ahead fails
 pub look_refused : (r : Reading) (mid ss : List ℕ) (a b : DepotState) (e : CollError) → LooksAhead Freqs r.freqs mid a b (Err e) → TriesEnd r (record r { freqs = mid }) a b ss (Err e)
@@ -27,6 +27,9 @@ look_refused r mid ss a b e look = record {
   refusal = refl;
   first_fault = λ t fault h. absurd (look.no_fault fault (same-fault {A = Unit {0}} {B = Bool} e fault h));
   depot = reads-wider freqs-is (answers-err {A = Bool} {B = Unit {0}} e look.depot);
+  phase = refl;
+  fault_term = λ fault h. absurd (look.no_fault fault (same-fault {A = Unit {0}} {B = Bool} e fault h));
+  slots = OnlyReads-wider freqs-last look.depot.only;
 }
 
 -- the sizes are read where no frequency is left
@@ -48,6 +51,9 @@ end_read r mid last ss a b c (Err e) look sizes = record {
       ∙ ap (λ l. end_fault r.documents r.lists [] (r.sizes ++ l)) (sym ((look.depot.only.other_slots Sizes sizes-not_freqs).1 t))
       ∙ sizes.first_fault (look.depot.only.tells ∙ t) fault h;
   depot = reads-then (reads-wider freqs-is look.depot) (reads-wider sizes-is sizes.depot);
+  phase = refl;
+  fault_term = λ fault h. sizes.fault_term fault h;
+  slots = OnlyReads-trans (OnlyReads-wider freqs-last look.depot.only) (OnlyReads-wider sizes-last sizes.depot.only);
 }
 end_read r mid last ss a b c (Ok x) look sizes = record {
   count = sizes.count;
@@ -62,4 +68,7 @@ end_read r mid last ss a b c (Ok x) look sizes = record {
   refusal = refl;
   first_fault = λ t fault h. cc;
   depot = reads-then (reads-wider freqs-is look.depot) (reads-wider sizes-is sizes.depot);
+  phase = refl;
+  fault_term = λ fault h. cc;
+  slots = OnlyReads-trans (OnlyReads-wider freqs-last look.depot.only) (OnlyReads-wider sizes-last sizes.depot.only);
 }

@@ -16,11 +16,11 @@ use Rattle.collection_reader.specs.OneFile.{LooksAhead, rest_of}
 use Rattle.collection_reader.specs.OneSequence.{IsDocsFault, IsFreqsFault, ReadsDocuments, ReadsFrequencies}
 use Rattle.collection_reader.specs.OneReader.{TriesList}
 use Rattle.collection_reader.proofs.SameAnswer.{same-fault}
-use Rattle.collection_reader.proofs.ReadsFrom.{reads-then, reads-wider, answers-err, answers-ok}
+use Rattle.collection_reader.proofs.ReadsFrom.{OnlyReads-trans, OnlyReads-wider, reads-then, reads-wider, answers-err, answers-ok}
 use Rattle.collection_reader.proofs.Breaks.{docs-none}
 use Rattle.collection_reader.proofs.Begun.{begun-claim, begun-there}
 use Rattle.collection_reader.proofs.Documents.{AreDocuments}
-use Rattle.collection_reader.proofs.Starts.{docs-is, freqs-is, docs-not_freqs, freqs-not_docs, sizes-not_docs, sizes-not_freqs}
+use Rattle.collection_reader.proofs.Starts.{docs-is, freqs-is, docs-listed, freqs-listed, docs-not_freqs, freqs-not_docs, sizes-not_docs, sizes-not_freqs}
 
 match-weaker : (P : Type 0) {Q R : Type 0} (b : Bool) → (Q → R) → MatchBool b P Q → MatchBool b P R
 match-weaker P true w h = h
@@ -73,6 +73,9 @@ look_refused r mid ds fs a b e look = record {
   refusal = refl;
   first_fault = λ t fault h. absurd (look.no_fault fault h);
   depot = reads-wider docs-is look.depot;
+  unchanged = (refl, refl);
+  fault_term = λ fault h. absurd (look.no_fault fault h);
+  slots = OnlyReads-wider docs-listed look.depot.only;
 }
 
 -- the documents are refused
@@ -89,6 +92,9 @@ documents_refused r mid last ds fs a b c e few look docs = record {
       let broken = docs.first_fault (look.depot.only.tells ∙ t) fault (same-fault {A = Bool} {B = Unit {0}} e fault h) in
       next-fault r mid a b fault few look t (list-fault-docs r.format r.documents r.lists (rests r a).docs (rests r a).freqs fault (subst (λ bytes. IsDocsFault r.documents r.lists bytes fault) (look.same_rest t) broken));
   depot = reads-wider docs-is (reads-then look.depot (answers-err {A = Unit {0}} {B = Bool} e docs.depot));
+  unchanged = (refl, refl);
+  fault_term = λ fault h. docs.fault_term fault (same-fault {A = Bool} {B = Unit {0}} e fault h);
+  slots = OnlyReads-wider docs-listed (OnlyReads-trans look.depot.only docs.depot.only);
 }
 
 -- the documents of a list, before its frequencies are read
@@ -118,6 +124,9 @@ frequencies_refused r mid last flast ds fs a b c d e fits few look docs freqs = 
       let bytes = sym (docs.rest u) ∙ look.same_rest t in
       next-fault r mid a b fault few look t (subst (λ bytes. IsListFault r.format r.documents r.lists bytes (rests r a).freqs fault) bytes (list-fault-freqs r.format r.documents r.lists ds (rest_of last c Docs) (rests r a).freqs fault (good-documents r.documents r.lists mid last ds b c fits docs) docs.few broken_here));
   depot = reads-then (reads-wider docs-is (reads-then look.depot docs.depot)) (reads-wider freqs-is (answers-err {A = Unit {0}} {B = Bool} e freqs.depot));
+  unchanged = (refl, refl);
+  fault_term = λ fault h. freqs.fault_term fault (same-fault {A = Bool} {B = Unit {0}} e fault h);
+  slots = OnlyReads-trans (OnlyReads-wider docs-listed (OnlyReads-trans look.depot.only docs.depot.only)) (OnlyReads-wider freqs-listed freqs.depot.only);
 }
 
 -- the list that was read
@@ -156,4 +165,7 @@ list_read r mid last flast ds fs a b c d few look docs freqs = record {
   refusal = refl;
   first_fault = λ t fault h. cc;
   depot = reads-then (reads-wider docs-is (reads-then look.depot docs.depot)) (reads-wider freqs-is (answers-ok {B = Bool} true freqs.depot));
+  unchanged = tt;
+  fault_term = λ fault h. cc;
+  slots = OnlyReads-trans (OnlyReads-wider docs-listed (OnlyReads-trans look.depot.only docs.depot.only)) (OnlyReads-wider freqs-listed freqs.depot.only);
 }

@@ -1,14 +1,15 @@
-use Rattle.std.specs.Prelude.{◌≡◌, ℕ, ◌^◌, ◌<◌, Bool, true, false, IsTrue, List, [], ◌∷◌, ◌++◌, Result, Ok, Err}
+use Rattle.std.specs.Prelude.{◌≡◌, ℕ, ◌^◌, ◌<◌, true, false, IsTrue, List, [], ◌∷◌, ◌++◌, Ok, Err}
 use Rattle.std.specs.List.{All}
 use Rattle.collection_model.specs.FormatNumbers.{FormatNumbers}
-use Rattle.collection_model.specs.Collection.{Posting, Collection, postings_of}
+use Rattle.collection_model.specs.Collection.{Posting, postings_of}
 use Rattle.pef_io.specs.DepotState.{DepotState}
 use Rattle.collection_reader.specs.declared.fault.CollError.{CollError}
 use Rattle.collection_reader.specs.declared.fault.CollError.TheVariants.{NoMemory}
 use Rattle.collection_reader.specs.declared.phase.Phase.{Phase}
 use Rattle.collection_reader.specs.declared.phase.Phase.TheVariants.{Lists, Ended}
+use Rattle.collection_reader.specs.Starting.{AreStarted}
 use Rattle.collection_reader.specs.ReadCollection.{ReadsCollection}
-use Rattle.collection_reader.specs.Reading.{Reading, rests, AreStarted, StartsReading, ReadsList, ReadsSizes}
+use Rattle.collection_reader.specs.Reading.{Reading, rests, StartsReading, ReadsList, ReadsSizes}
 use Rattle.collection_reader.specs.ReadLists.{HaveBeenRead}
 
 -- A reader was started under the base, and has read these lists since; it is in this phase.

@@ -1,11 +1,11 @@
-use Rattle.std.specs.Prelude.{◌≡◌, ◌≢◌, ◌↔◌, Option, None, Some}
+use Rattle.std.specs.Prelude.{◌≡◌, ◌≢◌, ◌↔◌, ℕ, List, Option, None, Some}
 use Rattle.collection_model.specs.FormatNumbers.{FormatNumbers}
 use Rattle.collection_model.specs.Bytes.{AreBytes}
-use Rattle.collection_model.specs.Collection.{Collection, WellFormed}
+use Rattle.collection_model.specs.Collection.{Posting, Collection, WellFormed}
 use Rattle.collection_model.specs.Spelling.{Files, spelled}
 use Rattle.collection_reader.specs.declared.fault.Rule.TheVariants.{C3}
 use Rattle.collection_reader.specs.declared.fault.Fault.{Fault}
-use Rattle.collection_reader.specs.FirstFault.{IsFirstFault}
+use Rattle.collection_reader.specs.FirstFault.{IsFront, head_fault, IsFirstFault}
 
 -- files of bytes
 pub record AreFilesOfBytes (files : Files) : Type 0 where
@@ -29,3 +29,9 @@ OneFirstFault format = (files : Files) (f g : Option Fault) → IsFirstFault for
 -- That there are too many documents is never the first fault, where the file of documents is of bytes.
 abbrev pub NeverTooManyDocuments : FormatNumbers → Type 0
 NeverTooManyDocuments format = (files : Files) → AreBytes files.docs → (fault : Fault) → IsFirstFault format files (Some fault) → fault.rule ≢ C3
+
+-- The head has no fault exactly where there is a front, where the file of documents is of bytes.
+abbrev pub NoHeadFaultMeansFront : FormatNumbers → Type 0
+NoHeadFaultMeansFront format =
+    (files : Files) → AreBytes files.docs →
+    (head_fault format files.docs ≡ None) ↔ ((n : ℕ) × (lists : List (List Posting)) × (docs : List ℕ) × (freqs : List ℕ) × IsFront format files n lists docs freqs)

@@ -1,5 +1,6 @@
 pub mod Held
 pub mod FirstFault
+pub mod Starting
 pub mod ReadCollection
 pub mod Laws
 pub mod Reading

@@ -1,5 +1,7 @@
 use Rattle.std.specs.Prelude.{◌≡◌, ℕ, Bool, ◌^◌, ◌<◌, ◌⊎◌, true, false, IsTrue, List, [], ◌∷◌, ◌++◌, length, Result, Ok, Err, IfOk, OnOk}
 use Rattle.collection_model.specs.Bytes.{le32}
+use Rattle.pef_io.specs.declared.fail.IoFail.{IoFail}
+use Rattle.pef_io.specs.declared.fail.IoFail.TheVariants.{Failed, NoMemory}
 use Rattle.pef_io.specs.declared.fail.Slot.{Slot}
 use Rattle.pef_io.specs.Calls.{Rose}
 use Rattle.pef_io.specs.DepotState.{DepotState, OnlyReads}
@@ -7,6 +9,7 @@ use Rattle.collection_reader.specs.declared.fault.Rule.TheVariants.{C1}
 use Rattle.collection_reader.specs.declared.fault.Fault.{Fault}
 use Rattle.collection_reader.specs.declared.fault.CollError.{CollError}
 use Rattle.collection_reader.specs.declared.fault.CollError.TheVariants.{Broken, Read}
+use Rattle.collection_reader.specs.declared.fault.CollError.TheVariants as reading
 use Rattle.collection_reader.specs.declared.position.Position.{Position}
 
 -- what is left of a file: the bytes held, and then those that its slot has left
@@ -16,6 +19,11 @@ rest_of held depot slot = held ++ depot.left slot
 -- the fault at a position where a number is needed and fewer than four bytes are left
 abbrev pub cut_at : Position → Fault
 cut_at at = record { rule = C1; file = at.file; term = at.term; place = at.place }
+
+-- the refusal that comes of a call on a slot that was refused
+abbrev pub call_error : Slot → IoFail → CollError
+call_error slot Failed = Read slot
+call_error slot NoMemory = reading.NoMemory
 
 -- Only these slots are read. A read fault comes only where that slot's count rose, and a count rises only there.
 pub record ReadsFrom {A : Type 0} (touched : Slot → Type 0) (old new : DepotState) (result : Result A CollError) : Type 0 where

@@ -1,14 +1,15 @@
-use Rattle.std.specs.Prelude.{◌≡◌, ℕ, Bool, true, false, IsTrue, List, [], length, Result, Ok, Err, OnOk, Some}
+use Rattle.std.specs.Prelude.{◌≡◌, ℕ, Bool, true, false, IsTrue, List, [], length, Result, Ok, Err, IfErr, OnOk, OnErr, Some}
 use Rattle.collection_model.specs.Bytes.{number_sequence}
 use Rattle.pef_io.specs.declared.fail.Slot.{Slot}
 use Rattle.pef_io.specs.declared.fail.Slot.TheVariants.{Docs, Freqs, Sizes}
-use Rattle.pef_io.specs.DepotState.{DepotState, bytes_under}
+use Rattle.pef_io.specs.DepotState.{DepotState, OnlyReads, bytes_under}
 use Rattle.collection_reader.specs.declared.fault.Fault.{Fault}
 use Rattle.collection_reader.specs.declared.fault.CollError.{CollError}
 use Rattle.collection_reader.specs.declared.fault.CollError.TheVariants.{Broken}
 use Rattle.collection_reader.specs.FirstFault.{end_fault}
+use Rattle.collection_reader.specs.Starting.{AreStarted, StartsInOrder}
 use Rattle.collection_reader.specs.ReadCollection.{files_at, IsCollectionSlot}
-use Rattle.collection_reader.specs.Reading.{Reading, rests, AreStarted, IsNextFault, GivesList, EndsLists}
+use Rattle.collection_reader.specs.Reading.{Reading, rests, IsListSlot, IsEndSlot, IsNextFault, GivesList, EndsLists}
 use Rattle.collection_reader.specs.OneFile.{ReadsFrom}
 
 -- One file is started under this name.
@@ -26,6 +27,7 @@ pub record StartsFiles (base : List ℕ) (old new : DepotState) (result : Result
   pub sizes : IsTrue old.tells → OnOk result (new.left Sizes ≡ (files_at old base).sizes)
   pub no_fault : (fault : Fault) → result ≡ Err (Broken fault) → ⊥
   pub depot : ReadsFrom IsCollectionSlot old new result
+  pub in_order : IfErr result (StartsInOrder old new)
 
 -- The next list is tried, by a reader that keeps no refusal yet.
 pub record TriesList (old new : Reading) (before after : DepotState) (docs freqs : List ℕ) (result : Result Bool CollError) : Type 0 where
@@ -37,6 +39,9 @@ pub record TriesList (old new : Reading) (before after : DepotState) (docs freqs
   pub refusal : new.refusal ≡ old.refusal
   pub first_fault : IsTrue before.tells → (fault : Fault) → result ≡ Err (Broken fault) → IsNextFault old.format old.documents old.lists (rests old before) fault
   pub depot : ReadsFrom IsCollectionSlot before after result
+  pub unchanged : OnErr result ((new.phase ≡ old.phase) × (new.lists ≡ old.lists))
+  pub fault_term : (fault : Fault) → result ≡ Err (Broken fault) → fault.term ≡ old.lists
+  pub slots : OnlyReads IsListSlot before after
 
 -- The end is tried, by a reader that keeps no refusal yet.
 pub record TriesEnd (old new : Reading) (before after : DepotState) (sizes : List ℕ) (result : Result (Unit {0}) CollError) : Type 0 where
@@ -52,3 +57,6 @@ pub record TriesEnd (old new : Reading) (before after : DepotState) (sizes : Lis
   pub refusal : new.refusal ≡ old.refusal
   pub first_fault : IsTrue before.tells → (fault : Fault) → result ≡ Err (Broken fault) → end_fault old.documents old.lists (rests old before).freqs (rests old before).sizes ≡ Some fault
   pub depot : ReadsFrom IsCollectionSlot before after result
+  pub phase : new.phase ≡ old.phase
+  pub fault_term : (fault : Fault) → result ≡ Err (Broken fault) → fault.term ≡ old.lists
+  pub slots : OnlyReads IsEndSlot before after

@@ -32,6 +32,7 @@ pub record ReadsHead (format : FormatNumbers) (held held_after : List ℕ) (old 
   pub rest : IsTrue old.tells → IfOk result (λ n. rest_of held old Docs ≡ head_bytes n ++ rest_of held_after new Docs)
   pub first_fault : IsTrue old.tells → (fault : Fault) → result ≡ Err (Broken fault) → head_fault format (rest_of held old Docs) ≡ Some fault
   pub depot : ReadsFrom (λ s. s ≡ Docs) old new result
+  pub fault_term : (fault : Fault) → result ≡ Err (Broken fault) → fault.term ≡ 0
 
 -- The documents of term t are read, or the first fault among them is found.
 pub record ReadsDocuments (n t : ℕ) (held held_after : List ℕ) (old new : DepotState) (docs : List ℕ) (result : Result (Unit {0}) CollError) : Type 0 where
@@ -41,6 +42,7 @@ pub record ReadsDocuments (n t : ℕ) (held held_after : List ℕ) (old new : De
   pub rest : IsTrue old.tells → OnOk result (rest_of held old Docs ≡ number_sequence docs ++ rest_of held_after new Docs)
   pub first_fault : IsTrue old.tells → (fault : Fault) → result ≡ Err (Broken fault) → IsDocsFault n t (rest_of held old Docs) fault
   pub depot : ReadsFrom (λ s. s ≡ Docs) old new result
+  pub fault_term : (fault : Fault) → result ≡ Err (Broken fault) → fault.term ≡ t
 
 -- The frequencies of term t are read, as many as its documents, or the first fault among them is found.
 pub record ReadsFrequencies (format : FormatNumbers) (t expected : ℕ) (held held_after : List ℕ) (old new : DepotState) (freqs : List ℕ) (result : Result (Unit {0}) CollError) : Type 0 where
@@ -51,6 +53,7 @@ pub record ReadsFrequencies (format : FormatNumbers) (t expected : ℕ) (held he
   pub rest : IsTrue old.tells → OnOk result (rest_of held old Freqs ≡ number_sequence freqs ++ rest_of held_after new Freqs)
   pub first_fault : IsTrue old.tells → (fault : Fault) → result ≡ Err (Broken fault) → IsFreqsFault format t expected (rest_of held old Freqs) fault
   pub depot : ReadsFrom (λ s. s ≡ Freqs) old new result
+  pub fault_term : (fault : Fault) → result ≡ Err (Broken fault) → fault.term ≡ t
 
 -- The sizes are read to the end of their file, or the first fault behind the lists is found, where the frequencies are used up.
 pub record ReadsToEnd (n t : ℕ) (held held_after : List ℕ) (old new : DepotState) (sizes : List ℕ) (result : Result (Unit {0}) CollError) : Type 0 where
@@ -59,3 +62,4 @@ pub record ReadsToEnd (n t : ℕ) (held held_after : List ℕ) (old new : DepotS
   pub none_left : IsTrue old.tells → OnOk result (rest_of held_after new Sizes ≡ [])
   pub first_fault : IsTrue old.tells → (fault : Fault) → result ≡ Err (Broken fault) → end_fault n t [] (rest_of held old Sizes) ≡ Some fault
   pub depot : ReadsFrom (λ s. s ≡ Sizes) old new result
+  pub fault_term : (fault : Fault) → result ≡ Err (Broken fault) → fault.term ≡ t

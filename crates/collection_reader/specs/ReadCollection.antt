@@ -1,4 +1,4 @@
-use Rattle.std.specs.Prelude.{◌≡◌, ◌≢◌, ◌⊎◌, ℕ, List, ◌++◌, IsTrue, codes, Some, Result, Ok, Err, IfOk}
+use Rattle.std.specs.Prelude.{◌≡◌, ◌≢◌, ◌⊎◌, ℕ, List, ◌++◌, IsTrue, codes, Some, Result, Ok, Err, IfOk, IfErr}
 use Rattle.collection_model.specs.FormatNumbers.{FormatNumbers}
 use Rattle.collection_model.specs.Collection.{Collection, WellFormed}
 use Rattle.collection_model.specs.Spelling.{Files, spelled}
@@ -10,6 +10,7 @@ use Rattle.collection_reader.specs.declared.fault.Fault.{Fault}
 use Rattle.collection_reader.specs.declared.fault.CollError.{CollError}
 use Rattle.collection_reader.specs.declared.fault.CollError.TheVariants.{Broken, Read}
 use Rattle.collection_reader.specs.FirstFault.{IsFirstFault}
+use Rattle.collection_reader.specs.Starting.{StartsInOrder}
 
 -- the bytes of the three files of a collection in a depot
 abbrev pub files_at : DepotState → List ℕ → Files
@@ -29,3 +30,4 @@ pub record ReadsCollection (format : FormatNumbers) (old new : DepotState) (base
   pub read_only_where_it_rose : (slot : Slot) → result ≡ Err (Read slot) → IsCollectionSlot slot × Rose (old.faults slot) (new.faults slot)
   pub count_rises_only_there : (slot : Slot) → (result ≡ Err (Read slot)) ⊎ (new.faults slot ≡ old.faults slot)
   pub reads : OnlyReads IsCollectionSlot old new
+  pub in_order : IfErr result (StartsInOrder old new)

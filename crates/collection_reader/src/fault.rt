@@ -1,6 +1,6 @@
 ghost use Rattle.std.specs.Prelude.{◌≡◌};
 
-use pef_io::Slot;
+use pef_io::{IoFail, Slot};
 use std::alloc::{AllocError, AllocFailed};
 
 /// The rules of a collection's files.
@@ -35,18 +35,39 @@ pub enum Rule {
 /// The first rule that breaks, and where.
 #[derive(Clone, Copy, Debug, PartialEq, Eq)]
 pub struct Fault {
+    /// The rule that breaks.
     pub rule: Rule,
+    /// The file in which it breaks.
     pub file: Slot,
+    /// The term whose list breaks it, counted from 0; in the head 0, and behind the lists how many there are.
     pub term: u32,
+    /// The place of the number in its sequence, counted from 0; 0 where the head or a sequence as a whole breaks it.
     pub place: u32,
 }
 
 /// Why there is no collection.
 #[derive(Clone, Copy, Debug, PartialEq, Eq)]
 pub enum CollError {
+    /// The files are of no collection, and this rule breaks first.
     Broken(Fault),
+    /// A start or a read of this slot failed.
     Read(Slot),
+    /// Memory was refused, by the reader or by the depot.
     NoMemory,
+}
+
+impl CollError {
+    ghost use Rattle.collection_reader.specs.OneFile.{call_error};
+
+    /// The refusal where a call on this slot was refused.
+    pub(crate) fn of_call(slot: Slot, fail: IoFail) -> CollError
+        ensures { result ≡ call_error slot fail }
+    {
+        match fail {
+            IoFail::Failed => CollError::Read(slot),
+            IoFail::NoMemory => CollError::NoMemory,
+        }
+    }
 }
 
 impl From<AllocError> for CollError {

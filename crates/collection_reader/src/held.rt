@@ -4,7 +4,7 @@ ghost use Rattle.collection_reader.specs.OneFile.{LooksAhead, TakesByte, TakesNu
 
 use crate::fault::{CollError, Rule};
 use crate::position::Position;
-use pef_io::{Depot, IoFail, Slot};
+use pef_io::{Depot, Slot};
 use std::alloc::{AllocError, Global};
 use std::marker::Model;
 
@@ -13,7 +13,7 @@ const PIECE_BYTES: usize = 8_192;
 
 /// A piece of a file, of which the bytes from `used` to `end` are still to be used.
 #[derive(Drop)]
-pub struct Held {
+pub(crate) struct Held {
     piece: Vec<u8>,
     used: usize,
     end: usize,
@@ -31,7 +31,7 @@ impl Model for Held {
 
 impl Held {
     /// Takes the room of one piece.
-    pub fn new(alloc: Global) -> Result<Held, AllocError>
+    pub(crate) fn new(alloc: Global) -> Result<Held, AllocError>
         ensures { IfOk result (λ held. held ≡ []) }
     {
         Ok(Held {
@@ -42,7 +42,11 @@ impl Held {
     }
 
     /// Whether the file has a byte left. Reads a piece where none is held.
-    pub fn has_byte<D: Depot>(&mut self, slot: Slot, depot: &mut D) -> Result<bool, CollError>
+    pub(crate) fn has_byte<D: Depot>(
+        &mut self,
+        slot: Slot,
+        depot: &mut D,
+    ) -> Result<bool, CollError>
         requires { IsTrue ((D.state depot.old).started slot) }
         ensures { LooksAhead slot self.old self.new (D.state depot.old) (D.state depot.new) result }
     {
@@ -55,13 +59,12 @@ impl Held {
                 self.end = count;
                 Ok(count > 0)
             }
-            Err(IoFail::Failed) => Err(CollError::Read(slot)),
-            Err(IoFail::NoMemory) => Err(CollError::NoMemory),
+            Err(fail) => Err(CollError::of_call(slot, fail)),
         }
     }
 
     /// The next byte of the file at this position.
-    pub fn byte<D: Depot>(&mut self, at: Position, depot: &mut D) -> Result<u8, CollError>
+    pub(crate) fn byte<D: Depot>(&mut self, at: Position, depot: &mut D) -> Result<u8, CollError>
         requires { IsTrue ((D.state depot.old).started at.file) }
         ensures { TakesByte at self.old self.new (D.state depot.old) (D.state depot.new) result }
     {
@@ -74,7 +77,7 @@ impl Held {
     }
 
     /// The next number of the file, which stands at this position.
-    pub fn number<D: Depot>(&mut self, at: Position, depot: &mut D) -> Result<u32, CollError>
+    pub(crate) fn number<D: Depot>(&mut self, at: Position, depot: &mut D) -> Result<u32, CollError>
         requires { IsTrue ((D.state depot.old).started at.file) }
         ensures { TakesNumber at self.old self.new (D.state depot.old) (D.state depot.new) result }
     {

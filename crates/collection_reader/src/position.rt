@@ -6,15 +6,15 @@ use pef_io::Slot;
 
 /// A place in a sequence of a term's file, counted from 0.
 #[derive(Clone, Copy)]
-pub struct Position {
-    pub file: Slot,
-    pub term: u32,
-    pub place: u32,
+pub(crate) struct Position {
+    pub(crate) file: Slot,
+    pub(crate) term: u32,
+    pub(crate) place: u32,
 }
 
 impl Position {
     /// The refusal of a collection that breaks this rule here.
-    pub fn breaks(self, rule: Rule) -> CollError
+    pub(crate) fn breaks(self, rule: Rule) -> CollError
         ensures { result ≡ Broken (record { rule = rule; file = self.file; term = self.term; place = self.place }) }
     {
         CollError::Broken(Fault {

@@ -1,6 +1,7 @@
 ghost use Rattle.std.specs.Prelude.{◌≡◌, ◌≢◌, IsTrue, IsSome, ◌↔◌, []};
 ghost use Rattle.collection_reader.specs.declared.phase.Phase.TheVariants.{Lists, Ended};
-ghost use Rattle.collection_reader.specs.Reading.{AreStarted, StartsReading, ReadsList, ReadsSizes};
+ghost use Rattle.collection_reader.specs.Starting.{AreStarted};
+ghost use Rattle.collection_reader.specs.Reading.{StartsReading, ReadsList, ReadsSizes};
 ghost use Rattle.collection_reader.specs.OneReader.{TriesList, TriesEnd};
 ghost use Rattle.part_cost.specs.Formats.{numbers_of};
 

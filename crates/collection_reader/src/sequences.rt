@@ -10,7 +10,11 @@ use part_cost::Format;
 use pef_io::{Depot, Slot};
 
 /// Reads the number of documents at the head of the file of documents, at most as many as the format has room for.
-pub fn read_head<D: Depot>(held: &mut Held, depot: &mut D, format: Format) -> Result<u32, CollError>
+pub(crate) fn read_head<D: Depot>(
+    held: &mut Held,
+    depot: &mut D,
+    format: Format,
+) -> Result<u32, CollError>
     requires { IsTrue ((D.state depot.old).started Docs) }
     ensures { ReadsHead (numbers_of format) held.old held.new (D.state depot.old) (D.state depot.new) result }
 {
@@ -30,7 +34,7 @@ pub fn read_head<D: Depot>(held: &mut Held, depot: &mut D, format: Format) -> Re
 }
 
 /// Reads the documents of a term, which lie below `documents`.
-pub fn read_documents<D: Depot>(
+pub(crate) fn read_documents<D: Depot>(
     held: &mut Held,
     depot: &mut D,
     term: u32,
@@ -64,7 +68,7 @@ pub fn read_documents<D: Depot>(
 }
 
 /// Reads the frequencies of a term, as many as it has documents, whose sum is within the format's greatest.
-pub fn read_frequencies<D: Depot>(
+pub(crate) fn read_frequencies<D: Depot>(
     held: &mut Held,
     depot: &mut D,
     format: Format,
@@ -102,7 +106,7 @@ pub fn read_frequencies<D: Depot>(
 }
 
 /// Reads the sizes of all documents, behind the lists of `terms` terms, to the end of their file.
-pub fn read_sizes<D: Depot>(
+pub(crate) fn read_sizes<D: Depot>(
     held: &mut Held,
     depot: &mut D,
     terms: u32,

@@ -2,7 +2,7 @@ ghost use Rattle.std.specs.Prelude.{◌++◌};
 ghost use Rattle.collection_reader.specs.OneReader.{StartsFile, StartsFiles};
 
 use crate::fault::CollError;
-use pef_io::{Depot, IoFail, Slot};
+use pef_io::{Depot, Slot};
 use std::alloc::Global;
 
 /// Starts the file whose name is `base` with this ending.
@@ -18,13 +18,16 @@ fn start_file<D: Depot>(
     let name = format!(in alloc; "{base}{ending}")?;
     match depot.start(slot, name.as_str()) {
         Ok(()) => Ok(()),
-        Err(IoFail::Failed) => Err(CollError::Read(slot)),
-        Err(IoFail::NoMemory) => Err(CollError::NoMemory),
+        Err(fail) => Err(CollError::of_call(slot, fail)),
     }
 }
 
 /// Starts the three files of a collection.
-pub fn start_files<D: Depot>(alloc: Global, base: &str, depot: &mut D) -> Result<(), CollError>
+pub(crate) fn start_files<D: Depot>(
+    alloc: Global,
+    base: &str,
+    depot: &mut D,
+) -> Result<(), CollError>
     ensures { StartsFiles base.now (D.state depot.old) (D.state depot.new) result }
 {
     start_file(alloc, base, ".docs", Slot::Docs, depot)?;

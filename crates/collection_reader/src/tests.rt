@@ -175,6 +175,11 @@ fn collections_are_broken_in_both_formats(rt: HostRuntime) -> Result<(), Fail> {
             broken(Rule::C1, Slot::Sizes, 0, 0),
         ),
         (
+            in_files(&[1, 3, 4_294_967_295], one.freqs, one.sizes),
+            whole,
+            broken(Rule::C1, Slot::Docs, 0, 0),
+        ),
+        (
             in_files(&[1, 5, 2, 4, 4], &[2, 1, 1], &[5, 0, 0, 0, 0, 0]),
             whole,
             broken(Rule::C5, Slot::Docs, 0, 1),
@@ -250,7 +255,8 @@ fn the_first_format_has_fewer_documents(rt: HostRuntime) -> Result<(), Fail> {
     let alloc = rt.alloc();
     for documents in [268_435_456, 4_294_967_295] {
         let docs = [1, documents];
-        let head = in_files(&docs, &[], &[]);
+        let sizes = [documents];
+        let head = in_files(&docs, &[], &sizes);
         let in_one = documents_read(alloc, &mut depot(alloc, &head)?, Format::One);
         assert_eq!(rt; in_one, broken(Rule::C3, Slot::Docs, 0, 0), "{documents}");
         let in_two = documents_read(alloc, &mut depot(alloc, &head)?, Format::Two);

@@ -2,7 +2,7 @@ ghost use Rattle.std.specs.Prelude.{◌≡◌, ◌<◌, ◌^◌, All};
 ghost use Rattle.collection_reader.specs.Held.{lists_held, AreAligned};
 ghost use Rattle.collection_reader.specs.ReadCollection.{ReadsCollection};
 ghost use Rattle.collection_reader.specs.ReadLists.{AtFirstList, ReadsLists};
-ghost use Rattle.collection_reader.specs.Reading.{AreStarted};
+ghost use Rattle.collection_reader.specs.Starting.{AreStarted};
 ghost use Rattle.part_cost.specs.Formats.{numbers_of};
 
 use crate::collection::Collection;

@@ -8,10 +8,15 @@ use crate::per_slot::PerSlot;
 /// A kind of call of a depot, each counted for itself.
 #[derive(Clone, Copy, Debug, PartialEq, Eq)]
 pub enum Op {
+    /// A start of this slot.
     Start(Slot),
+    /// A read from this slot.
     Read(Slot),
+    /// A create of a file.
     Create,
+    /// A write to the file that is created.
     Write,
+    /// The end of the writing.
     Finish,
 }
 

@@ -1,12 +1,13 @@
-ghost use Rattle.std.specs.Prelude.{◌≡◌, ℕ, ◌≤◌, ◌<◌, ◌+◌, IfOk, true, ◌↔◌, min, length, IsErrOf, Contains};
-ghost use Rattle.pef_io.specs.InMemory.{IsNewSource, IsNewSink};
-ghost use Rattle.pef_io.specs.SourceState.{SourceState, Reads};
-ghost use Rattle.pef_io.specs.SinkState.{SinkState, Writes};
+ghost use Rattle.std.specs.Prelude.{◌≡◌, ◌≤◌, IfOk, ◌↔◌, min, length, IsErrOf, Contains};
+ghost use Rattle.pef_io.specs.InMemory.{IsNewSource, IsNewSink, ReadOnce, WrittenOnce};
+ghost use Rattle.pef_io.specs.SourceState.{Reads};
+ghost use Rattle.pef_io.specs.SinkState.{Writes};
 
 use crate::fail::IoFail;
 use crate::steady::{NoMemory, SteadySink, SteadySource};
 use crate::traits::{Sink, Source};
 use std::alloc::Global;
+use std::marker::Model;
 
 /// Bytes in memory, where some reads fail.
 #[derive(Drop)]
@@ -16,13 +17,21 @@ pub struct MemSource {
     faults: u64,
 }
 
+impl Model for MemSource {
+    ghost use Rattle.pef_io.specs.InMemory.{SourceInMemory};
+
+    ghost Value = { SourceInMemory };
+
+    ghost view = { λ s. record { state = record s.source.state { faults = s.faults }; most = s.source.most; fails = s.fails.items; calls = s.source.calls } };
+}
+
 impl MemSource {
     /// A source of these bytes, of which each read moves at most `most`. The reads with the numbers
     /// `fails` fail, counted from 1.
     pub fn new(bytes: Vec<u8>, most: usize, fails: Vec<u64>) -> MemSource
         requires { 1 ≤ most }
-        ensures fresh { IsNewSource bytes.items (⟦<MemSource as Source>⟧.state result) }
-        ensures made { (result.source.most ≡ most) × (result.source.calls ≡ 0) × (result.fails ≡ fails) }
+        ensures fresh { IsNewSource bytes.items result.state }
+        ensures made { (result.most ≡ most) × (result.fails ≡ fails.items) × (result.calls ≡ 0) }
     {
         MemSource {
             source: SteadySource::new(bytes, most),
@@ -33,24 +42,24 @@ impl MemSource {
 
     /// How often it was read.
     pub fn calls(&self) -> u64
-        ensures { result ≡ self.now.source.calls }
+        ensures { result ≡ self.now.calls }
     {
-        self.source.calls
+        self.source.calls()
     }
 }
 
 impl Source for MemSource {
-    ghost state = { λ s. record (⟦<SteadySource as Source>⟧.state s.source) { faults = s.faults } };
+    ghost state = { λ s. s.state };
 
     fn read(&mut self, buf: &mut [u8]) -> Result<usize, IoFail>
-        ensures reads { Reads (⟦<MemSource as Source>⟧.state self.old) (⟦<MemSource as Source>⟧.state self.new) buf.old buf.new result }
-        ensures moved { IfOk result (λ n. n ≡ min (min (length (⟦<MemSource as Source>⟧.state self.old).left) (length buf.old)) self.old.source.most) }
-        ensures fails_where_listed { IsErrOf result IoFail.Failed ↔ Contains self.old.fails.items self.new.source.calls }
-        ensures counted { self.new.source.calls ≡ min (self.old.source.calls + 1) u64.MAX }
+        ensures reads { Reads self.old.state self.new.state buf.old buf.new result }
+        ensures moved { IfOk result (λ n. n ≡ min (min (length self.old.state.left) (length buf.old)) self.old.most) }
+        ensures fails_where_listed { IsErrOf result IoFail.Failed ↔ Contains self.old.fails self.new.calls }
+        ensures counted { ReadOnce self.old self.new }
     {
-        let number = self.source.calls.saturating_add(1);
+        let number = self.source.calls().saturating_add(1);
         if self.fails.contains(&number) {
-            self.source.calls = number;
+            self.source.count_call();
             self.faults = self.faults.saturating_add(1);
             return Err(IoFail::Failed);
         }
@@ -66,13 +75,21 @@ pub struct MemSink {
     faults: u64,
 }
 
+impl Model for MemSink {
+    ghost use Rattle.pef_io.specs.InMemory.{SinkInMemory};
+
+    ghost Value = { SinkInMemory };
+
+    ghost view = { λ s. record { state = record s.sink.state { faults = s.faults }; most = s.sink.most; fails = s.fails.items; calls = s.sink.calls } };
+}
+
 impl MemSink {
     /// An empty sink, to which each write moves at most `most` bytes. The writes with the numbers
     /// `fails` fail, counted from 1.
     pub fn new(alloc: Global, most: usize, fails: Vec<u64>) -> Result<MemSink, NoMemory>
         requires { 1 ≤ most }
-        ensures fresh { IfOk result (λ s. IsNewSink (⟦<MemSink as Sink>⟧.state s)) }
-        ensures made { IfOk result (λ s. (s.sink.most ≡ most) × (s.sink.calls ≡ 0) × (s.fails ≡ fails)) }
+        ensures fresh { IfOk result (λ s. IsNewSink s.state) }
+        ensures made { IfOk result (λ s. (s.most ≡ most) × (s.fails ≡ fails.items) × (s.calls ≡ 0)) }
     {
         let sink = SteadySink::new(alloc, most)?;
         Ok(MemSink {
@@ -84,31 +101,31 @@ impl MemSink {
 
     /// What was written.
     pub fn bytes(&self) -> &[u8]
-        ensures { result.now ≡ (⟦<MemSink as Sink>⟧.state self.now).written }
+        ensures { result.now ≡ self.now.state.written }
     {
         self.sink.bytes()
     }
 
     /// How often it was written to.
     pub fn calls(&self) -> u64
-        ensures { result ≡ self.now.sink.calls }
+        ensures { result ≡ self.now.calls }
     {
-        self.sink.calls
+        self.sink.calls()
     }
 }
 
 impl Sink for MemSink {
-    ghost state = { λ s. record (⟦<SteadySink as Sink>⟧.state s.sink) { faults = s.faults } };
+    ghost state = { λ s. s.state };
 
     fn write(&mut self, piece: &[u8]) -> Result<usize, IoFail>
-        ensures writes { Writes (⟦<MemSink as Sink>⟧.state self.old) (⟦<MemSink as Sink>⟧.state self.new) piece.now result }
-        ensures moved { IfOk result (λ n. n ≡ min (length piece.now) self.old.sink.most) }
-        ensures fails_where_listed { IsErrOf result IoFail.Failed ↔ Contains self.old.fails.items self.new.sink.calls }
-        ensures counted { self.new.sink.calls ≡ min (self.old.sink.calls + 1) u64.MAX }
+        ensures writes { Writes self.old.state self.new.state piece.now result }
+        ensures moved { IfOk result (λ n. n ≡ min (length piece.now) self.old.most) }
+        ensures fails_where_listed { IsErrOf result IoFail.Failed ↔ Contains self.old.fails self.new.calls }
+        ensures counted { WrittenOnce self.old self.new }
     {
-        let number = self.sink.calls.saturating_add(1);
+        let number = self.sink.calls().saturating_add(1);
         if self.fails.contains(&number) {
-            self.sink.calls = number;
+            self.sink.count_call();
             self.faults = self.faults.saturating_add(1);
             return Err(IoFail::Failed);
         }

@@ -2,8 +2,8 @@ ghost use Rattle.std.specs.Prelude.{◌≡◌, ◌≤◌, ◌↔◌, ◌⊎◌, 
 ghost use Rattle.pef_io.specs.InMemory.{IsNewDepot, file_in};
 ghost use Rattle.pef_io.specs.DepotCalls.{calls_of, CountsCall};
 ghost use Rattle.pef_io.specs.PerSlot.{at_slot};
-ghost use Rattle.pef_io.specs.MemDepot.{FailsNext};
-ghost use Rattle.pef_io.specs.DepotState.{Starts, ReadsSlot, Creates, WritesFile, Finishes};
+ghost use Rattle.pef_io.specs.MemDepot.{FailsNext, KeepsSettings, CountsFault};
+ghost use Rattle.pef_io.specs.DepotState.{SameButCounts, Starts, ReadsSlot, Creates, WritesFile, Finishes};
 ghost use Rattle.pef_io.specs.declared.calls.Op.{Op};
 
 use crate::calls::Op;
@@ -67,6 +67,24 @@ impl MemDepot {
         let number = self.depot.calls(op).saturating_add(1);
         self.fails.contains(&(op, number))
     }
+
+    /// Counts a call of this kind and its fault.
+    fn fail(&mut self, op: Op) -> IoFail
+        ensures failed { result ≡ IoFail.Failed }
+        ensures unchanged { SameButCounts (⟦<MemDepot as Depot>⟧.state self.old) (⟦<MemDepot as Depot>⟧.state self.new) }
+        ensures fault { CountsFault op (⟦<MemDepot as Depot>⟧.state self.old) (⟦<MemDepot as Depot>⟧.state self.new) }
+        ensures counted { CountsCall op self.old.depot.calls self.new.depot.calls }
+        ensures kept { KeepsSettings self.old self.new }
+    {
+        self.depot.calls.count(op);
+        match op {
+            Op::Start(slot) | Op::Read(slot) => self.faults.raise(slot),
+            Op::Create | Op::Write | Op::Finish => {
+                self.writing_faults = self.writing_faults.saturating_add(1);
+            }
+        }
+        IoFail::Failed
+    }
 }
 
 impl Depot for MemDepot {
@@ -76,12 +94,11 @@ impl Depot for MemDepot {
         ensures starts { Starts (⟦<MemDepot as Depot>⟧.state self.old) (⟦<MemDepot as Depot>⟧.state self.new) slot name.now result }
         ensures fails_where_listed { IsErrOf result IoFail.Failed ↔ (FailsNext self.old (Op.Start slot) ⊎ (file_in self.old.depot.files.list.items name.now ≡ None)) }
         ensures counted { CountsCall (Op.Start slot) self.old.depot.calls self.new.depot.calls }
+        ensures kept { KeepsSettings self.old self.new }
     {
         let op = Op::Start(slot);
         if self.fails_next(op) || self.depot.file(name).is_none() {
-            self.depot.calls.count(op);
-            self.faults.raise(slot);
-            return Err(IoFail::Failed);
+            return Err(self.fail(op));
         }
         self.depot.start(slot, name)
     }
@@ -92,12 +109,11 @@ impl Depot for MemDepot {
         ensures moved { IfOk result (λ n. n ≡ min (min (length ((⟦<MemDepot as Depot>⟧.state self.old).left slot)) (length buf.old)) self.old.depot.most) }
         ensures fails_where_listed { IsErrOf result IoFail.Failed ↔ FailsNext self.old (Op.Read slot) }
         ensures counted { CountsCall (Op.Read slot) self.old.depot.calls self.new.depot.calls }
+        ensures kept { KeepsSettings self.old self.new }
     {
         let op = Op::Read(slot);
         if self.fails_next(op) {
-            self.depot.calls.count(op);
-            self.faults.raise(slot);
-            return Err(IoFail::Failed);
+            return Err(self.fail(op));
         }
         self.depot.read(slot, buf)
     }
@@ -106,11 +122,10 @@ impl Depot for MemDepot {
         ensures creates { Creates (⟦<MemDepot as Depot>⟧.state self.old) (⟦<MemDepot as Depot>⟧.state self.new) name.now result }
         ensures fails_where_listed { IsErrOf result IoFail.Failed ↔ FailsNext self.old Op.Create }
         ensures counted { CountsCall Op.Create self.old.depot.calls self.new.depot.calls }
+        ensures kept { KeepsSettings self.old self.new }
     {
         if self.fails_next(Op::Create) {
-            self.depot.calls.count(Op::Create);
-            self.writing_faults = self.writing_faults.saturating_add(1);
-            return Err(IoFail::Failed);
+            return Err(self.fail(Op::Create));
         }
         self.depot.create(name)
     }
@@ -121,11 +136,10 @@ impl Depot for MemDepot {
         ensures moved { IfOk result (λ n. n ≡ min (length piece.now) self.old.depot.most) }
         ensures fails_where_listed { IsErrOf result IoFail.Failed ↔ FailsNext self.old Op.Write }
         ensures counted { CountsCall Op.Write self.old.depot.calls self.new.depot.calls }
+        ensures kept { KeepsSettings self.old self.new }
     {
         if self.fails_next(Op::Write) {
-            self.depot.calls.count(Op::Write);
-            self.writing_faults = self.writing_faults.saturating_add(1);
-            return Err(IoFail::Failed);
+            return Err(self.fail(Op::Write));
         }
         self.depot.write(piece)
     }
@@ -135,11 +149,10 @@ impl Depot for MemDepot {
         ensures finishes { Finishes (⟦<MemDepot as Depot>⟧.state self.old) (⟦<MemDepot as Depot>⟧.state self.new) result }
         ensures fails_where_listed { IsErrOf result IoFail.Failed ↔ FailsNext self.old Op.Finish }
         ensures counted { CountsCall Op.Finish self.old.depot.calls self.new.depot.calls }
+        ensures kept { KeepsSettings self.old self.new }
     {
         if self.fails_next(Op::Finish) {
-            self.depot.calls.count(Op::Finish);
-            self.writing_faults = self.writing_faults.saturating_add(1);
-            return Err(IoFail::Failed);
+            return Err(self.fail(Op::Finish));
         }
         self.depot.finish()
     }

@@ -1,4 +1,4 @@
-// What the program knows of the outside: sources, sinks and files under names.
+//! What the program knows of the outside: sources, sinks and files under names.
 #![tactic(auto)]
 
 mod calls;

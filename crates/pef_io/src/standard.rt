@@ -1,6 +1,7 @@
-ghost use Rattle.std.specs.Prelude.{◌≡◌, ◌≤◌, ◌<◌, false, [], None, is_some, IfSome, length};
-ghost use Rattle.pef_io.specs.SourceState.{SourceState};
-ghost use Rattle.pef_io.specs.SinkState.{SinkState};
+ghost use Rattle.std.specs.Prelude.{◌≡◌, ◌≤◌, ◌<◌, false, [], None, is_some, IfSome, IfOk, length, take};
+ghost use Rattle.std.specs.Io.KnownBytes.{Appends, ReadConsumes};
+ghost use Rattle.pef_io.specs.SourceState.{SourceState, Reads};
+ghost use Rattle.pef_io.specs.SinkState.{SinkState, Writes};
 ghost use Rattle.pef_io.specs.DepotState.{DepotState};
 ghost use Rattle.pef_io.specs.Standard.{IsUntouched};
 ghost use Rattle.pef_io.specs.PerSlot.{at_slot};
@@ -30,7 +31,10 @@ impl<R: Read> StdSource<R> {
 impl<R: Read> Source for StdSource<R> {
     ghost state = { λ s. record { tells = false; left = []; faults = s.faults } };
 
-    fn read(&mut self, buf: &mut [u8]) -> Result<usize, IoFail> {
+    fn read(&mut self, buf: &mut [u8]) -> Result<usize, IoFail>
+        ensures reads { Reads (⟦<StdSource<R> as Source>⟧.state self.old) (⟦<StdSource<R> as Source>⟧.state self.new) buf.old buf.new result }
+        ensures given { ReadConsumes (R.remaining self.old.reader) (R.remaining self.new.reader) result buf.new }
+    {
         if let Ok(n) = self.reader.read(buf) {
             return Ok(n);
         }
@@ -58,7 +62,10 @@ impl<W: Write> StdSink<W> {
 impl<W: Write> Sink for StdSink<W> {
     ghost state = { λ s. record { tells = false; written = []; faults = s.faults; refusals = 0 } };
 
-    fn write(&mut self, piece: &[u8]) -> Result<usize, IoFail> {
+    fn write(&mut self, piece: &[u8]) -> Result<usize, IoFail>
+        ensures writes { Writes (⟦<StdSink<W> as Sink>⟧.state self.old) (⟦<StdSink<W> as Sink>⟧.state self.new) piece.now result }
+        ensures taken { IfOk result (λ n. Appends (W.contents self.old.writer) (W.contents self.new.writer) (take n piece.now)) }
+    {
         if let Some(n) = write_some(&mut self.writer, piece) {
             return Ok(n);
         }
@@ -71,6 +78,7 @@ impl<W: Write> Sink for StdSink<W> {
 fn write_some<W: Write>(writer: &mut W, piece: &[u8]) -> Option<usize>
     ensures within { IfSome result (λ n. n ≤ length piece.now) }
     ensures not_nothing { 0 < length piece.now → IfSome result (λ n. 0 < n) }
+    ensures taken { IfSome result (λ n. Appends (W.contents writer.old) (W.contents writer.new) (take n piece.now)) }
 {
     let n = writer.write(piece).ok()?;
     if n == 0 && !piece.is_empty() {

@@ -1,12 +1,13 @@
-ghost use Rattle.std.specs.Prelude.{◌≡◌, ℕ, ◌≤◌, ◌<◌, ◌+◌, IfOk, IsOk, IsErrOf, true, min, length};
-ghost use Rattle.pef_io.specs.InMemory.{IsNewSource, IsNewSink};
-ghost use Rattle.pef_io.specs.SourceState.{SourceState, Reads};
-ghost use Rattle.pef_io.specs.SinkState.{SinkState, Writes};
+ghost use Rattle.std.specs.Prelude.{◌≡◌, ◌≤◌, ◌+◌, [], IfOk, IsOk, IsErrOf, min, length};
+ghost use Rattle.pef_io.specs.InMemory.{IsNewSource, IsNewSink, ReadOnce, WrittenOnce};
+ghost use Rattle.pef_io.specs.SourceState.{Reads};
+ghost use Rattle.pef_io.specs.SinkState.{Writes};
 
 use crate::fail::IoFail;
 use crate::opened::Opened;
 use crate::traits::{Sink, Source};
 use std::alloc::Global;
+use std::marker::Model;
 
 /// Memory was refused.
 #[derive(Clone, Copy, Debug, PartialEq, Eq)]
@@ -17,16 +18,27 @@ pub struct NoMemory;
 pub struct SteadySource {
     opened: Opened,
     most: usize,
-    pub(crate) calls: u64,
-    ghost moves_some: { 1 ≤ most },
+    calls: u64,
+}
+
+impl Model for SteadySource {
+    ghost use Rattle.std.specs.Prelude.{◌≤◌, true, []};
+    ghost use Rattle.pef_io.specs.InMemory.{SourceInMemory};
+    ghost use Rattle.pef_io.specs.Opened.{rest};
+
+    ghost Value = { SourceInMemory };
+
+    ghost view = { λ s. record { state = record { tells = true; left = rest s.opened; faults = 0 }; most = s.most; fails = []; calls = s.calls } };
+
+    ghost invariant = { λ s. 1 ≤ s.most };
 }
 
 impl SteadySource {
     /// A source of these bytes, of which each read moves at most `most`.
     pub fn new(bytes: Vec<u8>, most: usize) -> SteadySource
         requires { 1 ≤ most }
-        ensures fresh { IsNewSource bytes.items (⟦<SteadySource as Source>⟧.state result) }
-        ensures made { (result.most ≡ most) × (result.calls ≡ 0) }
+        ensures fresh { IsNewSource bytes.items result.state }
+        ensures made { (result.most ≡ most) × (result.fails ≡ []) × (result.calls ≡ 0) }
     {
         SteadySource {
             opened: Opened::new(bytes),
@@ -41,18 +53,24 @@ impl SteadySource {
     {
         self.calls
     }
+
+    /// Counts a read.
+    pub(crate) fn count_call(&mut self)
+        ensures counted { ReadOnce self.old self.new }
+        ensures unread { self.new.state ≡ self.old.state }
+    {
+        self.calls = self.calls.saturating_add(1);
+    }
 }
 
 impl Source for SteadySource {
-    ghost use Rattle.pef_io.specs.Opened.{rest};
-
-    ghost state = { λ s. record { tells = true; left = rest s.opened; faults = 0 } };
+    ghost state = { λ s. s.state };
 
     fn read(&mut self, buf: &mut [u8]) -> Result<usize, IoFail>
-        ensures reads { Reads (⟦<SteadySource as Source>⟧.state self.old) (⟦<SteadySource as Source>⟧.state self.new) buf.old buf.new result }
-        ensures moved { IfOk result (λ n. n ≡ min (min (length (rest self.old.opened)) (length buf.old)) self.old.most) }
+        ensures reads { Reads self.old.state self.new.state buf.old buf.new result }
+        ensures moved { IfOk result (λ n. n ≡ min (min (length self.old.state.left) (length buf.old)) self.old.most) }
         ensures never_fails { IsOk result }
-        ensures counted { self.new.calls ≡ min (self.old.calls + 1) u64.MAX }
+        ensures counted { ReadOnce self.old self.new }
     {
         self.calls = self.calls.saturating_add(1);
         Ok(self.opened.read(buf, self.most))
@@ -65,16 +83,26 @@ pub struct SteadySink {
     bytes: Vec<u8>,
     most: usize,
     refusals: u64,
-    pub(crate) calls: u64,
-    ghost moves_some: { 1 ≤ most },
+    calls: u64,
+}
+
+impl Model for SteadySink {
+    ghost use Rattle.std.specs.Prelude.{◌≤◌, true, []};
+    ghost use Rattle.pef_io.specs.InMemory.{SinkInMemory};
+
+    ghost Value = { SinkInMemory };
+
+    ghost view = { λ s. record { state = record { tells = true; written = s.bytes.items; faults = 0; refusals = s.refusals }; most = s.most; fails = []; calls = s.calls } };
+
+    ghost invariant = { λ s. 1 ≤ s.most };
 }
 
 impl SteadySink {
     /// An empty sink, to which each write moves at most `most` bytes.
     pub fn new(alloc: Global, most: usize) -> Result<SteadySink, NoMemory>
         requires { 1 ≤ most }
-        ensures fresh { IfOk result (λ s. IsNewSink (⟦<SteadySink as Sink>⟧.state s)) }
-        ensures made { IfOk result (λ s. (s.most ≡ most) × (s.calls ≡ 0)) }
+        ensures fresh { IfOk result (λ s. IsNewSink s.state) }
+        ensures made { IfOk result (λ s. (s.most ≡ most) × (s.fails ≡ []) × (s.calls ≡ 0)) }
     {
         Ok(SteadySink {
             bytes: Vec::new(alloc),
@@ -86,7 +114,7 @@ impl SteadySink {
 
     /// What was written.
     pub fn bytes(&self) -> &[u8]
-        ensures { result.now ≡ (⟦<SteadySink as Sink>⟧.state self.now).written }
+        ensures { result.now ≡ self.now.state.written }
     {
         self.bytes.as_slice()
     }
@@ -97,16 +125,24 @@ impl SteadySink {
     {
         self.calls
     }
+
+    /// Counts a write.
+    pub(crate) fn count_call(&mut self)
+        ensures counted { WrittenOnce self.old self.new }
+        ensures unwritten { self.new.state ≡ self.old.state }
+    {
+        self.calls = self.calls.saturating_add(1);
+    }
 }
 
 impl Sink for SteadySink {
-    ghost state = { λ s. record { tells = true; written = s.bytes.items; faults = 0; refusals = s.refusals } };
+    ghost state = { λ s. s.state };
 
     fn write(&mut self, piece: &[u8]) -> Result<usize, IoFail>
-        ensures writes { Writes (⟦<SteadySink as Sink>⟧.state self.old) (⟦<SteadySink as Sink>⟧.state self.new) piece.now result }
+        ensures writes { Writes self.old.state self.new.state piece.now result }
         ensures moved { IfOk result (λ n. n ≡ min (length piece.now) self.old.most) }
         ensures never_fails { IsErrOf result IoFail.Failed → ⊥ }
-        ensures counted { self.new.calls ≡ min (self.old.calls + 1) u64.MAX }
+        ensures counted { WrittenOnce self.old self.new }
     {
         self.calls = self.calls.saturating_add(1);
         let n = piece.len().min(self.most);

@@ -78,6 +78,7 @@ impl Depot for SteadyDepot {
         ensures starts { Starts (⟦<SteadyDepot as Depot>⟧.state self.old) (⟦<SteadyDepot as Depot>⟧.state self.new) slot name.now result }
         ensures never_fails { IsErrOf result IoFail.Failed → ⊥ }
         ensures counted { CountsCall (Op.Start slot) self.old.calls self.new.calls }
+        ensures kept { self.new.most ≡ self.old.most }
     {
         self.calls.count(Op::Start(slot));
         match self.files.copy_of(self.alloc, name) {
@@ -95,6 +96,7 @@ impl Depot for SteadyDepot {
         ensures moved { IfOk result (λ n. n ≡ min (min (length ((⟦<SteadyDepot as Depot>⟧.state self.old).left slot)) (length buf.old)) self.old.most) }
         ensures never_fails { IsErrOf result IoFail.Failed → ⊥ }
         ensures counted { CountsCall (Op.Read slot) self.old.calls self.new.calls }
+        ensures kept { self.new.most ≡ self.old.most }
     {
         self.calls.count(Op::Read(slot));
         let Some(mut opened) = self.opened.replace(slot, None) else {
@@ -109,6 +111,7 @@ impl Depot for SteadyDepot {
         ensures creates { Creates (⟦<SteadyDepot as Depot>⟧.state self.old) (⟦<SteadyDepot as Depot>⟧.state self.new) name.now result }
         ensures never_fails { IsErrOf result IoFail.Failed → ⊥ }
         ensures counted { CountsCall Op.Create self.old.calls self.new.calls }
+        ensures kept { self.new.most ≡ self.old.most }
     {
         self.calls.count(Op::Create);
         match self.files.make_empty(self.alloc, name) {
@@ -126,6 +129,7 @@ impl Depot for SteadyDepot {
         ensures moved { IfOk result (λ n. n ≡ min (length piece.now) self.old.most) }
         ensures never_fails { IsErrOf result IoFail.Failed → ⊥ }
         ensures counted { CountsCall Op.Write self.old.calls self.new.calls }
+        ensures kept { self.new.most ≡ self.old.most }
     {
         self.calls.count(Op::Write);
         let Some(at) = self.created else {
@@ -143,6 +147,7 @@ impl Depot for SteadyDepot {
         ensures finishes { Finishes (⟦<SteadyDepot as Depot>⟧.state self.old) (⟦<SteadyDepot as Depot>⟧.state self.new) result }
         ensures never_fails { IsErrOf result IoFail.Failed → ⊥ }
         ensures counted { CountsCall Op.Finish self.old.calls self.new.calls }
+        ensures kept { self.new.most ≡ self.old.most }
     {
         self.calls.count(Op::Finish);
         self.created = None;

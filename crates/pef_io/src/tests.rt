@@ -220,6 +220,38 @@ fn a_load_reads_its_slot_alone(rt: HostRuntime) {
     }
 }
 
+/// A writer that takes at most two bytes of a piece, and counts how often it is flushed.
+#[derive(Drop)]
+struct ShortWriter {
+    taken: Vec<u8>,
+    flushes: u64,
+}
+
+impl io::Write for ShortWriter {
+    fn write(&mut self, piece: &[u8]) -> io::Result<usize> {
+        let count = piece.len().min(2);
+        self.taken.extend_from_slice(&piece[..count])?;
+        Ok(count)
+    }
+
+    fn flush(&mut self) -> io::Result<()> {
+        self.flushes = self.flushes.saturating_add(1);
+        Ok(())
+    }
+}
+
+#[test]
+fn each_write_to_the_system_is_flushed(rt: HostRuntime) {
+    let mut short = ShortWriter {
+        taken: Vec::new(rt.alloc()),
+        flushes: 0,
+    };
+    let mut out = StdSink::new(&mut short);
+    assert_eq!(rt; write_all_own(&mut out, b"abcde"), Ok(()));
+    assert_eq!(rt; short.taken.as_slice(), b"abcde".as_slice());
+    assert_eq!(rt; short.flushes, 3);
+}
+
 #[test]
 fn the_system_keeps_files(rt: HostRuntime) {
     let mut depot = StdDepot::new(rt);

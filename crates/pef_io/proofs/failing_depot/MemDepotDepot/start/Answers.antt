@@ -1,18 +1,6 @@
-use Rattle.std.proofs.Common.{refl, rules}
+use Rattle.std.proofs.Common.{refl}
+use Rattle.pef_io.proofs.FailedCalls.{failed-start}
 use Rattle.pef_io.proofs.failing_depot.MemDepotDepot.start.Goals as goal
 
 pub returns-then-fails_next-clause-starts : goal.returns-then-fails_next-clause-starts
-returns-then-fails_next-clause-starts c = record {
-  tells = refl;
-  started = tt;
-  whole_file = λ _. tt;
-  other_slots = λ _ _. (refl, λ _. refl);
-  files = λ _ _. refl;
-  writing = (refl, λ _. refl);
-  unchanged = record { files = λ _ _. refl; slots = λ _. (refl, λ _. refl); writing = (refl, λ _. refl) };
-  counts = record {
-    this = record { never_falls = c.raise.ensures.never_falls; failed_only_where_it_rose = λ _. c.raise.ensures.rose; same_at_ok = search rules; same_at_no_memory = search rules };
-    others = c.raise.ensures.others;
-    writing = refl;
-  };
-}
+returns-then-fails_next-clause-starts c = failed-start _ _ c.args.slot c.args.name.now c.fail.result c.fail.ensures.failed refl c.fail.ensures.unchanged c.fail.ensures.fault
