@@ -75,6 +75,7 @@ impl<'a> SeqCursor<'a> {
     }
 
     /// Goes to the next place.
+    #[inline(always)]
     pub fn next(&mut self)
         requires within { self.old.place < length self.old.sequence.values }
         ensures sequence { self.new.sequence ≡ self.old.sequence }
@@ -103,7 +104,7 @@ impl<'a> SeqCursor<'a> {
             return;
         }
         if x <= held.part.last {
-            (self.place, held.value) = held.part.first_at_least(self.place, x);
+            (self.place, held.value) = held.first_at_least(self.place, x);
         } else {
             (self.place, self.held) = first_from_part(
                 self.words,
@@ -130,6 +131,7 @@ impl<'a> SeqCursor<'a> {
     }
 
     // Goes to place k, which may be the end, by its part.
+    #[inline(never)]
     fn jump_to(&mut self, k: u32)
         requires within { k ≤ length self.old.sequence.values }
         ensures sequence { self.new.sequence ≡ self.old.sequence }

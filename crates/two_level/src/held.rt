@@ -15,6 +15,9 @@ use bit_words::Bits;
 use part_codec::{PartCodec, PartView};
 use part_cost::{Format, formats_have_room};
 
+// How many values behind one are looked at one after another before samples are.
+const NEAR: u64 = 4;
+
 // A part of a sequence that is held to be read: which part it is, the places of its first value and behind its last, one
 // past the value before it, its last value, and the view of its relative values.
 #[derive(Clone, Copy)]
@@ -88,6 +91,15 @@ impl<'a> HeldPart<'a> {
         number_in_part(&self.view, place as u64 - self.from) + self.past
     }
 
+    // The first value of the part.
+    fn first(&self) -> u64
+        requires values { (xs : List ℕ) × HoldsValues self.now xs }
+        requires some { self.now.from < self.now.to }
+        ensures { (xs : List ℕ) → HoldsValues self.now xs → result ≡ slice_index xs self.now.from }
+    {
+        first_in_part(&self.view, 0, 0).1 + self.past
+    }
+
     // The value behind a place in the part, by the value at that place.
     pub(crate) fn value_after(&self, place: u32, value: u64) -> u64
         requires values { (xs : List ℕ) × HoldsValues self.now xs × (value ≡ slice_index xs place) }
@@ -100,6 +112,7 @@ impl<'a> HeldPart<'a> {
     }
 
     // The first place at or after one in the part whose value is at least x, and that value.
+    #[inline(never)]
     pub(crate) fn first_at_least(&self, place: u32, x: u64) -> (u32, u64)
         requires values { (xs : List ℕ) × HoldsValues self.now xs }
         requires after { self.now.from ≤ place }
@@ -113,6 +126,49 @@ impl<'a> HeldPart<'a> {
         let least = x.saturating_sub(self.past);
         let (k, number) = first_in_part(&self.view, least, place as u64 - self.from);
         ((self.from + k) as u32, number + self.past)
+    }
+
+    // A place at or after one in the part, only a few behind it, with no value from that one on that is at least x before it;
+    // and the value there.
+    fn step_near(&self, place: u32, value: u64, x: u64) -> (u32, u64)
+        requires values { (xs : List ℕ) × HoldsValues self.now xs × (value ≡ slice_index xs place) }
+        requires after { self.now.from ≤ place }
+        requires before { place < self.now.to }
+        ensures after { place ≤ result.0 }
+        ensures before { result.0 < self.now.to }
+        ensures below { (xs : List ℕ) → HoldsValues self.now xs → value ≡ slice_index xs place → (k : ℕ) → place ≤ k → k < result.0 → slice_index xs k < x }
+        ensures value { (xs : List ℕ) → HoldsValues self.now xs → value ≡ slice_index xs place → result.1 ≡ slice_index xs result.0 }
+    {
+        let end = (u64::from(place) + NEAR).min(self.to - 1);
+        let mut at = place;
+        let mut found = value;
+        'near: while found < x && u64::from(at) < end {
+            found = self.value_after(at, found);
+            at += 1;
+        }
+        (at, found)
+    }
+}
+
+impl<'a> HeldValue<'a> {
+    // The first place at or after this one in the part whose value is at least x, and that value: by the values behind it, and
+    // then by samples.
+    pub(crate) fn first_at_least(&self, place: u32, x: u64) -> (u32, u64)
+        requires values { (xs : List ℕ) × HoldsValues self.now.part xs × (self.now.value ≡ slice_index xs place) }
+        requires after { self.now.part.from ≤ place }
+        requires before { place < self.now.part.to }
+        requires reached { x ≤ self.now.part.last }
+        ensures after { self.now.part.from ≤ result.0 }
+        ensures before { result.0 < self.now.part.to }
+        ensures first { (xs : List ℕ) → HoldsValues self.now.part xs → self.now.value ≡ slice_index xs place → IsFirstAtLeast xs place x result.0 }
+        ensures value { (xs : List ℕ) → HoldsValues self.now.part xs → self.now.value ≡ slice_index xs place → result.1 ≡ slice_index xs result.0 }
+    {
+        let (near, found) = self.part.step_near(place, self.value, x);
+        if x <= found {
+            (near, found)
+        } else {
+            self.part.first_at_least(near, x)
+        }
     }
 }
 
@@ -145,6 +201,7 @@ pub(crate) fn hold<'a>(words: &'a [u64], parts: u32, part: u32, format: Format) 
 }
 
 // Holds the first value of a part of the sequence with which the words begin, and none behind the last part.
+#[inline(never)]
 pub(crate) fn hold_if_any<'a>(
     words: &'a [u64],
     parts: u32,
@@ -160,7 +217,7 @@ pub(crate) fn hold_if_any<'a>(
     directory_states_its_parts();
     if part < parts {
         let part = hold(words, parts, part, format);
-        let value = part.value(part.from as u32);
+        let value = part.first();
         Some(HeldValue { part, value })
     } else {
         None
@@ -210,6 +267,7 @@ pub(crate) fn hold_value<'a>(
 }
 
 // The first place from the start of a part on whose value is at least x, with that value and its part; else the end.
+#[inline(never)]
 pub(crate) fn first_from_part<'a>(
     words: &'a [u64],
     parts: u32,

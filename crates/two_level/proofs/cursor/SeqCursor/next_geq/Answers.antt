@@ -13,7 +13,7 @@ returns-then-x-held-2-clause-place c =
     let xs : List ℕ = (sequence_stated (numbers_of s.format) s.words.now s.parts).values in
     let lies = subst (LiesIn (numbers_of s.format) s.words.now s.parts s.place) c.in-Some.is c.self.invariant.2 in
     subst (λ p. c.first_at_least.result.0 ≡ place_at_least p.sequence.values p.place c.args.x) c.self.view_is
-    (found-first xs s.place c.first_at_least.result.0 c.args.x (c.first_at_least.ensures.first xs lies.0.values))
+    (found-first xs s.place c.first_at_least.result.0 c.args.x (c.first_at_least.ensures.first xs lies.0.values lies.3))
 
 pub returns-else-x-held-2-clause-place : goal.returns-else-x-held-2-clause-place
 returns-else-x-held-2-clause-place c =
