@@ -1,5 +1,5 @@
 use Rattle.std.proofs.Common.{◌≡◌, refl, sym, ap, ◌∙◌, subst, ℕ, ◌+◌, ◌-◌, ◌*◌, ◌^◌, ◌≤◌, ◌<◌, ◌⊎◌, inl, inr, Bool, true, false, Option, Some, None, List, length, get_or, arith}
-use Rattle.std.specs.Prelude.{nat_lt, if◌then◌else◌, IfSome}
+use Rattle.std.specs.Prelude.{nat_lt, if◌then◌else◌, IfSome, IsSomeAnd}
 use Rattle.std.specs.List.{All}
 use Rattle.std.proofs.lemmas.Nat.{mul-le}
 use Rattle.std.proofs.lemmas.Bool.{ltb-true, ltb-false, cases_eq, cases_lt}
@@ -8,7 +8,7 @@ use Rattle.std.proofs.Math.Nat.{eq-or-lt_of_le}
 use Rattle.cost_windows.specs.Windows.{Windows, KeepCosts, StandTogether, window_end}
 use Rattle.partition_path.specs.declared.rival.Rival.{Rival}
 use Rattle.partition_path.specs.declared.routes.Route.{Route}
-use Rattle.partition_path.specs.Tables.{Table, IsSameAt, IsByWindow, AreExtended, ShareCosts, IsOffered, IsRival, route_cost, route_start, cost_to, unreached}
+use Rattle.partition_path.specs.Tables.{Table, IsSameAt, IsByWindow, AreExtended, ShareCosts, IsOffered, IsRival, IsCheapest, route_cost, route_start, cost_to, unreached}
 
 -- what a window that has an end says
 end_from_test : (place p e : ℕ) (t : Bool) → nat_lt place p ≡ t → (if t then Some p else None) ≡ Some e → (place < p) × (p ≡ e)
@@ -72,11 +72,11 @@ rival-kept old new same cheaper None h = tt
 rival-kept old new same cheaper (Some r) h = record { within = omega (arith, same, h.within); cheaper = let c = cheaper r.place in omega (arith, c, h.cheaper) }
 
 -- and so is the place that was offered a route, at what that costs, or an earlier rival
-pub rival-more : (start end total cost : ℕ) (old new : Table) (rival : Option Rival) (chosen : Rival) → IsOffered start end total old new → end < length old → cost ≡ cost_to new end → IfSome rival (λ r. IsRival old r) → (chosen ≡ record { place = end; cost = cost }) ⊎ (rival ≡ Some chosen) → IsRival new chosen
+pub rival-more : (start end total cost : ℕ) (old new : Table) (rival : Option Rival) (chosen : Rival) → IsOffered start end total old new → end < length old → cost ≡ cost_to new end → IfSome rival (λ r. IsRival old r) → (chosen ≡ record { place = end; cost = cost }) ⊎ ((rival ≡ Some chosen) × (start < chosen.place)) → IsRival new chosen
 rival-more start end total cost old new rival chosen o within e h (inl here) =
     subst (λ (r : Rival). IsRival new r) (sym here) (record { within = omega (arith, o.places, within); cheaper = omega (arith, e) })
 rival-more start end total cost old new rival chosen o within e h (inr earlier) =
-    subst (λ (p : Option Rival). IfSome p (λ r. IsRival new r)) earlier (rival-kept old new o.places (offer-cheaper start end total old new o) rival h)
+    subst (λ (p : Option Rival). IfSome p (λ r. IsRival new r)) earlier.0 (rival-kept old new o.places (offer-cheaper start end total old new o) rival h)
 
 module _ (w : Windows) (k : ℕ) (old middle new : Table) (x : AreExtended w k old middle) where
   -- a place that an offer leaves alone
@@ -185,6 +185,67 @@ extended-all w d old new x e some within together =
                 omega (arith, at, price)
           ];
     }
+
+-- a rival that costs no more than one which costs so much
+at-most : (place i cost most : ℕ) (rival : Option Rival) → place ≡ i → IsSomeAnd rival (λ r. (place < r.place) × (r.cost ≤ most)) → IfSome rival (λ r. i < r.place → cost ≤ r.cost) → cost ≤ most
+at-most place i cost most None e h less = elim h [ ]
+at-most place i cost most (Some r) e h less = omega (arith, h.1, less (omega (arith, h.0, e)))
+
+-- the rival after one more end was offered
+pub cheapest-more : (w : Windows) (k i end total cost : ℕ) (old new : Table) (rival : Option Rival) (chosen : Rival) → w.place ≡ i → window_end w k ≡ Some end → IsOffered i end total old new → cost ≡ cost_to new end → IsCheapest w k old rival → (chosen ≡ record { place = end; cost = cost }) ⊎ ((rival ≡ Some chosen) × (i < chosen.place)) → chosen.cost ≤ cost → IfSome rival (λ r. i < r.place → chosen.cost ≤ r.cost) → IsCheapest w (k + 1) new (Some chosen)
+cheapest-more w k i end total cost old new rival chosen here says o e before one cheaper earlier m l a =
+    let s = end_says w k end says in
+    let behind : w.place < chosen.place =
+    elim one [
+      | inl this ↦ subst (λ (r : Rival). w.place < r.place) (sym this) (omega (arith, s.0, s.1))
+      | inr kept ↦ omega (arith, kept.1, here)
+    ] in
+    let position = get_or w.positions m 0 in
+    let cheapest : chosen.cost ≤ cost_to new position =
+    elim (cases_eq position end) [
+      | inl at ↦ subst (λ (x : ℕ). chosen.cost ≤ cost_to new x) (sym at) (omega (arith, e, cheaper))
+      | inr other ↦
+          let le : m ≤ k = omega arith in
+          let first : m < k = elim (eq-or-lt_of_le le) [ inl last ↦ absurd (other (ap (λ (x : ℕ). get_or w.positions x 0) last ∙ s.1)) | inr first ↦ first ] in
+          omega (arith, same-cost (o.others position other), at-most w.place i chosen.cost (cost_to old position) rival here (before m first a) earlier)
+    ] in
+    (behind, cheapest)
+
+-- where that end was tried before
+pub cheapest-again : (w : Windows) (k end tried : ℕ) (t : Table) (rival : Option Rival) → IsCheapest w k t rival → window_end w k ≡ Some end → end ≡ tried → IsTried w k tried → IsCheapest w (k + 1) t rival
+cheapest-again w k end tried t rival before says same last m l a =
+    let le : m ≤ k = omega arith in
+    let s = end_says w k end says in
+    elim (eq-or-lt_of_le le) [
+      | inl e ↦
+          let here : get_or w.positions m 0 ≡ get_or w.positions k 0 = ap (λ (x : ℕ). get_or w.positions x 0) e in
+          elim last [
+            | inl none ↦ absurd (omega (arith, none, same, s.0, s.1))
+            | inr b ↦
+                let at : get_or w.positions b.0 0 ≡ get_or w.positions m 0 = omega (arith, b.2, same, s.1, here) in
+                subst (λ (x : ℕ). IsSomeAnd rival (λ r. (w.place < r.place) × (r.cost ≤ cost_to t x))) at (before b.0 b.1 (omega (arith, at, a)))
+          ]
+      | inr first ↦ before m first a
+    ]
+
+-- where the window has no end
+pub cheapest-none_there : (w : Windows) (k : ℕ) (t : Table) (rival : Option Rival) → IsCheapest w k t rival → window_end w k ≡ None → IsCheapest w (k + 1) t rival
+cheapest-none_there w k t rival before says m l a =
+    let le : m ≤ k = omega arith in
+    elim (eq-or-lt_of_le le) [
+      | inl e ↦ absurd (omega (arith, a, ap (λ (x : ℕ). get_or w.positions x 0) e, none_says w k says))
+      | inr first ↦ before m first a
+    ]
+
+-- and after all
+pub cheapest-all : (w : Windows) (d : ℕ) (t : Table) (rival : Option Rival) → IsCheapest w d t rival → d ≡ w.distinct → 0 < d → StandTogether w → IsCheapest w (length w.bounds) t rival
+cheapest-all w d t rival before e some together m l a =
+    elim (cases_lt m d) [
+      | inl tried ↦ before m tried a
+      | inr wider ↦
+          let position = subst (λ (y : ℕ). get_or w.positions m 0 ≡ get_or w.positions (y - 1) 0) (sym e) (together.positions m (omega (arith, e, wider)) l) in
+          subst (λ (x : ℕ). IsSomeAnd rival (λ r. (w.place < r.place) × (r.cost ≤ cost_to t x))) (sym position) (before (d - 1) (omega arith) (omega (arith, a, position)))
+    ]
 
 -- there is room for one more allowed part, for as many numbers as a sequence has
 pub room_within : (limit n i cost : ℕ) → limit < 2 ^ 32 → n < 2 ^ 32 → i < n → cost ≤ limit * i → cost + limit < unreached

@@ -1,4 +1,4 @@
-use Rattle.std.specs.Prelude.{◌≡◌, ℕ, ◌+◌, ◌*◌, ◌^◌, ◌<◌, ◌≤◌, ◌≢◌, ◌⊎◌, List, length, replicate, slice_index, slice_index_or, slice_set, Option, Some, None}
+use Rattle.std.specs.Prelude.{◌≡◌, ℕ, ◌+◌, ◌*◌, ◌^◌, ◌<◌, ◌≤◌, ◌≢◌, ◌⊎◌, List, length, replicate, slice_index, slice_index_or, slice_set, IsSomeAnd, Option, Some, None}
 use Rattle.cost_windows.specs.Windows.{Windows}
 use Rattle.partition_path.specs.declared.routes.Route.{Route}
 use Rattle.partition_path.specs.declared.rival.Rival.{Rival}
@@ -53,7 +53,7 @@ pub record HasLastPart (limit : ℕ) (cost : ℕ → ℕ → ℕ) (i : ℕ) (t :
   pub sum : cost_to t j ≡ cost_to t (start_to t j) + cost (start_to t j) j
   pub allowed : cost (start_to t j) j ≤ limit
 
--- Each known route has allowed parts that start before i, and it has no more parts than costs were counted.
+-- Each known route has allowed parts that start before i; `parts` is how many, no more than costs were counted.
 pub record AreRoutes (limit : ℕ) (cost : ℕ → ℕ → ℕ) (n i before after : ℕ) (t : Table) : Type 0 where
   pub places : length t ≡ n + 1
   pub origin : cost_to t 0 ≡ 0
@@ -95,3 +95,7 @@ pub record IsOffered (start end total : ℕ) (old new : Table) : Type 0 where
 pub record IsRival (t : Table) (r : Rival) : Type 0 where
   pub within : r.place < length t
   pub cheaper : cost_to t r.place ≤ r.cost
+
+-- Where one of the first k windows has an end, the rival lies behind their place and costs no more than the route to that end.
+abbrev pub IsCheapest : Windows → ℕ → Table → Option Rival → Type 0
+IsCheapest w k t rival = (m : ℕ) → m < k → w.place < slice_index w.positions m → IsSomeAnd rival (λ r. (w.place < r.place) × (r.cost ≤ cost_to t (slice_index w.positions m)))

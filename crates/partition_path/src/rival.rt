@@ -17,7 +17,7 @@ impl Rival {
 
     /// The cheaper of this one and an earlier one that still lies behind place i.
     pub(crate) fn or_earlier(self, earlier: Option<Rival>, i: u64) -> Rival
-        ensures one_of { (result ≡ self) ⊎ (earlier ≡ Some result) }
+        ensures one_of { (result ≡ self) ⊎ ((earlier ≡ Some result) × (i < result.place)) }
         ensures cheaper { result.cost ≤ self.cost }
         ensures than_earlier { IfSome earlier (λ r. i < r.place → result.cost ≤ r.cost) }
     {

@@ -3,7 +3,7 @@ ghost use Rattle.std.specs.List.{All};
 ghost use Rattle.part_cost.specs.Formats.{numbers_of};
 ghost use Rattle.part_cost.specs.Partition.{IsAllowed, partition_cost};
 ghost use Rattle.cost_windows.specs.WindowBounds.{window_bounds};
-ghost use Rattle.partition_path.specs.Tables.{IsReached, IsRival, AreLinked, AreRoutes, AreExtended, ShareCosts, IsOffered, cost_to, start_to, new_table, unreached};
+ghost use Rattle.partition_path.specs.Tables.{IsReached, IsRival, IsCheapest, AreLinked, AreRoutes, AreExtended, ShareCosts, IsOffered, cost_to, start_to, new_table, unreached};
 ghost use Rattle.partition_path.specs.Chains.{IsChain};
 
 use crate::cuts::NoMemory;
@@ -105,8 +105,8 @@ impl Routes {
         }
     }
 
-    /// Tries the parts from place i, whose route costs so much, to the ends of the windows, each once, and gives the rival
-    /// of the places behind i.
+    /// Tries the parts from place i, whose route costs so much, to the ends of the windows, and gives the rival of the places
+    /// behind i: no end costs less.
     fn extend(
         &mut self,
         i: u64,
@@ -122,6 +122,7 @@ impl Routes {
         requires rival { IfSome rival (λ r. IsRival self.old r) }
         ensures extended { AreExtended windows.now (length windows.now.bounds) self.old self.new }
         ensures rival { IfSome result (λ r. IsRival self.new r) }
+        ensures cheapest { IsCheapest windows.now (length windows.now.bounds) self.new result }
     {
         let mut rival = rival;
         let mut tried = i;
