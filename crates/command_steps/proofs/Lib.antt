@@ -13,5 +13,7 @@ pub mod LoadedFile
 pub mod WrittenFile
 pub mod PrintedLine
 pub mod PartCosts
+pub mod Making
 pub mod Generating
+pub mod Migrating
 pub mod AskedLines

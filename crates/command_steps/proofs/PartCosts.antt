@@ -10,8 +10,7 @@ use Rattle.collection_model.specs.Sequences.{doc_sequence, freq_sequence}
 use Rattle.part_cost.specs.declared.kinds.Kind.{Kind}
 use Rattle.part_cost.specs.declared.kinds.Kind.TheVariants.{Ones, Bitmap, Ef}
 use Rattle.part_cost.specs.Formats.{HasRoom, numbers_of}
-use Rattle.part_cost.specs.Payload.{kind_of}
-use Rattle.part_cost.specs.Span.{universe, cost_of_part}
+use Rattle.part_cost.specs.Span.{cost_of_part}
 use Rattle.part_cost.specs.Partition.{IsPartition, partition_cost}
 use Rattle.two_level.specs.Laws.{TakesItsCost}
 use Rattle.two_level.proofs.Lengths.{charges}

@@ -5,10 +5,10 @@ pub mod LoadIndex
 pub mod WriteIndex
 pub mod PrintLine
 pub mod PrintText
-pub mod GenerateWords
+pub mod MadeWords
 -- what private functions and proofs cite
 pub mod Building
-pub mod Generating
+pub mod Making
 pub mod AnswersLines
 pub mod Unended
 pub mod AnswersEnded

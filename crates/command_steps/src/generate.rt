@@ -1,55 +1,14 @@
 ghost use Rattle.std.specs.Prelude.{◌≡◌, ℕ, IfOk};
 ghost use Rattle.pef_report.specs.Generated.{generated};
-ghost use Rattle.command_steps.specs.GenerateWords.{AreWordsOf, WouldBeTooMany};
+ghost use Rattle.command_steps.specs.MadeWords.{AreWordsOf, WouldBeTooMany};
 
-use index_file::{Builder, FinishError, files_spell_collections, lists_are_counted};
+use crate::made::MakeError;
+use index_file::{Builder, files_spell_collections, lists_are_counted};
 use part_cost::Format;
 use pef_report::{Gen, document_sizes, generated_are_well_formed};
 use std::alloc::Global;
 use std::sync::ledger::Ledger;
 use step_count::Steps;
-
-/// Why no words were generated.
-#[derive(Clone, Copy, Debug, PartialEq, Eq)]
-pub enum GenerateError {
-    /// There would be so many words, more than 2^37.
-    TooLarge(u64),
-    /// Memory was refused.
-    NoMemory,
-}
-
-impl From<index_file::NoMemory> for GenerateError {
-    ghost use Rattle.command_steps.specs.declared.generate.GenerateError.TheVariants.{NoMemory};
-
-    ghost from_gives = { λ _ answer. answer ≡ NoMemory };
-
-    fn from(_e: index_file::NoMemory) -> GenerateError {
-        GenerateError::NoMemory
-    }
-}
-
-impl From<pef_report::NoMemory> for GenerateError {
-    ghost use Rattle.command_steps.specs.declared.generate.GenerateError.TheVariants.{NoMemory};
-
-    ghost from_gives = { λ _ answer. answer ≡ NoMemory };
-
-    fn from(_e: pef_report::NoMemory) -> GenerateError {
-        GenerateError::NoMemory
-    }
-}
-
-impl From<FinishError> for GenerateError {
-    ghost use Rattle.command_steps.specs.Generating.{generate_error};
-
-    ghost from_gives = { λ e answer. answer ≡ generate_error e };
-
-    fn from(e: FinishError) -> GenerateError {
-        match e {
-            FinishError::TooLarge(count) => GenerateError::TooLarge(count),
-            FinishError::NoMemory => GenerateError::NoMemory,
-        }
-    }
-}
 
 /// The words of the index file of the generated collection of a seed, in the second format and cut into near-cheapest parts. Each
 /// list is added as soon as it is drawn, so the collection is never held. Part costs are counted as in building.
@@ -59,9 +18,9 @@ pub fn generated_words<L: Ledger>(
     documents: u32,
     terms: u32,
     steps: &mut Steps<L>,
-) -> Result<Vec<u64>, GenerateError>
+) -> Result<Vec<u64>, MakeError>
     ensures words { IfOk result (λ words. AreWordsOf Format.Two (generated seed documents terms) steps.old steps.new words.items) }
-    ensures too_large { (n : ℕ) → result ≡ Err (GenerateError.TooLarge n) → WouldBeTooMany Format.Two (generated seed documents terms) steps.old steps.new n }
+    ensures too_large { (n : ℕ) → result ≡ Err (MakeError.TooLarge n) → WouldBeTooMany Format.Two (generated seed documents terms) steps.old steps.new n }
 {
     lists_are_counted();
     files_spell_collections();

@@ -1,5 +1,5 @@
-// The steps of the commands: words of an index are built, also those of a generated collection, loaded and written, query lines are
-// answered from them, and they are summed up.
+// The steps of the commands: words of an index are built, also those of a generated collection and of another index, loaded and written,
+// query lines are answered from them, and they are summed up.
 #![tactic(auto)]
 
 mod build;
@@ -9,6 +9,8 @@ mod indexed;
 mod lines;
 mod lists;
 mod loading;
+mod made;
+mod migrate;
 mod plain;
 mod plan;
 mod printing;
@@ -18,9 +20,11 @@ mod text;
 mod writing;
 
 pub use build::{BuildError, build_words};
-pub use generate::{GenerateError, generated_words};
+pub use generate::generated_words;
 pub use generated_text::print_generated;
 pub use loading::{LoadIndexError, load_index};
+pub use made::MakeError;
+pub use migrate::migrated_words;
 pub use plan::{Plan, plan_top};
 pub use printing::{PrintError, print_summary};
 pub use text::{RunFault, answer_collection, answer_text};

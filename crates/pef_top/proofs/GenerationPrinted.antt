@@ -14,46 +14,26 @@ use Rattle.index_file.specs.IndexView.{IndexView, word_count}
 use Rattle.index_file.specs.Laws.{OneIndex}
 use Rattle.pef_report.specs.Generated.{generated}
 use Rattle.command_model.specs.GeneratedText.{IsGeneratedText}
-use Rattle.command_steps.specs.declared.generate.GenerateError.{GenerateError}
-use Rattle.command_steps.specs.declared.generate.GenerateError.TheVariants as generating
-use Rattle.command_steps.specs.GenerateWords.{AreWordsOf, WouldBeTooMany}
+use Rattle.command_steps.specs.declared.made.MakeError.{MakeError}
+use Rattle.command_steps.specs.declared.made.MakeError.TheVariants as making
+use Rattle.command_steps.specs.MadeWords.{AreWordsOf, WouldBeTooMany}
 use Rattle.command_steps.specs.declared.printing.PrintError.TheVariants as printing
 use Rattle.command_steps.specs.PrintLine.{PrintsLine}
 use Rattle.command_steps.specs.PrintText.{MakesAndPrints}
 use Rattle.pef_top.specs.declared.stop.Stop.{Stop}
 use Rattle.pef_top.specs.Command.{Generate}
 use Rattle.pef_top.specs.Outside.{Outside, outside}
-use Rattle.pef_top.specs.Outcome.{Outcome, Done, FileFault, InputFault, IndexWriteFault, OutFault, NoMemory, IndexTooLarge}
-use Rattle.pef_top.specs.Ends.{FirstFaultEnds}
+use Rattle.pef_top.specs.Outcome.{Outcome, Done, FileFault, InputFault, IndexWriteFault, OutFault, NoMemory}
 use Rattle.pef_top.specs.Built.{BuildsWordsThen}
 use Rattle.pef_top.specs.PrintedText.{PrintsText}
 use Rattle.pef_top.specs.Generate.{IsGeneration, generate_format}
 use Rattle.pef_top.specs.Private.Leaves.{Leaves}
-use Rattle.pef_top.specs.Private.Stops.{outcome_of, outcome_of_stop, stop_of_generating}
+use Rattle.pef_top.specs.Private.Stops.{outcome_of, stop_of_making}
 use Rattle.pef_top.proofs.Counted.{stays, or_larger}
+use Rattle.pef_top.proofs.WordsMade.{unmade_words, unmade_faults}
 use Rattle.pef_top.proofs.TextPrinted.{Printed, print_outcome, not_file, not_writing, not_input, prints, complete, out_ends}
 
--- how a run ends that did not make its words
-abbrev pub ungenerated : GenerateError → Outcome
-ungenerated e = outcome_of_stop (stop_of_generating e)
-
 -- ---- the words
-
--- where a run stops that could not make the words, it ends by no fault
-ungenerated_faults : (error : GenerateError) (d : DepotState) (i : SourceState) (o e e' : SinkState) (s s' : ℕ)
-    → FirstFaultEnds (outside d i o e s) (outside d i o e' s') (ungenerated error)
-ungenerated_faults (generating.TooLarge k) d i o e e' s s' = record {
-  slots = λ slot. stays (FileFault slot) IndexTooLarge _ _ (λ h. cc) refl;
-  writing = stays IndexWriteFault IndexTooLarge _ _ (λ h. cc) refl;
-  input = stays InputFault IndexTooLarge _ _ (λ h. cc) refl;
-  out = stays OutFault IndexTooLarge _ _ (λ h. cc) refl;
-}
-ungenerated_faults generating.NoMemory d i o e e' s s' = record {
-  slots = λ slot. stays (FileFault slot) NoMemory _ _ (λ h. cc) refl;
-  writing = stays IndexWriteFault NoMemory _ _ (λ h. cc) refl;
-  input = stays InputFault NoMemory _ _ (λ h. cc) refl;
-  out = stays OutFault NoMemory _ _ (λ h. cc) refl;
-}
 
 module _ (seed n t : ℕ) (d : DepotState) (i : SourceState) (s s' : ℕ) where
   abbrev c : Collection
@@ -66,20 +46,20 @@ module _ (seed n t : ℕ) (d : DepotState) (i : SourceState) (s s' : ℕ) where
   new o e = outside d i o e s'
 
   -- the words were not made
-  not_generated : (o e e' : SinkState) (error : GenerateError) → ((k : ℕ) → error ≡ generating.TooLarge k → WouldBeTooMany generate_format c s s' k)
-      → Leaves (Some (Generate seed n t)) (old o e) (new o e') (ungenerated error)
-  not_generated o e e' (generating.TooLarge k) too_large =
+  not_generated : (o e e' : SinkState) (error : MakeError) → ((k : ℕ) → error ≡ making.TooLarge k → WouldBeTooMany generate_format c s s' k)
+      → Leaves (Some (Generate seed n t)) (old o e) (new o e') (unmade_words error)
+  not_generated o e e' (making.TooLarge k) too_large =
       let w = too_large k refl in
       record {
         performs = record { ends = (c, w.parts, w.cut, subst (λ m. most_words < m) w.count w.too_many); complete = λ none. inr (inl refl) };
-        faults = ungenerated_faults (generating.TooLarge k) d i o e e' s s';
+        faults = unmade_faults (making.TooLarge k) (old o e) (new o e') (λ slot. refl) refl refl refl;
         depot_tells = refl;
         input_tells = refl;
         out_tells = refl;
       }
-  not_generated o e e' generating.NoMemory too_large = record {
+  not_generated o e e' making.NoMemory too_large = record {
     performs = record { ends = inl refl; complete = λ none. inr (inr refl) };
-    faults = ungenerated_faults generating.NoMemory d i o e e' s s';
+    faults = unmade_faults making.NoMemory (old o e) (new o e') (λ slot. refl) refl refl refl;
     depot_tells = refl;
     input_tells = refl;
     out_tells = refl;
@@ -166,9 +146,9 @@ index_is_small c s s' words lent index w lends spells = omega (arith, w.within, 
 
 -- the words were not made
 pub generate_refused : (seed n t : ℕ) (d : DepotState) (i : SourceState) (o e e' : SinkState) (s s' : ℕ)
-    (made : Result (Vec ℕ Global) GenerateError) (error : GenerateError) (r : Result (Unit {0}) Stop)
-    → ((k : ℕ) → made ≡ Err (generating.TooLarge k) → WouldBeTooMany generate_format (generated seed n t) s s' k)
-    → made ≡ Err error → r ≡ Err (stop_of_generating error)
+    (made : Result (Vec ℕ Global) MakeError) (error : MakeError) (r : Result (Unit {0}) Stop)
+    → ((k : ℕ) → made ≡ Err (making.TooLarge k) → WouldBeTooMany generate_format (generated seed n t) s s' k)
+    → made ≡ Err error → r ≡ Err (stop_of_making error)
     → Leaves (Some (Generate seed n t)) (outside d i o e s) (outside d i o e' s') (outcome_of r)
 generate_refused seed n t d i o e e' s s' made error r too_large was is =
     let P : Result (Unit {0}) Stop → Type 0 = λ x. Leaves (Some (Generate seed n t)) (outside d i o e s) (outside d i o e' s') (outcome_of x) in

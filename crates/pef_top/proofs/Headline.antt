@@ -1,4 +1,4 @@
--- A file that `build` leaves, and then `query` of it: the replies are those of the collection that was found under the base.
+-- A file that `build` or `migrate` leaves, and then `query` of it: the replies are those of the collection that was found.
 use Rattle.std.proofs.Common.{◌≡◌, refl, sym, ◌∙◌, subst, ℕ, List}
 use Rattle.std.specs.Prelude.{IsTrue}
 use Rattle.collection_model.specs.Collection.{Collection}
@@ -16,6 +16,7 @@ use Rattle.pef_top.specs.FoundIndex.{FindsIndexOf}
 use Rattle.pef_top.specs.AnsweredText.{AnswersAll}
 use Rattle.pef_top.specs.Build.{Builds}
 use Rattle.pef_top.specs.Query.{Queries}
+use Rattle.pef_top.specs.Migrate.{Migrates, migrate_format}
 
 -- a file that is told is an index of one collection only
 same_index : OneIndex → WordsAreRead → (name : List ℕ) (d : DepotState) (a c : Collection) → FindsIndexOf name d a → FindsIndexOf name d c → IsTrue d.tells → a ≡ c
@@ -46,3 +47,13 @@ built_and_asked one read format base index old built asked answered builds same 
     let opened = builds.opens refl in
     let P : DepotState → Type 0 = λ d. FindsIndexOf index d opened.0 in
     (opened.0, opened.1, replies_of_each one read index asked answered queries told opened.0 (subst P (sym same) opened.2))
+
+-- and what is asked of the depot that `migrate` left
+pub migrated_and_asked : OneIndex → WordsAreRead → (from to : List ℕ) (old migrated asked answered : Outside)
+    → Migrates from to old migrated Done → asked.depot ≡ migrated.depot → Queries to asked answered Done → Told asked
+    → (c : Collection) × FindsIndexOf from old.depot c × GotReplies c (text_lines asked.input.left) asked.out answered.out
+migrated_and_asked one read from to old migrated asked answered migrates same queries told =
+    let opened = migrates.opens refl in
+    let P : DepotState → Type 0 = λ d. FindsIndexOf to d opened.0 in
+    let found : P migrated.depot = (migrate_format, opened.2.0, opened.2.1) in
+    (opened.0, opened.1, replies_of_each one read to asked answered queries told opened.0 (subst P (sym same) found))

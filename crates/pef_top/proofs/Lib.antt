@@ -3,6 +3,8 @@ pub mod Joined
 pub mod Plain
 pub mod Counted
 pub mod WordsBuilt
+pub mod WordsMade
+pub mod WordsWritten
 pub mod FileWritten
 pub mod TextAnswered
 pub mod BaseAnswered
@@ -10,6 +12,7 @@ pub mod IndexAnswered
 pub mod TextPrinted
 pub mod SummaryPrinted
 pub mod GenerationPrinted
+pub mod IndexMigrated
 pub mod RunEnds
 mod Rows
 mod Excluded

@@ -89,12 +89,13 @@ nothing_asked (false ∷ others) = nothing_asked others
 -- which verb it is, `build` apart
 abbrev other_verbs : List ℕ → List Bool
 other_verbs verb =
-    bytes_eq verb (codes "query") ∷ bytes_eq verb (codes "answer") ∷ bytes_eq verb (codes "inspect") ∷ bytes_eq verb (codes "generate") ∷ []
+    bytes_eq verb (codes "query") ∷ bytes_eq verb (codes "answer") ∷ bytes_eq verb (codes "inspect") ∷ bytes_eq verb (codes "generate")
+    ∷ bytes_eq verb (codes "migrate") ∷ []
 
 -- ---- so many words are one command
 
--- an option and its value after a command of two texts
-pub in_format : (name verb base index option format : List ℕ) (b f : Bool) → b ≡ is_some (command_of (name ∷ verb ∷ base ∷ index ∷ []))
+-- an option and its value after two texts
+pub in_format : (name verb base index option format : List ℕ) (b f : Bool) → b ≡ (bytes_eq verb (codes "build") && is_some (build_in base index (Some Two)))
     → f ≡ (bytes_eq option (codes "--format") && is_some (format_of format)) → (b && f) ≡ is_some (command_of (name ∷ verb ∷ base ∷ index ∷ option ∷ format ∷ []))
 in_format name verb base index option format b f hb hf =
     ap₂ (λ x y. x && y) hb hf ∙ go (bytes_eq verb (codes "build")) (other_verbs verb) (bytes_eq option (codes "--format"))
@@ -111,11 +112,11 @@ in_format name verb base index option format b f hb hf =
     two None = never (is_some (build_in base index (Some Two)))
     two (Some format) = tested (is_text base && is_text index && not (is_file_of base index)) (Build base index Two) (Build base index format)
 
-    go : (b : Bool) (others : List Bool) (o : Bool) → (is_some (if b then build_in base index (Some Two) else none_asked others) && (o && is_some (format_of format)))
+    go : (b : Bool) (others : List Bool) (o : Bool) → ((b && is_some (build_in base index (Some Two))) && (o && is_some (format_of format)))
         ≡ is_some (if b then (if o then build_in base index (format_of format) else None) else none_asked others)
     go true others true = two (format_of format)
     go true others false = never (is_some (build_in base index (Some Two)))
-    go false others o = ap (λ c. is_some c && (o && is_some (format_of format))) (nothing_asked others) ∙ sym (ap is_some (nothing_asked others))
+    go false others o = sym (ap is_some (nothing_asked others))
 
 -- ---- so many words are none
 

@@ -5,7 +5,7 @@ use Rattle.command_steps.specs.declared.plan.Plan.TheVariants.{Exhaustive, Wand,
 use Rattle.pef_io.specs.declared.fail.Slot.TheVariants.{Docs}
 use Rattle.pef_top.specs.declared.status.Status.TheVariants as status
 use Rattle.pef_top.specs.Outcome.{FileFault, IndexWriteFault, IndexTooLarge, status_of, line_of}
-use Rattle.pef_top.specs.Command.{command_of, Build, Query, Answer, Inspect, Generate}
+use Rattle.pef_top.specs.Command.{command_of, Build, Query, Answer, Inspect, Generate, Migrate}
 
 name-alone : command_of (codes "pefidx" ∷ []) ≡ None
 name-alone = refl
@@ -81,6 +81,18 @@ generate-plus = refl
 
 generate-two-numbers : command_of (codes "pefidx" ∷ codes "generate" ∷ codes "1" ∷ codes "2" ∷ []) ≡ None
 generate-two-numbers = refl
+
+migrate-other-name : command_of (codes "pefidx" ∷ codes "migrate" ∷ codes "x" ∷ codes "y" ∷ []) ≡ Some (Migrate (codes "x") (codes "y"))
+migrate-other-name = refl
+
+migrate-same-name : command_of (codes "pefidx" ∷ codes "migrate" ∷ codes "x" ∷ codes "x" ∷ []) ≡ None
+migrate-same-name = refl
+
+migrate-one-text : command_of (codes "pefidx" ∷ codes "migrate" ∷ codes "x" ∷ []) ≡ None
+migrate-one-text = refl
+
+migrate-in-a-format : command_of (codes "pefidx" ∷ codes "migrate" ∷ codes "x" ∷ codes "y" ∷ codes "--format" ∷ codes "2" ∷ []) ≡ None
+migrate-in-a-format = refl
 
 no-index : command_of (codes "pefidx" ∷ codes "build" ∷ codes "x" ∷ []) ≡ None
 no-index = refl

@@ -11,8 +11,8 @@ use Rattle.part_cost.specs.declared.formats.Format.{Format}
 use Rattle.part_cost.specs.declared.formats.Format.TheVariants.{One, Two}
 use Rattle.command_steps.specs.declared.plan.Plan.{Plan}
 use Rattle.command_steps.specs.declared.plan.Plan.TheVariants.{Exhaustive, Wand, MaxScore}
-use Rattle.pef_top.specs.Command.{Build, Query, Answer, Inspect, generate_command}
-use Rattle.pef_top.specs.Private.CommandLine.{program_app, build_app, query_app, answer_app, inspect_app, generate_app, asked_in, asked_of}
+use Rattle.pef_top.specs.Command.{Build, Query, Answer, Inspect, Migrate, generate_command}
+use Rattle.pef_top.specs.Private.CommandLine.{program_app, build_app, query_app, answer_app, inspect_app, generate_app, migrate_app, asked_in, asked_of}
 use Rattle.pef_top.proofs.PlainWalk.{at, walks, passes}
 
 pub simple : is_simple program_app ≡ true
@@ -214,6 +214,37 @@ module _ (name : Text) (x y : ℕ) (xs ys : Text) (hx : (x == 45) ≡ false) (hy
   unfolding clap_on_literals
   build_in_asked One = ap (asked_of (codes "build")) (rows build (two_texts (format_words One)) end (format_words One) (build_leads (format_words One)))
   build_in_asked Two = ap (asked_of (codes "build")) (rows build (two_texts (format_words Two)) end (format_words Two) (build_leads (format_words Two)))
+
+-- ---- two texts
+
+abbrev migrate : Shape
+migrate = leaf migrate_app
+
+-- what is held after the first text
+abbrev after_from : Text → Held
+after_from from = (after_word migrate 1 nothing_held from).held
+
+module _ (name : Text) (x y : ℕ) (xs ys : Text) (hx : (x == 45) ≡ false) (hy : (y == 45) ≡ false) where
+  abbrev both_texts : List Text
+  both_texts = (x ∷ xs) ∷ (y ∷ ys) ∷ []
+
+  abbrev behind : Walk
+  behind = after_word migrate 2 (after_from (x ∷ xs)) (y ∷ ys)
+
+  migrate_leads : Leads migrate start both_texts behind []
+  unfolding clap_on_literals
+  migrate_leads =
+      let first = word_leads migrate 1 nothing_held x xs hx refl ((y ∷ ys) ∷ []) in
+      let second = word_leads migrate 2 (after_from (x ∷ xs)) y ys hy refl [] in
+      (first.0 ∙ second.0, first.1 ∙ second.1)
+
+  pub migrate_taken : takes program_app (name ∷ codes "migrate" ∷ both_texts) ≡ true
+  unfolding clap_on_literals
+  migrate_taken = ap (λ b. b && true) (level migrate both_texts behind [] migrate_leads)
+
+  pub migrate_asked : asked_in (subcommand_of program_app (name ∷ codes "migrate" ∷ both_texts)) ≡ Some (Migrate (x ∷ xs) (y ∷ ys))
+  unfolding clap_on_literals
+  migrate_asked = ap (asked_of (codes "migrate")) (rows migrate both_texts behind [] migrate_leads)
 
 -- ---- three numbers
 

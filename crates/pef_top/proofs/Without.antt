@@ -9,7 +9,7 @@ use Rattle.pef_top.specs.Outside.{outside, GotText}
 use Rattle.pef_top.specs.ErrLines.{memory_line}
 use Rattle.pef_top.specs.Outcome.{NoMemory}
 use Rattle.pef_top.specs.Ends.{Ends}
-use Rattle.pef_top.specs.Command.{Command, Build, Query, Answer, Inspect, Generate}
+use Rattle.pef_top.specs.Command.{Command, Build, Query, Answer, Inspect, Generate, Migrate}
 use Rattle.pef_top.specs.Commands.{Performs}
 
 -- a depot of which nothing was called
@@ -73,4 +73,11 @@ performs (Inspect index) d i o e e' s = record {
 performs (Generate seed n t) d i o e e' s = record {
   ends = inl refl;
   complete = λ none. inr (inr refl);
+}
+performs (Migrate from to) d i o e e' s = record {
+  ends = inl (record { files = λ t name. refl; writing = (refl, λ t. refl) });
+  opens = λ h. cc;
+  refuses = inr (record { broken = λ t f h. inr (inr refl); longer = λ t h. inr (inr refl); sound = λ t c h. (λ e. cc, λ f e. cc) });
+  complete = λ t c h n. inr (inr refl);
+  depot = record { refused = λ h. same _ d; unaccepted = λ h. same _ d; stay_started = λ slot h. h; other_slots = λ slot h. (refl, λ t. refl) };
 }

@@ -12,7 +12,7 @@ use Rattle.part_cost.specs.declared.formats.Format.TheVariants.{One, Two}
 use Rattle.query_text.specs.Numbers.{number_of}
 use Rattle.command_steps.specs.declared.plan.Plan.{Plan}
 use Rattle.command_steps.specs.declared.plan.Plan.TheVariants.{Exhaustive, Wand, MaxScore}
-use Rattle.pef_top.specs.Command.{Command, Build, Query, Answer, Inspect, command_of, build_command, build_in, format_of, answering_command, answered_by, plan_of, text_command, generate_command, generate_of, is_text, is_file_of}
+use Rattle.pef_top.specs.Command.{Command, Build, Query, Answer, Inspect, Migrate, command_of, build_command, build_in, format_of, answering_command, answered_by, plan_of, text_command, generate_command, generate_of, migrate_command, is_text, is_file_of}
 use Rattle.pef_top.specs.Private.CommandLine.{program_app, asked_in}
 use Rattle.pef_top.proofs.Taken.{format_name, format_words, plan_name, plan_words}
 use Rattle.pef_top.proofs.Taken as clap
@@ -171,6 +171,24 @@ build_read name (base ∷ index ∷ option ∷ value ∷ []) h =
     (subst (IsRead (name ∷ codes "build" ∷ base ∷ index ∷ format_words is.0)) (sym is.3) read)
 build_read name (base ∷ index ∷ option ∷ format ∷ word ∷ words) h = cc
 
+-- ---- two texts
+
+migrate_texts : (name from to : Text) → is_text from ≡ true → is_text to ≡ true → IsRead (name ∷ codes "migrate" ∷ from ∷ to ∷ []) (Some (Migrate from to))
+migrate_texts name [] to hf ht = cc
+migrate_texts name (x ∷ xs) [] hf ht = cc
+migrate_texts name (x ∷ xs) (y ∷ ys) hf ht =
+    (clap.migrate_taken name x y xs ys (plain x xs hf) (plain y ys ht), clap.migrate_asked name x y xs ys (plain x xs hf) (plain y ys ht))
+
+migrate_read : (name : Text) (args : List Text) → is_some (migrate_command args) ≡ true → IsRead (name ∷ codes "migrate" ∷ args) (migrate_command args)
+migrate_read name [] h = cc
+migrate_read name (from ∷ []) h = cc
+migrate_read name (from ∷ to ∷ []) h =
+    let is = chosen (is_text from && is_text to && not (bytes_eq from to)) (Migrate from to) h in
+    let texts = both _ _ is.0 in
+    let two = both _ _ texts.0 in
+    subst (IsRead (name ∷ codes "migrate" ∷ from ∷ to ∷ [])) (sym is.1) (migrate_texts name from to two.0 two.1)
+migrate_read name (from ∷ to ∷ word ∷ words) h = cc
+
 -- ---- three numbers
 
 passed : {A : Type 0} (b : Bool) (a : A) → is_some (if b then Some a else None) ≡ true → b ≡ true
@@ -220,6 +238,7 @@ read [] h = cc
 read (name ∷ []) h = cc
 read (name ∷ verb ∷ args) h =
     go (bytes_eq verb (codes "build")) refl (bytes_eq verb (codes "query")) refl (bytes_eq verb (codes "answer")) refl (bytes_eq verb (codes "inspect")) refl (bytes_eq verb (codes "generate")) refl
+    (bytes_eq verb (codes "migrate")) refl
   where
     Goal : Type 0
     Goal = IsRead (name ∷ verb ∷ args) (command_of (name ∷ verb ∷ args))
@@ -231,10 +250,13 @@ read (name ∷ verb ∷ args) h =
         subst (λ v. IsRead (name ∷ v ∷ args) (command_of (name ∷ v ∷ args))) (sym same) (reads (ap (λ v. is_some (command_of (name ∷ v ∷ args))) (sym same) ∙ h))
 
     go : (b : Bool) → bytes_eq verb (codes "build") ≡ b → (q : Bool) → bytes_eq verb (codes "query") ≡ q → (a : Bool) → bytes_eq verb (codes "answer") ≡ a
-        → (i : Bool) → bytes_eq verb (codes "inspect") ≡ i → (n : Bool) → bytes_eq verb (codes "generate") ≡ n → Goal
-    go true e q f a g i k n l = is (codes "build") e (build_read name args)
-    go false e true f a g i k n l = is (codes "query") f (answering_read name (codes "query") Query (query_text name) (query_text_by name) args)
-    go false e false f true g i k n l = is (codes "answer") g (answering_read name (codes "answer") Answer (answer_text name) (answer_text_by name) args)
-    go false e false f false g true k n l = is (codes "inspect") k (inspect_read name args)
-    go false e false f false g false k true l = is (codes "generate") l (generate_read name args)
-    go false e false f false g false k false l = let none : is_some (command_of (name ∷ verb ∷ args)) ≡ false = rw (e, f, g, k, l) refl in absurd (true≢false (sym h ∙ none))
+        → (i : Bool) → bytes_eq verb (codes "inspect") ≡ i → (n : Bool) → bytes_eq verb (codes "generate") ≡ n
+        → (m : Bool) → bytes_eq verb (codes "migrate") ≡ m → Goal
+    go true e q f a g i k n l m j = is (codes "build") e (build_read name args)
+    go false e true f a g i k n l m j = is (codes "query") f (answering_read name (codes "query") Query (query_text name) (query_text_by name) args)
+    go false e false f true g i k n l m j = is (codes "answer") g (answering_read name (codes "answer") Answer (answer_text name) (answer_text_by name) args)
+    go false e false f false g true k n l m j = is (codes "inspect") k (inspect_read name args)
+    go false e false f false g false k true l m j = is (codes "generate") l (generate_read name args)
+    go false e false f false g false k false l true j = is (codes "migrate") j (migrate_read name args)
+    go false e false f false g false k false l false j =
+        let none : is_some (command_of (name ∷ verb ∷ args)) ≡ false = rw (e, f, g, k, l, j) refl in absurd (true≢false (sym h ∙ none))

@@ -2,7 +2,7 @@ use Rattle.std.specs.Prelude.{◌≡◌, Option, Some, None}
 use Rattle.pef_io.specs.SinkState.{SinkState}
 use Rattle.pef_top.specs.declared.status.Status.{Status}
 use Rattle.pef_top.specs.declared.status.Status.TheVariants as status
-use Rattle.pef_top.specs.Command.{Command, Build, Query, Answer, Inspect, Generate}
+use Rattle.pef_top.specs.Command.{Command, Build, Query, Answer, Inspect, Generate, Migrate}
 use Rattle.pef_top.specs.ErrLines.{usage_line}
 use Rattle.pef_top.specs.Outside.{Outside, GotText}
 use Rattle.pef_top.specs.Outcome.{Outcome, Usage}
@@ -11,6 +11,7 @@ use Rattle.pef_top.specs.Query.{Queries}
 use Rattle.pef_top.specs.Answer.{Answers}
 use Rattle.pef_top.specs.Inspect.{Inspects}
 use Rattle.pef_top.specs.Generate.{Generates}
+use Rattle.pef_top.specs.Migrate.{Migrates}
 
 -- Words that are no command end the run with the usage line.
 pub record IsUsage (old new : SinkState) (result : Status) : Type 0 where
@@ -30,3 +31,4 @@ Performs (Some (Query index plan)) old new outcome = Queries index old new outco
 Performs (Some (Answer base plan)) old new outcome = Answers base old new outcome
 Performs (Some (Inspect index)) old new outcome = Inspects index old new outcome
 Performs (Some (Generate seed n t)) old new outcome = Generates seed n t old new outcome
+Performs (Some (Migrate from to)) old new outcome = Migrates from to old new outcome

@@ -9,6 +9,8 @@ use Rattle.pef_top.specs.Outside.{Outside, Told}
 use Rattle.pef_top.specs.Outcome.{Done}
 use Rattle.pef_top.specs.Build.{Builds}
 use Rattle.pef_top.specs.Query.{Queries}
+use Rattle.pef_top.specs.FoundIndex.{FindsIndexOf}
+use Rattle.pef_top.specs.Migrate.{Migrates}
 
 -- Where `build` is done and then `query` of what it left, the replies are those of the collection that `build` found.
 abbrev pub BuiltFilesAnswer : Type 0
@@ -16,3 +18,10 @@ BuiltFilesAnswer =
     (format : Format) (base index : List ℕ) (old built asked answered : Outside)
     → Builds format base index old built Done → asked.depot ≡ built.depot → Queries index asked answered Done → Told asked
     → (c : Collection) × FindsCollection (numbers_of format) base old.depot c × GotReplies c (text_lines asked.input.left) asked.out answered.out
+
+-- Where `migrate` is done and then `query` of what it left, the replies are those of the collection of which it found an index.
+abbrev pub MigratedFilesAnswer : Type 0
+MigratedFilesAnswer =
+    (from to : List ℕ) (old migrated asked answered : Outside)
+    → Migrates from to old migrated Done → asked.depot ≡ migrated.depot → Queries to asked answered Done → Told asked
+    → (c : Collection) × FindsIndexOf from old.depot c × GotReplies c (text_lines asked.input.left) asked.out answered.out

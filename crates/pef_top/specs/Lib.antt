@@ -16,6 +16,7 @@ pub mod Query
 pub mod Answer
 pub mod Inspect
 pub mod Generate
+pub mod Migrate
 pub mod Commands
 pub mod Uncalled
 pub mod Laws

@@ -3,7 +3,7 @@ use Rattle.collection_model.specs.Collection.{Collection}
 use Rattle.part_cost.specs.Formats.{numbers_of}
 use Rattle.pef_io.specs.DepotState.{DepotState}
 use Rattle.command_model.specs.Found.{FindsCollection}
-use Rattle.pef_top.specs.Command.{Command, Build, Query, Answer, Inspect, Generate}
+use Rattle.pef_top.specs.Command.{Command, Build, Query, Answer, Inspect, Generate, Migrate}
 use Rattle.pef_top.specs.Outcome.{Outcome, is_refusal}
 use Rattle.pef_top.specs.FoundIndex.{FindsIndexOf}
 use Rattle.pef_top.specs.Answer.{IsAnswerable}
@@ -34,6 +34,7 @@ reads_input command = false
 abbrev pub prints : Option Command → Bool
 prints None = false
 prints (Some (Build base index format)) = false
+prints (Some (Migrate from to)) = false
 prints (Some command) = true
 
 -- What a command reads is accepted: a collection stands under its base, or an index under its name. `generate` reads nothing.
@@ -44,6 +45,7 @@ Accepts (Some (Query index plan)) depot = (c : Collection) × FindsIndexOf index
 Accepts (Some (Answer base plan)) depot = (c : Collection) × IsAnswerable base depot c
 Accepts (Some (Inspect index)) depot = (c : Collection) × FindsIndexOf index depot c
 Accepts (Some (Generate seed n t)) depot = ⊤
+Accepts (Some (Migrate from to)) depot = (c : Collection) × FindsIndexOf from depot c
 
 -- Neither the input nor out was called.
 pub record IsSilent {D I O : Type 0} (old new : Objects D I O) : Type 0 where

@@ -34,6 +34,6 @@ pub(crate) fn build<D: Depot, L: Ledger>(
 }
 
 /// Words are numbers of 64 bits.
-fn words_fit(words: &[u64])
+pub(crate) fn words_fit(words: &[u64])
     ensures { All (λ w. w < 2 ^ 64) words.now }
 {}

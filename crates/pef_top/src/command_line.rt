@@ -3,7 +3,7 @@ ghost use Rattle.clap.specs.Words.{app_of, first_of, found_of, rows_of, rule_of,
 ghost use Rattle.clap.specs.declared.builder.command.Command.TheViews.{out-Command};
 ghost use Rattle.pef_top.specs.Command.{command_of, plan_of, texts};
 ghost use Rattle.pef_top.specs.Private.Asked.{asked};
-ghost use Rattle.pef_top.specs.Private.CommandLine.{program_app, generate_app, generate_with, number_in, build_app, query_app, answer_app, inspect_app, answering_app, asked_in, asked_of, plan_option, build_with, query_with, answer_with, AreRead, FailsForMemory};
+ghost use Rattle.pef_top.specs.Private.CommandLine.{program_app, generate_app, generate_with, migrate_app, migrate_with, number_in, build_app, query_app, answer_app, inspect_app, answering_app, asked_in, asked_of, plan_option, build_with, query_with, answer_with, AreRead, FailsForMemory};
 ghost use Rattle.pef_top.specs.Private.Stops.{stop_of_words};
 
 use crate::stop::Stop;
@@ -55,6 +55,8 @@ fn read_subcommand<'a>(verb: &str, texts: &ArgMatches<'a>) -> Option<Command<'a>
         Some(Command::Inspect { index })
     } else if verb == "generate" {
         read_generate(texts)
+    } else if verb == "migrate" {
+        read_migrate(texts)
     } else {
         None
     }
@@ -106,6 +108,15 @@ fn read_generate<'a>(texts: &ArgMatches<'a>) -> Option<Command<'a>>
     })
 }
 
+/// What `migrate` asks for with these texts.
+fn read_migrate<'a>(texts: &ArgMatches<'a>) -> Option<Command<'a>>
+    ensures { option_map asked result ≡ migrate_with (rows_of (found_of texts.now)) }
+{
+    let from = text_of(texts, "from")?;
+    let to = text_of(texts, "to")?;
+    Some(Command::Migrate { from, to })
+}
+
 /// The number of this name among these texts.
 fn read_number(texts: &ArgMatches<'_>, id: &str) -> Option<u32>
     ensures { result ≡ number_in (rows_of (found_of texts.now)) id.now }
@@ -131,11 +142,14 @@ fn text_of<'a>(texts: &ArgMatches<'a>, id: &str) -> Option<&'a str>
 fn program<'a>(alloc: Global) -> Result<clap::Command<'a>, AllocError>
     ensures { IfOk result (λ command. app_of command ≡ program_app) }
 {
-    let (inspect, generate) = (inspect(alloc)?, generate(alloc)?);
-    answering(alloc)?.subcommand(inspect)?.subcommand(generate)
+    let (inspect, generate, migrate) = (inspect(alloc)?, generate(alloc)?, migrate(alloc)?);
+    answering(alloc)?
+        .subcommand(inspect)?
+        .subcommand(generate)?
+        .subcommand(migrate)
 }
 
-/// The same without `inspect` and `generate`.
+/// The same without `inspect`, `generate` and `migrate`.
 fn answering<'a>(alloc: Global) -> Result<clap::Command<'a>, AllocError>
     ensures { IfOk result (λ command. app_of command ≡ answering_app) }
 {
@@ -213,4 +227,14 @@ fn generate<'a>(alloc: Global) -> Result<clap::Command<'a>, AllocError>
         .arg(seed)?
         .arg(documents)?
         .arg(terms)
+}
+
+/// `migrate OLD NEW`
+fn migrate<'a>(alloc: Global) -> Result<clap::Command<'a>, AllocError>
+    ensures app { IfOk result (λ command. app_of command ≡ migrate_app) }
+    ensures local { IfOk result (λ command. (out-Command command).has_globals ≡ false) }
+{
+    let from = Arg::new(alloc, "from").required(true);
+    let to = Arg::new(alloc, "to").required(true);
+    clap::Command::new(alloc, "migrate").arg(from)?.arg(to)
 }

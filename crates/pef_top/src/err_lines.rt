@@ -19,7 +19,7 @@ pub(crate) fn write_line<E: Sink>(err: &mut E, stop: Stop) -> Result<(), IoFail>
     match stop {
         Stop::Usage => write_all_own(
             err,
-            b"usage: pefidx build BASE INDEX [--format FORMAT] | query INDEX [--plan PLAN] | answer BASE [--plan PLAN] | inspect INDEX | generate SEED N T\n",
+            b"usage: pefidx build BASE INDEX [--format FORMAT] | query INDEX [--plan PLAN] | answer BASE [--plan PLAN] | inspect INDEX | generate SEED N T | migrate OLD NEW\n",
         ),
         Stop::Collection(fault) => write_fault(err, fault),
         Stop::Index(fault) => write_index_fault(err, fault),

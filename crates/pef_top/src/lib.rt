@@ -8,6 +8,7 @@ mod err_lines;
 mod generate;
 mod inspect;
 mod laws;
+mod migrate;
 mod query;
 mod status;
 mod stop;
@@ -15,6 +16,6 @@ mod top;
 mod words;
 
 pub use command_steps::{BuildError, Plan, RunFault, answer_text, build_words, plan_top};
-pub use laws::built_files_answer;
+pub use laws::{built_files_answer, migrated_files_answer};
 pub use status::Status;
 pub use top::run;

@@ -5,9 +5,7 @@ ghost use Rattle.pef_top.specs.Private.Stops.{outcome_of_stop};
 use crate::status::Status;
 use clap::error::ErrorKind;
 use collection_reader::Fault;
-use command_steps::{
-    BuildError, GenerateError, LoadIndexError, PrintError, RunFault, WriteIndexError,
-};
+use command_steps::{BuildError, LoadIndexError, MakeError, PrintError, RunFault, WriteIndexError};
 use index_file::OpenFault;
 use pef_io::Slot;
 
@@ -81,15 +79,15 @@ impl From<BuildError> for Stop {
     }
 }
 
-impl From<GenerateError> for Stop {
-    ghost use Rattle.pef_top.specs.Private.Stops.{stop_of_generating};
+impl From<MakeError> for Stop {
+    ghost use Rattle.pef_top.specs.Private.Stops.{stop_of_making};
 
-    ghost from_gives = { λ e stop. stop ≡ stop_of_generating e };
+    ghost from_gives = { λ e stop. stop ≡ stop_of_making e };
 
-    fn from(e: GenerateError) -> Stop {
+    fn from(e: MakeError) -> Stop {
         match e {
-            GenerateError::TooLarge(_) => Stop::LargeIndex,
-            GenerateError::NoMemory => Stop::NoMemory,
+            MakeError::TooLarge(_) => Stop::LargeIndex,
+            MakeError::NoMemory => Stop::NoMemory,
         }
     }
 }

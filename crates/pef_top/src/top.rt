@@ -15,6 +15,7 @@ use crate::command_line::parse_words;
 use crate::err_lines::write_line;
 use crate::generate::generate;
 use crate::inspect::inspect;
+use crate::migrate::migrate;
 use crate::query::query;
 use crate::status::Status;
 use crate::stop::Stop;
@@ -35,7 +36,8 @@ pub(crate) const LONGEST_TEXT: u64 = 1 << 40;
 /// or `maxscore`, the first where none is given, and no reply depends on it. `answer BASE [--plan PLAN]` answers the lines from
 /// an index of format 2 that it builds and does not write. `inspect INDEX` checks that file whole and prints one line that sums
 /// it up. `generate SEED N T` builds the index of a generated collection of N documents and T lists, which it does not write, and
-/// prints what it counts and what it replies. Every status but `Done` has its line on err, which takes no memory; an err that
+/// prints what it counts and what it replies. `migrate OLD NEW` checks the file OLD whole and writes the index of its collection, in
+/// format 2 and in new partitions, as the file NEW. Every status but `Done` has its line on err, which takes no memory; an err that
 /// fails changes no status.
 pub fn run<D: Depot, I: Source, O: Sink, E: Sink, L: Ledger>(
     alloc: Global,
@@ -98,6 +100,7 @@ fn perform<D: Depot, I: Source, O: Sink, L: Ledger>(
             documents,
             terms,
         } => generate(alloc, seed, documents, terms, out, steps),
+        Command::Migrate { from, to } => migrate(alloc, from, to, depot, steps),
     }
 }
 

@@ -1,6 +1,6 @@
 ghost use Rattle.std.specs.Prelude.{◌≡◌, ◌&&◌, ℕ, List, [], ◌∷◌, ◌++◌, bytes_eq, codes, is_some};
 ghost use Rattle.query_text.specs.Numbers.{number_of};
-ghost use Rattle.pef_top.specs.Command.{command_of, format_of, is_file_of, is_text, plan_of, texts};
+ghost use Rattle.pef_top.specs.Command.{build_command, command_of, format_of, is_file_of, is_text, plan_of, texts};
 
 use command_steps::Plan;
 use part_cost::Format;
@@ -29,6 +29,10 @@ pub(crate) enum Command<'a> {
         documents: u32,
         terms: u32,
     },
+    Migrate {
+        from: &'a str,
+        to: &'a str,
+    },
 }
 
 /// Whether the words are a command, the program's name first. The others are refused as usage.
@@ -37,7 +41,9 @@ pub(crate) fn is_command(words: &[String]) -> bool
 {
     match words {
         [_name, verb, text] => takes_one_text(verb.as_str(), text.as_str()),
-        [_name, verb, base, index] => is_build(verb.as_str(), base.as_str(), index.as_str()),
+        [_name, verb, first, second] => {
+            takes_two_texts(verb.as_str(), first.as_str(), second.as_str())
+        }
         [_name, verb, first, second, third] => takes_three_words(
             verb.as_str(),
             first.as_str(),
@@ -74,9 +80,20 @@ fn takes_three_words(verb: &str, first: &str, second: &str, third: &str) -> bool
     }
 }
 
-/// Whether a verb and two texts are a command: `build`, where the index is none of the base's files.
+/// Whether a verb and two texts are a command: `build`, or `migrate` of an index to a file of another name.
+fn takes_two_texts(verb: &str, first: &str, second: &str) -> bool
+    ensures { (name : List ℕ) → result ≡ is_some (command_of (name ∷ verb.now ∷ first.now ∷ second.now ∷ [])) }
+{
+    if verb == "migrate" {
+        can_be_text(first) && can_be_text(second) && first != second
+    } else {
+        is_build(verb, first, second)
+    }
+}
+
+/// Whether a verb and two texts are `build`, where the index is none of the base's files.
 fn is_build(verb: &str, base: &str, index: &str) -> bool
-    ensures { (name : List ℕ) → result ≡ is_some (command_of (name ∷ verb.now ∷ base.now ∷ index.now ∷ [])) }
+    ensures { result ≡ (bytes_eq verb.now (codes "build") && is_some (build_command (base.now ∷ index.now ∷ []))) }
 {
     verb == "build" && can_be_text(base) && can_be_text(index) && !is_file_of(base, index)
 }

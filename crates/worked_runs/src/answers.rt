@@ -6,10 +6,10 @@ use crate::runs::{ANSWER, BUILD, BUILD_ONE, OPS, run_to_replies, steady_run};
 use pef_top::Status;
 
 const USAGE: &str =
-    "usage: pefidx build BASE INDEX [--format FORMAT] | query INDEX [--plan PLAN] | answer BASE [--plan PLAN] | inspect INDEX | generate SEED N T\n";
+    "usage: pefidx build BASE INDEX [--format FORMAT] | query INDEX [--plan PLAN] | answer BASE [--plan PLAN] | inspect INDEX | generate SEED N T | migrate OLD NEW\n";
 
 /// Words that are no command.
-const NO_COMMANDS: [&[&str]; 30] = [
+const NO_COMMANDS: [&[&str]; 33] = [
     &[],
     &["pefidx"],
     &["pefidx", "answer"],
@@ -42,6 +42,9 @@ const NO_COMMANDS: [&[&str]; 30] = [
     &["pefidx", "generate", "x", "1", "1"],
     &["pefidx", "generate", "+1", "1", "1"],
     &["pefidx", "generate", "1", "2"],
+    &["pefidx", "migrate", "x"],
+    &["pefidx", "migrate", "x", "x"],
+    &["pefidx", "migrate", "x", "help"],
 ];
 
 #[test]

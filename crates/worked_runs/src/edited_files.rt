@@ -1,6 +1,7 @@
-// Index files that were changed, by `query`.
+// Index files that were changed, by `query` and `migrate`.
 use crate::indexes::{ONE_LIST_WORDS, bytes_of};
-use crate::runs::{FileList, QUERY, steady_run};
+use crate::runs::{FileList, MIGRATE, QUERY, steady_run};
+use pef_io::Op;
 use pef_top::Status;
 use std::alloc::Global;
 
@@ -39,12 +40,15 @@ fn edits_of_a_file_are_refused_by_name(rt: HostRuntime) {
         let mut words = ONE_LIST_WORDS;
         words[at] = word;
         let bytes = bytes_of(alloc, &words).expect(&rt, "memory");
-        let files = only(alloc, bytes.as_slice()).expect(&rt, "memory");
-        let run = steady_run(alloc, &QUERY, files, b"or 0").expect(&rt, "memory");
-        assert_eq!(rt; run.status, Status::Index, "{at} {word}");
         let wanted = format!(in alloc; "index {line}\n").expect(&rt, "memory");
-        assert_eq!(rt; run.err.bytes(), wanted.as_bytes(), "{at} {word}");
-        assert_eq!(rt; (run.input.calls(), run.out.calls()), (0, 0), "{at} {word}");
+        for command in [QUERY.as_slice(), MIGRATE.as_slice()] {
+            let files = only(alloc, bytes.as_slice()).expect(&rt, "memory");
+            let run = steady_run(alloc, command, files, b"or 0").expect(&rt, "memory");
+            assert_eq!(rt; run.status, Status::Index, "{at} {word}");
+            assert_eq!(rt; run.err.bytes(), wanted.as_bytes(), "{at} {word}");
+            assert_eq!(rt; (run.input.calls(), run.out.calls()), (0, 0), "{at} {word}");
+            assert_eq!(rt; run.depot.calls(Op::Create), 0, "{at} {word}");
+        }
     }
 }
 
@@ -66,10 +70,13 @@ fn files_of_other_lengths_are_no_index(rt: HostRuntime) {
         let alloc = rt.alloc();
         let mut bytes = bytes_of(alloc, &ONE_LIST_WORDS).expect(&rt, "memory");
         bytes.truncate(length);
-        let files = only(alloc, bytes.as_slice()).expect(&rt, "memory");
-        let run = steady_run(alloc, &QUERY, files, b"or 0").expect(&rt, "memory");
-        assert_eq!(rt; run.status, Status::Index, "{length}");
         let wanted = format!(in alloc; "index {check} term 0 part 0\n").expect(&rt, "memory");
-        assert_eq!(rt; run.err.bytes(), wanted.as_bytes(), "{length}");
+        for command in [QUERY.as_slice(), MIGRATE.as_slice()] {
+            let files = only(alloc, bytes.as_slice()).expect(&rt, "memory");
+            let run = steady_run(alloc, command, files, b"or 0").expect(&rt, "memory");
+            assert_eq!(rt; run.status, Status::Index, "{length}");
+            assert_eq!(rt; run.err.bytes(), wanted.as_bytes(), "{length}");
+            assert_eq!(rt; run.depot.calls(Op::Create), 0, "{length}");
+        }
     }
 }

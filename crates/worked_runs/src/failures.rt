@@ -15,17 +15,17 @@ const REPLIES: &[u8] = b"end\n2 0 1\n1 0\n0 1\n";
 
 /// What stands after a run where calls fail.
 #[derive(Drop)]
-struct Failed {
-    status: Status,
-    depot: MemDepot,
-    input: MemSource,
-    out: MemSink,
-    err: MemSink,
+pub(crate) struct Failed {
+    pub(crate) status: Status,
+    pub(crate) depot: MemDepot,
+    pub(crate) input: MemSource,
+    pub(crate) out: MemSink,
+    pub(crate) err: MemSink,
 }
 
 /// Runs the words over the text where each call moves at most `most` bytes, and the calls with these numbers
 /// fail: of the depot, reads of the input, writes on out.
-fn run_failing(
+pub(crate) fn run_failing(
     alloc: Global,
     words: &[&str],
     files: FileList,

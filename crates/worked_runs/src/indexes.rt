@@ -101,7 +101,7 @@ pub(crate) const THREE_LISTS_WORDS: [u64; 29] = [
 ];
 
 /// The words of the three lists in the second format.
-const THREE_LISTS_WORDS_OF_TWO: [u64; 33] = [
+pub(crate) const THREE_LISTS_WORDS_OF_TWO: [u64; 33] = [
     OPENING,
     2,
     0,

@@ -8,7 +8,7 @@ use pef_io::{MemSink, Op, SteadyDepot, SteadySink, SteadySource};
 use pef_top::Status;
 
 /// The words of the one list in the first format, its documents in two parts of one document.
-const DOCUMENTS_IN_TWO_PARTS: [u64; 20] = [
+pub(crate) const DOCUMENTS_IN_TWO_PARTS: [u64; 20] = [
     OPENING,
     1,
     68719476736,

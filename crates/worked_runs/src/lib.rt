@@ -23,6 +23,8 @@ mod inspections;
 #[cfg(test)]
 mod long_lists;
 #[cfg(test)]
+mod migrations;
+#[cfg(test)]
 mod plans;
 #[cfg(test)]
 mod runs;

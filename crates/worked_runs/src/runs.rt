@@ -23,6 +23,9 @@ pub(crate) const BUILD_ONE: [&str; 6] = ["pefidx", "build", "x", "y", "--format"
 /// The words of a run that answers from the index `y`.
 pub(crate) const QUERY: [&str; 3] = ["pefidx", "query", "y"];
 
+/// The words of a run that migrates the index `y` to the index `z`.
+pub(crate) const MIGRATE: [&str; 4] = ["pefidx", "migrate", "y", "z"];
+
 /// The words of a run that sums the index `y` up.
 pub(crate) const INSPECT: [&str; 3] = ["pefidx", "inspect", "y"];
 

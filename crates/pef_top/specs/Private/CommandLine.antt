@@ -6,7 +6,7 @@ use Rattle.clap.specs.declared.parser.matches.ArgMatches.{ArgMatches}
 use Rattle.part_cost.specs.declared.formats.Format.{Format}
 use Rattle.query_text.specs.Numbers.{number_of}
 use Rattle.command_steps.specs.declared.plan.Plan.{Plan}
-use Rattle.pef_top.specs.Command.{Command, Build, Query, Answer, Inspect, command_of, format_of, plan_of, generate_of}
+use Rattle.pef_top.specs.Command.{Command, Build, Query, Answer, Inspect, Migrate, command_of, format_of, plan_of, generate_of}
 
 -- a positional that a subcommand requires
 abbrev pub required : Text → Rule
@@ -40,13 +40,17 @@ inspect_app = with_rule (new_app (codes "inspect")) (required (codes "index"))
 abbrev pub generate_app : App
 generate_app = with_rule (with_rule (with_rule (new_app (codes "generate")) (required (codes "seed"))) (required (codes "documents"))) (required (codes "terms"))
 
--- the command line without `inspect` and `generate`
+-- `migrate OLD NEW`
+abbrev pub migrate_app : App
+migrate_app = with_rule (with_rule (new_app (codes "migrate")) (required (codes "from"))) (required (codes "to"))
+
+-- the command line without `inspect`, `generate` and `migrate`
 abbrev pub answering_app : App
 answering_app = with_subcommand (with_subcommand (with_subcommand (new_app (codes "pefidx")) build_app.top) query_app.top) answer_app.top
 
 -- the command line of the program
 abbrev pub program_app : App
-program_app = with_subcommand (with_subcommand answering_app inspect_app.top) generate_app.top
+program_app = with_subcommand (with_subcommand (with_subcommand answering_app inspect_app.top) generate_app.top) migrate_app.top
 
 -- a base, an index and a format, where there are all three
 abbrev pub build_from : Option Text → Option Text → Option Format → Option Command
@@ -78,6 +82,15 @@ number_in rows id = option_and_then number_of (first_of id rows)
 abbrev pub generate_with : List Row → Option Command
 generate_with rows = generate_of (number_in rows (codes "seed")) (number_in rows (codes "documents")) (number_in rows (codes "terms"))
 
+-- two texts, where there are both
+abbrev pub migrate_from : Option Text → Option Text → Option Command
+migrate_from (Some from) (Some to) = Some (Migrate from to)
+migrate_from from to = None
+
+-- what `migrate` asks for with these texts
+abbrev pub migrate_with : List Row → Option Command
+migrate_with rows = migrate_from (first_of (codes "from") rows) (first_of (codes "to") rows)
+
 -- what a subcommand asks for with these texts
 abbrev pub asked_of : Text → List Row → Option Command
 asked_of verb rows =
@@ -86,6 +99,7 @@ asked_of verb rows =
     else if bytes_eq verb (codes "answer") then answer_with rows
     else if bytes_eq verb (codes "inspect") then option_map Inspect (first_of (codes "index") rows)
     else if bytes_eq verb (codes "generate") then generate_with rows
+    else if bytes_eq verb (codes "migrate") then migrate_with rows
     else None
 
 -- what the matches of the words ask for

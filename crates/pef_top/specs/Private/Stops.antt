@@ -6,8 +6,8 @@ use Rattle.clap.specs.declared.error.kind.ErrorKind.TheVariants.{OutOfMemory}
 use Rattle.pef_io.specs.declared.fail.Slot.TheVariants.{Index}
 use Rattle.command_steps.specs.declared.build.BuildError.{BuildError}
 use Rattle.command_steps.specs.declared.build.BuildError.TheVariants as building
-use Rattle.command_steps.specs.declared.generate.GenerateError.{GenerateError}
-use Rattle.command_steps.specs.declared.generate.GenerateError.TheVariants as generating
+use Rattle.command_steps.specs.declared.made.MakeError.{MakeError}
+use Rattle.command_steps.specs.declared.made.MakeError.TheVariants as making
 use Rattle.command_steps.specs.declared.loading.LoadIndexError.{LoadIndexError}
 use Rattle.command_steps.specs.declared.loading.LoadIndexError.TheVariants as loading
 use Rattle.command_steps.specs.declared.writing.WriteIndexError.{WriteIndexError}
@@ -43,9 +43,9 @@ stop_of_building (building.TooLarge count) = stop.LargeIndex
 stop_of_building building.NoMemory = stop.NoMemory
 
 -- where a run stops that could not make its words
-abbrev pub stop_of_generating : GenerateError → Stop
-stop_of_generating (generating.TooLarge count) = stop.LargeIndex
-stop_of_generating generating.NoMemory = stop.NoMemory
+abbrev pub stop_of_making : MakeError → Stop
+stop_of_making (making.TooLarge count) = stop.LargeIndex
+stop_of_making making.NoMemory = stop.NoMemory
 
 -- where a run stops that could not load its words
 abbrev pub stop_of_loading : LoadIndexError → Stop

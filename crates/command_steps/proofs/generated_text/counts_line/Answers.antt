@@ -1,4 +1,4 @@
-use Rattle.std.proofs.Common.{◌≡◌, sym, ap, ◌∙◌, List, ℕ, ◌++◌, rules, append_assoc, string_bytes, IfOk}
+use Rattle.std.proofs.Common.{◌≡◌, ◌∙◌, List, ℕ, ◌++◌, rules, append_assoc, string_bytes, IfOk}
 use Rattle.std.specs.Prelude.{codes, decimal}
 use Rattle.command_model.specs.GeneratedText.{counts_line}
 use Rattle.command_steps.proofs.AskedLines.{made-so}

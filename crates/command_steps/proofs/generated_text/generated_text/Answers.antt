@@ -1,5 +1,5 @@
 -- The line alone, or the line and four replies.
-use Rattle.std.proofs.Common.{◌≡◌, sym, ap, ◌∙◌, subst, List, ℕ, [], ◌∷◌, ◌++◌, ◌<◌, length, arith}
+use Rattle.std.proofs.Common.{◌≡◌, sym, ap, ◌∙◌, subst, List, ℕ, [], ◌∷◌, ◌++◌, arith}
 use Rattle.collection_model.specs.Collection.{Collection}
 use Rattle.part_cost.specs.Formats.{numbers_of}
 use Rattle.command_model.specs.Replies.{IsReply}

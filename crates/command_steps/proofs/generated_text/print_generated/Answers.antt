@@ -1,8 +1,8 @@
 -- The text is made and written, or not.
-use Rattle.std.proofs.Common.{◌∙◌, subst, List, ℕ, Err, Ok, inl, inr}
+use Rattle.std.proofs.Common.{subst, List, ℕ, Err, inr}
 use Rattle.std.proofs.lemmas.Result.{err_from_is_err_and}
 use Rattle.pef_io.specs.Helpers.{WritesAll}
-use Rattle.command_steps.proofs.PrintedLine.{not-printed, printed}
+use Rattle.command_steps.proofs.PrintedLine.{not-printed}
 use Rattle.command_steps.proofs.generated_text.print_generated.Goals as goal
 
 pub returns-in_err-write_all_own : goal.returns-in_err-write_all_own

@@ -2,7 +2,8 @@ use Rattle.std.proofs.Common.{ℕ, ◌^◌, ◌<◌, sym, ◌∙◌, ap, subst, 
 use Rattle.std.specs.List.{All}
 use Rattle.std.proofs.lemmas.Result.{err_from_is_err_and}
 use Rattle.pef_top.specs.Private.Stops.{outcome_of}
-use Rattle.pef_top.proofs.FileWritten.{build_refused, build_ended, written_outcome}
+use Rattle.pef_top.proofs.WordsWritten.{written_outcome}
+use Rattle.pef_top.proofs.FileWritten.{build_refused, build_ended}
 use Rattle.pef_top.proofs.build.build.Goals as goal
 
 pub returns-in_err-words : goal.returns-in_err-words

@@ -54,3 +54,11 @@ returns-in-Generate-clause-leaves g c = λ e e'.
     (outside (g.D.Depot.state c.args.depot.now) (g.I.Source.state c.args.input.now) (g.O.Sink.state c.generate.new.out) e' c.generate.new.steps) (outcome_of c.generate.result) in
     subst P (sym (ap (λ x. Some (asked x)) c.in-Generate.is) ∙ c.in_ok-command.ensures.command)
     (c.generate.ensures.leaves (g.D.Depot.state c.args.depot.now) (g.I.Source.state c.args.input.now) e e')
+
+pub returns-in-Migrate-clause-leaves : goal.returns-in-Migrate-clause-leaves
+returns-in-Migrate-clause-leaves g c = λ e e'.
+    let P : Option Command → Type 0 = λ command. Leaves command
+    (outside (g.D.Depot.state c.args.depot.now) (g.I.Source.state c.args.input.now) (g.O.Sink.state c.args.out.now) e c.args.steps.now)
+    (outside (g.D.Depot.state c.migrate.new.depot) (g.I.Source.state c.args.input.now) (g.O.Sink.state c.args.out.now) e' c.migrate.new.steps) (outcome_of c.migrate.result) in
+    subst P (sym (ap (λ x. Some (asked x)) c.in-Migrate.is) ∙ c.in_ok-command.ensures.command)
+    (c.migrate.ensures (g.I.Source.state c.args.input.now) (g.O.Sink.state c.args.out.now) e e')

@@ -11,24 +11,24 @@ returns-in-len3 c =
 
 pub returns-in-len4 : goal.returns-in-len4
 returns-in-len4 c =
-    c.is_build.ensures (string_bytes c._name-item-then-words-lt5.result)
-    ∙ ap (λ words. is_some (command_of words)) (sym (four c.args.words.now c._name-item-then-words-lt5.result c.verb-item-then-words-lt5.result c.base-item.result c.index-item.result _ _ _
-    c.in-len4.len_at_least c.in-len4.len_below c._name-item-then-words-lt5.is c.verb-item-then-words-lt5.is c.base-item.is c.index-item.is
+    c.takes_two_texts.ensures (string_bytes c._name-item-then-words-lt5.result)
+    ∙ ap (λ words. is_some (command_of words)) (sym (four c.args.words.now c._name-item-then-words-lt5.result c.verb-item-then-words-lt5.result c.first-item.result c.second-item.result _ _ _
+    c.in-len4.len_at_least c.in-len4.len_below c._name-item-then-words-lt5.is c.verb-item-then-words-lt5.is c.first-item.is c.second-item.is
     c.as_str-in-len4.ensures.value c.as_str-in-len4-2.ensures.value c.as_str-in-len4-3.ensures.value))
 
 pub returns-in-len5 : goal.returns-in-len5
 returns-in-len5 c =
     c.takes_three_words.ensures (string_bytes c._name-item-then-words-lt6.result)
-    ∙ ap (λ words. is_some (command_of words)) (sym (five c.args.words.now c._name-item-then-words-lt6.result c.verb-item-then-words-lt6.result c.first-item.result c.second-item.result c.third-item.result _ _ _ _
-    c.in-len5.len_at_least c.in-len5.len_below c._name-item-then-words-lt6.is c.verb-item-then-words-lt6.is c.first-item.is c.second-item.is c.third-item.is
+    ∙ ap (λ words. is_some (command_of words)) (sym (five c.args.words.now c._name-item-then-words-lt6.result c.verb-item-then-words-lt6.result c.first-item-then-words-lt6.result c.second-item-then-words-lt6.result c.third-item.result _ _ _ _
+    c.in-len5.len_at_least c.in-len5.len_below c._name-item-then-words-lt6.is c.verb-item-then-words-lt6.is c.first-item-then-words-lt6.is c.second-item-then-words-lt6.is c.third-item.is
     c.as_str-in-len5.ensures.value c.as_str-in-len5-2.ensures.value c.as_str-in-len5-3.ensures.value c.as_str-in-len5-4.ensures.value))
 
 pub returns-in-len6 : goal.returns-in-len6
 returns-in-len6 c =
     c.is_build_in.ensures (string_bytes c._name-item-then-words-lt7.result)
-    ∙ ap (λ words. is_some (command_of words)) (sym (six c.args.words.now c._name-item-then-words-lt7.result c.verb-item-then-words-lt7.result c.base-item-then-words-lt7.result c.index-item-then-words-lt7.result
+    ∙ ap (λ words. is_some (command_of words)) (sym (six c.args.words.now c._name-item-then-words-lt7.result c.verb-item-then-words-lt7.result c.base-item.result c.index-item.result
     c.option-item.result c.format-item.result _ _ _ _ _
-    c.in-len6.len_at_least c.in-len6.len_below c._name-item-then-words-lt7.is c.verb-item-then-words-lt7.is c.base-item-then-words-lt7.is c.index-item-then-words-lt7.is
+    c.in-len6.len_at_least c.in-len6.len_below c._name-item-then-words-lt7.is c.verb-item-then-words-lt7.is c.base-item.is c.index-item.is
     c.option-item.is c.format-item.is
     c.as_str-in-len6.ensures.value c.as_str-in-len6-2.ensures.value c.as_str-in-len6-3.ensures.value c.as_str-in-len6-4.ensures.value c.as_str-in-len6-5.ensures.value))
 

@@ -1,0 +1,68 @@
+ghost use Rattle.std.specs.Prelude.{◌≡◌, ℕ, length, IfOk, OnOk};
+ghost use Rattle.collection_model.specs.Collection.{postings_of};
+ghost use Rattle.command_steps.specs.MadeWords.{AreWordsOf, WouldBeTooMany};
+
+use crate::made::MakeError;
+use cursor_api::DocCursor;
+use index_file::{Builder, Index, files_spell_collections, lists_are_counted};
+use part_cost::Format;
+use std::alloc::{AllocError, Global};
+use std::sync::ledger::Ledger;
+use step_count::Steps;
+
+/// The words of the index file of the collection that an index of either format stands for, in the second format and cut anew into
+/// near-cheapest parts. Each list is added as soon as its cursor was read, so the collection is never held. Part costs are counted as
+/// in building.
+pub fn migrated_words<L: Ledger>(
+    alloc: Global,
+    index: &Index<'_>,
+    steps: &mut Steps<L>,
+) -> Result<Vec<u64>, MakeError>
+    ensures words { IfOk result (λ words. AreWordsOf Format.Two index.now.collection steps.old steps.new words.items) }
+    ensures too_large { (n : ℕ) → result ≡ Err (MakeError.TooLarge n) → WouldBeTooMany Format.Two index.now.collection steps.old steps.new n }
+{
+    lists_are_counted();
+    files_spell_collections();
+    index.stands_for_a_collection();
+    let mut builder = Builder::new(alloc, index.documents(), Format::Two)?;
+    let mut docs = Vec::new(alloc);
+    let mut freqs = Vec::new(alloc);
+    for term in 0..index.terms() {
+        read_list(&mut index.cursor(term), &mut docs, &mut freqs)?;
+        builder.add_list(&docs, &freqs, steps)?;
+    }
+    let sizes = sizes_of(alloc, index)?;
+    Ok(builder.finish(&sizes)?)
+}
+
+/// Reads the list of a cursor that stands at its start, in place of what the vectors hold.
+fn read_list<C: DocCursor>(
+    cursor: &mut C,
+    docs: &mut Vec<u32>,
+    freqs: &mut Vec<u32>,
+) -> Result<(), AllocError>
+    requires start { C.place cursor.old ≡ 0 }
+    ensures same_length { OnOk result (length docs.new.items ≡ length freqs.new.items) }
+    ensures list { OnOk result (postings_of docs.new.items freqs.new.items ≡ C.list cursor.old) }
+{
+    docs.clear();
+    freqs.clear();
+    while let Some(doc) = cursor.doc() {
+        docs.push(doc)?;
+        freqs.push(cursor.freq())?;
+        cursor.advance();
+    }
+    Ok(())
+}
+
+/// The size of each document.
+fn sizes_of(alloc: Global, index: &Index<'_>) -> Result<Vec<u32>, AllocError>
+    ensures { IfOk result (λ sizes. sizes.items ≡ index.now.collection.sizes) }
+{
+    index.stands_for_a_collection();
+    let mut sizes = Vec::new(alloc);
+    for document in 0..index.documents() {
+        sizes.push(index.size_of(document))?;
+    }
+    Ok(sizes)
+}

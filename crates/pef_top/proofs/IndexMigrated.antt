@@ -1,0 +1,241 @@
+-- What `migrate` leaves.
+use Rattle.std.proofs.Common.{◌≡◌, ℕ, ◌≤◌, ◌<◌, ◌^◌, refl, sym, ◌∙◌, ap, subst, List, length, inl, inr}
+use Rattle.std.specs.Prelude.{◌≢◌, Result, Ok, Err, Some, Vec}
+use Rattle.std.specs.List.{All}
+use Rattle.std.specs.declared.alloc.Global.{Global}
+use Rattle.collection_model.specs.Collection.{Collection}
+use Rattle.part_cost.specs.Formats.{numbers_of}
+use Rattle.pef_io.specs.SourceState.{SourceState}
+use Rattle.pef_io.specs.SinkState.{SinkState}
+use Rattle.pef_io.specs.DepotState.{DepotState}
+use Rattle.index_file.specs.declared.fault.OpenFault.{OpenFault}
+use Rattle.index_file.specs.FileWords.{IsIndex, ListParts, Spells}
+use Rattle.index_file.specs.FirstBroken.{IsFirstBroken}
+use Rattle.index_file.specs.Builder.{most_words}
+use Rattle.index_file.specs.IndexView.{IndexView}
+use Rattle.index_file.specs.Laws.{WordsAreRead, OneBrokenCheck}
+use Rattle.command_model.specs.Found.{IsIndexSlot}
+use Rattle.command_model.specs.Built.{AreCut}
+use Rattle.command_steps.specs.declared.loading.LoadIndexError.{LoadIndexError}
+use Rattle.command_steps.specs.declared.loading.LoadIndexError.TheVariants as loading
+use Rattle.command_steps.specs.declared.made.MakeError.{MakeError}
+use Rattle.command_steps.specs.declared.made.MakeError.TheVariants as making
+use Rattle.command_steps.specs.declared.writing.WriteIndexError.{WriteIndexError}
+use Rattle.command_steps.specs.declared.writing.WriteIndexError.TheVariants as writing
+use Rattle.command_steps.specs.LoadIndex.{LoadsWords, words_loaded}
+use Rattle.command_steps.specs.MadeWords.{AreWordsOf, WouldBeTooMany}
+use Rattle.command_steps.specs.WriteIndex.{WritesWords}
+use Rattle.pef_top.specs.declared.stop.Stop.{Stop}
+use Rattle.pef_top.specs.declared.stop.Stop.TheVariants as stop
+use Rattle.pef_top.specs.Command.{Migrate}
+use Rattle.pef_top.specs.Outside.{Outside, outside}
+use Rattle.pef_top.specs.Outcome.{Outcome, Done, Usage, BrokenCollection, BrokenIndex, FileFault, InputFault, IndexWriteFault, OutFault, NoMemory, IndexTooLarge, InputTooLarge}
+use Rattle.pef_top.specs.FoundIndex.{FindsIndexOf}
+use Rattle.pef_top.specs.Built.{AreBuilt, BuildsWordsThen}
+use Rattle.pef_top.specs.ReadingIndex.{ReadsIndexThen}
+use Rattle.pef_top.specs.WrittenIndex.{WritesIndex, WritesOnlyAccepted}
+use Rattle.pef_top.specs.Migrate.{ReadsOldThen, migrate_format}
+use Rattle.pef_top.specs.Private.Leaves.{Leaves}
+use Rattle.pef_top.specs.Private.Stops.{outcome_of, stop_of_loading, stop_of_making}
+use Rattle.pef_top.proofs.Counted.{stays, or_larger}
+use Rattle.pef_top.proofs.IndexLoaded.{unloaded, unloaded_writing, unloaded_input, unloaded_out, ends_unloaded, refuses_unloaded, complete_unloaded, slots_unloaded, loaded_counts, lent_loaded, breaks, refuses_broken, refuses_none, found_index, index_words}
+use Rattle.pef_top.proofs.WordsMade.{unmade_words, unmade_faults}
+use Rattle.pef_top.proofs.WordsWritten.{written_outcome, not_no_index, not_too_large, left}
+
+-- a run that ends at the reading
+at_reading : (name : List ℕ) (old : Outside) (Then : Outcome → Type 0) (outcome : Outcome) → ReadsIndexThen name old Then outcome → ReadsOldThen name old Then outcome
+at_reading name old Then Done h = h
+at_reading name old Then Usage h = h
+at_reading name old Then (BrokenCollection fault) h = h
+at_reading name old Then (BrokenIndex fault) h = h
+at_reading name old Then (FileFault slot) h = h
+at_reading name old Then InputFault h = h
+at_reading name old Then IndexWriteFault h = h
+at_reading name old Then OutFault h = h
+at_reading name old Then NoMemory h = h
+at_reading name old Then IndexTooLarge h = inl h
+at_reading name old Then InputTooLarge h = h
+
+-- or at the writing behind it
+behind_reading : (name : List ℕ) (old : Outside) (Then : Outcome → Type 0) (r : Result (Unit {0}) WriteIndexError) → Then (written_outcome r)
+    → ReadsOldThen name old Then (written_outcome r)
+behind_reading name old Then (Ok u) then = then
+behind_reading name old Then (Err writing.Write) then = then
+behind_reading name old Then (Err writing.NoMemory) then = then
+
+not_done : (e : LoadIndexError) → unloaded e ≢ Done
+not_done (loading.Broken fault) h = let s : BrokenIndex fault ≡ Done = h in cc
+not_done loading.Read h = let s : ◌≡◌ {A = Outcome} (unloaded loading.Read) Done = h in cc
+not_done loading.TooLarge h = let s : IndexTooLarge ≡ Done = h in cc
+not_done loading.NoMemory h = let s : NoMemory ≡ Done = h in cc
+
+module _ (from to : List ℕ) (d d1 : DepotState) (i : SourceState) (o e e' : SinkState) (s : ℕ) where
+  -- what is done behind the reading
+  abbrev Then : Outside → Outcome → Type 0
+  Then new = BuildsWordsThen migrate_format (FindsIndexOf from d) (outside d i o e s) new (WritesIndex migrate_format (FindsIndexOf from d) to (outside d i o e s) new)
+
+  -- where only the old index is read, nothing is written
+  only_read : (new : SinkState) (s' : ℕ) (words : Result (List ℕ) LoadIndexError) (outcome : Outcome) → LoadsWords from d d1 words
+      → WritesOnlyAccepted IsIndexSlot ((c : Collection) × FindsIndexOf from d c) (outside d i o e s) (outside d1 i o new s') outcome
+  only_read new s' words outcome w =
+      record { refused = λ h. w.reads; unaccepted = λ h. w.reads; stay_started = w.reads.stay_started; other_slots = w.reads.other_slots }
+
+  -- no words were loaded
+  not_loaded : (error : LoadIndexError) → LoadsWords from d d1 (Err error) → Leaves (Some (Migrate from to)) (outside d i o e s) (outside d1 i o e' s) (unloaded error)
+  not_loaded error w = record {
+    performs = record {
+      ends = at_reading from (outside d i o e s) (Then (outside d1 i o e' s)) (unloaded error)
+          (ends_unloaded from d d1 i o e e' s (Then (outside d1 i o e' s)) (inl (record { files = w.reads.files; writing = w.reads.writing })) error w);
+      opens = λ is. absurd (not_done error is);
+      refuses = inr (refuses_unloaded from d d1 i o e e' s error w);
+      complete = λ t c found none. or_larger Done _ (complete_unloaded from d d1 i o e e' s Done error w t c found none);
+      depot = only_read e' s (Err error) (unloaded error) w;
+    };
+    faults = record {
+      slots = slots_unloaded from d d1 i o e e' s error w;
+      writing = stays IndexWriteFault (unloaded error) _ _ (unloaded_writing error) w.reads.writing_count;
+      input = stays InputFault (unloaded error) _ _ (unloaded_input error) refl;
+      out = stays OutFault (unloaded error) _ _ (unloaded_out error) refl;
+    };
+    depot_tells = w.reads.tells;
+    input_tells = refl;
+    out_tells = refl;
+  }
+
+  module _ (words_read : WordsAreRead) (one : OneBrokenCheck) (words : List ℕ) (w : LoadsWords from d d1 (Ok words)) where
+    -- they are no index, and their first broken check is the file's
+    not_opened : (fault : OpenFault) → ¬ IsIndex words → IsFirstBroken words fault
+        → Leaves (Some (Migrate from to)) (outside d i o e s) (outside d1 i o e' s) (BrokenIndex fault)
+    not_opened fault denied first = record {
+      performs = record {
+        ends = λ t. breaks words_read one from d d1 words w fault first t;
+        opens = λ is. let bad : BrokenIndex fault ≡ Done = is in cc;
+        refuses = inr (refuses_broken words_read one from d d1 words w i o e s fault denied first);
+        complete = λ t c found none. absurd (denied (index_words words_read from d words c t (w.words t) found));
+        depot = only_read e' s (Ok words) (BrokenIndex fault) w;
+      };
+      faults = record {
+        slots = λ slot. stays (FileFault slot) (BrokenIndex fault) _ _ (λ h. cc) (loaded_counts from d d1 words w slot);
+        writing = stays IndexWriteFault (BrokenIndex fault) _ _ (λ h. cc) w.reads.writing_count;
+        input = stays InputFault (BrokenIndex fault) _ _ (λ h. cc) refl;
+        out = stays OutFault (BrokenIndex fault) _ _ (λ h. cc) refl;
+      };
+      depot_tells = w.reads.tells;
+      input_tells = refl;
+      out_tells = refl;
+    }
+
+    -- they are an index
+    module _ (index : IndexView) (spells : Spells (numbers_of index.format) words index.collection index.parts) (s' : ℕ) where
+      -- what was cut is its collection
+      cut_of_found : (parts : List ListParts) → AreCut migrate_format (λ built. built ≡ index.collection) s s' index.collection parts
+          → AreCut migrate_format (FindsIndexOf from d) s s' index.collection parts
+      cut_of_found parts cut = record { collection = found_index words_read one from d d1 words w index spells; near = cut.near; counted = cut.counted }
+
+      -- and no new words were made
+      not_made : (error : MakeError) → ((n : ℕ) → error ≡ making.TooLarge n → WouldBeTooMany migrate_format index.collection s s' n)
+          → Leaves (Some (Migrate from to)) (outside d i o e s) (outside d1 i o e' s') (unmade_words error)
+      not_made (making.TooLarge n) too_large =
+          let many = too_large n refl in
+          record {
+            performs = record {
+              ends = inr (index.collection, many.parts, cut_of_found many.parts many.cut, subst (λ k. most_words < k) many.count many.too_many);
+              opens = λ is. let bad : IndexTooLarge ≡ Done = is in cc;
+              refuses = inl ((index.collection, found_index words_read one from d d1 words w index spells), refl);
+              complete = λ t c found none. inr (inl refl);
+              depot = only_read e' s' (Ok words) IndexTooLarge w;
+            };
+            faults = unmade_faults (making.TooLarge n) (outside d i o e s) (outside d1 i o e' s') (loaded_counts from d d1 words w) w.reads.writing_count refl refl;
+            depot_tells = w.reads.tells;
+            input_tells = refl;
+            out_tells = refl;
+          }
+      not_made making.NoMemory too_large = record {
+        performs = record {
+          ends = inl (record { files = w.reads.files; writing = w.reads.writing });
+          opens = λ is. let bad : NoMemory ≡ Done = is in cc;
+          refuses = inr (refuses_none words_read one from d d1 words w i o e s index spells NoMemory (λ h. cc) (λ fault h. cc));
+          complete = λ t c found none. inr (inr refl);
+          depot = only_read e' s' (Ok words) NoMemory w;
+        };
+        faults = unmade_faults making.NoMemory (outside d i o e s) (outside d1 i o e' s') (loaded_counts from d d1 words w) w.reads.writing_count refl refl;
+        depot_tells = w.reads.tells;
+        input_tells = refl;
+        out_tells = refl;
+      }
+
+      -- or they were made, and written or not
+      is_written : (d2 : DepotState) (made : List ℕ) → AreWordsOf migrate_format index.collection s s' made → All (λ x. x < 2 ^ 64) made
+          → (r : Result (Unit {0}) WriteIndexError) → WritesWords made to d1 d2 r
+          → Leaves (Some (Migrate from to)) (outside d i o e s) (outside d2 i o e' s') (written_outcome r)
+      is_written d2 made are fit r v =
+          let Is : Collection → Type 0 = FindsIndexOf from d in
+          let c = index.collection in
+          let found : Is c = found_index words_read one from d d1 words w index spells in
+          let built : AreBuilt migrate_format Is s s' c are.parts =
+          record { cut = cut_of_found are.parts are.cut; within = subst (λ ws. length ws ≤ most_words) are.spelled.spelled are.within } in
+          let all = left migrate_format Is IsIndexSlot to d d1 d2 i o e e' s s' made w.reads c are.parts built are.spelled.spelled ((c : Collection) × Is c) (c, found)
+          fit are.spelled.well_formed (loaded_counts from d d1 words w) r v in
+          record {
+            performs = record {
+              ends = behind_reading from (outside d i o e s) (Then (outside d2 i o e' s')) r all.ends;
+              opens = λ is. (c, found, (are.parts, all.found is));
+              refuses = inr (refuses_none words_read one from d d1 words w i o e s index spells (written_outcome r) (not_too_large r) (not_no_index r));
+              complete = λ t c found none. all.complete none;
+              depot = all.depot;
+            };
+            faults = all.faults;
+            depot_tells = v.writes.tells ∙ w.reads.tells;
+            input_tells = refl;
+            out_tells = refl;
+          }
+
+-- ---- the same of what `migrate` gives
+
+-- its words were not loaded
+pub migrate_refused : (from to : List ℕ) (d d1 : DepotState) (i : SourceState) (o e e' : SinkState) (s : ℕ)
+    (loaded : Result (Vec ℕ Global) LoadIndexError) (error : LoadIndexError) (r : Result (Unit {0}) Stop)
+    → LoadsWords from d d1 (words_loaded loaded) → loaded ≡ Err error → r ≡ Err (stop_of_loading error)
+    → Leaves (Some (Migrate from to)) (outside d i o e s) (outside d1 i o e' s) (outcome_of r)
+migrate_refused from to d d1 i o e e' s loaded error r w was is =
+    let W : Result (Vec ℕ Global) LoadIndexError → Type 0 = λ x. LoadsWords from d d1 (words_loaded x) in
+    let P : Result (Unit {0}) Stop → Type 0 = λ x. Leaves (Some (Migrate from to)) (outside d i o e s) (outside d1 i o e' s) (outcome_of x) in
+    subst P (sym is) (not_loaded from to d d1 i o e e' s error (subst W was w))
+
+-- they are no index
+pub migrate_unopened : WordsAreRead → OneBrokenCheck → (from to : List ℕ) (d d1 : DepotState) (i : SourceState) (o e e' : SinkState) (s : ℕ)
+    (loaded : Result (Vec ℕ Global) LoadIndexError) (words : Vec ℕ Global) (lent : List ℕ) (fault : OpenFault) (r : Result (Unit {0}) Stop)
+    → LoadsWords from d d1 (words_loaded loaded) → loaded ≡ Ok words → lent ≡ words.items
+    → ¬ IsIndex lent → IsFirstBroken lent fault → r ≡ Err (stop.Index fault)
+    → Leaves (Some (Migrate from to)) (outside d i o e s) (outside d1 i o e' s) (outcome_of r)
+migrate_unopened read one from to d d1 i o e e' s loaded words lent fault r w was lends denied first is =
+    let P : Result (Unit {0}) Stop → Type 0 = λ x. Leaves (Some (Migrate from to)) (outside d i o e s) (outside d1 i o e' s) (outcome_of x) in
+    subst P (sym is) (not_opened from to d d1 i o e e' s read one lent (lent_loaded from d d1 loaded words lent w was lends) fault denied first)
+
+-- no words were made of the index
+pub migrate_unmade : WordsAreRead → OneBrokenCheck → (from to : List ℕ) (d d1 : DepotState) (i : SourceState) (o e e' : SinkState) (s s' : ℕ)
+    (loaded : Result (Vec ℕ Global) LoadIndexError) (words : Vec ℕ Global) (lent : List ℕ) (index : IndexView)
+    (made : Result (Vec ℕ Global) MakeError) (error : MakeError) (r : Result (Unit {0}) Stop)
+    → LoadsWords from d d1 (words_loaded loaded) → loaded ≡ Ok words → lent ≡ words.items
+    → Spells (numbers_of index.format) lent index.collection index.parts
+    → ((n : ℕ) → made ≡ Err (making.TooLarge n) → WouldBeTooMany migrate_format index.collection s s' n) → made ≡ Err error → r ≡ Err (stop_of_making error)
+    → Leaves (Some (Migrate from to)) (outside d i o e s) (outside d1 i o e' s') (outcome_of r)
+migrate_unmade read one from to d d1 i o e e' s s' loaded words lent index made error r w was lends spells too_large unmade is =
+    let P : Result (Unit {0}) Stop → Type 0 = λ x. Leaves (Some (Migrate from to)) (outside d i o e s) (outside d1 i o e' s') (outcome_of x) in
+    subst P (sym is)
+    (not_made from to d d1 i o e e' s read one lent (lent_loaded from d d1 loaded words lent w was lends) index spells s' error (λ n h. too_large n (unmade ∙ ap Err h)))
+
+-- they were written, or not
+pub migrate_ended : WordsAreRead → OneBrokenCheck → (from to : List ℕ) (d d1 d2 : DepotState) (i : SourceState) (o e e' : SinkState) (s s' : ℕ)
+    (loaded : Result (Vec ℕ Global) LoadIndexError) (words : Vec ℕ Global) (lent : List ℕ) (index : IndexView) (made : Vec ℕ Global) (lent_made : List ℕ)
+    (written : Result (Unit {0}) WriteIndexError) (r : Result (Unit {0}) Stop)
+    → LoadsWords from d d1 (words_loaded loaded) → loaded ≡ Ok words → lent ≡ words.items
+    → Spells (numbers_of index.format) lent index.collection index.parts
+    → AreWordsOf migrate_format index.collection s s' made.items → lent_made ≡ made.items → All (λ x. x < 2 ^ 64) made.items
+    → WritesWords lent_made to d1 d2 written → outcome_of r ≡ written_outcome written
+    → Leaves (Some (Migrate from to)) (outside d i o e s) (outside d2 i o e' s') (outcome_of r)
+migrate_ended read one from to d d1 d2 i o e e' s s' loaded words lent index made lent_made written r w was lends spells are made_lends fit v is =
+    let V : List ℕ → Type 0 = λ ws. WritesWords ws to d1 d2 written in
+    let P : Outcome → Type 0 = λ x. Leaves (Some (Migrate from to)) (outside d i o e s) (outside d2 i o e' s') x in
+    subst P (sym is)
+    (is_written from to d d1 i o e e' s read one lent (lent_loaded from d d1 loaded words lent w was lends) index spells s' d2 made.items are fit written (subst V made_lends v))

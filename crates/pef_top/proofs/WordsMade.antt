@@ -1,0 +1,30 @@
+-- How a run ends that did not make its words.
+use Rattle.std.proofs.Common.{◌≡◌}
+use Rattle.pef_io.specs.declared.fail.Slot.{Slot}
+use Rattle.command_steps.specs.declared.made.MakeError.{MakeError}
+use Rattle.command_steps.specs.declared.made.MakeError.TheVariants as making
+use Rattle.pef_top.specs.Outside.{Outside}
+use Rattle.pef_top.specs.Outcome.{Outcome, FileFault, InputFault, IndexWriteFault, OutFault, NoMemory, IndexTooLarge}
+use Rattle.pef_top.specs.Ends.{FirstFaultEnds}
+use Rattle.pef_top.specs.Private.Stops.{outcome_of_stop, stop_of_making}
+use Rattle.pef_top.proofs.Counted.{stays}
+
+abbrev pub unmade_words : MakeError → Outcome
+unmade_words e = outcome_of_stop (stop_of_making e)
+
+-- it ends by no fault, where the counts stay
+pub unmade_faults : (error : MakeError) (old new : Outside) → ((slot : Slot) → new.depot.faults slot ≡ old.depot.faults slot)
+    → new.depot.writing_faults ≡ old.depot.writing_faults → new.input.faults ≡ old.input.faults → new.out.faults ≡ old.out.faults
+    → FirstFaultEnds old new (unmade_words error)
+unmade_faults (making.TooLarge k) old new slots writing input out = record {
+  slots = λ slot. stays (FileFault slot) IndexTooLarge _ _ (λ h. cc) (slots slot);
+  writing = stays IndexWriteFault IndexTooLarge _ _ (λ h. cc) writing;
+  input = stays InputFault IndexTooLarge _ _ (λ h. cc) input;
+  out = stays OutFault IndexTooLarge _ _ (λ h. cc) out;
+}
+unmade_faults making.NoMemory old new slots writing input out = record {
+  slots = λ slot. stays (FileFault slot) NoMemory _ _ (λ h. cc) (slots slot);
+  writing = stays IndexWriteFault NoMemory _ _ (λ h. cc) writing;
+  input = stays InputFault NoMemory _ _ (λ h. cc) input;
+  out = stays OutFault NoMemory _ _ (λ h. cc) out;
+}
