@@ -1,14 +1,13 @@
 pub mod Value
-pub mod Words
+mod Words
 pub mod Ranges
-pub mod WordRanges
-pub mod Writing
-pub mod OneAfter
+mod WordRanges
+mod Writing
+mod OneAfter
 pub mod OnesWritten
-pub mod WordLaws
+mod WordLaws
 pub mod WordsBehind
 pub mod Pieces
 pub mod Fronts
 pub mod AllBits
-pub mod Numbers
 pub mod Outcomes

@@ -6,12 +6,17 @@ use Rattle.std.proofs.lemmas.Nat.Bits.{bit_at-lt}
 use Rattle.std.proofs.lemmas.List.{length-append}
 use Rattle.std.proofs.lemmas.List.FromFn.{length-map-range_with_len}
 use Rattle.std.proofs.Math.Nat.{pow-succ', mul_assoc, zero-div, zero-mod}
-use Rattle.bit_words.specs.Bits.{field_bits, bits_of, bits_value}
+use Rattle.bit_words.specs.Bits.{AreBits, field_bits, bits_of, bits_value}
 
 -- numbers that are bits
 abbrev pub EachBit : List ℕ → Type 0
 EachBit [] = Unit {0}
 EachBit (b ∷ bits) = (b < 2) × EachBit bits
+
+-- said of them all at once
+pub each_bit : (bits : List ℕ) → AreBits bits → EachBit bits
+each_bit [] h = tt
+each_bit (b ∷ bits) h = (h 0 0 (omega arith), each_bit bits (λ k d below. h (suc k) d (omega arith)))
 
 pub two_pow-suc : (k : ℕ) → 2 ^ suc k ≡ 2 * 2 ^ k
 two_pow-suc k = pow-succ' 2 k

@@ -1,4 +1,4 @@
-use Rattle.std.proofs.Common.{◌≡◌, ℕ, zero, suc, ◌+◌, ◌*◌, ◌/◌, ◌%◌, ◌^◌, ◌<◌, ◌≤◌, List, [], ◌∷◌, ◌++◌, length, take, drop, map, replicate, sym, ap, ◌∙◌, arith, append_assoc}
+use Rattle.std.proofs.Common.{◌≡◌, ℕ, zero, suc, ◌+◌, ◌*◌, ◌/◌, ◌%◌, ◌^◌, ◌<◌, ◌≤◌, List, ◌++◌, length, take, drop, map, replicate, sym, ap, ◌∙◌, arith, append_assoc}
 use Rattle.std.specs.List.{All, range_with_len, slice_index_or}
 use Rattle.std.proofs.lemmas.List.{length-append, length-drop, length-replicate, drop-append-le, take-append-le, take_all}
 use Rattle.std.proofs.lemmas.List.FromFn.{length-map-range_with_len, get_or-map-range_with_len}
@@ -8,15 +8,11 @@ use Rattle.std.proofs.lemmas.Nat.{shr-shr, mod-pow-add}
 use Rattle.std.proofs.Math.Seq.{drop-append_seam, drop-append-add}
 use Rattle.std.proofs.Math.Pow.{pow_mono}
 use Rattle.std.proofs.Math.Nat.{mod-eq_of_lt, mul_comm}
-use Rattle.bit_words.specs.Bits.{AreBits, field_bits, bits_of, bits_value, field_at, padding, words_of}
+use Rattle.bit_words.specs.Bits.{field_bits, bits_of, bits_value, field_at, padding, words_of}
 use Rattle.bit_words.specs.Laws.{BitsOfAppended, BitsOfWords, FieldOfAppended, FieldOfTwo, FieldReadBack, FieldStays, WordsOfBits, WordsOfPadded}
-use Rattle.bit_words.proofs.Value.{EachBit, value-append, value-below, value-field_bits, value-bits_of_cons, bits-append, bits-bits_of, length-bits_of, length-field_bits, same_bits}
+use Rattle.bit_words.proofs.Value.{EachBit, each_bit, value-append, value-below, value-field_bits, value-bits_of_cons, bits-append, bits-bits_of, length-bits_of, length-field_bits, same_bits}
 use Rattle.bit_words.proofs.Words.{value-field}
 use Rattle.bit_words.proofs.Writing.{word-from_value, value-zeros, bits-zeros}
-
-pub each_bit : (bits : List ℕ) → AreBits bits → EachBit bits
-each_bit [] h = tt
-each_bit (b ∷ bits) h = (h 0 0 (omega arith), each_bit bits (λ k d below. h (suc k) d (omega arith)))
 
 pub bits_of_appended : BitsOfAppended
 bits_of_appended words more = flat_map-append (field_bits 64) words more

@@ -1,11 +1,11 @@
-use Rattle.std.proofs.Common.{◌≡◌, ℕ, ◌+◌, ◌*◌, ◌^◌, ◌<◌, List, ◌++◌, length, replicate, sym, ap, ◌∙◌, arith, append_assoc}
+use Rattle.std.proofs.Common.{◌≡◌, ℕ, ◌^◌, ◌<◌, List, ◌++◌, length, replicate, sym, ap, ◌∙◌, arith, append_assoc}
 use Rattle.std.specs.List.{All}
 use Rattle.std.proofs.lemmas.List.{length-append}
 use Rattle.std.proofs.lemmas.List.Elements.{All-append}
 use Rattle.bit_words.specs.Bits.{AreBits, bits_of, padding, padded, words_of}
-use Rattle.bit_words.proofs.Value.{length-bits_of}
+use Rattle.bit_words.proofs.Value.{each_bit, length-bits_of}
 use Rattle.bit_words.proofs.AllBits.{bits-fields}
-use Rattle.bit_words.proofs.WordLaws.{each_bit, bits_of_appended, bits_of_words, words_of_bits, words_of-fit, words_of_padded}
+use Rattle.bit_words.proofs.WordLaws.{bits_of_appended, bits_of_words, words_of_bits, words_of-fit, words_of_padded}
 
 padded-behind : (ws bits : List ℕ) → padded (bits_of ws ++ bits) ≡ bits_of ws ++ padded bits
 padded-behind ws bits =

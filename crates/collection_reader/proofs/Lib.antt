@@ -1,9 +1,9 @@
-pub mod Numbers
-pub mod Begun
-pub mod Breaks
-pub mod Fronts
-pub mod FirstFaults
-pub mod Limits
+mod Numbers
+mod Begun
+mod Breaks
+mod Fronts
+mod FirstFaults
+mod Limits
 mod ReadsFrom
 mod SameAnswer
 mod Bytes

@@ -6,7 +6,7 @@ use Rattle.collection_model.specs.FormatNumbers.{FormatNumbers, format_one}
 use Rattle.collection_model.specs.Bytes.{number_sequence}
 use Rattle.collection_model.specs.Collection.{Posting, Collection, WellFormed, IsPostingList}
 use Rattle.collection_model.specs.Spelling.{Files, head_bytes, spelled}
-use Rattle.collection_model.proofs.Rows.{small, three, small-well_formed, three-well_formed}
+use Rattle.collection_model.proofs.Examples.{small, three, small-well_formed, three-well_formed}
 use Rattle.part_cost.specs.declared.formats.Format.{Format}
 use Rattle.part_cost.specs.declared.formats.Format.TheVariants.{One, Two}
 use Rattle.part_cost.specs.Formats.{numbers_of}

@@ -1,15 +1,15 @@
-use Rattle.std.proofs.Common.{◌≡◌, refl, sym, ◌∙◌, ap, subst, zero-add, ℕ, zero, suc, ◌+◌, ◌<◌, List, [], ◌∷◌, ◌++◌, length, get_or, take, map, arith}
+use Rattle.std.proofs.Common.{◌≡◌, refl, sym, ◌∙◌, ap, subst, ℕ, zero, suc, ◌+◌, ◌<◌, List, [], ◌∷◌, ◌++◌, length, get_or, take, map, arith}
 use Rattle.std.specs.Prelude.{Option, Some, None, option_map, Result, Ok, Err, IfOk, Vec}
 use Rattle.std.specs.declared.alloc.Global.{Global}
 use Rattle.std.specs.List.{All, slice_get}
 use Rattle.std.proofs.lemmas.List.{map-append, length-map}
 use Rattle.std.proofs.lemmas.List.Elements.{All-get_or, All-weaker, All-map, All-append}
-use Rattle.std.proofs.lemmas.List.Folds.{find_at}
 use Rattle.std.proofs.lemmas.Option.{slice_get-map, slice_get_within, none-some}
 use Rattle.std.proofs.Math.Seq.{take-suc}
 use Rattle.collection_model.specs.FormatNumbers.{FormatNumbers}
 use Rattle.collection_model.specs.Collection.{Posting, Collection, WellFormed, IsPostingList, docs_of, freqs_of, list_of, first_at_least}
 use Rattle.cursor_api.specs.NextGeq.{next_geq_place}
+use Rattle.cursor_api.proofs.FirstPosting.{first-is_next}
 use Rattle.scan_plans.specs.Matches.{AreBelow, in_all, in_any}
 use Rattle.query_text.specs.declared.query.Query.{Query}
 use Rattle.query_text.specs.declared.query.Query.TheVariants.{Next, And, Or, Top}
@@ -68,10 +68,6 @@ starts-pushed {C} place_at cursors more cursor so pushed start =
     subst (All P) (sym pushed) (All-append P cursors (cursor ∷ []) so (λ k d lt. one-at P cursor d k lt start))
 
 -- ---- the first posting of a list whose document is at least d
-
--- it stands where a cursor goes from the start of the list
-first-is_next : (list : List Posting) (d : ℕ) → first_at_least list d ≡ slice_get list (next_geq_place list 0 d)
-first-is_next list d = find_at _ list ∙ ap (slice_get list) (sym (zero-add _))
 
 -- where a cursor went that stood there
 first-at : (old new : List Posting) (start place d : ℕ) → start ≡ 0 → new ≡ old → place ≡ next_geq_place old start d → slice_get new place ≡ first_at_least old d

@@ -1,19 +1,19 @@
-pub mod LinesOfText
-pub mod Newline
-pub mod Held
-pub mod Answered
-pub mod Taken
-pub mod TermLists
-pub mod CursorLists
-pub mod Parsed
-pub mod TextEnds
-pub mod WholeText
-pub mod Building
-pub mod LoadedFile
-pub mod WrittenFile
-pub mod PrintedLine
-pub mod PartCosts
-pub mod Making
-pub mod Generating
-pub mod Migrating
-pub mod AskedLines
+mod LinesOfText
+mod Newline
+mod Held
+mod Answered
+mod Taken
+mod TermLists
+mod CursorLists
+mod Parsed
+mod TextEnds
+mod WholeText
+mod Building
+mod LoadedFile
+mod WrittenFile
+mod PrintedLine
+mod PartCosts
+mod Making
+mod Generating
+mod Migrating
+mod AskedLines

@@ -13,7 +13,7 @@ use Rattle.part_cost.specs.Formats.{HasRoom, numbers_of}
 use Rattle.part_cost.specs.Span.{cost_of_part}
 use Rattle.part_cost.specs.Partition.{IsPartition, partition_cost}
 use Rattle.two_level.specs.Laws.{TakesItsCost}
-use Rattle.two_level.proofs.Lengths.{charges}
+use Rattle.part_cost.proofs.Partitions.{charges}
 use Rattle.postings.specs.Laws.{SequencesRise}
 use Rattle.index_file.specs.FileWords.{CutList, ListParts, ArePartitions, with_parts, doc_words, freq_words, lists_words}
 use Rattle.index_file.specs.IndexView.{IndexView, cut_lists, same_kind, kinds_from, kinds_of_list, payload_of_list, parts_of_kind, payload_bits, word_count}

@@ -1,4 +1,4 @@
-pub mod Table
-pub mod Filled
-pub mod Counts
-pub mod Moving
+mod Table
+mod Filled
+mod Counts
+mod Moving

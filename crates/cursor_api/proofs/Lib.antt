@@ -1,3 +1,4 @@
 mod Rows
 mod Places
+pub mod FirstPosting
 mod Lists

@@ -1,5 +1,6 @@
 use Rattle.std.specs.Prelude.{◌≡◌, ℕ, ◌<◌, ◌≤◌, List, length, slice_index}
-use Rattle.collection_model.specs.Collection.{Posting, docs_of}
+use Rattle.std.specs.List.{slice_get}
+use Rattle.collection_model.specs.Collection.{Posting, docs_of, first_at_least}
 use Rattle.cursor_api.specs.NextGeq.{next_geq_place}
 
 -- a place at or after another: the first whose document is at least d, or the end of the list
@@ -16,3 +17,7 @@ NextGeqIsFirst = (list : List Posting) (place d : ℕ) → place ≤ length list
 -- There is one such place only.
 abbrev pub OneNextGeq : Type 0
 OneNextGeq = (list : List Posting) (place d found : ℕ) → IsNextGeq list place d found → found ≡ next_geq_place list place d
+
+-- From the start of a list, the posting at the next place is the first whose document is at least d.
+abbrev pub FirstIsAtTheNextPlace : Type 0
+FirstIsAtTheNextPlace = (list : List Posting) (d : ℕ) → first_at_least list d ≡ slice_get list (next_geq_place list 0 d)

@@ -6,7 +6,7 @@ mod laws;
 mod plain;
 
 pub use cursor::DocCursor;
-pub use laws::next_geq_is_first;
+pub use laws::{first_is_at_the_next_place, next_geq_is_first};
 pub use plain::PlainCursor;
 
 #[cfg(test)]

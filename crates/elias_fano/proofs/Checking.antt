@@ -6,7 +6,7 @@ use Rattle.std.proofs.lemmas.Nat.{div-mul-add, mod-mul-add}
 use Rattle.bit_words.specs.Bits.{IsFirstOne}
 use Rattle.bit_words.proofs.Value.{EachBit}
 use Rattle.bit_words.proofs.Pieces.{field-fits, field-below}
-use Rattle.bit_words.proofs.Numbers.{sampled-within}
+use Rattle.part_cost.proofs.Numbers.{sampled-within}
 use Rattle.part_cost.specs.Payload.{digits}
 use Rattle.part_cost.specs.Span.{past}
 use Rattle.elias_fano.specs.EfBits.{high_place}

@@ -1,11 +1,12 @@
 mod Rows
-pub mod HighBits
+mod HighBits
 pub mod Rising
 pub mod Reading
-pub mod Scanning
-pub mod Views
-pub mod Passing
-pub mod Behind
-pub mod Checking
-pub mod Lookups
-pub mod Writing
+mod Scanning
+pub mod OneList
+mod Views
+mod Passing
+mod Behind
+mod Checking
+mod Lookups
+mod Writing

@@ -9,7 +9,8 @@ use Rattle.elias_fano.specs.EfPlaces.{low_field, sample_at, past_place}
 use Rattle.elias_fano.specs.EfView.{Holds}
 use Rattle.elias_fano.specs.Laws.{PlacesFit}
 use Rattle.elias_fano.proofs.Rising.{place-within, places-rise}
-use Rattle.elias_fano.proofs.Scanning.{found-number, some-found, number-read, sample-read}
+use Rattle.elias_fano.proofs.Reading.{number-read}
+use Rattle.elias_fano.proofs.Scanning.{found-number, some-found, sample-read}
 use Rattle.elias_fano.proofs.Views.{view-read-at, places-fit-at}
 
 -- a high part that is not past the last, shifted back

@@ -1,9 +1,10 @@
+-- What the bits of a part say, place by place, and how many they are.
 use Rattle.std.proofs.Common.{◌≡◌, ℕ, ◌+◌, ◌-◌, ◌*◌, ◌/◌, ◌%◌, ◌^◌, ◌<◌, ◌≤◌, Bool, true, false, cond, List, ◌++◌, length, map, get_or, slice_index, refl, sym, ap, ◌∙◌, subst, arith}
 use Rattle.std.specs.List.{range_with_len, flat_map}
 use Rattle.std.proofs.lemmas.List.{length-append, length-map, get_or-map}
 use Rattle.std.proofs.lemmas.List.Folds.{flat_map-map}
 use Rattle.std.proofs.lemmas.List.FromFn.{length-map-range_with_len, get_or-map-range_with_len}
-use Rattle.std.proofs.Math.Nat.{mod-mod}
+use Rattle.std.proofs.Math.Nat.{mod-mod, div-add-mod}
 use Rattle.bit_words.specs.Bits.{field_bits, field_at}
 use Rattle.bit_words.proofs.Value.{EachBit}
 use Rattle.bit_words.proofs.Ranges.{bit-below}
@@ -187,3 +188,11 @@ pub held-read : (bits : List ℕ) (place u m q : ℕ) (ys : List ℕ) → EachBi
 held-read bits place u m q ys each h =
     subst (λ n. HoldsPart (ef_bits q) bits place u n ys) h.values.count
     (held-read-count bits place u q ys each (subst (λ n. IsRead bits place u n (low_width_of u n) q ys) (sym h.values.count) h))
+
+-- the number by the place of its one
+joined : (y p high low : ℕ) → high ≡ y / p → low ≡ y % p → high * p + low ≡ y
+joined y p high low h k = ap (λ n. n * p + low) h ∙ ap (λ n. y / p * p + n) k ∙ omega (arith, div-add-mod y p)
+
+pub number-read : (bits : List ℕ) (place u m l q : ℕ) (ys : List ℕ) → IsRead bits place u m l q ys → (k one : ℕ) → k < m
+    → one ≡ place + high_place l k (get_or ys k 0) → (one - place - k) * 2 ^ l + low_field bits place u m l k ≡ get_or ys k 0
+number-read bits place u m l q ys h k one lt e = joined (get_or ys k 0) (2 ^ l) (one - place - k) (low_field bits place u m l k) (omega arith) (h.low k lt)

@@ -1,8 +1,8 @@
-use Rattle.std.proofs.Common.{◌≡◌, ℕ, zero, suc, ◌+◌, ◌-◌, ◌*◌, ◌/◌, ◌%◌, ◌^◌, ◌<◌, ◌≤◌, List, length, get_or, refl, sym, ap, ◌∙◌, arith, inl, inr}
+use Rattle.std.proofs.Common.{◌≡◌, ℕ, zero, suc, ◌+◌, ◌-◌, ◌*◌, ◌/◌, ◌^◌, ◌<◌, ◌≤◌, List, length, get_or, refl, sym, ap, ◌∙◌, arith, inl, inr}
 use Rattle.std.proofs.lemmas.Bool.{cases_lt}
 use Rattle.std.proofs.lemmas.List.{ext_get_or}
 use Rattle.std.proofs.lemmas.Nat.{le-div}
-use Rattle.std.proofs.Math.Nat.{mod-eq_of_lt, div-add-mod}
+use Rattle.std.proofs.Math.Nat.{mod-eq_of_lt}
 use Rattle.bit_words.specs.Bits.{IsFirstOne, HasNoOne}
 use Rattle.bit_words.proofs.Value.{EachBit}
 use Rattle.bit_words.proofs.Ranges.{bit-below}
@@ -10,9 +10,9 @@ use Rattle.bit_words.proofs.AllBits.{unset_bit}
 use Rattle.part_cost.specs.Payload.{digits}
 use Rattle.part_cost.specs.Span.{past}
 use Rattle.elias_fano.specs.EfBits.{high_place}
-use Rattle.elias_fano.specs.EfPlaces.{low_field, sample_at, past_place}
+use Rattle.elias_fano.specs.EfPlaces.{sample_at, past_place}
 use Rattle.elias_fano.proofs.Rising.{places-rise, place-within, past-before, before-past}
-use Rattle.elias_fano.proofs.Reading.{IsRead}
+use Rattle.elias_fano.proofs.Reading.{IsRead, number-read}
 
 -- which samples there are
 pub within-sampled : (q m j : ℕ) → 1 ≤ q → q * (j + 1) < m → j < (m - 1) / q
@@ -74,14 +74,6 @@ some-found bits place u m l q ys h k from lt not_past none =
     let set = h.one k lt in
     let unset = none (place + high_place l k (get_or ys k 0)) not_past (omega arith) in
     omega arith
-
--- the number by the place of its one
-joined : (y p high low : ℕ) → high ≡ y / p → low ≡ y % p → high * p + low ≡ y
-joined y p high low h k = ap (λ n. n * p + low) h ∙ ap (λ n. y / p * p + n) k ∙ omega (arith, div-add-mod y p)
-
-pub number-read : (bits : List ℕ) (place u m l q : ℕ) (ys : List ℕ) → IsRead bits place u m l q ys → (k one : ℕ) → k < m
-    → one ≡ place + high_place l k (get_or ys k 0) → (one - place - k) * 2 ^ l + low_field bits place u m l k ≡ get_or ys k 0
-number-read bits place u m l q ys h k one lt e = joined (get_or ys k 0) (2 ^ l) (one - place - k) (low_field bits place u m l k) (omega arith) (h.low k lt)
 
 -- a sample that has room is the place itself
 pub sample-read : (bits : List ℕ) (place u m l q : ℕ) (ys : List ℕ) → IsRead bits place u m l q ys → 1 ≤ q → (j : ℕ) → q * (j + 1) < m

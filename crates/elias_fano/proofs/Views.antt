@@ -2,7 +2,7 @@ use Rattle.std.proofs.Common.{ℕ, ◌+◌, ◌-◌, ◌*◌, ◌/◌, ◌^◌, 
 use Rattle.std.specs.List.{range_with_len}
 use Rattle.std.proofs.lemmas.List.Elements.{All-append}
 use Rattle.bit_words.specs.Bits.{AreBits, bits_of}
-use Rattle.bit_words.proofs.Value.{bits-bits_of, length-bits_of}
+use Rattle.bit_words.proofs.Value.{length-bits_of}
 use Rattle.bit_words.proofs.AllBits.{bits-test, bits-fields}
 use Rattle.part_cost.specs.Payload.{digits, ef_spacing, low_width_of}
 use Rattle.part_cost.specs.Laws.{LowWidthIsBest, DigitsHold}
@@ -10,22 +10,11 @@ use Rattle.elias_fano.specs.declared.EfView.{EfView}
 use Rattle.elias_fano.specs.EfBits.{high_place, high_bits, low_fields, ef_samples}
 use Rattle.elias_fano.specs.EfPlaces.{ef_length}
 use Rattle.elias_fano.specs.EfView.{Holds, IsWithin}
-use Rattle.elias_fano.specs.Laws.{OneList, PartIsBits, TakesItsPayload, PlacesFit}
+use Rattle.elias_fano.specs.Laws.{PartIsBits, TakesItsPayload, PlacesFit}
 use Rattle.elias_fano.proofs.HighBits.{has_one}
 use Rattle.elias_fano.proofs.Rising.{place-within, relative-fit}
-use Rattle.elias_fano.proofs.Reading.{IsRead, low_parts, sampled_places, low_fields-are, samples-are, pieces, part-is, length-part, read-held, held-read}
-use Rattle.elias_fano.proofs.Scanning.{one_list-read}
-
--- what a view holds is read from its words
-pub view-read : (q : ℕ) (v : EfView q) (ys : List ℕ) → Holds q v ys → IsRead (bits_of v.bits.words.now) v.place v.u v.m (low_width_of v.u v.m) q ys
-view-read q v ys h = read-held (bits_of v.bits.words.now) v.place v.u v.m q ys (omega (arith, length-bits_of v.bits.words.now, v.placed)) h
-
-pub read-view : (q : ℕ) (v : EfView q) (ys : List ℕ) → IsRead (bits_of v.bits.words.now) v.place v.u v.m (low_width_of v.u v.m) q ys → Holds q v ys
-read-view q v ys h = held-read (bits_of v.bits.words.now) v.place v.u v.m q ys (bits-bits_of v.bits.words.now) h
-
-pub one-list : OneList
-one-list q v xs ys h g =
-    one_list-read (bits_of v.bits.words.now) v.place v.u v.m (low_width_of v.u v.m) q xs ys (bits-bits_of v.bits.words.now) (view-read q v xs h) (view-read q v ys g)
+use Rattle.elias_fano.proofs.Reading.{IsRead, low_parts, sampled_places, low_fields-are, samples-are, pieces, part-is, length-part}
+use Rattle.elias_fano.proofs.OneList.{view-read, read-view}
 
 -- all pieces are bits
 bits-high : (l u : ℕ) (ys : List ℕ) → AreBits (high_bits l u ys)

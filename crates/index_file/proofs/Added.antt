@@ -11,19 +11,16 @@ use Rattle.collection_model.proofs.Lists.{rising-length, docs-of_postings, freqs
 use Rattle.part_cost.specs.declared.formats.Format.{Format}
 use Rattle.part_cost.specs.Formats.{numbers_of, HasRoom}
 use Rattle.part_cost.specs.Span.{cost_of_part}
-use Rattle.part_cost.specs.Partition.{IsPartition, IsPartitionFrom, IsNear, partition_cost}
+use Rattle.part_cost.specs.Partition.{IsPartition, IsNear, partition_cost}
+use Rattle.part_cost.proofs.Partitions.{few-parts as ends-few}
 use Rattle.two_level.specs.Laws.{TakesItsCost}
 use Rattle.postings.specs.Laws.{SequencesRise}
-use Rattle.postings.proofs.Steps.{sums-length}
+use Rattle.collection_model.proofs.Sequences.{sums-length}
 use Rattle.index_file.specs.FileWords.{CutList, opening_magic, doc_words, freq_words, list_entry, lists_words}
 use Rattle.index_file.specs.Builder.{Built, StandsFor, IsNearCut, AddsList, cut_list, with_list, IsKept}
 use Rattle.index_file.proofs.Lengths.{words-more, directory-more, directory-length}
 
--- parts from a place on are at most as many as the numbers there
-ends-few : (i n : ℕ) (ends : List ℕ) → IsPartitionFrom i n ends → i + length ends ≤ n
-ends-few i n [] h = omega (arith, h)
-ends-few i n (end ∷ ends) h = omega (arith, h.0, ends-few end n ends h.1)
-
+-- a partition has at most as many parts as numbers
 pub parts-few : (n : ℕ) (ends : List ℕ) → IsPartition n ends → length ends ≤ n
 parts-few n ends h = omega (arith, ends-few 0 n ends h)
 

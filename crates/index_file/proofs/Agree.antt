@@ -63,10 +63,6 @@ pub later-of : (format : FormatNumbers) (words : List ℕ) (s p parts m bound : 
 later-of format words s p parts m bound F L none h =
     elim (first-agree format words s p parts m bound F (λ k q. ⊥) L (Unit {0}) h none) [ inl (k, q, f, no_fault) ↦ absurd no_fault | inr (l, m) ↦ l ]
 
-pub match-later : (a : Bool) (P Q : Type 0) → a ≡ false → MatchBool a P Q → Q
-match-later true P Q e h = absurd (cc)
-match-later false P Q e h = h
-
 pub match-now : (a : Bool) (P Q : Type 0) → a ≡ true → MatchBool a P Q → P
 match-now true P Q e h = h
 match-now false P Q e h = absurd (cc)

@@ -8,6 +8,7 @@ use Rattle.std.proofs.lemmas.List.FromFn.{length-range_with_len, get_or-range_wi
 use Rattle.std.proofs.lemmas.List.Folds.{sum_by-replicate}
 use Rattle.collection_model.specs.FormatNumbers.{FormatNumbers}
 use Rattle.collection_model.specs.Collection.{docs_of, freqs_of, postings_of, IsPostingList}
+use Rattle.part_cost.proofs.Numbers.{rising-range as range-rises}
 use Rattle.collection_model.proofs.Lists.{docs-of_postings, freqs-of_postings}
 use Rattle.part_cost.specs.Formats.{HasRoom}
 
@@ -19,11 +20,6 @@ range-more a (suc n) = ap (λ xs. a ∷ xs) (range-more (a + 1) n ∙ ap (λ k. 
 pub documents-more : (n : ℕ) → range_with_len 0 (n + 1) ≡ range_with_len 0 n ++ n ∷ []
 documents-more n =
     ap (range_with_len 0) (let e : n + 1 ≡ suc n = omega arith in e) ∙ range-more 0 n ∙ ap (λ k. range_with_len 0 n ++ k ∷ []) (let e : 0 + n ≡ n = omega arith in e)
-
-range-rises : (n : ℕ) → IsStrictlyIncreasing (range_with_len 0 n)
-range-rises n k within =
-    let count : length (range_with_len 0 n) ≡ n = length-range_with_len 0 n in
-    omega (arith, get_or-range_with_len 0 n k 0 (omega arith), get_or-range_with_len 0 n (k + 1) 0 (omega arith))
 
 pub every-list : (format : FormatNumbers) (room : HasRoom format) (n : ℕ) → n ≤ format.most_documents → IsPostingList format n (postings_of (range_with_len 0 n) (replicate n 1))
 every-list format room n few =

@@ -9,12 +9,8 @@ use Rattle.collection_model.specs.FormatNumbers.{FormatNumbers, most_terms}
 use Rattle.index_file.specs.FileWords.{CutList, opening_magic, end_magic, lists_words, sizes_words, lists_directory, words_of_file}
 use Rattle.index_file.specs.FirstBroken.{stated_documents, stated_terms, stated_sizes, directory_word}
 use Rattle.index_file.specs.ListAt.{HasFrame}
-use Rattle.index_file.proofs.Fronts.{front-of, rest-of, joined, word-of, four-words, length-directory}
-
-pub length-sizes : (xs : List ℕ) → length (sizes_words xs) ≡ (length xs + 1) / 2
-length-sizes [] = refl
-length-sizes (a ∷ []) = refl
-length-sizes (a ∷ b ∷ xs) = omega (arith, length-sizes xs)
+use Rattle.index_file.proofs.Fronts.{front-of, rest-of, joined, word-of, four-words}
+use Rattle.index_file.proofs.Lengths.{directory-length as length-directory, sizes-length as length-sizes}
 
 -- the low or the high half of a word
 abbrev pub half_of : Bool → ℕ → ℕ

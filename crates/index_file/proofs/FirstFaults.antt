@@ -1,15 +1,15 @@
 -- Lemmas on the first check of a file that breaks.
 use Rattle.std.proofs.Common.{◌≡◌, ℕ, ◌+◌, ◌<◌, true, List, length, subst, arith}
+use Rattle.std.proofs.lemmas.Bool.{le-ltb as false-lt}
 use Rattle.std.specs.Prelude.{nat_lt}
 use Rattle.std.proofs.lemmas.Bool.Decides.{nat_tests}
 use Rattle.collection_model.specs.FormatNumbers.{FormatNumbers}
-use Rattle.two_level.proofs.Follows.{false-lt}
 use Rattle.index_file.specs.declared.fault.OpenFault.{OpenFault}
 use Rattle.index_file.specs.FileWords.{CutList, lists_words}
 use Rattle.index_file.specs.FirstBroken.{stated_terms, IsFileFront, IsTermFault, IsClosingFault, IsFirstBrokenIn}
 use Rattle.index_file.specs.ListAt.{HasFrame, IsFirstListFault}
 use Rattle.index_file.proofs.Frames.{behind-frame}
-use Rattle.index_file.proofs.TermFaults.{match-no, match-yes}
+use Rattle.two_level.proofs.Choices.{match-false as match-no, match-true as match-yes}
 
 true-lt : (a b : ℕ) → a < b → nat_lt a b ≡ true
 true-lt a b h = grind (arith, nat_tests)

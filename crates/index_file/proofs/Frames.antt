@@ -1,10 +1,10 @@
 -- Lemmas on the frame of a file.
 use Rattle.std.proofs.Common.{◌≡◌, ℕ, ◌+◌, ◌-◌, ◌*◌, ◌/◌, Bool, true, false, List, length, slice_index, refl, sym, subst}
+use Rattle.std.proofs.lemmas.Bool.{or_parts as or-none, or_from as or-both, ltb-false as lt-false, le-ltb as false-lt, eqb-true as same-true, eq-eqb as true-same, not-false, not_from_true as false-not}
 use Rattle.std.specs.Prelude.{Option, Some, None, not, ◌==◌, ◌||◌, nat_lt, if◌then◌else◌, MatchOption, MatchBool}
 use Rattle.collection_model.specs.FormatNumbers.{FormatNumbers, most_terms}
 use Rattle.two_level.specs.declared.check.Check.{Check}
 use Rattle.two_level.specs.declared.check.Check.TheVariants.{K1, K2, K3, K4, K5}
-use Rattle.two_level.proofs.Follows.{or-none, or-both, lt-false, false-lt, same-true, true-same, not-false, false-not}
 use Rattle.index_file.specs.declared.fault.OpenFault.{OpenFault}
 use Rattle.index_file.specs.FileWords.{CutList, opening_magic, end_magic, lists_words}
 use Rattle.index_file.specs.FirstBroken.{stated_documents, stated_terms, stated_sizes, numbers_break, frame_broken, IsLongestFileFront, IsTermFault, IsClosingFault, IsFirstBrokenIn}

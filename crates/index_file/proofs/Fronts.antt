@@ -14,6 +14,7 @@ use Rattle.index_file.specs.FileWords.{CutList, doc_words, freq_words, lists_wor
 use Rattle.index_file.specs.FirstBroken.{stated_documents, stated_terms, stated_sizes, directory_word, IsFileFront, IsTermFault}
 use Rattle.index_file.specs.ListAt.{HasFrame, StandsAt, StandFrom, word_after, IsFirstListFault}
 use Rattle.index_file.proofs.Standing.{Below, stand-one, no-fault}
+use Rattle.index_file.proofs.Lengths.{directory-length as length-directory}
 
 -- where the front of a list is two pieces, each stands
 pub front-of : (a b ys : List ℕ) → take (length (a ++ b)) ys ≡ a ++ b → take (length a) ys ≡ a
@@ -38,10 +39,6 @@ behind-list format words p c =
     let a : List ℕ = doc_words format c in
     let b : List ℕ = freq_words format c in
     drop-drop (length (a ++ b)) p words ∙ ap (λ n. drop n words) (let e : p + length (a ++ b) ≡ p + length a + length b = omega (arith, length-append a b) in e)
-
-pub length-directory : (format : FormatNumbers) (p : ℕ) (cs : List CutList) → length (lists_directory format p cs) ≡ 4 * length cs
-length-directory format p [] = refl
-length-directory format p (c ∷ cs) = omega (arith, length-directory format (word_after format p c) cs)
 
 -- the four directory words of a list
 pub word-of : (words : List ℕ) (q k x : ℕ) (ys : List ℕ) → take 4 (drop q words) ≡ ys → k < 4 → get_or ys k 0 ≡ x → slice_index words (q + k) ≡ x

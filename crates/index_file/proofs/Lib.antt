@@ -1,23 +1,22 @@
 mod Rows
-pub mod EveryDocument
-pub mod WordBytes
+mod EveryDocument
+mod WordBytes
 pub mod Lengths
-pub mod Files
-pub mod Added
-pub mod Spelled
-pub mod Checks
-pub mod OneList
-pub mod TermFaults
-pub mod Agree
-pub mod Standing
-pub mod Fronts
-pub mod Frames
-pub mod FilePieces
-pub mod Spelling
-pub mod FirstFaults
-pub mod StatedIndex
-pub mod Reading
-pub mod OneFault
-pub mod Both
-pub mod Sums
-pub mod Measured
+mod Files
+mod Added
+mod Spelled
+mod OneList
+mod TermFaults
+mod Agree
+mod Standing
+mod Fronts
+mod Frames
+mod FilePieces
+mod Spelling
+mod FirstFaults
+mod StatedIndex
+mod Reading
+mod OneFault
+mod Both
+mod Sums
+mod Measured

@@ -17,7 +17,7 @@ use Rattle.postings.specs.Laws.{SequencesRise}
 use Rattle.two_level.specs.Laws.{TakesItsCost}
 use Rattle.two_level.specs.SequenceWords.{sequence_words}
 use Rattle.two_level.specs.SequenceView.{start_of_part}
-use Rattle.two_level.proofs.Follows.{few-parts}
+use Rattle.part_cost.proofs.Partitions.{few-parts}
 use Rattle.index_file.specs.declared.measures.Measure.{Measure}
 use Rattle.index_file.specs.declared.measures.Measure.TheVariants.{PartsOf, Payload}
 use Rattle.index_file.specs.FileWords.{CutList, ListParts, with_parts, doc_words, freq_words, lists_words, Spells}

@@ -10,7 +10,7 @@ use Rattle.collection_model.specs.Sequences.{steps_from, postings_in}
 use Rattle.collection_model.proofs.Lists.{freqs-of_postings, docs_of-length}
 use Rattle.part_cost.specs.Partition.{IsPartition}
 use Rattle.postings.specs.Laws.{SequencesAreAList, IsListOf}
-use Rattle.postings.proofs.Lists.{same-steps}
+use Rattle.collection_model.proofs.Sequences.{same-steps}
 use Rattle.two_level.specs.SequenceWords.{sequence_words, BeginsSequence}
 use Rattle.two_level.specs.SequenceView.{SequenceView, words_used}
 use Rattle.two_level.specs.Laws.{OneSequence}

@@ -1,5 +1,6 @@
 -- Lemmas on a list that stands at a term.
-use Rattle.std.proofs.Common.{◌≡◌, ℕ, ◌+◌, ◌-◌, ◌*◌, ◌^◌, ◌<◌, ◌≤◌, false, List, [], ◌∷◌, length, take, drop, sym, ap, ◌∙◌, subst, arith}
+use Rattle.std.proofs.Common.{◌≡◌, ℕ, ◌+◌, ◌-◌, ◌*◌, ◌^◌, ◌<◌, ◌≤◌, false, List, length, take, drop, sym, ap, ◌∙◌, subst, arith}
+use Rattle.std.proofs.lemmas.Bool.{or_from as or-both, le-ltb as false-lt, eq-eqb as true-same, not_from_true as false-not}
 use Rattle.std.specs.Prelude.{◌||◌, ◌==◌, not, nat_lt}
 use Rattle.std.specs.List.{All, slice_range}
 use Rattle.std.specs.List.Sorted.{IsStrictlyIncreasing}
@@ -8,23 +9,24 @@ use Rattle.collection_model.specs.FormatNumbers.{FormatNumbers, entry_words}
 use Rattle.collection_model.specs.Collection.{Posting, docs_of, greatest, greatest_freq, IsPostingList}
 use Rattle.collection_model.specs.Sequences.{doc_sequence, freq_sequence, steps_from, postings_in}
 use Rattle.collection_model.proofs.Lists.{docs_of-length, freqs-of_postings, rising-length}
+use Rattle.part_cost.proofs.Partitions.{few-parts as parts-few}
 use Rattle.part_cost.specs.Formats.{HasRoom}
-use Rattle.part_cost.specs.Partition.{IsPartition, IsPartitionFrom}
+use Rattle.part_cost.specs.Partition.{IsPartition}
 use Rattle.postings.specs.Laws.{SequencesRise, SequencesGiveTheirList}
-use Rattle.postings.proofs.Lists.{same-steps}
+use Rattle.collection_model.proofs.Sequences.{same-steps}
 use Rattle.two_level.specs.declared.check.Check.TheVariants.{K6}
 use Rattle.two_level.specs.SequenceWords.{sequence_words, BeginsSequence}
 use Rattle.two_level.specs.SequenceView.{SequenceView, words_used}
 use Rattle.two_level.specs.SequenceFault.{parts_fit, word_behind}
 use Rattle.two_level.specs.Laws.{OneSequence}
-use Rattle.two_level.proofs.Follows.{or-both, false-lt, true-same, false-not}
 use Rattle.index_file.specs.declared.fault.OpenFault.{OpenFault}
 use Rattle.two_level.specs.AtAWord.{SequenceStandsAtAWord}
 use Rattle.index_file.specs.FileWords.{CutList, doc_words, freq_words}
 use Rattle.index_file.specs.FirstBroken.{stated_documents, stated_sizes, term_word, stated_length, stated_doc_parts, stated_freq_parts, stated_greatest, cannot_begin, IsFreqsFault, IsTermFault}
 use Rattle.index_file.specs.ListAt.{HasFrame, IsSequenceAt, StandsAt}
 use Rattle.index_file.proofs.OneList.{sequence-is, begins-at}
-use Rattle.index_file.proofs.Agree.{later-of, match-later}
+use Rattle.two_level.proofs.Choices.{unmatch as match-later}
+use Rattle.index_file.proofs.Agree.{later-of}
 use Rattle.index_file.proofs.TermFaults.{IsAt, InDocs, InFreqs, PassButGreatest}
 
 -- the laws of the layers below, for a format
@@ -40,10 +42,6 @@ docs_view format c = record { format = format; values = doc_sequence c.list; end
 
 abbrev pub freqs_view : FormatNumbers → CutList → SequenceView
 freqs_view format c = record { format = format; values = freq_sequence c.list; ends = c.parts.freq_ends }
-
-parts-few : (i n : ℕ) (ends : List ℕ) → IsPartitionFrom i n ends → i + length ends ≤ n
-parts-few i n [] h = omega arith
-parts-few i n (end ∷ ends) h = omega (arith, h.0, parts-few end n ends h.1)
 
 -- the counts of a list that stands are those that the words state
 pub record Counts (words : List ℕ) (t : ℕ) (c : CutList) : Type 0 where

@@ -1,5 +1,6 @@
 -- Lemmas on the index that words state.
 use Rattle.std.proofs.Common.{◌≡◌, ℕ, ◌+◌, ◌-◌, ◌/◌, ◌%◌, ◌^◌, ◌≤◌, ◌<◌, List, [], ◌∷◌, length, drop, get_or, map, refl, sym, ap, ◌∙◌, subst, arith}
+use Rattle.std.proofs.lemmas.Bool.{le-ltb as false-lt, not_from_true as false-not, eq-eqb as true-same}
 use Rattle.std.specs.Prelude.{◌≢◌, slice_index, ◌==◌, nat_lt, not}
 use Rattle.std.specs.List.{All, range_with_len}
 use Rattle.std.proofs.lemmas.List.{get_or-take, get_or-drop, length-map, ext_get_or}
@@ -14,17 +15,17 @@ use Rattle.part_cost.proofs.Rooms.{formats-have-room}
 use Rattle.two_level.specs.declared.check.Check.TheVariants.{K6, K11}
 use Rattle.two_level.specs.Laws.{WordsState}
 use Rattle.two_level.specs.SequenceView.{words_used, sequence_stated}
-use Rattle.two_level.proofs.Follows.{false-lt, false-not, true-same}
 use Rattle.index_file.specs.declared.fault.OpenFault.{OpenFault}
 use Rattle.index_file.specs.FileWords.{CutList, ListParts, with_parts, doc_words, lists_words, sizes_words, ArePartitions, Spells, IsIndexIn}
 use Rattle.index_file.specs.FirstBroken.{stated_documents, stated_terms, stated_sizes, directory_word, stated_length, stated_doc_parts, stated_freq_parts, IsFileFront, IsTermFault, IsClosingFault, IsFirstBrokenIn}
 use Rattle.index_file.specs.IndexView.{size_stated, docs_stated, freqs_stated, collection_stated, parts_stated, index_stated}
 use Rattle.index_file.specs.ListAt.{HasFrame, StandsAt, StandFrom, word_after}
 use Rattle.index_file.proofs.OneList.{begins-at}
-use Rattle.index_file.proofs.Agree.{match-later}
+use Rattle.two_level.proofs.Choices.{unmatch as match-later}
 use Rattle.index_file.proofs.Standing.{Below, docs_view, freqs_view, docs-at, freqs-at}
 use Rattle.index_file.proofs.Fronts.{HasDocParts, HasFreqParts, stand-from, front-pieces, stand-same}
-use Rattle.index_file.proofs.FilePieces.{Laid, half_of, length-sizes, sizes-back, sizes-filled, laid-of}
+use Rattle.index_file.proofs.Lengths.{sizes-length as length-sizes}
+use Rattle.index_file.proofs.FilePieces.{Laid, half_of, sizes-back, sizes-filled, laid-of}
 use Rattle.index_file.proofs.Spelling.{lists_in, parts_in, size-half}
 use Rattle.index_file.proofs.Frames.{breaks-behind}
 use Rattle.index_file.proofs.Both.{index-is-read}

@@ -1,6 +1,7 @@
 -- Lemmas on the first check of a list that breaks.
-use Rattle.std.proofs.Common.{◌≡◌, ℕ, ◌+◌, ◌*◌, ◌≤◌, true, false, Bool, List, length, refl, sym, ap, ◌∙◌, subst}
-use Rattle.std.specs.Prelude.{◌||◌, ◌==◌, not, nat_lt, MatchBool}
+use Rattle.std.proofs.Common.{◌≡◌, ℕ, ◌+◌, ◌*◌, ◌≤◌, false, Bool, List, length, refl, sym, ap, ◌∙◌, subst}
+use Rattle.std.proofs.lemmas.Bool.{or_parts as or-none, eqb-true as same-true, not-false}
+use Rattle.std.specs.Prelude.{◌||◌, ◌==◌, not, nat_lt}
 use Rattle.collection_model.specs.FormatNumbers.{FormatNumbers, entry_words}
 use Rattle.collection_model.specs.Collection.{greatest}
 use Rattle.collection_model.specs.Sequences.{steps_from}
@@ -9,12 +10,12 @@ use Rattle.two_level.specs.declared.check.Check.TheVariants.{K6, K10}
 use Rattle.two_level.specs.SequenceView.{SequenceView, words_used}
 use Rattle.two_level.specs.SequenceFault.{parts_fit, word_behind, FirstInSequence}
 use Rattle.two_level.specs.Laws.{OneSequence}
-use Rattle.two_level.proofs.Follows.{or-none, same-true, not-false}
+use Rattle.two_level.proofs.Choices.{match-false as match-no}
 use Rattle.index_file.specs.declared.fault.OpenFault.{OpenFault}
 use Rattle.two_level.specs.AtAWord.{IsFaultAt, NoneBreaks, StandsAtWord}
 use Rattle.index_file.specs.FirstBroken.{stated_documents, stated_sizes, term_word, stated_length, stated_doc_parts, stated_freq_parts, stated_greatest, StatesWrongGreatest, cannot_begin, IsFreqsFault, IsTermFault}
 use Rattle.index_file.specs.ListAt.{IsSequenceAt}
-use Rattle.index_file.proofs.Checks.{passed, faulty}
+use Rattle.two_level.proofs.FirstChecks.{passed, faulty}
 use Rattle.index_file.proofs.OneList.{wrong-greatest}
 
 -- a fault by its parts
@@ -23,14 +24,6 @@ fault-is f k t q a b d =
     let x : f ≡ record { check = k; term = f.term; part = f.part } = ap (λ j. record { check = j; term = f.term; part = f.part }) a in
     let y : f ≡ record { check = k; term = t; part = f.part } = x ∙ ap (λ j. record { check = k; term = j; part = f.part }) b in
     y ∙ ap (λ j. record { check = k; term = t; part = j }) d
-
-pub match-no : (a : Bool) (P Q : Type 0) → a ≡ false → Q → MatchBool a P Q
-match-no true P Q e q = absurd (cc)
-match-no false P Q e q = q
-
-pub match-yes : (a : Bool) (P Q : Type 0) → a ≡ true → P → MatchBool a P Q
-match-yes true P Q e q = q
-match-yes false P Q e q = absurd (cc)
 
 -- a fault of term t at a check and a part
 abbrev pub IsAt : OpenFault → ℕ → Check → ℕ → Type 0

@@ -1,3 +1,4 @@
 mod Rows
-pub mod Parts
-pub mod Values
+pub mod Relative
+mod Parts
+mod Values

@@ -3,7 +3,7 @@ use Rattle.std.specs.Prelude.{nat_le}
 use Rattle.std.proofs.lemmas.Bool.{eqb-true}
 use Rattle.std.proofs.lemmas.List.{ext_get_or}
 use Rattle.std.proofs.lemmas.List.FromFn.{length-range_with_len, get_or-range_with_len}
-use Rattle.bit_words.proofs.Numbers.{rises}
+use Rattle.part_cost.proofs.Numbers.{rises}
 use Rattle.part_cost.specs.declared.kinds.Kind.{Kind}
 use Rattle.part_cost.specs.declared.kinds.Kind.TheVariants.{Ones, Bitmap, Ef}
 use Rattle.part_cost.specs.Payload.{kind_of, bitmap_payload, ef_payload}
@@ -11,7 +11,7 @@ use Rattle.part_cost.specs.Span.{AreRelative}
 use Rattle.part_cost.specs.Stored.{HoldsPart, IsFirstAtLeast}
 use Rattle.part_codec.specs.PartBits.{bits_of_kind, part_bits}
 use Rattle.part_codec.specs.PartView.{all_ones}
-use Rattle.part_codec.specs.Relative.{AreRelative-all_ones, at-all_ones}
+use Rattle.part_codec.proofs.Relative.{AreRelative-all_ones, at-all_ones}
 
 -- the bits of a part are those of its kind
 pub part-of_kind : (u m : ℕ) (kind : Kind) (ys : List ℕ) → kind_of u m ≡ kind → length ys ≡ m → part_bits ys u ≡ bits_of_kind kind ys u

@@ -6,7 +6,7 @@ use Rattle.std.proofs.lemmas.List.{ext_get_or, get_or-take, length-take}
 use Rattle.std.proofs.lemmas.List.FromFn.{length-range_with_len, get_or-range_with_len, length-map-range_with_len, get_or-map-range_with_len}
 use Rattle.std.proofs.lemmas.List.Kept.{IsStrictlyIncreasing-filter}
 use Rattle.bit_words.specs.Bits.{field_at}
-use Rattle.bit_words.proofs.Numbers.{rises}
+use Rattle.part_cost.proofs.Numbers.{rises, rising-tail, rising-range}
 use Rattle.part_cost.specs.declared.kinds.Kind.{Kind}
 use Rattle.part_cost.specs.declared.kinds.Kind.TheVariants.{Ones, Bitmap, Ef}
 use Rattle.part_cost.specs.Payload.{kind_of, low_width_of, ef_spacing, bitmap_spacing}
@@ -14,7 +14,6 @@ use Rattle.part_cost.specs.Stored.{HoldsPart}
 use Rattle.elias_fano.specs.EfBits.{high_place}
 use Rattle.elias_fano.proofs.Rising.{places-rise, place-within}
 use Rattle.elias_fano.proofs.Reading as elias_fano
-use Rattle.elias_fano.proofs.Scanning.{number-read}
 use Rattle.ranked_bitmap.proofs.Ones.{AreOnes, set-within}
 use Rattle.ranked_bitmap.proofs.Reading as bitmap
 use Rattle.part_codec.specs.PartBits.{part_bits}
@@ -29,11 +28,6 @@ Has xs n = (k : ℕ) × (k < length xs) × (get_or xs k 0 ≡ n)
 in_tail : (x : ℕ) (xs : List ℕ) (n : ℕ) → Has (x ∷ xs) n → x < n → Has xs n
 in_tail x xs n (zero, lt, e) h = absurd (omega arith)
 in_tail x xs n (suc k, lt, e) h = (k, omega arith, e)
-
-rising-tail : (x : ℕ) (xs : List ℕ) → IsStrictlyIncreasing (x ∷ xs) → IsStrictlyIncreasing xs
-rising-tail x xs up k lt =
-    let step = rises (x ∷ xs) up (suc k) (suc (k + 1)) (omega arith) (omega arith) in
-    omega arith
 
 above_head : (x : ℕ) (xs : List ℕ) → IsStrictlyIncreasing (x ∷ xs) → (k : ℕ) → k < length xs → x < get_or xs k 0
 above_head x xs up k lt = let far = rises (x ∷ xs) up 0 (suc k) (omega arith) (omega arith) in omega arith
@@ -76,11 +70,6 @@ passed-head p x xs n later false is has = later has
 passed : (p : ℕ → Bool) (xs : List ℕ) (n : ℕ) → Has (filter p xs) n → p n ≡ true
 passed p [] n (k, lt, e) = absurd (omega arith)
 passed p (x ∷ xs) n has = passed-head p x xs n (passed p xs n) (p x) refl has
-
-rising-range : (n : ℕ) → IsStrictlyIncreasing (range_with_len 0 n)
-rising-range n k lt =
-    let count = length-range_with_len 0 n in
-    omega (arith, get_or-range_with_len 0 n k 0 (omega arith), get_or-range_with_len 0 n (k + 1) 0 (omega arith))
 
 -- numbers whose places hold the ones are the places of the ones
 places-are : (bits hs : List ℕ) → AreOnes bits hs → places_of_ones bits ≡ hs
@@ -144,7 +133,7 @@ ef_value-read bits u m l q ys h k lt =
     ap (λ ps. get_or ps k 0) (places-are (take n bits) (high_places l m ys) (high-ones bits u m l q ys h)) ∙ high_places-at l m ys k lt ∙ omega arith in
     ap (λ p. (one - k) * 2 ^ l + field_at bits p l) (let e : n + l * k ≡ 0 + n + l * k = omega arith in e)
     ∙ ap (λ p. (p - k) * 2 ^ l + field_at bits (0 + n + l * k) l) (let e : one ≡ one - 0 = omega arith in e)
-    ∙ number-read bits 0 u m l q ys h k one lt is
+    ∙ elias_fano.number-read bits 0 u m l q ys h k one lt is
 
 -- the values by kind, of bits from their first on
 values-of_kind : (kind : Kind) (bits : List ℕ) (u m : ℕ) (ys : List ℕ) → kind_of u m ≡ kind → HoldsPart part_bits bits 0 u m ys

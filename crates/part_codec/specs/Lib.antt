@@ -1,5 +1,4 @@
 pub mod PartBits
 pub mod PartView
 pub mod PartValues
-pub mod Relative
 pub mod Laws

@@ -4,7 +4,7 @@ use elias_fano::EfView;
 use ranked_bitmap::MapView;
 
 impl<'a, const Q: u64> PartCodec<'a> for EfView<'a, Q> {
-    ghost use Rattle.elias_fano.proofs.Views.{one-list};
+    ghost use Rattle.elias_fano.proofs.OneList.{one-list};
     ghost use Rattle.elias_fano.specs.EfView.{Holds};
 
     ghost u = { λ v. v.u };
@@ -35,7 +35,7 @@ impl<'a, const Q: u64> PartCodec<'a> for EfView<'a, Q> {
 }
 
 impl<'a, const B: u64> PartCodec<'a> for MapView<'a, B> {
-    ghost use Rattle.ranked_bitmap.proofs.Views.{one-list};
+    ghost use Rattle.ranked_bitmap.proofs.OneList.{one-list};
     ghost use Rattle.ranked_bitmap.specs.MapView.{Holds};
 
     ghost u = { λ v. v.u };
@@ -66,9 +66,10 @@ impl<'a, const B: u64> PartCodec<'a> for MapView<'a, B> {
 }
 
 impl<'a> PartCodec<'a> for OnesView {
-    ghost use Rattle.std.proofs.Common.{◌≡◌, sym, ◌∙◌};
+    ghost use Rattle.std.proofs.Common.{◌≡◌, sym, subst, ◌∙◌};
+    ghost use Rattle.part_cost.specs.Span.{AreRelative};
+    ghost use Rattle.part_cost.proofs.Parts.{relative-range};
     ghost use Rattle.part_codec.specs.PartView.{all_ones};
-    ghost use Rattle.part_codec.specs.Relative.{AreRelative-all_ones};
 
     ghost u = { λ v. v.u };
 
@@ -93,14 +94,20 @@ impl<'a> PartCodec<'a> for OnesView {
         (at, at)
     }
 
-    ghost relative = { λ v ys h. AreRelative-all_ones v.u ys v.some h };
+    ghost relative = { λ v ys h. subst (AreRelative v.u v.u) (sym h) (relative-range v.u v.some) };
 
     ghost one_list = { λ v xs ys h k. h ∙ sym k };
 }
 
 impl<'a> PartCodec<'a> for PartView<'a> {
+    ghost use Rattle.std.proofs.Common.{◌≡◌, sym, subst, ◌∙◌};
+    ghost use Rattle.part_cost.specs.Payload.{ef_spacing, bitmap_spacing};
+    ghost use Rattle.part_cost.specs.Span.{AreRelative};
+    ghost use Rattle.part_cost.proofs.Parts.{relative-range};
+    ghost use Rattle.elias_fano.proofs.OneList as elias_fano;
+    ghost use Rattle.ranked_bitmap.proofs.OneList as bitmap;
+    ghost use Rattle.part_codec.specs.declared.views.PartView.TheVariants.{Ones, Bitmap, Ef};
     ghost use Rattle.part_codec.specs.PartView.{Holds, universe_of, count_of};
-    ghost use Rattle.part_codec.specs.Relative.{AreRelative-held, one_list-held};
 
     ghost u = { universe_of };
 
@@ -140,7 +147,19 @@ impl<'a> PartCodec<'a> for PartView<'a> {
         }
     }
 
-    ghost relative = { AreRelative-held };
+    ghost relative = {
+        λ v ys. elim v as (λ w. Holds w ys → AreRelative (universe_of w) (count_of w) ys) [
+            | Ones o ↦ λ h. subst (AreRelative o.u o.u) (sym h) (relative-range o.u o.some)
+            | Bitmap b ↦ λ h. h.values
+            | Ef e ↦ λ h. h.values
+        ]
+    };
 
-    ghost one_list = { one_list-held };
+    ghost one_list = {
+        λ v xs ys. elim v as (λ w. Holds w xs → Holds w ys → xs ≡ ys) [
+            | Ones o ↦ λ h k. h ∙ sym k
+            | Bitmap b ↦ bitmap.one-list bitmap_spacing b xs ys
+            | Ef e ↦ elias_fano.one-list ef_spacing e xs ys
+        ]
+    };
 }

@@ -1,14 +1,10 @@
-use Rattle.std.proofs.Common.{◌≡◌, refl, sym, subst, ap, ℕ, zero, suc, ◌+◌, ◌*◌, ◌<◌, ◌≤◌, ⊎_elim, Bool, true, false, ◌==◌, ◌&&◌, cond, Some, List, [], ◌∷◌, arith}
+use Rattle.std.proofs.Common.{◌≡◌, sym, subst, ap, ℕ, zero, suc, ◌+◌, ◌*◌, ◌<◌, ◌≤◌, ⊎_elim, true, ◌==◌, ◌&&◌, cond, Some, List, [], ◌∷◌, arith}
 use Rattle.std.specs.Prelude.{find, nat_le, nat_lt, IsSomeAnd, slice_index}
 use Rattle.std.specs.List.{All}
 use Rattle.std.specs.List.Sorted.{IsStrictlyIncreasing}
-use Rattle.std.proofs.lemmas.Bool.{cases_lt, ltb-true, eqb-true, le-leb, lt-leb}
+use Rattle.std.proofs.lemmas.Bool.{and_parts, cases_lt, ltb-true, eqb-true, le-leb, lt-leb}
 use Rattle.part_cost.specs.Bounds.{bound_after, follow}
 use Rattle.part_cost.specs.Laws.{BoundsRise, BoundsWithin, BoundsCover}
-
-both : (s t : Bool) → (s && t) ≡ true → (s ≡ true) × (t ≡ true)
-both true t h = (refl, h)
-both false t h = cc
 
 -- what the rule says of two bounds that follow one another
 record Next (limit b c : ℕ) : Type 0 where
@@ -18,14 +14,14 @@ record Next (limit b c : ℕ) : Type 0 where
 
 next : (limit b c : ℕ) (cs : List ℕ) → follow limit b (c ∷ cs) ≡ true → Next limit b c
 next limit b c cs h =
-    let parts = both (nat_lt b limit && (c == bound_after limit b)) (follow limit c cs) h in
-    let front = both (nat_lt b limit) (c == bound_after limit b) parts.0 in
+    let parts = and_parts (nat_lt b limit && (c == bound_after limit b)) (follow limit c cs) h in
+    let front = and_parts (nat_lt b limit) (c == bound_after limit b) parts.0 in
     let below = ltb-true b limit front.0 in
     let is = eqb-true c (bound_after limit b) front.1 in
     record { within = below; above = omega (arith, below, is); near = omega (arith, is) }
 
 rest : (limit b c : ℕ) (cs : List ℕ) → follow limit b (c ∷ cs) ≡ true → follow limit c cs ≡ true
-rest limit b c cs h = (both (nat_lt b limit && (c == bound_after limit b)) (follow limit c cs) h).1
+rest limit b c cs h = (and_parts (nat_lt b limit && (c == bound_after limit b)) (follow limit c cs) h).1
 
 -- whether there is a bound at or above a cost, and the first is near above it
 abbrev IsCovered : ℕ → List ℕ → Type 0
@@ -50,7 +46,7 @@ covered-after limit b c (d ∷ ds) h above within =
 pub bounds-cover : BoundsCover
 bounds-cover charge limit [] h c low high = cc
 bounds-cover charge limit (b ∷ bs) h c low high =
-    let parts = both (b == charge) (follow limit b bs) h in
+    let parts = and_parts (b == charge) (follow limit b bs) h in
     let first = eqb-true b charge parts.0 in
     ⊎_elim
     (λ lt. covered-later c b bs lt (covered-after limit b c bs parts.1 lt high))
@@ -68,7 +64,7 @@ follow-rise limit b (d ∷ ds) h (suc k) lt =
 
 pub bounds-rise : BoundsRise
 bounds-rise charge limit [] h = cc
-bounds-rise charge limit (b ∷ bs) h = follow-rise limit b bs (both (b == charge) (follow limit b bs) h).1
+bounds-rise charge limit (b ∷ bs) h = follow-rise limit b bs (and_parts (b == charge) (follow limit b bs) h).1
 
 -- and none of them is above the limit
 follow-within : (limit b : ℕ) (bs : List ℕ) → follow limit b bs ≡ true → All (λ x. x ≤ limit) (b ∷ bs)
@@ -79,4 +75,4 @@ follow-within limit b (c ∷ cs) h (suc k) d lt = follow-within limit c cs (rest
 
 pub bounds-within : BoundsWithin
 bounds-within charge limit [] h = cc
-bounds-within charge limit (b ∷ bs) h = follow-within limit b bs (both (b == charge) (follow limit b bs) h).1
+bounds-within charge limit (b ∷ bs) h = follow-within limit b bs (and_parts (b == charge) (follow limit b bs) h).1

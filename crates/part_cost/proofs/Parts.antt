@@ -1,12 +1,14 @@
 use Rattle.std.proofs.Common.{◌≡◌, refl, sym, subst, ap, ◌∙◌, ℕ, zero, suc, ◌+◌, ◌-◌, ◌^◌, ◌<◌, ◌≤◌, List, length, get_or, drop, add-one, arith}
 use Rattle.std.specs.Prelude.{slice_index, slice_range}
-use Rattle.std.specs.List.{All}
+use Rattle.std.specs.List.{All, range_with_len}
 use Rattle.std.proofs.lemmas.List.{length-take-le, length-drop, length-map, get_or-take, get_or-drop, get_or-map}
 use Rattle.std.proofs.lemmas.List.Elements.{All-get_or}
+use Rattle.std.proofs.lemmas.List.FromFn.{length-range_with_len, get_or-range_with_len}
 use Rattle.std.specs.List.Sorted.{IsStrictlyIncreasing}
 use Rattle.part_cost.specs.Payload.{payload, widest_low}
 use Rattle.part_cost.specs.Span.{past, universe, relative_values, AreRelative}
 use Rattle.part_cost.specs.Laws.{PayloadsGrow, CostsGrow, PartsGrow, SingleIsAllowed, PartHasRoom, PartIsWithin, PartIsRelative}
+use Rattle.part_cost.proofs.Numbers.{rising-range}
 use Rattle.part_cost.proofs.Growth.{payload-grows, one-number-is-short}
 
 -- where a place is not the first, its part begins one past the number before
@@ -64,7 +66,7 @@ pub is-within : PartIsWithin
 is-within bound xs below i j h fit = omega (arith, past-within bound xs below j fit)
 
 -- how many numbers a part has, and which
-part-length : (xs : List ℕ) (i j : ℕ) → i < j → j ≤ length xs → length (slice_range xs i j) ≡ j - i
+pub part-length : (xs : List ℕ) (i j : ℕ) → i < j → j ≤ length xs → length (slice_range xs i j) ≡ j - i
 part-length xs i j h fit = length-take-le (j - i) (drop i xs) (omega (arith, length-drop i xs))
 
 part-at : (xs : List ℕ) (i j k : ℕ) → k < j - i → get_or (slice_range xs i j) k 0 ≡ get_or xs (i + k) 0
@@ -113,3 +115,12 @@ relative-past ys up some = record { rising = up; count = refl; some = some; last
 -- and of no part with another universe
 pub past-is : (u : ℕ) (ys : List ℕ) → AreRelative u (length ys) ys → past ys (length ys) ≡ u
 past-is u ys h = past-at ys (length ys) h.some ∙ h.last
+
+-- all numbers below a universe are the relative values of a part with no free place
+pub relative-range : (u : ℕ) → 1 ≤ u → AreRelative u u (range_with_len 0 u)
+relative-range u some = record {
+  rising = rising-range u;
+  count = length-range_with_len 0 u;
+  some = some;
+  last = omega (arith, some, get_or-range_with_len 0 u (u - 1) 0 (omega (arith, some)));
+}

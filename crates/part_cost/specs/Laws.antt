@@ -5,7 +5,7 @@ use Rattle.part_cost.specs.declared.kinds.Kind.{Kind}
 use Rattle.part_cost.specs.declared.kinds.Kind.TheVariants.{Ones, Bitmap, Ef}
 use Rattle.part_cost.specs.Payload.{least_through, kind_of, bitmap_payload, digits, widest_low, ef_spacing, ef_bits_at, ef_payload, low_width_of, payload, IsBestLowWidth}
 use Rattle.part_cost.specs.Span.{universe, payload_of_part, cost_of_part, relative_values, AreRelative}
-use Rattle.part_cost.specs.Partition.{IsAllowed}
+use Rattle.part_cost.specs.Partition.{IsAllowed, IsCheapest, IsNear, partition_cost}
 use Rattle.part_cost.specs.Bounds.{are_bounds, Cover}
 
 -- A number is below the power of two of its digits.
@@ -60,6 +60,12 @@ SingleIsAllowed =
 abbrev pub SinglesAreAllowed : Type 0
 SinglesAreAllowed =
     (limit : ℕ) (cost : ℕ → ℕ → ℕ) (n : ℕ) → ((i : ℕ) → i < n → cost i (i + 1) ≤ limit) → IsAllowed limit cost n (range_with_len 1 n)
+
+-- A near-cheapest partition costs at most 103/100 of the least cost.
+abbrev pub NearIsNearTheCheapest : Type 0
+NearIsNearTheCheapest =
+    (limit : ℕ) (cost : ℕ → ℕ → ℕ) (n least : ℕ) (ends : List ℕ) → IsNear limit cost n ends → IsCheapest limit cost n least
+    → (least ≤ partition_cost cost ends) × (100 * partition_cost cost ends ≤ 103 * least)
 
 -- the low width of a part, and what the codes of its numbers take at it
 pub record IsLowWidth (u m l : ℕ) : Type 0 where

@@ -1,5 +1,5 @@
 ghost use Rattle.part_cost.specs.Formats.{FormatsHaveRoom};
-ghost use Rattle.part_cost.specs.Laws.{WiderWidthsAddNothing, DigitsHold, DigitsAreFewest, PayloadIsOfKind, PayloadGrows, PartsGrow, OneNumberIsShort, SingleIsAllowed, SinglesAreAllowed, LowWidthIsBest, PartHasRoom, PartIsWithin, PartIsRelative, BoundsRise, BoundsWithin, BoundsCover};
+ghost use Rattle.part_cost.specs.Laws.{WiderWidthsAddNothing, DigitsHold, DigitsAreFewest, PayloadIsOfKind, PayloadGrows, PartsGrow, OneNumberIsShort, SingleIsAllowed, SinglesAreAllowed, NearIsNearTheCheapest, LowWidthIsBest, PartHasRoom, PartIsWithin, PartIsRelative, BoundsRise, BoundsWithin, BoundsCover};
 
 /// The digits of a number below 2^64 are the fewest that hold it.
 pub fn digits_hold()
@@ -24,6 +24,11 @@ pub fn single_is_allowed()
     ensures short { OneNumberIsShort }
     ensures allowed { SingleIsAllowed }
     ensures all { SinglesAreAllowed }
+{}
+
+/// What is near every allowed partition is near the cheapest: it costs at most 103/100 of the least cost, and no less than that.
+pub fn near_is_near_the_cheapest()
+    ensures { NearIsNearTheCheapest }
 {}
 
 /// A part's low width is the best of all, and what the part takes in Elias-Fano form is what it takes at that width.

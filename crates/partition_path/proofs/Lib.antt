@@ -1,6 +1,6 @@
-pub mod Near
-pub mod Traces
-pub mod Places
-pub mod Extending
-pub mod Rises
-pub mod Search
+mod Near
+mod Traces
+mod Places
+mod Extending
+mod Rises
+mod Search

@@ -2,6 +2,7 @@ use Rattle.std.proofs.Common.{◌≡◌, subst, ℕ, zero, suc, ◌+◌, ◌-◌
 use Rattle.std.proofs.lemmas.Bool.{cases_lt}
 use Rattle.part_cost.specs.Partition.{IsPartitionFrom, WithinLimitFrom, cost_from}
 use Rattle.partition_path.specs.Tables.{Table, IsReached, cost_to}
+use Rattle.part_cost.proofs.Partitions.{ends-within}
 
 -- From place r each allowed part is answered: some place at or behind its end is reached for at most 103/100 of its cost more.
 abbrev pub IsSettled : ℕ → (ℕ → ℕ → ℕ) → ℕ → Table → ℕ → Type 0
@@ -11,11 +12,6 @@ IsSettled limit cost n t r =
 -- a later place costs no more
 abbrev pub IsPassed : ℕ → Table → ℕ → Type 0
 IsPassed n t r = (q : ℕ) × (r < q) × (q ≤ n) × (cost_to t q ≤ cost_to t r)
-
--- the last end of a partition lies at or behind its start
-start-before_end : (p n : ℕ) (ends : List ℕ) → IsPartitionFrom p n ends → p ≤ n
-start-before_end p n [] h = omega (arith, h)
-start-before_end p n (e ∷ ends) h = let more = start-before_end e n ends h.1 in omega (arith, h.0, more)
 
 module _ (limit : ℕ) (cost : ℕ → ℕ → ℕ) (n : ℕ) (t : Table) (monotone : (h i j k : ℕ) → h ≤ i → i < j → j ≤ k → k ≤ n → cost i j ≤ cost h k) where
   -- a place that a later place passes over is settled where that one is
@@ -47,7 +43,7 @@ module _ (limit : ℕ) (cost : ℕ → ℕ → ℕ) (n : ℕ) (t : Table) (monot
     near-rest p r (e ∷ others) l w reached part within =
         elim (cases_lt r e) [
           | inl behind ↦
-              let ends_in = start-before_end e n others part.1 in
+              let ends_in = ends-within e n others part.1 in
               let less = monotone p r e e l behind (omega arith) ends_in in
               let s = all-settled (n - r) r (omega arith) (omega (arith, ends_in)) reached e behind ends_in (omega (arith, less, within.0)) in
               let rest = near-rest e s.0 others s.1 s.2 s.3 part.1 within.1 in

@@ -1,5 +1,5 @@
-pub mod Fronts
-pub mod Loading
-pub mod Ops
-pub mod FileLists
+mod Fronts
+mod Loading
+mod Ops
+mod FileLists
 mod FailedCalls

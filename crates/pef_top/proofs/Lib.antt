@@ -1,19 +1,19 @@
-pub mod ErrPieces
-pub mod Joined
-pub mod Plain
-pub mod Counted
-pub mod WordsBuilt
-pub mod WordsMade
-pub mod WordsWritten
-pub mod FileWritten
-pub mod TextAnswered
-pub mod BaseAnswered
-pub mod IndexAnswered
-pub mod TextPrinted
-pub mod SummaryPrinted
-pub mod GenerationPrinted
-pub mod IndexMigrated
-pub mod RunEnds
+mod ErrPieces
+mod Joined
+mod Plain
+mod Counted
+mod WordsBuilt
+mod WordsMade
+mod WordsWritten
+mod FileWritten
+mod TextAnswered
+mod BaseAnswered
+mod IndexAnswered
+mod TextPrinted
+mod SummaryPrinted
+mod GenerationPrinted
+mod IndexMigrated
+mod RunEnds
 mod Rows
 mod Excluded
 mod Without

@@ -1,3 +1,3 @@
-pub mod Steps
-pub mod Lists
-pub mod Written
+mod Steps
+mod Lists
+mod Written

@@ -11,17 +11,15 @@ use Rattle.std.proofs.lemmas.List.Sums.{prefix_len-le-length}
 use Rattle.collection_model.specs.FormatNumbers.{FormatNumbers}
 use Rattle.collection_model.specs.Collection.{Posting, docs_of, freqs_of, postings_of, IsPostingList}
 use Rattle.collection_model.specs.Sequences.{doc_sequence, freq_sequence, lessened, sums_from, steps_from, postings_in}
+use Rattle.collection_model.proofs.Sequences.{sums-length, same-steps}
 use Rattle.collection_model.proofs.Lists.{postings-of_list, docs-of_postings, freqs-of_postings, docs_of-length, freqs_of-length}
 use Rattle.two_level.specs.SequenceView.{place_at_least}
 use Rattle.cursor_api.specs.NextGeq.{IsCursorList, next_geq_place}
 use Rattle.cursor_api.specs.Postings.{postings-length}
 use Rattle.postings.specs.Laws.{AreSequencesOf, IsListOf, CursorsStandInLists}
-use Rattle.postings.proofs.Steps.{steps-length, sums-length, steps-of_sums, sums-of_steps, rise-from_increasing, increasing-from_rise, rise-sums, sums-below, steps-not_zero, steps-sum}
+use Rattle.postings.proofs.Steps.{steps-of_sums, sums-of_steps, rise-from_increasing, increasing-from_rise, rise-sums, sums-below, steps-not_zero, steps-sum}
 
--- as many steps as documents
-pub same-steps : (docs sums : List ℕ) → length docs ≡ length sums → length docs ≡ length (steps_from 0 sums)
-same-steps docs sums same = same ∙ sym (steps-length 0 sums)
-
+-- as many postings as documents
 pub in-length : (docs sums : List ℕ) → length docs ≡ length sums → length (postings_in docs sums) ≡ length docs
 in-length docs sums same = postings-length docs (steps_from 0 sums) (same-steps docs sums same)
 

@@ -7,26 +7,14 @@ use Rattle.std.proofs.lemmas.List.{drop_more}
 use Rattle.std.proofs.lemmas.List.Kept.{AllPairs-from_increasing}
 use Rattle.std.proofs.lemmas.List.Sums.{sum_by-cons}
 use Rattle.collection_model.specs.Sequences.{lessened, sums_from, steps_from}
+use Rattle.collection_model.proofs.Sequences.{steps-length}
 use Rattle.part_cost.specs.Span.{past}
+use Rattle.part_cost.proofs.Numbers.{rising-tail}
 
 -- numbers at or after a first one that rise
 abbrev pub RiseFrom : ℕ → List ℕ → Type 0
 RiseFrom s [] = Unit {0}
 RiseFrom s (x ∷ xs) = (s ≤ x) × RiseFrom (x + 1) xs
-
-pub steps-length : (s : ℕ) (xs : List ℕ) → length (steps_from s xs) ≡ length xs
-steps-length s [] = refl
-steps-length s (x ∷ xs) = ap suc (steps-length (x + 1) xs)
-
-pub sums-length : (s : ℕ) (fs : List ℕ) → length (lessened (sums_from s fs)) ≡ length fs
-sums-length s [] = refl
-sums-length s (f ∷ fs) = ap suc (sums-length (s + f) fs)
-
-rising-tail : (x : ℕ) (xs : List ℕ) → IsStrictlyIncreasing (x ∷ xs) → IsStrictlyIncreasing xs
-rising-tail x xs up k within =
-    let step : get_or (x ∷ xs) (suc k) 0 < get_or (x ∷ xs) (suc k + 1) 0 = up (suc k) (omega arith) in
-    let next : get_or (x ∷ xs) (suc k + 1) 0 ≡ get_or (x ∷ xs) (suc (k + 1)) 0 = ap (λ i. get_or (x ∷ xs) i 0) (let e : suc k + 1 ≡ suc (k + 1) = omega arith in e) in
-    omega arith
 
 rising-after : (x : ℕ) (xs : List ℕ) → IsStrictlyIncreasing (x ∷ xs) → (s : ℕ) → s ≤ x → RiseFrom s (x ∷ xs)
 rising-after x [] up s before = (before, tt)

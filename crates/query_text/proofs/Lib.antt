@@ -1,9 +1,9 @@
 mod Rows
-pub mod Runs
-pub mod Decimals
-pub mod DigitCount
-pub mod TermSets
-pub mod WeightSums
-pub mod WeightsSeen
-pub mod NumbersSeen
-pub mod Named
+mod Runs
+mod Decimals
+mod DigitCount
+mod TermSets
+mod WeightSums
+mod WeightsSeen
+mod NumbersSeen
+mod Named

@@ -1,7 +1,7 @@
 use Rattle.std.proofs.Common.{◌≡◌, ℕ, suc, zero, ◌-◌, ◌+◌, ◌<◌, ◌≤◌, ◌==◌, Bool, true, false, cond, not, List, [], ◌∷◌, length, take, drop, get_or, filter, refl, ap, sym, ◌∙◌, arith}
 use Rattle.std.specs.List.{prefix_len}
 use Rattle.std.proofs.Math.Dec.{eqb-suc-zero}
-use Rattle.std.proofs.lemmas.Bool.{eqb-true, eqb-false}
+use Rattle.std.proofs.lemmas.Bool.{not-true, not-false, eqb-true, eqb-false}
 use Rattle.std.proofs.lemmas.List.Sums.{prefix_len_passes, prefix_len_stops, prefix_len-le-length}
 use Rattle.std.proofs.lemmas.List.{length-take-le, length-drop, get_or-drop, take_all, nil_from_length}
 use Rattle.query_text.specs.Lines.{fields, pieces, before_pieces, space}
@@ -47,14 +47,6 @@ run (suc n) (b ∷ bs) le before at =
     }
 
 -- a test that is not true is false
-not_of : (t : Bool) → not t ≡ true → t ≡ false
-not_of true h = cc
-not_of false h = refl
-
-not_not_of : (t : Bool) → not t ≡ false → t ≡ true
-not_not_of true h = refl
-not_not_of false h = cc
-
 -- a piece of some bytes is kept
 has_bytes-some : (p : List ℕ) → 0 < length p → has_bytes p ≡ true
 has_bytes-some [] h = absurd (omega arith)
@@ -105,7 +97,7 @@ fields-first bs rest first behind n m count e filled long cut_first cut_behind =
     let le : m ≤ length rest = omega (arith, prefix_len-le-length other rest, long) in
     let begins : 0 < m = omega (arith, begins_run rest some (behind_spaces bs rest trimmed some), long) in
     let before : (k : ℕ) → k < m → (get_or rest k 0 == space) ≡ false =
-    λ k lt. not_of (get_or rest k 0 == space) (prefix_len_passes other rest k 0 (omega (arith, long))) in
+    λ k lt. not-true (get_or rest k 0 == space) (prefix_len_passes other rest k 0 (omega (arith, long))) in
     let at : m < length rest → (get_or rest m 0 == space) ≡ true =
-    λ lt. not_not_of (get_or rest m 0 == space) (ap (λ i. other (get_or rest i 0)) long ∙ prefix_len_stops other rest 0 (omega (arith, long))) in
+    λ lt. not-false (get_or rest m 0 == space) (ap (λ i. other (get_or rest i 0)) long ∙ prefix_len_stops other rest 0 (omega (arith, long))) in
     fields-trimmed bs ∙ ap fields (sym trimmed) ∙ fields-run m rest begins le before at ∙ ap (λ f. f ∷ fields (drop m rest)) (sym cut_first) ∙ ap (λ r. first ∷ fields r) (sym cut_behind)

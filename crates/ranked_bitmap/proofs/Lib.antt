@@ -1,6 +1,7 @@
-pub mod Rows
+mod Rows
 pub mod Ones
-pub mod Marks
+mod Marks
 pub mod Reading
-pub mod Views
-pub mod Writing
+pub mod OneList
+mod Views
+mod Writing

@@ -1,3 +1,4 @@
+-- Numbers that are the places of the ones of some bits.
 use Rattle.std.proofs.Common.{◌≡◌, ℕ, zero, suc, ◌+◌, ◌<◌, ◌≤◌, ◌==◌, Bool, true, false, cond, List, [], ◌∷◌, ◌++◌, length, take, get_or, sum, refl, sym, ap, ◌∙◌, subst, arith, inl, inr, add-one}
 use Rattle.std.specs.List.Sorted.{IsStrictlyIncreasing}
 use Rattle.std.proofs.lemmas.Bool.{cases_lt, eq-eqb, eqb-true}
@@ -5,7 +6,7 @@ use Rattle.std.proofs.lemmas.List.{length_push, get_or_push, get_or_append_left,
 use Rattle.std.proofs.lemmas.List.Sums.{sum_by_more}
 use Rattle.bit_words.proofs.Value.{EachBit}
 use Rattle.bit_words.proofs.Ranges.{bit-below}
-use Rattle.bit_words.proofs.Numbers.{rises}
+use Rattle.part_cost.proofs.Numbers.{rises}
 
 -- The numbers are the places of the ones of some bits.
 pub record AreOnes (bits ys : List ℕ) : Type 0 where

@@ -1,3 +1,4 @@
+-- What the bits of a part say, place by place, and how many they are.
 use Rattle.std.proofs.Common.{◌≡◌, ℕ, zero, suc, ◌+◌, ◌-◌, ◌*◌, ◌/◌, ◌%◌, ◌^◌, ◌<◌, ◌≤◌, List, ◌++◌, length, map, take, drop, get_or, sum, refl, sym, ap, ◌∙◌, subst, arith, inl, inr, add-one}
 use Rattle.std.specs.List.{range_with_len, flat_map}
 use Rattle.std.proofs.lemmas.Bool.{cases_lt}
@@ -10,12 +11,13 @@ use Rattle.bit_words.specs.Bits.{field_bits, field_at, ones_between, IsFirstOne,
 use Rattle.bit_words.proofs.Value.{EachBit, bits-take, bits-drop}
 use Rattle.bit_words.proofs.Ranges.{bit-below}
 use Rattle.bit_words.proofs.Pieces.{StandAt, stands-first, stands-second, stands-both, stands-within, field-fits, length-fields, fields-stand, stands-fields}
-use Rattle.bit_words.proofs.Numbers.{rises, sampled-within}
-use Rattle.part_cost.specs.Payload.{digits}
+use Rattle.part_cost.proofs.Numbers.{rises, sampled-within}
+use Rattle.part_cost.specs.Payload.{digits, bitmap_spacing, bitmap_payload}
 use Rattle.part_cost.specs.Span.{AreRelative}
 use Rattle.part_cost.specs.Stored.{HoldsPart, IsFirstAtLeast}
 use Rattle.part_cost.specs.Laws.{DigitsHold}
 use Rattle.ranked_bitmap.specs.MapBits.{marks, map_samples, map_bits}
+use Rattle.ranked_bitmap.specs.Laws.{TakesItsPayload}
 use Rattle.ranked_bitmap.specs.MapPlaces.{map_length, sample_at, AreSampled}
 use Rattle.ranked_bitmap.proofs.Ones.{AreOnes, AreBelow, sum-suc, one_count, below-next, set-within, count-below, count-all, places_of, all-ones, one_list_of}
 use Rattle.ranked_bitmap.proofs.Marks.{length-marks, marks-are-ones, ones-are-marks}
@@ -55,6 +57,11 @@ length-pieces q u ys =
 
 pub length-part : (q u : ℕ) (ys : List ℕ) → length (map_bits q ys u) ≡ map_length q u (length ys)
 length-part q u ys = ap length (part-is q u ys) ∙ length-pieces q u ys
+
+-- at the spacing of the format, as many as the part costs
+pub takes-its-payload : TakesItsPayload
+unfolding bitmap_payload
+takes-its-payload u m ys h = length-part bitmap_spacing u ys ∙ ap (λ n. map_length bitmap_spacing u n) h.count
 
 -- the bits of the places
 abbrev pub window : List ℕ → ℕ → ℕ → List ℕ

@@ -3,28 +3,18 @@ use Rattle.std.proofs.lemmas.List.Elements.{All-append}
 use Rattle.bit_words.specs.Bits.{AreBits, bits_of, ones_between, IsFirstOne, HasNoOne}
 use Rattle.bit_words.proofs.Value.{bits-bits_of, length-bits_of}
 use Rattle.bit_words.proofs.AllBits.{bits-fields}
-use Rattle.bit_words.proofs.Numbers.{rises}
-use Rattle.part_cost.specs.Payload.{digits, bitmap_spacing, bitmap_payload}
+use Rattle.part_cost.proofs.Numbers.{rises}
+use Rattle.part_cost.specs.Payload.{digits}
 use Rattle.part_cost.specs.Stored.{IsFirstAtLeast}
 use Rattle.part_cost.specs.Laws.{DigitsHold}
 use Rattle.ranked_bitmap.specs.declared.MapView.{MapView}
 use Rattle.ranked_bitmap.specs.MapBits.{marks, map_samples}
-use Rattle.ranked_bitmap.specs.MapPlaces.{map_length, AreSampled}
+use Rattle.ranked_bitmap.specs.MapPlaces.{AreSampled}
 use Rattle.ranked_bitmap.specs.MapView.{Holds, IsWithin}
-use Rattle.ranked_bitmap.specs.Laws.{OneList, PartIsBits, TakesItsPayload}
+use Rattle.ranked_bitmap.specs.Laws.{PartIsBits}
 use Rattle.ranked_bitmap.proofs.Marks.{bits-marks}
-use Rattle.ranked_bitmap.proofs.Reading.{IsRead, counts, samples-are, part-is, length-part, read-held, held-read, one_list-read, below-universe, first-number, some-number, count-next, next-is, here-is, read-checked, counted-all, last-set, samples-read}
-
--- what a view holds is read from its words
-pub view-read : (q : ℕ) (v : MapView q) (ys : List ℕ) → Holds q v ys → IsRead (bits_of v.bits.words.now) v.place v.u v.m q ys
-view-read q v ys h = read-held (bits_of v.bits.words.now) v.place v.u v.m q ys (omega (arith, length-bits_of v.bits.words.now, v.placed)) v.spacing h
-
-pub read-view : (q : ℕ) (v : MapView q) (ys : List ℕ) → IsRead (bits_of v.bits.words.now) v.place v.u v.m q ys → Holds q v ys
-read-view q v ys h = held-read (bits_of v.bits.words.now) v.place v.u v.m q ys (bits-bits_of v.bits.words.now) v.spacing h
-
-pub one-list : OneList
-one-list q v xs ys h g =
-    one_list-read (bits_of v.bits.words.now) v.place v.u v.m q xs ys (bits-bits_of v.bits.words.now) (view-read q v xs h) (view-read q v ys g)
+use Rattle.ranked_bitmap.proofs.OneList.{view-read, read-view}
+use Rattle.ranked_bitmap.proofs.Reading.{counts, samples-are, part-is, below-universe, first-number, some-number, count-next, next-is, here-is, read-checked, counted-all, last-set, samples-read}
 
 -- what is held lies within the words
 pub within-held : (q : ℕ) (v : MapView q) (ys : List ℕ) → Holds q v ys → IsWithin q v
@@ -36,10 +26,6 @@ part-is-bits q u ys =
     subst (λ xs. AreBits xs) (sym (part-is q u ys))
     (All-append (λ b. b < 2) (marks ys u) (map_samples q ys u) (bits-marks ys u)
     (subst (λ xs. AreBits xs) (samples-are q ys u) (bits-fields (digits (length ys)) (counts q ys u))))
-
-pub takes-its-payload : TakesItsPayload
-unfolding bitmap_payload
-takes-its-payload u m ys h = length-part bitmap_spacing u ys ∙ ap (λ n. map_length bitmap_spacing u n) h.count
 
 -- what is read of the numbers that a view holds
 pub number-found : (q : ℕ) (v : MapView q) (ys : List ℕ) → Holds q v ys → (least p : ℕ) → least < v.u

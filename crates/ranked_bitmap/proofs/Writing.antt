@@ -1,22 +1,22 @@
-use Rattle.std.proofs.Common.{◌≡◌, ℕ, zero, suc, ◌+◌, ◌-◌, ◌*◌, ◌/◌, ◌%◌, ◌^◌, ◌<◌, ◌≤◌, cond, List, [], ◌∷◌, ◌++◌, length, take, get_or, sum, sym, ap, ◌∙◌, subst, arith, inl, inr}
+use Rattle.std.proofs.Common.{◌≡◌, ℕ, zero, suc, ◌+◌, ◌-◌, ◌*◌, ◌/◌, ◌<◌, ◌≤◌, cond, List, ◌++◌, length, take, get_or, sum, sym, ap, ◌∙◌, subst, arith, inl, inr}
 use Rattle.std.specs.List.{flat_map}
 use Rattle.std.specs.List.Sorted.{IsStrictlyIncreasing}
 use Rattle.std.proofs.lemmas.Bool.{cases_lt, false_from_ne_true}
-use Rattle.std.proofs.lemmas.List.{length-append, length-take-le, take_more, take_all}
+use Rattle.std.proofs.lemmas.List.{length-append, length-take-le, take_all}
 use Rattle.std.proofs.Math.Nat.{mul-le-mul_left}
 use Rattle.bit_words.specs.Bits.{AppendsBits, field_bits}
 use Rattle.bit_words.proofs.Pieces.{length-fields}
 use Rattle.bit_words.proofs.Fronts.{appends-front, appends-behind, appends-both, pieces-more, pieces-front}
 use Rattle.bit_words.proofs.OnesWritten.{IsOneNext}
-use Rattle.bit_words.proofs.WordLaws.{each_bit}
-use Rattle.bit_words.proofs.Numbers.{rises}
+use Rattle.bit_words.proofs.Value.{each_bit}
+use Rattle.part_cost.proofs.Numbers.{rises}
 use Rattle.part_cost.specs.Payload.{digits}
 use Rattle.part_cost.specs.Span.{past, AreRelative}
 use Rattle.part_cost.proofs.Parts.{past-number, relative-past, past-is}
 use Rattle.ranked_bitmap.specs.MapBits.{marks, map_samples, map_bits}
-use Rattle.ranked_bitmap.proofs.Ones.{AreBelow, sum-suc, one_count, below-number, count-below}
+use Rattle.ranked_bitmap.proofs.Ones.{AreBelow, one_count, count-below}
 use Rattle.ranked_bitmap.proofs.Marks.{has_number, has_number-at, found-number, length-marks, mark-at, bits-marks, marks-are-ones}
-use Rattle.ranked_bitmap.proofs.Reading.{below-universe, counts, length-counts, samples-are, part-is, few-ones}
+use Rattle.ranked_bitmap.proofs.Reading.{below-universe, counts, length-counts, samples-are, part-is}
 
 -- the marks before a place are as many as the numbers below it
 pub marks-below : (ys : List ℕ) (u p : ℕ) → AreRelative u (length ys) ys → AreBelow ys p (sum (take p (marks ys u)))

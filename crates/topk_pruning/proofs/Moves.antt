@@ -3,7 +3,7 @@ use Rattle.std.proofs.Common.{◌≡◌, refl, sym, ap, inl, inr, ◌∙◌, ℕ
 use Rattle.std.specs.Prelude.{◌||◌, option_to_list}
 use Rattle.std.specs.List.{All, reduce}
 use Rattle.std.specs.Option.{IfSome}
-use Rattle.std.proofs.lemmas.Bool.{cases_lt}
+use Rattle.std.proofs.lemmas.Bool.{cases_lt, or_from, or_left, or_right}
 use Rattle.std.proofs.lemmas.List.{map-set, set-get_or, get_or-map}
 use Rattle.std.proofs.lemmas.List.Folds.{list_any_more}
 use Rattle.collection_model.specs.Collection.{Posting}
@@ -41,16 +41,6 @@ tell-has law l from place None good stands is = tt
 tell-has law l from place (Some n) good stands is = let h = law l from n place good stands (sym is) in (h.0, h.1)
 
 -- ---- the first document
-neither : (a b : Bool) → a ≡ false → b ≡ false → (a || b) ≡ false
-neither a b p q = λ i. p i || q i
-
-or-left : (a b : Bool) → a ≡ true → (a || b) ≡ true
-or-left a b p = ap (λ (x : Bool). x || b) p
-
-or-right : (a b : Bool) → b ≡ true → (a || b) ≡ true
-or-right true b p = refl
-or-right false b p = p
-
 -- the lesser of two numbers, or the one that there is
 abbrev earliest : Option ℕ → Option ℕ → Option ℕ
 earliest a b = reduce min (option_to_list a ++ option_to_list b)
@@ -59,17 +49,17 @@ merge : (A B C : ℕ → Bool) (from : ℕ) → ((e : ℕ) → C e ≡ (A e || B
     → ((e : ℕ) → from ≤ e → IfSome least (λ n. e < n) → A e ≡ false) → IfSome least (λ n. (from ≤ n) × (A n ≡ true))
     → ((e : ℕ) → from ≤ e → IfSome o (λ n. e < n) → B e ≡ false) → IfSome o (λ n. (from ≤ n) × (B n ≡ true))
     → ((e : ℕ) → from ≤ e → IfSome (earliest least o) (λ n. e < n) → C e ≡ false) × IfSome (earliest least o) (λ n. (from ≤ n) × (C n ≡ true))
-merge A B C from more None None a-none a-has b-none b-has = (λ e f lt. more e ∙ neither (A e) (B e) (a-none e f tt) (b-none e f tt), tt)
-merge A B C from more None (Some n) a-none a-has b-none b-has = (λ e f lt. more e ∙ neither (A e) (B e) (a-none e f tt) (b-none e f lt), (b-has.0, more n ∙ or-right (A n) (B n) b-has.1))
-merge A B C from more (Some m) None a-none a-has b-none b-has = (λ e f lt. more e ∙ neither (A e) (B e) (a-none e f lt) (b-none e f tt), (a-has.0, more m ∙ or-left (A m) (B m) a-has.1))
+merge A B C from more None None a-none a-has b-none b-has = (λ e f lt. more e ∙ or_from (A e) (B e) (a-none e f tt) (b-none e f tt), tt)
+merge A B C from more None (Some n) a-none a-has b-none b-has = (λ e f lt. more e ∙ or_from (A e) (B e) (a-none e f tt) (b-none e f lt), (b-has.0, more n ∙ or_right (A n) (B n) b-has.1))
+merge A B C from more (Some m) None a-none a-has b-none b-has = (λ e f lt. more e ∙ or_from (A e) (B e) (a-none e f lt) (b-none e f tt), (a-has.0, more m ∙ or_left (A m) (B m) a-has.1))
 merge A B C from more (Some m) (Some n) a-none a-has b-none b-has =
     let low = a-has.0 in
     let low-too = b-has.0 in
     let least : ℕ = min m n in (
-      λ e f lt. let below : e < min m n = lt in more e ∙ neither (A e) (B e) (a-none e f (omega arith)) (b-none e f (omega arith)),
+      λ e f lt. let below : e < min m n = lt in more e ∙ or_from (A e) (B e) (a-none e f (omega arith)) (b-none e f (omega arith)),
       elim (cases_lt m n) as (λ _. (from ≤ min m n) × (C (min m n) ≡ true)) [
-        | inl lt ↦ (let is : min m n ≡ m = omega arith in (omega arith, ap C is ∙ more m ∙ or-left (A m) (B m) a-has.1))
-        | inr ge ↦ (let is : min m n ≡ n = omega arith in (omega arith, ap C is ∙ more n ∙ or-right (A n) (B n) b-has.1))
+        | inl lt ↦ (let is : min m n ≡ m = omega arith in (omega arith, ap C is ∙ more m ∙ or_left (A m) (B m) a-has.1))
+        | inr ge ↦ (let is : min m n ≡ n = omega arith in (omega arith, ap C is ∙ more n ∙ or_right (A n) (B n) b-has.1))
       ],
     )
 

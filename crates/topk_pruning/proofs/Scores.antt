@@ -1,10 +1,10 @@
 -- Lemmas on scores, bounds and the lists of terms.
-use Rattle.std.proofs.Common.{◌≡◌, refl, sym, ap, inl, inr, ◌⊎◌, ◌∙◌, ℕ, ◌*◌, ◌<◌, ◌≤◌, ◌^◌, Bool, true, false, cond, eqb, max, List, [], ◌∷◌, map, take, drop, length, get_or, Option, Some, None, arith}
+use Rattle.std.proofs.Common.{◌≡◌, refl, sym, ap, inl, inr, ◌∙◌, ℕ, ◌*◌, ◌<◌, ◌≤◌, ◌^◌, Bool, true, false, cond, eqb, max, List, [], ◌∷◌, map, take, drop, length, get_or, Option, Some, None, arith}
 use Rattle.std.specs.Prelude.{◌||◌}
 use Rattle.std.specs.List.{All, sum_by, list_any, find, range_with_len, zip}
 use Rattle.std.specs.List.Sorted.{IsPermutation}
 use Rattle.std.specs.Option.{option_map, unwrap_or, IfSome}
-use Rattle.std.proofs.lemmas.Bool.{false≢true, ltb-false, le-ltb}
+use Rattle.std.proofs.lemmas.Bool.{cases_Bool, false≢true, ltb-false, le-ltb}
 use Rattle.std.proofs.lemmas.List.{take_all}
 use Rattle.std.proofs.lemmas.Nat.{mul-le}
 use Rattle.std.proofs.lemmas.List.Elements.{All-head, All-tail, All-map, All-drop}
@@ -19,10 +19,6 @@ use Rattle.scan_plans.specs.Ranking.{IsLeastScore}
 use Rattle.scan_plans.specs.Skips.{CannotEnter}
 use Rattle.topk_pruning.specs.declared.term.Term.{Term}
 use Rattle.topk_pruning.specs.Terms.{term_of, terms_of, list_of, share, score_in, in_lists, bounds, beats, AreTerms, AreAllTerms, AreSpared}
-
-pub either : (b : Bool) → (b ≡ true) ⊎ (b ≡ false)
-either true = inl refl
-either false = inr refl
 
 -- ---- one list
 absent-step : (b : Bool) (p : Posting) (l : List Posting) (d : ℕ) → (b || has_doc d l) ≡ false → (has_doc d l ≡ false → freq_of_doc d l ≡ 0) → unwrap_or (option_map (λ p. p.freq) (cond b (Some p) (find (λ p. eqb p.doc d) l))) 0 ≡ 0
@@ -82,7 +78,7 @@ any-same p q f k same (x ∷ xs) = let here = same x in let more = any-same p q 
 
 -- none passes
 none-of_any : {X : Type 0} (p : X → Bool) (xs : List X) → list_any p xs ≡ false → All (λ x. p x ≡ false) xs
-none-of_any p xs none k d within = elim (either (p (get_or xs k d))) as (λ _. p (get_or xs k d) ≡ false) [
+none-of_any p xs none k d within = elim (cases_Bool (p (get_or xs k d))) as (λ _. p (get_or xs k d) ≡ false) [
   | inl is ↦ absurd (false≢true (sym none ∙ list_any_at p xs k d within is))
   | inr not ↦ not
 ]

@@ -2,7 +2,7 @@ use Rattle.std.proofs.Common.{◌≡◌, ℕ, zero, suc, ◌+◌, ◌-◌, ◌*�
 use Rattle.std.specs.Prelude.{◌==◌}
 use Rattle.std.specs.List.{All, slice_range}
 use Rattle.std.specs.List.Sorted.{IsStrictlyIncreasing}
-use Rattle.std.proofs.lemmas.Bool.{cases_lt}
+use Rattle.std.proofs.lemmas.Bool.{cases_lt, eq-eqb as true-same}
 use Rattle.std.proofs.lemmas.Bool.Decides.{nat_tests}
 use Rattle.std.proofs.lemmas.List.{length-append, length-take-le, length-drop, length-map, length-replicate, take-take, take_all, take_at, drop_at, drop-take, take-append-drop, get_or-take, get_or-map, get_or_append_left, get_or-append_right, get_or-replicate, get_or_default, ext_get_or}
 use Rattle.std.proofs.Math.Seq.{take-append-add}
@@ -12,7 +12,7 @@ use Rattle.bit_words.specs.Bits.{bits_of, padding, padded, words_of, AreBits}
 use Rattle.bit_words.specs.Laws.{BitsOfAppended, WordsOfBits, WordsOfPadded}
 use Rattle.bit_words.proofs.Value.{length-bits_of}
 use Rattle.bit_words.proofs.Pieces.{StandAt, stands-both, stands-at}
-use Rattle.bit_words.proofs.Numbers.{rises}
+use Rattle.part_cost.proofs.Numbers.{rises}
 use Rattle.part_cost.specs.Formats.{HasRoom}
 use Rattle.part_cost.specs.Payload.{payload}
 use Rattle.part_cost.specs.Span.{past, universe, payload_of_part, relative_values, AreRelative}
@@ -25,7 +25,7 @@ use Rattle.two_level.specs.SequenceWords.{directory_from, payload_from, BeginsSe
 use Rattle.two_level.specs.SequenceFault.{stated_last, stated_end, stated_offset, end_before, past_before, stated_count, stated_universe, payload_before, word_behind, first_bit, parts_fit, IsPartStored, PassChecks}
 use Rattle.two_level.proofs.EntryLaws.{entry-is-whole, entry-is-of-words}
 use Rattle.two_level.proofs.Lengths.{PartLaws, bits-payload, entry-within}
-use Rattle.two_level.proofs.Follows.{FollowsAt, follows-at, true-same}
+use Rattle.two_level.proofs.Follows.{FollowsAt, follows-at}
 
 -- a list that rises, and another whose values lie past it
 pub rises-append : (xs ys : List ℕ) → IsStrictlyIncreasing xs → IsStrictlyIncreasing ys → ((k : ℕ) → k < length ys → past xs (length xs) ≤ get_or ys k 0) → IsStrictlyIncreasing (xs ++ ys)

@@ -1,7 +1,7 @@
 use Rattle.std.proofs.Common.{◌≡◌, ℕ, zero, suc, ◌+◌, ◌-◌, ◌*◌, ◌<◌, ◌≤◌, Bool, true, false, List, [], ◌∷◌, ◌++◌, length, take, drop, get_or, slice_index, refl, inl, inr, sym, ap, ◌∙◌, subst, arith}
 use Rattle.std.specs.Prelude.{◌||◌, ◌==◌, ◌↔◌, ◌⊎◌, not, nat_lt, MatchBool}
 use Rattle.std.specs.List.{slice_range}
-use Rattle.std.proofs.lemmas.Bool.{both_ways, ltb_from_iff}
+use Rattle.std.proofs.lemmas.Bool.{both_ways, ltb_from_iff, ltb-false as lt-false, le-ltb as false-lt}
 use Rattle.std.proofs.lemmas.Bool.Decides.{nat_tests}
 use Rattle.std.proofs.lemmas.List.{length-take, length-take-le, get_or-take, get_or-drop, drop-drop, drop-take, take-take}
 use Rattle.std.proofs.lemmas.List.Edits.{length-between, get_or-between}
@@ -19,11 +19,13 @@ use Rattle.two_level.specs.declared.check.Check.TheVariants.{K6, K7, K8, K9}
 use Rattle.two_level.specs.EntryFacts.{EntryStates}
 use Rattle.two_level.specs.SequenceWords.{sequence_words}
 use Rattle.two_level.specs.SequenceFault.{OrElse, FirstOf, stated_last, stated_end, stated_offset, end_before, past_before, stated_count, stated_universe, payload_before, word_behind, first_bit, parts_fit, cannot_follow, entry_breaks, IsPartStored, FirstInSequence, PassChecks}
-use Rattle.two_level.specs.AtAWord.{IsFaultAt, NoneBreaks, ChecksStandAtAWord, SequenceStandsAtAWord, FaultStandsAtAWord}
+use Rattle.two_level.specs.AtAWord.{NoneBreaks, ChecksStandAtAWord, SequenceStandsAtAWord, FaultStandsAtAWord}
 use Rattle.two_level.proofs.EntryLaws.{entry-is-its-words}
 use Rattle.two_level.proofs.Lengths.{PartLaws, entry-within}
 use Rattle.two_level.proofs.Takes.{bits-take}
-use Rattle.two_level.proofs.Follows.{lt-false, false-lt, unmatch, match-false, front-test, fits-begun}
+use Rattle.two_level.proofs.Choices.{unmatch, match-false}
+use Rattle.two_level.proofs.FirstChecks.{passed, faulty}
+use Rattle.two_level.proofs.Follows.{front-test, fits-begun}
 use Rattle.two_level.proofs.Entries.{payload-rises}
 use Rattle.two_level.proofs.Parts.{used-is}
 
@@ -363,22 +365,6 @@ fault-stands format words p s parts m bound part check long fits room h =
     (front-test format within parts m fits (omega (arith, count, room))) h in
     first-out format words p s parts m bound F ⊥ room (subst (λ n. FirstInSequence format within n 0 parts m bound F ⊥) count first)
 
--- the checks of one sequence, with what they are to say said otherwise
-first-said : (format : FormatNumbers) (words : List ℕ) (s p parts m bound : ℕ) (F G : Check → ℕ → Type 0) (L M : Type 0) → ((k : Check) (q : ℕ) → F k q → G k q) → (L → M)
-    → FirstInSequence format words s p parts m bound F L → FirstInSequence format words s p parts m bound G M
-first-said format words s p parts m bound =
-    first-alike format words words s p s p parts m bound (record { entries = λ q lt. refl; behind = refl; stored = λ e q lt. (λ h. h, λ h. h); filled = λ e. (λ h. h, λ h. h) })
-
--- whatever the checks are to say: of a first check that breaks, and of none
-pub fault-found : (format : FormatNumbers) (words : List ℕ) (s p parts m bound part : ℕ) (check : Check) (found : Check → ℕ → Type 0) (later : Type 0) → IsFaultAt format words s p parts m bound check part
-    → found check part → FirstInSequence format words s p parts m bound found later
-fault-found format words s p parts m bound part check found later h here =
-    first-said format words s p parts m bound (λ k q. (check ≡ k) × (part ≡ q)) found ⊥ later (λ k q e. subst (λ k. found k q) e.0 (subst (found check) e.1 here)) (λ x. absurd x) h
-
-pub none-later : (format : FormatNumbers) (words : List ℕ) (s p parts m bound : ℕ) (found : Check → ℕ → Type 0) (later : Type 0) → NoneBreaks format words s p parts m bound
-    → later → FirstInSequence format words s p parts m bound found later
-none-later format words s p parts m bound found later h rest = first-said format words s p parts m bound (λ k q. ⊥) found (Unit {0}) later (λ k q x. absurd x) (λ u. rest) h
-
 -- either a check breaks first, or none does
 abbrev Parted : ((Check → ℕ → Type 0) → Type 0 → Type 0) → (Check → ℕ → Type 0) → Type 0 → Type 0
 Parted first found later = ((check : Check) × (part : ℕ) × first (λ k q. (check ≡ k) × (part ≡ q)) ⊥ × found check part) ⊎ (first (λ k q. ⊥) (Unit {0}) × later)
@@ -415,12 +401,12 @@ first-at-a-word format law words p s parts m bound found later fit =
     let within : List ℕ = slice_range words p s in (
       λ h.
           elim (first-parted format within (s - p) 0 parts m bound found later h) [
-            | inl (k, q, first, here) ↦ fault-found format words s p parts m bound q k found later ((alike.fault k q).0 first) here
-            | inr (all, x) ↦ none-later format words s p parts m bound found later (alike.none.0 all) x
+            | inl (k, q, first, here) ↦ faulty format words s p parts m bound k q found later ((alike.fault k q).0 first) here
+            | inr (all, x) ↦ passed format words s p parts m bound found later (alike.none.0 all) x
           ],
       λ h.
           elim (first-parted format words s p parts m bound found later h) [
-            | inl (k, q, first, here) ↦ fault-found format within (s - p) 0 parts m bound q k found later ((alike.fault k q).1 first) here
-            | inr (all, x) ↦ none-later format within (s - p) 0 parts m bound found later (alike.none.1 all) x
+            | inl (k, q, first, here) ↦ faulty format within (s - p) 0 parts m bound k q found later ((alike.fault k q).1 first) here
+            | inr (all, x) ↦ passed format within (s - p) 0 parts m bound found later (alike.none.1 all) x
           ],
     )

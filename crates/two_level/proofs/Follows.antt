@@ -1,7 +1,7 @@
 use Rattle.std.proofs.Common.{◌≡◌, ℕ, zero, suc, ◌+◌, ◌-◌, ◌*◌, ◌/◌, ◌%◌, ◌<◌, ◌≤◌, Bool, true, false, List, [], ◌∷◌, ◌++◌, length, take, drop, replicate, get_or, refl, inl, inr, sym, ap, ◌∙◌, subst, arith}
 use Rattle.std.specs.Prelude.{◌||◌, ◌&&◌, ◌==◌, not, nat_le, nat_lt, MatchBool}
 use Rattle.std.specs.List.{All}
-use Rattle.std.proofs.lemmas.Bool.{both_ways}
+use Rattle.std.proofs.lemmas.Bool.{both_ways, not-false, or_parts as or-none, or_from as or-both, leb-false as le-false, ltb-false as lt-false, lt-leb as false-le, le-ltb as false-lt, eqb-true as same-true, eq-eqb as true-same, not_from_true as false-not}
 use Rattle.std.proofs.lemmas.Bool.Decides.{nat_tests}
 use Rattle.std.proofs.lemmas.List.{length-replicate, get_or-append_right, get_or_append_left, get_or-replicate, length-take-le}
 use Rattle.collection_model.specs.FormatNumbers.{FormatNumbers, entry_words}
@@ -11,55 +11,23 @@ use Rattle.bit_words.proofs.Value.{length-bits_of}
 use Rattle.part_cost.specs.Formats.{HasRoom}
 use Rattle.part_cost.specs.Span.{past, universe, payload_of_part, relative_values}
 use Rattle.part_cost.specs.Partition.{IsPartitionFrom, cost_from}
+use Rattle.part_cost.proofs.Partitions.{ends-within, few-parts}
 use Rattle.part_cost.specs.Stored.{HoldsPart}
 use Rattle.part_codec.specs.PartBits.{part_bits}
 use Rattle.two_level.specs.declared.check.Check.{Check}
 use Rattle.two_level.specs.declared.check.Check.TheVariants.{K6, K7, K8, K9}
 use Rattle.two_level.specs.SequenceWords.{directory_from, payload_from, BeginsSequence}
 use Rattle.two_level.specs.SequenceFault.{OrElse, FirstOf, stated_last, stated_end, stated_offset, end_before, past_before, stated_count, stated_universe, payload_before, word_behind, first_bit, parts_fit, cannot_follow, entry_breaks, IsPartStored, PassChecks, IsSequenceFault}
-use Rattle.two_level.proofs.Lengths.{PartLaws, AreValues, ends-within, length-payload, bits-payload, length-directory, length-sequence}
+use Rattle.two_level.proofs.Choices.{unmatch}
+use Rattle.two_level.proofs.Lengths.{PartLaws, AreValues, length-payload, bits-payload, length-directory, length-sequence}
 use Rattle.two_level.proofs.Stated.{EntryIs, StandsFrom, past-part, past-bounded, entry-is, stands-next, payload-all, holds-part, split-bits, values-of, begins-split, stands-whole}
 
--- tests that are false
-pub or-none : (a b : Bool) → (a || b) ≡ false → (a ≡ false) × (b ≡ false)
-or-none true b h = cc
-or-none false b h = (refl, h)
-
-pub or-both : (a b : Bool) → a ≡ false → b ≡ false → (a || b) ≡ false
-or-both true b h k = cc
-or-both false b h k = k
-
-pub le-false : (a b : ℕ) → nat_le a b ≡ false → b < a
-le-false a b h = grind (arith, nat_tests)
-
-pub lt-false : (a b : ℕ) → nat_lt a b ≡ false → b ≤ a
-lt-false a b h = grind (arith, nat_tests)
-
-pub same-true : (a b : ℕ) → (a == b) ≡ true → a ≡ b
-same-true a b h = grind (arith, nat_tests)
-
-pub false-le : (a b : ℕ) → b < a → nat_le a b ≡ false
-false-le a b h = grind (arith, nat_tests)
-
-pub false-lt : (a b : ℕ) → b ≤ a → nat_lt a b ≡ false
-false-lt a b h = grind (arith, nat_tests)
-
-pub true-same : (a b : ℕ) → a ≡ b → (a == b) ≡ true
-true-same a b h = grind (arith, nat_tests)
-
-pub not-false : (a : Bool) → not a ≡ false → a ≡ true
-not-false true h = refl
-not-false false h = cc
-
-pub false-not : (a : Bool) → a ≡ true → not a ≡ false
-false-not true h = refl
-false-not false h = cc
-
-pub and-false : (a b : Bool) → (a && not b) ≡ false → a ≡ true → b ≡ true
+-- a test that is made only where another is true
+and-false : (a b : Bool) → (a && not b) ≡ false → a ≡ true → b ≡ true
 and-false true b h k = not-false b h
 and-false false b h k = cc
 
-pub false-and : (a b : Bool) → (a ≡ true → b ≡ true) → (a && not b) ≡ false
+false-and : (a b : Bool) → (a ≡ true → b ≡ true) → (a && not b) ≡ false
 false-and true b h = false-not b (h refl)
 false-and false b h = refl
 
@@ -154,18 +122,6 @@ abbrev pub EntriesStep : FormatNumbers → List ℕ → ℕ → ℕ → ℕ → 
 EntriesStep format words parts m bound check part =
     FirstOf (λ q. entry_breaks format words 0 parts m bound q ≡ true) parts (Found check part K7) (BehindStep format words parts check part)
 
-pub unmatch : (b : Bool) (P Q : Type 0) → b ≡ false → MatchBool b P Q → Q
-unmatch true P Q e h = cc
-unmatch false P Q e h = h
-
-pub match-true : (b : Bool) (P Q : Type 0) → b ≡ true → P → MatchBool b P Q
-match-true true P Q e h = h
-match-true false P Q e h = cc
-
-pub match-false : (b : Bool) (P Q : Type 0) → b ≡ false → Q → MatchBool b P Q
-match-false true P Q e h = cc
-match-false false P Q e h = h
-
 pub front-test : (format : FormatNumbers) (words : List ℕ) (parts m : ℕ) → parts_fit m parts ≡ true → entry_words format * parts ≤ length words → (not (parts_fit m parts) || nat_lt (length words) (entry_words format * parts)) ≡ false
 front-test format words parts m h k = or-both (not (parts_fit m parts)) (nat_lt (length words) (entry_words format * parts)) (false-not (parts_fit m parts) h) (false-lt (length words) (entry_words format * parts) k)
 
@@ -185,10 +141,6 @@ no-fault format words parts m bound check part fit h =
     ]
 
 -- how many parts there are
-pub few-parts : (i n : ℕ) (ends : List ℕ) → IsPartitionFrom i n ends → i + length ends ≤ n
-few-parts i n [] h = omega (arith, h)
-few-parts i n (end ∷ ends) h = omega (arith, h.0, few-parts end n ends h.1)
-
 pub some-parts : (n : ℕ) (ends : List ℕ) → IsPartitionFrom 0 n ends → length ends ≡ 0 → n ≡ 0
 some-parts n [] h e = sym h
 some-parts n (end ∷ ends) h e = absurd (omega (arith, e))

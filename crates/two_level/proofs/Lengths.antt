@@ -5,12 +5,13 @@ use Rattle.std.proofs.lemmas.List.{length-append}
 use Rattle.std.proofs.lemmas.List.Elements.{All-nil, All-append}
 use Rattle.std.proofs.lemmas.List.FromFn.{length-map-range_with_len}
 use Rattle.std.proofs.lemmas.Nat.{mul-le}
-use Rattle.collection_model.specs.FormatNumbers.{FormatNumbers, entry_words, part_charge}
+use Rattle.collection_model.specs.FormatNumbers.{FormatNumbers, entry_words}
 use Rattle.bit_words.specs.Bits.{AreBits, field_at, words_of}
 use Rattle.part_cost.specs.Payload.{widest_low}
 use Rattle.part_cost.specs.Formats.{HasRoom}
-use Rattle.part_cost.specs.Span.{past, universe, payload_of_part, cost_of_part, relative_values}
+use Rattle.part_cost.specs.Span.{past, universe, payload_of_part, relative_values}
 use Rattle.part_cost.specs.Partition.{IsPartitionFrom, cost_from}
+use Rattle.part_cost.proofs.Partitions.{ends-within, charges}
 use Rattle.part_cost.specs.Laws.{PartHasRoom, PartIsWithin, PartIsRelative}
 use Rattle.part_codec.specs.PartBits.{part_bits}
 use Rattle.part_codec.specs.Laws.{PartIsBits, TakesItsPayload}
@@ -38,11 +39,6 @@ below-bound least most xs le below k d lt = let small = below k d lt in omega (a
 
 pub are-values : (format : FormatNumbers) (room : HasRoom format) (xs : List ℕ) → IsStrictlyIncreasing xs → All (λ x. x < format.most_sum) xs → AreValues format xs
 are-values format room xs up below = record { rising = up; below = below; in_range = below-bound format.most_sum (2 ^ widest_low) xs room.sums below }
-
--- parts from a place on end behind it
-pub ends-within : (i n : ℕ) (ends : List ℕ) → IsPartitionFrom i n ends → i ≤ n
-ends-within i n [] h = omega arith
-ends-within i n (end ∷ ends) h = omega (arith, h.0, ends-within end n ends h.1)
 
 -- the bits of one part
 pub part-takes : PartLaws → (xs : List ℕ) → IsStrictlyIncreasing xs → All (λ x. x < 2 ^ widest_low) xs → (i end : ℕ) → i < end → end ≤ length xs
@@ -85,12 +81,6 @@ entry-within format q parts lt = omega (arith, mul-le (entry_words format) (q + 
 
 pub length-words_of : (bits : List ℕ) → length (words_of bits) ≡ (length bits + 63) / 64
 length-words_of bits = length-map-range_with_len (λ i. field_at bits (64 * i) 64) 0 ((length bits + 63) / 64)
-
--- the cost of a partition is the charge of each part and the payload of all
-pub charges : (format : FormatNumbers) (xs : List ℕ) (i : ℕ) (ends : List ℕ)
-    → cost_from (cost_of_part (part_charge format) xs) i ends ≡ 64 * (entry_words format * length ends) + cost_from (payload_of_part xs) i ends
-charges format xs i [] = omega arith
-charges format xs i (end ∷ ends) = omega (arith, charges format xs end ends)
 
 pub length-sequence : (format : FormatNumbers) → PartLaws → (xs : List ℕ) → AreValues format xs → (ends : List ℕ) → IsPartitionFrom 0 (length xs) ends
     → length (sequence_words format xs ends) ≡ entry_words format * length ends + (cost_from (payload_of_part xs) 0 ends + 63) / 64

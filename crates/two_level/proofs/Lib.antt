@@ -1,12 +1,14 @@
-pub mod EntryLaws
-pub mod Lengths
-pub mod Stated
-pub mod Writing
-pub mod Follows
-pub mod Accepting
-pub mod Entries
-pub mod Parts
-pub mod Places
-pub mod Probes
-pub mod Takes
-pub mod AtAWord
+pub mod Choices
+pub mod FirstChecks
+mod EntryLaws
+mod Lengths
+mod Stated
+mod Writing
+mod Follows
+mod Accepting
+mod Entries
+mod Parts
+mod Places
+mod Probes
+mod Takes
+mod AtAWord

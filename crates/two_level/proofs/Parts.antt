@@ -18,9 +18,11 @@ use Rattle.two_level.specs.SequenceParts.{StatesPart, Restores, HoldsValues}
 use Rattle.two_level.specs.declared.held.HeldPart.{HeldPart}
 use Rattle.two_level.specs.Laws.{DirectoryStates}
 use Rattle.two_level.specs.declared.part.Part.{Part}
-use Rattle.two_level.proofs.Lengths.{PartLaws, AreValues, ends-within, length-sequence}
+use Rattle.part_cost.proofs.Partitions.{ends-within}
+use Rattle.two_level.proofs.Lengths.{PartLaws, AreValues, length-sequence}
 use Rattle.two_level.proofs.Stated.{EntryIs, StandsFrom, past-part, past-bounded, entry-is, stands-next, payload-all, holds-part, values-of, stands-whole}
-use Rattle.two_level.proofs.Follows.{fits-begun, some-parts, follows-at, true-same}
+use Rattle.std.proofs.lemmas.Bool.{eq-eqb as true-same}
+use Rattle.two_level.proofs.Follows.{fits-begun, some-parts, follows-at}
 use Rattle.two_level.proofs.Entries.{payload-rises, bits-next}
 
 -- part q stands from where the entry before it says up to where its own says

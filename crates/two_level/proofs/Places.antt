@@ -2,7 +2,7 @@ use Rattle.std.proofs.Common.{◌≡◌, ℕ, zero, suc, ◌+◌, ◌-◌, ◌<�
 use Rattle.std.specs.Prelude.{nat_le, not}
 use Rattle.std.specs.List.{position_or_len}
 use Rattle.std.specs.List.Sorted.{IsStrictlyIncreasing}
-use Rattle.std.proofs.lemmas.Bool.{cases_lt}
+use Rattle.std.proofs.lemmas.Bool.{cases_lt, leb-false as le-false, lt-leb as false-le}
 use Rattle.std.proofs.lemmas.Bool.Decides.{nat_tests}
 use Rattle.std.proofs.lemmas.List.{length-drop, get_or-drop}
 use Rattle.std.proofs.lemmas.List.Sums.{position_or_len_is, fails_before_first, passes_at_first, prefix_len-le-length}
@@ -12,7 +12,6 @@ use Rattle.part_cost.proofs.Parts.{past-at}
 use Rattle.two_level.specs.SequenceFault.{stated_last, stated_end, end_before}
 use Rattle.two_level.specs.SequenceView.{SequenceView, place_at_least}
 use Rattle.two_level.specs.SequenceParts.{StatesParts}
-use Rattle.two_level.proofs.Follows.{le-false, false-le}
 
 true-le : (a b : ℕ) → a ≤ b → nat_le a b ≡ true
 true-le a b h = grind (arith, nat_tests)

@@ -22,7 +22,8 @@ use Rattle.two_level.specs.SequenceWords.{directory_from, payload_from, sequence
 use Rattle.two_level.specs.SequenceFault.{stated_last, stated_end, stated_offset, end_before, past_before, stated_count, stated_universe, payload_before, first_bit}
 use Rattle.two_level.specs.SequenceView.{SequenceView, ends_stated, part_stated, sequence_stated}
 use Rattle.two_level.specs.Laws.{OneSequence, WordsState}
-use Rattle.two_level.proofs.Lengths.{PartLaws, AreValues, ends-within, part-takes, bits-payload, length-directory, below-bound, are-values}
+use Rattle.part_cost.proofs.Partitions.{ends-within}
+use Rattle.two_level.proofs.Lengths.{PartLaws, AreValues, part-takes, bits-payload, length-directory, below-bound, are-values}
 use Rattle.two_level.proofs.EntryLaws.{entry-is-whole, entry-reads-back}
 
 -- entry q stands at the front of the words from its place on

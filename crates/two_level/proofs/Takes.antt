@@ -13,7 +13,7 @@ use Rattle.part_cost.proofs.Forms.{payload-of-kind}
 use Rattle.elias_fano.specs.EfBits.{ef_bits}
 use Rattle.elias_fano.specs.EfPlaces.{ef_length}
 use Rattle.elias_fano.proofs.Reading.{length-part}
-use Rattle.ranked_bitmap.proofs.Views as bitmap
+use Rattle.ranked_bitmap.proofs.Reading as bitmap
 use Rattle.part_codec.specs.PartBits.{bits_of_kind, part_bits}
 
 -- the least of some numbers is one of them

@@ -1,7 +1,7 @@
 use Rattle.std.proofs.Common.{◌≡◌, ℕ, zero, suc, ◌+◌, ◌-◌, ◌*◌, ◌^◌, ◌<◌, ◌≤◌, List, [], ◌∷◌, ◌++◌, length, take, drop, map, get_or, refl, sym, ap, ◌∙◌, subst, arith, append_assoc}
 use Rattle.std.specs.List.{All, slice_range}
 use Rattle.std.specs.List.Sorted.{IsStrictlyIncreasing}
-use Rattle.std.proofs.lemmas.List.{length-append, length-take-le, length-drop, append-nil, drop_more, drop_all, get_or-take, get_or-drop, take_more, take_at, take-append-drop, map-append}
+use Rattle.std.proofs.lemmas.List.{length-append, append-nil, drop_more, drop_all, get_or-take, get_or-drop, take_more, take_at, take-append-drop, map-append}
 use Rattle.std.proofs.lemmas.List.Elements.{All-take}
 use Rattle.std.proofs.Math.Seq.{take-append-add}
 use Rattle.collection_model.specs.FormatNumbers.{FormatNumbers}
@@ -13,9 +13,10 @@ use Rattle.part_cost.specs.Partition.{IsPartitionFrom, cost_from}
 use Rattle.part_cost.specs.Laws.{PartHasRoom, PartIsWithin, PartIsRelative}
 use Rattle.part_codec.specs.PartBits.{part_bits}
 use Rattle.part_cost.proofs.Growth.{payload-short}
+use Rattle.part_cost.proofs.Partitions.{ends-within}
 use Rattle.two_level.specs.EntryWords.{entry}
 use Rattle.two_level.specs.SequenceWords.{directory_from, payload_from, Extends}
-use Rattle.two_level.proofs.Lengths.{PartLaws, ends-within, length-payload}
+use Rattle.two_level.proofs.Lengths.{PartLaws, length-payload}
 
 -- a part ends past the value before it, and no further than the bound
 pub past-less : PartHasRoom → (xs : List ℕ) → IsStrictlyIncreasing xs → (i end : ℕ) → i < end → end ≤ length xs → past xs i + (end - i) ≤ past xs end
@@ -31,9 +32,6 @@ above-part room xs up i end k lt fit =
     let at : get_or (slice_range xs i end) k 0 ≡ get_or xs (i + k) 0 = get_or-take (end - i) (drop i xs) k 0 lt ∙ get_or-drop i xs k 0 in
     let less : past xs i + (suc (i + k) - i) ≤ past xs (suc (i + k)) = past-less room xs up i (suc (i + k)) (omega arith) (omega arith) in
     omega (arith, at, less)
-
-pub length-part : (xs : List ℕ) (i end : ℕ) → i < end → end ≤ length xs → length (slice_range xs i end) ≡ end - i
-length-part xs i end lt fit = length-take-le (end - i) (drop i xs) (omega (arith, length-drop i xs))
 
 -- one more relative value
 pub relative-more : (span : List ℕ) (past k : ℕ) (part : List ℕ) → k < length span → part ≡ map (λ x. x - past) (take k span)

@@ -1,7 +1,7 @@
 use Rattle.std.proofs.Common.{◌+◌, ◌-◌, ◌*◌, ◌^◌, ◌<◌, length, sym, subst, arith}
 use Rattle.std.proofs.Math.Nat.{div-le_self}
 use Rattle.elias_fano.proofs.Rising.{place-within, relative-fit}
-use Rattle.bit_words.proofs.Numbers.{sampled-within}
+use Rattle.part_cost.proofs.Numbers.{sampled-within}
 use Rattle.bit_words.proofs.Outcomes.{on-err}
 use Rattle.elias_fano.proofs.Writing.{samples-room, samples-more, samples-front, samples-all}
 use Rattle.elias_fano.proofs.writer.write_samples.Goals as goal

@@ -3,7 +3,7 @@ use Rattle.std.proofs.lemmas.Bool.{cases_lt}
 use Rattle.bit_words.specs.Bits.{bits_of, ones_between}
 use Rattle.bit_words.proofs.Value.{bits-bits_of}
 use Rattle.ranked_bitmap.specs.MapPlaces.{sample_at}
-use Rattle.bit_words.proofs.Numbers.{sampled-within}
+use Rattle.part_cost.proofs.Numbers.{sampled-within}
 use Rattle.ranked_bitmap.proofs.Reading.{count-more, ones-on, ones-few}
 use Rattle.ranked_bitmap.proofs.MapView.sampled_ones.Goals as goal
 

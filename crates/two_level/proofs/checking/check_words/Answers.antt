@@ -1,7 +1,7 @@
 use Rattle.std.proofs.Common.{◌≡◌, ℕ, ◌+◌, ◌*◌, ◌<◌, ◌≤◌, true, false, List, length, Result, Ok, Err, inl, inr, refl, subst, rules}
 use Rattle.std.specs.Prelude.{◌||◌, not, nat_lt}
 use Rattle.std.specs.Result.{IfErr}
-use Rattle.std.proofs.lemmas.Bool.{both_ways}
+use Rattle.std.proofs.lemmas.Bool.{both_ways, le-ltb as false-lt}
 use Rattle.std.proofs.lemmas.Result.{IfErr-weaker}
 use Rattle.collection_model.specs.FormatNumbers.{FormatNumbers, entry_words}
 use Rattle.part_cost.specs.Formats.{numbers_of}
@@ -10,7 +10,8 @@ use Rattle.two_level.specs.declared.check.Check.{Check}
 use Rattle.two_level.specs.declared.check.Check.TheVariants.{K6, K7, K8, K9}
 use Rattle.two_level.specs.declared.checking.SeqFault.{SeqFault}
 use Rattle.two_level.specs.SequenceFault.{payload_before, first_bit, word_behind, parts_fit, entry_breaks, IsPartStored, IsSequenceFault}
-use Rattle.two_level.proofs.Follows.{Found, PartsStep, EntriesStep, match-false, front-test, false-lt}
+use Rattle.two_level.proofs.Choices.{match-false}
+use Rattle.two_level.proofs.Follows.{Found, PartsStep, EntriesStep, front-test}
 use Rattle.two_level.proofs.checking.check_words.Goals as goal
 
 -- the first fault where the entries stand and end within the words

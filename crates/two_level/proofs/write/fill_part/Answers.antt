@@ -1,5 +1,6 @@
 use Rattle.std.proofs.Common.{◌-◌, ◌<◌, arith}
-use Rattle.two_level.proofs.Writing.{above-part, length-part}
+use Rattle.part_cost.proofs.Parts.{part-length as length-part}
+use Rattle.two_level.proofs.Writing.{above-part}
 use Rattle.two_level.proofs.write.fill_part.Goals as goal
 
 pub overflow_sub-value : goal.overflow_sub-value

@@ -1,6 +1,6 @@
 use Rattle.std.proofs.Common.{◌≡◌, ◌∙◌, sym, ap, subst, rules, arith, ◌/◌, ◌≤◌, ◌<◌, ◌++◌, length}
 use Rattle.collection_model.specs.FormatNumbers.{most_terms, part_charge}
-use Rattle.collection_model.specs.Sequences.{doc_sequence, freq_sequence}
+use Rattle.collection_model.specs.Sequences.{doc_sequence}
 use Rattle.two_level.specs.SequenceWords.{sequence_words}
 use Rattle.collection_model.specs.Collection.{postings_of, freqs_of, IsPostingList}
 use Rattle.part_cost.specs.Formats.{numbers_of}
@@ -8,7 +8,7 @@ use Rattle.part_cost.specs.Span.{cost_of_part}
 use Rattle.part_cost.specs.Partition.{IsPartition, partition_cost}
 use Rattle.index_file.specs.FileWords.{CutList, doc_words, freq_words, list_entry}
 use Rattle.index_file.specs.Builder.{IsNearCut, cut_list, with_list, lists_added}
-use Rattle.postings.proofs.Steps.{sums-length}
+use Rattle.collection_model.proofs.Sequences.{sums-length}
 use Rattle.index_file.proofs.Added.{postings-are, list-within, parts-few, entry-is, KeepsMore, keeps-more}
 use Rattle.index_file.proofs.builder.Builder.append.Goals as goal
 

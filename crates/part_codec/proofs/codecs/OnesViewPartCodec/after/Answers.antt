@@ -1,6 +1,6 @@
 use Rattle.std.proofs.Common.{◌+◌, ap, arith, refl, sym, slice_index, ◌∙◌}
 use Rattle.part_codec.specs.PartView.{all_ones}
-use Rattle.part_codec.specs.Relative.{at-all_ones}
+use Rattle.part_codec.proofs.Relative.{at-all_ones}
 use Rattle.part_codec.proofs.codecs.OnesViewPartCodec.after.Goals as goal
 
 pub overflow_add-result : goal.overflow_add-result

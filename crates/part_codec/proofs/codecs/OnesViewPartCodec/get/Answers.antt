@@ -1,5 +1,5 @@
 use Rattle.std.proofs.Common.{sym}
-use Rattle.part_codec.specs.Relative.{at-all_ones}
+use Rattle.part_codec.proofs.Relative.{at-all_ones}
 use Rattle.part_codec.proofs.codecs.OnesViewPartCodec.get.Goals as goal
 
 pub returns : goal.returns

@@ -5,7 +5,8 @@ use Rattle.collection_model.specs.Collection.{freqs_of}
 use Rattle.collection_model.specs.Sequences.{postings_in, steps_from}
 use Rattle.part_cost.specs.Span.{past}
 use Rattle.postings.specs.declared.cursor.PostingCursor.{PostingCursor}
-use Rattle.postings.proofs.Steps.{IsStepAt, step-read, steps-length}
+use Rattle.collection_model.proofs.Sequences.{steps-length}
+use Rattle.postings.proofs.Steps.{IsStepAt, step-read}
 use Rattle.postings.proofs.Lists.{within-sums, in-length, in-freqs}
 use Rattle.postings.proofs.cursor.PostingCursorDocCursor.freq.Goals as goal
 

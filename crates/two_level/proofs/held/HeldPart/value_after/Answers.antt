@@ -1,7 +1,7 @@
 use Rattle.std.proofs.Common.{◌≡◌, ℕ, ◌+◌, ◌-◌, List, ap, arith}
 use Rattle.std.specs.Prelude.{slice_index}
 use Rattle.part_cost.specs.Span.{relative_values}
-use Rattle.part_codec.specs.Relative.{one_list-held}
+use Rattle.part_codec.proofs.Relative.{one_list-held}
 use Rattle.two_level.proofs.Parts.{number-here}
 use Rattle.two_level.proofs.held.HeldPart.value_after.Goals as goal
 

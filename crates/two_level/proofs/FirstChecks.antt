@@ -1,4 +1,4 @@
--- Lemmas on the first check that breaks.
+-- Lemmas on the first check of a sequence that breaks, whatever is said of it and of what comes later.
 use Rattle.std.proofs.Common.{◌≡◌, ℕ, Bool, true, false, List, inl, inr, subst}
 use Rattle.std.specs.Prelude.{MatchBool}
 use Rattle.collection_model.specs.FormatNumbers.{FormatNumbers}

@@ -1,0 +1,26 @@
+-- The values of a part whose places are all taken, and that every view holds one list.
+use Rattle.std.proofs.Common.{◌≡◌, ℕ, ◌≤◌, ◌<◌, List, arith, sym, ◌∙◌, subst}
+use Rattle.std.specs.Prelude.{slice_index}
+use Rattle.std.proofs.lemmas.List.FromFn.{get_or-range_with_len}
+use Rattle.part_cost.specs.Span.{AreRelative}
+use Rattle.part_cost.specs.Payload.{ef_spacing, bitmap_spacing}
+use Rattle.part_cost.proofs.Parts.{relative-range}
+use Rattle.elias_fano.proofs.OneList as elias_fano
+use Rattle.ranked_bitmap.proofs.OneList as bitmap
+use Rattle.part_codec.specs.declared.views.PartView.{PartView}
+use Rattle.part_codec.specs.declared.views.PartView.TheVariants.{Ones, Bitmap, Ef}
+use Rattle.part_codec.specs.PartView.{Holds, all_ones}
+
+-- value k of all ones is k
+pub at-all_ones : (u k : ℕ) → k < u → slice_index (all_ones u) k ≡ k
+at-all_ones u k h = let e = get_or-range_with_len 0 u k 0 h in omega (arith, e)
+
+-- the values of all ones are relative
+pub AreRelative-all_ones : (u : ℕ) (ys : List ℕ) → 1 ≤ u → ys ≡ all_ones u → AreRelative u u ys
+AreRelative-all_ones u ys some h = subst (AreRelative u u) (sym h) (relative-range u some)
+
+-- a view holds one list
+pub one_list-held : (v : PartView) (xs ys : List ℕ) → Holds v xs → Holds v ys → xs ≡ ys
+one_list-held (Ones v) xs ys h g = h ∙ sym g
+one_list-held (Bitmap v) xs ys h g = bitmap.one-list bitmap_spacing v xs ys h g
+one_list-held (Ef v) xs ys h g = elias_fano.one-list ef_spacing v xs ys h g
