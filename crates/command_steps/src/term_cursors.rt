@@ -4,23 +4,19 @@ ghost use Rattle.std.specs.List.{All};
 ghost use Rattle.command_model.specs.Replies.{lists_of};
 
 use crate::lists::TermLists;
-use smallvec::SmallVec;
 use std::alloc::{AllocError, Global};
-
-/// Few cursors lie in the value itself, and take no memory.
-pub(crate) type Cursors<C> = SmallVec<C, 8>;
 
 /// A cursor at the start of each of these terms' lists.
 pub(crate) fn cursors_of<L: TermLists>(
     alloc: Global,
     lists: &L,
     terms: &[u32],
-) -> Result<Cursors<L::Cursor>, AllocError>
+) -> Result<Vec<L::Cursor>, AllocError>
     requires { All (λ t. t < length (L.collection lists.now).lists) terms.now }
     ensures lists { IfOk result (λ cursors. map L.Cursor.list cursors.items ≡ lists_of (L.collection lists.now) terms.now) }
     ensures start { IfOk result (λ cursors. All (λ c. L.Cursor.place c ≡ 0) cursors.items) }
 {
-    let mut cursors = Cursors::new(alloc);
+    let mut cursors = Vec::with_capacity(alloc, terms.len())?;
     for term in terms {
         cursors.push(lists.cursor(*term))?;
     }

@@ -1,5 +1,5 @@
 use Rattle.std.proofs.Common.{◌≡◌, refl, sym, ap, ◌∙◌, subst, ℕ, ◌+◌, ◌-◌, ◌*◌, ◌^◌, ◌≤◌, ◌<◌, ◌⊎◌, inl, inr, Bool, true, false, Option, Some, None, List, length, get_or, arith}
-use Rattle.std.specs.Prelude.{nat_lt, if◌then◌else◌, IfSome, IsSomeAnd}
+use Rattle.std.specs.Prelude.{nat_lt, if◌then◌else◌}
 use Rattle.std.specs.List.{All}
 use Rattle.std.proofs.lemmas.Nat.{mul-le}
 use Rattle.std.proofs.lemmas.Bool.{ltb-true, ltb-false, cases_eq, cases_lt}
@@ -66,17 +66,13 @@ offer-cheaper start end total old new o j =
       | inr ne ↦ let c = same-cost (o.others j ne) in omega arith
     ]
 
--- so a rival stays one
-rival-kept : (old new : Table) → length new ≡ length old → ((j : ℕ) → cost_to new j ≤ cost_to old j) → (rival : Option Rival) → IfSome rival (λ r. IsRival old r) → IfSome rival (λ r. IsRival new r)
-rival-kept old new same cheaper None h = tt
-rival-kept old new same cheaper (Some r) h = record { within = omega (arith, same, h.within); cheaper = let c = cheaper r.place in omega (arith, c, h.cheaper) }
-
--- and so is the place that was offered a route, at what that costs, or an earlier rival
-pub rival-more : (start end total cost : ℕ) (old new : Table) (rival : Option Rival) (chosen : Rival) → IsOffered start end total old new → end < length old → cost ≡ cost_to new end → IfSome rival (λ r. IsRival old r) → (chosen ≡ record { place = end; cost = cost }) ⊎ ((rival ≡ Some chosen) × (start < chosen.place)) → IsRival new chosen
+-- The place that was offered a route is a rival at what that costs, and so is an earlier one.
+pub rival-more : (start end total cost : ℕ) (old new : Table) (rival chosen : Rival) → IsOffered start end total old new → end < length old → cost ≡ cost_to new end → IsRival old rival → (chosen ≡ record { place = end; cost = cost }) ⊎ ((chosen ≡ rival) × (start < chosen.place)) → IsRival new chosen
 rival-more start end total cost old new rival chosen o within e h (inl here) =
     subst (λ (r : Rival). IsRival new r) (sym here) (record { within = omega (arith, o.places, within); cheaper = omega (arith, e) })
 rival-more start end total cost old new rival chosen o within e h (inr earlier) =
-    subst (λ (p : Option Rival). IfSome p (λ r. IsRival new r)) earlier.0 (rival-kept old new o.places (offer-cheaper start end total old new o) rival h)
+    let cheaper = offer-cheaper start end total old new o rival.place in
+    subst (λ (r : Rival). IsRival new r) (sym earlier.0) (record { within = omega (arith, o.places, h.within); cheaper = omega (arith, cheaper, h.cheaper) })
 
 module _ (w : Windows) (k : ℕ) (old middle new : Table) (x : AreExtended w k old middle) where
   -- a place that an offer leaves alone
@@ -186,13 +182,8 @@ extended-all w d old new x e some within together =
           ];
     }
 
--- a rival that costs no more than one which costs so much
-at-most : (place i cost most : ℕ) (rival : Option Rival) → place ≡ i → IsSomeAnd rival (λ r. (place < r.place) × (r.cost ≤ most)) → IfSome rival (λ r. i < r.place → cost ≤ r.cost) → cost ≤ most
-at-most place i cost most None e h less = elim h [ ]
-at-most place i cost most (Some r) e h less = omega (arith, h.1, less (omega (arith, h.0, e)))
-
 -- the rival after one more end was offered
-pub cheapest-more : (w : Windows) (k i end total cost : ℕ) (old new : Table) (rival : Option Rival) (chosen : Rival) → w.place ≡ i → window_end w k ≡ Some end → IsOffered i end total old new → cost ≡ cost_to new end → IsCheapest w k old rival → (chosen ≡ record { place = end; cost = cost }) ⊎ ((rival ≡ Some chosen) × (i < chosen.place)) → chosen.cost ≤ cost → IfSome rival (λ r. i < r.place → chosen.cost ≤ r.cost) → IsCheapest w (k + 1) new (Some chosen)
+pub cheapest-more : (w : Windows) (k i end total cost : ℕ) (old new : Table) (rival chosen : Rival) → w.place ≡ i → window_end w k ≡ Some end → IsOffered i end total old new → cost ≡ cost_to new end → IsCheapest w k old rival → (chosen ≡ record { place = end; cost = cost }) ⊎ ((chosen ≡ rival) × (i < chosen.place)) → chosen.cost ≤ cost → (i < rival.place → chosen.cost ≤ rival.cost) → IsCheapest w (k + 1) new chosen
 cheapest-more w k i end total cost old new rival chosen here says o e before one cheaper earlier m l a =
     let s = end_says w k end says in
     let behind : w.place < chosen.place =
@@ -207,12 +198,14 @@ cheapest-more w k i end total cost old new rival chosen here says o e before one
       | inr other ↦
           let le : m ≤ k = omega arith in
           let first : m < k = elim (eq-or-lt_of_le le) [ inl last ↦ absurd (other (ap (λ (x : ℕ). get_or w.positions x 0) last ∙ s.1)) | inr first ↦ first ] in
-          omega (arith, same-cost (o.others position other), at-most w.place i chosen.cost (cost_to old position) rival here (before m first a) earlier)
+          let least = before m first a in
+          let less = earlier (omega (arith, here, least.0)) in
+          omega (arith, same-cost (o.others position other), least.1, less)
     ] in
     (behind, cheapest)
 
 -- where that end was tried before
-pub cheapest-again : (w : Windows) (k end tried : ℕ) (t : Table) (rival : Option Rival) → IsCheapest w k t rival → window_end w k ≡ Some end → end ≡ tried → IsTried w k tried → IsCheapest w (k + 1) t rival
+pub cheapest-again : (w : Windows) (k end tried : ℕ) (t : Table) (rival : Rival) → IsCheapest w k t rival → window_end w k ≡ Some end → end ≡ tried → IsTried w k tried → IsCheapest w (k + 1) t rival
 cheapest-again w k end tried t rival before says same last m l a =
     let le : m ≤ k = omega arith in
     let s = end_says w k end says in
@@ -223,13 +216,13 @@ cheapest-again w k end tried t rival before says same last m l a =
             | inl none ↦ absurd (omega (arith, none, same, s.0, s.1))
             | inr b ↦
                 let at : get_or w.positions b.0 0 ≡ get_or w.positions m 0 = omega (arith, b.2, same, s.1, here) in
-                subst (λ (x : ℕ). IsSomeAnd rival (λ r. (w.place < r.place) × (r.cost ≤ cost_to t x))) at (before b.0 b.1 (omega (arith, at, a)))
+                subst (λ (x : ℕ). (w.place < rival.place) × (rival.cost ≤ cost_to t x)) at (before b.0 b.1 (omega (arith, at, a)))
           ]
       | inr first ↦ before m first a
     ]
 
 -- where the window has no end
-pub cheapest-none_there : (w : Windows) (k : ℕ) (t : Table) (rival : Option Rival) → IsCheapest w k t rival → window_end w k ≡ None → IsCheapest w (k + 1) t rival
+pub cheapest-none_there : (w : Windows) (k : ℕ) (t : Table) (rival : Rival) → IsCheapest w k t rival → window_end w k ≡ None → IsCheapest w (k + 1) t rival
 cheapest-none_there w k t rival before says m l a =
     let le : m ≤ k = omega arith in
     elim (eq-or-lt_of_le le) [
@@ -238,13 +231,13 @@ cheapest-none_there w k t rival before says m l a =
     ]
 
 -- and after all
-pub cheapest-all : (w : Windows) (d : ℕ) (t : Table) (rival : Option Rival) → IsCheapest w d t rival → d ≡ w.distinct → 0 < d → StandTogether w → IsCheapest w (length w.bounds) t rival
+pub cheapest-all : (w : Windows) (d : ℕ) (t : Table) (rival : Rival) → IsCheapest w d t rival → d ≡ w.distinct → 0 < d → StandTogether w → IsCheapest w (length w.bounds) t rival
 cheapest-all w d t rival before e some together m l a =
     elim (cases_lt m d) [
       | inl tried ↦ before m tried a
       | inr wider ↦
           let position = subst (λ (y : ℕ). get_or w.positions m 0 ≡ get_or w.positions (y - 1) 0) (sym e) (together.positions m (omega (arith, e, wider)) l) in
-          subst (λ (x : ℕ). IsSomeAnd rival (λ r. (w.place < r.place) × (r.cost ≤ cost_to t x))) (sym position) (before (d - 1) (omega arith) (omega (arith, a, position)))
+          subst (λ (x : ℕ). (w.place < rival.place) × (rival.cost ≤ cost_to t x)) (sym position) (before (d - 1) (omega arith) (omega (arith, a, position)))
     ]
 
 -- there is room for one more allowed part, for as many numbers as a sequence has

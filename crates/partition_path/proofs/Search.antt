@@ -1,5 +1,5 @@
 use Rattle.std.proofs.Common.{◌≡◌, refl, sym, ◌∙◌, subst, ap, ℕ, zero, suc, ◌+◌, ◌*◌, ◌≤◌, ◌<◌, ◌⊎◌, inl, inr, Option, Some, None, List, length, get_or, replicate, arith, get_or-set_same, get_or-set_other}
-use Rattle.std.specs.Prelude.{IfSome, IsSomeAnd}
+use Rattle.std.specs.Prelude.{IfSome}
 use Rattle.std.specs.List.{All}
 use Rattle.std.proofs.lemmas.List.{length-set, length-replicate, get_or-replicate}
 use Rattle.std.proofs.lemmas.List.Elements.{All-from_get_or}
@@ -20,7 +20,7 @@ abbrev zeros : List ℕ → List ℕ
 zeros bounds = replicate (length bounds) 0
 
 -- All parts that start before place i are tried, or passed over for a later place that costs no more.
-pub record Searched (limit : ℕ) (cost : ℕ → ℕ → ℕ) (bounds : List ℕ) (n i before after : ℕ) (w : Windows) (t : Table) (rival : Option Rival) : Type 0 where
+pub record Searched (limit : ℕ) (cost : ℕ → ℕ → ℕ) (bounds : List ℕ) (n i before after : ℕ) (w : Windows) (t : Table) (rival : Rival) : Type 0 where
   pub under : w.bounds ≡ bounds
   pub routes : AreRoutes limit cost n i before after t
   pub done : (r : ℕ) → r < i → IsReached t r → IsSettled limit cost n t r ⊎ IsPassed n t r
@@ -28,7 +28,7 @@ pub record Searched (limit : ℕ) (cost : ℕ → ℕ → ℕ) (bounds : List �
   pub behind : w.place ≤ i
   pub forward : NoneFell (zeros bounds) w.positions
   pub risen : after ≤ before + rise (zeros bounds) w.positions + 2 * length bounds * i
-  pub rivals : IfSome rival (λ r. IsRival t r)
+  pub rivals : IsRival t rival
 
 abbrev none_known : ℕ → Table
 none_known n = replicate (n + 1) None
@@ -65,8 +65,12 @@ new-routes limit cost n before =
 zeros-within : (bounds : List ℕ) (n : ℕ) → All (λ p. p ≤ n) (zeros bounds)
 zeros-within bounds n = All-from_get_or (λ p. p ≤ n) (zeros bounds) 0 (λ k l. let e = get_or-replicate {A = ℕ} (length bounds) k 0 0 (omega (arith, length-replicate {A = ℕ} (length bounds) 0)) in omega (arith, e))
 
+-- the first rival
+abbrev pub at_start : Rival
+at_start = record { place = 0; cost = 0 }
+
 -- before the first part is tried
-pub searched-none : (limit : ℕ) (cost : ℕ → ℕ → ℕ) (bounds : List ℕ) (n before : ℕ) → Searched limit cost bounds n 0 before before (new_windows bounds) (new_table n) None
+pub searched-none : (limit : ℕ) (cost : ℕ → ℕ → ℕ) (bounds : List ℕ) (n before : ℕ) → Searched limit cost bounds n 0 before before (new_windows bounds) (new_table n) at_start
 searched-none limit cost bounds n before =
     record {
       under = refl;
@@ -80,7 +84,7 @@ searched-none limit cost bounds n before =
       behind = omega arith;
       forward = NoneFell-same (zeros bounds);
       risen = omega (arith, rise-same (zeros bounds));
-      rivals = tt;
+      rivals = record { within = omega (arith, new-places n); cheaper = omega (arith, new-first n) };
     }
 
 later : (limit : ℕ) (cost : ℕ → ℕ → ℕ) (i : ℕ) (t : Table) (j : ℕ) → HasLastPart limit cost i t j → HasLastPart limit cost (i + 1) t j
@@ -92,14 +96,9 @@ opened t i cost o h e =
     let at = subst (λ (p : Option ℕ). IfSome p (λ c. (c ≡ cost_to t i) × (c < unreached))) e h in
     (at.0, omega (arith, at.0, at.1))
 
--- a rival behind place i that costs no more passes over it
-passed-for : (n : ℕ) (t : Table) (i : ℕ) (rival : Option Rival) → length t ≡ n + 1 → IfSome rival (λ r. IsRival t r) → IsSomeAnd rival (λ r. (i < r.place) × (r.cost ≤ cost_to t i)) → IsPassed n t i
-passed-for n t i None places h passed = elim passed [ ]
-passed-for n t i (Some r) places h passed = (r.place, passed.0, omega (arith, h.within, places), omega (arith, h.cheaper, passed.1))
-
-module _ (limit : ℕ) (cost : ℕ → ℕ → ℕ) (bounds : List ℕ) (n i before middle : ℕ) (w : Windows) (t : Table) (rival : Option Rival) (s : Searched limit cost bounds n i before middle w t rival) (below : i < n) where
+module _ (limit : ℕ) (cost : ℕ → ℕ → ℕ) (bounds : List ℕ) (n i before middle : ℕ) (w : Windows) (t : Table) (rival : Rival) (s : Searched limit cost bounds n i before middle w t rival) (below : i < n) where
   -- a place that is not reached, or passed over for its rival
-  pub searched-past : (IsReached t i → IsSomeAnd rival (λ r. (i < r.place) × (r.cost ≤ cost_to t i))) → Searched limit cost bounds n (i + 1) before middle w t rival
+  pub searched-past : (IsReached t i → (i < rival.place) × (rival.cost ≤ cost_to t i)) → Searched limit cost bounds n (i + 1) before middle w t rival
   searched-past passed =
       record {
         under = s.under;
@@ -117,8 +116,8 @@ module _ (limit : ℕ) (cost : ℕ → ℕ → ℕ) (bounds : List ℕ) (n i bef
             let le : r ≤ i = omega arith in
             elim (eq-or-lt_of_le le) [
               | inl e ↦
-                  let p = passed-for n t i rival s.routes.places s.rivals (passed (subst (λ (x : ℕ). IsReached t x) e reached)) in
-                  inr (subst (λ (x : ℕ). IsPassed n t x) (sym e) p)
+                  let p = passed (subst (λ (x : ℕ). IsReached t x) e reached) in
+                  inr (rival.place, omega (arith, p.0, e), omega (arith, s.rivals.within, s.routes.places), subst (λ (x : ℕ). cost_to t rival.place ≤ cost_to t x) (sym e) (omega (arith, s.rivals.cheaper, p.1)))
               | inr earlier ↦ s.done r earlier reached
             ];
         kept = s.kept;
@@ -129,7 +128,7 @@ module _ (limit : ℕ) (cost : ℕ → ℕ → ℕ) (bounds : List ℕ) (n i bef
       }
 
   -- a place whose parts are tried
-  pub searched-more : (charge : ℕ) (after : ℕ) (rival' : Option Rival) (w' : Windows) (t' : Table) → Cover charge limit bounds → ((h i j k : ℕ) → h ≤ i → i < j → j ≤ k → k ≤ n → cost i j ≤ cost h k) → ((i j : ℕ) → i < j → j ≤ n → charge ≤ cost i j) → All (λ b. b ≤ limit) bounds → cost_to t i + limit < unreached → IsReached t i → w'.bounds ≡ w.bounds → w'.place ≡ i → AllAtLongest cost n w' → KeepCosts cost n w' → NoneFell w.positions w'.positions → middle + 1 ≤ after → after ≤ middle + rise w.positions w'.positions + 2 * length w.bounds → AreExtended w' (length w'.bounds) t t' → IfSome rival' (λ r. IsRival t' r) → Searched limit cost bounds n (i + 1) before after w' t' rival'
+  pub searched-more : (charge : ℕ) (after : ℕ) (rival' : Rival) (w' : Windows) (t' : Table) → Cover charge limit bounds → ((h i j k : ℕ) → h ≤ i → i < j → j ≤ k → k ≤ n → cost i j ≤ cost h k) → ((i j : ℕ) → i < j → j ≤ n → charge ≤ cost i j) → All (λ b. b ≤ limit) bounds → cost_to t i + limit < unreached → IsReached t i → w'.bounds ≡ w.bounds → w'.place ≡ i → AllAtLongest cost n w' → KeepCosts cost n w' → NoneFell w.positions w'.positions → middle + 1 ≤ after → after ≤ middle + rise w.positions w'.positions + 2 * length w.bounds → AreExtended w' (length w'.bounds) t t' → IsRival t' rival' → Searched limit cost bounds n (i + 1) before after w' t' rival'
   searched-more charge after rival' w' t' cover monotone least within room reached same here stand kept forward counted bounded x rivals =
       let under : w'.bounds ≡ bounds = same ∙ s.under in
       let many : length w.bounds ≡ length bounds = ap length s.under in
@@ -148,7 +147,7 @@ module _ (limit : ℕ) (cost : ℕ → ℕ → ℕ) (bounds : List ℕ) (n i bef
       }
 
 -- All parts are tried, or passed over.
-module _ (limit : ℕ) (cost : ℕ → ℕ → ℕ) (bounds : List ℕ) (n i before after : ℕ) (w : Windows) (t : Table) (rival : Option Rival) (searched : Searched limit cost bounds n i before after w t rival) (end : i ≡ n) where
+module _ (limit : ℕ) (cost : ℕ → ℕ → ℕ) (bounds : List ℕ) (n i before after : ℕ) (w : Windows) (t : Table) (rival : Rival) (searched : Searched limit cost bounds n i before after w t rival) (end : i ≡ n) where
   all-searched : Searched limit cost bounds n n before after w t rival
   all-searched = subst (λ (x : ℕ). Searched limit cost bounds n x before after w t rival) end searched
 

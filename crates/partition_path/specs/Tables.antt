@@ -1,4 +1,4 @@
-use Rattle.std.specs.Prelude.{◌≡◌, ℕ, ◌+◌, ◌*◌, ◌^◌, ◌<◌, ◌≤◌, ◌≢◌, ◌⊎◌, List, length, replicate, slice_index, slice_index_or, slice_set, IsSomeAnd, Option, Some, None}
+use Rattle.std.specs.Prelude.{◌≡◌, ℕ, ◌+◌, ◌*◌, ◌^◌, ◌<◌, ◌≤◌, ◌≢◌, ◌⊎◌, List, length, replicate, slice_index, slice_index_or, slice_set, Option, Some, None}
 use Rattle.cost_windows.specs.Windows.{Windows}
 use Rattle.partition_path.specs.declared.routes.Route.{Route}
 use Rattle.partition_path.specs.declared.rival.Rival.{Rival}
@@ -97,5 +97,5 @@ pub record IsRival (t : Table) (r : Rival) : Type 0 where
   pub cheaper : cost_to t r.place ≤ r.cost
 
 -- Where one of the first k windows has an end, the rival lies behind their place and costs no more than the route to that end.
-abbrev pub IsCheapest : Windows → ℕ → Table → Option Rival → Type 0
-IsCheapest w k t rival = (m : ℕ) → m < k → w.place < slice_index w.positions m → IsSomeAnd rival (λ r. (w.place < r.place) × (r.cost ≤ cost_to t (slice_index w.positions m)))
+abbrev pub IsCheapest : Windows → ℕ → Table → Rival → Type 0
+IsCheapest w k t rival = (m : ℕ) → m < k → w.place < slice_index w.positions m → (w.place < rival.place) × (rival.cost ≤ cost_to t (slice_index w.positions m))

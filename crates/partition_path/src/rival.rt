@@ -1,6 +1,6 @@
-ghost use Rattle.std.specs.Prelude.{◌≡◌, ◌≤◌, ◌<◌, ◌⊎◌, nat_lt, nat_le, ◌&&◌, Some, IfSome};
+ghost use Rattle.std.specs.Prelude.{◌≡◌, ◌≤◌, ◌<◌, ◌⊎◌, nat_lt, nat_le, ◌&&◌};
 
-/// A place that was tried, with the cost of its route: places before it that cost as much or more are passed over for it.
+/// A place with the cost of its route: places before it that cost as much or more are passed over for it.
 #[derive(Clone, Copy)]
 pub(crate) struct Rival {
     pub(crate) place: u64,
@@ -16,14 +16,15 @@ impl Rival {
     }
 
     /// The cheaper of this one and an earlier one that still lies behind place i.
-    pub(crate) fn or_earlier(self, earlier: Option<Rival>, i: u64) -> Rival
-        ensures one_of { (result ≡ self) ⊎ ((earlier ≡ Some result) × (i < result.place)) }
+    pub(crate) fn or_earlier(self, earlier: Rival, i: u64) -> Rival
+        ensures one_of { (result ≡ self) ⊎ ((result ≡ earlier) × (i < result.place)) }
         ensures cheaper { result.cost ≤ self.cost }
-        ensures than_earlier { IfSome earlier (λ r. i < r.place → result.cost ≤ r.cost) }
+        ensures than_earlier { i < earlier.place → result.cost ≤ earlier.cost }
     {
-        match earlier {
-            Some(earlier) if i < earlier.place && earlier.cost < self.cost => earlier,
-            _ => self,
+        if i < earlier.place && earlier.cost < self.cost {
+            earlier
+        } else {
+            self
         }
     }
 }

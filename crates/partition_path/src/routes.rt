@@ -1,4 +1,4 @@
-ghost use Rattle.std.specs.Prelude.{◌≡◌, ℕ, ◌≤◌, ◌<◌, ◌+◌, ◌-◌, ◌*◌, ◌^◌, length, replicate, Some, None, IfSome, IfNone, IsSomeAnd, IfOk, List};
+ghost use Rattle.std.specs.Prelude.{◌≡◌, ℕ, ◌≤◌, ◌<◌, ◌+◌, ◌-◌, ◌*◌, ◌^◌, length, IfSome, IfNone, IfOk, List};
 ghost use Rattle.std.specs.List.{All};
 ghost use Rattle.part_cost.specs.Formats.{numbers_of};
 ghost use Rattle.part_cost.specs.Partition.{IsAllowed, partition_cost};
@@ -55,7 +55,8 @@ impl Routes {
         let count = cost.len();
         let mut routes = Routes::new(alloc, count as usize)?;
         let mut windows = Windows::new(alloc, cost.format())?;
-        let mut rival = None;
+        // The start has no place before it to be passed over.
+        let mut rival = Rival { place: 0, cost: 0 };
         for i in 0..count {
             if let Some(here) = routes.open(i, rival) {
                 windows.advance(i, cost, steps);
@@ -77,15 +78,16 @@ impl Routes {
 
     /// What the route to place i costs, where parts from there on are worth a try: it is reached, and not passed over for
     /// its rival.
-    fn open(&self, i: u64, rival: Option<Rival>) -> Option<u64>
+    fn open(&self, i: u64, rival: Rival) -> Option<u64>
         requires { i < length self.now }
         ensures open { IfSome result (λ c. (c ≡ cost_to self.now i) × (c < unreached)) }
-        ensures passed { IfNone result (IsReached self.now i → IsSomeAnd rival (λ r. (i < r.place) × (r.cost ≤ cost_to self.now i))) }
+        ensures passed { IfNone result (IsReached self.now i → (i < rival.place) × (rival.cost ≤ cost_to self.now i)) }
     {
         let route = self.known[i as usize]?;
-        match rival {
-            Some(rival) if rival.passes_over(i, route.cost) => None,
-            _ => Some(route.cost),
+        if rival.passes_over(i, route.cost) {
+            None
+        } else {
+            Some(route.cost)
         }
     }
 
@@ -107,21 +109,15 @@ impl Routes {
 
     /// Tries the parts from place i, whose route costs so much, to the ends of the windows, and gives the rival of the places
     /// behind i: no end costs less.
-    fn extend(
-        &mut self,
-        i: u64,
-        here: u64,
-        windows: &Windows,
-        rival: Option<Rival>,
-    ) -> Option<Rival>
+    fn extend(&mut self, i: u64, here: u64, windows: &Windows, rival: Rival) -> Rival
         requires place { windows.now.place ≡ i }
         requires here { here ≡ cost_to self.old i }
         requires within { All (λ p. p < length self.old) windows.now.positions }
         requires room { All (λ b. here + b < unreached) windows.now.bounds }
         requires shared { ShareCosts windows.now }
-        requires rival { IfSome rival (λ r. IsRival self.old r) }
+        requires rival { IsRival self.old rival }
         ensures extended { AreExtended windows.now (length windows.now.bounds) self.old self.new }
-        ensures rival { IfSome result (λ r. IsRival self.new r) }
+        ensures rival { IsRival self.new result }
         ensures cheapest { IsCheapest windows.now (length windows.now.bounds) self.new result }
     {
         let mut rival = rival;
@@ -131,7 +127,7 @@ impl Routes {
                 if end != tried {
                     let cost = self.offer(i, end, here + windows.cost(k));
                     let place = Rival { place: end, cost };
-                    rival = Some(place.or_earlier(rival, i));
+                    rival = place.or_earlier(rival, i);
                     tried = end;
                 }
             }

@@ -112,7 +112,6 @@ impl<'a> HeldPart<'a> {
     }
 
     // The first place at or after one in the part whose value is at least x, and that value.
-    #[inline(never)]
     pub(crate) fn first_at_least(&self, place: u32, x: u64) -> (u32, u64)
         requires values { (xs : List ℕ) × HoldsValues self.now xs }
         requires after { self.now.from ≤ place }
@@ -201,7 +200,6 @@ pub(crate) fn hold<'a>(words: &'a [u64], parts: u32, part: u32, format: Format) 
 }
 
 // Holds the first value of a part of the sequence with which the words begin, and none behind the last part.
-#[inline(never)]
 pub(crate) fn hold_if_any<'a>(
     words: &'a [u64],
     parts: u32,
@@ -267,7 +265,6 @@ pub(crate) fn hold_value<'a>(
 }
 
 // The first place from the start of a part on whose value is at least x, with that value and its part; else the end.
-#[inline(never)]
 pub(crate) fn first_from_part<'a>(
     words: &'a [u64],
     parts: u32,

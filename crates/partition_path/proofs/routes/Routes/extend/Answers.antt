@@ -21,8 +21,8 @@ loop-k-preserved c =
           let sum : total ≡ cost_to old i + get_or w.costs k 0 = omega (arith, c.requires.here, b.cost.ensures.value) in
           let more = extended-some w k old middle b.offer-cost.new.self x.0 i end total c.requires.place says sum b.offer-cost.ensures.offered in
           let within : end < length middle = omega (arith, end_within w k end (length old) c.requires.within says, x.0.places) in
-          let rival = rival-more i end total b.offer-cost.result middle b.offer-cost.new.self c.loop-k.rival b.or_earlier.result b.offer-cost.ensures.offered within b.offer-cost.ensures.cost x.1 b.or_earlier.ensures.one_of in
-          let cheapest = cheapest-more w k i end total b.offer-cost.result middle b.offer-cost.new.self c.loop-k.rival b.or_earlier.result c.requires.place says b.offer-cost.ensures.offered b.offer-cost.ensures.cost x.3 b.or_earlier.ensures.one_of b.or_earlier.ensures.cheaper b.or_earlier.ensures.than_earlier in
+          let rival = rival-more i end total b.offer-cost.result middle b.offer-cost.new.self c.loop-k.rival b.or_earlier-rival.result b.offer-cost.ensures.offered within b.offer-cost.ensures.cost x.1 b.or_earlier-rival.ensures.one_of in
+          let cheapest = cheapest-more w k i end total b.offer-cost.result middle b.offer-cost.new.self c.loop-k.rival b.or_earlier-rival.result c.requires.place says b.offer-cost.ensures.offered b.offer-cost.ensures.cost x.3 b.or_earlier-rival.ensures.one_of b.or_earlier-rival.ensures.cheaper b.or_earlier-rival.ensures.than_earlier in
           (rw b.self-is more, rw (b.self-is, b.rival-is) rival, rw b.tried-is (inr (k, omega arith, (end_says w k end says).1)), rw (b.self-is, b.rival-is) cheapest)
       | in-Some+else-end-tried b ↦
           let end = b.in-Some.end in

@@ -1,5 +1,5 @@
-use Rattle.std.proofs.Common.{◌≡◌, ◌∙◌, ℕ, ◌+◌, ◌<◌, ◌≤◌, Option, None, List, sym, subst, arith}
-use Rattle.std.specs.Prelude.{IfNone, IsSomeAnd}
+use Rattle.std.proofs.Common.{◌≡◌, ◌∙◌, ℕ, ◌+◌, ◌<◌, ◌≤◌, Option, List, sym, subst, arith}
+use Rattle.std.specs.Prelude.{IfNone}
 use Rattle.std.specs.List.{All}
 use Rattle.std.proofs.lemmas.Grind.{common_steps}
 use Rattle.collection_model.specs.FormatNumbers.{part_charge}
@@ -8,7 +8,7 @@ use Rattle.cost_windows.specs.WindowBounds.{window_bounds}
 use Rattle.cost_windows.specs.Windows.{Windows, new_windows}
 use Rattle.partition_path.specs.Tables.{Table, IsReached, cost_to, new_table, unreached}
 use Rattle.partition_path.proofs.Extending.{room_within, room_for_each, kept-shared}
-use Rattle.partition_path.proofs.Search.{Searched, searched-none, searched-past, searched-more, few-costs, all-routes, last-reached, last-near, opened}
+use Rattle.partition_path.proofs.Search.{Searched, at_start, searched-none, searched-past, searched-more, few-costs, all-routes, last-reached, last-near, opened}
 use Rattle.partition_path.proofs.routes.Routes.found.Goals.{in-Some, in_default}
 use Rattle.partition_path.proofs.routes.Routes.found.Goals as goal
 
@@ -22,8 +22,8 @@ loop-i-init g c =
     let windows_are : c.in_ok-windows.windows ≡ new_windows bounds = grind (arith, common_steps) in
     let routes_are : c.in_ok-routes.routes ≡ new_table n = subst (λ (x : ℕ). c.in_ok-routes.routes ≡ new_table x) c.len-count.ensures c.in_ok-routes.ensures in
     let none = searched-none limit cost bounds n c.args.steps.now in
-    let with_routes = subst (λ (t : Table). Searched limit cost bounds n 0 c.args.steps.now c.args.steps.now (new_windows bounds) t None) (sym routes_are) none in
-    subst (λ (w : Windows). Searched limit cost bounds n 0 c.args.steps.now c.args.steps.now w c.in_ok-routes.routes None) (sym windows_are) with_routes
+    let with_routes = subst (λ (t : Table). Searched limit cost bounds n 0 c.args.steps.now c.args.steps.now (new_windows bounds) t at_start) (sym routes_are) none in
+    subst (λ (w : Windows). Searched limit cost bounds n 0 c.args.steps.now c.args.steps.now w c.in_ok-routes.routes at_start) (sym windows_are) with_routes
 
 pub extend-rival-requires-clause-within : goal.extend-rival-requires-clause-within
 extend-rival-requires-clause-within g c = λ k d l. omega (arith, c.advance.ensures.costs.within k d l, c.loop-i.invariant.routes.places)
@@ -71,7 +71,7 @@ loop-i-preserved g c =
           let more = searched-more limit cost bounds n i before c.loop-i.steps c.loop-i.windows c.loop-i.routes c.loop-i.rival s within charge w.advance.new.steps w.extend-rival.result w.advance.new.self w.extend-rival.new.self (c.bounds_cover.ensures.cover charge limit bounds rule) (laws.monotone c.args.cost.now) (laws.at_least_charge c.args.cost.now) (c.bounds_cover.ensures.within charge limit bounds rule) room reached said.bounds said.place said.longest said.costs said.forward said.counted said.bounded w.extend-rival.ensures.extended w.extend-rival.ensures.rival in
           rw (w.steps-is, w.windows-is, w.routes-is, w.rival-is) more
       | in_default w ↦
-          let passed = subst (λ (o : Option ℕ). IfNone o (IsReached c.loop-i.routes i → IsSomeAnd c.loop-i.rival (λ r. (i < r.place) × (r.cost ≤ cost_to c.loop-i.routes i)))) w.in_default.is c.open.ensures.passed in
+          let passed = subst (λ (o : Option ℕ). IfNone o (IsReached c.loop-i.routes i → (i < c.loop-i.rival.place) × (c.loop-i.rival.cost ≤ cost_to c.loop-i.routes i))) w.in_default.is c.open.ensures.passed in
           let past = searched-past limit cost bounds n i before c.loop-i.steps c.loop-i.windows c.loop-i.routes c.loop-i.rival s within passed in
           rw (w.steps-is, w.windows-is, w.routes-is, w.rival-is) past
     ]
