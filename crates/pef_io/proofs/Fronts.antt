@@ -1,6 +1,8 @@
-use Rattle.std.proofs.Common.{◌≡◌, ℕ, ◌-◌, ◌≤◌, arith, sym, ◌∙◌, ap, ◌++◌, take, drop, ◌+◌, length, List, subst}
-use Rattle.std.specs.Prelude.{Result, Ok, IfOk}
+use Rattle.std.proofs.Common.{◌≡◌, ℕ, ◌-◌, ◌≤◌, arith, sym, ◌∙◌, ap, ◌++◌, take, drop, ◌+◌, length, List, subst, ◌⊎◌, inl, inr}
+use Rattle.std.specs.Prelude.{Result, Ok, IfOk, IsErrOf}
 use Rattle.std.proofs.Math.Seq.{take-add, take-append_seam}
+use Rattle.pef_io.specs.declared.fail.IoFail.{IoFail}
+use Rattle.pef_io.specs.declared.fail.IoFail.TheVariants.{NoMemory}
 use Rattle.std.proofs.lemmas.List.{append_assoc, length-drop, take_all, take-append-drop}
 
 -- what holds of the value of a result that is Ok
@@ -22,3 +24,8 @@ pub moved_front : (left buf moved : List ℕ) (n : ℕ) → length moved ≡ n �
 moved_front left buf moved n l e =
     sym (take-append-drop n left)
     ∙ ap (λ xs. xs ++ drop n left) (sym e ∙ sym (take-append_seam moved (drop n buf)) ∙ ap (λ k. take k (moved ++ drop n buf)) l)
+
+-- memory was not refused where the call answered
+pub no_more_at_ok : {A : Type 0} (r : Result A IoFail) (x : A) {before now : ℕ} → r ≡ Ok x → IsErrOf r NoMemory ⊎ (now ≡ before) → now ≡ before
+no_more_at_ok r x e (inl h) = absurd cc
+no_more_at_ok r x e (inr same) = same

@@ -1,4 +1,4 @@
-use Rattle.std.specs.Prelude.{◌≡◌, ℕ, ◌≤◌, IsTrue, List, [], length, take, Some, unwrap_or, Result, OnOk, OnErr, IsErrOf, ◌++◌}
+use Rattle.std.specs.Prelude.{◌≡◌, ℕ, ◌≤◌, ◌⊎◌, IsTrue, List, [], length, take, Some, unwrap_or, Result, OnOk, OnErr, IsErrOf, ◌++◌}
 use Rattle.pef_io.specs.declared.fail.IoFail.{IoFail}
 use Rattle.pef_io.specs.declared.fail.IoFail.TheVariants.{NoMemory}
 use Rattle.pef_io.specs.Calls.{CountsFaults, Rose}
@@ -17,6 +17,7 @@ pub record WritesAll (old new : SinkState) (piece : List ℕ) (result : Result (
   pub faults : CountsFaults old.faults new.faults result
   pub refusals : old.refusals ≤ new.refusals
   pub no_memory_only_where_it_rose : IsErrOf result NoMemory → Rose old.refusals new.refusals
+  pub refusals_rise_only_there : IsErrOf result NoMemory ⊎ (new.refusals ≡ old.refusals)
 
 -- There is a file under the name.
 abbrev pub HasFile : DepotState → List ℕ → Type 0

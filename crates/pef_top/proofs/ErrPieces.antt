@@ -26,6 +26,7 @@ writes_nothing s = record {
   faults = record { never_falls = omega arith; failed_only_where_it_rose = λ h. cc; same_at_ok = λ h. refl; same_at_no_memory = λ h. refl };
   refusals = omega arith;
   no_memory_only_where_it_rose = λ h. cc;
+  refusals_rise_only_there = inr refl;
 }
 
 -- a count that rose in the second of two calls rose in both together
@@ -45,6 +46,10 @@ front_later a b c p q e (n, le, f) = (
 front_of_more : (a b p q : List ℕ) → AppendsFront a b p → AppendsFront a b (p ++ q)
 front_of_more a b p q (n, le, f) = (n, omega (arith, length-append p q, le), f ∙ ap (λ xs. a ++ xs) (sym (take-append-le n p q le)))
 
+-- a piece that is written whole raises no count of refused memory
+refusals_at_ok : (old new : SinkState) (p : List ℕ) → WritesAll old new p (Ok tt) → new.refusals ≡ old.refusals
+refusals_at_ok old new p w = elim w.refusals_rise_only_there [ inl h ↦ absurd cc | inr same ↦ same ]
+
 -- a whole piece, and then as much of the next as was written
 pub writes_then : (old mid new : SinkState) (p q : List ℕ) (r : Result (Unit {0}) IoFail) →
     WritesAll old mid p (Ok tt) → WritesAll mid new q r → WritesAll old new (p ++ q) r
@@ -60,6 +65,7 @@ writes_then old mid new p q (Ok u) v w = record {
   };
   refusals = omega (arith, v.refusals, w.refusals);
   no_memory_only_where_it_rose = λ h. cc;
+  refusals_rise_only_there = elim w.refusals_rise_only_there [ inl h ↦ absurd cc | inr e ↦ inr (e ∙ refusals_at_ok old mid p v) ];
 }
 writes_then old mid new p q (Err e) v w = record {
   tells = w.tells ∙ v.tells;
@@ -73,6 +79,7 @@ writes_then old mid new p q (Err e) v w = record {
   };
   refusals = omega (arith, v.refusals, w.refusals);
   no_memory_only_where_it_rose = λ h. rose_later _ _ _ v.refusals (w.no_memory_only_where_it_rose h);
+  refusals_rise_only_there = elim w.refusals_rise_only_there [ inl h ↦ inl h | inr same ↦ inr (same ∙ refusals_at_ok old mid p v) ];
 }
 
 -- where a piece is refused, no more is written
@@ -84,6 +91,7 @@ writes_front old new p q e w = record {
   faults = w.faults;
   refusals = w.refusals;
   no_memory_only_where_it_rose = w.no_memory_only_where_it_rose;
+  refusals_rise_only_there = w.refusals_rise_only_there;
 }
 
 -- one piece more
