@@ -2,16 +2,18 @@
 ghost use Rattle.std.specs.Prelude.{◌≤◌};
 
 use crate::collections::{ONE_LIST, THREE_LISTS, files};
-use crate::indexes::{ONE_LIST_WORDS_OF_TWO, bytes_of};
+use crate::indexes::{
+    ONE_LIST_WORDS_OF_TWO, THREE_LISTS_WORDS, THREE_LISTS_WORDS_OF_TWO, bytes_of,
+};
 use crate::runs::{ANSWER, BUILD, BUILD_ONE, FileList, OPS, QUERY, run_words};
 use pef_io::{MemDepot, MemSink, MemSource, Op, Slot};
 use pef_top::Status;
 use std::alloc::Global;
 
 /// Four lines over the three lists, and their replies.
-const TEXT: &[u8] = b"next 1 0\nor 0 1 2\nand 0\nnext 0 0";
+pub(crate) const TEXT: &[u8] = b"next 1 0\nor 0 1 2\nand 0\nnext 0 0";
 
-const REPLIES: &[u8] = b"end\n2 0 1\n1 0\n0 1\n";
+pub(crate) const REPLIES: &[u8] = b"end\n2 0 1\n1 0\n0 1\n";
 
 /// What stands after a run where calls fail.
 #[derive(Drop)]
@@ -49,8 +51,16 @@ pub(crate) fn run_failing(
     })
 }
 
+/// The files of the three lists, and the file `y` of these words.
+fn with_index(alloc: Global, words: &[u64]) -> Option<FileList> {
+    let mut held = files(alloc, THREE_LISTS)?;
+    let name = String::from_str(alloc, "y").ok()?;
+    held.push((name, bytes_of(alloc, words)?)).ok()?;
+    Some(held)
+}
+
 /// The line of a run where a call of this kind failed, and at least how often it is made.
-fn line_of(op: Op) -> (&'static str, u64) {
+pub(crate) fn line_of(op: Op) -> (&'static str, u64) {
     match op {
         Op::Start(Slot::Docs) => ("read fault: docs\n", 1),
         Op::Start(Slot::Freqs) => ("read fault: freqs\n", 1),
@@ -116,23 +126,33 @@ fn reads_of_the_input_and_writes_on_out_fail_in_turn(rt: HostRuntime) {
         (0, 5, write, "end\n2 0 1\n1 0\n"),
         (0, 6, done, "end\n2 0 1\n1 0\n0 1\n"),
     ] {
-        let alloc = rt.alloc();
-        let held = files(alloc, THREE_LISTS).expect(&rt, "memory");
-        let reads = vec![in alloc; failing_read].expect(&rt, "memory");
-        let writes = vec![in alloc; failing_write].expect(&rt, "memory");
-        let fails = (Vec::new(alloc), reads, writes);
-        let run = run_failing(alloc, &ANSWER, held, TEXT, 4, fails).expect(&rt, "memory");
-        assert_eq!(rt; run.status, status, "{failing_read} {failing_write}");
-        assert_eq!(rt;
-            run.err.bytes(),
-            line.as_bytes(),
-            "{failing_read} {failing_write}"
-        );
-        assert_eq!(rt;
-            run.out.bytes(),
-            replies.as_bytes(),
-            "{failing_read} {failing_write}"
-        );
+        for (words, index) in [
+            (ANSWER, [].as_slice()),
+            (QUERY, THREE_LISTS_WORDS.as_slice()),
+            (QUERY, THREE_LISTS_WORDS_OF_TWO.as_slice()),
+        ] {
+            let alloc = rt.alloc();
+            let held = with_index(alloc, index).expect(&rt, "memory");
+            let reads = vec![in alloc; failing_read].expect(&rt, "memory");
+            let writes = vec![in alloc; failing_write].expect(&rt, "memory");
+            let fails = (Vec::new(alloc), reads, writes);
+            let run = run_failing(alloc, &words, held, TEXT, 4, fails).expect(&rt, "memory");
+            assert_eq!(rt;
+                run.status,
+                status,
+                "{words:?} {failing_read} {failing_write}"
+            );
+            assert_eq!(rt;
+                run.err.bytes(),
+                line.as_bytes(),
+                "{words:?} {failing_read} {failing_write}"
+            );
+            assert_eq!(rt;
+                run.out.bytes(),
+                replies.as_bytes(),
+                "{words:?} {failing_read} {failing_write}"
+            );
+        }
     }
 }
 

@@ -1,7 +1,7 @@
 // Generated collections, as `generate` tells of them.
 use crate::collections::{ONE_LIST, files as files_of};
-use crate::runs::{OPS, run_words, steady_run};
-use pef_io::{MemSink, SteadyDepot, SteadySink, SteadySource};
+use crate::failures::run_failing;
+use crate::runs::{OPS, steady_run};
 use pef_top::Status;
 
 /// What is told of three documents and two lists of seed 1.
@@ -33,20 +33,36 @@ fn generated_collections_are_told_of(rt: HostRuntime) {
     }
 }
 
-// Out takes four bytes a call, and one of its writes fails.
+// Out takes four bytes a call, and each of its writes fails in turn.
 #[test]
 fn a_failed_write_leaves_a_front_of_the_lines(rt: HostRuntime) {
-    for (failing, front) in [(1, ""), (2, "docu"), (5, "documents 3 term")] {
+    let words = ["pefidx", "generate", "1", "3", "2"];
+    let mut failed = 0;
+    for failing in 1..100 {
         let alloc = rt.alloc();
-        let mut depot = SteadyDepot::new(alloc, Vec::new(alloc), 8192).expect(&rt, "memory");
-        let mut input = SteadySource::new(Vec::new(alloc), 8192);
-        let fails = vec![in alloc; failing].expect(&rt, "memory");
-        let mut out = MemSink::new(alloc, 4, fails).expect(&rt, "memory");
-        let mut err = SteadySink::new(alloc, 8192).expect(&rt, "memory");
-        let words = ["pefidx", "generate", "1", "3", "2"];
-        let status = run_words(alloc, &words, &mut depot, &mut input, &mut out, &mut err);
-        assert_eq!(rt; status, Some(Status::Write), "{failing}");
-        assert_eq!(rt; out.bytes(), front.as_bytes(), "{failing}");
-        assert_eq!(rt; err.bytes(), b"write fault: out\n".as_slice(), "{failing}");
+        let fails = vec![in alloc; failing as u64].expect(&rt, "memory");
+        let fails = (Vec::new(alloc), Vec::new(alloc), fails);
+        let run = run_failing(alloc, &words, Vec::new(alloc), b"", 4, fails).expect(&rt, "memory");
+        assert_eq!(rt; run.input.calls(), 0, "{failing}");
+        if run.out.calls() < failing as u64 {
+            assert_eq!(rt; run.status, Status::Done, "{failing}");
+            assert_eq!(rt; run.out.bytes(), TWO_LISTS_TEXT.as_bytes(), "{failing}");
+            assert_eq!(rt; run.err.calls(), 0, "{failing}");
+            break;
+        }
+        assert_eq!(rt; run.status, Status::Write, "{failing}");
+        let text = TWO_LISTS_TEXT.as_bytes();
+        assert_eq!(rt;
+            Some(run.out.bytes()),
+            text.get(..4 * (failing - 1)),
+            "{failing}"
+        );
+        assert_eq!(rt;
+            run.err.bytes(),
+            b"write fault: out\n".as_slice(),
+            "{failing}"
+        );
+        failed = failing;
     }
+    assert!(rt; TWO_LISTS_TEXT.len() / 4 <= failed && failed < 99);
 }

@@ -9,13 +9,21 @@ mod collections;
 #[cfg(test)]
 mod cuts;
 #[cfg(test)]
+mod damaged_files;
+#[cfg(test)]
 mod edited_files;
 #[cfg(test)]
 mod failures;
 #[cfg(test)]
 mod faults;
 #[cfg(test)]
+mod flipped_bits;
+#[cfg(test)]
 mod generations;
+#[cfg(test)]
+mod hostile_words;
+#[cfg(test)]
+mod index_failures;
 #[cfg(test)]
 mod indexes;
 #[cfg(test)]
