@@ -10,7 +10,7 @@ use Rattle.part_cost.specs.Payload.{kind_of, bitmap_payload, ef_payload}
 use Rattle.part_cost.specs.Span.{AreRelative}
 use Rattle.part_cost.specs.Stored.{HoldsPart, IsFirstAtLeast}
 use Rattle.part_codec.specs.PartBits.{bits_of_kind, part_bits}
-use Rattle.part_codec.specs.PartView.{all_ones}
+use Rattle.part_codec.specs.Forms.{all_ones}
 use Rattle.part_codec.proofs.Relative.{AreRelative-all_ones, at-all_ones}
 
 -- the bits of a part are those of its kind

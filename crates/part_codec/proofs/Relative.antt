@@ -8,8 +8,10 @@ use Rattle.part_cost.proofs.Parts.{relative-range}
 use Rattle.elias_fano.proofs.OneList as elias_fano
 use Rattle.ranked_bitmap.proofs.OneList as bitmap
 use Rattle.part_codec.specs.declared.views.PartView.{PartView}
-use Rattle.part_codec.specs.declared.views.PartView.TheVariants.{Ones, Bitmap, Ef}
-use Rattle.part_codec.specs.PartView.{Holds, all_ones}
+use Rattle.part_codec.specs.declared.forms.Form.{Form}
+use Rattle.part_codec.specs.declared.forms.Form.TheVariants.{Ones, Bitmap, Ef}
+use Rattle.part_codec.specs.Forms.{HoldsIn, all_ones}
+use Rattle.part_codec.specs.PartView.{Holds}
 
 -- value k of all ones is k
 pub at-all_ones : (u k : ℕ) → k < u → slice_index (all_ones u) k ≡ k
@@ -20,7 +22,10 @@ pub AreRelative-all_ones : (u : ℕ) (ys : List ℕ) → 1 ≤ u → ys ≡ all_
 AreRelative-all_ones u ys some h = subst (AreRelative u u) (sym h) (relative-range u some)
 
 -- a view holds one list
+one_list-in : (f : Form) (xs ys : List ℕ) → HoldsIn f xs → HoldsIn f ys → xs ≡ ys
+one_list-in (Ones v) xs ys h g = h ∙ sym g
+one_list-in (Bitmap v) xs ys h g = bitmap.one-list bitmap_spacing v xs ys h g
+one_list-in (Ef v) xs ys h g = elias_fano.one-list ef_spacing v xs ys h g
+
 pub one_list-held : (v : PartView) (xs ys : List ℕ) → Holds v xs → Holds v ys → xs ≡ ys
-one_list-held (Ones v) xs ys h g = h ∙ sym g
-one_list-held (Bitmap v) xs ys h g = bitmap.one-list bitmap_spacing v xs ys h g
-one_list-held (Ef v) xs ys h g = elias_fano.one-list ef_spacing v xs ys h g
+one_list-held v xs ys h g = one_list-in v.form xs ys h g

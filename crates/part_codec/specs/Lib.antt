@@ -1,4 +1,5 @@
 pub mod PartBits
+pub mod Forms
 pub mod PartView
 pub mod PartValues
 pub mod Laws

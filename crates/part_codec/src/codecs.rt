@@ -1,5 +1,6 @@
 use crate::codec::PartCodec;
-use crate::views::{OnesView, PartView};
+use crate::forms::{Form, OnesView};
+use crate::views::PartView;
 use elias_fano::EfView;
 use ranked_bitmap::MapView;
 
@@ -69,7 +70,7 @@ impl<'a> PartCodec<'a> for OnesView {
     ghost use Rattle.std.proofs.Common.{◌≡◌, sym, subst, ◌∙◌};
     ghost use Rattle.part_cost.specs.Span.{AreRelative};
     ghost use Rattle.part_cost.proofs.Parts.{relative-range};
-    ghost use Rattle.part_codec.specs.PartView.{all_ones};
+    ghost use Rattle.part_codec.specs.Forms.{all_ones};
 
     ghost u = { λ v. v.u };
 
@@ -106,7 +107,8 @@ impl<'a> PartCodec<'a> for PartView<'a> {
     ghost use Rattle.part_cost.proofs.Parts.{relative-range};
     ghost use Rattle.elias_fano.proofs.OneList as elias_fano;
     ghost use Rattle.ranked_bitmap.proofs.OneList as bitmap;
-    ghost use Rattle.part_codec.specs.declared.views.PartView.TheVariants.{Ones, Bitmap, Ef};
+    ghost use Rattle.part_codec.specs.declared.forms.Form.TheVariants.{Ones, Bitmap, Ef};
+    ghost use Rattle.part_codec.specs.Forms.{HoldsIn, universe_in, count_in};
     ghost use Rattle.part_codec.specs.PartView.{Holds, universe_of, count_of};
 
     ghost u = { universe_of };
@@ -116,50 +118,46 @@ impl<'a> PartCodec<'a> for PartView<'a> {
     ghost holds = { Holds };
 
     fn check(&self) -> bool {
-        match self {
-            PartView::Ones(v) => v.check(),
-            PartView::Bitmap(v) => v.check(),
-            PartView::Ef(v) => v.check(),
+        match &self.form {
+            Form::Ones(v) => v.check(),
+            Form::Bitmap(v) => v.check(),
+            Form::Ef(v) => v.check(),
         }
     }
 
     fn get(&self, k: u64) -> u64 {
-        match self {
-            PartView::Ones(v) => v.get(k),
-            PartView::Bitmap(v) => v.get(k),
-            PartView::Ef(v) => v.get(k),
+        match &self.form {
+            Form::Ones(v) => v.get(k),
+            Form::Bitmap(v) => v.get(k),
+            Form::Ef(v) => v.get(k),
         }
     }
 
     fn after(&self, k: u64, number: u64) -> u64 {
-        match self {
-            PartView::Ones(v) => v.after(k, number),
-            PartView::Bitmap(v) => v.after(k, number),
-            PartView::Ef(v) => v.after(k, number),
+        match &self.form {
+            Form::Ones(v) => v.after(k, number),
+            Form::Bitmap(v) => v.after(k, number),
+            Form::Ef(v) => v.after(k, number),
         }
     }
 
     fn next_geq(&self, x: u64, from: u64) -> (u64, u64) {
-        match self {
-            PartView::Ones(v) => v.next_geq(x, from),
-            PartView::Bitmap(v) => v.next_geq(x, from),
-            PartView::Ef(v) => v.next_geq(x, from),
+        match &self.form {
+            Form::Ones(v) => v.next_geq(x, from),
+            Form::Bitmap(v) => v.next_geq(x, from),
+            Form::Ef(v) => v.next_geq(x, from),
         }
     }
 
-    ghost relative = {
-        λ v ys. elim v as (λ w. Holds w ys → AreRelative (universe_of w) (count_of w) ys) [
-            | Ones o ↦ λ h. subst (AreRelative o.u o.u) (sym h) (relative-range o.u o.some)
-            | Bitmap b ↦ λ h. h.values
-            | Ef e ↦ λ h. h.values
-        ]
-    };
+    ghost relative = { λ v ys. elim v.form as (λ w. HoldsIn w ys → AreRelative (universe_in w) (count_in w) ys) [
+      | Ones o ↦ λ h. subst (AreRelative o.u o.u) (sym h) (relative-range o.u o.some)
+      | Bitmap b ↦ λ h. h.values
+      | Ef e ↦ λ h. h.values
+    ] };
 
-    ghost one_list = {
-        λ v xs ys. elim v as (λ w. Holds w xs → Holds w ys → xs ≡ ys) [
-            | Ones o ↦ λ h k. h ∙ sym k
-            | Bitmap b ↦ bitmap.one-list bitmap_spacing b xs ys
-            | Ef e ↦ elias_fano.one-list ef_spacing e xs ys
-        ]
-    };
+    ghost one_list = { λ v xs ys. elim v.form as (λ w. HoldsIn w xs → HoldsIn w ys → xs ≡ ys) [
+      | Ones o ↦ λ h k. h ∙ sym k
+      | Bitmap b ↦ bitmap.one-list bitmap_spacing b xs ys
+      | Ef e ↦ elias_fano.one-list ef_spacing e xs ys
+    ] };
 }

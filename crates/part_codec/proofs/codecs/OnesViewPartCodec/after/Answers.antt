@@ -1,5 +1,5 @@
 use Rattle.std.proofs.Common.{◌+◌, ap, arith, refl, sym, slice_index, ◌∙◌}
-use Rattle.part_codec.specs.PartView.{all_ones}
+use Rattle.part_codec.specs.Forms.{all_ones}
 use Rattle.part_codec.proofs.Relative.{at-all_ones}
 use Rattle.part_codec.proofs.codecs.OnesViewPartCodec.after.Goals as goal
 

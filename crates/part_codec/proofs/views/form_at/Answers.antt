@@ -1,7 +1,7 @@
 use Rattle.std.proofs.Common.{sym, ◌∙◌, ap, arith}
-use Rattle.part_codec.specs.PartView.{all_ones}
+use Rattle.part_codec.specs.Forms.{all_ones}
 use Rattle.part_codec.proofs.Parts.{all_taken, ones-held, held-ones}
-use Rattle.part_codec.proofs.views.PartView.at.Goals as goal
+use Rattle.part_codec.proofs.views.form_at.Goals as goal
 
 pub returns-in-Ones-clause-m : goal.returns-in-Ones-clause-m
 returns-in-Ones-clause-m c = c.at.ensures ∙ sym (all_taken c.args.u c.args.m (sym c.kind.ensures ∙ c.in-Ones.is))

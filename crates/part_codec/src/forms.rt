@@ -1,0 +1,32 @@
+ghost use Rattle.std.specs.Prelude.{◌≡◌, ℕ, ◌≤◌, ◌^◌};
+ghost use Rattle.part_cost.specs.Payload.{widest_low};
+
+use elias_fano::EfView;
+use ranked_bitmap::MapView;
+
+/// A part whose places are all taken.
+#[derive(Clone, Copy)]
+pub struct OnesView {
+    pub u: u64,
+    pub ghost some: { 1 ≤ u },
+    pub ghost in_range: { u ≤ 2 ^ widest_low },
+}
+
+impl OnesView {
+    /// A part of this many numbers, one at each place.
+    pub fn at(u: u64) -> OnesView
+        requires some { 1 ≤ u }
+        requires in_range { u ≤ 2 ^ widest_low }
+        ensures { result.u ≡ u }
+    {
+        OnesView { u }
+    }
+}
+
+/// A view in one of the three forms.
+#[derive(Clone, Copy)]
+pub enum Form<'a> {
+    Ones(OnesView),
+    Bitmap(MapView<'a, 512>),
+    Ef(EfView<'a, 128>),
+}
