@@ -75,7 +75,6 @@ impl<'a> SeqCursor<'a> {
     }
 
     /// Goes to the next place.
-    #[inline(always)]
     pub fn next(&mut self)
         requires within { self.old.place < length self.old.sequence.values }
         ensures sequence { self.new.sequence ≡ self.old.sequence }
@@ -131,7 +130,6 @@ impl<'a> SeqCursor<'a> {
     }
 
     // Goes to place k, which may be the end, by its part.
-    #[inline(never)]
     fn jump_to(&mut self, k: u32)
         requires within { k ≤ length self.old.sequence.values }
         ensures sequence { self.new.sequence ≡ self.old.sequence }
