@@ -20,6 +20,8 @@ OnlyReads-trans p q = record {
   );
   never_fall = λ slot. omega (arith, p.never_fall slot, q.never_fall slot);
   other_counts = λ slot n. q.other_counts slot n ∙ p.other_counts slot n;
+  create_count = q.create_count ∙ p.create_count;
+  finish_count = q.finish_count ∙ p.finish_count;
 }
 
 -- nothing read
@@ -33,6 +35,8 @@ OnlyReads-same a = record {
   other_slots = λ slot n. (refl, λ t. refl);
   never_fall = λ slot. omega arith;
   other_counts = λ slot n. refl;
+  create_count = refl;
+  finish_count = refl;
 }
 
 pub OnlyReads-wider : {touched more : Slot → Type 0} {a b : DepotState} → ((slot : Slot) → touched slot → more slot) → OnlyReads touched a b → OnlyReads more a b
@@ -45,6 +49,8 @@ OnlyReads-wider w p = record {
   other_slots = λ slot n. p.other_slots slot (λ t. n (w slot t));
   never_fall = p.never_fall;
   other_counts = λ slot n. p.other_counts slot (λ t. n (w slot t));
+  create_count = p.create_count;
+  finish_count = p.finish_count;
 }
 
 ok-not-err : {A : Type 0} (x : A) (e : CollError) → let r : Result A CollError = Ok x in r ≡ Err e → ⊥

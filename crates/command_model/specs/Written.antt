@@ -1,5 +1,6 @@
-use Rattle.std.specs.Prelude.{◌≡◌, ℕ, ◌≤◌, ◌⊎◌, false, IsTrue, List, take, Some}
+use Rattle.std.specs.Prelude.{◌≡◌, ℕ, ◌≤◌, ◌<◌, ◌⊎◌, false, IsTrue, List, take, Some}
 use Rattle.pef_io.specs.declared.fail.Slot.{Slot}
+use Rattle.pef_io.specs.Calls.{Rose}
 use Rattle.pef_io.specs.DepotState.{DepotState, SameFiles, SameFilesBut, SameSlots, SameWriting}
 
 -- The file has these bytes, all others are as before, and none is left created.
@@ -23,6 +24,12 @@ pub record IsBeingWritten (name : List ℕ) (old new : DepotState) : Type 0 wher
   pub created : IsTrue new.created
   pub named : IsTrue old.tells → new.name ≡ name
 
+-- What a failed call of the writing leaves: a failed create all as before, any other the file begun, and a failed finish all of the bytes in it.
+pub record IsLeftByFault (name : List ℕ) (old new : DepotState) (bytes : List ℕ) : Type 0 where
+  pub create : old.create_faults < new.create_faults → IsUnwritten old new
+  pub begun : ¬ Rose old.create_faults new.create_faults → IsBeingWritten name old new
+  pub finish : old.finish_faults < new.finish_faults → IsTrue old.tells → new.file name ≡ Some bytes
+
 -- Calls that only create, write and finish this name were made.
 pub record OnlyWrites (name : List ℕ) (old new : DepotState) : Type 0 where
   pub tells : new.tells ≡ old.tells
@@ -30,3 +37,5 @@ pub record OnlyWrites (name : List ℕ) (old new : DepotState) : Type 0 where
   pub slots : SameSlots old new
   pub slot_counts : (slot : Slot) → new.faults slot ≡ old.faults slot
   pub never_falls : old.writing_faults ≤ new.writing_faults
+  pub creates_never_fall : old.create_faults ≤ new.create_faults
+  pub finishes_never_fall : old.finish_faults ≤ new.finish_faults

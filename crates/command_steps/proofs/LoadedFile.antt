@@ -44,6 +44,8 @@ start-reads name old new r s = record {
   other_slots = s.other_slots;
   never_fall = fall;
   other_counts = s.counts.others;
+  create_count = s.counts.create_count;
+  finish_count = s.counts.finish_count;
 }
   where
     stay : (slot : Slot) → IsTrue (old.started slot) → IsTrue (new.started slot)
@@ -97,6 +99,8 @@ both-read name old mid new limit r s l = record {
   );
   never_fall = λ slot. omega (arith, p.never_fall slot, q.never_fall slot);
   other_counts = λ slot ne. q.other_counts slot ne ∙ p.other_counts slot ne;
+  create_count = q.create_count ∙ p.create_count;
+  finish_count = q.finish_count ∙ p.finish_count;
 }
   where
     p : OnlyReads IsIndexSlot old mid

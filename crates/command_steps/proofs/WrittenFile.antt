@@ -1,5 +1,5 @@
 -- How words are written piece by piece to a file that is created and finished.
-use Rattle.std.proofs.Common.{◌≡◌, refl, sym, ap, ◌∙◌, subst, ℕ, ◌+◌, List, [], ◌++◌, length, take, inl, inr, ◌⊎◌, IsTrue, Option, Some, Result, Ok, Err, arith, append_assoc, append-nil}
+use Rattle.std.proofs.Common.{◌≡◌, refl, sym, ap, ◌∙◌, subst, ℕ, ◌+◌, ◌<◌, List, [], ◌++◌, length, take, inl, inr, ◌⊎◌, IsTrue, Option, Some, Result, Ok, Err, arith, append_assoc, append-nil}
 use Rattle.std.specs.Prelude.{unwrap_or}
 use Rattle.std.proofs.Math.Seq.{take-append-add}
 use Rattle.std.proofs.lemmas.List.{length-append, take-append-le, take_all}
@@ -10,7 +10,7 @@ use Rattle.pef_io.specs.declared.fail.IoFail.TheVariants as call
 use Rattle.pef_io.specs.Calls.{Rose}
 use Rattle.pef_io.specs.DepotState.{DepotState, Creates, Finishes, CountsWriting}
 use Rattle.pef_io.specs.Helpers.{HasFile, WritesAllToFile}
-use Rattle.command_model.specs.Written.{IsUnwritten, IsWrittenInPart, IsBeingWritten, OnlyWrites}
+use Rattle.command_model.specs.Written.{IsUnwritten, IsWrittenInPart, IsBeingWritten, IsLeftByFault, OnlyWrites}
 use Rattle.command_steps.specs.declared.writing.WriteIndexError.TheVariants.{NoMemory}
 use Rattle.command_steps.specs.WriteIndex.{WritesWords}
 use Rattle.command_steps.specs.WriteFile.{write_error}
@@ -48,6 +48,8 @@ none-written s = record {
     };
     others = λ slot. refl;
   };
+  create_count = refl;
+  finish_count = refl;
 }
 
 -- a file that stays one over two pieces
@@ -75,6 +77,8 @@ piece-written a b c xs ys p q = record {
   slots = λ slot. ((q.slots slot).0 ∙ (p.slots slot).0, λ t. (q.slots slot).1 (p.tells ∙ t) ∙ (p.slots slot).1 t);
   writing = (q.writing.0 ∙ p.writing.0, λ t. q.writing.1 (p.tells ∙ t) ∙ p.writing.1 t);
   counts = counts-then a b c (Ok tt) p.counts q.counts;
+  create_count = q.create_count ∙ p.create_count;
+  finish_count = q.finish_count ∙ p.finish_count;
 }
 
 -- a piece that is refused, and what would have come behind it
@@ -101,6 +105,8 @@ piece-refused a b c xs ys zs whole e p q is = record {
   slots = λ slot. ((q.slots slot).0 ∙ (p.slots slot).0, λ t. (q.slots slot).1 (p.tells ∙ t) ∙ (p.slots slot).1 t);
   writing = (q.writing.0 ∙ p.writing.0, λ t. q.writing.1 (p.tells ∙ t) ∙ p.writing.1 t);
   counts = counts-then a b c (Err e) p.counts q.counts;
+  create_count = q.create_count ∙ p.create_count;
+  finish_count = q.finish_count ∙ p.finish_count;
 }
 
 -- Some of the words are written, and these are left.
@@ -148,6 +154,8 @@ created-only name a b r c = record {
   slots = c.slots;
   slot_counts = c.counts.others;
   never_falls = c.counts.this.never_falls;
+  creates_never_fall = c.create_count.never_falls;
+  finishes_never_fall = omega (arith, c.finish_count);
 }
 
 written-only : (name bytes : List ℕ) (a b c : DepotState) (r : Result (Unit {0}) IoFail) → Creates a b name (Ok tt) → WritesAllToFile b c bytes r → OnlyWrites name a c
@@ -157,6 +165,8 @@ written-only name bytes a b c r k w = record {
   slots = λ slot. ((w.slots slot).0 ∙ (k.slots slot).0, λ t. (w.slots slot).1 (k.tells ∙ t) ∙ (k.slots slot).1 t);
   slot_counts = λ slot. w.counts.others slot ∙ k.counts.others slot;
   never_falls = omega (arith, k.counts.this.never_falls, w.counts.this.never_falls);
+  creates_never_fall = omega (arith, k.create_count.never_falls, w.create_count);
+  finishes_never_fall = omega (arith, k.finish_count, w.finish_count);
 }
 
 -- the created file is the one that is being written
@@ -173,6 +183,8 @@ finished-only name a b c r o f = record {
   slots = λ slot. ((f.slots slot).0 ∙ (o.slots slot).0, λ t. (f.slots slot).1 (o.tells ∙ t) ∙ (o.slots slot).1 t);
   slot_counts = λ slot. f.counts.others slot ∙ o.slot_counts slot;
   never_falls = omega (arith, o.never_falls, f.counts.this.never_falls);
+  creates_never_fall = omega (arith, o.creates_never_fall, f.create_count);
+  finishes_never_fall = omega (arith, o.finishes_never_fall, f.finish_count.never_falls);
 }
 
 -- the created file is there, and empty
@@ -200,22 +212,38 @@ front-file name bytes a b c e k w t =
 
 -- a refusal is one of the writing
 refusal : (words name : List ℕ) (a b : DepotState) (fail : IoFail) → CountsWriting {A = Unit {0}} a b (Err fail) → IsWrittenInPart name a b (word_bytes words) → IsUnwritten a b ⊎ IsBeingWritten name a b → OnlyWrites name a b
+    → (fail ≡ call.Failed → IsLeftByFault name a b (word_bytes words)) → (fail ≡ call.NoMemory → (b.create_faults ≡ a.create_faults) × (b.finish_faults ≡ a.finish_faults))
     → WritesWords words name a b (Err (write_error fail))
-refusal words name a b call.Failed k part begun only = record {
+refusal words name a b call.Failed k part begun only left same = record {
   written = tt;
   refused = part;
   begun = begun;
   write_only_where_it_rose = λ is. k.this.failed_only_where_it_rose refl;
   count_rises_only_there = inl refl;
   writes = only;
+  failed = λ is. left refl;
+  create_count = inl refl;
+  finish_count = inl refl;
 }
-refusal words name a b call.NoMemory k part begun only = record {
+refusal words name a b call.NoMemory k part begun only left same = record {
   written = tt;
   refused = part;
   begun = begun;
   write_only_where_it_rose = λ is. cc;
   count_rises_only_there = inr (k.this.same_at_no_memory refl);
   writes = only;
+  failed = λ is. cc;
+  create_count = inr (same refl).0;
+  finish_count = inr (same refl).1;
+}
+
+-- what a refusal is of that has begun the file, where it left all of the bytes if it was the finish
+begun-by-fault : (name bytes : List ℕ) (a b : DepotState) → IsBeingWritten name a b → b.create_faults ≡ a.create_faults
+    → (a.finish_faults < b.finish_faults → IsTrue a.tells → b.file name ≡ Some bytes) → IsLeftByFault name a b bytes
+begun-by-fault name bytes a b begun same whole = record {
+  create = λ rose. absurd (omega (arith, rose, same));
+  begun = λ other. begun;
+  finish = whole;
 }
 
 -- no room for a piece
@@ -232,20 +260,36 @@ room-refused words name a = record {
     slots = λ slot. (refl, λ t. refl);
     slot_counts = λ slot. refl;
     never_falls = omega arith;
+    creates_never_fall = omega arith;
+    finishes_never_fall = omega arith;
   };
+  failed = λ is. cc;
+  create_count = inr refl;
+  finish_count = inr refl;
 }
 
 pub create-refused : (words name : List ℕ) (a b : DepotState) (fail : IoFail) → Creates a b name (Err fail) → WritesWords words name a b (Err (write_error fail))
 create-refused words name a b fail k =
     let same : IsUnwritten a b = record { files = k.unchanged.files; writing = k.unchanged.writing } in
     refusal words name a b fail k.counts (inl same) (inl same) (created-only name a b (Err fail) k)
+    (λ is. record {
+      create = λ rose. same;
+      begun = λ other. absurd (other (k.create_count.failed_only_where_it_rose (ap Err is)));
+      finish = λ rose. absurd (omega (arith, rose, k.finish_count));
+    })
+    (λ is. (k.create_count.same_at_no_memory (ap Err is), k.finish_count))
 
 pub write-refused : (words name : List ℕ) (a b c : DepotState) (fail : IoFail) → Creates a b name (Ok tt) → WritesAllToFile b c (word_bytes words) (Err fail) → WritesWords words name a c (Err (write_error fail))
 write-refused words name a b c fail k w =
     let only = written-only name (word_bytes words) a b c (Err fail) k w in
+    let begun = written-on name (word_bytes words) a b c (Err fail) k w in
+    let creates : c.create_faults ≡ a.create_faults = w.create_count ∙ k.create_count.same_at_ok refl in
+    let finishes : c.finish_faults ≡ a.finish_faults = w.finish_count ∙ k.finish_count in
     refusal words name a c fail (counts-then a b c (Err fail) k.counts w.counts)
     (inr (λ t. let f = front-file name (word_bytes words) a b c fail k w t in (f.0, f.1, only.other_files t)))
-    (inr (written-on name (word_bytes words) a b c (Err fail) k w)) only
+    (inr begun) only
+    (λ is. begun-by-fault name (word_bytes words) a c begun creates (λ rose. absurd (omega (arith, rose, finishes))))
+    (λ is. (creates, finishes))
 
 pub finish-refused : (words name : List ℕ) (a b c d : DepotState) (fail : IoFail) → Creates a b name (Ok tt) → WritesAllToFile b c (word_bytes words) (Ok tt) → Finishes c d (Err fail)
     → WritesWords words name a d (Err (write_error fail))
@@ -253,10 +297,15 @@ finish-refused words name a b c d fail k w f =
     let bytes = word_bytes words in
     let before = written-only name bytes a b c (Ok tt) k w in
     let only = finished-only name a c d (Err fail) before f in
-    let begun = written-on name bytes a b c (Ok tt) k w in
+    let created = written-on name bytes a b c (Ok tt) k w in
+    let begun : IsBeingWritten name a d = record { created = f.unchanged.writing.0 ∙ created.created; named = λ t. f.unchanged.writing.1 (before.tells ∙ t) ∙ created.named t } in
+    let whole : IsTrue a.tells → d.file name ≡ Some bytes = λ t. f.files (before.tells ∙ t) name ∙ whole-file name bytes a b c k w t in
+    let creates : d.create_faults ≡ a.create_faults = f.create_count ∙ w.create_count ∙ k.create_count.same_at_ok refl in
     refusal words name a d fail (counts-then a c d (Err fail) (counts-then a b c (Ok tt) k.counts w.counts) f.counts)
-    (inr (λ t. (length bytes, f.files (before.tells ∙ t) name ∙ whole-file name bytes a b c k w t ∙ ap Some (sym (take_all (length bytes) bytes (omega arith))), only.other_files t)))
-    (inr (record { created = f.unchanged.writing.0 ∙ begun.created; named = λ t. f.unchanged.writing.1 (before.tells ∙ t) ∙ begun.named t })) only
+    (inr (λ t. (length bytes, whole t ∙ ap Some (sym (take_all (length bytes) bytes (omega arith))), only.other_files t)))
+    (inr begun) only
+    (λ is. begun-by-fault name bytes a d begun creates (λ rose. whole))
+    (λ is. (creates, f.finish_count.same_at_no_memory (ap Err is) ∙ w.finish_count ∙ k.finish_count))
 
 pub all-written : (words name : List ℕ) (a b c d : DepotState) → Creates a b name (Ok tt) → WritesAllToFile b c (word_bytes words) (Ok tt) → Finishes c d (Ok tt) → WritesWords words name a d (Ok tt)
 all-written words name a b c d k w f =
@@ -274,4 +323,7 @@ all-written words name a b c d k w f =
       write_only_where_it_rose = λ is. cc;
       count_rises_only_there = inr (f.counts.this.same_at_ok refl ∙ w.counts.this.same_at_ok refl ∙ k.counts.this.same_at_ok refl);
       writes = only;
+      failed = λ is. cc;
+      create_count = inr (f.create_count ∙ w.create_count ∙ k.create_count.same_at_ok refl);
+      finish_count = inr (f.finish_count.same_at_ok refl ∙ w.finish_count ∙ k.finish_count);
     }

@@ -2,7 +2,7 @@ use Rattle.std.specs.Prelude.{◌≡◌, ℕ, ◌⊎◌, List, Result, Err, OnOk
 use Rattle.collection_model.specs.Bytes.{word_bytes}
 use Rattle.pef_io.specs.Calls.{Rose}
 use Rattle.pef_io.specs.DepotState.{DepotState}
-use Rattle.command_model.specs.Written.{IsWritten, IsUnwritten, IsWrittenInPart, IsBeingWritten, OnlyWrites}
+use Rattle.command_model.specs.Written.{IsWritten, IsUnwritten, IsWrittenInPart, IsBeingWritten, IsLeftByFault, OnlyWrites}
 use Rattle.command_steps.specs.declared.writing.WriteIndexError.{WriteIndexError}
 use Rattle.command_steps.specs.declared.writing.WriteIndexError.TheVariants.{Write}
 
@@ -17,3 +17,7 @@ pub record WritesWords (words name : List ℕ) (old new : DepotState) (result : 
   pub count_rises_only_there : (result ≡ Err Write) ⊎ (new.writing_faults ≡ old.writing_faults)
   -- One name is created, written and finished, and nothing else is called.
   pub writes : OnlyWrites name old new
+  -- Which call failed is told by the counts of failed creates and finishes.
+  pub failed : result ≡ Err Write → IsLeftByFault name old new (word_bytes words)
+  pub create_count : (result ≡ Err Write) ⊎ (new.create_faults ≡ old.create_faults)
+  pub finish_count : (result ≡ Err Write) ⊎ (new.finish_faults ≡ old.finish_faults)

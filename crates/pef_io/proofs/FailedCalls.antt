@@ -44,5 +44,5 @@ failed-read old new slot before after fail is tells same counts = rw is (record 
   files = same.files;
   writing = same.writing;
   unchanged = same;
-  counts = record { this = counts-as (old.faults slot) (new.faults slot) counts.this; others = counts.others; writing = counts.writing };
+  counts = record { this = counts-as (old.faults slot) (new.faults slot) counts.this; others = counts.others; writing = counts.writing; create_count = counts.create_count; finish_count = counts.finish_count };
 })

@@ -63,6 +63,8 @@ OnlyReads-then {touched} {a} {b} {c} {slot} p it r = record {
   other_counts = λ s n.
       let other : s ≢ slot = λ e. n (subst touched (sym e) it) in
       r.counts.others s other ∙ p.other_counts s n;
+  create_count = r.counts.create_count ∙ p.create_count;
+  finish_count = r.counts.finish_count ∙ p.finish_count;
 }
 
 -- These bytes were read from a slot, and no call failed.

@@ -33,3 +33,5 @@ pub record WritesAllToFile (old new : DepotState) (piece : List ℕ) (result : R
   pub slots : SameSlots old new
   pub writing : SameWriting old new
   pub counts : CountsWriting old new result
+  pub create_count : new.create_faults ≡ old.create_faults
+  pub finish_count : new.finish_faults ≡ old.finish_faults

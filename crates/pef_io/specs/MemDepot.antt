@@ -4,6 +4,7 @@ use Rattle.pef_io.specs.declared.calls.Op.{Op}
 use Rattle.pef_io.specs.declared.calls.Op.TheVariants.{Start, Read, Create, Write, Finish}
 use Rattle.pef_io.specs.declared.failing_depot.MemDepot.{MemDepot}
 use Rattle.pef_io.specs.DepotCalls.{calls_of}
+use Rattle.pef_io.specs.Calls.{CountsFaults}
 use Rattle.pef_io.specs.DepotState.{DepotState, CountsSlot, CountsWriting}
 
 -- The next call of this kind is one of those that fail.
@@ -18,6 +19,9 @@ KeepsSettings old new = (new.depot.most ≡ old.depot.most) × (new.fails ≡ ol
 abbrev pub CountsFault : Op → DepotState → DepotState → Type 0
 CountsFault (Start slot) old new = CountsSlot {A = Unit {0}} old new slot (Err Failed)
 CountsFault (Read slot) old new = CountsSlot {A = Unit {0}} old new slot (Err Failed)
-CountsFault Create old new = CountsWriting {A = Unit {0}} old new (Err Failed)
-CountsFault Write old new = CountsWriting {A = Unit {0}} old new (Err Failed)
-CountsFault Finish old new = CountsWriting {A = Unit {0}} old new (Err Failed)
+CountsFault Create old new =
+    CountsWriting {A = Unit {0}} old new (Err Failed) × CountsFaults {A = Unit {0}} old.create_faults new.create_faults (Err Failed) × (new.finish_faults ≡ old.finish_faults)
+CountsFault Write old new =
+    CountsWriting {A = Unit {0}} old new (Err Failed) × (new.create_faults ≡ old.create_faults) × (new.finish_faults ≡ old.finish_faults)
+CountsFault Finish old new =
+    CountsWriting {A = Unit {0}} old new (Err Failed) × (new.create_faults ≡ old.create_faults) × CountsFaults {A = Unit {0}} old.finish_faults new.finish_faults (Err Failed)

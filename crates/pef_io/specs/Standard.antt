@@ -8,3 +8,5 @@ pub record IsUntouched (state : DepotState) : Type 0 where
   pub none_created : state.created ≡ false
   pub no_faults : (slot : Slot) → state.faults slot ≡ 0
   pub no_writing_faults : state.writing_faults ≡ 0
+  pub no_create_faults : state.create_faults ≡ 0
+  pub no_finish_faults : state.finish_faults ≡ 0

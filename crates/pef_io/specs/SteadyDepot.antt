@@ -29,4 +29,6 @@ steady_state d = record {
   created = is_some d.created;
   faults = λ _. 0;
   writing_faults = 0;
+  create_faults = 0;
+  finish_faults = 0;
 }

@@ -21,6 +21,8 @@ pub struct MemDepot {
     fails: Vec<(Op, u64)>,
     faults: PerSlot<u64>,
     writing_faults: u64,
+    create_faults: u64,
+    finish_faults: u64,
 }
 
 impl MemDepot {
@@ -43,6 +45,8 @@ impl MemDepot {
             fails,
             faults: PerSlot::all(0),
             writing_faults: 0,
+            create_faults: 0,
+            finish_faults: 0,
         })
     }
 
@@ -79,8 +83,14 @@ impl MemDepot {
         self.depot.calls.count(op);
         match op {
             Op::Start(slot) | Op::Read(slot) => self.faults.raise(slot),
-            Op::Create | Op::Write | Op::Finish => {
+            Op::Create => {
                 self.writing_faults = self.writing_faults.saturating_add(1);
+                self.create_faults = self.create_faults.saturating_add(1);
+            }
+            Op::Write => self.writing_faults = self.writing_faults.saturating_add(1),
+            Op::Finish => {
+                self.writing_faults = self.writing_faults.saturating_add(1);
+                self.finish_faults = self.finish_faults.saturating_add(1);
             }
         }
         IoFail::Failed
@@ -88,7 +98,7 @@ impl MemDepot {
 }
 
 impl Depot for MemDepot {
-    ghost state = { λ d. record (⟦<SteadyDepot as Depot>⟧.state d.depot) { faults = λ slot. at_slot d.faults slot; writing_faults = d.writing_faults } };
+    ghost state = { λ d. record (⟦<SteadyDepot as Depot>⟧.state d.depot) { faults = λ slot. at_slot d.faults slot; writing_faults = d.writing_faults; create_faults = d.create_faults; finish_faults = d.finish_faults } };
 
     fn start(&mut self, slot: Slot, name: &str) -> Result<(), IoFail>
         ensures starts { Starts (⟦<MemDepot as Depot>⟧.state self.old) (⟦<MemDepot as Depot>⟧.state self.new) slot name.now result }

@@ -96,6 +96,7 @@ pub struct StdDepot<R: Files> {
     created: Option<R::File>,
     faults: PerSlot<u64>,
     writing_faults: u64,
+    create_faults: u64,
 }
 
 impl<R: Files> StdDepot<R> {
@@ -113,12 +114,13 @@ impl<R: Files> StdDepot<R> {
             created: None,
             faults: PerSlot::all(0),
             writing_faults: 0,
+            create_faults: 0,
         }
     }
 }
 
 impl<R: Files> Depot for StdDepot<R> {
-    ghost state = { λ d. record { tells = false; file = λ _. None; left = λ _. []; name = []; started = λ slot. is_some (at_slot d.opened slot); created = is_some d.created; faults = λ slot. at_slot d.faults slot; writing_faults = d.writing_faults } };
+    ghost state = { λ d. record { tells = false; file = λ _. None; left = λ _. []; name = []; started = λ slot. is_some (at_slot d.opened slot); created = is_some d.created; faults = λ slot. at_slot d.faults slot; writing_faults = d.writing_faults; create_faults = d.create_faults; finish_faults = 0 } };
 
     fn start(&mut self, slot: Slot, name: &str) -> Result<(), IoFail> {
         if let Ok(file) = fs::open(&self.rt, name) {
@@ -148,6 +150,7 @@ impl<R: Files> Depot for StdDepot<R> {
             return Ok(());
         }
         self.writing_faults = self.writing_faults.saturating_add(1);
+        self.create_faults = self.create_faults.saturating_add(1);
         Err(IoFail::Failed)
     }
 

@@ -1,5 +1,5 @@
 -- What `build` leaves.
-use Rattle.std.proofs.Common.{◌≡◌, ℕ, ◌<◌, ◌^◌, refl, sym, ◌∙◌, subst, List, inl}
+use Rattle.std.proofs.Common.{◌≡◌, ℕ, ◌<◌, ◌^◌, refl, sym, ◌∙◌, subst, List, inl, inr}
 use Rattle.std.specs.Prelude.{Result, Ok, Err, Some, Vec}
 use Rattle.std.specs.List.{All}
 use Rattle.std.specs.declared.alloc.Global.{Global}
@@ -38,7 +38,7 @@ not_built format base index d d' i o e e' s s' error w = record {
     opens = λ is. absurd (not_done error is);
     refuses = unbuilt_refuses format base old new error w;
     complete = λ t c found none. unbuilt_complete format base old new error Done w t c found none;
-    depot = record { refused = λ h. w.reads; unaccepted = λ h. w.reads; stay_started = w.reads.stay_started; other_slots = w.reads.other_slots };
+    depot = record { refused = λ h. w.reads; unaccepted = λ h. w.reads; stay_started = w.reads.stay_started; other_slots = w.reads.other_slots; create_count = inr w.reads.create_count; finish_count = inr w.reads.finish_count };
   };
   faults = unbuilt_faults format base old new error w refl refl;
   depot_tells = w.reads.tells;

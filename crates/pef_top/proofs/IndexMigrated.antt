@@ -78,7 +78,7 @@ module _ (from to : List ℕ) (d d1 : DepotState) (i : SourceState) (o e e' : Si
   only_read : (new : SinkState) (s' : ℕ) (words : Result (List ℕ) LoadIndexError) (outcome : Outcome) → LoadsWords from d d1 words
       → WritesOnlyAccepted IsIndexSlot ((c : Collection) × FindsIndexOf from d c) (outside d i o e s) (outside d1 i o new s') outcome
   only_read new s' words outcome w =
-      record { refused = λ h. w.reads; unaccepted = λ h. w.reads; stay_started = w.reads.stay_started; other_slots = w.reads.other_slots }
+      record { refused = λ h. w.reads; unaccepted = λ h. w.reads; stay_started = w.reads.stay_started; other_slots = w.reads.other_slots; create_count = inr w.reads.create_count; finish_count = inr w.reads.finish_count }
 
   -- no words were loaded
   not_loaded : (error : LoadIndexError) → LoadsWords from d d1 (Err error) → Leaves (Some (Migrate from to)) (outside d i o e s) (outside d1 i o e' s) (unloaded error)

@@ -23,6 +23,8 @@ same touched d = record {
   other_slots = λ slot h. (refl, λ t. refl);
   never_fall = λ slot. omega arith;
   other_counts = λ slot h. refl;
+  create_count = refl;
+  finish_count = refl;
 }
 
 -- a run that is refused memory ends so
@@ -48,7 +50,7 @@ performs (Build base index format) d i o e e' s = record {
   refuses = record { broken = λ t f h. inr (inr refl); sound = λ t c h f e. cc };
   opens = λ h. cc;
   complete = λ t c h n. inr (inr refl);
-  depot = record { refused = λ h. same _ d; unaccepted = λ h. same _ d; stay_started = λ slot h. h; other_slots = λ slot h. (refl, λ t. refl) };
+  depot = record { refused = λ h. same _ d; unaccepted = λ h. same _ d; stay_started = λ slot h. h; other_slots = λ slot h. (refl, λ t. refl); create_count = inr refl; finish_count = inr refl };
 }
 performs (Query index plan) d i o e e' s = record {
   ends = inl (record { input = refl; out = refl });
@@ -79,5 +81,5 @@ performs (Migrate from to) d i o e e' s = record {
   opens = λ h. cc;
   refuses = inr (record { broken = λ t f h. inr (inr refl); longer = λ t h. inr (inr refl); sound = λ t c h. (λ e. cc, λ f e. cc) });
   complete = λ t c h n. inr (inr refl);
-  depot = record { refused = λ h. same _ d; unaccepted = λ h. same _ d; stay_started = λ slot h. h; other_slots = λ slot h. (refl, λ t. refl) };
+  depot = record { refused = λ h. same _ d; unaccepted = λ h. same _ d; stay_started = λ slot h. h; other_slots = λ slot h. (refl, λ t. refl); create_count = inr refl; finish_count = inr refl };
 }

@@ -1,5 +1,5 @@
 -- What a run leaves that wrote the words of a collection, or stopped at that.
-use Rattle.std.proofs.Common.{◌≡◌, ℕ, ◌≤◌, ◌<◌, ◌^◌, refl, sym, ◌∙◌, ap, subst, List, [], inl, inr, ◌⊎◌}
+use Rattle.std.proofs.Common.{◌≡◌, ℕ, ◌≤◌, ◌<◌, ◌^◌, arith, refl, sym, ◌∙◌, ap, subst, List, [], inl, inr, ◌⊎◌}
 use Rattle.std.specs.Prelude.{◌≢◌, IsTrue, Result, Ok, Err, unwrap_or}
 use Rattle.std.specs.List.{All}
 use Rattle.collection_model.specs.Bytes.{word_bytes}
@@ -15,7 +15,7 @@ use Rattle.collection_reader.specs.declared.fault.Fault.{Fault}
 use Rattle.index_file.specs.declared.fault.OpenFault.{OpenFault}
 use Rattle.index_file.specs.FileWords.{ListParts, file_words}
 use Rattle.command_model.specs.Found.{AreOfWords}
-use Rattle.command_model.specs.Written.{IsWritten, IsUnwritten, IsWrittenInPart, IsBeingWritten}
+use Rattle.command_model.specs.Written.{IsWritten, IsUnwritten, IsWrittenInPart, IsBeingWritten, IsLeftByFault}
 use Rattle.command_steps.specs.declared.writing.WriteIndexError.{WriteIndexError}
 use Rattle.command_steps.specs.declared.writing.WriteIndexError.TheVariants as writing
 use Rattle.command_steps.specs.WriteIndex.{WritesWords}
@@ -113,12 +113,22 @@ module _ (format : Format) (Is : Collection → Type 0) (touched : Slot → Type
   left_from bytes part (inl h) = inl (unwritten_from h)
   left_from bytes part (inr h) = inr (record { created = h.created; named = λ t. h.named (told t) }, part_from bytes part)
 
+  fault_from : (bytes : List ℕ) → IsLeftByFault index d1 d2 bytes → IsLeftByFault index d d2 bytes
+  fault_from bytes h =
+      let Creates : ℕ → Type 0 = λ n. Rose n d2.create_faults in record {
+        create = λ rose. unwritten_from (h.create (omega (arith, rose, reads.create_count)));
+        begun = λ other. let b = h.begun (λ rose. other (subst Creates reads.create_count rose)) in record { created = b.created; named = λ t. b.named (told t) };
+        finish = λ rose t. h.finish (omega (arith, rose, reads.finish_count)) (told t);
+      }
+
   on_built : (P : List ℕ → Type 0) → P (word_bytes words) → OnBuiltBytes format Is old new P
   on_built P p = let Q : List ℕ → Type 0 = λ ws. P (word_bytes ws) in (c, parts, built, subst Q are p)
 
   writes : (r : Result (Unit {0}) WriteIndexError) → WritesWords words index d1 d2 r → WritesIndex format Is index old new (written_outcome r)
   writes (Ok u) v = on_built (IsWritten index d d2) (written_from (word_bytes words) v.written)
-  writes (Err writing.Write) v = on_built (IsLeftInPart index d d2) (left_from (word_bytes words) v.refused v.begun)
+  writes (Err writing.Write) v =
+      on_built (λ bytes. IsLeftInPart index d d2 bytes × IsLeftByFault index d d2 bytes)
+      (left_from (word_bytes words) v.refused v.begun, fault_from (word_bytes words) (v.failed refl))
   writes (Err writing.NoMemory) v = inr (on_built (IsLeftInPart index d d2) (left_from (word_bytes words) v.refused v.begun))
 
   builds_and_writes : (r : Result (Unit {0}) WriteIndexError) → WritesWords words index d1 d2 r
@@ -173,6 +183,12 @@ module _ (format : Format) (Is : Collection → Type 0) (touched : Slot → Type
       absurd (none.writing (subst P same_writing (v.write_only_where_it_rose refl)))
   complete (Err writing.NoMemory) v none = inr (inr refl)
 
+  -- a count that stood as before at the reading's end
+  or_same : (r : Result (Unit {0}) WriteIndexError) (now before : ℕ) {first : ℕ} → (r ≡ Err writing.Write) ⊎ (now ≡ before) → before ≡ first
+      → (written_outcome r ≡ IndexWriteFault) ⊎ (now ≡ first)
+  or_same r now before (inl is) same = inl (ap written_outcome is)
+  or_same r now before (inr stands) same = inr (stands ∙ same)
+
   only_accepted : (accepted : Type 0) → accepted → (r : Result (Unit {0}) WriteIndexError) → WritesWords words index d1 d2 r
       → WritesOnlyAccepted touched accepted old new (written_outcome r)
   only_accepted accepted is r v = record {
@@ -183,6 +199,8 @@ module _ (format : Format) (Is : Collection → Type 0) (touched : Slot → Type
       (v.writes.slots slot).0 ∙ (reads.other_slots slot other).0,
       λ t. (v.writes.slots slot).1 (told t) ∙ (reads.other_slots slot other).1 t,
     );
+    create_count = or_same r _ _ v.create_count reads.create_count;
+    finish_count = or_same r _ _ v.finish_count reads.finish_count;
   }
 
   -- all of it

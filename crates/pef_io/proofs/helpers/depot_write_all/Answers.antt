@@ -28,4 +28,6 @@ loop-at-preserved g c =
       write.counts.this.same_at_ok (ap is_ok c.in_ok-at.was) ∙ before.6,
       (λ slot. write.counts.others slot ∙ before.7 slot),
       (λ t _. (_, ap new.file (sym (before.5.1 t)) ∙ appended t)),
+      write.create_count ∙ before.9,
+      write.finish_count ∙ before.10,
     )

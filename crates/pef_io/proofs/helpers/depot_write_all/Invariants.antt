@@ -16,6 +16,8 @@ invariant-loop-at g l =
     × (now.writing_faults ≡ old.writing_faults)
     × ((slot : _) → now.faults slot ≡ old.faults slot)
     × (IsTrue old.tells → HasFile old old.name → HasFile now old.name)
+    × (now.create_faults ≡ old.create_faults)
+    × (now.finish_faults ≡ old.finish_faults)
 
 abbrev pub decreases-loop-at : goal.decreases-loop-at
 decreases-loop-at g l = length l.piece - l.at
