@@ -2,7 +2,7 @@ use Rattle.std.proofs.Common.{◌≡◌, ℕ, zero, suc, ◌+◌, ◌-◌, ◌*�
 use Rattle.std.specs.Prelude.{◌==◌}
 use Rattle.std.specs.List.{All, slice_range}
 use Rattle.std.specs.List.Sorted.{IsStrictlyIncreasing}
-use Rattle.std.proofs.lemmas.Bool.{cases_lt, eq-eqb as true-same}
+use Rattle.std.proofs.lemmas.Bool.{cases_lt, eq-eqb}
 use Rattle.std.proofs.lemmas.Bool.Decides.{nat_tests}
 use Rattle.std.proofs.lemmas.List.{length-append, length-take-le, length-drop, length-map, length-replicate, take-take, take_all, take_at, drop_at, drop-take, take-append-drop, get_or-take, get_or-map, get_or_append_left, get_or-append_right, get_or-replicate, get_or_default, ext_get_or}
 use Rattle.std.proofs.Math.Seq.{take-append-add}
@@ -214,7 +214,7 @@ none-fit (suc m) h = let e : false ≡ true = subst (λ b. cond b true false ≡
 pub all-stand : (format : FormatNumbers) (words : List ℕ) (parts m bound : ℕ) → PassChecks format words parts m bound → end_before format words 0 parts ≡ m
 all-stand format words zero m bound fit = sym (none-fit m fit.parts_are)
 all-stand format words (suc q) m bound fit =
-    let k = follows-at format words (suc q) m bound q (fit.entries q (omega arith)) in k.whole (true-same (q + 1) (suc q) (omega arith))
+    let k = follows-at format words (suc q) m bound q (fit.entries q (omega arith)) in k.whole (eq-eqb (q + 1) (suc q) (omega arith))
 
 pub build : (format : FormatNumbers) (room : HasRoom format) → PartLaws → (words : List ℕ) (parts m bound : ℕ) → bound ≤ format.most_sum → PassChecks format words parts m bound → (n q : ℕ) → q + n ≡ parts → (pre : List ℕ) → Front format words bound q pre → Built format words parts m bound q pre
 build format room laws words parts m bound fits fit zero q e pre f =

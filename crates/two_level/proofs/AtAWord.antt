@@ -1,7 +1,7 @@
 use Rattle.std.proofs.Common.{◌≡◌, ℕ, zero, suc, ◌+◌, ◌-◌, ◌*◌, ◌<◌, ◌≤◌, Bool, true, false, List, [], ◌∷◌, ◌++◌, length, take, drop, get_or, slice_index, refl, inl, inr, sym, ap, ◌∙◌, subst, arith}
 use Rattle.std.specs.Prelude.{◌||◌, ◌==◌, ◌↔◌, ◌⊎◌, not, nat_lt, MatchBool}
 use Rattle.std.specs.List.{slice_range}
-use Rattle.std.proofs.lemmas.Bool.{both_ways, ltb_from_iff, ltb-false as lt-false, le-ltb as false-lt}
+use Rattle.std.proofs.lemmas.Bool.{both_ways, ltb_from_iff, ltb-false, le-ltb}
 use Rattle.std.proofs.lemmas.Bool.Decides.{nat_tests}
 use Rattle.std.proofs.lemmas.List.{length-take, length-take-le, get_or-take, get_or-drop, drop-drop, drop-take, take-take}
 use Rattle.std.proofs.lemmas.List.Edits.{length-between, get_or-between}
@@ -290,11 +290,11 @@ same-out format words p s parts m bound fit = record {
   behind = behind-test format words p s parts fit;
   stored =
       λ e q lt.
-      let behind : word_behind format words p parts ≤ s = lt-false s (word_behind format words p parts) e in
+      let behind : word_behind format words p parts ≤ s = ltb-false s (word_behind format words p parts) e in
       (stored-out format words p s parts q fit behind lt, stored-in format words p s parts q fit behind lt);
   filled =
       λ e.
-      let behind : word_behind format words p parts ≤ s = lt-false s (word_behind format words p parts) e in
+      let behind : word_behind format words p parts ≤ s = ltb-false s (word_behind format words p parts) e in
       (padding-out format words p s parts fit behind, padding-in format words p s parts fit behind);
 }
 
@@ -334,7 +334,7 @@ pass-none format words n parts m bound fit pass =
     inr (
       λ q lt e. both_ways (entry_breaks format words 0 parts m bound q) (pass.entries q lt) e,
       match-false (nat_lt n (word_behind format words 0 parts)) ⊥ (PartsAt format words 0 parts (λ k q. ⊥) (Unit {0}))
-          (false-lt n (word_behind format words 0 parts) (omega (arith, pass.within, fit)))
+          (le-ltb n (word_behind format words 0 parts) (omega (arith, pass.within, fit)))
           (inr (λ q lt missing. missing (pass.stored q lt), inr (λ ones. ones pass.filled, tt))),
     )
 

@@ -1,7 +1,7 @@
 use Rattle.std.proofs.Common.{◌≡◌, ℕ, zero, suc, ◌+◌, ◌-◌, ◌*◌, ◌/◌, ◌%◌, ◌<◌, ◌≤◌, Bool, true, false, List, [], ◌∷◌, ◌++◌, length, take, drop, replicate, get_or, refl, inl, inr, sym, ap, ◌∙◌, subst, arith}
 use Rattle.std.specs.Prelude.{◌||◌, ◌&&◌, ◌==◌, not, nat_le, nat_lt, MatchBool}
 use Rattle.std.specs.List.{All}
-use Rattle.std.proofs.lemmas.Bool.{both_ways, not-false, or_parts as or-none, or_from as or-both, leb-false as le-false, ltb-false as lt-false, lt-leb as false-le, le-ltb as false-lt, eqb-true as same-true, eq-eqb as true-same, not_from_true as false-not}
+use Rattle.std.proofs.lemmas.Bool.{both_ways, not-false, or_parts, or_from, leb-false, ltb-false, lt-leb, le-ltb, eqb-true, eq-eqb, not_from_true}
 use Rattle.std.proofs.lemmas.Bool.Decides.{nat_tests}
 use Rattle.std.proofs.lemmas.List.{length-replicate, get_or-append_right, get_or_append_left, get_or-replicate, length-take-le}
 use Rattle.collection_model.specs.FormatNumbers.{FormatNumbers, entry_words}
@@ -28,7 +28,7 @@ and-false true b h k = not-false b h
 and-false false b h k = cc
 
 false-and : (a b : Bool) → (a ≡ true → b ≡ true) → (a && not b) ≡ false
-false-and true b h = false-not b (h refl)
+false-and true b h = not_from_true b (h refl)
 false-and false b h = refl
 
 -- an entry that follows what is before it
@@ -51,20 +51,20 @@ follows-from m bound before past bits is_last end last offset h =
     let e = nat_lt (last + 1 - past) (end - before) in
     let f = not (offset == bits) in
     let g = is_last && not (end == m) in
-    let g7 = or-none (a || b || c || d || e || f) g h in
-    let g6 = or-none (a || b || c || d || e) f g7.0 in
-    let g5 = or-none (a || b || c || d) e g6.0 in
-    let g4 = or-none (a || b || c) d g5.0 in
-    let g3 = or-none (a || b) c g4.0 in
-    let g2 = or-none a b g3.0 in
+    let g7 = or_parts (a || b || c || d || e || f) g h in
+    let g6 = or_parts (a || b || c || d || e) f g7.0 in
+    let g5 = or_parts (a || b || c || d) e g6.0 in
+    let g4 = or_parts (a || b || c) d g5.0 in
+    let g3 = or_parts (a || b) c g4.0 in
+    let g2 = or_parts a b g3.0 in
     record {
-      up = le-false end before g2.0;
-      within = lt-false m end g2.1;
-      below = le-false bound last g3.1;
-      above = lt-false last past g4.1;
-      room = lt-false (last + 1 - past) (end - before) g5.1;
-      offsets = same-true offset bits (not-false (offset == bits) g6.1);
-      whole = λ k. same-true end m (and-false is_last (end == m) g7.1 k);
+      up = leb-false end before g2.0;
+      within = ltb-false m end g2.1;
+      below = leb-false bound last g3.1;
+      above = ltb-false last past g4.1;
+      room = ltb-false (last + 1 - past) (end - before) g5.1;
+      offsets = eqb-true offset bits (not-false (offset == bits) g6.1);
+      whole = λ k. eqb-true end m (and-false is_last (end == m) g7.1 k);
     }
 
 pub follows-test : (m bound before past bits : ℕ) (is_last : Bool) (end last offset : ℕ) → Follows m bound before past bits is_last end last offset
@@ -77,15 +77,15 @@ follows-test m bound before past bits is_last end last offset h =
     let e = nat_lt (last + 1 - past) (end - before) in
     let f = not (offset == bits) in
     let g = is_last && not (end == m) in
-    or-both (a || b || c || d || e || f) g
-    (or-both (a || b || c || d || e) f
-    (or-both (a || b || c || d) e
-    (or-both (a || b || c) d
-    (or-both (a || b) c (or-both a b (false-le end before h.up) (false-lt m end h.within)) (false-le bound last h.below))
-    (false-lt last past h.above))
-    (false-lt (last + 1 - past) (end - before) h.room))
-    (false-not (offset == bits) (true-same offset bits h.offsets)))
-    (false-and is_last (end == m) (λ k. true-same end m (h.whole k)))
+    or_from (a || b || c || d || e || f) g
+    (or_from (a || b || c || d || e) f
+    (or_from (a || b || c || d) e
+    (or_from (a || b || c) d
+    (or_from (a || b) c (or_from a b (lt-leb end before h.up) (le-ltb m end h.within)) (lt-leb bound last h.below))
+    (le-ltb last past h.above))
+    (le-ltb (last + 1 - past) (end - before) h.room))
+    (not_from_true (offset == bits) (eq-eqb offset bits h.offsets)))
+    (false-and is_last (end == m) (λ k. eq-eqb end m (h.whole k)))
 
 -- entry q of the words follows the entries before it
 abbrev pub FollowsAt : FormatNumbers → List ℕ → ℕ → ℕ → ℕ → ℕ → Type 0
@@ -123,7 +123,7 @@ EntriesStep format words parts m bound check part =
     FirstOf (λ q. entry_breaks format words 0 parts m bound q ≡ true) parts (Found check part K7) (BehindStep format words parts check part)
 
 pub front-test : (format : FormatNumbers) (words : List ℕ) (parts m : ℕ) → parts_fit m parts ≡ true → entry_words format * parts ≤ length words → (not (parts_fit m parts) || nat_lt (length words) (entry_words format * parts)) ≡ false
-front-test format words parts m h k = or-both (not (parts_fit m parts)) (nat_lt (length words) (entry_words format * parts)) (false-not (parts_fit m parts) h) (false-lt (length words) (entry_words format * parts) k)
+front-test format words parts m h k = or_from (not (parts_fit m parts)) (nat_lt (length words) (entry_words format * parts)) (not_from_true (parts_fit m parts) h) (le-ltb (length words) (entry_words format * parts) k)
 
 pub no-fault : (format : FormatNumbers) (words : List ℕ) (parts m bound : ℕ) (check : Check) (part : ℕ) → PassChecks format words parts m bound → IsSequenceFault format words parts m bound check part → ⊥
 no-fault format words parts m bound check part fit h =
@@ -133,7 +133,7 @@ no-fault format words parts m bound check part fit h =
       | inl (q, lt, breaks, before, found) ↦ both_ways (entry_breaks format words 0 parts m bound q) (fit.entries q lt) breaks
       | inr (none, later) ↦
           let parts_step : PartsStep format words parts check part =
-          unmatch (nat_lt (length words) (word_behind format words 0 parts)) (Found check part K7 parts) (PartsStep format words parts check part) (false-lt (length words) (word_behind format words 0 parts) fit.within) later in
+          unmatch (nat_lt (length words) (word_behind format words 0 parts)) (Found check part K7 parts) (PartsStep format words parts check part) (le-ltb (length words) (word_behind format words 0 parts) fit.within) later in
           elim parts_step [
             | inl (q, lt, missing, before, found) ↦ missing (fit.stored q lt)
             | inr (none, later) ↦ elim later [ inl (ones, found) ↦ ones fit.filled | inr (zeros, nothing) ↦ nothing ]
@@ -174,7 +174,7 @@ entry-follows format laws words xs v bound below base parts q i end ends count h
       offsets = k.offsets;
       whole =
           λ t.
-          let last : q + 1 ≡ parts = same-true (q + 1) parts t in
+          let last : q + 1 ≡ parts = eqb-true (q + 1) parts t in
           k.ends ∙ last-end end (length xs) ends (omega (arith, last, count)) h.parts.1;
     }
 

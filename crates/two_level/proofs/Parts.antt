@@ -21,7 +21,7 @@ use Rattle.two_level.specs.declared.part.Part.{Part}
 use Rattle.part_cost.proofs.Partitions.{ends-within}
 use Rattle.two_level.proofs.Lengths.{PartLaws, AreValues, length-sequence}
 use Rattle.two_level.proofs.Stated.{EntryIs, StandsFrom, past-part, past-bounded, entry-is, stands-next, payload-all, holds-part, values-of, stands-whole}
-use Rattle.std.proofs.lemmas.Bool.{eq-eqb as true-same}
+use Rattle.std.proofs.lemmas.Bool.{eq-eqb}
 use Rattle.two_level.proofs.Follows.{fits-begun, some-parts, follows-at}
 use Rattle.two_level.proofs.Entries.{payload-rises, bits-next}
 
@@ -147,7 +147,7 @@ end-before-next format words q = ap (end_before format words 0) (add-one q)
 
 end-whole : (format : FormatNumbers) (words : List ℕ) (parts m bound : ℕ) → PassChecks format words parts m bound → (ends : List ℕ) → (length ends ≡ 0 → m ≡ 0) → length ends ≡ parts → end_before format words 0 parts ≡ m
 end-whole format words zero m bound pass ends none count = sym (none count)
-end-whole format words (suc q) m bound pass ends none count = (follows-at format words (suc q) m bound q (pass.entries q (omega arith))).whole (true-same (q + 1) (suc q) (omega arith))
+end-whole format words (suc q) m bound pass ends none count = (follows-at format words (suc q) m bound q (pass.entries q (omega arith))).whole (eq-eqb (q + 1) (suc q) (omega arith))
 
 -- the values that stand where a part is said to stand
 pub held-here : (format : FormatNumbers) (words xs : List ℕ) (parts q from past last to offset : ℕ) → StatesPart format words xs parts q → from ≡ end_before format words 0 q → past ≡ past_before format words 0 q

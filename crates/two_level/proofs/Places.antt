@@ -2,7 +2,7 @@ use Rattle.std.proofs.Common.{◌≡◌, ℕ, zero, suc, ◌+◌, ◌-◌, ◌<�
 use Rattle.std.specs.Prelude.{nat_le, not}
 use Rattle.std.specs.List.{position_or_len}
 use Rattle.std.specs.List.Sorted.{IsStrictlyIncreasing}
-use Rattle.std.proofs.lemmas.Bool.{cases_lt, leb-false as le-false, lt-leb as false-le}
+use Rattle.std.proofs.lemmas.Bool.{cases_lt, leb-false, lt-leb}
 use Rattle.std.proofs.lemmas.Bool.Decides.{nat_tests}
 use Rattle.std.proofs.lemmas.List.{length-drop, get_or-drop}
 use Rattle.std.proofs.lemmas.List.Sums.{position_or_len_is, fails_before_first, passes_at_first, prefix_len-le-length}
@@ -33,7 +33,7 @@ found-place xs place at x le fit before reached =
     (λ k lt.
     let less = before (place + k) (omega arith) (omega (arith, lt)) in
     let here : get_or (drop place xs) k 0 ≡ slice_index xs (place + k) = get_or-drop place xs k 0 in
-    false-le x (get_or (drop place xs) k 0) (omega (arith, here, less)))
+    lt-leb x (get_or (drop place xs) k 0) (omega (arith, here, less)))
     (λ lt.
     let most = reached (omega (arith, lt, length-drop place xs)) in
     let here : get_or (drop place xs) (at - place) 0 ≡ slice_index xs (place + (at - place)) = get_or-drop place xs (at - place) 0 in
@@ -57,7 +57,7 @@ later-place xs place from x le fit before =
     elim (cases_lt k from) [
       | inl less ↦ before k after less
       | inr more ↦
-          let small = le-false x (get_or rest (k - from) 0) (fails_before_first (λ y. nat_le x y) rest (k - from) 0 (omega (arith, lt, more))) in
+          let small = leb-false x (get_or rest (k - from) 0) (fails_before_first (λ y. nat_le x y) rest (k - from) 0 (omega (arith, lt, more))) in
           let same : slice_index xs (from + (k - from)) ≡ slice_index xs k = ap (slice_index xs) (let e : from + (k - from) ≡ k = omega (arith, more) in e) in
           omega (arith, small, here (k - from), same)
     ])
@@ -111,7 +111,7 @@ pub place-before : (xs : List ℕ) (from x : ℕ) → from < place_at_least xs f
 place-before xs from x lt =
     let rest : List ℕ = drop from xs in
     let n : ℕ = position_or_len (λ y. nat_le x y) rest in
-    let small = le-false x (get_or rest (n - 1) 0) (fails_before_first (λ y. nat_le x y) rest (n - 1) 0 (omega (arith, lt))) in
+    let small = leb-false x (get_or rest (n - 1) 0) (fails_before_first (λ y. nat_le x y) rest (n - 1) 0 (omega (arith, lt))) in
     let here : get_or rest (n - 1) 0 ≡ slice_index xs (from + (n - 1)) = get_or-drop from xs (n - 1) 0 in
     let same : slice_index xs (from + (n - 1)) ≡ slice_index xs (from + n - 1) = ap (slice_index xs) (let e : from + (n - 1) ≡ from + n - 1 = omega (arith, lt) in e) in
     omega (arith, small, here, same)

@@ -13,7 +13,7 @@ use part_cost::{Format, formats_have_room, payload_bits};
 // Where a part stands: the places of its first value and behind its last, one past the value before it, its last value,
 // and the payload bits before it.
 #[derive(Clone, Copy)]
-pub(crate) struct Stretch {
+pub(crate) struct StatedPart {
     pub(crate) from: u64,
     pub(crate) to: u64,
     pub(crate) past: u64,
@@ -37,7 +37,7 @@ fn before_part(words: &[u64], part: u32, format: Format) -> (u64, u64)
 }
 
 // Where a part of the sequence with which the words begin stands.
-pub(crate) fn stretch_at(words: &[u64], parts: u32, part: u32, format: Format) -> Stretch
+pub(crate) fn stated_part(words: &[u64], parts: u32, part: u32, format: Format) -> StatedPart
     requires begun { (m : ℕ) × BeginWith words.now parts m (sequence_stated (numbers_of format) words.now parts) }
     requires within { part < parts }
     ensures from { result.from ≡ end_before (numbers_of format) words.now 0 part }
@@ -56,7 +56,7 @@ pub(crate) fn stretch_at(words: &[u64], parts: u32, part: u32, format: Format) -
     formats_have_room();
     let entry = entry_at(words, part, format);
     let (from, past) = before_part(words, part, format);
-    Stretch {
+    StatedPart {
         from,
         to: entry.end,
         past,
@@ -75,7 +75,7 @@ fn payload_taken(words: &[u64], parts: u32, format: Format) -> u64
     if parts == 0 {
         0
     } else {
-        let last = stretch_at(words, parts, parts - 1, format);
+        let last = stated_part(words, parts, parts - 1, format);
         last.offset + payload_bits(last.last + 1 - last.past, last.to - last.from)
     }
 }
@@ -98,12 +98,12 @@ pub(crate) fn part_at(words: &[u64], parts: u32, part: u32, format: Format) -> P
     ensures { IsPartOf (sequence_stated (numbers_of format) words.now parts) part result }
 {
     directory_states_its_parts();
-    let stretch = stretch_at(words, parts, part, format);
+    let stated = stated_part(words, parts, part, format);
     Part {
-        from: stretch.from as u32,
-        to: stretch.to as u32,
-        last: stretch.last,
-        u: stretch.last + 1 - stretch.past,
+        from: stated.from as u32,
+        to: stated.to as u32,
+        last: stated.last,
+        u: stated.last + 1 - stated.past,
     }
 }
 

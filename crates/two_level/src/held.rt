@@ -9,7 +9,7 @@ ghost use Rattle.two_level.specs.declared.held.HeldValue.{HeldValue};
 
 use crate::directory::part_reaching;
 use crate::entry::directory_bits;
-use crate::finding::{part_of_place, stretch_at};
+use crate::finding::{part_of_place, stated_part};
 use crate::laws::directory_states_its_parts;
 use bit_words::Bits;
 use part_codec::{PartCodec, PartView};
@@ -182,19 +182,19 @@ pub(crate) fn hold<'a>(words: &'a [u64], parts: u32, part: u32, format: Format) 
 {
     directory_states_its_parts();
     formats_have_room();
-    let stretch = stretch_at(words, parts, part, format);
+    let stated = stated_part(words, parts, part, format);
     let view = PartView::at(
         Bits { words },
-        directory_bits(parts, format) + stretch.offset,
-        stretch.last + 1 - stretch.past,
-        stretch.to - stretch.from,
+        directory_bits(parts, format) + stated.offset,
+        stated.last + 1 - stated.past,
+        stated.to - stated.from,
     );
     HeldPart {
         index: part,
-        from: stretch.from,
-        to: stretch.to,
-        past: stretch.past,
-        last: stretch.last,
+        from: stated.from,
+        to: stated.to,
+        past: stated.past,
+        last: stated.last,
         view,
     }
 }

@@ -1,4 +1,4 @@
-// Sequences in parts, with a directory of the parts.
+//! Sequences in parts, with a directory of the parts.
 #![tactic(auto)]
 
 mod check;

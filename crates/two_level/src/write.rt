@@ -1,4 +1,4 @@
-ghost use Rattle.std.specs.Prelude.{◌≡◌, ℕ, ◌+◌, ◌<◌, ◌≤◌, ◌^◌, [], ◌∷◌, ◌++◌, length, OnOk, OnErr};
+ghost use Rattle.std.specs.Prelude.{◌≡◌, ℕ, ◌+◌, ◌<◌, ◌≤◌, ◌^◌, ◌++◌, length, OnOk, OnErr};
 ghost use Rattle.std.specs.List.{All};
 ghost use Rattle.std.specs.List.Sorted.{IsStrictlyIncreasing};
 ghost use Rattle.bit_words.specs.Bits.{words_of, AppendsBits};
@@ -66,17 +66,6 @@ fn append_seq(
     push_payload(alloc, values, ends, to)
 }
 
-// Appends a word.
-fn push(words: &mut Vec<u64>, word: u64) -> Result<(), NoMemory>
-    ensures ok { OnOk result (words.new.items ≡ words.old.items ++ word ∷ []) }
-    ensures err { OnErr result (words.new.items ≡ words.old.items) }
-{
-    match words.push(word) {
-        Ok(()) => Ok(()),
-        Err(_) => Err(NoMemory),
-    }
-}
-
 // Appends the words of an entry: the last value and the end share a word where the format packs them.
 fn push_entry(words: &mut Vec<u64>, part: Entry, format: Format) -> Result<(), NoMemory>
     requires last { part.last < (numbers_of format).most_sum }
@@ -85,13 +74,13 @@ fn push_entry(words: &mut Vec<u64>, part: Entry, format: Format) -> Result<(), N
     ensures err { OnErr result (Extends words.old.items words.new.items) }
 {
     match format {
-        Format::One => push(words, part.last + format.most_sum() * part.end)?,
-        Format::Two => {
-            push(words, part.last)?;
-            push(words, part.end)?;
+        Format::One => {
+            let packed = part.last + format.most_sum() * part.end;
+            words.extend_from_slice(&[packed, part.offset])?;
         }
+        Format::Two => words.extend_from_slice(&[part.last, part.end, part.offset])?,
     }
-    push(words, part.offset)
+    Ok(())
 }
 
 // One more than the value before a place, 0 at the start.
@@ -131,7 +120,7 @@ fn fill_part(values: &[u64], from: u64, end: u64, part: &mut Vec<u64>) -> Result
     let past = past_value(values, from);
     part.clear();
     for value in &values[from as usize..end as usize] {
-        push(part, *value - past)?;
+        part.push(*value - past).map_err(|_| NoMemory)?;
     }
     Ok(())
 }

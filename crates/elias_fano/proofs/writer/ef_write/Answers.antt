@@ -1,10 +1,10 @@
-use Rattle.std.proofs.Common.{◌≡◌, ℕ, ◌+◌, List, ◌++◌, length, sym, ap, ◌∙◌, subst, arith}
+use Rattle.std.proofs.Common.{◌≡◌, ℕ, ◌+◌, ◌^◌, ◌≤◌, List, ◌++◌, length, sym, ap, ◌∙◌, subst, arith}
 use Rattle.std.proofs.lemmas.List.{length-append}
 use Rattle.std.proofs.lemmas.Result.{on_ok_weaker, on_err_weaker}
 use Rattle.bit_words.specs.Bits.{AppendsBits}
 use Rattle.bit_words.proofs.Fronts.{appends-front, appends-behind, appends-both}
 use Rattle.bit_words.proofs.Outcomes.{on-err}
-use Rattle.part_cost.specs.Payload.{low_width_of}
+use Rattle.part_cost.specs.Payload.{widest_low, low_width_of}
 use Rattle.part_cost.specs.Span.{past, AreRelative}
 use Rattle.elias_fano.specs.EfBits.{high_bits, low_fields, ef_samples, ef_bits}
 use Rattle.part_cost.proofs.Parts.{past-is}
@@ -60,6 +60,20 @@ returns-in_err-write_low_fields-clause-err g c =
     (subst (λ xs. AppendsBits c.args.to.now c.write_low_fields.new.to xs) (sym (whole g.row.Q c.args.u l ys c.low_width-low.ensures.value))
     (appends-front c.args.to.now c.write_low_fields.new.to (high_bits l c.args.u ys ++ low_fields l ys) (ef_samples g.row.Q l ys)
     (appends-behind c.args.to.now c.write_high_bits.new.to c.write_low_fields.new.to (high_bits l c.args.u ys) (low_fields l ys) (highs c.args.u c.low_width-low.result c.args.to.now c.write_high_bits.new.to c.args.values.now c.requires.values c.in_ok-write_high_bits.ensures.ok) c.in_err-write_low_fields.ensures.err)))
+
+pub write_samples-requires-clause-values : goal.write_samples-requires-clause-values
+write_samples-requires-clause-values g c =
+    let ys = c.args.values.now in
+    subst (λ v. AreRelative v (length ys) ys) (sym (past-is c.args.u ys c.requires.values)) c.requires.values
+
+pub write_samples-requires-clause-in_range : goal.write_samples-requires-clause-in_range
+write_samples-requires-clause-in_range g c =
+    subst (λ v. v ≤ 2 ^ widest_low) (sym (past-is c.args.u c.args.values.now c.requires.values)) c.requires.in_range
+
+pub write_samples-requires-clause-low : goal.write_samples-requires-clause-low
+write_samples-requires-clause-low g c =
+    let ys = c.args.values.now in
+    subst (λ v. c.low_width-low.result ≡ low_width_of v (length ys)) (sym (past-is c.args.u ys c.requires.values)) c.low_width-low.ensures.value
 
 pub write_samples-requires-clause-room : goal.write_samples-requires-clause-room
 write_samples-requires-clause-room g c =

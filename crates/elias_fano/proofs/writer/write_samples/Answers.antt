@@ -1,5 +1,6 @@
 use Rattle.std.proofs.Common.{◌+◌, ◌-◌, ◌*◌, ◌^◌, ◌<◌, length, sym, subst, arith}
 use Rattle.std.proofs.Math.Nat.{div-le_self}
+use Rattle.part_cost.specs.Span.{past}
 use Rattle.elias_fano.proofs.Rising.{place-within, relative-fit}
 use Rattle.part_cost.proofs.Numbers.{sampled-within}
 use Rattle.bit_words.proofs.Outcomes.{on-err}
@@ -9,9 +10,10 @@ use Rattle.elias_fano.proofs.writer.write_samples.Goals as goal
 pub overflow_add-values : goal.overflow_add-values
 overflow_add-values g c =
     let ys = c.args.values.now in
+    let u = past ys (length ys) in
     let k = g.row.Q * (c.loop-j.j + 1) in
     let within = sampled-within g.row.Q (length ys) c.loop-j.j c.requires.spacing (omega (arith, c.requires.values.some)) c.loop-j-test.true in
-    omega (arith, place-within c.args.u (length ys) c.args.low ys c.requires.values (g.row.Q * (c.loop-j.j + 1)) within, relative-fit c.args.u (length ys) ys c.requires.values, div-le_self (c.args.u - 1) (2 ^ c.args.low), c.requires.in_range)
+    omega (arith, place-within u (length ys) c.args.low ys c.requires.values (g.row.Q * (c.loop-j.j + 1)) within, relative-fit u (length ys) ys c.requires.values, div-le_self (u - 1) (2 ^ c.args.low), c.requires.in_range)
 
 pub put-requires-clause-room : goal.put-requires-clause-room
 put-requires-clause-room g c =

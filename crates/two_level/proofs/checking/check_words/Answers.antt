@@ -1,7 +1,7 @@
 use Rattle.std.proofs.Common.{◌≡◌, ℕ, ◌+◌, ◌*◌, ◌<◌, ◌≤◌, true, false, List, length, Result, Ok, Err, inl, inr, refl, subst, rules}
 use Rattle.std.specs.Prelude.{◌||◌, not, nat_lt}
 use Rattle.std.specs.Result.{IfErr}
-use Rattle.std.proofs.lemmas.Bool.{both_ways, le-ltb as false-lt}
+use Rattle.std.proofs.lemmas.Bool.{both_ways, le-ltb}
 use Rattle.std.proofs.lemmas.Result.{IfErr-weaker}
 use Rattle.collection_model.specs.FormatNumbers.{FormatNumbers, entry_words}
 use Rattle.part_cost.specs.Formats.{numbers_of}
@@ -23,7 +23,7 @@ behind-entries format words parts m bound check part fit room entries within ste
     (inr (
       (λ q lt t. both_ways (entry_breaks format words 0 parts m bound q) (entries q lt) t),
       match-false (nat_lt (length words) (word_behind format words 0 parts)) (Found check part K7 parts) (PartsStep format words parts check part)
-          (false-lt (length words) (word_behind format words 0 parts) within) step,
+          (le-ltb (length words) (word_behind format words 0 parts) within) step,
     ))
 
 -- a part that is not stored, where all before it are

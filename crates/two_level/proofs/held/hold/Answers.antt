@@ -14,8 +14,8 @@ pub returns-clause-held : goal.returns-clause-held
 returns-clause-held c =
     let d = c.directory_states_its_parts.ensures c.args.format c.args.words.now c.args.parts c.requires.begun.0 c.requires.begun.1 in
     let p = d.part c.args.part c.requires.within in
-    let s = c.stretch_at-stretch.ensures in
-    let r = c.stretch_at-stretch.result in
+    let s = c.stated_part-stated.ensures in
+    let r = c.stated_part-stated.result in
     let xs = (sequence_stated (numbers_of c.args.format) c.args.words.now c.args.parts).values in
     let here = held-here (numbers_of c.args.format) c.args.words.now xs c.args.parts c.args.part r.from r.past r.last r.to r.offset p s.from s.past s.last s.to s.offset in
     let held =

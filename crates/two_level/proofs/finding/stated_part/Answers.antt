@@ -1,7 +1,7 @@
 use Rattle.std.proofs.Common.{◌∙◌, arith}
 use Rattle.part_cost.specs.Formats.{numbers_of}
 use Rattle.two_level.proofs.Lengths.{entry-within}
-use Rattle.two_level.proofs.finding.stretch_at.Goals as goal
+use Rattle.two_level.proofs.finding.stated_part.Goals as goal
 
 pub entry_at-entry-requires : goal.entry_at-entry-requires
 entry_at-entry-requires c =
