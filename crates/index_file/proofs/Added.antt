@@ -12,7 +12,7 @@ use Rattle.part_cost.specs.declared.formats.Format.{Format}
 use Rattle.part_cost.specs.Formats.{numbers_of, HasRoom}
 use Rattle.part_cost.specs.Span.{cost_of_part}
 use Rattle.part_cost.specs.Partition.{IsPartition, IsNear, partition_cost}
-use Rattle.part_cost.proofs.Partitions.{few-parts as ends-few}
+use Rattle.part_cost.proofs.Partitions.{few-parts}
 use Rattle.two_level.specs.Laws.{TakesItsCost}
 use Rattle.postings.specs.Laws.{SequencesRise}
 use Rattle.collection_model.proofs.Sequences.{sums-length}
@@ -22,7 +22,7 @@ use Rattle.index_file.proofs.Lengths.{words-more, directory-more, directory-leng
 
 -- a partition has at most as many parts as numbers
 pub parts-few : (n : ℕ) (ends : List ℕ) → IsPartition n ends → length ends ≤ n
-parts-few n ends h = omega (arith, ends-few 0 n ends h)
+parts-few n ends h = omega (arith, few-parts 0 n ends h)
 
 pub parts-some : (n : ℕ) (ends : List ℕ) → IsPartition n ends → 0 < n → 0 < length ends
 parts-some n [] h some = omega (arith, h)

@@ -1,25 +1,22 @@
 -- The list of all documents, each once: it is a posting list of every format.
-use Rattle.std.proofs.Common.{◌≡◌, sym, ap, subst, ◌∙◌, ℕ, zero, suc, ◌+◌, ◌^◌, ◌<◌, ◌≤◌, List, [], ◌∷◌, ◌++◌, length, replicate, arith}
+use Rattle.std.proofs.Common.{◌≡◌, sym, ap, subst, ◌∙◌, ℕ, ◌+◌, ◌^◌, ◌<◌, ◌≤◌, List, [], ◌∷◌, ◌++◌, length, replicate, arith}
 use Rattle.std.specs.List.{All, sum, range_with_len}
 use Rattle.std.specs.List.Sorted.{IsStrictlyIncreasing}
-use Rattle.std.proofs.lemmas.List.{length-replicate}
+use Rattle.std.proofs.lemmas.List.{length-replicate, map-id}
 use Rattle.std.proofs.lemmas.List.Elements.{All-from_get_or, All-replicate}
-use Rattle.std.proofs.lemmas.List.FromFn.{length-range_with_len, get_or-range_with_len}
+use Rattle.std.proofs.lemmas.List.FromFn.{length-range_with_len, map-range_with_len_more, get_or-range_with_len}
 use Rattle.std.proofs.lemmas.List.Folds.{sum_by-replicate}
 use Rattle.collection_model.specs.FormatNumbers.{FormatNumbers}
 use Rattle.collection_model.specs.Collection.{docs_of, freqs_of, postings_of, IsPostingList}
-use Rattle.part_cost.proofs.Numbers.{rising-range as range-rises}
+use Rattle.part_cost.proofs.Numbers.{rising-range}
 use Rattle.collection_model.proofs.Lists.{docs-of_postings, freqs-of_postings}
 use Rattle.part_cost.specs.Formats.{HasRoom}
-
-range-more : (a n : ℕ) → range_with_len a (suc n) ≡ range_with_len a n ++ (a + n) ∷ []
-range-more a zero = ap (λ k. k ∷ []) (let e : a ≡ a + 0 = omega arith in e)
-range-more a (suc n) = ap (λ xs. a ∷ xs) (range-more (a + 1) n ∙ ap (λ k. range_with_len (a + 1) n ++ k ∷ []) (let e : a + 1 + n ≡ a + suc n = omega arith in e))
 
 -- one document more
 pub documents-more : (n : ℕ) → range_with_len 0 (n + 1) ≡ range_with_len 0 n ++ n ∷ []
 documents-more n =
-    ap (range_with_len 0) (let e : n + 1 ≡ suc n = omega arith in e) ∙ range-more 0 n ∙ ap (λ k. range_with_len 0 n ++ k ∷ []) (let e : 0 + n ≡ n = omega arith in e)
+    let e : 0 + n ≡ n = omega arith in
+    sym (map-id (range_with_len 0 (n + 1))) ∙ map-range_with_len_more (λ k. k) 0 n n e ∙ ap (λ ds. ds ++ n ∷ []) (map-id (range_with_len 0 n))
 
 pub every-list : (format : FormatNumbers) (room : HasRoom format) (n : ℕ) → n ≤ format.most_documents → IsPostingList format n (postings_of (range_with_len 0 n) (replicate n 1))
 every-list format room n few =
@@ -30,7 +27,7 @@ every-list format room n few =
     let docs_are : docs ≡ docs_of (postings_of docs freqs) = sym (docs-of_postings docs freqs same) in
     let freqs_are : freqs ≡ freqs_of (postings_of docs freqs) = sym (freqs-of_postings docs freqs same) in
     record {
-      rising = subst IsStrictlyIncreasing docs_are (range-rises n);
+      rising = subst IsStrictlyIncreasing docs_are (rising-range n);
       in_range = subst (All (λ d. d < n)) docs_are (All-from_get_or (λ d. d < n) docs 0 (λ k within. omega (arith, count, get_or-range_with_len 0 n k 0 (omega arith))));
       not_zero = subst (All (λ f. 1 ≤ f)) freqs_are (All-replicate (λ f. 1 ≤ f) n 1 (omega arith));
       fit = subst (All (λ f. f < 2 ^ 32)) freqs_are (All-replicate (λ f. f < 2 ^ 32) n 1 (omega arith));

@@ -10,7 +10,7 @@ use Rattle.index_file.specs.FileWords.{CutList, opening_magic, end_magic, lists_
 use Rattle.index_file.specs.FirstBroken.{stated_documents, stated_terms, stated_sizes, directory_word}
 use Rattle.index_file.specs.ListAt.{HasFrame}
 use Rattle.index_file.proofs.Fronts.{front-of, rest-of, joined, word-of, four-words}
-use Rattle.index_file.proofs.Lengths.{directory-length as length-directory, sizes-length as length-sizes}
+use Rattle.index_file.proofs.Lengths.{directory-length, sizes-length}
 
 -- the low or the high half of a word
 abbrev pub half_of : Bool → ℕ → ℕ
@@ -94,10 +94,10 @@ words-of format words n cs xs frame docs count terms sizes hl hz hd =
     let s1 : take (length (a ++ l)) words ≡ a ++ l = joined a l words (two-words words opening_magic format.version (omega (arith, frame.some)) frame.opening frame.version) hl in
     let len1 : length (a ++ l) ≡ stated_sizes words = omega (arith, length-append a l, sizes) in
     let s2 : take (length (a ++ l ++ z)) words ≡ a ++ l ++ z = joined (a ++ l) z words s1 (ap (λ i. take (length z) (drop i words)) len1 ∙ hz) in
-    let len2 : length (a ++ l ++ z) ≡ directory_word words = omega (arith, length-append (a ++ l) z, len1, length-sizes xs, count, docs) in
+    let len2 : length (a ++ l ++ z) ≡ directory_word words = omega (arith, length-append (a ++ l) z, len1, sizes-length xs, count, docs) in
     let s3 : take (length (a ++ l ++ z ++ d)) words ≡ a ++ l ++ z ++ d =
-    joined (a ++ l ++ z) d words s2 (ap (λ i. take (length d) (drop i words)) len2 ∙ ap (λ i. take i (drop (directory_word words) words)) (length-directory format 2 cs) ∙ hd) in
-    let len3 : length (a ++ l ++ z ++ d) ≡ end = omega (arith, length-append (a ++ l ++ z) d, len2, length-directory format 2 cs, frame.whole, terms) in
+    joined (a ++ l ++ z) d words s2 (ap (λ i. take (length d) (drop i words)) len2 ∙ ap (λ i. take i (drop (directory_word words) words)) (directory-length format 2 cs) ∙ hd) in
+    let len3 : length (a ++ l ++ z ++ d) ≡ end = omega (arith, length-append (a ++ l ++ z) d, len2, directory-length format 2 cs, frame.whole, terms) in
     let four : take 4 (drop end words) ≡ e =
     four-words words end n (length cs) (2 + length l) end_magic (omega (arith, frame.some)) (ap (slice_index words) (let k : end + 0 ≡ length words - 4 = omega arith in k) ∙ docs)
     (ap (slice_index words) (let k : end + 1 ≡ length words - 3 = omega (arith, frame.some) in k) ∙ terms)
@@ -136,8 +136,8 @@ laid-of format words n cs xs few most count same =
     let t0 : take 2 words ≡ a = front-of a l words t1 in
     let tl : take (length l) (drop 2 words) ≡ l = rest-of a l words t1 in
     let len1 : length (a ++ l) ≡ 2 + length l = length-append a l in
-    let len2 : length (a ++ l ++ z) ≡ 2 + length l + (n + 1) / 2 = omega (arith, length-append (a ++ l) z, len1, length-sizes xs, count) in
-    let len3 : length (a ++ l ++ z ++ d) ≡ 2 + length l + (n + 1) / 2 + 4 * length cs = omega (arith, length-append (a ++ l ++ z) d, len2, length-directory format 2 cs) in
+    let len2 : length (a ++ l ++ z) ≡ 2 + length l + (n + 1) / 2 = omega (arith, length-append (a ++ l) z, len1, sizes-length xs, count) in
+    let len3 : length (a ++ l ++ z ++ d) ≡ 2 + length l + (n + 1) / 2 + 4 * length cs = omega (arith, length-append (a ++ l ++ z) d, len2, directory-length format 2 cs) in
     let len4 : length words ≡ length (a ++ l ++ z ++ d) + 4 = ap length same ∙ length-append (a ++ l ++ z ++ d) e in
     let docs : stated_documents words ≡ n =
     ap (slice_index words) (let k : length words - 4 ≡ length (a ++ l ++ z ++ d) + 0 = omega (arith, len4) in k) ∙ word-of words (length x3) 0 n e te (omega arith) refl in
@@ -165,6 +165,6 @@ laid-of format words n cs xs few most count same =
       lists_at = tl;
       sizes_at = ap (λ i. take (length z) (drop i words)) (let k : stated_sizes words ≡ length (a ++ l) = omega (arith, sizes, len1) in k) ∙ tz;
       directory_at =
-          ap (λ i. take i (drop (directory_word words) words)) (sym (length-directory format 2 cs))
+          ap (λ i. take i (drop (directory_word words) words)) (sym (directory-length format 2 cs))
           ∙ ap (λ i. take (length d) (drop i words)) (let k : directory_word words ≡ length (a ++ l ++ z) = omega (arith, sizes, halved, len2) in k) ∙ td;
     }

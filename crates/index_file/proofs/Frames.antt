@@ -1,6 +1,6 @@
 -- Lemmas on the frame of a file.
 use Rattle.std.proofs.Common.{◌≡◌, ℕ, ◌+◌, ◌-◌, ◌*◌, ◌/◌, Bool, true, false, List, length, slice_index, refl, sym, subst}
-use Rattle.std.proofs.lemmas.Bool.{or_parts as or-none, or_from as or-both, ltb-false as lt-false, le-ltb as false-lt, eqb-true as same-true, eq-eqb as true-same, not-false, not_from_true as false-not}
+use Rattle.std.proofs.lemmas.Bool.{or_parts, or_from, ltb-false, le-ltb, eqb-true, eq-eqb, not-false, not_from_true}
 use Rattle.std.specs.Prelude.{Option, Some, None, not, ◌==◌, ◌||◌, nat_lt, if◌then◌else◌, MatchOption, MatchBool}
 use Rattle.collection_model.specs.FormatNumbers.{FormatNumbers, most_terms}
 use Rattle.two_level.specs.declared.check.Check.{Check}
@@ -38,18 +38,18 @@ frame-stands format words h =
     let b = nat_lt most_terms t in
     let d = nat_lt s 2 in
     let e = not (s + (n + 1) / 2 + 4 * t + 4 == count) in
-    let k3 = or-none (a || b || d) e g5.0 in
-    let k2 = or-none (a || b) d k3.0 in
-    let k1 = or-none a b k2.0 in
+    let k3 = or_parts (a || b || d) e g5.0 in
+    let k2 = or_parts (a || b) d k3.0 in
+    let k1 = or_parts a b k2.0 in
     record {
-      some = lt-false count 6 g1.0;
-      opening = same-true (slice_index words 0) opening_magic (not-false (slice_index words 0 == opening_magic) g2.0);
-      version = same-true (slice_index words 1) format.version (not-false (slice_index words 1 == format.version) g3.0);
-      closing = same-true (slice_index words (count - 1)) end_magic (not-false (slice_index words (count - 1) == end_magic) g4.0);
-      documents = lt-false format.most_documents n k1.0;
-      terms = lt-false most_terms t k1.1;
-      sizes = lt-false s 2 k2.1;
-      whole = same-true (s + (n + 1) / 2 + 4 * t + 4) count (not-false (s + (n + 1) / 2 + 4 * t + 4 == count) k3.1);
+      some = ltb-false count 6 g1.0;
+      opening = eqb-true (slice_index words 0) opening_magic (not-false (slice_index words 0 == opening_magic) g2.0);
+      version = eqb-true (slice_index words 1) format.version (not-false (slice_index words 1 == format.version) g3.0);
+      closing = eqb-true (slice_index words (count - 1)) end_magic (not-false (slice_index words (count - 1) == end_magic) g4.0);
+      documents = ltb-false format.most_documents n k1.0;
+      terms = ltb-false most_terms t k1.1;
+      sizes = ltb-false s 2 k2.1;
+      whole = eqb-true (s + (n + 1) / 2 + 4 * t + 4) count (not-false (s + (n + 1) / 2 + 4 * t + 4 == count) k3.1);
     }
 
 pub frame-none : (format : FormatNumbers) (words : List ℕ) → HasFrame format words → frame_broken format words ≡ None
@@ -66,15 +66,15 @@ frame-none format words h =
     let b = nat_lt most_terms t in
     let d = nat_lt s 2 in
     let e = not (s + (n + 1) / 2 + 4 * t + 4 == count) in
-    none-if (nat_lt count 6) K1 two (false-lt count 6 h.some)
-    (none-if (not (slice_index words 0 == opening_magic)) K2 three (false-not (slice_index words 0 == opening_magic) (true-same (slice_index words 0) opening_magic h.opening))
-    (none-if (not (slice_index words 1 == format.version)) K3 four (false-not (slice_index words 1 == format.version) (true-same (slice_index words 1) format.version h.version))
+    none-if (nat_lt count 6) K1 two (le-ltb count 6 h.some)
+    (none-if (not (slice_index words 0 == opening_magic)) K2 three (not_from_true (slice_index words 0 == opening_magic) (eq-eqb (slice_index words 0) opening_magic h.opening))
+    (none-if (not (slice_index words 1 == format.version)) K3 four (not_from_true (slice_index words 1 == format.version) (eq-eqb (slice_index words 1) format.version h.version))
     (none-if (not (slice_index words (count - 1) == end_magic)) K4 five
-    (false-not (slice_index words (count - 1) == end_magic) (true-same (slice_index words (count - 1)) end_magic h.closing))
+    (not_from_true (slice_index words (count - 1) == end_magic) (eq-eqb (slice_index words (count - 1)) end_magic h.closing))
     (none-if (numbers_break format n t s count) K5 None
-    (or-both (a || b || d) e
-    (or-both (a || b) d (or-both a b (false-lt format.most_documents n h.documents) (false-lt most_terms t h.terms)) (false-lt s 2 h.sizes))
-    (false-not (s + (n + 1) / 2 + 4 * t + 4 == count) (true-same (s + (n + 1) / 2 + 4 * t + 4) count h.whole)))
+    (or_from (a || b || d) e
+    (or_from (a || b) d (or_from a b (le-ltb format.most_documents n h.documents) (le-ltb most_terms t h.terms)) (le-ltb s 2 h.sizes))
+    (not_from_true (s + (n + 1) / 2 + 4 * t + 4 == count) (eq-eqb (s + (n + 1) / 2 + 4 * t + 4) count h.whole)))
     refl))))
 
 -- behind the longest front a list or the end breaks

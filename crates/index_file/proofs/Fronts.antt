@@ -13,8 +13,9 @@ use Rattle.index_file.specs.declared.fault.OpenFault.{OpenFault}
 use Rattle.index_file.specs.FileWords.{CutList, doc_words, freq_words, lists_words, list_entry, lists_directory}
 use Rattle.index_file.specs.FirstBroken.{stated_documents, stated_terms, stated_sizes, directory_word, IsFileFront, IsTermFault}
 use Rattle.index_file.specs.ListAt.{HasFrame, StandsAt, StandFrom, word_after, IsFirstListFault}
-use Rattle.index_file.proofs.Standing.{Below, stand-one, no-fault}
-use Rattle.index_file.proofs.Lengths.{directory-length as length-directory}
+use Rattle.index_file.specs.Laws.{SequenceLaws}
+use Rattle.index_file.proofs.Standing.{stand-one, no-fault}
+use Rattle.index_file.proofs.Lengths.{directory-length}
 
 -- where the front of a list is two pieces, each stands
 pub front-of : (a b ys : List ℕ) → take (length (a ++ b)) ys ≡ a ++ b → take (length a) ys ≡ a
@@ -80,7 +81,7 @@ pieces-rest format words t p c cs h =
     let two : take (length more) (drop (length (a ++ b)) (drop p words)) ≡ more = rest-of (a ++ b) more (drop p words) h.sequences in
     let entry : List ℕ = list_entry format p c in
     let rest : List ℕ = lists_directory format (word_after format p c) cs in
-    let whole : take (length (entry ++ rest)) (drop q words) ≡ entry ++ rest = ap (λ n. take n (drop q words)) (length-directory format p (c ∷ cs)) ∙ h.directory in
+    let whole : take (length (entry ++ rest)) (drop q words) ≡ entry ++ rest = ap (λ n. take n (drop q words)) (directory-length format p (c ∷ cs)) ∙ h.directory in
     record {
       lists = All-tail (IsListIn format words) c cs h.lists;
       doc_parts = All-tail HasDocParts c cs h.doc_parts;
@@ -88,7 +89,7 @@ pieces-rest format words t p c cs h =
       sequences = ap (take (length more)) (sym (behind-list format words p c)) ∙ two;
       within = omega (arith, h.within, length-lists format p c cs);
       directory =
-          ap (λ n. take n (drop (directory_word words + 4 * (t + 1)) words)) (sym (length-directory format (word_after format p c) cs))
+          ap (λ n. take n (drop (directory_word words + 4 * (t + 1)) words)) (sym (directory-length format (word_after format p c) cs))
           ∙ ap (λ n. take (length rest) (drop n words)) (let e : directory_word words + 4 * (t + 1) ≡ q + 4 = omega arith in e)
           ∙ ap (take (length rest)) (sym (drop-drop 4 q words)) ∙ rest-of entry rest (drop q words) whole;
     }
@@ -102,7 +103,7 @@ pieces-first format words t p c cs h =
     let pair : take (length (a ++ b)) (drop p words) ≡ a ++ b = front-of (a ++ b) more (drop p words) h.sequences in
     let entry : List ℕ = list_entry format p c in
     let rest : List ℕ = lists_directory format (word_after format p c) cs in
-    let whole : take (length (entry ++ rest)) (drop q words) ≡ entry ++ rest = ap (λ n. take n (drop q words)) (length-directory format p (c ∷ cs)) ∙ h.directory in
+    let whole : take (length (entry ++ rest)) (drop q words) ≡ entry ++ rest = ap (λ n. take n (drop q words)) (directory-length format p (c ∷ cs)) ∙ h.directory in
     let four : take 4 (drop q words) ≡ entry = front-of entry rest (drop q words) whole in
     record {
       list = All-head (IsListIn format words) c cs h.lists;
@@ -146,14 +147,14 @@ pieces-of format words t p (c ∷ cs) frame fit le h =
     let after : take (length rest) (drop 4 (drop q words)) ≡ rest =
     ap (take (length rest)) (drop-drop 4 q words)
     ∙ ap (λ n. take (length rest) (drop n words)) (let e : q + 4 ≡ directory_word words + 4 * (t + 1) = omega arith in e)
-    ∙ ap (λ n. take n (drop (directory_word words + 4 * (t + 1)) words)) (length-directory format (word_after format p c) cs) ∙ r.directory in
+    ∙ ap (λ n. take n (drop (directory_word words + 4 * (t + 1)) words)) (directory-length format (word_after format p c) cs) ∙ r.directory in
     record {
       lists = All-cons (IsListIn format words) c cs s.list r.lists;
       doc_parts = All-cons HasDocParts c cs s.doc_parts r.doc_parts;
       freq_parts = All-cons HasFreqParts c cs s.freq_parts r.freq_parts;
       sequences = joined (a ++ b) more (drop p words) pair two;
       within = omega (arith, r.within, length-lists format p c cs);
-      directory = ap (λ n. take n (drop q words)) (sym (length-directory format p (c ∷ cs))) ∙ joined entry rest (drop q words) four after;
+      directory = ap (λ n. take n (drop q words)) (sym (directory-length format p (c ∷ cs))) ∙ joined entry rest (drop q words) four after;
     }
 
 -- a front is lists that stand from the first word of lists on
@@ -181,7 +182,7 @@ front-is format words cs frame few h =
     }
 
 -- no lists are more than those behind which none stands
-longest-from : (format : FormatNumbers) (room : HasRoom format) → Below format → (words : List ℕ) (t p : ℕ) (cs : List CutList) → HasFrame format words → StandFrom format words t p cs
+longest-from : (format : FormatNumbers) (room : HasRoom format) → SequenceLaws format → (words : List ℕ) (t p : ℕ) (cs : List CutList) → HasFrame format words → StandFrom format words t p cs
     → ((c : CutList) → StandsAt format words (t + length cs) (p + length (lists_words format cs)) c → ⊥)
     → (ds : List CutList) → StandFrom format words t p ds → length ds ≤ length cs
 longest-from format room laws words t p [] frame h none [] k = omega arith
@@ -200,7 +201,7 @@ longest-from format room laws words t p (c ∷ cs) frame h none (d ∷ ds) k =
     omega (arith, fewer)
 
 -- as many lists that stand from one place are the same
-pub stand-same : (format : FormatNumbers) (room : HasRoom format) → Below format → (words : List ℕ) (t p : ℕ) (cs ds : List CutList) → HasFrame format words → StandFrom format words t p cs → StandFrom format words t p ds → length cs ≡ length ds → cs ≡ ds
+pub stand-same : (format : FormatNumbers) (room : HasRoom format) → SequenceLaws format → (words : List ℕ) (t p : ℕ) (cs ds : List CutList) → HasFrame format words → StandFrom format words t p cs → StandFrom format words t p ds → length cs ≡ length ds → cs ≡ ds
 stand-same format room laws words t p [] [] frame h k e = refl
 stand-same format room laws words t p [] (d ∷ ds) frame h k e = absurd (omega (arith, e))
 stand-same format room laws words t p (c ∷ cs) [] frame h k e = absurd (omega (arith, e))
@@ -250,7 +251,7 @@ pub reached-front : (format : FormatNumbers) (words : List ℕ) (t p : ℕ) (cs 
 reached-front format words t p cs frame few r = front-is format words cs frame (omega (arith, r.count, few)) r.stand
 
 -- the fault of the list at which the walk stands is the first
-pub reached-fault : (format : FormatNumbers) (room : HasRoom format) → Below format → (words : List ℕ) (t p : ℕ) (cs : List CutList) (f : OpenFault) → HasFrame format words → t < stated_terms words → Reached format words t p cs → IsTermFault format words t p f
+pub reached-fault : (format : FormatNumbers) (room : HasRoom format) → SequenceLaws format → (words : List ℕ) (t p : ℕ) (cs : List CutList) (f : OpenFault) → HasFrame format words → t < stated_terms words → Reached format words t p cs → IsTermFault format words t p f
     → IsFirstListFault format words f
 reached-fault format room laws words t p cs f frame lt r fault =
     let here : IsTermFault format words (length cs) (2 + length (lists_words format cs)) f =

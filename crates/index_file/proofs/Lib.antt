@@ -2,6 +2,7 @@ mod Rows
 mod EveryDocument
 mod WordBytes
 pub mod Lengths
+pub mod CutLists
 mod Files
 mod Added
 mod Spelled

@@ -25,7 +25,8 @@ use Rattle.index_file.specs.FirstBroken.{stated_documents, stated_terms}
 use Rattle.index_file.specs.IndexView.{same_kind, kinds_from, kinds_of_list}
 use Rattle.index_file.specs.ListAt.{HasFrame, StandsAt, StandFrom, word_after}
 use Rattle.index_file.specs.Measures.{measure_at, measure_of_part, measure_of_list, IsMeasured}
-use Rattle.index_file.proofs.Standing.{Below, docs_view, freqs_view}
+use Rattle.index_file.specs.Laws.{SequenceLaws}
+use Rattle.index_file.proofs.Standing.{docs_view, freqs_view}
 use Rattle.index_file.proofs.Fronts.{stand-from, front-pieces, length-lists}
 use Rattle.index_file.proofs.StatedIndex.{opened}
 use Rattle.index_file.proofs.Reading.{OpenedList, opened-stand}
@@ -141,7 +142,7 @@ pub record MeasuredAt (format : FormatNumbers) (words : List ℕ) (t : ℕ) (mea
   pub measured : MeasuredList format measure x
   pub adds : slice_index (map (measure_of_list measure) cs) t ≡ measure_of_list measure x
 
-pub measured-at : (format : FormatNumbers) (room : HasRoom format) → Below format → TakesItsCost format → (words : List ℕ) (c : Collection) (parts : List ListParts) → Spells format words c parts → length words < 2 ^ 57
+pub measured-at : (format : FormatNumbers) (room : HasRoom format) → SequenceLaws format → TakesItsCost format → (words : List ℕ) (c : Collection) (parts : List ListParts) → Spells format words c parts → length words < 2 ^ 57
     → (measure : Measure) (t : ℕ) → t < stated_terms words → (x : CutList) × MeasuredAt format words t measure (with_parts c.lists parts) x
 measured-at format room laws takes words c parts h few measure t lt =
     let o = opened format words c parts h in

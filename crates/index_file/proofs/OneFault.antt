@@ -10,10 +10,9 @@ use Rattle.two_level.specs.SequenceFault.{word_behind}
 use Rattle.index_file.specs.declared.fault.OpenFault.{OpenFault}
 use Rattle.index_file.specs.FileWords.{lists_words}
 use Rattle.index_file.specs.FirstBroken.{stated_documents, stated_terms, stated_sizes, directory_word, term_word, stated_length, stated_doc_parts, stated_freq_parts, cannot_begin, frame_broken, IsFreqsFault, IsTermFault, IsClosingFault, IsFirstBrokenIn}
-use Rattle.index_file.specs.Laws.{OneIndexIn, OneBrokenCheckIn}
+use Rattle.index_file.specs.Laws.{OneIndexIn, OneBrokenCheckIn, SequenceLaws}
 use Rattle.index_file.proofs.Agree.{match-agree, first-agree}
 use Rattle.index_file.proofs.TermFaults.{IsAt, InDocs, InFreqs, PassButGreatest}
-use Rattle.index_file.proofs.Standing.{Below}
 use Rattle.index_file.proofs.Fronts.{stand-from, front-pieces, stand-same}
 use Rattle.index_file.proofs.Frames.{BreaksBehind, frame-stands}
 use Rattle.index_file.proofs.StatedIndex.{collection-is, parts-are, none-in-index}
@@ -55,7 +54,7 @@ closing-one words p f g h k =
       | inr (a, b) ↦ a.2 ∙ sym b.2
     ]
 
-behind-one : (format : FormatNumbers) (room : HasRoom format) → Below format → (words : List ℕ) (f g : OpenFault) → frame_broken format words ≡ None → BreaksBehind format words f → BreaksBehind format words g → f ≡ g
+behind-one : (format : FormatNumbers) (room : HasRoom format) → SequenceLaws format → (words : List ℕ) (f g : OpenFault) → frame_broken format words ≡ None → BreaksBehind format words f → BreaksBehind format words g → f ≡ g
 behind-one format room laws words f g e (cs, lc, mf) (ds, ld, mg) =
     let frame = frame-stands format words e in
     let same : length cs ≡ length ds = omega (arith, lc.longest ds ld.front, ld.longest cs lc.front) in
@@ -78,7 +77,7 @@ match-at-none o P Q e h = subst (λ x. MatchOption x P Q) e h
 match-at-some : (o : Option Check) (k : Check) (P : Type 0) (Q : Check → Type 0) → o ≡ Some k → MatchOption o P Q → Q k
 match-at-some o k P Q e h = subst (λ x. MatchOption x P Q) e h
 
-pub one-fault : (format : FormatNumbers) (room : HasRoom format) → Below format → (words : List ℕ) (f g : OpenFault) → IsFirstBrokenIn format words f → IsFirstBrokenIn format words g → f ≡ g
+pub one-fault : (format : FormatNumbers) (room : HasRoom format) → SequenceLaws format → (words : List ℕ) (f g : OpenFault) → IsFirstBrokenIn format words f → IsFirstBrokenIn format words g → f ≡ g
 one-fault format room laws words f g h k =
     elim (cases-option (frame_broken format words)) [
       | inl e ↦
@@ -90,11 +89,11 @@ one-fault format room laws words f g h k =
     ]
 
 -- in a format words spell one collection, and have one first broken check
-pub one-index-in : (format : FormatNumbers) (room : HasRoom format) → Below format → WordsState format → OneIndexIn format
+pub one-index-in : (format : FormatNumbers) (room : HasRoom format) → SequenceLaws format → WordsState format → OneIndexIn format
 one-index-in format room laws state words c d e f h k = (
   sym (collection-is format room laws state words c e h) ∙ collection-is format room laws state words d f k,
   sym (parts-are format room laws state words c e h) ∙ parts-are format room laws state words d f k,
 )
 
-pub one-broken-check-in : (format : FormatNumbers) (room : HasRoom format) → Below format → OneBrokenCheckIn format
+pub one-broken-check-in : (format : FormatNumbers) (room : HasRoom format) → SequenceLaws format → OneBrokenCheckIn format
 one-broken-check-in format room laws = record { one = one-fault format room laws; none_in_index = none-in-index format room laws }

@@ -10,13 +10,14 @@ use Rattle.cursor_api.specs.NextGeq.{IsCursorList}
 use Rattle.two_level.specs.SequenceView.{SequenceView, BeginWith, words_used}
 use Rattle.index_file.specs.FileWords.{CutList, ListParts, with_parts, doc_words, Spells}
 use Rattle.index_file.specs.FirstBroken.{stated_documents, stated_terms, stated_sizes, term_word, stated_length, stated_doc_parts, stated_freq_parts, stated_greatest}
-use Rattle.index_file.specs.IndexView.{IndexView, index_stated}
+use Rattle.index_file.specs.IndexView.{IndexView, index_stated, docs_stated, freqs_stated}
 use Rattle.index_file.specs.ListAt.{HasFrame, StandsAt, StandFrom, word_after}
 use Rattle.index_file.proofs.OneList.{begins-at}
-use Rattle.index_file.proofs.Standing.{Below, counts, docs_view, freqs_view, docs-at, freqs-at}
+use Rattle.index_file.specs.Laws.{SequenceLaws}
+use Rattle.index_file.proofs.Standing.{counts, docs_view, freqs_view, docs-at, freqs-at}
 use Rattle.index_file.proofs.Fronts.{stand-from, front-pieces}
 use Rattle.index_file.proofs.FilePieces.{half_of}
-use Rattle.index_file.proofs.Spelling.{lists_in}
+use Rattle.index_file.proofs.CutLists.{lists_in}
 use Rattle.index_file.proofs.StatedIndex.{opened, size-stated}
 
 -- the words of an index spell what they state
@@ -64,7 +65,7 @@ pub record OpenedList (format : FormatNumbers) (words : List ℕ) (t : ℕ) (x :
   pub give : postings_in (doc_sequence x.list) (freq_sequence x.list) ≡ x.list
   pub most : stated_greatest words t ≡ greatest_freq x.list
 
-pub opened-stand : (format : FormatNumbers) (room : HasRoom format) → Below format → (words : List ℕ) (t p : ℕ) (x : CutList) → HasFrame format words → StandsAt format words t p x → OpenedList format words t x
+pub opened-stand : (format : FormatNumbers) (room : HasRoom format) → SequenceLaws format → (words : List ℕ) (t p : ℕ) (x : CutList) → HasFrame format words → StandsAt format words t p x → OpenedList format words t x
 opened-stand format room laws words t p x frame at =
     let n = counts format room words t p x frame at in
     let within : stated_sizes words ≤ length words = omega (arith, frame.whole) in
@@ -86,7 +87,7 @@ opened-stand format room laws words t p x frame at =
       most = sym n.most;
     }
 
-pub opened-list : (format : FormatNumbers) (room : HasRoom format) → Below format → (words : List ℕ) (c : Collection) (parts : List ListParts) → Spells format words c parts → (t : ℕ) → t < stated_terms words
+pub opened-list : (format : FormatNumbers) (room : HasRoom format) → SequenceLaws format → (words : List ℕ) (c : Collection) (parts : List ListParts) → Spells format words c parts → (t : ℕ) → t < stated_terms words
     → (x : CutList) × OpenedList format words t x × (list_of c t ≡ x.list)
 opened-list format room laws words c parts h t lt =
     let o = opened format words c parts h in
@@ -98,6 +99,15 @@ opened-list format room laws words c parts h t lt =
     let at : StandsAt format words t s.1 s.0 = subst (λ k. StandsAt format words k s.1 s.0) (let e : 0 + t ≡ t = omega arith in e) s.2 in
     (x, opened-stand format room laws words t p x frame at, ap (λ l. get_or l t []) (sym o.lists) ∙ s.3)
 
+-- the sequences that words state of a list of an index are its own
+pub docs-read : (format : FormatNumbers) → SequenceLaws format → (words : List ℕ) (t : ℕ) (x : CutList) → OpenedList format words t x → docs_stated format words t ≡ docs_view format x
+docs-read format laws words t x o =
+    laws.state (stated_length words t) o.docs.0 (stated_doc_parts words t) o.docs.1 (doc_sequence x.list) x.parts.doc_ends (drop (term_word words t 0) words) o.docs.2 o.docs.3
+
+pub freqs-read : (format : FormatNumbers) → SequenceLaws format → (words : List ℕ) (t : ℕ) (x : CutList) → OpenedList format words t x → freqs_stated format words t ≡ freqs_view format x
+freqs-read format laws words t x o =
+    laws.state (stated_length words t) o.freqs.0 (stated_freq_parts words t) o.freqs.1 (freq_sequence x.list) x.parts.freq_ends (drop (term_word words t 1) words) o.freqs.2 o.freqs.3
+
 pub begin-as : (words : List ℕ) (p q m n a b : ℕ) (v : SequenceView) → p ≡ q → m ≡ n → a ≡ b → BeginWith (drop q words) b n v → BeginWith (drop p words) a m v
 begin-as words p q m n a b v e f g h =
     subst (λ x. BeginWith (drop p words) x m v) (sym g) (subst (λ x. BeginWith (drop p words) b x v) (sym f) (subst (λ x. BeginWith (drop x words) b n v) (sym e) h))
@@ -106,7 +116,7 @@ begin-as words p q m n a b v e f g h =
 pub read-list : (format : FormatNumbers) (words : List ℕ) (t : ℕ) (x : CutList) (v w : SequenceView) → OpenedList format words t x → v ≡ docs_view format x → w ≡ freqs_view format x → postings_in v.values w.values ≡ x.list
 read-list format words t x v w o a b = ap (λ k. postings_in k.values w.values) a ∙ ap (λ k. postings_in (doc_sequence x.list) k.values) b ∙ o.give
 
-pub same-length : (format : FormatNumbers) → Below format → (words : List ℕ) (t : ℕ) (c : Collection) (parts : List ListParts) → Spells format words c parts → (x : CutList) → list_of c t ≡ x.list → t < length c.lists
+pub same-length : (format : FormatNumbers) → SequenceLaws format → (words : List ℕ) (t : ℕ) (c : Collection) (parts : List ListParts) → Spells format words c parts → (x : CutList) → list_of c t ≡ x.list → t < length c.lists
     → length (doc_sequence x.list) ≡ length (freq_sequence x.list)
 same-length format laws words t c parts h x e lt =
     let list : IsPostingList format c.documents x.list = subst (IsPostingList format c.documents) e (h.well_formed.lists t [] lt) in

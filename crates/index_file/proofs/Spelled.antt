@@ -1,22 +1,18 @@
 -- Lemmas on the collection whose index a file is.
-use Rattle.std.proofs.Common.{◌≡◌, refl, sym, ap, ℕ, ◌^◌, ◌<◌, ◌≤◌, List, [], ◌∷◌, map, length, arith}
+use Rattle.std.proofs.Common.{◌≡◌, sym, ap, ℕ, ◌^◌, ◌<◌, ◌≤◌, List, [], ◌∷◌, map, length, arith}
 use Rattle.std.specs.List.{All}
 use Rattle.std.proofs.lemmas.List.{length-map}
 use Rattle.std.proofs.lemmas.List.Elements.{All-head, All-tail, All-map}
 use Rattle.collection_model.specs.FormatNumbers.{FormatNumbers, most_terms}
 use Rattle.collection_model.specs.Collection.{IsPostingList}
 use Rattle.part_cost.specs.Formats.{numbers_of}
-use Rattle.index_file.specs.FileWords.{CutList, words_of_file, with_parts, ArePartitions, Spells}
+use Rattle.index_file.specs.FileWords.{CutList, words_of_file, ArePartitions, Spells}
 use Rattle.index_file.specs.Builder.{Built, StandsFor, IsNearCut, lists_added}
+use Rattle.index_file.proofs.CutLists.{with-parts-of}
 use Rattle.index_file.proofs.Lengths.{directory-length}
 
 pub lists-counted : (b : Built) (cs : List CutList) → StandsFor b cs → lists_added b ≡ length cs
 lists-counted b cs stands = omega (arith, ap length stands.directory, directory-length (numbers_of b.format) 2 cs)
-
--- lists with their parts are the lists that they were taken from
-with-parts : (cs : List CutList) → with_parts (map (λ c. c.list) cs) (map (λ c. c.parts) cs) ≡ cs
-with-parts [] = refl
-with-parts (c ∷ cs) = ap (λ ds. c ∷ ds) (with-parts cs)
 
 partitions : (format : FormatNumbers) (cs : List CutList) → All (IsNearCut format) cs → ArePartitions (map (λ c. c.list) cs) (map (λ c. c.parts) cs)
 partitions format [] near = tt
@@ -34,5 +30,5 @@ files-spell b cs sizes stands small few each below = record {
     sizes = below;
   };
   partitions = partitions (numbers_of b.format) cs stands.near;
-  spelled = ap (λ ds. words_of_file (numbers_of b.format) b.documents ds sizes) (sym (with-parts cs));
+  spelled = ap (λ ds. words_of_file (numbers_of b.format) b.documents ds sizes) (sym (with-parts-of cs));
 }

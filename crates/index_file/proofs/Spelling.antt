@@ -6,24 +6,14 @@ use Rattle.std.proofs.lemmas.List.{get_or-drop, length-map, length-drop}
 use Rattle.std.proofs.lemmas.List.Elements.{All-head, All-tail, All-map, All-from_get_or}
 use Rattle.std.proofs.lemmas.List.FromFn.{length-map-range_with_len, get_or-map-range_with_len}
 use Rattle.collection_model.specs.FormatNumbers.{FormatNumbers}
-use Rattle.collection_model.specs.Collection.{Posting, Collection, IsPostingList}
-use Rattle.index_file.specs.FileWords.{CutList, ListParts, with_parts, lists_words, sizes_words, words_of_file, ArePartitions, IsIndexIn}
+use Rattle.collection_model.specs.Collection.{Collection, IsPostingList}
+use Rattle.index_file.specs.FileWords.{CutList, lists_words, sizes_words, words_of_file, ArePartitions, IsIndexIn}
 use Rattle.index_file.specs.FirstBroken.{stated_documents, stated_terms, stated_sizes, directory_word, IsFileFront}
 use Rattle.index_file.specs.IndexView.{size_stated}
 use Rattle.index_file.specs.ListAt.{HasFrame, PassesClosing}
+use Rattle.index_file.proofs.CutLists.{lists_in, parts_in, with-parts-of}
 use Rattle.index_file.proofs.Fronts.{HasDocParts, HasFreqParts}
 use Rattle.index_file.proofs.FilePieces.{half, half_of, sizes-stand, words-of}
-
--- the lists and the parts of cut lists
-abbrev pub lists_in : List CutList → List (List Posting)
-lists_in cs = map (λ c. c.list) cs
-
-abbrev pub parts_in : List CutList → List ListParts
-parts_in cs = map (λ c. c.parts) cs
-
-pub with-parts-of : (cs : List CutList) → with_parts (lists_in cs) (parts_in cs) ≡ cs
-with-parts-of [] = refl
-with-parts-of (c ∷ cs) = ap (λ l. c ∷ l) (with-parts-of cs)
 
 partitions-of : (cs : List CutList) → All HasDocParts cs → All HasFreqParts cs → ArePartitions (lists_in cs) (parts_in cs)
 partitions-of [] d f = tt

@@ -1,6 +1,6 @@
 -- Lemmas on a list that stands at a term.
 use Rattle.std.proofs.Common.{◌≡◌, ℕ, ◌+◌, ◌-◌, ◌*◌, ◌^◌, ◌<◌, ◌≤◌, false, List, length, take, drop, sym, ap, ◌∙◌, subst, arith}
-use Rattle.std.proofs.lemmas.Bool.{or_from as or-both, le-ltb as false-lt, eq-eqb as true-same, not_from_true as false-not}
+use Rattle.std.proofs.lemmas.Bool.{or_from, le-ltb, eq-eqb, not_from_true}
 use Rattle.std.specs.Prelude.{◌||◌, ◌==◌, not, nat_lt}
 use Rattle.std.specs.List.{All, slice_range}
 use Rattle.std.specs.List.Sorted.{IsStrictlyIncreasing}
@@ -9,32 +9,23 @@ use Rattle.collection_model.specs.FormatNumbers.{FormatNumbers, entry_words}
 use Rattle.collection_model.specs.Collection.{Posting, docs_of, greatest, greatest_freq, IsPostingList}
 use Rattle.collection_model.specs.Sequences.{doc_sequence, freq_sequence, steps_from, postings_in}
 use Rattle.collection_model.proofs.Lists.{docs_of-length, freqs-of_postings, rising-length}
-use Rattle.part_cost.proofs.Partitions.{few-parts as parts-few}
+use Rattle.part_cost.proofs.Partitions.{few-parts}
 use Rattle.part_cost.specs.Formats.{HasRoom}
 use Rattle.part_cost.specs.Partition.{IsPartition}
-use Rattle.postings.specs.Laws.{SequencesRise, SequencesGiveTheirList}
 use Rattle.collection_model.proofs.Sequences.{same-steps}
 use Rattle.two_level.specs.declared.check.Check.TheVariants.{K6}
 use Rattle.two_level.specs.SequenceWords.{sequence_words, BeginsSequence}
 use Rattle.two_level.specs.SequenceView.{SequenceView, words_used}
 use Rattle.two_level.specs.SequenceFault.{parts_fit, word_behind}
-use Rattle.two_level.specs.Laws.{OneSequence}
 use Rattle.index_file.specs.declared.fault.OpenFault.{OpenFault}
-use Rattle.two_level.specs.AtAWord.{SequenceStandsAtAWord}
 use Rattle.index_file.specs.FileWords.{CutList, doc_words, freq_words}
+use Rattle.index_file.specs.Laws.{SequenceLaws}
 use Rattle.index_file.specs.FirstBroken.{stated_documents, stated_sizes, term_word, stated_length, stated_doc_parts, stated_freq_parts, stated_greatest, cannot_begin, IsFreqsFault, IsTermFault}
 use Rattle.index_file.specs.ListAt.{HasFrame, IsSequenceAt, StandsAt}
 use Rattle.index_file.proofs.OneList.{sequence-is, begins-at}
-use Rattle.two_level.proofs.Choices.{unmatch as match-later}
+use Rattle.two_level.proofs.Choices.{unmatch}
 use Rattle.index_file.proofs.Agree.{later-of}
 use Rattle.index_file.proofs.TermFaults.{IsAt, InDocs, InFreqs, PassButGreatest}
-
--- the laws of the layers below, for a format
-pub record Below (format : FormatNumbers) : Type 0 where
-  pub stand : SequenceStandsAtAWord format
-  pub one : OneSequence format
-  pub rise : SequencesRise
-  pub give : SequencesGiveTheirList
 
 -- the two sequences of a list in its parts
 abbrev pub docs_view : FormatNumbers → CutList → SequenceView
@@ -55,7 +46,7 @@ pub counts : (format : FormatNumbers) (room : HasRoom format) (words : List ℕ)
 counts format room words t p c frame h =
     let few : length c.list ≤ stated_documents words = omega (arith, docs_of-length c.list, rising-length (docs_of c.list) (stated_documents words) h.list.rising h.list.in_range) in
     let small : length c.list < 2 ^ 32 = omega (arith, few, frame.documents, room.fit) in
-    let freqs : length c.parts.freq_ends < 2 ^ 32 = omega (arith, small, parts-few 0 (length c.list) c.parts.freq_ends h.freq_parts) in
+    let freqs : length c.parts.freq_ends < 2 ^ 32 = omega (arith, small, few-parts 0 (length c.list) c.parts.freq_ends h.freq_parts) in
     record {
       few = few;
       len = omega (arith, small, h.doc_counts);
@@ -81,7 +72,7 @@ begins-in format words p s m bound parts v fit within rising below count partiti
 }
 
 -- the documents of a list that stands, and its frequencies
-pub docs-at : (format : FormatNumbers) (room : HasRoom format) → Below format → (words : List ℕ) (t p : ℕ) (c : CutList) → HasFrame format words → StandsAt format words t p c
+pub docs-at : (format : FormatNumbers) (room : HasRoom format) → SequenceLaws format → (words : List ℕ) (t p : ℕ) (c : CutList) → HasFrame format words → StandsAt format words t p c
     → IsSequenceAt words p (stated_sizes words) (stated_doc_parts words t) (stated_length words t) (stated_documents words) (docs_view format c)
 docs-at format room laws words t p c frame h =
     let n = counts format room words t p c frame h in
@@ -92,7 +83,7 @@ docs-at format room laws words t p c frame h =
     (begins-in format words p s (stated_length words t) (stated_documents words) (stated_doc_parts words t) (docs_view format c) fit within h.list.rising h.list.in_range (docs_of-length c.list ∙ n.len)
     (subst (λ k. IsPartition k c.parts.doc_ends) n.len h.doc_parts) n.doc_count h.docs)
 
-pub freqs-at : (format : FormatNumbers) (room : HasRoom format) → Below format → (words : List ℕ) (t p : ℕ) (c : CutList) → HasFrame format words → StandsAt format words t p c
+pub freqs-at : (format : FormatNumbers) (room : HasRoom format) → SequenceLaws format → (words : List ℕ) (t p : ℕ) (c : CutList) → HasFrame format words → StandsAt format words t p c
     → IsSequenceAt words (p + length (doc_words format c)) (stated_sizes words) (stated_freq_parts words t) (stated_length words t) format.most_sum (freqs_view format c)
 freqs-at format room laws words t p c frame h =
     let n = counts format room words t p c frame h in
@@ -106,7 +97,7 @@ freqs-at format room laws words t p c frame h =
     (subst (λ k. IsPartition k c.parts.freq_ends) n.len h.freq_parts) n.freq_count h.freqs)
 
 -- the steps of a list's frequency sequence are its frequencies
-pub greatest-step : (format : FormatNumbers) → Below format → (n : ℕ) (list : List Posting) → IsPostingList format n list → greatest (steps_from 0 (freq_sequence list)) ≡ greatest_freq list
+pub greatest-step : (format : FormatNumbers) → SequenceLaws format → (n : ℕ) (list : List Posting) → IsPostingList format n list → greatest (steps_from 0 (freq_sequence list)) ≡ greatest_freq list
 greatest-step format laws n list h =
     let r = laws.rise format n list h in
     let same : length (doc_sequence list) ≡ length (freq_sequence list) = r.docs_count ∙ sym r.sums_count in
@@ -114,7 +105,7 @@ greatest-step format laws n list h =
     ∙ ap greatest_freq (laws.give format n list h)
 
 -- no check breaks for a list that stands
-can-begin : (format : FormatNumbers) (room : HasRoom format) → Below format → (words : List ℕ) (t p : ℕ) (c : CutList) → HasFrame format words → StandsAt format words t p c
+can-begin : (format : FormatNumbers) (room : HasRoom format) → SequenceLaws format → (words : List ℕ) (t p : ℕ) (c : CutList) → HasFrame format words → StandsAt format words t p c
     → cannot_begin format (term_word words t 0) p (stated_documents words) (stated_length words t) (stated_doc_parts words t) (stated_freq_parts words t) (stated_sizes words) ≡ false
 can-begin format room laws words t p c frame h =
     let n = counts format room words t p c frame h in
@@ -125,23 +116,23 @@ can-begin format room laws words t p c frame h =
     let f = nat_lt (stated_sizes words) (p + entry_words format * stated_doc_parts words t) in
     let docs = (docs-at format room laws words t p c frame h).passes in
     let freqs = (freqs-at format room laws words t p c frame h).passes in
-    or-both (a || b || d || e) f
-    (or-both (a || b || d) e
-    (or-both (a || b) d
-    (or-both a b (false-not (term_word words t 0 == p) (true-same (term_word words t 0) p h.docs_word)) (false-lt (stated_documents words) (stated_length words t) (omega (arith, n.few, n.len))))
-    (false-not (parts_fit (stated_length words t) (stated_doc_parts words t)) docs.parts_are))
-    (false-not (parts_fit (stated_length words t) (stated_freq_parts words t)) freqs.parts_are))
-    (false-lt (stated_sizes words) (p + entry_words format * stated_doc_parts words t) docs.room)
+    or_from (a || b || d || e) f
+    (or_from (a || b || d) e
+    (or_from (a || b) d
+    (or_from a b (not_from_true (term_word words t 0 == p) (eq-eqb (term_word words t 0) p h.docs_word)) (le-ltb (stated_documents words) (stated_length words t) (omega (arith, n.few, n.len))))
+    (not_from_true (parts_fit (stated_length words t) (stated_doc_parts words t)) docs.parts_are))
+    (not_from_true (parts_fit (stated_length words t) (stated_freq_parts words t)) freqs.parts_are))
+    (le-ltb (stated_sizes words) (p + entry_words format * stated_doc_parts words t) docs.room)
 
-freqs-can-begin : (format : FormatNumbers) (room : HasRoom format) → Below format → (words : List ℕ) (t p : ℕ) (c : CutList) → HasFrame format words → StandsAt format words t p c
+freqs-can-begin : (format : FormatNumbers) (room : HasRoom format) → SequenceLaws format → (words : List ℕ) (t p : ℕ) (c : CutList) → HasFrame format words → StandsAt format words t p c
     → (not (term_word words t 1 == p + length (doc_words format c)) || nat_lt (stated_sizes words) (p + length (doc_words format c) + entry_words format * stated_freq_parts words t)) ≡ false
 freqs-can-begin format room laws words t p c frame h =
     let q : ℕ = p + length (doc_words format c) in
     let a = not (term_word words t 1 == q) in
     let f = nat_lt (stated_sizes words) (q + entry_words format * stated_freq_parts words t) in
-    or-both a f (false-not (term_word words t 1 == q) (true-same (term_word words t 1) q h.freqs_word)) (false-lt (stated_sizes words) (q + entry_words format * stated_freq_parts words t) (freqs-at format room laws words t p c frame h).passes.room)
+    or_from a f (not_from_true (term_word words t 1 == q) (eq-eqb (term_word words t 1) q h.freqs_word)) (le-ltb (stated_sizes words) (q + entry_words format * stated_freq_parts words t) (freqs-at format room laws words t p c frame h).passes.room)
 
-pub no-fault : (format : FormatNumbers) (room : HasRoom format) → Below format → (words : List ℕ) (t p : ℕ) (c : CutList) (f : OpenFault) → HasFrame format words → StandsAt format words t p c → IsTermFault format words t p f → ⊥
+pub no-fault : (format : FormatNumbers) (room : HasRoom format) → SequenceLaws format → (words : List ℕ) (t p : ℕ) (c : CutList) (f : OpenFault) → HasFrame format words → StandsAt format words t p c → IsTermFault format words t p f → ⊥
 no-fault format room laws words t p c f frame h fault =
     let n = counts format room words t p c frame h in
     let s : ℕ = stated_sizes words in
@@ -149,13 +140,13 @@ no-fault format room laws words t p c f frame h fault =
     let docs = docs-at format room laws words t p c frame h in
     let freqs = freqs-at format room laws words t p c frame h in
     let one : InDocs format words t p f =
-    match-later (cannot_begin format (term_word words t 0) p (stated_documents words) (stated_length words t) (stated_doc_parts words t) (stated_freq_parts words t) (stated_sizes words))
+    unmatch (cannot_begin format (term_word words t 0) p (stated_documents words) (stated_length words t) (stated_doc_parts words t) (stated_freq_parts words t) (stated_sizes words))
     (IsAt f t K6 0) (InDocs format words t p f) (can-begin format room laws words t p c frame h) fault in
     let two : IsFreqsFault format words t (word_behind format words p (stated_doc_parts words t)) f =
     later-of format words s p (stated_doc_parts words t) (stated_length words t) (stated_documents words) (IsAt f t) (IsFreqsFault format words t (word_behind format words p (stated_doc_parts words t)) f)
     docs.passes.none one in
     let three : InFreqs format words t q f =
-    match-later (not (term_word words t 1 == q) || nat_lt s (q + entry_words format * stated_freq_parts words t)) (IsAt f t K6 (stated_doc_parts words t)) (InFreqs format words t q f)
+    unmatch (not (term_word words t 1 == q) || nat_lt s (q + entry_words format * stated_freq_parts words t)) (IsAt f t K6 (stated_doc_parts words t)) (InFreqs format words t q f)
     (freqs-can-begin format room laws words t p c frame h) (subst (λ x. IsFreqsFault format words t x f) docs.passes.behind two) in
     let four : PassButGreatest format words t q f =
     later-of format words s q (stated_freq_parts words t) (stated_length words t) format.most_sum (λ check i. IsAt f t check (stated_doc_parts words t + i)) (PassButGreatest format words t q f) freqs.passes.none three in
@@ -175,7 +166,7 @@ same-list c d a b e =
     x ∙ ap (λ l. record { list = d.list; parts = record { doc_ends = l; freq_ends = c.parts.freq_ends } }) b in
     y ∙ ap (λ l. record { list = d.list; parts = record { doc_ends = d.parts.doc_ends; freq_ends = l } }) e
 
-pub stand-one : (format : FormatNumbers) (room : HasRoom format) → Below format → (words : List ℕ) (t p : ℕ) (c d : CutList) → HasFrame format words → StandsAt format words t p c → StandsAt format words t p d → c ≡ d
+pub stand-one : (format : FormatNumbers) (room : HasRoom format) → SequenceLaws format → (words : List ℕ) (t p : ℕ) (c d : CutList) → HasFrame format words → StandsAt format words t p c → StandsAt format words t p d → c ≡ d
 stand-one format room laws words t p c d frame h k =
     let n : ℕ = stated_documents words in
     let s : ℕ = stated_sizes words in

@@ -1,6 +1,6 @@
 -- Lemmas on the index that words state.
 use Rattle.std.proofs.Common.{◌≡◌, ℕ, ◌+◌, ◌-◌, ◌/◌, ◌%◌, ◌^◌, ◌≤◌, ◌<◌, List, [], ◌∷◌, length, drop, get_or, map, refl, sym, ap, ◌∙◌, subst, arith}
-use Rattle.std.proofs.lemmas.Bool.{le-ltb as false-lt, not_from_true as false-not, eq-eqb as true-same}
+use Rattle.std.proofs.lemmas.Bool.{le-ltb, not_from_true, eq-eqb}
 use Rattle.std.specs.Prelude.{◌≢◌, slice_index, ◌==◌, nat_lt, not}
 use Rattle.std.specs.List.{All, range_with_len}
 use Rattle.std.proofs.lemmas.List.{get_or-take, get_or-drop, length-map, ext_get_or}
@@ -21,12 +21,14 @@ use Rattle.index_file.specs.FirstBroken.{stated_documents, stated_terms, stated_
 use Rattle.index_file.specs.IndexView.{size_stated, docs_stated, freqs_stated, collection_stated, parts_stated, index_stated}
 use Rattle.index_file.specs.ListAt.{HasFrame, StandsAt, StandFrom, word_after}
 use Rattle.index_file.proofs.OneList.{begins-at}
-use Rattle.two_level.proofs.Choices.{unmatch as match-later}
-use Rattle.index_file.proofs.Standing.{Below, docs_view, freqs_view, docs-at, freqs-at}
+use Rattle.two_level.proofs.Choices.{unmatch}
+use Rattle.index_file.specs.Laws.{SequenceLaws}
+use Rattle.index_file.proofs.Standing.{docs_view, freqs_view, docs-at, freqs-at}
 use Rattle.index_file.proofs.Fronts.{HasDocParts, HasFreqParts, stand-from, front-pieces, stand-same}
-use Rattle.index_file.proofs.Lengths.{sizes-length as length-sizes}
+use Rattle.index_file.proofs.Lengths.{sizes-length}
 use Rattle.index_file.proofs.FilePieces.{Laid, half_of, sizes-back, sizes-filled, laid-of}
-use Rattle.index_file.proofs.Spelling.{lists_in, parts_in, size-half}
+use Rattle.index_file.proofs.CutLists.{lists_in, parts_in}
+use Rattle.index_file.proofs.Spelling.{size-half}
 use Rattle.index_file.proofs.Frames.{breaks-behind}
 use Rattle.index_file.proofs.Both.{index-is-read}
 
@@ -96,14 +98,14 @@ opened format words c parts h =
     }
 
 -- the sequences that words state of a list that stands are its own
-docs-stated : (format : FormatNumbers) (room : HasRoom format) → Below format → WordsState format → (words : List ℕ) (t p : ℕ) (c : CutList) → HasFrame format words → StandsAt format words t p c → docs_stated format words t ≡ docs_view format c
+docs-stated : (format : FormatNumbers) (room : HasRoom format) → SequenceLaws format → WordsState format → (words : List ℕ) (t p : ℕ) (c : CutList) → HasFrame format words → StandsAt format words t p c → docs_stated format words t ≡ docs_view format c
 docs-stated format room laws state words t p c frame h =
     let n : ℕ = stated_documents words in
     ap (λ i. sequence_stated format (drop i words) (stated_doc_parts words t)) h.docs_word
     ∙ state (stated_length words t) n (stated_doc_parts words t) (words_used (docs_view format c)) (doc_sequence c.list) c.parts.doc_ends (drop p words) (omega (arith, frame.documents, room.documents))
     (begins-at words p (stated_sizes words) (stated_doc_parts words t) (stated_length words t) n (docs_view format c) (omega (arith, frame.whole)) (docs-at format room laws words t p c frame h))
 
-freqs-stated : (format : FormatNumbers) (room : HasRoom format) → Below format → WordsState format → (words : List ℕ) (t p : ℕ) (c : CutList) → HasFrame format words → StandsAt format words t p c → freqs_stated format words t ≡ freqs_view format c
+freqs-stated : (format : FormatNumbers) (room : HasRoom format) → SequenceLaws format → WordsState format → (words : List ℕ) (t p : ℕ) (c : CutList) → HasFrame format words → StandsAt format words t p c → freqs_stated format words t ≡ freqs_view format c
 freqs-stated format room laws state words t p c frame h =
     let q : ℕ = p + length (doc_words format c) in
     ap (λ i. sequence_stated format (drop i words) (stated_freq_parts words t)) h.freqs_word
@@ -117,7 +119,7 @@ list_stated format words t = postings_in (docs_stated format words t).values (fr
 abbrev pub cut_stated : FormatNumbers → List ℕ → ℕ → ListParts
 cut_stated format words t = record { doc_ends = (docs_stated format words t).ends; freq_ends = (freqs_stated format words t).ends }
 
-lists-stated : (format : FormatNumbers) (room : HasRoom format) → Below format → WordsState format → (words : List ℕ) (t p : ℕ) (cs : List CutList) → HasFrame format words → StandFrom format words t p cs
+lists-stated : (format : FormatNumbers) (room : HasRoom format) → SequenceLaws format → WordsState format → (words : List ℕ) (t p : ℕ) (cs : List CutList) → HasFrame format words → StandFrom format words t p cs
     → map (list_stated format words) (range_with_len t (length cs)) ≡ lists_in cs
 lists-stated format room laws state words t p [] frame h = refl
 lists-stated format room laws state words t p (c ∷ cs) frame h =
@@ -127,7 +129,7 @@ lists-stated format room laws state words t p (c ∷ cs) frame h =
     ap (λ v. postings_in v.values (freqs_stated format words t).values) a ∙ ap (λ v. postings_in (doc_sequence c.list) v.values) b ∙ laws.give format (stated_documents words) c.list h.0.list in
     ap (λ x. x ∷ map (list_stated format words) (range_with_len (t + 1) (length cs))) here ∙ ap (λ x. c.list ∷ x) (lists-stated format room laws state words (t + 1) (word_after format p c) cs frame h.1)
 
-parts-stated : (format : FormatNumbers) (room : HasRoom format) → Below format → WordsState format → (words : List ℕ) (t p : ℕ) (cs : List CutList) → HasFrame format words → StandFrom format words t p cs
+parts-stated : (format : FormatNumbers) (room : HasRoom format) → SequenceLaws format → WordsState format → (words : List ℕ) (t p : ℕ) (cs : List CutList) → HasFrame format words → StandFrom format words t p cs
     → map (cut_stated format words) (range_with_len t (length cs)) ≡ parts_in cs
 parts-stated format room laws state words t p [] frame h = refl
 parts-stated format room laws state words t p (c ∷ cs) frame h =
@@ -143,7 +145,7 @@ size-stated format words c parts h d lt =
     let o = opened format words c parts h in
     let z : List ℕ = sizes_words c.sizes in
     let rest : List ℕ = drop (stated_sizes words) words in
-    let within : d / 2 < length (sizes_words c.sizes) = omega (arith, lt, length-sizes c.sizes, h.well_formed.size_each) in
+    let within : d / 2 < length (sizes_words c.sizes) = omega (arith, lt, sizes-length c.sizes, h.well_formed.size_each) in
     size-half words d
     ∙ ap (half_of (d % 2 == 0)) (sym (get_or-take (length z) rest (d / 2) 0 within) ∙ ap (λ ws. get_or ws (d / 2) 0) o.laid.sizes_at)
     ∙ sizes-back c.sizes h.well_formed.sizes d (omega (arith, lt, h.well_formed.size_each))
@@ -158,7 +160,7 @@ sizes-are format words c parts h =
     (λ i lt. get_or-map-range_with_len (size_stated words) 0 n i i 0 (omega (arith, lt, count)) (omega arith) ∙ size-stated format words c parts h i (omega (arith, lt, count, docs)))
 
 -- its collection is, too
-pub collection-is : (format : FormatNumbers) (room : HasRoom format) → Below format → WordsState format → (words : List ℕ) (c : Collection) (parts : List ListParts) → Spells format words c parts
+pub collection-is : (format : FormatNumbers) (room : HasRoom format) → SequenceLaws format → WordsState format → (words : List ℕ) (c : Collection) (parts : List ListParts) → Spells format words c parts
     → collection_stated format words ≡ c
 collection-is format room laws state words c parts h =
     let o = opened format words c parts h in
@@ -171,7 +173,7 @@ collection-is format room laws state words c parts h =
     ∙ ap (λ x. record { documents = c.documents; lists = c.lists; sizes = x }) (sizes-are format words c parts h)
 
 -- and so are its parts
-pub parts-are : (format : FormatNumbers) (room : HasRoom format) → Below format → WordsState format → (words : List ℕ) (c : Collection) (parts : List ListParts) → Spells format words c parts
+pub parts-are : (format : FormatNumbers) (room : HasRoom format) → SequenceLaws format → WordsState format → (words : List ℕ) (c : Collection) (parts : List ListParts) → Spells format words c parts
     → parts_stated format words ≡ parts
 parts-are format room laws state words c parts h =
     let o = opened format words c parts h in
@@ -180,7 +182,7 @@ parts-are format room laws state words c parts h =
     ap (λ n. map (cut_stated format words) (range_with_len 0 n)) o.laid.terms ∙ parts-stated format room laws state words 0 2 cs o.laid.frame stand ∙ o.parts_are
 
 -- an index is the one that its words state, in the format whose version they state
-pub stated-is : (v : Format) → Below (numbers_of v) → WordsState (numbers_of v) → (words : List ℕ) (c : Collection) (parts : List ListParts) → Spells (numbers_of v) words c parts
+pub stated-is : (v : Format) → SequenceLaws (numbers_of v) → WordsState (numbers_of v) → (words : List ℕ) (c : Collection) (parts : List ListParts) → Spells (numbers_of v) words c parts
     → index_stated words ≡ record { format = v; collection = c; parts = parts }
 unfolding index_stated
 stated-is v laws state words c parts h =
@@ -189,7 +191,7 @@ stated-is v laws state words c parts h =
     ∙ ap (λ x. record { format = v; collection = c; parts = x }) (parts-are (numbers_of v) (formats-have-room v) laws state words c parts h)
 
 -- words that are an index break no check
-pub none-in-index : (format : FormatNumbers) (room : HasRoom format) → Below format → (words : List ℕ) (f : OpenFault) → IsIndexIn format words → IsFirstBrokenIn format words f → ⊥
+pub none-in-index : (format : FormatNumbers) (room : HasRoom format) → SequenceLaws format → (words : List ℕ) (f : OpenFault) → IsIndexIn format words → IsFirstBrokenIn format words f → ⊥
 none-in-index format room laws words f (c, parts, h) broken =
     let o = opened format words c parts h in
     let cs : List CutList = with_parts c.lists parts in
@@ -202,18 +204,18 @@ none-in-index format room laws words f (c, parts, h) broken =
     stand-same format room laws words 0 2 cs ds frame (stand-from format words 0 2 cs (front-pieces format words cs o.front)) (stand-from format words 0 2 ds (front-pieces format words ds b.1.front)) same in
     let p : ℕ = 2 + length (lists_words format ds) in
     let closing : IsClosingFault words p f =
-    match-later (nat_lt (length ds) (stated_terms words)) (IsTermFault format words (length ds) p f) (IsClosingFault words p f) (false-lt (length ds) (stated_terms words) (omega (arith, same, o.laid.terms))) b.2 in
+    unmatch (nat_lt (length ds) (stated_terms words)) (IsTermFault format words (length ds) p f) (IsClosingFault words p f) (le-ltb (length ds) (stated_terms words) (omega (arith, same, o.laid.terms))) b.2 in
     let place : 2 + length (lists_words format b.0) ≡ stated_sizes words = sym (ap (λ x. 2 + length (lists_words format x)) is) ∙ sym o.laid.sizes in
     let last : ℕ = (length c.sizes + 1) / 2 - 1 in
-    let k = match-later (not (p == stated_sizes words)) (f ≡ record { check = K6; term = stated_terms words; part = 0 })
+    let k = unmatch (not (p == stated_sizes words)) (f ≡ record { check = K6; term = stated_terms words; part = 0 })
     ((slice_index words (directory_word words - 1) / 2 ^ 32 ≢ 0) × (stated_documents words % 2 ≡ 1) × (f ≡ record { check = K11; term = 0; part = 0 }))
-    (false-not (p == stated_sizes words) (true-same p (stated_sizes words) place)) closing in
+    (not_from_true (p == stated_sizes words) (eq-eqb p (stated_sizes words) place)) closing in
     let odd : length c.sizes % 2 ≡ 1 = omega (arith, k.1, o.laid.docs, h.well_formed.size_each) in
     k.0 (
     ap (λ i. slice_index words i / 2 ^ 32) (let e : directory_word words - 1 ≡ stated_sizes words + ((length c.sizes + 1) / 2 - 1) = omega (arith, odd, o.laid.docs, h.well_formed.size_each) in e)
     ∙ ap (λ x. x / 2 ^ 32)
     (sym (get_or-drop (stated_sizes words) words last 0)
-    ∙ sym (get_or-take (length (sizes_words c.sizes)) (drop (stated_sizes words) words) last 0 (omega (arith, odd, length-sizes c.sizes)))
+    ∙ sym (get_or-take (length (sizes_words c.sizes)) (drop (stated_sizes words) words) last 0 (omega (arith, odd, sizes-length c.sizes)))
     ∙ ap (λ ws. get_or ws last 0) o.laid.sizes_at)
     ∙ sizes-filled c.sizes h.well_formed.sizes odd
     )

@@ -13,7 +13,7 @@ use Rattle.index_file.specs.IndexView.{size_stated}
 use Rattle.index_file.specs.ListAt.{HasFrame, StandFrom, word_after}
 use Rattle.index_file.proofs.Standing.{counts}
 use Rattle.index_file.proofs.Fronts.{stand-from, front-pieces}
-use Rattle.index_file.proofs.Spelling.{lists_in}
+use Rattle.index_file.proofs.CutLists.{lists_in}
 use Rattle.index_file.proofs.StatedIndex.{opened, sizes-are}
 
 -- one more number

@@ -1,6 +1,6 @@
 -- Lemmas on the first check of a list that breaks.
 use Rattle.std.proofs.Common.{◌≡◌, ℕ, ◌+◌, ◌*◌, ◌≤◌, false, Bool, List, length, refl, sym, ap, ◌∙◌, subst}
-use Rattle.std.proofs.lemmas.Bool.{or_parts as or-none, eqb-true as same-true, not-false}
+use Rattle.std.proofs.lemmas.Bool.{or_parts, eqb-true, not-false}
 use Rattle.std.specs.Prelude.{◌||◌, ◌==◌, not, nat_lt}
 use Rattle.collection_model.specs.FormatNumbers.{FormatNumbers, entry_words}
 use Rattle.collection_model.specs.Collection.{greatest}
@@ -10,7 +10,7 @@ use Rattle.two_level.specs.declared.check.Check.TheVariants.{K6, K10}
 use Rattle.two_level.specs.SequenceView.{SequenceView, words_used}
 use Rattle.two_level.specs.SequenceFault.{parts_fit, word_behind, FirstInSequence}
 use Rattle.two_level.specs.Laws.{OneSequence}
-use Rattle.two_level.proofs.Choices.{match-false as match-no}
+use Rattle.two_level.proofs.Choices.{match-false}
 use Rattle.index_file.specs.declared.fault.OpenFault.{OpenFault}
 use Rattle.two_level.specs.AtAWord.{IsFaultAt, NoneBreaks, StandsAtWord}
 use Rattle.index_file.specs.FirstBroken.{stated_documents, stated_sizes, term_word, stated_length, stated_doc_parts, stated_freq_parts, stated_greatest, StatesWrongGreatest, cannot_begin, IsFreqsFault, IsTermFault}
@@ -83,7 +83,7 @@ greatest-breaks format one words t p v ev within test h other =
       refl,
     ) in
     let none : NoneBreaks format words s p parts m format.most_sum = subst (λ x. NoneBreaks x words s p parts m x.most_sum) ev h.passes.none in
-    match-no (not (term_word words t 1 == p) || nat_lt (stated_sizes words) (p + entry_words format * stated_freq_parts words t)) (IsAt f t K6 (stated_doc_parts words t)) (InFreqs format words t p f) test
+    match-false (not (term_word words t 1 == p) || nat_lt (stated_sizes words) (p + entry_words format * stated_freq_parts words t)) (IsAt f t K6 (stated_doc_parts words t)) (InFreqs format words t p f) test
     (passed format words s p parts m format.most_sum (λ check q. IsAt f t check (stated_doc_parts words t + q)) (PassButGreatest format words t p f) none wrong)
 
 -- a check of the frequencies breaks
@@ -92,7 +92,7 @@ pub freqs-break : (format : FormatNumbers) (words : List ℕ) (t p : ℕ) (f : O
     → IsFaultAt format words (stated_sizes words) p (stated_freq_parts words t) (stated_length words t) format.most_sum k q
     → f ≡ record { check = k; term = t; part = stated_doc_parts words t + q } → IsFreqsFault format words t p f
 freqs-break format words t p f k q test h found =
-    match-no (not (term_word words t 1 == p) || nat_lt (stated_sizes words) (p + entry_words format * stated_freq_parts words t)) (IsAt f t K6 (stated_doc_parts words t)) (InFreqs format words t p f) test
+    match-false (not (term_word words t 1 == p) || nat_lt (stated_sizes words) (p + entry_words format * stated_freq_parts words t)) (IsAt f t K6 (stated_doc_parts words t)) (InFreqs format words t p f) test
     (faulty format words (stated_sizes words) p (stated_freq_parts words t) (stated_length words t) format.most_sum k q (λ check q. IsAt f t check (stated_doc_parts words t + q)) (PassButGreatest format words t p f) h found)
 
 -- a list can begin, but a check of its documents breaks
@@ -101,7 +101,7 @@ pub docs-break : (format : FormatNumbers) (words : List ℕ) (t p : ℕ) (f : Op
     → IsFaultAt format words (stated_sizes words) p (stated_doc_parts words t) (stated_length words t) (stated_documents words) k q
     → f ≡ record { check = k; term = t; part = q } → IsTermFault format words t p f
 docs-break format words t p f k q test h found =
-    match-no (cannot_begin format (term_word words t 0) p (stated_documents words) (stated_length words t) (stated_doc_parts words t) (stated_freq_parts words t) (stated_sizes words))
+    match-false (cannot_begin format (term_word words t 0) p (stated_documents words) (stated_length words t) (stated_doc_parts words t) (stated_freq_parts words t) (stated_sizes words))
     (IsAt f t K6 0) (InDocs format words t p f) test
     (faulty format words (stated_sizes words) p (stated_doc_parts words t) (stated_length words t) (stated_documents words) k q (IsAt f t)
     (IsFreqsFault format words t (word_behind format words p (stated_doc_parts words t)) f) h found)
@@ -117,7 +117,7 @@ behind-breaks format words t p v f ev test h fault =
     let n : ℕ = stated_documents words in
     let parts : ℕ = stated_doc_parts words t in
     let stands : StandsAtWord format words p s parts m n (words_used v) = subst (λ x. StandsAtWord x words p s parts m n (words_used v)) ev h.passes in
-    match-no (cannot_begin format (term_word words t 0) p n m parts (stated_freq_parts words t) s) (IsAt f t K6 0) (InDocs format words t p f) test
+    match-false (cannot_begin format (term_word words t 0) p n m parts (stated_freq_parts words t) s) (IsAt f t K6 0) (InDocs format words t p f) test
     (passed format words s p parts m n (IsAt f t) (IsFreqsFault format words t (word_behind format words p parts) f) stands.none
     (subst (λ x. IsFreqsFault format words t x f) (sym stands.behind) fault))
 
@@ -140,7 +140,7 @@ begin-first format words t p h =
     let d = not (parts_fit (stated_length words t) (stated_doc_parts words t)) in
     let e = not (parts_fit (stated_length words t) (stated_freq_parts words t)) in
     let f = nat_lt (stated_sizes words) (p + entry_words format * stated_doc_parts words t) in
-    let g4 = or-none (a || b || d || e) f h in
-    let g3 = or-none (a || b || d) e g4.0 in
-    let g2 = or-none (a || b) d g3.0 in
-    same-true (term_word words t 0) p (not-false (term_word words t 0 == p) (or-none a b g2.0).0)
+    let g4 = or_parts (a || b || d || e) f h in
+    let g3 = or_parts (a || b || d) e g4.0 in
+    let g2 = or_parts (a || b) d g3.0 in
+    eqb-true (term_word words t 0) p (not-false (term_word words t 0 == p) (or_parts a b g2.0).0)

@@ -9,7 +9,7 @@ ghost use Rattle.cost_windows.specs.WindowBounds.{window_bounds};
 ghost use Rattle.index_file.specs.FileWords.{CutList, words_of_file};
 ghost use Rattle.index_file.specs.Builder.{StandsFor, IsNearCut, AddsList, lists_added, most_words, cut_list, with_list};
 
-use crate::entries::{list_entry, push_sizes};
+use crate::entries::{push_sizes, spell_entry};
 use crate::frame::{END_MAGIC, LIST_WORDS, OPENING_MAGIC, WORDS_BEHIND};
 use crate::partitions::cut;
 use part_cost::{Format, formats_have_room};
@@ -119,7 +119,7 @@ impl Builder {
         sequence_takes_its_cost();
         formats_have_room();
         let first = self.words.len();
-        let entry = list_entry(first as u64, freqs, doc_cuts, freq_cuts);
+        let entry = spell_entry(first as u64, freqs, doc_cuts, freq_cuts);
         write_postings(
             self.alloc,
             docs,

@@ -7,10 +7,10 @@ ghost use Rattle.index_file.specs.ListAt.{HasFrame, IsFirstListFault, PassesClos
 
 use crate::fault::OpenFault;
 use crate::frame::{WORDS_BEFORE, directory_of, format_of, frame_fault, frame_of};
+use crate::laws::sequence_laws;
 use crate::lists::{HALF, check_list};
 use part_cost::Format;
-use postings::{sequences_give_their_list, sequences_of_a_list_rise};
-use two_level::{Check, checks_stand_at_a_word, one_sequence};
+use two_level::Check;
 
 // Looks for the first check of the lists that breaks, and answers the word behind their sequences.
 fn check_lists(words: &[u64], format: Format) -> Result<u64, OpenFault>
@@ -19,10 +19,7 @@ fn check_lists(words: &[u64], format: Format) -> Result<u64, OpenFault>
     ensures ok { IfOk result (λ p. (cs : List CutList) × IsFileFront (numbers_of format) words.now cs × (length cs ≡ stated_terms words.now) × (p ≡ 2 + length (lists_words (numbers_of format) cs))) }
     ensures first { IfErr result (λ f. IsFirstListFault (numbers_of format) words.now f) }
 {
-    checks_stand_at_a_word();
-    one_sequence();
-    sequences_of_a_list_rise();
-    sequences_give_their_list();
+    sequence_laws();
     let terms = frame_of(words).terms as u32;
     let mut p = WORDS_BEFORE;
     for t in 0..terms {

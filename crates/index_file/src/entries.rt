@@ -29,7 +29,7 @@ fn greatest_freq(freqs: &[u32]) -> u32
 }
 
 // The directory words of a list of these frequencies, whose sequences begin at a word.
-pub(crate) fn list_entry(first: u64, freqs: &[u32], doc_cuts: &Cuts, freq_cuts: &Cuts) -> [u64; 4]
+pub(crate) fn spell_entry(first: u64, freqs: &[u32], doc_cuts: &Cuts, freq_cuts: &Cuts) -> [u64; 4]
     requires first { first < 2 ^ 63 }
     requires postings { length freqs.now < 2 ^ 32 }
     requires doc_parts { length doc_cuts.now.ends < 2 ^ 32 }
@@ -47,29 +47,17 @@ pub(crate) fn list_entry(first: u64, freqs: &[u32], doc_cuts: &Cuts, freq_cuts: 
     ]
 }
 
-// Appends a word.
-fn push(words: &mut Vec<u64>, word: u64) -> Result<(), NoMemory>
-    ensures { OnOk result (words.new.items ≡ words.old.items ++ word ∷ []) }
-{
-    match words.push(word) {
-        Ok(()) => Ok(()),
-        Err(_) => Err(NoMemory),
-    }
-}
-
 // Appends sizes, two in a word, the lower document in the low half.
 pub(crate) fn push_sizes(words: &mut Vec<u64>, sizes: &[u32]) -> Result<(), NoMemory>
     ensures { OnOk result (words.new.items ≡ words.old.items ++ sizes_words sizes.now) }
 {
     let (pairs, last) = sizes.as_chunks::<2>();
     for pair in pairs {
-        push(
-            words,
-            word_of_halves(u64::from(pair[0]), u64::from(pair[1])),
-        )?;
+        let word = word_of_halves(u64::from(pair[0]), u64::from(pair[1]));
+        words.push(word).map_err(|_| NoMemory)?;
     }
     if let Some(size) = last.first() {
-        push(words, u64::from(*size))?;
+        words.push(u64::from(*size)).map_err(|_| NoMemory)?;
     }
     Ok(())
 }

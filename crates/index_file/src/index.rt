@@ -8,15 +8,14 @@ ghost use Rattle.index_file.specs.IndexView as of;
 use crate::checking::check_file;
 use crate::fault::OpenFault;
 use crate::frame::{format_of, frame_of};
-use crate::lists::list_entry;
+use crate::laws::sequence_laws;
 use crate::measures::{Measure, of_index};
-use crate::sequences::known_at;
 use crate::totals::{all_postings, all_sizes, size_at};
+use crate::views::list_views;
 use cursor_api::DocCursor;
 use part_cost::{Format, Kind};
-use postings::{PostingCursor, sequences_give_their_list, sequences_of_a_list_rise};
+use postings::PostingCursor;
 use std::marker::Model;
-use two_level::{checks_stand_at_a_word, one_sequence, words_state_their_sequence};
 
 /// An index over the words of its file, in the format whose version is word 1.
 #[derive(Drop)]
@@ -45,11 +44,7 @@ impl<'a> Index<'a> {
         ensures no_index { IfErr result (λ f. ¬ IsIndex words.entry.now) }
         ensures first { IfErr result (λ f. IsFirstBroken words.entry.now f) }
     {
-        checks_stand_at_a_word();
-        one_sequence();
-        sequences_of_a_list_rise();
-        sequences_give_their_list();
-        words_state_their_sequence();
+        sequence_laws();
         check_file(words)?;
         Ok(Index { words })
     }
@@ -95,7 +90,7 @@ impl<'a> Index<'a> {
         requires within { d < self.now.collection.documents }
         ensures { result ≡ slice_index self.now.collection.sizes d }
     {
-        size_at(self.words, d)
+        size_at(self.words, frame_of(self.words).sizes, d)
     }
 
     /// The sum of all sizes.
@@ -144,13 +139,7 @@ fn cursor_at<'a>(words: &'a [u64], t: u32, format: Format) -> PostingCursor<'a>
     ensures list { (c : Collection) (parts : List ListParts) → Spells (numbers_of format) words.entry.now c parts → ⟦<PostingCursor<'a> as DocCursor>⟧.list result ≡ list_of c t }
     ensures start { ⟦<PostingCursor<'a> as DocCursor>⟧.place result ≡ 0 }
 {
-    checks_stand_at_a_word();
-    one_sequence();
-    sequences_of_a_list_rise();
-    sequences_give_their_list();
-    words_state_their_sequence();
-    let list = list_entry(words, t);
-    let docs = known_at(words, list.docs, list.doc_parts, list.len, format);
-    let freqs = known_at(words, list.sums, list.sum_parts, list.len, format);
-    PostingCursor::new(docs, freqs, list.greatest)
+    sequence_laws();
+    let list = list_views(words, t, format);
+    PostingCursor::new(list.docs, list.freqs, list.greatest)
 }

@@ -1,4 +1,6 @@
-ghost use Rattle.index_file.specs.Laws.{BytesAreSpelled, FilesSpellCollections, IndexIsRead, ListsAreCounted, NoVersionBreaks, OneBrokenCheck, OneIndex, WordsAreRead};
+ghost use Rattle.part_cost.specs.declared.formats.Format.{Format};
+ghost use Rattle.part_cost.specs.Formats.{numbers_of};
+ghost use Rattle.index_file.specs.Laws.{BytesAreSpelled, FilesSpellCollections, IndexIsRead, ListsAreCounted, NoVersionBreaks, OneBrokenCheck, OneIndex, SequenceLaws, WordsAreRead};
 
 use postings::{sequences_give_their_list, sequences_of_a_list_rise};
 use two_level::{checks_stand_at_a_word, one_sequence, words_state_their_sequence};
@@ -29,24 +31,28 @@ pub fn index_is_read()
 pub fn one_index()
     ensures { OneIndex }
 {
-    checks_stand_at_a_word();
-    one_sequence();
-    sequences_of_a_list_rise();
-    sequences_give_their_list();
-    words_state_their_sequence();
+    sequence_laws();
 }
 
 /// Words that are no index have one first broken check, and an index has none.
 pub fn one_broken_check()
     ensures { OneBrokenCheck }
 {
-    checks_stand_at_a_word();
-    one_sequence();
-    sequences_of_a_list_rise();
-    sequences_give_their_list();
+    sequence_laws();
 }
 
 /// Behind the opening word, a word 1 that is the version of no format is the first check that breaks.
 pub fn no_version_breaks()
     ensures { NoVersionBreaks }
 {}
+
+// What the crates below say of the sequences of lists, in each format.
+pub(crate) fn sequence_laws()
+    ensures { (format : Format) → SequenceLaws (numbers_of format) }
+{
+    checks_stand_at_a_word();
+    one_sequence();
+    sequences_of_a_list_rise();
+    sequences_give_their_list();
+    words_state_their_sequence();
+}

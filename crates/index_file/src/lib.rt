@@ -1,4 +1,4 @@
-// The words of an index file: written list by list, spelled as bytes, checked and opened.
+//! The words of an index file: written list by list, spelled as bytes, checked and opened.
 #![tactic(auto)]
 
 mod builder;
@@ -16,6 +16,7 @@ mod sequences;
 #[cfg(test)]
 mod tests;
 mod totals;
+mod views;
 
 pub use builder::{Builder, FinishError};
 pub use bytes::{WordsError, read_words, spell_into, spell_words};

@@ -8,11 +8,11 @@ ghost use Rattle.index_file.specs.IndexView.{index_stated, cut_lists};
 ghost use Rattle.index_file.specs.Measures.{measure_at, measure_of_part, measure_of_list, IsMeasured};
 
 use crate::frame::frame_of;
-use crate::lists::list_entry;
-use crate::sequences::known_at;
+use crate::laws::sequence_laws;
+use crate::views::list_views;
 use part_cost::{Format, Kind, part_is_relative};
-use postings::{sequences_give_their_list, sequences_of_a_list_rise};
-use two_level::{Part, SeqView, checks_stand_at_a_word, one_sequence, sequence_takes_its_cost};
+use postings::sequences_of_a_list_rise;
+use two_level::{Part, SeqView, sequence_takes_its_cost};
 
 // What is summed over the parts of an index.
 #[derive(Clone, Copy)]
@@ -57,15 +57,10 @@ fn of_list(measure: Measure, words: &[u64], t: u32, format: Format) -> u64
     requires within { t < stated_terms words.now }
     ensures { result ≡ slice_index (map (measure_of_list measure) (cut_lists (index_stated words.now))) t }
 {
-    checks_stand_at_a_word();
-    one_sequence();
-    sequences_of_a_list_rise();
-    sequences_give_their_list();
+    sequence_laws();
     sequence_takes_its_cost();
-    let list = list_entry(words, t);
-    let docs = known_at(words, list.docs, list.doc_parts, list.len, format);
-    let freqs = known_at(words, list.sums, list.sum_parts, list.len, format);
-    of_sequence(measure, &docs) + of_sequence(measure, &freqs)
+    let list = list_views(words, t, format);
+    of_sequence(measure, &list.docs) + of_sequence(measure, &list.freqs)
 }
 
 // What the sequences of all lists of the words of an index add.

@@ -1,4 +1,4 @@
-ghost use Rattle.std.specs.Prelude.{◌≡◌, ℕ, ◌^◌, ◌<◌, ◌≤◌, List, [], ◌∷◌, ◌++◌, sum, length, IfOk, OnOk, OnErr};
+ghost use Rattle.std.specs.Prelude.{◌≡◌, ℕ, ◌^◌, ◌<◌, ◌≤◌, List, ◌++◌, sum, length, IfOk, OnOk, OnErr};
 ghost use Rattle.std.specs.List.{All};
 ghost use Rattle.collection_model.specs.Collection.{Posting, IsPostingList};
 ghost use Rattle.collection_model.specs.Sequences.{doc_sequence, freq_sequence, lessened, sums_from};
@@ -39,23 +39,13 @@ pub fn write_postings(
     written
 }
 
-// Appends a value.
-fn push(values: &mut Vec<u64>, value: u64) -> Result<(), NoMemory>
-    ensures { OnOk result (values.new.items ≡ values.old.items ++ value ∷ []) }
-{
-    match values.push(value) {
-        Ok(()) => Ok(()),
-        Err(_) => Err(NoMemory),
-    }
-}
-
 /// The documents of a list as the values of their sequence.
 pub fn doc_values(alloc: Global, docs: &[u32]) -> Result<Vec<u64>, NoMemory>
     ensures { IfOk result (λ values. values.items ≡ docs.now) }
 {
     let mut values = Vec::new(alloc);
     for doc in docs {
-        push(&mut values, u64::from(*doc))?;
+        values.push(u64::from(*doc)).map_err(|_| NoMemory)?;
     }
     Ok(values)
 }
@@ -70,7 +60,7 @@ pub fn freq_sums(alloc: Global, freqs: &[u32]) -> Result<Vec<u64>, NoMemory>
     let mut sum = 0;
     for freq in freqs {
         sum += u64::from(*freq);
-        push(&mut sums, sum - 1)?;
+        sums.push(sum - 1).map_err(|_| NoMemory)?;
     }
     Ok(sums)
 }

@@ -1,17 +1,14 @@
-use Rattle.std.proofs.Common.{◌≡◌, refl, sym, subst, arith, rules, None, Some, Result, Err}
+use Rattle.std.proofs.Common.{◌≡◌, refl, subst, arith, rules, None, Some}
 use Rattle.std.specs.Prelude.{IfErr}
-use Rattle.std.proofs.lemmas.Result.{IfErr-weaker, IfErr-at_err}
+use Rattle.std.proofs.lemmas.Result.{IfErr-weaker}
 use Rattle.part_cost.specs.Formats.{numbers_of}
 use Rattle.index_file.specs.declared.fault.OpenFault.{OpenFault}
 use Rattle.index_file.specs.FirstBroken.{frame_broken, IsFirstBrokenIn, IsFirstBroken}
 use Rattle.index_file.specs.ListAt.{IsFirstListFault, PassesClosing}
 use Rattle.index_file.proofs.Frames.{frame-stands, frame-breaks}
-use Rattle.index_file.proofs.FirstFaults.{list-first}
+use Rattle.index_file.proofs.FirstFaults.{list-first, from-err}
 use Rattle.index_file.proofs.Spelling.{is-index}
 use Rattle.index_file.proofs.checking.check_file.Goals as goal
-
-from-err : {T U : Type 0} (r : Result T OpenFault) (s : Result U OpenFault) (e : OpenFault) (P : OpenFault → Type 0) → r ≡ Err e → s ≡ Err e → IfErr r P → IfErr s P
-from-err r s e P a b h = subst (λ x. IfErr x P) (sym b) (IfErr-at_err P a h)
 
 pub check_lists-requires-clause-frame : goal.check_lists-requires-clause-frame
 check_lists-requires-clause-frame c =

@@ -5,7 +5,6 @@ use Rattle.part_cost.specs.Formats.{numbers_of}
 use Rattle.part_cost.proofs.Rooms.{formats-have-room}
 use Rattle.index_file.specs.FirstBroken.{stated_terms, IsTermFault}
 use Rattle.index_file.specs.ListAt.{IsFirstListFault}
-use Rattle.index_file.proofs.Standing.{Below}
 use Rattle.index_file.proofs.Fronts.{reached-first, reached-next, reached-front, reached-fault}
 use Rattle.index_file.proofs.checking.check_lists.Goals as goal
 
@@ -21,12 +20,7 @@ loop-t-preserved c =
 pub returns-in_err-p-clause-first : goal.returns-in_err-p-clause-first
 returns-in_err-p-clause-first c =
     let r = c.loop-t.invariant in
-    let laws : Below (numbers_of c.args.format) = record {
-      stand = c.checks_stand_at_a_word.ensures.sequence c.args.format;
-      one = c.one_sequence.ensures c.args.format;
-      rise = c.sequences_of_a_list_rise.ensures;
-      give = c.sequences_give_their_list.ensures;
-    } in
+    let laws = c.sequence_laws.ensures c.args.format in
     let same : c.check_list.result ≡ c.from_residual.result = first_of (search rules, cc) in
     let within : c.loop-t.t < stated_terms c.args.words.now = omega (arith, c.loop-t-test.true, c.frame_of-terms.ensures.terms) in
     subst (λ x. IfErr x (λ f. IsFirstListFault (numbers_of c.args.format) c.args.words.now f)) same

@@ -12,20 +12,20 @@ use Rattle.collection_model.proofs.Sequences.{sums-length}
 use Rattle.index_file.proofs.Added.{postings-are, list-within, parts-few, entry-is, KeepsMore, keeps-more}
 use Rattle.index_file.proofs.builder.Builder.append.Goals as goal
 
-pub list_entry-entry-requires-clause-postings : goal.list_entry-entry-requires-clause-postings
-list_entry-entry-requires-clause-postings c =
+pub spell_entry-entry-requires-clause-postings : goal.spell_entry-entry-requires-clause-postings
+spell_entry-entry-requires-clause-postings c =
     let small : c.args.self.now.documents ≤ (numbers_of c.args.self.now.format).most_documents = subst (λ b. b.documents ≤ (numbers_of b.format).most_documents) c.self.view_is c.self.invariant.documents in
     let are = postings-are (numbers_of c.args.self.now.format) c.args.self.now.documents c.args.docs.now c.args.freqs.now c.requires.same_length c.requires.list in
     omega (arith, (c.formats_have_room.ensures c.args.self.now.format).fit, are.few, c.requires.same_length)
 
-pub list_entry-entry-requires-clause-doc_parts : goal.list_entry-entry-requires-clause-doc_parts
-list_entry-entry-requires-clause-doc_parts c =
+pub spell_entry-entry-requires-clause-doc_parts : goal.spell_entry-entry-requires-clause-doc_parts
+spell_entry-entry-requires-clause-doc_parts c =
     let small : c.args.self.now.documents ≤ (numbers_of c.args.self.now.format).most_documents = subst (λ b. b.documents ≤ (numbers_of b.format).most_documents) c.self.view_is c.self.invariant.documents in
     let are = postings-are (numbers_of c.args.self.now.format) c.args.self.now.documents c.args.docs.now c.args.freqs.now c.requires.same_length c.requires.list in
     omega (arith, (c.formats_have_room.ensures c.args.self.now.format).fit, are.few, are.count, parts-few (length (postings_of c.args.docs.now c.args.freqs.now)) c.args.doc_cuts.now.ends c.requires.near.docs.allowed.partition)
 
-pub list_entry-entry-requires-clause-freq_parts : goal.list_entry-entry-requires-clause-freq_parts
-list_entry-entry-requires-clause-freq_parts c =
+pub spell_entry-entry-requires-clause-freq_parts : goal.spell_entry-entry-requires-clause-freq_parts
+spell_entry-entry-requires-clause-freq_parts c =
     let small : c.args.self.now.documents ≤ (numbers_of c.args.self.now.format).most_documents = subst (λ b. b.documents ≤ (numbers_of b.format).most_documents) c.self.view_is c.self.invariant.documents in
     let are = postings-are (numbers_of c.args.self.now.format) c.args.self.now.documents c.args.docs.now c.args.freqs.now c.requires.same_length c.requires.list in
     omega (arith, (c.formats_have_room.ensures c.args.self.now.format).fit, are.few, are.count, parts-few (length (postings_of c.args.docs.now c.args.freqs.now)) c.args.freq_cuts.now.ends c.requires.near.freqs.allowed.partition)
@@ -63,9 +63,9 @@ keeps c =
     let docs_are : c.args.docs.now ≡ doc_sequence list.list = sym are.docs_are in
     let written : c.write_postings.new.to.items ≡ s.words.items ++ doc_words (numbers_of s.format) list ++ freq_words (numbers_of s.format) list = c.in_ok-write_postings.ensures.ok ∙ (λ t. s.words.items ++ sequence_words (numbers_of s.format) (docs_are t) (c.ends.ensures t) ++ sequence_words (numbers_of s.format) (c.requires.sums t) (c.ends-2.ensures t)) in
     let place : c.len-first.result ≡ length s.words.items = search rules in
-    let entry : c.list_entry-entry.result ≡ list_entry (numbers_of s.format) (length s.words.items) list =
-    c.list_entry-entry.ensures ∙ entry-is (numbers_of s.format) (c.formats_have_room.ensures s.format) s.documents _ c.args.doc_cuts.now.total c.args.docs.now c.args.freqs.now c.args.doc_cuts.now.ends c.args.freq_cuts.now.ends (c.sequence_takes_its_cost.ensures s.format) c.requires.same_length c.self.invariant.documents good near total ∙ ap (λ p. list_entry (numbers_of s.format) p list) place in
-    let entered : c.extend_from_slice.new.self.items ≡ s.directory.items ++ c.list_entry-entry.result = search rules in
+    let entry : c.spell_entry-entry.result ≡ list_entry (numbers_of s.format) (length s.words.items) list =
+    c.spell_entry-entry.ensures ∙ entry-is (numbers_of s.format) (c.formats_have_room.ensures s.format) s.documents _ c.args.doc_cuts.now.total c.args.docs.now c.args.freqs.now c.args.doc_cuts.now.ends c.args.freq_cuts.now.ends (c.sequence_takes_its_cost.ensures s.format) c.requires.same_length c.self.invariant.documents good near total ∙ ap (λ p. list_entry (numbers_of s.format) p list) place in
+    let entered : c.extend_from_slice.new.self.items ≡ s.directory.items ++ c.spell_entry-entry.result = search rules in
     keeps-more s.format s.documents s.words.items s.directory.items c.write_postings.new.to.items c.extend_from_slice.new.self.items list c.self.invariant good near room written (entered ∙ ap (λ ws. s.directory.items ++ ws) entry)
 
 pub invariant_of-self-else-is_err : goal.invariant_of-self-else-is_err

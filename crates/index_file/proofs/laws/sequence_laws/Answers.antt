@@ -1,0 +1,10 @@
+use Rattle.index_file.proofs.laws.sequence_laws.Goals as goal
+
+pub returns : goal.returns
+returns c v = record {
+  stand = c.checks_stand_at_a_word.ensures.sequence v;
+  one = c.one_sequence.ensures v;
+  state = c.words_state_their_sequence.ensures v;
+  rise = c.sequences_of_a_list_rise.ensures;
+  give = c.sequences_give_their_list.ensures;
+}

@@ -1,0 +1,39 @@
+ghost use Rattle.std.specs.Prelude.{◌≡◌, ◌<◌, ◌^◌, length};
+ghost use Rattle.part_cost.specs.Formats.{numbers_of};
+ghost use Rattle.index_file.specs.FileWords.{IsIndexIn};
+ghost use Rattle.index_file.specs.FirstBroken.{stated_terms, stated_greatest};
+ghost use Rattle.index_file.specs.IndexView.{docs_stated, freqs_stated};
+
+use crate::laws::sequence_laws;
+use crate::lists::list_entry;
+use crate::sequences::known_at;
+use part_cost::Format;
+use two_level::SeqView;
+
+// A list of an index, ready to be read: its two sequences, and its greatest frequency.
+#[derive(Drop)]
+pub(crate) struct ListViews<'a> {
+    pub(crate) docs: SeqView<'a>,
+    pub(crate) freqs: SeqView<'a>,
+    pub(crate) greatest: u32,
+}
+
+// List t of the words of an index.
+pub(crate) fn list_views<'a>(words: &'a [u64], t: u32, format: Format) -> ListViews<'a>
+    requires words { length words.now < 2 ^ 57 }
+    requires index { IsIndexIn (numbers_of format) words.now }
+    requires within { t < stated_terms words.now }
+    ensures docs { result.docs ≡ docs_stated (numbers_of format) words.entry.now t }
+    ensures freqs { result.freqs ≡ freqs_stated (numbers_of format) words.entry.now t }
+    ensures greatest { result.greatest ≡ stated_greatest words.entry.now t }
+{
+    sequence_laws();
+    let list = list_entry(words, t);
+    let docs = known_at(words, list.docs, list.doc_parts, list.len, format);
+    let freqs = known_at(words, list.sums, list.sum_parts, list.len, format);
+    ListViews {
+        docs,
+        freqs,
+        greatest: list.greatest,
+    }
+}
