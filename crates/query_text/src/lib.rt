@@ -10,6 +10,7 @@ mod term_lists;
 mod weighted_lists;
 mod weighted_terms;
 
+pub use numbers::number;
 pub use parsing::parse;
 pub use query::{Bad, NoMemory, ParseError, Query, Terms};
 pub use replies::{bad_reply, list_reply, next_reply, top_reply};

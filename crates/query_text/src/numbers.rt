@@ -24,7 +24,7 @@ pub fn number(field: &[u8]) -> Option<u32>
 
 /// The number that the first field of a text spells and the text behind it, None where there is no field or it is no
 /// number.
-pub fn next_number(text: &[u8]) -> Option<(u32, &[u8])>
+pub(crate) fn next_number(text: &[u8]) -> Option<(u32, &[u8])>
     ensures first { MatchOption result
         ((numbers_of (fields text.now) ≡ Some []) ⊎ (numbers_of (fields text.now) ≡ None))
         (λ cut. numbers_of (fields text.now) ≡ field_before (Some cut.0) (numbers_of (fields cut.1.now))) }

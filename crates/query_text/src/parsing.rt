@@ -34,8 +34,8 @@ fn next_query(arguments: &[u8], terms: u32) -> Result<Query, Bad>
 fn top_query(alloc: Global, arguments: &[u8], terms: u32) -> Result<Query, ParseError>
     ensures { Parses result (top_query terms (fields arguments.now)) }
 {
-    let (count, arguments) = next_field(arguments).ok_or(ParseError::Bad(Bad::Number))?;
-    let k = number(count).ok_or(ParseError::Bad(Bad::Number))?;
+    let (count, arguments) = next_field(arguments).ok_or(Bad::Number)?;
+    let k = number(count).ok_or(Bad::Number)?;
     let terms = read_weighted(alloc, arguments, terms)?;
     Ok(Query::Top { k, terms })
 }
@@ -44,9 +44,9 @@ fn top_query(alloc: Global, arguments: &[u8], terms: u32) -> Result<Query, Parse
 fn fields_query(alloc: Global, line: &[u8], terms: u32) -> Result<Query, ParseError>
     ensures { Parses result (fields_query terms (fields line.now)) }
 {
-    let (verb, arguments) = next_field(line).ok_or(ParseError::Bad(Bad::Verb))?;
+    let (verb, arguments) = next_field(line).ok_or(Bad::Verb)?;
     match verb {
-        b"next" => next_query(arguments, terms).map_err(ParseError::Bad),
+        b"next" => Ok(next_query(arguments, terms)?),
         b"and" => Ok(Query::And(read_terms(alloc, arguments, terms)?)),
         b"or" => Ok(Query::Or(read_terms(alloc, arguments, terms)?)),
         b"top" => top_query(alloc, arguments, terms),

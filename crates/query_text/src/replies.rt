@@ -4,7 +4,7 @@ ghost use Rattle.query_text.specs.Texts.{next_text, list_text, top_text, bad_tex
 
 use crate::query::{Bad, NoMemory};
 use itoa::write_digits;
-use std::alloc::{AllocError, Global};
+use std::alloc::Global;
 
 // How many decimal digits a number has.
 fn digit_count(number: u64) -> usize
@@ -18,7 +18,7 @@ fn digit_count(number: u64) -> usize
 }
 
 // Appends a number's decimal digits, written where they stay.
-fn push_decimal(text: &mut Vec<u8>, number: u64) -> Result<(), AllocError>
+fn push_decimal(text: &mut Vec<u8>, number: u64) -> Result<(), NoMemory>
     ensures { OnOk result (text.new.items ≡ text.old.items ++ decimal number) }
 {
     let end = text.len() + digit_count(number);
@@ -27,11 +27,12 @@ fn push_decimal(text: &mut Vec<u8>, number: u64) -> Result<(), AllocError>
     Ok(())
 }
 
-fn spell_next(alloc: Global, posting: Option<(u32, u32)>) -> Result<Vec<u8>, AllocError>
+/// The reply to `next`: the first posting as its document and its frequency, or `end` where there is none.
+pub fn next_reply(alloc: Global, posting: Option<(u32, u32)>) -> Result<Vec<u8>, NoMemory>
     ensures { IfOk result (λ text. text.items ≡ next_text posting) }
 {
     let Some((doc, freq)) = posting else {
-        return Vec::from_slice(alloc, b"end\n");
+        return Ok(Vec::from_slice(alloc, b"end\n")?);
     };
     let mut text = Vec::new(alloc);
     push_decimal(&mut text, u64::from(doc))?;
@@ -41,14 +42,8 @@ fn spell_next(alloc: Global, posting: Option<(u32, u32)>) -> Result<Vec<u8>, All
     Ok(text)
 }
 
-/// The reply to `next`: the first posting as its document and its frequency, or `end` where there is none.
-pub fn next_reply(alloc: Global, posting: Option<(u32, u32)>) -> Result<Vec<u8>, NoMemory>
-    ensures { IfOk result (λ text. text.items ≡ next_text posting) }
-{
-    spell_next(alloc, posting).map_err(|_| NoMemory)
-}
-
-fn spell_list(alloc: Global, docs: &[u32]) -> Result<Vec<u8>, AllocError>
+/// The reply to `and` and `or`: how many documents, and each.
+pub fn list_reply(alloc: Global, docs: &[u32]) -> Result<Vec<u8>, NoMemory>
     ensures { IfOk result (λ text. text.items ≡ list_text docs.now) }
 {
     let mut text = Vec::new(alloc);
@@ -61,14 +56,8 @@ fn spell_list(alloc: Global, docs: &[u32]) -> Result<Vec<u8>, AllocError>
     Ok(text)
 }
 
-/// The reply to `and` and `or`: how many documents, and each.
-pub fn list_reply(alloc: Global, docs: &[u32]) -> Result<Vec<u8>, NoMemory>
-    ensures { IfOk result (λ text. text.items ≡ list_text docs.now) }
-{
-    spell_list(alloc, docs).map_err(|_| NoMemory)
-}
-
-fn spell_top(alloc: Global, top: &[(u32, u64)]) -> Result<Vec<u8>, AllocError>
+/// The reply to `top`: how many documents, and each with its score.
+pub fn top_reply(alloc: Global, top: &[(u32, u64)]) -> Result<Vec<u8>, NoMemory>
     ensures { IfOk result (λ text. text.items ≡ top_text top.now) }
 {
     let mut text = Vec::new(alloc);
@@ -81,13 +70,6 @@ fn spell_top(alloc: Global, top: &[(u32, u64)]) -> Result<Vec<u8>, AllocError>
     }
     text.push(b'\n')?;
     Ok(text)
-}
-
-/// The reply to `top`: how many documents, and each with its score.
-pub fn top_reply(alloc: Global, top: &[(u32, u64)]) -> Result<Vec<u8>, NoMemory>
-    ensures { IfOk result (λ text. text.items ≡ top_text top.now) }
-{
-    spell_top(alloc, top).map_err(|_| NoMemory)
 }
 
 /// The reply to a line that breaks a rule.

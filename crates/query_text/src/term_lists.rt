@@ -50,10 +50,10 @@ fn written_numbers(alloc: Global, text: &[u8]) -> Result<NumberList, AllocError>
 }
 
 /// The distinct terms that numbers name over so many terms, or the first rule that they break.
-pub fn read_terms(alloc: Global, arguments: &[u8], terms: u32) -> Result<Terms, ParseError>
+pub(crate) fn read_terms(alloc: Global, arguments: &[u8], terms: u32) -> Result<Terms, ParseError>
     ensures { Parses result (terms_named terms (numbers_of (fields arguments.now))) }
 {
-    check_terms(arguments, terms).map_err(ParseError::Bad)?;
-    let numbers = written_numbers(alloc, arguments).map_err(|_| ParseError::NoMemory)?;
+    check_terms(arguments, terms)?;
+    let numbers = written_numbers(alloc, arguments)?;
     Ok(Terms::from_numbers(numbers))
 }

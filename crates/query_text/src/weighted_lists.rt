@@ -99,10 +99,14 @@ fn written_fields(alloc: Global, text: &[u8]) -> Result<FieldList, AllocError>
 }
 
 /// The distinct terms that weighted fields name over so many terms, or the first rule that they break.
-pub fn read_weighted(alloc: Global, arguments: &[u8], terms: u32) -> Result<Weighted, ParseError>
+pub(crate) fn read_weighted(
+    alloc: Global,
+    arguments: &[u8],
+    terms: u32,
+) -> Result<Weighted, ParseError>
     ensures { Parses result (weighted_named terms (weighted_fields (fields arguments.now))) }
 {
-    check_weighted(arguments, terms).map_err(ParseError::Bad)?;
-    let found = written_fields(alloc, arguments).map_err(|_| ParseError::NoMemory)?;
-    Weighted::from_fields(alloc, found.as_slice()).map_err(|_| ParseError::NoMemory)
+    check_weighted(arguments, terms)?;
+    let found = written_fields(alloc, arguments)?;
+    Ok(Weighted::from_fields(alloc, found.as_slice())?)
 }

@@ -1,7 +1,8 @@
 -- Lemmas on top lists of the documents below a number, and on cursors that skip.
-use Rattle.std.proofs.Common.{◌≡◌, refl, sym, ap, inl, inr, ◌⊎◌, ◌∙◌, subst, ℕ, zero, suc, ◌+◌, ◌-◌, ◌<◌, ◌≤◌, Bool, true, false, min, List, [], ◌∷◌, ◌++◌, take, length, get_or, Some, arith}
+use Rattle.std.proofs.Common.{◌≡◌, refl, sym, ap, inl, inr, ◌∙◌, subst, ℕ, zero, suc, ◌+◌, ◌-◌, ◌<◌, ◌≤◌, true, false, min, List, [], ◌∷◌, ◌++◌, take, length, get_or, Some, arith}
 use Rattle.std.specs.Prelude.{Contains}
 use Rattle.std.specs.List.{All, list_any}
+use Rattle.std.proofs.lemmas.Bool.{cases_Bool}
 use Rattle.std.proofs.lemmas.List.{length-map, length_push}
 use Rattle.std.proofs.lemmas.List.Elements.{All-contains, All-nil, All-weaker, Contains-append_left, Contains-push_cases}
 use Rattle.std.proofs.lemmas.List.Kept.{AllPairs-from_increasing}
@@ -17,11 +18,6 @@ use Rattle.scan_plans.proofs.Scans.{filter-yes, filter-skip, filter-below}
 use Rattle.scan_plans.proofs.Postings.{doc_at-some, doc_at-within, docs-rise}
 use Rattle.scan_plans.specs.Best.{pairs_of, IsBest}
 use Rattle.scan_plans.proofs.Bests.{best-none, best-more, best-top, top-one, any-below, held-before}
-
--- a test says yes or no
-either : (b : Bool) → (b ≡ true) ⊎ (b ≡ false)
-either true = inl refl
-either false = inr refl
 
 -- ---- the documents below a number, one more
 any-yes : (d : ℕ) (lists : List (List Posting)) → list_any (has_doc d) lists ≡ true → in_any (d + 1) lists ≡ in_any d lists ++ d ∷ []
@@ -39,7 +35,7 @@ best-of_no_room (suc low) lists weights =
     let Best : List ℕ → Type 0 = λ docs. IsBest 0 lists weights docs [] in
     let next : low + 1 ≡ suc low = omega arith in
     let none : IsFirstK 0 ((low, score lists weights low) ∷ []) [] = record { ordered = λ i j d lt within. absurd (omega arith); of_them = All-nil (Contains ((low, score lists weights low) ∷ [])); count = refl; others_after = λ e c absent. All-nil (λ h. Before h e) } in
-    let more : Best (in_any (low + 1) lists) = elim (either (list_any (has_doc low) lists)) as (λ _. Best (in_any (low + 1) lists)) [
+    let more : Best (in_any (low + 1) lists) = elim (cases_Bool (list_any (has_doc low) lists)) as (λ _. Best (in_any (low + 1) lists)) [
       | inl has ↦ subst Best (sym (any-yes low lists has)) (best-more 0 lists weights (in_any low lists) [] [] low before (any-below low low lists (omega arith)) none)
       | inr not ↦ subst Best (sym (any-no low lists not)) before
     ] in
@@ -98,7 +94,7 @@ skip-full d lists weights k held has full least top =
 
 skip-one : (d : ℕ) (lists : List (List Posting)) (weights : List ℕ) (k : ℕ) (held : List Pair) → CannotEnter lists weights k held d → IsTop d lists weights k held → IsTop (d + 1) lists weights k held
 skip-one d lists weights k held (inl absent) top = skip-absent d lists weights k held absent top
-skip-one d lists weights k held (inr full) top = elim (either (list_any (has_doc d) lists)) as (λ _. IsTop (d + 1) lists weights k held) [
+skip-one d lists weights k held (inr full) top = elim (cases_Bool (list_any (has_doc d) lists)) as (λ _. IsTop (d + 1) lists weights k held) [
   | inl has ↦ skip-full d lists weights k held has full.0 full.1 top
   | inr not ↦ skip-absent d lists weights k held not top
 ]

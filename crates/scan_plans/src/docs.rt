@@ -1,4 +1,4 @@
-ghost use Rattle.std.specs.Prelude.{◌≡◌, ℕ, ◌+◌, ◌^◌, ◌≤◌, ◌<◌, true, false, List, [], ◌∷◌, ◌++◌, map, length, slice_index_or, IfOk, OnOk};
+ghost use Rattle.std.specs.Prelude.{◌≡◌, ℕ, ◌+◌, ◌^◌, ◌≤◌, ◌<◌, true, false, List, map, length, slice_index_or, IfOk, OnOk};
 ghost use Rattle.std.specs.List.{All};
 ghost use Rattle.std.specs.List.Sorted.{IsPermutation, IsNonDecreasingBy};
 ghost use Rattle.collection_model.specs.Collection.{Posting};
@@ -25,7 +25,7 @@ pub fn and_docs<C: DocCursor>(alloc: Global, cursors: &mut [C]) -> Result<Vec<u3
     shortest_first(cursors);
     let mut from = 0;
     while let Some(doc) = next_shared(cursors, from) {
-        append(&mut docs, doc)?;
+        docs.push(doc)?;
         from = doc + 1;
     }
     Ok(docs)
@@ -75,17 +75,8 @@ fn append_marked(
         marks[at] = false;
         if marked {
             let doc = doc_in(first, at);
-            append(docs, doc)?;
+            docs.push(doc)?;
         }
     }
     Ok(())
-}
-
-fn append(docs: &mut Vec<u32>, doc: u32) -> Result<(), NoMemory>
-    ensures { OnOk result (docs.new.items ≡ docs.old.items ++ doc ∷ []) }
-{
-    match docs.push(doc) {
-        Ok(()) => Ok(()),
-        Err(_) => Err(NoMemory),
-    }
 }

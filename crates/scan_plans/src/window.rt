@@ -17,10 +17,7 @@ pub(crate) fn new_scores(alloc: Global) -> Result<Vec<u64>, NoMemory>
     ensures some { IfOk result (λ scores. 0 < length scores.items) }
     ensures clear { IfOk result (λ scores. All (λ s. s ≡ 0) scores.items) }
 {
-    match vec![in alloc; 0; SPAN] {
-        Ok(scores) => Ok(scores),
-        Err(_) => Err(NoMemory),
-    }
+    Ok(vec![in alloc; 0; SPAN]?)
 }
 
 /// Room for the marks of a window's documents, all false.
@@ -28,10 +25,7 @@ pub(crate) fn new_marks(alloc: Global) -> Result<Vec<bool>, NoMemory>
     ensures some { IfOk result (λ marks. 0 < length marks.items) }
     ensures clear { IfOk result (λ marks. All (λ m. m ≡ false) marks.items) }
 {
-    match vec![in alloc; false; SPAN] {
-        Ok(marks) => Ok(marks),
-        Err(_) => Err(NoMemory),
-    }
+    Ok(vec![in alloc; false; SPAN]?)
 }
 
 /// The document at a place of a window from `first` on.

@@ -1,4 +1,4 @@
-// The best documents of a query, found without scoring every document that a list has.
+//! The best documents of a query, found without scoring every document that a list has.
 #![tactic(auto)]
 
 mod maxscore;

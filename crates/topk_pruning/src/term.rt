@@ -1,4 +1,4 @@
-ghost use Rattle.std.specs.Prelude.{◌≡◌, ◌≤◌, ◌<◌, ◌*◌, ◌^◌, ◌++◌, [], ◌∷◌, map, length, sum, IfOk, OnOk};
+ghost use Rattle.std.specs.Prelude.{◌≡◌, ◌≤◌, ◌<◌, ◌*◌, ◌^◌, map, length, sum, IfOk};
 ghost use Rattle.std.specs.List.Sorted.{IsPermutation};
 ghost use Rattle.collection_model.specs.Collection.{greatest_freq};
 ghost use Rattle.topk_pruning.specs.Terms.{terms_of, bounds};
@@ -49,14 +49,11 @@ fn terms_in_order<C: DocCursor>(
         let list = terms.len();
         let weight = weights[list];
         let bound = bound_of(cursor, weight);
-        append(
-            &mut terms,
-            Term {
-                list,
-                weight,
-                bound,
-            },
-        )?;
+        terms.push(Term {
+            list,
+            weight,
+            bound,
+        })?;
     }
     Ok(terms)
 }
@@ -67,15 +64,6 @@ fn bound_of<C: DocCursor>(cursor: &C, weight: u32) -> u64
     ensures bound { result ≤ weight * 4294967295 }
 {
     u64::from(weight) * u64::from(cursor.max_freq())
-}
-
-fn append(terms: &mut Vec<Term>, term: Term) -> Result<(), NoMemory>
-    ensures { OnOk result (terms.new.items ≡ terms.old.items ++ term ∷ []) }
-{
-    match terms.push(term) {
-        Ok(()) => Ok(()),
-        Err(_) => Err(NoMemory),
-    }
 }
 
 // The bounds of some terms together.

@@ -30,7 +30,7 @@ pub loop-doc-preserved : goal.loop-doc-preserved
 loop-doc-preserved g c = record {
   lists = c.next_shared.ensures.lists ∙ c.loop-doc.invariant.lists;
   passed = later-passed g.C.DocCursor.list g.C.DocCursor.place c.next_shared.new.cursors c.in-Some.doc _ (omega arith) c.in-Some.ensures.passed;
-  docs = and-step _ (map g.C.DocCursor.list c.loop-doc.cursors) c.loop-doc.docs.items _ c.loop-doc.from c.in-Some.doc c.loop-doc.invariant.lists c.in_ok-append.ensures c.loop-doc.invariant.docs c.in-Some.ensures.first.0 c.in-Some.ensures.first.1 c.in-Some.ensures.shared;
+  docs = and-step _ (map g.C.DocCursor.list c.loop-doc.cursors) c.loop-doc.docs.items _ c.loop-doc.from c.in-Some.doc c.loop-doc.invariant.lists c.in_ok-push.ensures.items c.loop-doc.invariant.docs c.in-Some.ensures.first.0 c.in-Some.ensures.first.1 c.in-Some.ensures.shared;
 }
 
 pub returns : goal.returns

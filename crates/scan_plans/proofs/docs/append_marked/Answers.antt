@@ -1,7 +1,7 @@
 use Rattle.std.proofs.Common.{◌≡◌, sym, ap, ◌∙◌, subst, ℕ, ◌+◌, ◌<◌, false, List, [], ◌∷◌, ◌++◌, Bool, length, get_or, arith}
 use Rattle.scan_plans.proofs.Windows.{IsAppended, appended-none, appended-more, appended-same, appended-all, cleared-none, cleared-more, cleared-all, IsCleared}
 use Rattle.scan_plans.proofs.docs.append_marked.Goals as goal
-use Rattle.scan_plans.proofs.docs.append_marked.Goals.{then-marked+in_ok-append, else-marked}
+use Rattle.scan_plans.proofs.docs.append_marked.Goals.{then-marked+in_ok-push, else-marked}
 
 pub loop-at-init : goal.loop-at-init
 loop-at-init c = record {
@@ -27,8 +27,8 @@ loop-at-preserved c =
     let read : get_or c.loop-at.marks at false ≡ get_or marks at false = so_far.cleared.rest at (omega arith) in
     record {
       appended = elim c.if-marked.branch as (λ _. IsAppended first (at + 1) marks old c.if-marked.docs.items) [
-        | then-marked+in_ok-append w ↦ (let items : c.if-marked.docs.items ≡ w.append.new.docs.items = λ i. (w.docs-is i).items in
-            appended-more first at marks old c.loop-at.docs.items c.if-marked.docs.items within (sym read ∙ w.if-marked.true) (items ∙ w.in_ok-append.ensures ∙ ap (λ (d : ℕ). c.loop-at.docs.items ++ d ∷ []) w.doc_in-doc.ensures) so_far.appended)
+        | then-marked+in_ok-push w ↦ (let items : c.if-marked.docs.items ≡ w.push.new.self.items = λ i. (w.docs-is i).items in
+            appended-more first at marks old c.loop-at.docs.items c.if-marked.docs.items within (sym read ∙ w.if-marked.true) (items ∙ w.in_ok-push.ensures.items ∙ ap (λ (d : ℕ). c.loop-at.docs.items ++ d ∷ []) w.doc_in-doc.ensures) so_far.appended)
         | else-marked w ↦ (let items : c.if-marked.docs.items ≡ c.loop-at.docs.items = λ i. (w.docs-is i).items in
             subst (λ (l : List ℕ). IsAppended first (at + 1) marks old l) (sym items) (appended-same first at marks old c.loop-at.docs.items within (sym read ∙ w.if-marked.false) so_far.appended))
       ];

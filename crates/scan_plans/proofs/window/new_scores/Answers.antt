@@ -3,5 +3,5 @@ use Rattle.std.specs.List.{All}
 use Rattle.std.proofs.lemmas.List.Elements.{All-replicate}
 use Rattle.scan_plans.proofs.window.new_scores.Goals as goal
 
-pub returns-in-Ok-clause-clear : goal.returns-in-Ok-clause-clear
-returns-in-Ok-clause-clear c = subst (All (λ s. s ≡ 0)) (sym (c.in-Ok.ensures.items_if_clones_equal (λ y e. search rules))) (All-replicate (λ s. s ≡ 0) 4096 0 refl)
+pub returns-clause-clear : goal.returns-clause-clear
+returns-clause-clear c = subst (All (λ s. s ≡ 0)) (sym (c.in_ok-vec.ensures.items_if_clones_equal (λ y e. search rules))) (All-replicate (λ s. s ≡ 0) 4096 0 refl)

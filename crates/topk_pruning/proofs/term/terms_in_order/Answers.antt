@@ -34,9 +34,9 @@ loop-cursor-preserved g c =
     let list_is : get_or lists i [] ≡ g.C.DocCursor.list c.cursor-item.result = get_or-map g.C.DocCursor.list c.args.cursors.now i c.cursor-item.result [] within ∙ ap g.C.DocCursor.list (sym c.cursor-item.is) in
     let bound : c.bound_of-bound.result ≡ get_or weights i 0 * greatest_freq (get_or lists i []) = c.bound_of-bound.ensures.value ∙ ap (λ (w : ℕ). w * greatest_freq (g.C.DocCursor.list c.cursor-item.result)) weight ∙ ap (λ (l : List Posting). get_or weights i 0 * greatest_freq l) (sym list_is) in
     let heavier = sum_by_more (λ (w : ℕ). w) weights i 0 (omega (arith, c.requires.each)) in
-    let adds : c.append.new.terms.items ≡ c.loop-cursor.terms.items ++ t ∷ [] = c.in_ok-append.ensures in
+    let adds : c.push.new.self.items ≡ c.loop-cursor.terms.items ++ t ∷ [] = c.in_ok-push.ensures.items in
     let pushed = ap (sum_by (λ (t : Term). t.bound)) adds ∙ sum_by_push (λ (t : Term). t.bound) c.loop-cursor.terms.items t in
     record {
-      all = terms-more lists weights i t c.loop-cursor.terms.items c.append.new.terms.items at weight bound c.loop-cursor.invariant.all adds;
+      all = terms-more lists weights i t c.loop-cursor.terms.items c.push.new.self.items at weight bound c.loop-cursor.invariant.all adds;
       light = omega (arith, pushed, heavier, weight, c.bound_of-bound.ensures.bound, c.loop-cursor.invariant.light);
     }
