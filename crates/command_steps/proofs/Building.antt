@@ -26,6 +26,7 @@ use Rattle.collection_reader.specs.InTurn.{HasReadAll, ReadsInTurn}
 use Rattle.index_file.specs.declared.builder.FinishError.{FinishError}
 use Rattle.index_file.specs.declared.builder.FinishError.TheVariants as finishing
 use Rattle.index_file.specs.FileWords.{CutList, ListParts, with_parts, words_of_file, file_words, Spells}
+use Rattle.index_file.proofs.CutLists.{with-parts-of}
 use Rattle.index_file.specs.Builder.{Built, StandsFor, AddsList, IsNearCut, lists_added, most_words}
 use Rattle.index_file.specs.Laws.{ListsAreCounted, FilesSpellCollections}
 use Rattle.command_steps.specs.declared.build.BuildError.{BuildError}
@@ -222,11 +223,6 @@ sizes-refused format turn one base old between now r next b sizes before after e
     build-refused format one base old now before after e result
     (turn.sizes_refused base old between now r next built.lists sizes e built.read (subst (ReadsSizes r next between now sizes) is reads)) ends
 
--- the lists and the parts of cut lists make them again
-with-own_parts : (cs : List CutList) → with_parts (map (λ c. c.list) cs) (map (λ c. c.parts) cs) ≡ cs
-with-own_parts [] = refl
-with-own_parts (c ∷ cs) = ap (λ rest. c ∷ rest) (with-own_parts cs)
-
 -- the parts in which a collection was cut, and its words
 pub record IsAllAdded (format : Format) (b : Built) (c : Collection) (before after : ℕ) : Type 0 where
   pub parts : List ListParts
@@ -260,7 +256,7 @@ all-added format spell b c before after added good =
       near = record {
         partitions = spells.partitions;
         near = subst (λ l. All (IsNearCut (numbers_of format)) (with_parts l (map (λ c. c.parts) cuts))) added.lists_are
-            (subst (All (IsNearCut (numbers_of format))) (sym (with-own_parts cuts)) near);
+            (subst (All (IsNearCut (numbers_of format))) (sym (with-parts-of cuts)) near);
       };
       counted = added.counted;
       stands = added.stands;

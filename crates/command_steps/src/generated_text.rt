@@ -119,7 +119,7 @@ fn push_reply<L: Answerer>(
     ensures { OnOk result ((reply : List ℕ) × IsReply (L.collection lists.now) line.now reply × (text.new.items ≡ text.old.items ++ reply)) }
 {
     let reply = reply_to(alloc, lists, plan, line.as_bytes())?;
-    text.extend_from_slice(&reply).map_err(|_| NoMemory)
+    Ok(text.extend_from_slice(&reply)?)
 }
 
 /// Appends the reply to a line by each of these plans.

@@ -44,7 +44,7 @@ impl<'i, 'a> TermLists for IndexLists<'i, 'a> {
 
 impl<'i, 'a> Answerer for IndexLists<'i, 'a> {
     fn answer(&self, alloc: Global, plan: Plan, query: &Query) -> Result<Vec<u8>, NoMemory> {
-        let mut cursors = cursors_of(alloc, self, terms_of(query)).map_err(|_| NoMemory)?;
+        let mut cursors = cursors_of(alloc, self, terms_of(query))?;
         answer(
             alloc,
             plan,

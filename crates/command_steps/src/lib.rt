@@ -1,5 +1,5 @@
-// The steps of the commands: words of an index are built, also those of a generated collection and of another index, loaded and written,
-// query lines are answered from them, and they are summed up.
+//! The steps of the commands: words of an index are built, also those of a generated collection and of another index, loaded and written,
+//! query lines are answered from them, and they are summed up.
 #![tactic(auto)]
 
 mod build;

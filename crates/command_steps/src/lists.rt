@@ -12,7 +12,7 @@ use std::alloc::Global;
 /// The posting lists of a collection.
 pub(crate) trait TermLists {
     /// A cursor over a list.
-    type Cursor: DocCursor + Default + Drop;
+    type Cursor: DocCursor + Drop;
 
     ghost collection: { Self → Collection };
 

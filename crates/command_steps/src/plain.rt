@@ -45,7 +45,7 @@ impl<'a> TermLists for PlainLists<'a> {
 impl<'a> Answerer for PlainLists<'a> {
     fn answer(&self, alloc: Global, plan: Plan, query: &Query) -> Result<Vec<u8>, NoMemory> {
         let collection = self.collection;
-        let mut cursors = cursors_of(alloc, self, terms_of(query)).map_err(|_| NoMemory)?;
+        let mut cursors = cursors_of(alloc, self, terms_of(query))?;
         answer(
             alloc,
             plan,

@@ -22,7 +22,6 @@ mod Landed
 mod PlainWalk
 mod Taken
 mod WordsRead
-mod NumbersParsed
 mod TextsRead
 mod Stopped
 mod IndexLoaded

@@ -1,23 +1,21 @@
 -- What a run leaves, from what its command left and what was reported.
-use Rattle.std.proofs.Common.{◌≡◌, refl, sym, ◌∙◌, ap, subst, ℕ, List}
-use Rattle.std.specs.Prelude.{◌≢◌, ⊤, not, IsTrue, Result, Ok, Err, IsOk, Option, Some, None}
-use Rattle.part_cost.specs.declared.formats.Format.{Format}
+use Rattle.std.proofs.Common.{◌≡◌, refl, sym, ◌∙◌, ap, subst, ℕ}
+use Rattle.std.specs.Prelude.{◌≢◌, not, IsTrue, Result, Ok, Err, IsOk, Option, None}
 use Rattle.pef_io.specs.SourceState.{SourceState}
 use Rattle.pef_io.specs.SinkState.{SinkState}
 use Rattle.pef_io.specs.DepotState.{DepotState}
 use Rattle.pef_top.specs.declared.status.Status.{Status}
 use Rattle.pef_top.specs.declared.stop.Stop.{Stop}
 use Rattle.pef_top.specs.declared.stop.Stop.TheVariants as stop
-use Rattle.command_steps.specs.declared.plan.Plan.{Plan}
-use Rattle.pef_top.specs.Command.{Command, Build, Query, Answer, Inspect, Generate}
+use Rattle.pef_top.specs.Command.{Command}
 use Rattle.pef_top.specs.Outside.{Outside, GotText, outside}
-use Rattle.pef_top.specs.Outcome.{Outcome, Done, Usage, BrokenCollection, BrokenIndex, FileFault, InputFault, IndexWriteFault, OutFault, NoMemory, IndexTooLarge, InputTooLarge, is_refusal, status_of, line_of}
+use Rattle.pef_top.specs.Outcome.{Outcome, Done, Usage, BrokenCollection, BrokenIndex, FileFault, InputFault, IndexWriteFault, OutFault, NoMemory, IndexTooLarge, InputTooLarge, status_of, line_of}
 use Rattle.pef_top.specs.Ends.{Ends}
 use Rattle.pef_top.specs.Commands.{IsUsage, Performs}
 use Rattle.pef_top.specs.Uncalled.{LeavesUncalled, calls_depot, reads_input, prints, objects}
 use Rattle.pef_top.specs.Private.Leaves.{Leaves, Reports}
 use Rattle.pef_top.specs.Private.Stops.{outcome_of, outcome_of_stop}
-use Rattle.pef_top.proofs.Counted.{stays, not_true}
+use Rattle.pef_top.proofs.Counted.{stays}
 
 -- words that are no command
 pub no_command : (d : DepotState) (i : SourceState) (o e e' : SinkState) (s : ℕ) → Leaves None (outside d i o e s) (outside d i o e' s) Usage
@@ -32,70 +30,6 @@ no_command d i o e e' s = record {
   depot_tells = refl;
   input_tells = refl;
   out_tells = refl;
-}
-
--- What is the same object: where there is no command, and in each one.
-module _ {D I O : Type 0} (accepted : Type 0) where
-  pub none_uncalled : (outcome : Outcome) (d : D) (i : I) (o : O) → LeavesUncalled None accepted outcome (objects d i o) (objects d i o)
-  none_uncalled outcome d i o = record {
-    depot = λ h. refl;
-    input = λ h. refl;
-    out = λ h. refl;
-    refused = λ h. record { input = refl; out = refl };
-    unaccepted = λ h. record { input = refl; out = refl };
-  }
-
-  pub build_uncalled : (base index : List ℕ) (format : Format) (outcome : Outcome) (d d' : D) (i : I) (o : O)
-      → LeavesUncalled (Some (Build base index format)) accepted outcome (objects d i o) (objects d' i o)
-  build_uncalled base index format outcome d d' i o = record {
-    depot = λ h. absurd (not_true h);
-    input = λ h. refl;
-    out = λ h. refl;
-    refused = λ h. record { input = refl; out = refl };
-    unaccepted = λ h. record { input = refl; out = refl };
-  }
-
-  pub query_uncalled : (index : List ℕ) (plan : Plan) (outcome : Outcome) (d d' : D) (i i' : I) (o o' : O)
-      → (IsTrue (is_refusal outcome) → (i' ≡ i) × (o' ≡ o)) → (¬ accepted → (i' ≡ i) × (o' ≡ o))
-      → LeavesUncalled (Some (Query index plan)) accepted outcome (objects d i o) (objects d' i' o')
-  query_uncalled index plan outcome d d' i i' o o' refused unaccepted = record {
-    depot = λ h. absurd (not_true h);
-    input = λ h. absurd (not_true h);
-    out = λ h. absurd (not_true h);
-    refused = λ h. let same = refused h in record { input = same.0; out = same.1 };
-    unaccepted = λ h. let same = unaccepted h in record { input = same.0; out = same.1 };
-  }
-
-  pub answer_uncalled : (base : List ℕ) (plan : Plan) (outcome : Outcome) (d d' : D) (i i' : I) (o o' : O)
-      → (IsTrue (is_refusal outcome) → (i' ≡ i) × (o' ≡ o)) → (¬ accepted → (i' ≡ i) × (o' ≡ o))
-      → LeavesUncalled (Some (Answer base plan)) accepted outcome (objects d i o) (objects d' i' o')
-  answer_uncalled base plan outcome d d' i i' o o' refused unaccepted = record {
-    depot = λ h. absurd (not_true h);
-    input = λ h. absurd (not_true h);
-    out = λ h. absurd (not_true h);
-    refused = λ h. let same = refused h in record { input = same.0; out = same.1 };
-    unaccepted = λ h. let same = unaccepted h in record { input = same.0; out = same.1 };
-  }
-
-  pub inspect_uncalled : (index : List ℕ) (outcome : Outcome) (d d' : D) (i : I) (o o' : O) → (IsTrue (is_refusal outcome) → o' ≡ o) → (¬ accepted → o' ≡ o)
-      → LeavesUncalled (Some (Inspect index)) accepted outcome (objects d i o) (objects d' i o')
-  inspect_uncalled index outcome d d' i o o' refused unaccepted = record {
-    depot = λ h. absurd (not_true h);
-    input = λ h. refl;
-    out = λ h. absurd (not_true h);
-    refused = λ h. record { input = refl; out = refused h };
-    unaccepted = λ h. record { input = refl; out = unaccepted h };
-  }
-
--- what reads nothing accepts always
-pub generate_uncalled : {D I O : Type 0} (seed n t : ℕ) (outcome : Outcome) (d : D) (i : I) (o o' : O) → (IsTrue (is_refusal outcome) → o' ≡ o)
-    → LeavesUncalled (Some (Generate seed n t)) ⊤ outcome (objects d i o) (objects d i o')
-generate_uncalled seed n t outcome d i o o' refused = record {
-  depot = λ h. refl;
-  input = λ h. refl;
-  out = λ h. absurd (not_true h);
-  refused = λ h. record { input = refl; out = refused h };
-  unaccepted = λ h. absurd (h tt);
 }
 
 -- all is done only where nothing stopped the run

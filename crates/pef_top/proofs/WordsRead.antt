@@ -3,7 +3,7 @@ use Rattle.std.proofs.Common.{◌≡◌, refl, sym, ap, ◌∙◌, subst, true�
 use Rattle.std.specs.Prelude.{◌==◌, ◌&&◌, not, ℕ, Bool, true, false, List, [], ◌∷◌, codes, bytes_eq, is_some, if◌then◌else◌, Option, Some, None}
 use Rattle.std.specs.Char.{is_ascii_digit}
 use Rattle.std.specs.Cmp.Lexicographic.{same_text}
-use Rattle.std.proofs.lemmas.Bool.{eqb-true}
+use Rattle.std.proofs.lemmas.Bool.{eqb-true, and_parts, not-true}
 use Rattle.clap.specs.Walk.{Text}
 use Rattle.clap.specs.Simple.{subcommand_of}
 use Rattle.clap.specs.Takes.{takes}
@@ -21,17 +21,8 @@ use Rattle.pef_top.proofs.Taken as clap
 abbrev IsRead : List Text → Option Command → Type 0
 IsRead words command = (takes program_app words ≡ true) × (asked_in (subcommand_of program_app words) ≡ command)
 
-both : (a b : Bool) → (a && b) ≡ true → (a ≡ true) × (b ≡ true)
-both true true h = (refl, refl)
-both true false h = cc
-both false b h = cc
-
-no_minus : (b : Bool) → not b ≡ true → b ≡ false
-no_minus true h = cc
-no_minus false h = refl
-
 plain : (x : ℕ) (xs : Text) → is_text (x ∷ xs) ≡ true → (x == 45) ≡ false
-plain x xs h = no_minus (x == 45) (both _ _ h).1
+plain x xs h = not-true (x == 45) (and_parts _ _ h).1
 
 -- where there is a command after a test, the test passed
 chosen : (b : Bool) (command : Command) → is_some (if b then Some command else None) ≡ true → (b ≡ true) × ((if b then Some command else None) ≡ Some command)
@@ -154,8 +145,8 @@ build_in_read : (name base index : Text) (words : List Text) (format : Format) �
     → IsRead (name ∷ codes "build" ∷ base ∷ index ∷ words) (build_in base index (Some format))
 build_in_read name base index words format h reads =
     let is = chosen (is_text base && is_text index && not (is_file_of base index)) (Build base index format) h in
-    let texts = both _ _ is.0 in
-    let two = both _ _ texts.0 in
+    let texts = and_parts _ _ is.0 in
+    let two = and_parts _ _ texts.0 in
     subst (IsRead (name ∷ codes "build" ∷ base ∷ index ∷ words)) (sym is.1) (reads two.0 two.1)
 
 build_read : (name : Text) (args : List Text) → is_some (build_command args) ≡ true → IsRead (name ∷ codes "build" ∷ args) (build_command args)
@@ -184,8 +175,8 @@ migrate_read name [] h = cc
 migrate_read name (from ∷ []) h = cc
 migrate_read name (from ∷ to ∷ []) h =
     let is = chosen (is_text from && is_text to && not (bytes_eq from to)) (Migrate from to) h in
-    let texts = both _ _ is.0 in
-    let two = both _ _ texts.0 in
+    let texts = and_parts _ _ is.0 in
+    let two = and_parts _ _ texts.0 in
     subst (IsRead (name ∷ codes "migrate" ∷ from ∷ to ∷ [])) (sym is.1) (migrate_texts name from to two.0 two.1)
 migrate_read name (from ∷ to ∷ word ∷ words) h = cc
 
@@ -204,7 +195,7 @@ digit_plain x h = go (x == 45) refl
     go true e = let is : x ≡ 45 = eqb-true x 45 e in let bad : is_ascii_digit 45 ≡ true = subst (λ c. is_ascii_digit c ≡ true) is h in cc
 
 number_plain : (x : ℕ) (xs : Text) → is_some (number_of (x ∷ xs)) ≡ true → (x == 45) ≡ false
-number_plain x xs h = digit_plain x (both _ _ (both _ _ (both _ _ (passed _ _ h)).0).1).0
+number_plain x xs h = digit_plain x (and_parts _ _ (and_parts _ _ (and_parts _ _ (passed _ _ h)).0).1).0
 
 all_three : (seed n t : Option ℕ) → is_some (generate_of seed n t) ≡ true → (is_some seed ≡ true) × (is_some n ≡ true) × (is_some t ≡ true)
 all_three None n t h = cc

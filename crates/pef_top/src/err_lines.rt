@@ -12,15 +12,16 @@ use itoa::Buffer;
 use pef_io::{IoFail, Sink, Slot, write_all_own};
 use two_level::Check;
 
+/// The line of words that are no command.
+const USAGE: &[u8] =
+    b"usage: pefidx build BASE INDEX [--format FORMAT] | query INDEX [--plan PLAN] | answer BASE [--plan PLAN] | inspect INDEX | generate SEED N T | migrate OLD NEW\n";
+
 /// Writes the line of a run that stopped, without memory.
 pub(crate) fn write_line<E: Sink>(err: &mut E, stop: Stop) -> Result<(), IoFail>
     ensures { WritesAll (E.state err.old) (E.state err.new) (line_of (outcome_of_stop stop)) result }
 {
     match stop {
-        Stop::Usage => write_all_own(
-            err,
-            b"usage: pefidx build BASE INDEX [--format FORMAT] | query INDEX [--plan PLAN] | answer BASE [--plan PLAN] | inspect INDEX | generate SEED N T | migrate OLD NEW\n",
-        ),
+        Stop::Usage => write_all_own(err, USAGE),
         Stop::Collection(fault) => write_fault(err, fault),
         Stop::Index(fault) => write_index_fault(err, fault),
         Stop::File(slot) => write_pieces(err, &[b"read fault: ", slot_name(slot), b"\n"]),

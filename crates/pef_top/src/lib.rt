@@ -1,4 +1,4 @@
-// The program, over any depot, input and outputs.
+//! The program, over any depot, input and outputs.
 #![tactic(auto)]
 
 mod answer;

@@ -4,6 +4,7 @@ ghost use Rattle.pef_top.specs.Command.{build_command, command_of, format_of, is
 
 use command_steps::Plan;
 use part_cost::Format;
+use query_text::number;
 
 /// What the words of the command line ask for.
 #[derive(Clone, Copy, Debug, PartialEq, Eq)]
@@ -124,10 +125,7 @@ fn is_number(word: &str) -> bool
 pub(crate) fn parse_number(word: &str) -> Option<u32>
     ensures { result ≡ number_of word.now }
 {
-    if word.starts_with('+') {
-        return None;
-    }
-    word.parse().ok()
+    number(word.as_bytes())
 }
 
 /// Whether an option and its value name a plan.
