@@ -1,9 +1,9 @@
 // Answers and usage.
-use crate::collections::{
-    NINE_LISTS, NO_LIST, ONE_LIST, THREE_LISTS, TWO_LISTS, files as files_of,
-};
-use crate::runs::{ANSWER, BUILD, BUILD_ONE, OPS, run_to_replies, steady_run};
 use pef_top::Status;
+use run_tables::{
+    ANSWER, BUILD, BUILD_ONE, NINE_LISTS, NO_LIST, ONE_LIST, OPS, THREE_LISTS, TWO_LISTS, files_of,
+    run_to_replies, steady_run,
+};
 
 const USAGE: &str =
     "usage: pefidx build BASE INDEX [--format FORMAT] | query INDEX [--plan PLAN] | answer BASE [--plan PLAN] | inspect INDEX | generate SEED N T | migrate OLD NEW\n";
@@ -200,9 +200,7 @@ fn words_that_are_no_command_call_nothing(rt: HostRuntime) {
         let alloc = rt.alloc();
         let files = files_of(alloc, ONE_LIST).expect(&rt, "memory");
         let run = steady_run(alloc, words, files, b"next 0 1").expect(&rt, "memory");
-        assert_eq!(rt; run.status, Status::Usage, "{words:?}");
-        assert_eq!(rt; run.err.bytes(), USAGE.as_bytes(), "{words:?}");
-        assert_eq!(rt; (run.input.calls(), run.out.calls()), (0, 0), "{words:?}");
+        assert!(rt; run.ends(Status::Usage, USAGE), "{words:?}");
         for op in OPS {
             assert_eq!(rt; run.depot.calls(op), 0, "{words:?} {op:?}");
         }

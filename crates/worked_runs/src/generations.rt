@@ -1,18 +1,12 @@
 // Generated collections, as `generate` tells of them.
-use crate::collections::{ONE_LIST, files as files_of};
-use crate::failures::run_failing;
-use crate::runs::{OPS, steady_run};
 use pef_top::Status;
-
-/// What is told of three documents and two lists of seed 1.
-const TWO_LISTS_TEXT: &str =
-    "documents 3 terms 2 postings 5 bits 791\n2 6\n3 2:12 0:9 1:5\n3 2:12 0:9 1:5\n3 2:12 0:9 1:5\n";
+use run_tables::{GENERATED_TEXT, ONE_LIST, OPS, files_of, steady_run};
 
 #[test]
 fn generated_collections_are_told_of(rt: HostRuntime) {
     for (numbers, text) in [
-        (["1", "3", "2"], TWO_LISTS_TEXT),
-        (["0001", "03", "2"], TWO_LISTS_TEXT),
+        (["1", "3", "2"], GENERATED_TEXT),
+        (["0001", "03", "2"], GENERATED_TEXT),
         (
             ["1", "3", "1"],
             "documents 3 terms 1 postings 3 bits 396\n1 5\n3 2:12 1:10 0:8\n3 2:12 1:10 0:8\n3 2:12 1:10 0:8\n",
@@ -31,38 +25,4 @@ fn generated_collections_are_told_of(rt: HostRuntime) {
             assert_eq!(rt; run.depot.calls(op), 0, "{words:?} {op:?}");
         }
     }
-}
-
-// Out takes four bytes a call, and each of its writes fails in turn.
-#[test]
-fn a_failed_write_leaves_a_front_of_the_lines(rt: HostRuntime) {
-    let words = ["pefidx", "generate", "1", "3", "2"];
-    let mut failed = 0;
-    for failing in 1..100 {
-        let alloc = rt.alloc();
-        let fails = vec![in alloc; failing as u64].expect(&rt, "memory");
-        let fails = (Vec::new(alloc), Vec::new(alloc), fails);
-        let run = run_failing(alloc, &words, Vec::new(alloc), b"", 4, fails).expect(&rt, "memory");
-        assert_eq!(rt; run.input.calls(), 0, "{failing}");
-        if run.out.calls() < failing as u64 {
-            assert_eq!(rt; run.status, Status::Done, "{failing}");
-            assert_eq!(rt; run.out.bytes(), TWO_LISTS_TEXT.as_bytes(), "{failing}");
-            assert_eq!(rt; run.err.calls(), 0, "{failing}");
-            break;
-        }
-        assert_eq!(rt; run.status, Status::Write, "{failing}");
-        let text = TWO_LISTS_TEXT.as_bytes();
-        assert_eq!(rt;
-            Some(run.out.bytes()),
-            text.get(..4 * (failing - 1)),
-            "{failing}"
-        );
-        assert_eq!(rt;
-            run.err.bytes(),
-            b"write fault: out\n".as_slice(),
-            "{failing}"
-        );
-        failed = failing;
-    }
-    assert!(rt; TWO_LISTS_TEXT.len() / 4 <= failed && failed < 99);
 }

@@ -1,150 +1,15 @@
 // The words of indexes: by `build_words`, and in the file that `build` leaves.
-ghost use Rattle.std.specs.Prelude.{◌≡◌, ◌<◌};
-
-use crate::collections::{
-    NO_LIST, Numbers, ONE_LIST, THREE_LISTS, far_document, files as files_of, full_list,
-};
-use crate::runs::{BUILD, BUILD_ONE, FileList, QUERY, run_over, steady_run};
 use collection_reader::{Fault, Rule};
 use index_file::read_words;
 use part_cost::Format;
-use pef_io::{Depot, Slot, SteadyDepot};
-use pef_top::{BuildError, Status, build_words};
+use pef_io::Slot;
+use pef_top::{BuildError, Status};
+use run_tables::{
+    BUILD, BUILD_ONE, CLOSING, NO_LIST, Numbers, ONE_LIST, ONE_LIST_WORDS, ONE_LIST_WORDS_OF_TWO,
+    OPENING, QUERY, THREE_LISTS, THREE_LISTS_WORDS, THREE_LISTS_WORDS_OF_TWO, built, bytes_of,
+    far_document, files_of, full_list, run_over, steady_run,
+};
 use std::alloc::Global;
-use std::marker::Brand;
-use std::sync::ledger::{Blank, Ledger};
-use step_count::Steps;
-
-/// The word at the beginning of a file, the bytes `PEFINDEX`.
-pub(crate) const OPENING: u64 = 6_360_565_151_758_173_520;
-
-/// The word at the end of a file, the bytes `XEDNIFEP`.
-pub(crate) const CLOSING: u64 = 5_784_106_577_086_924_120;
-
-/// The words of the one list in the first format.
-pub(crate) const ONE_LIST_WORDS: [u64; 18] = [
-    OPENING,
-    1,
-    137438953474,
-    0,
-    5,
-    137438953477,
-    0,
-    33,
-    4,
-    7,
-    2,
-    5,
-    4294967298,
-    21474836481,
-    3,
-    1,
-    8,
-    CLOSING,
-];
-
-/// The words of the one list in the second format.
-pub(crate) const ONE_LIST_WORDS_OF_TWO: [u64; 20] = [
-    OPENING,
-    2,
-    2,
-    2,
-    0,
-    5,
-    5,
-    2,
-    0,
-    33,
-    4,
-    7,
-    2,
-    6,
-    4294967298,
-    21474836481,
-    3,
-    1,
-    10,
-    CLOSING,
-];
-
-/// The words of the three lists in the first format.
-pub(crate) const THREE_LISTS_WORDS: [u64; 29] = [
-    OPENING,
-    1,
-    68719476736,
-    0,
-    68719476736,
-    0,
-    68719476737,
-    0,
-    2,
-    68719476738,
-    0,
-    4,
-    4294967297,
-    2,
-    4,
-    4294967297,
-    4294967297,
-    6,
-    6,
-    0,
-    0,
-    6,
-    9,
-    4294967297,
-    12884901889,
-    2,
-    3,
-    12,
-    CLOSING,
-];
-
-/// The words of the three lists in the second format.
-pub(crate) const THREE_LISTS_WORDS_OF_TWO: [u64; 33] = [
-    OPENING,
-    2,
-    0,
-    1,
-    0,
-    0,
-    1,
-    0,
-    1,
-    1,
-    0,
-    2,
-    2,
-    1,
-    0,
-    4,
-    4294967297,
-    2,
-    5,
-    4294967297,
-    4294967297,
-    8,
-    8,
-    0,
-    0,
-    8,
-    12,
-    4294967297,
-    12884901889,
-    2,
-    3,
-    16,
-    CLOSING,
-];
-
-/// The bytes of these words.
-pub(crate) fn bytes_of(alloc: Global, words: &[u64]) -> Option<Vec<u8>> {
-    let mut bytes = Vec::new(alloc);
-    for word in words {
-        bytes.extend_from_slice(&word.to_le_bytes()).ok()?;
-    }
-    Some(bytes)
-}
 
 /// Words with so many zeros between them.
 fn around_zeros(alloc: Global, before: &[u64], zeros: usize, behind: &[u64]) -> Option<Vec<u64>> {
@@ -154,41 +19,6 @@ fn around_zeros(alloc: Global, before: &[u64], zeros: usize, behind: &[u64]) -> 
     }
     words.extend_from_slice(behind).ok()?;
     Some(words)
-}
-
-/// The words of the index of the files under the base `x`; none where memory for the files is wanting.
-pub(crate) fn built(
-    alloc: Global,
-    files: FileList,
-    format: Format,
-) -> Option<Result<Vec<u64>, BuildError>> {
-    let mut depot = SteadyDepot::new(alloc, files, 8192).ok()?;
-    Some(built_in(alloc, &mut depot, format))
-}
-
-/// The words of the index of the files under the base `x` in a depot.
-fn built_in<D: Depot>(
-    alloc: Global,
-    depot: &mut D,
-    format: Format,
-) -> Result<Vec<u64>, BuildError> {
-    let blank = Blank::new(1);
-    built_counted::<_, Brand>(alloc, depot, format, blank)
-}
-
-/// Builds the words with a counter of their own.
-fn built_counted<D: Depot, L: Ledger>(
-    alloc: Global,
-    depot: &mut D,
-    format: Format,
-    blank: Blank,
-) -> Result<Vec<u64>, BuildError>
-    requires name { blank.name ≡ L.name }
-    requires parts { blank.parts ≡ L.parts }
-    requires some { 0 < L.parts }
-{
-    let mut steps = Steps::<L>::new(blank);
-    build_words(alloc, "x", depot, format, &mut steps)
 }
 
 /// The words of a run that builds in a format.
@@ -236,10 +66,9 @@ fn indexes_have_their_words(rt: HostRuntime) {
         assert_eq!(rt; words.as_slice(), want, "{format:?}");
         let files = files_of(alloc, numbers).expect(&rt, "memory");
         let run = steady_run(alloc, build_of(format), files, b"").expect(&rt, "memory");
-        assert_eq!(rt; run.status, Status::Done, "{format:?}");
+        assert!(rt; run.ends(Status::Done, ""), "{format:?}");
         let bytes = bytes_of(alloc, want).expect(&rt, "memory");
         assert_eq!(rt; run.depot.file("y"), Some(bytes.as_slice()), "{format:?}");
-        assert_eq!(rt; (run.input.calls(), run.out.calls()), (0, 0), "{format:?}");
         assert_eq!(rt; run.err.calls(), 0, "{format:?}");
     }
 }

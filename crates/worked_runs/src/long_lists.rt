@@ -1,7 +1,6 @@
 // Replies over lists of a thousand documents.
-use crate::collections::{files as files_of, two_long_lists};
-use crate::runs::{ANSWER, BUILD, BUILD_ONE, run_to_replies};
 use pef_top::Status;
+use run_tables::{ANSWER, BUILD, BUILD_ONE, files_of, run_to_replies, two_long_lists};
 use std::alloc::Global;
 
 /// One line for each kind of reply, and two for places behind the last document of a list and at it.

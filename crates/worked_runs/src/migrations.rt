@@ -1,14 +1,10 @@
-// Indexes that are migrated: the words of the new one, its replies, and what stands where a call fails.
-use crate::edited_files::only;
-use crate::failures::run_failing;
-use crate::indexes::{
-    CLOSING, ONE_LIST_WORDS, ONE_LIST_WORDS_OF_TWO, OPENING, THREE_LISTS_WORDS,
-    THREE_LISTS_WORDS_OF_TWO, bytes_of,
-};
-use crate::inspections::DOCUMENTS_IN_TWO_PARTS;
-use crate::runs::{MIGRATE, Outcome, QUERY, run_over, steady_run};
-use pef_io::{Op, Slot};
+// Indexes that are migrated: the words of the new one, and its replies.
 use pef_top::Status;
+use run_tables::{
+    CLOSING, DOCUMENTS_IN_TWO_PARTS, MIGRATE, ONE_LIST_WORDS, ONE_LIST_WORDS_OF_TWO, OPENING,
+    Outcome, QUERY, THREE_LISTS_WORDS, THREE_LISTS_WORDS_OF_TWO, bytes_of, only_index, run_over,
+    steady_run,
+};
 use std::alloc::Global;
 
 /// The words of a run that answers from the new index.
@@ -61,98 +57,25 @@ fn migrated_indexes_have_their_words_and_replies(rt: HostRuntime) {
         let alloc = rt.alloc();
         let old = bytes_of(alloc, old).expect(&rt, "memory");
         let new = bytes_of(alloc, new).expect(&rt, "memory");
-        let files = only(alloc, old.as_slice()).expect(&rt, "memory");
+        let files = only_index(alloc, old.as_slice()).expect(&rt, "memory");
         let run = steady_run(alloc, &MIGRATE, files, text.as_bytes()).expect(&rt, "memory");
-        assert_eq!(rt; run.status, Status::Done, "{text:?}");
+        assert!(rt; run.ends(Status::Done, ""), "{text:?}");
         assert_eq!(rt; run.depot.file("y"), Some(old.as_slice()), "{text:?}");
         assert_eq!(rt; run.depot.file("z"), Some(new.as_slice()), "{text:?}");
-        assert_eq!(rt; (run.input.calls(), run.out.calls()), (0, 0), "{text:?}");
         assert_eq!(rt; run.err.calls(), 0, "{text:?}");
         let asked = run_over(alloc, &QUERY_NEW, run.depot, text.as_bytes()).expect(&rt, "memory");
         assert_eq!(rt; asked.out.bytes(), replies.as_bytes(), "{text:?}");
-        let files = only(alloc, old.as_slice()).expect(&rt, "memory");
+        let files = only_index(alloc, old.as_slice()).expect(&rt, "memory");
         let asked = steady_run(alloc, &QUERY, files, text.as_bytes()).expect(&rt, "memory");
         assert_eq!(rt; asked.out.bytes(), replies.as_bytes(), "{text:?}");
     }
-}
-
-/// What stands under the name of the new index where the call of this number failed, of calls that move eight bytes each.
-fn left_by(op: Op, failing: u64, whole: &[u8]) -> Option<&[u8]> {
-    match op {
-        Op::Write => {
-            let written = (failing as usize).saturating_sub(1).saturating_mul(8);
-            Some(&whole[..written.min(whole.len())])
-        }
-        Op::Finish => Some(whole),
-        _ => None,
-    }
-}
-
-#[test]
-fn calls_of_a_migration_fail_in_turn(rt: HostRuntime) {
-    let read = (Status::Read, "read fault: index\n");
-    let write = (Status::Write, "write fault: index\n");
-    for (op, (status, line), least) in [
-        (Op::Start(Slot::Index), read, 1),
-        (Op::Read(Slot::Index), read, 18),
-        (Op::Create, write, 1),
-        (Op::Write, write, 20),
-        (Op::Finish, write, 1),
-    ] {
-        let mut failed = 0;
-        for failing in 1..100 {
-            let alloc = rt.alloc();
-            let old = bytes_of(alloc, &ONE_LIST_WORDS).expect(&rt, "memory");
-            let new = bytes_of(alloc, &ONE_LIST_WORDS_OF_TWO).expect(&rt, "memory");
-            let held = only(alloc, old.as_slice()).expect(&rt, "memory");
-            let fails = vec![in alloc; (op, failing)].expect(&rt, "memory");
-            let fails = (fails, Vec::new(alloc), Vec::new(alloc));
-            let run = run_failing(alloc, &MIGRATE, held, b"", 8, fails).expect(&rt, "memory");
-            assert_eq!(rt;
-                run.depot.file("y"),
-                Some(old.as_slice()),
-                "{op:?} {failing}"
-            );
-            assert_eq!(rt;
-                (run.input.calls(), run.out.calls()),
-                (0, 0),
-                "{op:?} {failing}"
-            );
-            if run.depot.calls(op) < failing {
-                assert_eq!(rt; run.status, Status::Done, "{op:?} {failing}");
-                assert_eq!(rt;
-                    run.depot.file("z"),
-                    Some(new.as_slice()),
-                    "{op:?} {failing}"
-                );
-                break;
-            }
-            assert_eq!(rt; run.status, status, "{op:?} {failing}");
-            assert_eq!(rt; run.err.bytes(), line.as_bytes(), "{op:?} {failing}");
-            let left = left_by(op, failing, &new);
-            assert_eq!(rt; run.depot.file("z"), left, "{op:?} {failing}");
-            failed = failing;
-        }
-        assert!(rt; least <= failed && failed < 99, "{op:?}");
-    }
-}
-
-// There is no file of the old name.
-#[test]
-fn a_missing_index_is_not_migrated(rt: HostRuntime) {
-    let alloc = rt.alloc();
-    let none = (Vec::new(alloc), Vec::new(alloc), Vec::new(alloc));
-    let run = run_failing(alloc, &MIGRATE, Vec::new(alloc), b"", 8, none).expect(&rt, "memory");
-    assert_eq!(rt; run.status, Status::Read);
-    assert_eq!(rt; run.err.bytes(), b"read fault: index\n".as_slice());
-    assert_eq!(rt; run.depot.calls(Op::Create), 0);
 }
 
 /// A migration of the one list, and the bytes that its new index is to have.
 fn one_list_migrated(alloc: Global) -> Option<(Outcome, Vec<u8>)> {
     let old = bytes_of(alloc, &ONE_LIST_WORDS)?;
     let new = bytes_of(alloc, &ONE_LIST_WORDS_OF_TWO)?;
-    let files = only(alloc, old.as_slice())?;
+    let files = only_index(alloc, old.as_slice())?;
     Some((steady_run(alloc, &MIGRATE, files, b"")?, new))
 }
 

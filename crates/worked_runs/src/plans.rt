@@ -1,7 +1,6 @@
 // Replies by each plan.
-use crate::collections::{NINE_LISTS, ONE_LIST, TWO_LISTS, files as files_of};
-use crate::runs::{BUILD, run_over, steady_run};
 use pef_top::Status;
+use run_tables::{BUILD, NINE_LISTS, ONE_LIST, TWO_LISTS, files_of, run_over, steady_run};
 
 /// The names of the plans.
 const PLANS: [&str; 3] = ["exhaustive", "wand", "maxscore"];

@@ -1,12 +1,12 @@
 // Each call on the files of a build and on an index fails in turn.
-use crate::collections::{THREE_LISTS, files};
-use crate::edited_files::only;
 use crate::failures::{Failed, REPLIES, TEXT, line_of, run_failing};
-use crate::indexes::{THREE_LISTS_WORDS, THREE_LISTS_WORDS_OF_TWO, bytes_of};
-use crate::inspections::{THREE_LISTS_LINE, THREE_LISTS_LINE_OF_TWO};
-use crate::runs::{BUILD, BUILD_ONE, FileList, INSPECT, OPS, QUERY};
 use pef_io::{Op, Slot};
 use pef_top::Status;
+use run_tables::{
+    BUILD, BUILD_ONE, FileList, INSPECT, OPS, QUERY, THREE_LISTS, THREE_LISTS_LINE,
+    THREE_LISTS_LINE_OF_TWO, THREE_LISTS_WORDS, THREE_LISTS_WORDS_OF_TWO, bytes_of, files_of,
+    only_index,
+};
 use std::alloc::Global;
 
 /// Runs the words over these files, where each call moves at most four bytes and one call of the depot fails.
@@ -55,26 +55,16 @@ fn calls_of_a_build_fail_in_turn(rt: HostRuntime) {
             let mut failed = 0;
             for failing in 1..100 {
                 let alloc = rt.alloc();
-                let held = files(alloc, THREE_LISTS).expect(&rt, "memory");
+                let held = files_of(alloc, THREE_LISTS).expect(&rt, "memory");
                 let run = run_with(alloc, words, held, op, failing as u64).expect(&rt, "memory");
-                assert_eq!(rt;
-                    (run.input.calls(), run.out.calls()),
-                    (0, 0),
-                    "{words:?} {op:?} {failing}"
-                );
                 if run.depot.calls(op) < failing as u64 {
-                    assert_eq!(rt; run.status, Status::Done, "{words:?} {op:?} {failing}");
+                    assert!(rt; run.ends(Status::Done, ""), "{words:?} {op:?} {failing}");
                     assert_eq!(rt; run.err.calls(), 0, "{words:?} {op:?} {failing}");
                     let file = run.depot.file("y");
                     assert_eq!(rt; file, Some(bytes.as_slice()), "{words:?} {op:?} {failing}");
                     break;
                 }
-                assert_eq!(rt; run.status, status, "{words:?} {op:?} {failing}");
-                assert_eq!(rt;
-                    run.err.bytes(),
-                    line.as_bytes(),
-                    "{words:?} {op:?} {failing}"
-                );
+                assert!(rt; run.ends(status, line), "{words:?} {op:?} {failing}");
                 let front = front_at(&bytes, op, failing);
                 assert_eq!(rt; run.depot.file("y"), front, "{words:?} {op:?} {failing}");
                 if status == Status::Read {
@@ -112,7 +102,7 @@ fn calls_on_an_index_fail_in_turn(rt: HostRuntime) {
             for failing in 1..100 {
                 let alloc = rt.alloc();
                 let bytes = bytes_of(alloc, index).expect(&rt, "memory");
-                let held = only(alloc, bytes.as_slice()).expect(&rt, "memory");
+                let held = only_index(alloc, bytes.as_slice()).expect(&rt, "memory");
                 let run = run_with(alloc, &words, held, op, failing as u64).expect(&rt, "memory");
                 if run.depot.calls(op) < failing as u64 {
                     assert_eq!(rt; run.status, Status::Done, "{words:?} {op:?} {failing}");
@@ -120,15 +110,8 @@ fn calls_on_an_index_fail_in_turn(rt: HostRuntime) {
                     assert_eq!(rt; run.err.calls(), 0, "{words:?} {op:?} {failing}");
                     break;
                 }
-                assert_eq!(rt; run.status, Status::Read, "{words:?} {op:?} {failing}");
-                assert_eq!(rt;
-                    run.err.bytes(),
-                    b"read fault: index\n".as_slice(),
-                    "{words:?} {op:?} {failing}"
-                );
-                assert_eq!(rt;
-                    (run.input.calls(), run.out.calls()),
-                    (0, 0),
+                assert!(rt;
+                    run.ends(Status::Read, "read fault: index\n"),
                     "{words:?} {op:?} {failing}"
                 );
                 failed = failing;

@@ -9,28 +9,28 @@ use std::sync::ledger::{Blank, Ledger};
 use step_count::Steps;
 
 /// Files by name.
-pub(crate) type FileList = Vec<(String, Vec<u8>)>;
+pub type FileList = Vec<(String, Vec<u8>)>;
 
 /// The words of a run that answers from the collection `x`.
-pub(crate) const ANSWER: [&str; 3] = ["pefidx", "answer", "x"];
+pub const ANSWER: [&str; 3] = ["pefidx", "answer", "x"];
 
 /// The words of a run that builds the index `y` of the collection `x`.
-pub(crate) const BUILD: [&str; 4] = ["pefidx", "build", "x", "y"];
+pub const BUILD: [&str; 4] = ["pefidx", "build", "x", "y"];
 
 /// The words of a run that builds it in the first format.
-pub(crate) const BUILD_ONE: [&str; 6] = ["pefidx", "build", "x", "y", "--format", "1"];
+pub const BUILD_ONE: [&str; 6] = ["pefidx", "build", "x", "y", "--format", "1"];
 
 /// The words of a run that answers from the index `y`.
-pub(crate) const QUERY: [&str; 3] = ["pefidx", "query", "y"];
+pub const QUERY: [&str; 3] = ["pefidx", "query", "y"];
 
 /// The words of a run that migrates the index `y` to the index `z`.
-pub(crate) const MIGRATE: [&str; 4] = ["pefidx", "migrate", "y", "z"];
+pub const MIGRATE: [&str; 4] = ["pefidx", "migrate", "y", "z"];
 
 /// The words of a run that sums the index `y` up.
-pub(crate) const INSPECT: [&str; 3] = ["pefidx", "inspect", "y"];
+pub const INSPECT: [&str; 3] = ["pefidx", "inspect", "y"];
 
 /// The kinds of call of a depot.
-pub(crate) const OPS: [Op; 11] = [
+pub const OPS: [Op; 11] = [
     Op::Start(Slot::Docs),
     Op::Start(Slot::Freqs),
     Op::Start(Slot::Sizes),
@@ -46,16 +46,26 @@ pub(crate) const OPS: [Op; 11] = [
 
 /// What stands after a run over objects that never fail.
 #[derive(Drop)]
-pub(crate) struct Outcome {
-    pub(crate) status: Status,
-    pub(crate) out: SteadySink,
-    pub(crate) err: SteadySink,
-    pub(crate) input: SteadySource,
-    pub(crate) depot: SteadyDepot,
+pub struct Outcome {
+    pub status: Status,
+    pub out: SteadySink,
+    pub err: SteadySink,
+    pub input: SteadySource,
+    pub depot: SteadyDepot,
+}
+
+impl Outcome {
+    /// Whether the run ended with this status and this line on err, and called neither the input nor out.
+    pub fn ends(&self, status: Status, line: &str) -> bool {
+        self.status == status
+            && self.err.bytes() == line.as_bytes()
+            && self.input.calls() == 0
+            && self.out.calls() == 0
+    }
 }
 
 /// Runs these words, the program's name first; none where memory for them is wanting.
-pub(crate) fn run_words<D: Depot, I: Source, O: Sink, E: Sink>(
+pub fn run_words<D: Depot, I: Source, O: Sink, E: Sink>(
     alloc: Global,
     words: &[&str],
     depot: &mut D,
@@ -91,18 +101,13 @@ fn run_counted<D: Depot, I: Source, O: Sink, E: Sink, L: Ledger>(
 }
 
 /// Runs the words over these files and this query text, where no call fails.
-pub(crate) fn steady_run(
-    alloc: Global,
-    words: &[&str],
-    files: FileList,
-    text: &[u8],
-) -> Option<Outcome> {
+pub fn steady_run(alloc: Global, words: &[&str], files: FileList, text: &[u8]) -> Option<Outcome> {
     let depot = SteadyDepot::new(alloc, files, 8192).ok()?;
     run_over(alloc, words, depot, text)
 }
 
 /// Runs the words over the files that a depot holds and this query text, where no call fails.
-pub(crate) fn run_over(
+pub fn run_over(
     alloc: Global,
     words: &[&str],
     mut depot: SteadyDepot,
@@ -123,7 +128,7 @@ pub(crate) fn run_over(
 
 /// Runs the words over these files, and `query` where they built the index `y`: what stands after the run that replies to
 /// the text, or that was refused.
-pub(crate) fn run_to_replies(
+pub fn run_to_replies(
     alloc: Global,
     words: &[&str],
     files: FileList,

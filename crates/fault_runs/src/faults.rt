@@ -1,11 +1,12 @@
 // Broken collections, each named by its first fault.
-use crate::collections::{Numbers, ONE_LIST, cut_files, files as files_of, full_list};
-use crate::indexes::built;
-use crate::runs::{ANSWER, BUILD, BUILD_ONE, run_to_replies, steady_run};
 use collection_reader::Fault;
 use part_cost::Format;
 use pef_io::{Op, Slot};
 use pef_top::{BuildError, Status};
+use run_tables::{
+    ANSWER, BUILD, BUILD_ONE, Numbers, ONE_LIST, built, cut_files, files_of, full_list,
+    run_to_replies, steady_run,
+};
 use std::alloc::Global;
 
 /// What a fault is called on the error output.
@@ -72,6 +73,11 @@ fn broken_collections_are_named(rt: HostRuntime) {
         ),
         (numbers(&[2], &[], &[]), whole, "C2 docs term 0 place 0"),
         (
+            numbers(&[1, 3, u32::MAX], &[], one.sizes),
+            whole,
+            "C1 docs term 0 place 0",
+        ),
+        (
             numbers(one.docs, &[], one.sizes),
             whole,
             "C1 freqs term 0 place 0",
@@ -101,14 +107,8 @@ fn broken_collections_are_named(rt: HostRuntime) {
             let alloc = rt.alloc();
             let files = cut_files(alloc, numbers, cut.0, cut.1).expect(&rt, "memory");
             let run = steady_run(alloc, words, files, b"next 0 1").expect(&rt, "memory");
-            assert_eq!(rt; run.status, Status::Collection, "{words:?} {line}");
             let wanted = format!(in alloc; "collection {line}\n").expect(&rt, "memory");
-            assert_eq!(rt; run.err.bytes(), wanted.as_bytes(), "{words:?} {line}");
-            assert_eq!(rt;
-                (run.input.calls(), run.out.calls()),
-                (0, 0),
-                "{words:?} {line}"
-            );
+            assert!(rt; run.ends(Status::Collection, &wanted), "{words:?} {line}");
             assert_eq!(rt; run.depot.calls(Op::Create), 0, "{words:?} {line}");
         }
         let alloc = rt.alloc();
@@ -132,6 +132,7 @@ fn limits_of_a_run_are_those_of_its_format(rt: HostRuntime) {
     let second_greatest = full_list(alloc, 65_536, u32::MAX, 65_536).expect(&rt, "memory");
     let above_second = full_list(alloc, 65_536, u32::MAX, 65_537).expect(&rt, "memory");
     let many = numbers(&[1, 268_435_456], &[], &[]);
+    let most = numbers(&[1, u32::MAX], &[], &[u32::MAX]);
     let [answer, build, build_one] = [ANSWER.as_slice(), BUILD.as_slice(), BUILD_ONE.as_slice()];
     let sizes = "collection C1 sizes term 0 place 0\n";
     let c3 = "collection C3 docs term 0 place 0\n";
@@ -141,6 +142,9 @@ fn limits_of_a_run_are_those_of_its_format(rt: HostRuntime) {
         (many, answer, sizes, ""),
         (many, build, sizes, ""),
         (many, build_one, c3, ""),
+        (most, answer, sizes, ""),
+        (most, build, sizes, ""),
+        (most, build_one, c3, ""),
         (first_greatest.numbers(), build_one, "", "16 16\nend\n"),
         (above_first.numbers(), answer, "", "16 17\nend\n"),
         (above_first.numbers(), build, "", "16 17\nend\n"),

@@ -1,4 +1,4 @@
-use Rattle.worked_runs.proofs.runs.run_words.Given as goal
+use Rattle.run_tables.proofs.runs.run_words.Given as goal
 
 abbrev pub ghosts-run_counted : goal.ghosts-run_counted
 ghosts-run_counted g a = record { name = a.blank.name; parts = a.blank.parts }

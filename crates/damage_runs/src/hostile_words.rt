@@ -1,9 +1,9 @@
 // Index files with hostile words, by `query`.
-use crate::edited_files::only;
-use crate::indexes::{ONE_LIST_WORDS, ONE_LIST_WORDS_OF_TWO, bytes_of};
-use crate::runs::{Outcome, QUERY, steady_run};
 use pef_io::{Op, SteadySink};
 use pef_top::Status;
+use run_tables::{
+    ONE_LIST_WORDS, ONE_LIST_WORDS_OF_TWO, Outcome, QUERY, bytes_of, only_index, steady_run,
+};
 use std::alloc::Global;
 
 /// A place, the word that is put there, and the check that breaks then.
@@ -69,7 +69,7 @@ const EDITS_OF_TWO: [Edit; 35] = [
 /// Runs `query` over the file of these words and this text.
 pub(crate) fn query(alloc: Global, words: &[u64], text: &[u8]) -> Option<Outcome> {
     let bytes = bytes_of(alloc, words)?;
-    let files = only(alloc, bytes.as_slice())?;
+    let files = only_index(alloc, bytes.as_slice())?;
     steady_run(alloc, &QUERY, files, text)
 }
 

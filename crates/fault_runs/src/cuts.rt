@@ -1,8 +1,7 @@
 // Each file of the three lists is cut at each byte.
-use crate::collections::{THREE_LISTS, cut_files};
-use crate::runs::{ANSWER, BUILD, BUILD_ONE, run_words};
 use pef_io::{MemSink, Op, Slot, SteadyDepot, SteadySink, SteadySource};
 use pef_top::Status;
+use run_tables::{ANSWER, BUILD, BUILD_ONE, THREE_LISTS, cut_files, run_words};
 use std::alloc::Global;
 
 /// The fault of the collection whose file of this slot is cut to so many bytes.

@@ -5,28 +5,28 @@ use std::alloc::Global;
 
 /// The numbers of the three files.
 #[derive(Clone, Copy)]
-pub(crate) struct Numbers<'a> {
-    pub(crate) docs: &'a [u32],
-    pub(crate) freqs: &'a [u32],
-    pub(crate) sizes: &'a [u32],
+pub struct Numbers<'a> {
+    pub docs: &'a [u32],
+    pub freqs: &'a [u32],
+    pub sizes: &'a [u32],
 }
 
 /// No document and no list.
-pub(crate) const NO_LIST: Numbers<'static> = Numbers {
+pub const NO_LIST: Numbers<'static> = Numbers {
     docs: &[1, 0],
     freqs: &[],
     sizes: &[0],
 };
 
 /// Three documents of sizes 4, 0 and 7, and one list: document 0 once, document 2 five times.
-pub(crate) const ONE_LIST: Numbers<'static> = Numbers {
+pub const ONE_LIST: Numbers<'static> = Numbers {
     docs: &[1, 3, 2, 0, 2],
     freqs: &[2, 1, 5],
     sizes: &[3, 4, 0, 7],
 };
 
 /// Two documents of size 1, and three lists: document 0 once, nothing, document 1 three times.
-pub(crate) const THREE_LISTS: Numbers<'static> = Numbers {
+pub const THREE_LISTS: Numbers<'static> = Numbers {
     docs: &[1, 2, 1, 0, 0, 1, 1],
     freqs: &[1, 1, 0, 1, 3],
     sizes: &[2, 1, 1],
@@ -34,14 +34,14 @@ pub(crate) const THREE_LISTS: Numbers<'static> = Numbers {
 
 /// Five documents of size 1, and two lists: document 1 twice and 4 three times; document 1 once, 2 three
 /// times and 4 once.
-pub(crate) const TWO_LISTS: Numbers<'static> = Numbers {
+pub const TWO_LISTS: Numbers<'static> = Numbers {
     docs: &[1, 5, 2, 1, 4, 3, 1, 2, 4],
     freqs: &[2, 2, 3, 3, 1, 3, 1],
     sizes: &[5, 1, 1, 1, 1, 1],
 };
 
 /// Two documents of size 1, and nine lists: document 1 once in each.
-pub(crate) const NINE_LISTS: Numbers<'static> = Numbers {
+pub const NINE_LISTS: Numbers<'static> = Numbers {
     docs: &[1, 2, 1, 1, 1, 1, 1, 1, 1, 1, 1, 1, 1, 1, 1, 1, 1, 1, 1, 1],
     freqs: &[1, 1, 1, 1, 1, 1, 1, 1, 1, 1, 1, 1, 1, 1, 1, 1, 1, 1],
     sizes: &[2, 1, 1],
@@ -57,12 +57,12 @@ fn spelled(alloc: Global, numbers: &[u32]) -> Option<Vec<u8>> {
 }
 
 /// The three files of these numbers.
-pub(crate) fn files(alloc: Global, numbers: Numbers<'_>) -> Option<FileList> {
+pub fn files_of(alloc: Global, numbers: Numbers<'_>) -> Option<FileList> {
     cut_files(alloc, numbers, Slot::Index, 0)
 }
 
 /// The three files of these numbers, the one of this slot cut to so many bytes.
-pub(crate) fn cut_files(
+pub fn cut_files(
     alloc: Global,
     numbers: Numbers<'_>,
     cut: Slot,
@@ -87,7 +87,7 @@ pub(crate) fn cut_files(
 
 /// The numbers of three files that are too many to write down.
 #[derive(Drop)]
-pub(crate) struct ManyNumbers {
+pub struct ManyNumbers {
     docs: Vec<u32>,
     freqs: Vec<u32>,
     sizes: Vec<u32>,
@@ -95,7 +95,7 @@ pub(crate) struct ManyNumbers {
 
 impl ManyNumbers {
     /// The numbers, lent.
-    pub(crate) fn numbers(&self) -> Numbers<'_> {
+    pub fn numbers(&self) -> Numbers<'_> {
         Numbers {
             docs: &self.docs,
             freqs: &self.freqs,
@@ -106,12 +106,7 @@ impl ManyNumbers {
 
 /// One list of all documents from 0 up to `count`, each of size 0 and as often as `frequency`, but the last, which is there
 /// `last` times.
-pub(crate) fn full_list(
-    alloc: Global,
-    count: u32,
-    frequency: u32,
-    last: u32,
-) -> Option<ManyNumbers> {
+pub fn full_list(alloc: Global, count: u32, frequency: u32, last: u32) -> Option<ManyNumbers> {
     let documents = count.checked_add(1)?;
     Some(ManyNumbers {
         docs: counted(alloc, &[1, documents, documents], documents, &[])?,
@@ -122,7 +117,7 @@ pub(crate) fn full_list(
 
 /// Documents of size 0 up to 1,000,000 and two lists: the documents 0 to 99,999 once each and 1,000,000 so often that the sums
 /// of the frequencies are one more than the documents; document 5 twice.
-pub(crate) fn far_document(alloc: Global) -> Option<ManyNumbers> {
+pub fn far_document(alloc: Global) -> Option<ManyNumbers> {
     let far = 1_000_000;
     Some(ManyNumbers {
         docs: counted(alloc, &[1, far + 1, 100_001], 100_000, &[far, 1, 5])?,
@@ -133,7 +128,7 @@ pub(crate) fn far_document(alloc: Global) -> Option<ManyNumbers> {
 
 /// Documents of size 1 below 5,000 and two lists of a thousand: the multiples of five, once each but 15 nine times and 4,995 five
 /// times; the multiples of three below 3,000, once each but 3 seven times.
-pub(crate) fn two_long_lists(alloc: Global) -> Option<ManyNumbers> {
+pub fn two_long_lists(alloc: Global) -> Option<ManyNumbers> {
     let mut docs = Vec::from_slice(alloc, &[1, 5_000, 1_000]).ok()?;
     let mut freqs = Vec::from_slice(alloc, &[1_000]).ok()?;
     for k in 0..1_000 {

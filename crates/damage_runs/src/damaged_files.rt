@@ -1,11 +1,11 @@
 // Damaged files of what one list of two documents lacks: samples, several parts, a list without postings.
 use crate::hostile_words::{changed, flipped, query, refusal, with_sizes_moved};
-use crate::indexes::{
+use pef_io::SteadySink;
+use pef_top::Status;
+use run_tables::{
     CLOSING, ONE_LIST_WORDS, ONE_LIST_WORDS_OF_TWO, OPENING, THREE_LISTS_WORDS,
     THREE_LISTS_WORDS_OF_TWO,
 };
-use pef_io::SteadySink;
-use pef_top::Status;
 use std::alloc::Global;
 
 /// Nine documents without sizes and one list in the first format: document 0 twice, 2 once, 3 and 7 three times each. The documents are

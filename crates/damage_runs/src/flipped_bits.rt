@@ -1,7 +1,7 @@
 // Each bit of an index file is flipped, by `query`.
 use crate::hostile_words::{flipped, query};
-use crate::indexes::{ONE_LIST_WORDS, ONE_LIST_WORDS_OF_TWO};
 use pef_top::Status;
+use run_tables::{ONE_LIST_WORDS, ONE_LIST_WORDS_OF_TWO};
 
 // The three sizes may be any numbers, so a file with a bit of theirs flipped opens; every other flip is refused.
 #[test]

@@ -1,19 +1,7 @@
 // Index files that were changed, by `query` and `migrate`.
-use crate::indexes::{ONE_LIST_WORDS, bytes_of};
-use crate::runs::{FileList, MIGRATE, QUERY, steady_run};
 use pef_io::Op;
 use pef_top::Status;
-use std::alloc::Global;
-
-/// One file, of the name `y`.
-pub(crate) fn only(alloc: Global, bytes: &[u8]) -> Option<FileList> {
-    let mut files = Vec::new(alloc);
-    let bytes = Vec::from_slice(alloc, bytes).ok()?;
-    files
-        .push((String::from_str(alloc, "y").ok()?, bytes))
-        .ok()?;
-    Some(files)
-}
+use run_tables::{MIGRATE, ONE_LIST_WORDS, QUERY, bytes_of, only_index, steady_run};
 
 #[test]
 fn edits_of_a_file_are_refused_by_name(rt: HostRuntime) {
@@ -42,11 +30,9 @@ fn edits_of_a_file_are_refused_by_name(rt: HostRuntime) {
         let bytes = bytes_of(alloc, &words).expect(&rt, "memory");
         let wanted = format!(in alloc; "index {line}\n").expect(&rt, "memory");
         for command in [QUERY.as_slice(), MIGRATE.as_slice()] {
-            let files = only(alloc, bytes.as_slice()).expect(&rt, "memory");
+            let files = only_index(alloc, bytes.as_slice()).expect(&rt, "memory");
             let run = steady_run(alloc, command, files, b"or 0").expect(&rt, "memory");
-            assert_eq!(rt; run.status, Status::Index, "{at} {word}");
-            assert_eq!(rt; run.err.bytes(), wanted.as_bytes(), "{at} {word}");
-            assert_eq!(rt; (run.input.calls(), run.out.calls()), (0, 0), "{at} {word}");
+            assert!(rt; run.ends(Status::Index, &wanted), "{at} {word}");
             assert_eq!(rt; run.depot.calls(Op::Create), 0, "{at} {word}");
         }
     }
@@ -58,7 +44,7 @@ fn another_word_may_open(rt: HostRuntime) {
     let mut words = ONE_LIST_WORDS;
     words[4] = 6;
     let bytes = bytes_of(alloc, &words).expect(&rt, "memory");
-    let files = only(alloc, bytes.as_slice()).expect(&rt, "memory");
+    let files = only_index(alloc, bytes.as_slice()).expect(&rt, "memory");
     let run = steady_run(alloc, &QUERY, files, b"or 0").expect(&rt, "memory");
     assert_eq!(rt; run.status, Status::Done);
     assert_eq!(rt; run.out.bytes(), b"2 1 2\n".as_slice());
@@ -72,10 +58,9 @@ fn files_of_other_lengths_are_no_index(rt: HostRuntime) {
         bytes.truncate(length);
         let wanted = format!(in alloc; "index {check} term 0 part 0\n").expect(&rt, "memory");
         for command in [QUERY.as_slice(), MIGRATE.as_slice()] {
-            let files = only(alloc, bytes.as_slice()).expect(&rt, "memory");
+            let files = only_index(alloc, bytes.as_slice()).expect(&rt, "memory");
             let run = steady_run(alloc, command, files, b"or 0").expect(&rt, "memory");
-            assert_eq!(rt; run.status, Status::Index, "{length}");
-            assert_eq!(rt; run.err.bytes(), wanted.as_bytes(), "{length}");
+            assert!(rt; run.ends(Status::Index, &wanted), "{length}");
             assert_eq!(rt; run.depot.calls(Op::Create), 0, "{length}");
         }
     }

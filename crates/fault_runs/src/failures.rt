@@ -1,13 +1,12 @@
 // Each call fails in turn.
 ghost use Rattle.std.specs.Prelude.{◌≤◌};
 
-use crate::collections::{ONE_LIST, THREE_LISTS, files};
-use crate::indexes::{
-    ONE_LIST_WORDS_OF_TWO, THREE_LISTS_WORDS, THREE_LISTS_WORDS_OF_TWO, bytes_of,
-};
-use crate::runs::{ANSWER, BUILD, BUILD_ONE, FileList, OPS, QUERY, run_words};
 use pef_io::{MemDepot, MemSink, MemSource, Op, Slot};
 use pef_top::Status;
+use run_tables::{
+    ANSWER, BUILD, BUILD_ONE, FileList, ONE_LIST, OPS, QUERY, THREE_LISTS, THREE_LISTS_WORDS,
+    THREE_LISTS_WORDS_OF_TWO, bytes_of, files_of, run_words,
+};
 use std::alloc::Global;
 
 /// Four lines over the three lists, and their replies.
@@ -23,6 +22,16 @@ pub(crate) struct Failed {
     pub(crate) input: MemSource,
     pub(crate) out: MemSink,
     pub(crate) err: MemSink,
+}
+
+impl Failed {
+    /// Whether the run ended with this status and this line on err, and called neither the input nor out.
+    pub(crate) fn ends(&self, status: Status, line: &str) -> bool {
+        self.status == status
+            && self.err.bytes() == line.as_bytes()
+            && self.input.calls() == 0
+            && self.out.calls() == 0
+    }
 }
 
 /// Runs the words over the text where each call moves at most `most` bytes, and the calls with these numbers
@@ -53,7 +62,7 @@ pub(crate) fn run_failing(
 
 /// The files of the three lists, and the file `y` of these words.
 fn with_index(alloc: Global, words: &[u64]) -> Option<FileList> {
-    let mut held = files(alloc, THREE_LISTS)?;
+    let mut held = files_of(alloc, THREE_LISTS)?;
     let name = String::from_str(alloc, "y").ok()?;
     held.push((name, bytes_of(alloc, words)?)).ok()?;
     Some(held)
@@ -79,7 +88,7 @@ fn calls_on_the_files_fail_in_turn(rt: HostRuntime) {
         let mut failed = 0;
         for failing in 1..100 {
             let alloc = rt.alloc();
-            let held = files(alloc, THREE_LISTS).expect(&rt, "memory");
+            let held = files_of(alloc, THREE_LISTS).expect(&rt, "memory");
             let fails = vec![in alloc; (op, failing)].expect(&rt, "memory");
             let none = (fails, Vec::new(alloc), Vec::new(alloc));
             let run = run_failing(alloc, &ANSWER, held, TEXT, 4, none).expect(&rt, "memory");
@@ -89,13 +98,7 @@ fn calls_on_the_files_fail_in_turn(rt: HostRuntime) {
                 assert_eq!(rt; run.err.calls(), 0, "{op:?} {failing}");
                 break;
             }
-            assert_eq!(rt; run.status, Status::Read, "{op:?} {failing}");
-            assert_eq!(rt; run.err.bytes(), line.as_bytes(), "{op:?} {failing}");
-            assert_eq!(rt;
-                (run.input.calls(), run.out.calls()),
-                (0, 0),
-                "{op:?} {failing}"
-            );
+            assert!(rt; run.ends(Status::Read, line), "{op:?} {failing}");
             assert_eq!(rt; run.depot.calls(Op::Create), 0, "{op:?} {failing}");
             failed = failing;
         }
@@ -159,7 +162,7 @@ fn reads_of_the_input_and_writes_on_out_fail_in_turn(rt: HostRuntime) {
 #[test]
 fn the_second_write_of_two_bytes_fails(rt: HostRuntime) {
     let alloc = rt.alloc();
-    let held = files(alloc, ONE_LIST).expect(&rt, "memory");
+    let held = files_of(alloc, ONE_LIST).expect(&rt, "memory");
     let writes = vec![in alloc; 2].expect(&rt, "memory");
     let fails = (Vec::new(alloc), Vec::new(alloc), writes);
     let text = b"next 0 1\nnext 0 3\nand 0\nor 0 0\ntop 1 0";
@@ -178,18 +181,12 @@ fn a_missing_file_is_a_read_fault(rt: HostRuntime) {
             (2, "read fault: sizes\n"),
         ] {
             let alloc = rt.alloc();
-            let mut held = files(alloc, ONE_LIST).expect(&rt, "memory");
+            let mut held = files_of(alloc, ONE_LIST).expect(&rt, "memory");
             assert!(rt; missing < held.len());
             held.remove(missing);
             let none = (Vec::new(alloc), Vec::new(alloc), Vec::new(alloc));
             let run = run_failing(alloc, words, held, TEXT, 4, none).expect(&rt, "memory");
-            assert_eq!(rt; run.status, Status::Read, "{words:?} {missing}");
-            assert_eq!(rt; run.err.bytes(), line.as_bytes(), "{words:?} {missing}");
-            assert_eq!(rt;
-                (run.input.calls(), run.out.calls()),
-                (0, 0),
-                "{words:?} {missing}"
-            );
+            assert!(rt; run.ends(Status::Read, line), "{words:?} {missing}");
             assert_eq!(rt; run.depot.calls(Op::Create), 0, "{words:?} {missing}");
             assert_eq!(rt; run.depot.file("y"), None, "{words:?} {missing}");
         }
@@ -199,34 +196,8 @@ fn a_missing_file_is_a_read_fault(rt: HostRuntime) {
 #[test]
 fn a_missing_index_is_a_read_fault(rt: HostRuntime) {
     let alloc = rt.alloc();
-    let held = files(alloc, ONE_LIST).expect(&rt, "memory");
+    let held = files_of(alloc, ONE_LIST).expect(&rt, "memory");
     let none = (Vec::new(alloc), Vec::new(alloc), Vec::new(alloc));
     let run = run_failing(alloc, &QUERY, held, TEXT, 4, none).expect(&rt, "memory");
-    assert_eq!(rt; run.status, Status::Read);
-    assert_eq!(rt; run.err.bytes(), b"read fault: index\n".as_slice());
-    assert_eq!(rt; (run.input.calls(), run.out.calls()), (0, 0));
-}
-
-#[test]
-fn a_build_whose_calls_fail_leaves_a_front_or_no_file(rt: HostRuntime) {
-    let alloc = rt.alloc();
-    let whole = bytes_of(alloc, &ONE_LIST_WORDS_OF_TWO).expect(&rt, "memory");
-    let read = (Status::Read, "read fault: freqs\n");
-    let write = (Status::Write, "write fault: index\n");
-    for (most, fail, (status, line), left) in [
-        (4, (Op::Read(Slot::Freqs), 3), read, None),
-        (8, (Op::Create, 1), write, None),
-        (8, (Op::Write, 2), write, Some(b"PEFINDEX".as_slice())),
-        (8, (Op::Finish, 1), write, Some(whole.as_slice())),
-    ] {
-        let alloc = rt.alloc();
-        let held = files(alloc, ONE_LIST).expect(&rt, "memory");
-        let fails = vec![in alloc; fail].expect(&rt, "memory");
-        let fails = (fails, Vec::new(alloc), Vec::new(alloc));
-        let run = run_failing(alloc, &BUILD, held, TEXT, most, fails).expect(&rt, "memory");
-        assert_eq!(rt; run.status, status, "{fail:?}");
-        assert_eq!(rt; run.err.bytes(), line.as_bytes(), "{fail:?}");
-        assert_eq!(rt; run.depot.file("y"), left, "{fail:?}");
-        assert_eq!(rt; (run.input.calls(), run.out.calls()), (0, 0), "{fail:?}");
-    }
+    assert!(rt; run.ends(Status::Read, "read fault: index\n"));
 }

@@ -1,0 +1,16 @@
+//! Whole runs over broken and cut collections, and over objects in memory whose calls fail in turn, with what
+//! stands after each.
+#![tactic(auto)]
+
+#[cfg(test)]
+mod cuts;
+#[cfg(test)]
+mod failures;
+#[cfg(test)]
+mod faults;
+#[cfg(test)]
+mod index_failures;
+#[cfg(test)]
+mod migration_failures;
+#[cfg(test)]
+mod print_failures;

@@ -1,0 +1,168 @@
+// Small indexes, as words and as files.
+use crate::runs::FileList;
+use std::alloc::Global;
+
+/// The word at the beginning of a file, the bytes `PEFINDEX`.
+pub const OPENING: u64 = 6_360_565_151_758_173_520;
+
+/// The word at the end of a file, the bytes `XEDNIFEP`.
+pub const CLOSING: u64 = 5_784_106_577_086_924_120;
+
+/// The words of the one list in the first format.
+pub const ONE_LIST_WORDS: [u64; 18] = [
+    OPENING,
+    1,
+    137438953474,
+    0,
+    5,
+    137438953477,
+    0,
+    33,
+    4,
+    7,
+    2,
+    5,
+    4294967298,
+    21474836481,
+    3,
+    1,
+    8,
+    CLOSING,
+];
+
+/// The words of the one list in the second format.
+pub const ONE_LIST_WORDS_OF_TWO: [u64; 20] = [
+    OPENING,
+    2,
+    2,
+    2,
+    0,
+    5,
+    5,
+    2,
+    0,
+    33,
+    4,
+    7,
+    2,
+    6,
+    4294967298,
+    21474836481,
+    3,
+    1,
+    10,
+    CLOSING,
+];
+
+/// The words of the three lists in the first format.
+pub const THREE_LISTS_WORDS: [u64; 29] = [
+    OPENING,
+    1,
+    68719476736,
+    0,
+    68719476736,
+    0,
+    68719476737,
+    0,
+    2,
+    68719476738,
+    0,
+    4,
+    4294967297,
+    2,
+    4,
+    4294967297,
+    4294967297,
+    6,
+    6,
+    0,
+    0,
+    6,
+    9,
+    4294967297,
+    12884901889,
+    2,
+    3,
+    12,
+    CLOSING,
+];
+
+/// The words of the three lists in the second format.
+pub const THREE_LISTS_WORDS_OF_TWO: [u64; 33] = [
+    OPENING,
+    2,
+    0,
+    1,
+    0,
+    0,
+    1,
+    0,
+    1,
+    1,
+    0,
+    2,
+    2,
+    1,
+    0,
+    4,
+    4294967297,
+    2,
+    5,
+    4294967297,
+    4294967297,
+    8,
+    8,
+    0,
+    0,
+    8,
+    12,
+    4294967297,
+    12884901889,
+    2,
+    3,
+    16,
+    CLOSING,
+];
+
+/// The words of the one list in the first format, its documents in two parts of one document.
+pub const DOCUMENTS_IN_TWO_PARTS: [u64; 20] = [
+    OPENING,
+    1,
+    68719476736,
+    0,
+    137438953474,
+    0,
+    2,
+    137438953477,
+    0,
+    33,
+    4,
+    7,
+    2,
+    7,
+    8589934594,
+    21474836481,
+    3,
+    1,
+    10,
+    CLOSING,
+];
+
+/// The bytes of these words.
+pub fn bytes_of(alloc: Global, words: &[u64]) -> Option<Vec<u8>> {
+    let mut bytes = Vec::new(alloc);
+    for word in words {
+        bytes.extend_from_slice(&word.to_le_bytes()).ok()?;
+    }
+    Some(bytes)
+}
+
+/// These bytes as the one file, of the name `y`.
+pub fn only_index(alloc: Global, bytes: &[u8]) -> Option<FileList> {
+    let mut files = Vec::new(alloc);
+    let bytes = Vec::from_slice(alloc, bytes).ok()?;
+    files
+        .push((String::from_str(alloc, "y").ok()?, bytes))
+        .ok()?;
+    Some(files)
+}

@@ -1,0 +1,13 @@
+// What is printed of small collections and their indexes.
+
+/// The line of the three lists in the first format.
+pub const THREE_LISTS_LINE: &str =
+    "{\"bitmap_parts\":2,\"documents\":2,\"ef_parts\":0,\"ones_parts\":2,\"payload_bits\":5,\"postings\":2,\"size_total\":2,\"terms\":3,\"version\":1,\"words\":29}\n";
+
+/// The line of the three lists in the second format.
+pub const THREE_LISTS_LINE_OF_TWO: &str =
+    "{\"bitmap_parts\":2,\"documents\":2,\"ef_parts\":0,\"ones_parts\":2,\"payload_bits\":5,\"postings\":2,\"size_total\":2,\"terms\":3,\"version\":2,\"words\":33}\n";
+
+/// What is told of three documents and two lists of seed 1.
+pub const GENERATED_TEXT: &str =
+    "documents 3 terms 2 postings 5 bits 791\n2 6\n3 2:12 0:9 1:5\n3 2:12 0:9 1:5\n3 2:12 0:9 1:5\n";
