@@ -1,9 +1,10 @@
 -- That nothing breaks in a list that is there.
-use Rattle.std.proofs.Common.{◌≡◌, refl, sym, ap, ◌∙◌, ℕ, ◌+◌, ◌^◌, ◌<◌, ◌≤◌, List, ◌++◌, zero, suc, inl, inr, length, get_or, sum, Bool, false, true, not, ◌&&◌, ◌==◌, nat_le, nat_lt, if◌then◌else◌, Option, Some, None, MatchBool, arith, add-one}
+use Rattle.std.proofs.Common.{◌≡◌, refl, sym, ap, ◌∙◌, ℕ, ◌+◌, ◌^◌, ◌<◌, ◌≤◌, List, ◌++◌, zero, suc, inl, inr, length, get_or, sum, Bool, false, true, not, ◌&&◌, ◌==◌, nat_le, nat_lt, if◌then◌else◌, Option, Some, None, arith, add-one}
 use Rattle.std.specs.List.{All}
 use Rattle.std.specs.List.Sorted.{IsStrictlyIncreasing}
 use Rattle.std.specs.Int.{sum_through}
-use Rattle.std.proofs.lemmas.Bool.{false≢true}
+use Rattle.std.proofs.Math.Bool.{and-false}
+use Rattle.std.proofs.lemmas.Bool.{false≢true, le-ltb, lt-leb, MatchBool-at_false}
 use Rattle.std.proofs.lemmas.Bool.Decides.{nat_tests}
 use Rattle.std.proofs.lemmas.List.Elements.{All-get_or}
 use Rattle.std.proofs.lemmas.List.Sums.{sum_by-take-le}
@@ -19,14 +20,6 @@ use Rattle.collection_reader.specs.FirstFault.{number_at, lacks, FirstBreak, doc
 use Rattle.collection_reader.proofs.Numbers.{number_at-count, sequence-lacks_not}
 use Rattle.collection_reader.proofs.Begun.{begun, begun-value, begun-there, begun-sum}
 
-pub at_false : (P : Type 0) {Q : Type 0} (b : Bool) → b ≡ false → MatchBool b P Q → Q
-at_false P true is h = absurd (false≢true (sym is))
-at_false P false is h = h
-
-pub at_true : {P : Type 0} (Q : Type 0) (b : Bool) → b ≡ true → MatchBool b P Q → P
-at_true Q true is h = h
-at_true Q false is h = absurd (false≢true is)
-
 -- where nothing breaks, the rest holds
 pub none-breaks : {otherwise : Type 0} (at : ℕ → Option Rule) (m : ℕ) (found : ℕ → Rule → Type 0) → ((k : ℕ) → k < m → at k ≡ None) → FirstBreak at m found otherwise → otherwise
 none-breaks at m found whole (inl (k, rule, within, is, before, f)) = let none = whole k within in cc
@@ -38,21 +31,11 @@ none_of_three false true c x y z p q r = absurd (false≢true (sym q))
 none_of_three false false true x y z p q r = absurd (false≢true (sym r))
 none_of_three false false false x y z p q r = refl
 
-pub le-not : (m n : ℕ) → n < m → nat_le m n ≡ false
-le-not m n lt = grind (arith, nat_tests)
-
-pub lt-not : (m n : ℕ) → n ≤ m → nat_lt m n ≡ false
-lt-not m n le = grind (arith, nat_tests)
-
-and-false : (b : Bool) → b && false ≡ false
-and-false true = refl
-and-false false = refl
-
 rises-not : (k v w : ℕ) → (0 < k → v < w) → nat_lt 0 k && nat_le w v ≡ false
 rises-not zero v w rises = refl
-rises-not (suc k) v w rises = rw (le-not w v (rises (omega arith))) (and-false (nat_lt 0 (suc k)))
+rises-not (suc k) v w rises = rw (lt-leb w v (rises (omega arith))) (and-false (nat_lt 0 (suc k)))
 
-zero-not : (v : ℕ) → 0 < v → v == 0 ≡ false
+pub zero-not : (v : ℕ) → 0 < v → v == 0 ≡ false
 zero-not v some = grind (arith, nat_tests)
 
 pub same-not : (v w : ℕ) → v ≡ w → not (v == w) ≡ false
@@ -62,12 +45,12 @@ same-not v w same = grind (arith, nat_tests)
 pub doc_break-none : (n : ℕ) (bytes : List ℕ) (k : ℕ) → lacks bytes (k + 1) ≡ false → number_at bytes (k + 1) < n → (0 < k → number_at bytes k < number_at bytes (k + 1)) → doc_break n bytes k ≡ None
 doc_break-none n bytes k there below rises =
     none_of_three (lacks bytes (k + 1)) (nat_le n (number_at bytes (k + 1))) (nat_lt 0 k && nat_le (number_at bytes (k + 1)) (number_at bytes k)) C1 C4 C5
-    there (le-not n (number_at bytes (k + 1)) below) (rises-not k (number_at bytes k) (number_at bytes (k + 1)) rises)
+    there (lt-leb n (number_at bytes (k + 1)) below) (rises-not k (number_at bytes k) (number_at bytes (k + 1)) rises)
 
 pub freq_break-none : (format : FormatNumbers) (bytes : List ℕ) (k : ℕ) → lacks bytes (k + 1) ≡ false → 0 < number_at bytes (k + 1) → sum_through (λ j. number_at bytes (j + 1)) k ≤ format.most_sum → freq_break format bytes k ≡ None
 freq_break-none format bytes k there some within =
     none_of_three (lacks bytes (k + 1)) (number_at bytes (k + 1) == 0) (nat_lt format.most_sum (sum_through (λ j. number_at bytes (j + 1)) k)) C1 C7 C8
-    there (zero-not (number_at bytes (k + 1)) some) (lt-not format.most_sum (sum_through (λ j. number_at bytes (j + 1)) k) within)
+    there (zero-not (number_at bytes (k + 1)) some) (le-ltb format.most_sum (sum_through (λ j. number_at bytes (j + 1)) k) within)
 
 -- No list stands next in these rests.
 abbrev pub IsBlocked : FormatNumbers → ℕ → List ℕ → List ℕ → Type 0
@@ -97,9 +80,9 @@ blocked-by_fault format n t docs freqs fault small broken m x y good is_docs is_
     let fits = list-fits format n m small good in
     let count_docs : number_at docs 0 ≡ length (docs_of m) = ap (λ b. number_at b 0) is_docs ∙ number_at-count (docs_of m) x fits.docs_count in
     let count_freqs : number_at freqs 0 ≡ length (freqs_of m) = ap (λ b. number_at b 0) is_freqs ∙ number_at-count (freqs_of m) y fits.freqs_count in
-    let in_docs = at_false _ (lacks docs 0) (ap (λ b. lacks b 0) is_docs ∙ sequence-lacks_not (docs_of m) x 0 (omega arith)) broken in
+    let in_docs = MatchBool-at_false _ _ (ap (λ b. lacks b 0) is_docs ∙ sequence-lacks_not (docs_of m) x 0 (omega arith)) broken in
     let behind_docs = none-breaks (doc_break n docs) (number_at docs 0) _ (λ k within. ap (λ b. doc_break n b k) is_docs ∙ docs-none n (length (docs_of m)) (docs_of m) x fits.docs good.rising good.in_range k (omega arith)) in_docs in
-    let in_freqs = at_false _ (lacks freqs 0) (ap (λ b. lacks b 0) is_freqs ∙ sequence-lacks_not (freqs_of m) y 0 (omega arith)) behind_docs in
+    let in_freqs = MatchBool-at_false _ _ (ap (λ b. lacks b 0) is_freqs ∙ sequence-lacks_not (freqs_of m) y 0 (omega arith)) behind_docs in
     let same_count : number_at freqs 0 ≡ number_at docs 0 = count_freqs ∙ freqs_of-length m ∙ sym (count_docs ∙ docs_of-length m) in
-    let counted = at_false _ (not (number_at freqs 0 == number_at docs 0)) (same-not (number_at freqs 0) (number_at docs 0) same_count) in_freqs in
+    let counted = MatchBool-at_false _ _ (same-not (number_at freqs 0) (number_at docs 0) same_count) in_freqs in
     none-breaks (freq_break format freqs) (number_at freqs 0) _ (λ k within. ap (λ b. freq_break format b k) is_freqs ∙ freqs-none format (length (freqs_of m)) (freqs_of m) y fits.freqs good.not_zero good.sum_within k (omega arith)) counted

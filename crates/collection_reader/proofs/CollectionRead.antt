@@ -1,7 +1,7 @@
 -- Lemmas on reading a collection: what its answer is at each refusal, and at the end.
 use Rattle.std.proofs.Common.{◌≡◌, refl, sym, ap, ◌∙◌, subst, ℕ, ◌^◌, ◌<◌, ◌≤◌, List, [], ◌++◌, inl, inr, length, IsTrue, Bool, true, false, ◌==◌, Option, Some, None, MatchBool, MatchOption, Result, Ok, Err, IfErr, arith, append_assoc}
 use Rattle.std.specs.List.{All}
-use Rattle.std.proofs.lemmas.Bool.Decides.{nat_tests}
+use Rattle.std.proofs.lemmas.Bool.{eqb-true}
 use Rattle.std.proofs.lemmas.List.{append-nil}
 use Rattle.collection_model.specs.FormatNumbers.{FormatNumbers, most_terms}
 use Rattle.collection_model.specs.Collection.{Posting, Collection, WellFormed, IsPostingList}
@@ -18,10 +18,10 @@ use Rattle.collection_reader.specs.ReadCollection.{files_at, IsCollectionSlot, R
 use Rattle.collection_reader.specs.Reading.{Reading, rests, IsReadFault, IsNextFault, OnlyReadsCollection, StartsReading, ReadsSizes}
 use Rattle.collection_reader.specs.ReadLists.{HaveBeenRead, IsFaultBehindLists, ReadsLists}
 use Rattle.collection_reader.proofs.Fronts.{longest-from_blocked, longest-from_full, blocked-at_end}
-use Rattle.collection_reader.proofs.Breaks.{blocked-by_fault}
+use Rattle.collection_reader.proofs.Breaks.{zero-not, blocked-by_fault}
 use Rattle.collection_reader.proofs.FirstFaults.{one-first_fault, spelled-no_fault, front-head, none-first, match_bool-cases}
 use Rattle.collection_reader.proofs.ListsRead.{calls-then, read_fault-then, no_fault-at_ok, not-ok, stay_started}
-use Rattle.collection_reader.proofs.ReadsFrom.{OnlyReads-trans}
+use Rattle.pef_io.proofs.OnlyReads.{OnlyReads-trans}
 use Rattle.collection_reader.proofs.Starts.{all-started}
 
 -- the files of a well-formed collection have no first fault, and files with one are of none
@@ -93,18 +93,12 @@ match_bool-at_true : (P Q : Type 0) (b : Bool) → b ≡ true → P → MatchBoo
 match_bool-at_true P Q true is p = p
 match_bool-at_true P Q false is p = absurd cc
 
-some-not_zero : (m : ℕ) → 0 < m → m == 0 ≡ false
-some-not_zero m some = grind (arith, nat_tests)
-
-same-from_test : (m n : ℕ) → m == n ≡ true → m ≡ n
-same-from_test m n is = grind (arith, nat_tests)
-
 -- a front is the longest where the next list breaks, and that list has the first fault
 pub next-faulty : (format : FormatNumbers) → format.most_documents < 2 ^ 32 → (files : Files) (n : ℕ) (lists : List (List Posting)) (docs freqs : List ℕ) (fault : Fault) → IsFront format files n lists docs freqs → IsNextFault format n (length lists) (record { docs = docs; freqs = freqs; sizes = files.sizes }) fault → IsFirstFault format files (Some fault)
 next-faulty format small files n lists docs freqs fault front next =
-    let some = match_bool-at_false _ _ (length docs == 0) (some-not_zero (length docs) next.0) in
+    let some = match_bool-at_false _ _ (length docs == 0) (zero-not (length docs) next.0) in
     match_bool-cases _ _ _ (length lists == most_terms)
-    (λ full is. fault-behind format small files n lists docs freqs fault (longest-from_full format files n lists docs freqs front (same-from_test (length lists) most_terms full)) (some (match_bool-at_true _ _ (length lists == most_terms) full (ap Some is))))
+    (λ full is. fault-behind format small files n lists docs freqs fault (longest-from_full format files n lists docs freqs front (eqb-true (length lists) most_terms full)) (some (match_bool-at_true _ _ (length lists == most_terms) full (ap Some is))))
     (λ more broken. fault-behind format small files n lists docs freqs fault (longest-from_blocked format small files n lists docs freqs front (blocked-by_fault format n (length lists) docs freqs fault (omega (arith, front.documents)) broken)) (some (match_bool-at_false _ _ (length lists == most_terms) more broken)))
     next.1
 

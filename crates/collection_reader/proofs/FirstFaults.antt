@@ -1,7 +1,8 @@
 -- Lemmas on first faults: there is one only, and none where the files are a spelling.
 use Rattle.std.proofs.Common.{◌≡◌, refl, sym, ap, ◌∙◌, subst, ℕ, ◌+◌, ◌*◌, ◌^◌, ◌<◌, ◌≤◌, List, [], ◌∷◌, ◌++◌, inl, inr, length, drop, Bool, false, true, not, ◌==◌, nat_lt, if◌then◌else◌, Option, Some, None, MatchBool, MatchOption, IsSomeAnd, arith, lit<, lit≤, append_assoc, length-drop}
-use Rattle.std.proofs.lemmas.Bool.{cases_lt, false≢true}
+use Rattle.std.proofs.lemmas.Bool.{cases_lt, eqb-true, false≢true, le-ltb, ltb-false}
 use Rattle.std.proofs.lemmas.Bool.Decides.{nat_tests}
+use Rattle.std.proofs.lemmas.Option.{none-some}
 use Rattle.std.proofs.lemmas.List.{append-nil, nil_from_length}
 use Rattle.std.proofs.lemmas.List.Elements.{All-nil, All-cons, All-drop}
 use Rattle.collection_model.specs.FormatNumbers.{FormatNumbers, most_terms}
@@ -14,7 +15,7 @@ use Rattle.collection_reader.specs.declared.fault.Fault.{Fault}
 use Rattle.collection_reader.specs.FirstFault.{number_at, lacks, FirstBreak, doc_break, freq_break, IsListFault, IsFront, IsLongestFront, head_fault, end_fault, IsFaultBehind, IsFirstFault}
 use Rattle.collection_reader.specs.Laws.{NoFaultMeansSpelled, NoHeadFaultMeansFront, OneFirstFault, SpelledHasNoFault}
 use Rattle.collection_reader.proofs.Numbers.{number_at-drop, number_at-count, number_at-value, lacks-not, sequence-lacks_not, first-number}
-use Rattle.collection_reader.proofs.Breaks.{lt-not, same-not}
+use Rattle.collection_reader.proofs.Breaks.{same-not}
 use Rattle.collection_reader.proofs.Fronts.{longest-same, longest-from_blocked, blocked-at_end}
 
 -- two facts that each depend on one test, or on one option
@@ -101,7 +102,7 @@ head_fault-none format n rest small within =
     skip (lacks docs 0) _ _ (sequence-lacks_not (n ∷ []) rest 0 (lit≤ tt))
     (skip (not (number_at docs 0 == 1)) None _ (same-not (number_at docs 0) 1 count)
     (skip (lacks docs 1) _ _ (sequence-lacks_not (n ∷ []) rest 1 (lit≤ tt))
-    (skip (nat_lt format.most_documents (number_at docs 1)) _ _ (lt-not format.most_documents (number_at docs 1) (omega arith)) refl)))
+    (skip (nat_lt format.most_documents (number_at docs 1)) _ _ (le-ltb format.most_documents (number_at docs 1) (omega arith)) refl)))
 
 -- none is in the head of a front
 pub front-head : (format : FormatNumbers) → format.most_documents < 2 ^ 32 → (files : Files) (n : ℕ) (lists : List (List Posting)) (docs freqs : List ℕ) → IsFront format files n lists docs freqs → head_fault format files.docs ≡ None
@@ -118,7 +119,7 @@ end_fault-none n t sizes many small =
     skip (lacks bytes 0) _ _ (lacks-not bytes 0 (omega arith))
     (skip (not (number_at bytes 0 == n)) _ _ (same-not (number_at bytes 0) n count)
     (skip (lacks bytes n) _ _ (lacks-not bytes n (omega arith))
-    (skip (nat_lt (4 * (n + 1)) (length bytes)) _ _ (lt-not (4 * (n + 1)) (length bytes) (omega arith)) refl)))
+    (skip (nat_lt (4 * (n + 1)) (length bytes)) _ _ (le-ltb (4 * (n + 1)) (length bytes) (omega arith)) refl)))
 
 pub none-first : (o : Option Fault) (P : Type 0) (Q : Fault → Type 0) → o ≡ None → P → MatchOption o P Q
 none-first None P Q is p = p
@@ -144,9 +145,6 @@ record EndsWell (n : ℕ) (freqs sizes : List ℕ) : Type 0 where
   count : number_at sizes 0 ≡ n
   long : length sizes ≡ 4 * (n + 1)
 
-below-from : (m n : ℕ) → nat_lt m n ≡ false → n ≤ m
-below-from m n is = grind (arith, nat_tests)
-
 same-from : (m n : ℕ) → not (m == n) ≡ false → m ≡ n
 same-from m n is = grind (arith, nat_tests)
 
@@ -157,9 +155,9 @@ ends-well n t freqs sizes is =
     let c = skipped (not (number_at sizes 0 == n)) _ _ b.1 in
     let d = skipped (lacks sizes n) _ _ c.1 in
     let e = skipped (nat_lt (4 * (n + 1)) (length sizes)) _ _ d.1 in
-    let no_freqs = below-from 0 (length freqs) a.0 in
-    let enough = below-from (length sizes) (4 * (n + 1)) d.0 in
-    let few = below-from (4 * (n + 1)) (length sizes) e.0 in
+    let no_freqs = ltb-false 0 (length freqs) a.0 in
+    let enough = ltb-false (length sizes) (4 * (n + 1)) d.0 in
+    let few = ltb-false (4 * (n + 1)) (length sizes) e.0 in
     record { no_freqs = omega arith; count = same-from (number_at sizes 0) n c.0; long = omega arith }
 
 -- bytes of a sequence of n numbers
@@ -179,12 +177,6 @@ pub match_bool-cases : (P Q R : Type 0) (b : Bool) → (b ≡ true → P → R) 
 match_bool-cases P Q R true at_yes at_no p = at_yes refl p
 match_bool-cases P Q R false at_yes at_no q = at_no refl q
 
-zero-from : (n : ℕ) → n == 0 ≡ true → n ≡ 0
-zero-from n is = grind (arith, nat_tests)
-
-nothing-some : (f : Fault) → None ≡ Some f → ⊥
-nothing-some f is = cc
-
 -- a longest front with nothing broken behind it is all of the files
 spelled-at_end : (format : FormatNumbers) (files : Files) (n : ℕ) (ls : List (List Posting)) (docs freqs : List ℕ) → AreBytes files.sizes → IsLongestFront format files n ls docs freqs → length docs ≡ 0 → None ≡ end_fault n (length ls) freqs files.sizes → IsSpelled format files
 spelled-at_end format files n ls docs freqs small longest no_docs none =
@@ -200,8 +192,8 @@ spelled-at_end format files n ls docs freqs small longest no_docs none =
 
 spelled-behind : (format : FormatNumbers) (files : Files) (n : ℕ) (ls : List (List Posting)) (docs freqs : List ℕ) → AreBytes files.sizes → IsLongestFront format files n ls docs freqs → IsFaultBehind format n (length ls) docs freqs files.sizes None → IsSpelled format files
 spelled-behind format files n ls docs freqs small longest behind =
-    match_bool-cases _ _ _ (length docs == 0) (λ yes none. spelled-at_end format files n ls docs freqs small longest (zero-from (length docs) yes) none)
-    (λ no. match_bool-cases _ _ _ (length ls == most_terms) (λ full is. absurd (nothing-some _ is)) (λ more broken. absurd broken))
+    match_bool-cases _ _ _ (length docs == 0) (λ yes none. spelled-at_end format files n ls docs freqs small longest (eqb-true (length docs) 0 yes) none)
+    (λ no. match_bool-cases _ _ _ (length ls == most_terms) (λ full is. absurd (none-some _ is)) (λ more broken. absurd broken))
     behind
 
 spelled-first : (format : FormatNumbers) (files : Files) (o : Option Fault) (P : Type 0) → (P → IsSpelled format files) → MatchOption o P (λ broken. None ≡ Some broken) → IsSpelled format files
@@ -235,7 +227,7 @@ head-front format files small is =
     let d = skipped (nat_lt format.most_documents (number_at docs 1)) _ _ c.1 in
     let n = number_at docs 1 in
     let rest = drop 4 (drop 4 docs) in
-    let enough = below-from (length docs) (4 * (1 + 1)) c.0 in
+    let enough = ltb-false (length docs) (4 * (1 + 1)) c.0 in
     let spelled_so : docs ≡ head_bytes n ++ rest =
     two-numbers docs small enough ∙ ap (λ m. le32 m ++ (le32 n ++ rest)) (same-from (number_at docs 0) 1 b.0)
     ∙ ap (λ x. le32 1 ++ (x ++ rest)) (sym (append-nil (le32 n))) ∙ sym (append_assoc (le32 1) (le32 n ++ []) rest) in (
@@ -244,7 +236,7 @@ head-front format files small is =
       rest,
       files.freqs,
       record {
-        documents = below-from format.most_documents n d.0;
+        documents = ltb-false format.most_documents n d.0;
         terms = lit≤ tt;
         each = All-nil (IsPostingList format n);
         docs = spelled_so ∙ ap (λ h. h ++ rest) (sym (append-nil (head_bytes n)));

@@ -15,7 +15,7 @@ use Rattle.collection_reader.specs.ReadLists.{ReadsLists}
 use Rattle.collection_reader.specs.InTurn.{HasRead, HasReadAll, ReadsInTurn}
 use Rattle.collection_reader.proofs.ListsRead.{nothing-read, read-more, read-end, answered-list, stay_started, no_fault-at_ok, list-refused}
 use Rattle.collection_reader.proofs.CollectionRead.{refused, start-refused, lists-refused, sizes-refused, all-read}
-use Rattle.collection_reader.proofs.ReadsFrom.{OnlyReads-trans}
+use Rattle.pef_io.proofs.OnlyReads.{OnlyReads-trans}
 
 started-reading : (format : FormatNumbers) (base : List ℕ) (old new : DepotState) (r : Reading) → StartsReading format old new base (Ok r) → HasRead format base old new r [] Lists
 started-reading format base old new r starts = record {

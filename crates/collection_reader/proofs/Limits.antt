@@ -10,7 +10,7 @@ use Rattle.collection_reader.specs.declared.fault.Fault.{Fault}
 use Rattle.collection_reader.specs.FirstFault.{number_at, lacks, FirstBreak, doc_break, freq_break, IsListFault, head_fault, end_fault, IsFaultBehind}
 use Rattle.collection_reader.specs.Laws.{NeverTooManyDocuments}
 use Rattle.collection_reader.proofs.Numbers.{number_at-fits}
-use Rattle.collection_reader.proofs.Breaks.{lt-not}
+use Rattle.std.proofs.lemmas.Bool.{le-ltb}
 use Rattle.collection_reader.proofs.FirstFaults.{match_bool-cases}
 
 -- a rule that is not C3, where there is one
@@ -47,7 +47,7 @@ end_fault-other n t freqs sizes =
 -- the head, where no number of four bytes is too many
 head_fault-other : (format : FormatNumbers) → 2 ^ 32 ≤ format.most_documents + 1 → (docs : List ℕ) → AreBytes docs → IsOfOther (head_fault format docs)
 head_fault-other format all docs bytes =
-    let within = lt-not format.most_documents (number_at docs 1) (omega (arith, all, number_at-fits docs 1 bytes)) in
+    let within = le-ltb format.most_documents (number_at docs 1) (omega (arith, all, number_at-fits docs 1 bytes)) in
     either IsOfOther (lacks docs 0) _ _ (λ h. cc)
     (either IsOfOther (not (number_at docs 0 == 1)) _ _ (λ h. cc)
     (either IsOfOther (lacks docs 1) _ _ (λ h. cc) (rw within tt)))

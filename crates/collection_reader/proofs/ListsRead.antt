@@ -21,7 +21,7 @@ use Rattle.collection_reader.specs.Starting.{AreStarted}
 use Rattle.collection_reader.specs.ReadCollection.{IsCollectionSlot}
 use Rattle.collection_reader.specs.Reading.{Reading, rests, IsReadFault, IsNextFault, OnlyReadsCollection, ReadsList, GivesList, EndsLists}
 use Rattle.collection_reader.specs.ReadLists.{AtFirstList, HaveBeenRead, ReadsLists}
-use Rattle.collection_reader.proofs.ReadsFrom.{OnlyReads-trans, OnlyReads-same}
+use Rattle.pef_io.proofs.OnlyReads.{OnlyReads-trans, OnlyReads-same}
 
 -- one more vector of documents, and one of frequencies
 pub held_push : (docs freqs : List (Vec ℕ Global)) (d f : Vec ℕ Global) → AreAligned docs freqs → lists_held (docs ++ d ∷ []) (freqs ++ f ∷ []) ≡ lists_held docs freqs ++ postings_of d.items f.items ∷ []

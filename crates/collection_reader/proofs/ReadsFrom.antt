@@ -1,57 +1,11 @@
-use Rattle.std.proofs.Common.{◌≡◌, refl, ◌∙◌, arith, inl, inr, Result, Ok, Err}
+use Rattle.std.proofs.Common.{◌≡◌, ◌∙◌, arith, inl, inr, Result, Ok, Err}
 use Rattle.pef_io.specs.declared.fail.Slot.{Slot}
-use Rattle.pef_io.specs.DepotState.{DepotState, OnlyReads}
+use Rattle.pef_io.specs.DepotState.{DepotState}
+use Rattle.pef_io.proofs.OnlyReads.{OnlyReads-trans, OnlyReads-wider}
 use Rattle.collection_reader.specs.declared.fault.CollError.{CollError}
 use Rattle.collection_reader.specs.declared.fault.CollError.TheVariants.{Broken, Read, NoMemory}
 use Rattle.collection_reader.specs.declared.fault.Fault.{Fault}
 use Rattle.collection_reader.specs.OneFile.{ReadsFrom}
-
--- reads after reads
-pub OnlyReads-trans : {touched : Slot → Type 0} {a b c : DepotState} → OnlyReads touched a b → OnlyReads touched b c → OnlyReads touched a c
-OnlyReads-trans p q = record {
-  tells = q.tells ∙ p.tells;
-  files = λ t name. q.files (p.tells ∙ t) name ∙ p.files t name;
-  writing = (q.writing.0 ∙ p.writing.0, λ t. q.writing.1 (p.tells ∙ t) ∙ p.writing.1 t);
-  writing_count = q.writing_count ∙ p.writing_count;
-  stay_started = λ slot s. q.stay_started slot (p.stay_started slot s);
-  other_slots = λ slot n. (
-    (q.other_slots slot n).0 ∙ (p.other_slots slot n).0,
-    λ t. (q.other_slots slot n).1 (p.tells ∙ t) ∙ (p.other_slots slot n).1 t,
-  );
-  never_fall = λ slot. omega (arith, p.never_fall slot, q.never_fall slot);
-  other_counts = λ slot n. q.other_counts slot n ∙ p.other_counts slot n;
-  create_count = q.create_count ∙ p.create_count;
-  finish_count = q.finish_count ∙ p.finish_count;
-}
-
--- nothing read
-pub OnlyReads-same : {touched : Slot → Type 0} (a : DepotState) → OnlyReads touched a a
-OnlyReads-same a = record {
-  tells = refl;
-  files = λ t name. refl;
-  writing = (refl, λ t. refl);
-  writing_count = refl;
-  stay_started = λ slot s. s;
-  other_slots = λ slot n. (refl, λ t. refl);
-  never_fall = λ slot. omega arith;
-  other_counts = λ slot n. refl;
-  create_count = refl;
-  finish_count = refl;
-}
-
-pub OnlyReads-wider : {touched more : Slot → Type 0} {a b : DepotState} → ((slot : Slot) → touched slot → more slot) → OnlyReads touched a b → OnlyReads more a b
-OnlyReads-wider w p = record {
-  tells = p.tells;
-  files = p.files;
-  writing = p.writing;
-  writing_count = p.writing_count;
-  stay_started = p.stay_started;
-  other_slots = λ slot n. p.other_slots slot (λ t. n (w slot t));
-  never_fall = p.never_fall;
-  other_counts = λ slot n. p.other_counts slot (λ t. n (w slot t));
-  create_count = p.create_count;
-  finish_count = p.finish_count;
-}
 
 ok-not-err : {A : Type 0} (x : A) (e : CollError) → let r : Result A CollError = Ok x in r ≡ Err e → ⊥
 ok-not-err x e h = cc

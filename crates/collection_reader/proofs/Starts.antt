@@ -16,7 +16,8 @@ use Rattle.collection_reader.specs.OneFile.{ReadsFrom}
 use Rattle.collection_reader.specs.OneSequence.{ReadsHead}
 use Rattle.collection_reader.specs.OneReader.{StartsFile, StartsFiles}
 use Rattle.collection_reader.proofs.SameAnswer.{same-fault}
-use Rattle.collection_reader.proofs.ReadsFrom.{OnlyReads-trans, OnlyReads-wider, reads-then, reads-wider, answers-err}
+use Rattle.pef_io.proofs.OnlyReads.{OnlyReads-trans, OnlyReads-wider}
+use Rattle.collection_reader.proofs.ReadsFrom.{reads-then, reads-wider, answers-err}
 
 -- the slots of a collection, and that they differ
 pub docs-is : (slot : Slot) → slot ≡ Docs → IsCollectionSlot slot

@@ -9,7 +9,8 @@ use Rattle.collection_reader.specs.OneFile.{LooksAhead}
 use Rattle.collection_reader.specs.OneSequence.{ReadsToEnd}
 use Rattle.collection_reader.specs.OneReader.{TriesEnd}
 use Rattle.collection_reader.proofs.SameAnswer.{same-fault}
-use Rattle.collection_reader.proofs.ReadsFrom.{OnlyReads-trans, OnlyReads-wider, reads-then, reads-wider, answers-err}
+use Rattle.pef_io.proofs.OnlyReads.{OnlyReads-trans, OnlyReads-wider}
+use Rattle.collection_reader.proofs.ReadsFrom.{reads-then, reads-wider, answers-err}
 use Rattle.collection_reader.proofs.Starts.{freqs-is, sizes-is, freqs-last, sizes-last, docs-not_freqs, docs-not_sizes, freqs-not_sizes, sizes-not_freqs}
 
 -- the look ahead fails

@@ -16,7 +16,8 @@ use Rattle.collection_reader.specs.OneFile.{LooksAhead, rest_of}
 use Rattle.collection_reader.specs.OneSequence.{IsDocsFault, IsFreqsFault, ReadsDocuments, ReadsFrequencies}
 use Rattle.collection_reader.specs.OneReader.{TriesList}
 use Rattle.collection_reader.proofs.SameAnswer.{same-fault}
-use Rattle.collection_reader.proofs.ReadsFrom.{OnlyReads-trans, OnlyReads-wider, reads-then, reads-wider, answers-err, answers-ok}
+use Rattle.pef_io.proofs.OnlyReads.{OnlyReads-trans, OnlyReads-wider}
+use Rattle.collection_reader.proofs.ReadsFrom.{reads-then, reads-wider, answers-err, answers-ok}
 use Rattle.collection_reader.proofs.Breaks.{docs-none}
 use Rattle.collection_reader.proofs.Begun.{begun-claim, begun-there}
 use Rattle.collection_reader.proofs.Documents.{AreDocuments}

@@ -1,13 +1,9 @@
-use Rattle.std.proofs.Common.{◌≡◌, ℕ, ◌-◌, ◌≤◌, arith, sym, ◌∙◌, ap, ◌++◌, take, drop, ◌+◌, length, List, subst, ◌⊎◌, inl, inr}
-use Rattle.std.specs.Prelude.{Result, Ok, IfOk, IsErrOf}
+use Rattle.std.proofs.Common.{◌≡◌, ℕ, ◌-◌, ◌≤◌, arith, sym, ◌∙◌, ap, ◌++◌, take, drop, ◌+◌, length, List, ◌⊎◌, inl, inr}
+use Rattle.std.specs.Prelude.{Result, Ok, IsErrOf}
 use Rattle.std.proofs.Math.Seq.{take-add, take-append_seam}
 use Rattle.pef_io.specs.declared.fail.IoFail.{IoFail}
 use Rattle.pef_io.specs.declared.fail.IoFail.TheVariants.{NoMemory}
 use Rattle.std.proofs.lemmas.List.{append_assoc, length-drop, take_all, take-append-drop}
-
--- what holds of the value of a result that is Ok
-pub at_ok : {A E : Type 0} (P : A → Type 0) (r : Result A E) (x : A) → r ≡ Ok x → IfOk r P → P x
-at_ok {A} {E} P r x e h = let Q : Result A E → Type 0 = λ r. IfOk r P in subst Q e h
 
 -- a front, and then a front of the rest
 pub one_front : (old mid new piece : List ℕ) (at n : ℕ) → at ≤ length piece → mid ≡ old ++ take at piece →

@@ -3,3 +3,4 @@ mod Loading
 mod Ops
 mod FileLists
 mod FailedCalls
+pub mod OnlyReads

@@ -1,6 +1,7 @@
-use Rattle.std.proofs.Common.{◌≡◌, ◌≢◌, ℕ, ◌+◌, ◌≤◌, ◌<◌, ◌⊎◌, Bool, true, false, IsTrue, List, [], ◌++◌, length, take, drop, All, Decides, Result, Ok, Err, refl, ◌↔◌, sym, ◌∙◌, ap, subst, inl, inr, add-zero, arith}
+use Rattle.std.proofs.Common.{◌≡◌, ◌≢◌, ℕ, ◌+◌, ◌≤◌, ◌<◌, ◌⊎◌, IsTrue, List, [], ◌++◌, length, take, drop, All, Result, Ok, Err, refl, ◌↔◌, sym, ◌∙◌, ap, subst, inl, inr, add-zero, arith}
 use Rattle.std.specs.Prelude.{is_ok, IsErrOf, OnErr}
 use Rattle.std.proofs.Math.Seq.{take-append-add}
+use Rattle.std.proofs.lemmas.Result.{IfOk-at_ok}
 use Rattle.std.proofs.lemmas.List.{append_assoc, append-nil, length-append, length-take-le, take-append-le, take-take, drop_at}
 use borrow.Rule.Slice.PartMut.{put_mid, post_of}
 use Rattle.pef_io.specs.declared.fail.IoFail.{IoFail}
@@ -8,12 +9,10 @@ use Rattle.pef_io.specs.declared.fail.IoFail.TheVariants as call
 use Rattle.pef_io.specs.declared.fail.Slot.{Slot}
 use Rattle.pef_io.specs.declared.load.LoadError.{LoadError}
 use Rattle.pef_io.specs.declared.load.LoadError.TheVariants.{Read, TooLarge, NoMemory}
-use Rattle.pef_io.specs.contracts.fail.SlotPartialEq.TheImpl as slot_test
 use Rattle.pef_io.specs.Calls.{Rose}
 use Rattle.pef_io.specs.DepotState.{DepotState, OnlyReads, ReadsSlot, SameButCounts}
 use Rattle.pef_io.specs.Loads.{Loads, TakesBytes, load_error}
-use Rattle.pef_io.proofs.Fronts.{at_ok}
-use Rattle.pef_io.proofs.Ops.{slot_eq}
+use Rattle.pef_io.proofs.Ops.{same_or_other}
 
 -- what stands in front after a piece was read into a part of a list
 pub read_into : (held k n count : ℕ) (bytes lent piece tail : List ℕ) → lent ≡ bytes → held ≤ length bytes → count ≤ length piece → held + count ≤ n →
@@ -32,13 +31,6 @@ read_into held k n count bytes lent piece tail same within some fits =
 pub front_kept : (held k n : ℕ) (bytes lent piece tail : List ℕ) → lent ≡ bytes → held ≤ length bytes → held ≤ n → take held (take n (put_mid held k lent piece ++ tail)) ≡ take held bytes
 front_kept held k n bytes lent piece tail same within fits =
     rw add-zero at (read_into held k n 0 bytes lent piece tail same within (omega arith) (omega arith)) ∙ append-nil (take held bytes)
-
-same_or_other : (a b : Slot) → (a ≡ b) ⊎ (a ≢ b)
-same_or_other a b = by_test (slot_test.ghosts.eq a b) (slot_eq a b)
-  where
-    by_test : (t : Bool) → Decides t (a ≡ b) → (a ≡ b) ⊎ (a ≢ b)
-    by_test true d = inl (d.0 refl)
-    by_test false d = inr (λ e. let h = d.1 e in cc)
 
 -- reads, and then a read of a slot
 pub OnlyReads-then : {touched : Slot → Type 0} {a b c : DepotState} {slot : Slot} {before after : List ℕ} {result : Result ℕ IoFail} → OnlyReads touched a b → touched slot → ReadsSlot b c slot before after result → OnlyReads touched a c
@@ -80,7 +72,7 @@ read_front old new slot bytes now h e = let P : List ℕ → Type 0 = λ xs. Has
 -- a further piece
 pub read_on : (old mid new : DepotState) (slot : Slot) (bytes before after : List ℕ) (result : Result ℕ IoFail) (n : ℕ) → HasRead old mid slot bytes → ReadsSlot mid new slot before after result → result ≡ Ok n → HasRead old new slot (bytes ++ take n after)
 read_on old mid new slot bytes before after result n h r e = record {
-  front = λ t. h.front t ∙ ap (λ xs. bytes ++ xs) (at_ok (λ k. mid.left slot ≡ take k after ++ new.left slot) result n e (r.next_bytes (h.reads.tells ∙ t))) ∙ sym (append_assoc bytes (take n after) (new.left slot));
+  front = λ t. h.front t ∙ ap (λ xs. bytes ++ xs) (IfOk-at_ok (λ k. mid.left slot ≡ take k after ++ new.left slot) e (r.next_bytes (h.reads.tells ∙ t))) ∙ sym (append_assoc bytes (take n after) (new.left slot));
   count = r.counts.this.same_at_ok (ap is_ok e) ∙ h.count;
   reads = OnlyReads-then h.reads refl r;
 }
@@ -98,7 +90,7 @@ whole old mid new slot limit bytes before after items result h r e room few same
   within = omega (arith, ap length same);
   are_bytes = let P : List ℕ → Type 0 = λ xs. All (λ b. b < 256) xs in subst P (sym same) small;
   all_bytes = λ t. same ∙ sym (h.front t ∙ ap (λ xs. bytes ++ xs) (none t) ∙ append-nil bytes);
-  none_left = λ t. sym (at_ok (λ k. mid.left slot ≡ take k after ++ new.left slot) result 0 e (r.next_bytes (h.reads.tells ∙ t))) ∙ none t;
+  none_left = λ t. sym (IfOk-at_ok (λ k. mid.left slot ≡ take k after ++ new.left slot) e (r.next_bytes (h.reads.tells ∙ t))) ∙ none t;
   too_large = λ t was. absurd (not_err TooLarge was);
   other_refusals = λ t. tt;
   read_only_where_it_rose = λ was. absurd (not_err Read was);
@@ -107,7 +99,7 @@ whole old mid new slot limit bytes before after items result h r e room few same
 }
   where
     none : IsTrue old.tells → mid.left slot ≡ []
-    none t = (at_ok (λ k. (k ≡ 0) ↔ (mid.left slot ≡ [])) result 0 e (r.at_end (h.reads.tells ∙ t) room)).0 refl
+    none t = (IfOk-at_ok (λ k. (k ≡ 0) ↔ (mid.left slot ≡ [])) e (r.at_end (h.reads.tells ∙ t) room)).0 refl
 
     not_err : (f : LoadError) → IsErrOf {T = List ℕ} (Ok items) f → ⊥
     not_err f was = cc

@@ -1,4 +1,4 @@
-use Rattle.std.proofs.Common.{◌≡◌, ℕ, Bool, true, false, refl, ap, Decides, ◌&&◌, nat_eq}
+use Rattle.std.proofs.Common.{◌≡◌, ◌≢◌, ◌⊎◌, inl, inr, ℕ, Bool, true, false, refl, ap, Decides, ◌&&◌, nat_eq}
 use Rattle.std.proofs.lemmas.Bool.Decides.{Decides-eqb}
 use Rattle.pef_io.specs.declared.fail.Slot.{Slot}
 use Rattle.pef_io.specs.declared.fail.Slot.TheVariants.{Docs, Freqs, Sizes, Index}
@@ -14,6 +14,13 @@ slot_eq Freqs Freqs = (λ _. refl, λ _. refl)
 slot_eq Sizes Sizes = (λ _. refl, λ _. refl)
 slot_eq Index Index = (λ _. refl, λ _. refl)
 slot_eq a b = (λ e. cc, λ e. cc)
+
+pub same_or_other : (a b : Slot) → (a ≡ b) ⊎ (a ≢ b)
+same_or_other a b = by_test (slot.ghosts.eq a b) (slot_eq a b)
+  where
+    by_test : (t : Bool) → Decides t (a ≡ b) → (a ≡ b) ⊎ (a ≢ b)
+    by_test true d = inl (d.0 refl)
+    by_test false d = inr (λ e. let h = d.1 e in cc)
 
 -- `==` of kinds of call is equality
 pub op_eq : (a b : Op) → Decides (op.ghosts.eq a b) (a ≡ b)

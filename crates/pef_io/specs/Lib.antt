@@ -5,6 +5,7 @@ pub mod DepotState
 pub mod Helpers
 pub mod Loads
 pub mod PerSlot
+pub mod LentSlot
 pub mod Opened
 pub mod Files
 pub mod DepotCalls

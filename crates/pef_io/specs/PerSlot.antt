@@ -8,3 +8,10 @@ at_slot all Docs = all.docs
 at_slot all Freqs = all.freqs
 at_slot all Sizes = all.sizes
 at_slot all Index = all.index
+
+-- the same with another value at a slot
+abbrev pub with_slot : {A : Type 0} → PerSlot A → Slot → A → PerSlot A
+with_slot all Docs value = record all { docs = value }
+with_slot all Freqs value = record all { freqs = value }
+with_slot all Sizes value = record all { sizes = value }
+with_slot all Index value = record all { index = value }

@@ -1,4 +1,4 @@
-ghost use Rattle.std.specs.Prelude.{◌≡◌, ◌≤◌, IfOk, ◌↔◌, min, length, IsErrOf, Contains};
+ghost use Rattle.std.specs.Prelude.{◌≡◌, ◌≤◌, IfOk, IsOk, ◌↔◌, min, length, IsErrOf, Contains};
 ghost use Rattle.pef_io.specs.InMemory.{IsNewSource, IsNewSink, ReadOnce, WrittenOnce};
 ghost use Rattle.pef_io.specs.SourceState.{Reads};
 ghost use Rattle.pef_io.specs.SinkState.{Writes};
@@ -88,6 +88,7 @@ impl MemSink {
     /// `fails` fail, counted from 1.
     pub fn new(alloc: Global, most: usize, fails: Vec<u64>) -> Result<MemSink, NoMemory>
         requires { 1 ≤ most }
+        ensures always { IsOk result }
         ensures fresh { IfOk result (λ s. IsNewSink s.state) }
         ensures made { IfOk result (λ s. (s.most ≡ most) × (s.fails ≡ fails.items) × (s.calls ≡ 0)) }
     {

@@ -1,4 +1,4 @@
-ghost use Rattle.std.specs.Prelude.{◌≡◌, ◌≤◌, ◌↔◌, ◌⊎◌, min, length, IfOk, IsErrOf, IsTrue, None, option_map};
+ghost use Rattle.std.specs.Prelude.{◌≡◌, ◌≤◌, ◌↔◌, ◌⊎◌, min, length, IfOk, IsOk, IsErrOf, IsTrue, None, option_map};
 ghost use Rattle.pef_io.specs.InMemory.{IsNewDepot, file_in};
 ghost use Rattle.pef_io.specs.DepotCalls.{calls_of, CountsCall};
 ghost use Rattle.pef_io.specs.PerSlot.{at_slot};
@@ -36,6 +36,7 @@ impl MemDepot {
         fails: Vec<(Op, u64)>,
     ) -> Result<MemDepot, NoMemory>
         requires { 1 ≤ most }
+        ensures always { IsOk result }
         ensures fresh { IfOk result (λ d. IsNewDepot files.items (⟦<MemDepot as Depot>⟧.state d)) }
         ensures made { IfOk result (λ d. (d.depot.most ≡ most) × ((op : Op) → calls_of d.depot.calls op ≡ 0) × (d.fails ≡ fails)) }
     {

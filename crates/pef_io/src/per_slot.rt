@@ -1,10 +1,11 @@
 ghost use Rattle.std.specs.Prelude.{◌≡◌, ◌≢◌, ◌+◌, ◌≤◌, min};
 ghost use Rattle.pef_io.specs.Calls.{Rose};
+ghost use Rattle.std.specs.Borrow.{sem};
 ghost use Rattle.pef_io.specs.PerSlot.{at_slot};
+ghost use Rattle.pef_io.specs.LentSlot.{LendsSlot};
 ghost use Rattle.pef_io.specs.declared.fail.Slot.{Slot};
 
 use crate::fail::Slot;
-use std::mem;
 
 /// One value for each slot.
 #[derive(Drop)]
@@ -35,8 +36,8 @@ impl PerSlot<u64> {
         ensures rose { Rose (at_slot self.old slot) (at_slot self.new slot) }
         ensures others { (other : Slot) → other ≢ slot → at_slot self.new other ≡ at_slot self.old other }
     {
-        let number = self.get(slot).saturating_add(1);
-        self.replace(slot, number);
+        let number = self.get_mut(slot);
+        *number = number.saturating_add(1);
     }
 }
 
@@ -52,17 +53,15 @@ impl<T> PerSlot<T> {
         }
     }
 
-    /// Puts the value at the slot and gives back the one that stood there.
-    pub(crate) fn replace(&mut self, slot: Slot, value: T) -> T
-        ensures was { result ≡ at_slot self.old slot }
-        ensures put { at_slot self.new slot ≡ value }
-        ensures others { (other : Slot) → other ≢ slot → at_slot self.new other ≡ at_slot self.old other }
+    pub(crate) fn get_mut(&mut self, slot: Slot) -> &mut T
+        ensures* writes_back { sem 𝓛 (LendsSlot T.row self.entry slot result) }
+        ensures value { result.now ≡ at_slot self.old slot }
     {
         match slot {
-            Slot::Docs => mem::replace(&mut self.docs, value),
-            Slot::Freqs => mem::replace(&mut self.freqs, value),
-            Slot::Sizes => mem::replace(&mut self.sizes, value),
-            Slot::Index => mem::replace(&mut self.index, value),
+            Slot::Docs => &mut self.docs,
+            Slot::Freqs => &mut self.freqs,
+            Slot::Sizes => &mut self.sizes,
+            Slot::Index => &mut self.index,
         }
     }
 }

@@ -124,7 +124,7 @@ impl<R: Files> Depot for StdDepot<R> {
 
     fn start(&mut self, slot: Slot, name: &str) -> Result<(), IoFail> {
         if let Ok(file) = fs::open(&self.rt, name) {
-            self.opened.replace(slot, Some(file));
+            *self.opened.get_mut(slot) = Some(file);
             return Ok(());
         }
         self.faults.raise(slot);
@@ -132,12 +132,10 @@ impl<R: Files> Depot for StdDepot<R> {
     }
 
     fn read(&mut self, slot: Slot, buf: &mut [u8]) -> Result<usize, IoFail> {
-        let Some(mut file) = self.opened.replace(slot, None) else {
+        let Some(file) = self.opened.get_mut(slot) else {
             unreachable!()
         };
-        let result = file.read(buf);
-        self.opened.replace(slot, Some(file));
-        if let Ok(n) = result {
+        if let Ok(n) = file.read(buf) {
             return Ok(n);
         }
         self.faults.raise(slot);

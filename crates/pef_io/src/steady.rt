@@ -101,6 +101,7 @@ impl SteadySink {
     /// An empty sink, to which each write moves at most `most` bytes.
     pub fn new(alloc: Global, most: usize) -> Result<SteadySink, NoMemory>
         requires { 1 ≤ most }
+        ensures always { IsOk result }
         ensures fresh { IfOk result (λ s. IsNewSink s.state) }
         ensures made { IfOk result (λ s. (s.most ≡ most) × (s.fails ≡ []) × (s.calls ≡ 0)) }
     {

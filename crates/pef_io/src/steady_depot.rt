@@ -1,4 +1,4 @@
-ghost use Rattle.std.specs.Prelude.{◌≡◌, ℕ, ◌≤◌, min, length, IfOk, IsErrOf, IsTrue, Some, option_map};
+ghost use Rattle.std.specs.Prelude.{◌≡◌, ℕ, ◌≤◌, min, length, IfOk, IsOk, IsErrOf, IsTrue, Some, option_map};
 ghost use Rattle.pef_io.specs.InMemory.{IsNewDepot};
 ghost use Rattle.pef_io.specs.DepotCalls.{calls_of, CountsCall};
 ghost use Rattle.pef_io.specs.Files.{IsFirst};
@@ -36,6 +36,7 @@ impl SteadyDepot {
         most: usize,
     ) -> Result<SteadyDepot, NoMemory>
         requires { 1 ≤ most }
+        ensures always { IsOk result }
         ensures fresh { IfOk result (λ d. IsNewDepot files.items (⟦<SteadyDepot as Depot>⟧.state d)) }
         ensures made { IfOk result (λ d. (d.most ≡ most) × ((op : Op) → calls_of d.calls op ≡ 0)) }
     {
@@ -83,7 +84,7 @@ impl Depot for SteadyDepot {
         self.calls.count(Op::Start(slot));
         match self.files.copy_of(self.alloc, name) {
             Ok(bytes) => {
-                self.opened.replace(slot, Some(Opened::new(bytes)));
+                *self.opened.get_mut(slot) = Some(Opened::new(bytes));
                 Ok(())
             }
             Err(_) => Err(IoFail::NoMemory),
@@ -99,12 +100,10 @@ impl Depot for SteadyDepot {
         ensures kept { self.new.most ≡ self.old.most }
     {
         self.calls.count(Op::Read(slot));
-        let Some(mut opened) = self.opened.replace(slot, None) else {
+        let Some(opened) = self.opened.get_mut(slot) else {
             unreachable!()
         };
-        let n = opened.read(buf, self.most);
-        self.opened.replace(slot, Some(opened));
-        Ok(n)
+        Ok(opened.read(buf, self.most))
     }
 
     fn create(&mut self, name: &str) -> Result<(), IoFail>

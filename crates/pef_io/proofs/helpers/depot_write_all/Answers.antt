@@ -1,7 +1,8 @@
 use Rattle.std.proofs.Common.{arith, ◌≡◌, ◌∙◌, sym, ap, IsTrue, drop, length, ◌-◌, unwrap_or, [], ◌++◌, take, Some}
 use Rattle.std.specs.Prelude.{is_ok}
 use Rattle.std.proofs.lemmas.List.{length-drop, length-take}
-use Rattle.pef_io.proofs.Fronts.{at_ok, one_front}
+use Rattle.std.proofs.lemmas.Result.{IfOk-at_ok}
+use Rattle.pef_io.proofs.Fronts.{one_front}
 use Rattle.pef_io.proofs.helpers.depot_write_all.Goals as goal
 
 pub loop-at-preserved : goal.loop-at-preserved
@@ -14,8 +15,8 @@ loop-at-preserved g c =
     let before = c.loop-at.invariant in
     let write = c.write.ensures in
     let appended : IsTrue old.tells → new.file mid.name ≡ Some (unwrap_or (mid.file mid.name) [] ++ take c.in_ok-at.field-0 (take (length piece - at) (drop at piece))) =
-    λ t. at_ok (λ n. new.file mid.name ≡ Some (unwrap_or (mid.file mid.name) [] ++ take n (take (length piece - at) (drop at piece)))) c.write.result c.in_ok-at.field-0 c.in_ok-at.was (write.appended (before.1 ∙ t)) in (
-      omega (arith, at_ok _ _ _ c.in_ok-at.was write.within, length-take (length piece - at) (drop at piece), length-drop at piece, before.0),
+    λ t. IfOk-at_ok (λ n. new.file mid.name ≡ Some (unwrap_or (mid.file mid.name) [] ++ take n (take (length piece - at) (drop at piece)))) c.in_ok-at.was (write.appended (before.1 ∙ t)) in (
+      omega (arith, IfOk-at_ok _ c.in_ok-at.was write.within, length-take (length piece - at) (drop at piece), length-drop at piece, before.0),
       write.tells ∙ before.1,
       (λ t.
           let same_name = before.5.1 t in

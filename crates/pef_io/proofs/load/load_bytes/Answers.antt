@@ -2,7 +2,7 @@ use Rattle.std.proofs.Common.{rules, arith, ◌<◌, ◌≤◌, ◌+◌, ◌-◌
 use Rattle.std.proofs.lemmas.List.{length-drop, length-take}
 use Rattle.std.proofs.lemmas.List.Elements.{All-take}
 use Rattle.std.proofs.lemmas.Result.{err_from_is_err_and}
-use Rattle.pef_io.proofs.Fronts.{at_ok}
+use Rattle.std.proofs.lemmas.Result.{IfOk-at_ok}
 use Rattle.pef_io.proofs.Loading.{read_front, refused, whole, read_on, read_into, front_kept}
 use Rattle.pef_io.proofs.load.load_bytes.Goals as goal
 
@@ -41,7 +41,7 @@ loop-held-preserved g c =
     let lent = c.deref_mut.result.now in
     let piece = c.read.new.buf in
     let end = c.min-end.result in
-    let came : count ≤ length (take (end - held) (drop held lent)) = at_ok _ _ _ c.in_ok-count.was c.read.ensures.within in
+    let came : count ≤ length (take (end - held) (drop held lent)) = IfOk-at_ok _ c.in_ok-count.was c.read.ensures.within in
     let longer : held < length room = omega (arith, c.make_room.new.bytes.ok.0) in
     let fits : held + count ≤ end = omega (arith, came, length-take (end - held) (drop held lent)) in
     record {

@@ -1,0 +1,79 @@
+-- Starts and reads of some slots: none of them, one behind the other, and among more slots.
+use Rattle.std.proofs.Common.{◌≡◌, refl, ◌∙◌, ap, sym, arith, inl, inr, ℕ, List, IsTrue, Result, Ok, Err}
+use Rattle.pef_io.specs.declared.fail.IoFail.{IoFail}
+use Rattle.pef_io.specs.declared.fail.Slot.{Slot}
+use Rattle.pef_io.specs.DepotState.{DepotState, OnlyReads, Starts}
+use Rattle.pef_io.proofs.Ops.{same_or_other}
+
+-- nothing read
+pub OnlyReads-same : {touched : Slot → Type 0} (a : DepotState) → OnlyReads touched a a
+OnlyReads-same a = record {
+  tells = refl;
+  files = λ t name. refl;
+  writing = (refl, λ t. refl);
+  writing_count = refl;
+  stay_started = λ slot s. s;
+  other_slots = λ slot n. (refl, λ t. refl);
+  never_fall = λ slot. omega arith;
+  other_counts = λ slot n. refl;
+  create_count = refl;
+  finish_count = refl;
+}
+
+-- reads after reads
+pub OnlyReads-trans : {touched : Slot → Type 0} {a b c : DepotState} → OnlyReads touched a b → OnlyReads touched b c → OnlyReads touched a c
+OnlyReads-trans p q = record {
+  tells = q.tells ∙ p.tells;
+  files = λ t name. q.files (p.tells ∙ t) name ∙ p.files t name;
+  writing = (q.writing.0 ∙ p.writing.0, λ t. q.writing.1 (p.tells ∙ t) ∙ p.writing.1 t);
+  writing_count = q.writing_count ∙ p.writing_count;
+  stay_started = λ slot s. q.stay_started slot (p.stay_started slot s);
+  other_slots = λ slot n. (
+    (q.other_slots slot n).0 ∙ (p.other_slots slot n).0,
+    λ t. (q.other_slots slot n).1 (p.tells ∙ t) ∙ (p.other_slots slot n).1 t,
+  );
+  never_fall = λ slot. omega (arith, p.never_fall slot, q.never_fall slot);
+  other_counts = λ slot n. q.other_counts slot n ∙ p.other_counts slot n;
+  create_count = q.create_count ∙ p.create_count;
+  finish_count = q.finish_count ∙ p.finish_count;
+}
+
+-- the same among more slots
+pub OnlyReads-wider : {touched more : Slot → Type 0} {a b : DepotState} → ((slot : Slot) → touched slot → more slot) → OnlyReads touched a b → OnlyReads more a b
+OnlyReads-wider w p = record {
+  tells = p.tells;
+  files = p.files;
+  writing = p.writing;
+  writing_count = p.writing_count;
+  stay_started = p.stay_started;
+  other_slots = λ slot n. p.other_slots slot (λ t. n (w slot t));
+  never_fall = p.never_fall;
+  other_counts = λ slot n. p.other_counts slot (λ t. n (w slot t));
+  create_count = p.create_count;
+  finish_count = p.finish_count;
+}
+
+-- the start of a slot
+pub OnlyReads-start : (old new : DepotState) (slot : Slot) (name : List ℕ) (result : Result (Unit {0}) IoFail) → Starts old new slot name result → OnlyReads (λ s. s ≡ slot) old new
+OnlyReads-start old new slot name result s = record {
+  tells = s.tells;
+  files = s.files;
+  writing = s.writing;
+  writing_count = s.counts.writing;
+  stay_started = λ other h. elim (same_or_other other slot) [
+    | inl e ↦ ap new.started e ∙ this result s (sym (ap old.started e) ∙ h)
+    | inr n ↦ (s.other_slots other n).0 ∙ h
+  ];
+  other_slots = s.other_slots;
+  never_fall = λ other. elim (same_or_other other slot) [
+    | inl e ↦ omega (arith, s.counts.this.never_falls, ap old.faults e, ap new.faults e)
+    | inr n ↦ omega (arith, s.counts.others other n)
+  ];
+  other_counts = s.counts.others;
+  create_count = s.counts.create_count;
+  finish_count = s.counts.finish_count;
+}
+  where
+    this : (result : Result (Unit {0}) IoFail) → Starts old new slot name result → IsTrue (old.started slot) → IsTrue (new.started slot)
+    this (Ok u) s h = s.started
+    this (Err e) s h = (s.unchanged.slots slot).0 ∙ h
