@@ -27,16 +27,6 @@ impl Draws {
     }
 }
 
-// Appends a number.
-fn push(numbers: &mut Vec<u32>, number: u32) -> Result<(), NoMemory>
-    ensures { OnOk result (numbers.new.items ≡ numbers.old.items ++ number ∷ []) }
-{
-    match numbers.push(number) {
-        Ok(()) => Ok(()),
-        Err(_) => Err(NoMemory),
-    }
-}
-
 // Draws a list over n documents with gaps up to one, in place of what the vectors hold, and answers the state behind it.
 pub(crate) fn draw_list(
     state: u32,
@@ -57,8 +47,8 @@ pub(crate) fn draw_list(
     let mut document = u64::from(draws.draw() % gap);
     while document < u64::from(n) {
         let number = draws.draw();
-        push(docs, document as u32)?;
-        push(freqs, 1 + number % 8)?;
+        docs.push(document as u32)?;
+        freqs.push(1 + number % 8)?;
         document += u64::from(1 + number / 8 % gap);
     }
     Ok(draws.state)

@@ -9,10 +9,7 @@ use std::alloc::{AllocError, Global};
 pub fn document_sizes(alloc: Global, n: u32) -> Result<Vec<u32>, NoMemory>
     ensures { IfOk result (λ sizes. (seed t : ℕ) → sizes.items ≡ (generated seed n t).sizes) }
 {
-    match sizes_of(alloc, n) {
-        Ok(sizes) => Ok(sizes),
-        Err(_) => Err(NoMemory),
-    }
+    Ok(sizes_of(alloc, n)?)
 }
 
 // The same, refused as its allocation is.

@@ -11,10 +11,7 @@ use std::alloc::{AllocError, Global};
 pub fn summary(alloc: Global, counts: &Counts) -> Result<Value, NoMemory>
     ensures { IfOk result (λ v. view v ≡ summary_of counts.now) }
 {
-    match object_of(alloc, counts) {
-        Ok(object) => Ok(object),
-        Err(_) => Err(NoMemory),
-    }
+    Ok(object_of(alloc, counts)?)
 }
 
 // The same, refused as its allocations are.

@@ -9,8 +9,8 @@ loop-document-init c =
 
 pub loop-document-preserved : goal.loop-document-preserved
 loop-document-preserved c =
-    let pushed : c.push.new.numbers.items ≡ c.loop-document.docs.items ++ c.loop-document.document ∷ [] = search rules in
-    let counted : c.push-in-loop-document.new.numbers.items ≡ c.loop-document.freqs.items ++ (1 + c.draw-number.result % 8) ∷ [] = search rules in
+    let pushed : c.push.new.self.items ≡ c.loop-document.docs.items ++ c.loop-document.document ∷ [] = search rules in
+    let counted : c.push-in-loop-document.new.self.items ≡ c.loop-document.freqs.items ++ (1 + c.draw-number.result % 8) ∷ [] = search rules in
     let gap : c.from-document-in-loop-document.result ≡ 1 + c.draw-number.result / 8 % c.args.gap = c.from-document-in-loop-document.ensures in
     let within : c.loop-document.document < c.args.n = omega arith in
     rw (pushed, counted, gap)

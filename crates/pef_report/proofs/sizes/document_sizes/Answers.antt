@@ -1,6 +1,6 @@
 use Rattle.pef_report.specs.Generated.{generated}
 use Rattle.pef_report.proofs.sizes.document_sizes.Goals as goal
 
-pub returns-in-Ok : goal.returns-in-Ok
+pub returns : goal.returns
 unfolding generated
-returns-in-Ok c = λ seed t. c.in-Ok.ensures
+returns c = λ seed t. c.in_ok-sizes_of.ensures
