@@ -1,64 +1,25 @@
 -- How the bytes of an index file are loaded, and how they are read as words.
-use Rattle.std.proofs.Common.{◌≡◌, ◌≢◌, refl, sym, ap, ◌∙◌, subst, ℕ, ◌*◌, ◌%◌, ◌^◌, ◌<◌, ◌≤◌, List, [], ◌∷◌, length, inl, inr, IsTrue, Result, Ok, Err, arith}
+use Rattle.std.proofs.Common.{◌≡◌, ◌≢◌, refl, sym, ap, ◌∙◌, subst, ℕ, ◌%◌, ◌^◌, ◌<◌, ◌≤◌, List, length, inl, inr, IsTrue, Result, Ok, Err, arith}
 use Rattle.std.specs.Prelude.{◌⊎◌}
 use Rattle.std.specs.List.{All}
 use Rattle.collection_model.specs.Bytes.{word_bytes}
 use Rattle.pef_io.specs.declared.fail.IoFail.{IoFail}
 use Rattle.pef_io.specs.declared.fail.IoFail.TheVariants as call
-use Rattle.pef_io.specs.declared.fail.Slot.{Slot}
-use Rattle.pef_io.specs.declared.fail.Slot.TheVariants.{Docs, Freqs, Sizes, Index}
+use Rattle.pef_io.specs.declared.fail.Slot.TheVariants.{Index}
 use Rattle.pef_io.specs.declared.load.LoadError.{LoadError}
 use Rattle.pef_io.specs.declared.load.LoadError.TheVariants as file
 use Rattle.pef_io.specs.Calls.{Rose}
-use Rattle.pef_io.specs.DepotState.{DepotState, Starts, OnlyReads, bytes_under}
+use Rattle.pef_io.specs.DepotState.{DepotState, Starts, bytes_under}
+use Rattle.pef_io.proofs.OnlyReads.{OnlyReads-start, OnlyReads-trans}
 use Rattle.pef_io.specs.Loads.{Loads}
 use Rattle.index_file.specs.declared.bytes.WordsError.{WordsError}
 use Rattle.index_file.specs.declared.bytes.WordsError.TheVariants as spelled
-use Rattle.command_model.specs.Found.{IsIndexSlot, most_bytes}
+use Rattle.command_model.specs.Found.{most_bytes}
+use Rattle.command_model.proofs.WordBytes.{word_bytes-length}
 use Rattle.command_steps.specs.declared.loading.LoadIndexError.{LoadIndexError}
 use Rattle.command_steps.specs.declared.loading.LoadIndexError.TheVariants.{Broken, Read, TooLarge, NoMemory}
 use Rattle.command_steps.specs.LoadIndex.{ragged_fault, LoadsWords}
 use Rattle.command_steps.specs.LoadBytes.{start_error, file_error, words_error, LoadsFile}
-
-docs-other : Docs ≢ Index
-docs-other e = cc
-
-freqs-other : Freqs ≢ Index
-freqs-other e = cc
-
-sizes-other : Sizes ≢ Index
-sizes-other e = cc
-
-index-stays : (name : List ℕ) (old new : DepotState) (r : Result (Unit {0}) IoFail) → Starts old new Index name r → IsTrue (old.started Index) → IsTrue (new.started Index)
-index-stays name old new (Ok u) s h = s.started
-index-stays name old new (Err e) s h = (s.unchanged.slots Index).0 ∙ h
-
--- the start of the slot of the index
-start-reads : (name : List ℕ) (old new : DepotState) (r : Result (Unit {0}) IoFail) → Starts old new Index name r → OnlyReads IsIndexSlot old new
-start-reads name old new r s = record {
-  tells = s.tells;
-  files = s.files;
-  writing = s.writing;
-  writing_count = s.counts.writing;
-  stay_started = stay;
-  other_slots = s.other_slots;
-  never_fall = fall;
-  other_counts = s.counts.others;
-  create_count = s.counts.create_count;
-  finish_count = s.counts.finish_count;
-}
-  where
-    stay : (slot : Slot) → IsTrue (old.started slot) → IsTrue (new.started slot)
-    stay Docs h = (s.other_slots Docs docs-other).0 ∙ h
-    stay Freqs h = (s.other_slots Freqs freqs-other).0 ∙ h
-    stay Sizes h = (s.other_slots Sizes sizes-other).0 ∙ h
-    stay Index h = index-stays name old new r s h
-
-    fall : (slot : Slot) → old.faults slot ≤ new.faults slot
-    fall Docs = omega (arith, s.counts.others Docs docs-other)
-    fall Freqs = omega (arith, s.counts.others Freqs freqs-other)
-    fall Sizes = omega (arith, s.counts.others Sizes sizes-other)
-    fall Index = s.counts.this.never_falls
 
 -- a count that stays as it was where a call is not refused so
 count-stays : {P : Type 0} {a b c : ℕ} → P ⊎ (c ≡ b) → (P → ⊥) → b ≡ a → c ≡ a
@@ -74,7 +35,7 @@ start-refused name old new call.Failed s = record {
   too_large = λ t is. cc;
   read_only_where_it_rose = λ is. s.counts.this.failed_only_where_it_rose refl;
   count_rises_only_there = inl refl;
-  reads = start-reads name old new (Err call.Failed) s;
+  reads = OnlyReads-start old new Index name (Err call.Failed) s;
 }
 start-refused name old new call.NoMemory s = record {
   within = tt;
@@ -83,31 +44,8 @@ start-refused name old new call.NoMemory s = record {
   too_large = λ t is. cc;
   read_only_where_it_rose = λ is. cc;
   count_rises_only_there = inr (s.counts.this.same_at_no_memory refl);
-  reads = start-reads name old new (Err call.NoMemory) s;
+  reads = OnlyReads-start old new Index name (Err call.NoMemory) s;
 }
-
-both-read : (name : List ℕ) (old mid new : DepotState) (limit : ℕ) (r : Result (List ℕ) LoadError) → Starts old mid Index name (Ok tt) → Loads mid new Index limit r → OnlyReads IsIndexSlot old new
-both-read name old mid new limit r s l = record {
-  tells = q.tells ∙ p.tells;
-  files = λ t n. q.files (p.tells ∙ t) n ∙ p.files t n;
-  writing = (q.writing.0 ∙ p.writing.0, λ t. q.writing.1 (p.tells ∙ t) ∙ p.writing.1 t);
-  writing_count = q.writing_count ∙ p.writing_count;
-  stay_started = λ slot h. q.stay_started slot (p.stay_started slot h);
-  other_slots = λ slot ne. (
-    (q.other_slots slot ne).0 ∙ (p.other_slots slot ne).0,
-    λ t. (q.other_slots slot ne).1 (p.tells ∙ t) ∙ (p.other_slots slot ne).1 t,
-  );
-  never_fall = λ slot. omega (arith, p.never_fall slot, q.never_fall slot);
-  other_counts = λ slot ne. q.other_counts slot ne ∙ p.other_counts slot ne;
-  create_count = q.create_count ∙ p.create_count;
-  finish_count = q.finish_count ∙ p.finish_count;
-}
-  where
-    p : OnlyReads IsIndexSlot old mid
-    p = start-reads name old mid (Ok tt) s
-
-    q : OnlyReads IsIndexSlot mid new
-    q = l.reads
 
 -- the file is loaded
 pub file-loaded : (name : List ℕ) (old mid new : DepotState) (limit : ℕ) (bytes : List ℕ) → limit ≡ most_bytes → Starts old mid Index name (Ok tt) → Loads mid new Index limit (Ok bytes) → LoadsFile name old new (Ok bytes)
@@ -118,7 +56,7 @@ file-loaded name old mid new limit bytes most s l = record {
   too_large = λ t is. cc;
   read_only_where_it_rose = λ is. cc;
   count_rises_only_there = inr (count-stays l.count_rises_only_there (λ h. cc) (s.counts.this.same_at_ok refl));
-  reads = both-read name old mid new limit (Ok bytes) s l;
+  reads = OnlyReads-trans (OnlyReads-start old mid Index name (Ok tt) s) l.reads;
 }
 
 -- the file is not loaded
@@ -130,7 +68,7 @@ file-refused name old mid new limit file.Read most s l = record {
   too_large = λ t is. cc;
   read_only_where_it_rose = λ is. let P : ℕ → Type 0 = λ n. Rose n (new.faults Index) in subst P (s.counts.this.same_at_ok refl) (l.read_only_where_it_rose refl);
   count_rises_only_there = inl refl;
-  reads = both-read name old mid new limit (Err file.Read) s l;
+  reads = OnlyReads-trans (OnlyReads-start old mid Index name (Ok tt) s) l.reads;
 }
 file-refused name old mid new limit file.TooLarge most s l = record {
   within = tt;
@@ -142,7 +80,7 @@ file-refused name old mid new limit file.TooLarge most s l = record {
       omega (arith, taken.0, most, left);
   read_only_where_it_rose = λ is. cc;
   count_rises_only_there = inr (count-stays l.count_rises_only_there (λ h. cc) (s.counts.this.same_at_ok refl));
-  reads = both-read name old mid new limit (Err file.TooLarge) s l;
+  reads = OnlyReads-trans (OnlyReads-start old mid Index name (Ok tt) s) l.reads;
 }
 file-refused name old mid new limit file.NoMemory most s l = record {
   within = tt;
@@ -151,18 +89,14 @@ file-refused name old mid new limit file.NoMemory most s l = record {
   too_large = λ t is. cc;
   read_only_where_it_rose = λ is. cc;
   count_rises_only_there = inr (count-stays l.count_rises_only_there (λ h. cc) (s.counts.this.same_at_ok refl));
-  reads = both-read name old mid new limit (Err file.NoMemory) s l;
+  reads = OnlyReads-trans (OnlyReads-start old mid Index name (Ok tt) s) l.reads;
 }
-
-length-of_words : (words : List ℕ) → length (word_bytes words) ≡ 8 * length words
-length-of_words [] = refl
-length-of_words (w ∷ words) = omega (arith, length-of_words words)
 
 -- the words of the bytes that were loaded
 pub words-read : (name : List ℕ) (old new : DepotState) (bytes lent words : List ℕ) → LoadsFile name old new (Ok bytes) → lent ≡ bytes → lent ≡ word_bytes words → length lent % 8 ≡ 0
     → All (λ w. w < 2 ^ 64) words → LoadsWords name old new (Ok words)
 words-read name old new bytes lent words l same are whole fit = record {
-  within = omega (arith, l.within, ap length same, ap length are, length-of_words words);
+  within = omega (arith, l.within, ap length same, ap length are, word_bytes-length words);
   fit = fit;
   words = λ t. record { fit = fit; bytes_are = sym (same ∙ l.bytes t) ∙ are };
   first_check = λ fault is. cc;

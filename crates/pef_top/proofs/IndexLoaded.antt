@@ -1,10 +1,8 @@
 -- The words of a file that `query` and `inspect` load, and what is found under its name.
-use Rattle.std.proofs.Common.{◌≡◌, ℕ, zero, suc, ◌*◌, ◌≤◌, arith, refl, sym, ◌∙◌, ap, subst, List, [], ◌∷◌, length, inl, inr}
+use Rattle.std.proofs.Common.{◌≡◌, ℕ, zero, suc, ◌*◌, ◌≤◌, arith, refl, sym, ◌∙◌, ap, subst, List, length, inl, inr}
 use Rattle.std.specs.Prelude.{◌≢◌, ◌%◌, ◌==◌, not, true, false, IsTrue, MatchBool, Result, Ok, Err, Vec}
 use Rattle.std.specs.declared.alloc.Global.{Global}
-use Rattle.std.proofs.lemmas.List.{length-append}
 use Rattle.std.proofs.Math.Dec.{eqb-suc-zero}
-use Rattle.collection_model.specs.Bytes.{word_bytes, le64}
 use Rattle.collection_model.specs.Collection.{Collection}
 use Rattle.part_cost.specs.Formats.{numbers_of}
 use Rattle.pef_io.specs.declared.fail.Slot.{Slot}
@@ -19,6 +17,7 @@ use Rattle.index_file.specs.IndexView.{IndexView}
 use Rattle.index_file.specs.Builder.{most_words}
 use Rattle.index_file.specs.Laws.{WordsAreRead, OneBrokenCheck}
 use Rattle.command_model.specs.Found.{AreOfWords, most_bytes}
+use Rattle.command_model.proofs.WordBytes.{word_bytes-length}
 use Rattle.command_steps.specs.declared.loading.LoadIndexError.{LoadIndexError}
 use Rattle.command_steps.specs.declared.loading.LoadIndexError.TheVariants as loading
 use Rattle.command_steps.specs.LoadIndex.{LoadsWords, ragged_fault, words_loaded}
@@ -32,16 +31,8 @@ use Rattle.pef_top.proofs.Counted.{stays, second, by_slot, not_both_lengths}
 
 -- ---- bytes and words
 
--- words take eight bytes each
-eights : (ws : List ℕ) → length (word_bytes ws) ≡ 8 * length ws
-eights [] = refl
-eights (w ∷ ws) = omega (arith, length-append (le64 w) (word_bytes ws), eight w, eights ws)
-  where
-    eight : (w : ℕ) → length (le64 w) ≡ 8
-    eight w = refl
-
 length_of : (bytes words : List ℕ) → AreOfWords bytes words → length bytes ≡ 8 * length words
-length_of bytes words of = ap length of.bytes_are ∙ eights words
+length_of bytes words of = ap length of.bytes_are ∙ word_bytes-length words
 
 even : (bytes words : List ℕ) → AreOfWords bytes words → length bytes % 8 ≡ 0
 even bytes words of = omega (arith, length_of bytes words of)

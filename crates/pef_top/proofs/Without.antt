@@ -1,9 +1,9 @@
 use Rattle.std.proofs.Common.{refl, ℕ, inl, inr, arith}
 use Rattle.std.specs.Prelude.{◌≡◌, Some}
-use Rattle.pef_io.specs.declared.fail.Slot.{Slot}
 use Rattle.pef_io.specs.SourceState.{SourceState}
 use Rattle.pef_io.specs.SinkState.{SinkState}
-use Rattle.pef_io.specs.DepotState.{DepotState, OnlyReads}
+use Rattle.pef_io.specs.DepotState.{DepotState}
+use Rattle.pef_io.proofs.OnlyReads.{OnlyReads-same}
 use Rattle.pef_top.specs.declared.status.Status.TheVariants as status
 use Rattle.pef_top.specs.Outside.{outside, GotText}
 use Rattle.pef_top.specs.ErrLines.{memory_line}
@@ -11,21 +11,6 @@ use Rattle.pef_top.specs.Outcome.{NoMemory}
 use Rattle.pef_top.specs.Ends.{Ends}
 use Rattle.pef_top.specs.Command.{Command, Build, Query, Answer, Inspect, Generate, Migrate}
 use Rattle.pef_top.specs.Commands.{Performs}
-
--- a depot of which nothing was called
-same : (touched : Slot → Type 0) (d : DepotState) → OnlyReads touched d d
-same touched d = record {
-  tells = refl;
-  files = λ t name. refl;
-  writing = (refl, λ t. refl);
-  writing_count = refl;
-  stay_started = λ slot h. h;
-  other_slots = λ slot h. (refl, λ t. refl);
-  never_fall = λ slot. omega arith;
-  other_counts = λ slot h. refl;
-  create_count = refl;
-  finish_count = refl;
-}
 
 -- a run that is refused memory ends so
 pub ends : (d : DepotState) (i : SourceState) (o e e' : SinkState) (s : ℕ) → GotText e e' memory_line → e'.tells ≡ e.tells
@@ -50,26 +35,26 @@ performs (Build base index format) d i o e e' s = record {
   refuses = record { broken = λ t f h. inr (inr refl); sound = λ t c h f e. cc };
   opens = λ h. cc;
   complete = λ t c h n. inr (inr refl);
-  depot = record { refused = λ h. same _ d; unaccepted = λ h. same _ d; stay_started = λ slot h. h; other_slots = λ slot h. (refl, λ t. refl); create_count = inr refl; finish_count = inr refl };
+  depot = record { refused = λ h. OnlyReads-same d; unaccepted = λ h. OnlyReads-same d; stay_started = λ slot h. h; other_slots = λ slot h. (refl, λ t. refl); create_count = inr refl; finish_count = inr refl };
 }
 performs (Query index plan) d i o e e' s = record {
   ends = inl (record { input = refl; out = refl });
   refuses = record { broken = λ t f h. inr (inr refl); longer = λ t h. inr (inr refl); sound = λ t c h. (λ e. cc, λ f e. cc) };
   answers = record { complete = λ t c h n l. inr (inr refl); limited = λ t c h n l. inr (inr refl) };
-  depot = same _ d;
+  depot = OnlyReads-same d;
   costs = refl;
 }
 performs (Answer base plan) d i o e e' s = record {
   ends = inl (record { input = refl; out = refl });
   refuses = record { broken = λ t f h. inr (inr refl); sound = λ t c h f e. cc };
   answers = record { complete = λ t c h n l. inr (inr refl); limited = λ t c h n l. inr (inr refl) };
-  depot = same _ d;
+  depot = OnlyReads-same d;
 }
 performs (Inspect index) d i o e e' s = record {
   ends = inl refl;
   refuses = record { broken = λ t f h. inr (inr refl); longer = λ t h. inr (inr refl); sound = λ t c h. (λ e. cc, λ f e. cc) };
   complete = λ t c h n. inr refl;
-  depot = same _ d;
+  depot = OnlyReads-same d;
   costs = refl;
 }
 performs (Generate seed n t) d i o e e' s = record {
@@ -81,5 +66,5 @@ performs (Migrate from to) d i o e e' s = record {
   opens = λ h. cc;
   refuses = inr (record { broken = λ t f h. inr (inr refl); longer = λ t h. inr (inr refl); sound = λ t c h. (λ e. cc, λ f e. cc) });
   complete = λ t c h n. inr (inr refl);
-  depot = record { refused = λ h. same _ d; unaccepted = λ h. same _ d; stay_started = λ slot h. h; other_slots = λ slot h. (refl, λ t. refl); create_count = inr refl; finish_count = inr refl };
+  depot = record { refused = λ h. OnlyReads-same d; unaccepted = λ h. OnlyReads-same d; stay_started = λ slot h. h; other_slots = λ slot h. (refl, λ t. refl); create_count = inr refl; finish_count = inr refl };
 }
