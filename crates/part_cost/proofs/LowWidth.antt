@@ -1,6 +1,6 @@
 use Rattle.std.proofs.Common.{◌≡◌, refl, sym, subst, ap, ℕ, zero, suc, ◌+◌, ◌-◌, ◌*◌, ◌/◌, ◌^◌, ◌<◌, ◌≤◌, ⊎_elim, lit<, ◌==◌, add-one, arith, get_or}
-use Rattle.std.proofs.Math.Nat.{div-lt_iff_lt-mul, pow-le-pow_right, pow-suc, le-div_iff_mul-le, div-le_self}
-use Rattle.std.proofs.lemmas.Nat.{shr-shr, le-div, pow_pos, leading_length}
+use Rattle.std.proofs.Math.Nat.{div-lt_iff_lt-mul, pow-le-pow_right, pow-suc, le-div_iff_mul-le}
+use Rattle.std.proofs.lemmas.Nat.{shr-shr, pow-add, pow_pos, leading_length}
 use Rattle.std.proofs.lemmas.Bool.{cases_lt, eq-eqb, ne_eqb}
 use Rattle.std.specs.Int.{w64, leading_zeros}
 use Rattle.std.specs.List.{range_with_len, position_or_len}
@@ -74,29 +74,39 @@ best u m l h = record {
   first = λ k lt. less u m l k h lt;
 }
 
--- that width is the length of the quotient by one more than twice the count
-first-few-from : (u m l : ℕ) → (u - 1) / (2 * m + 1) < 2 ^ l → 2 ^ l ≤ 2 * ((u - 1) / (2 * m + 1)) + 1 → IsFirstFew u m l
-first-few-from u m l above below =
-    let some : 0 < 2 * m + 1 = omega arith in
-    record {
-      few =
-          let product = (div-lt_iff_lt-mul some).0 above in
-          let quotient = (div-lt_iff_lt-mul {x = u - 1} {y = 2 * m + 1} (pow_pos l)).1 (omega (arith, product)) in
-          omega (arith, quotient);
-      many = λ k lt.
-          let step : 2 ^ (k + 1) ≤ 2 ^ l = pow-le-pow_right (lit< tt) (omega arith) in
-          let half : 2 ^ k ≤ (u - 1) / (2 * m + 1) = omega (arith, step, below, ap (λ x. 2 ^ x) (add-one k), pow-suc 2 k) in
-          let product = (le-div_iff_mul-le some).0 half in
-          let quotient = le-div (2 * m + 1) (u - 1) (2 ^ k) (pow_pos k) (omega (arith, product)) in
-          omega (arith, quotient);
-    }
+-- before the width by which the greatest number has more digits than twice the count, the high bits are many
+many-before : (u m w low k : ℕ) → 2 * m < 2 ^ w → 2 ^ (w + low) ≤ 2 * (u - 1) + 1 → k < low → 2 * m < (u - 1) / 2 ^ k
+many-before u m w low k count greatest lt =
+    let step : 2 ^ (w + k + 1) ≤ 2 ^ (w + low) = pow-le-pow_right (lit< tt) (omega arith) in
+    let whole : 2 ^ (w + k) ≤ u - 1 = omega (arith, step, greatest, ap (λ x. 2 ^ x) (add-one (w + k)), pow-suc 2 (w + k)) in
+    let quotient : 2 ^ w ≤ (u - 1) / 2 ^ k = (le-div_iff_mul-le (pow_pos k)).1 (omega (arith, whole, pow-add 2 w k)) in
+    omega (arith, quotient, count)
 
-pub first-few : (u m l : ℕ) → l ≡ 64 - leading_zeros w64 ((u - 1) / (2 * m + 1)) → u ≤ 2 ^ 64 → IsFirstFew u m l
-first-few u m l e fit =
-    let small : (u - 1) / (2 * m + 1) < 2 ^ 64 = omega (arith, div-le_self (u - 1) (2 * m + 1)) in
-    let len = leading_length 64 ((u - 1) / (2 * m + 1)) small in
-    let is : len.0 ≡ l = omega (arith, len.1) in
-    subst (λ x. IsFirstFew u m x) is (first-few-from u m len.0 len.2 len.3)
+-- behind it they are few
+few-behind : (u m w low : ℕ) → u - 1 < 2 ^ (w + low) → 2 ^ w ≤ 2 * (2 * m) + 1 → (u - 1) / 2 ^ (low + 1) ≤ 2 * m
+few-behind u m w low below count =
+    let quotient : (u - 1) / 2 ^ low < 2 ^ w = (div-lt_iff_lt-mul {x = u - 1} {y = 2 ^ w} (pow_pos low)).1 (omega (arith, below, pow-add 2 w low)) in
+    omega (arith, shr-next (u - 1) low, quotient, count)
+
+-- so the best width is that one or the next, by the high bits at it
+pub first-few : (u m low : ℕ) → u ≤ 2 ^ 63 → m ≤ 2 ^ 62 → low ≡ digits (u - 1) - digits (2 * m)
+    → ((2 * m < (u - 1) / 2 ^ low) → IsFirstFew u m (low + 1)) × (((u - 1) / 2 ^ low ≤ 2 * m) → IsFirstFew u m low)
+first-few u m low fit count e =
+    let v = leading_length 64 (u - 1) (omega (arith, fit)) in
+    let w = leading_length 64 (2 * m) (omega (arith, count)) in
+    let gap : low ≡ v.0 - w.0 = omega (arith, e, v.1, w.1) in
+    let many : (k : ℕ) → k < low → 2 * m < (u - 1) / 2 ^ k = λ k lt.
+    many-before u m w.0 low k w.2 (subst (λ x. 2 ^ x ≤ 2 * (u - 1) + 1) (let same : v.0 ≡ w.0 + low = omega arith in same) v.3) lt in
+    let reach : 2 ^ v.0 ≤ 2 ^ (w.0 + low) = pow-le-pow_right (lit< tt) (omega arith) in (
+      λ more. record {
+        few = few-behind u m w.0 low (omega (arith, reach, v.2)) w.3;
+        many = λ k lt. ⊎_elim
+            (λ early. many k early)
+            (λ late. subst (λ x. 2 * m < (u - 1) / 2 ^ x) (let same : low ≡ k = omega arith in same) more)
+            (cases_lt k low);
+      },
+      λ few. record { few = few; many = many },
+    )
 
 -- it is at most n where the universe is at most 2 ^ n
 pub at-most : (u m l n : ℕ) → IsFirstFew u m l → 0 < u → u ≤ 2 ^ n → l ≤ n
@@ -153,15 +163,25 @@ pub ef-payload-at : (u m l : ℕ) → IsBestLowWidth u m l → l ≤ widest_low 
 unfolding ef_payload
 ef-payload-at u m l h fit = ap (λ x. x + (m - 1) / ef_spacing * digits (3 * m)) (least-at (ef_bits_at u m) l widest_low fit h.fewest)
 
--- the length of that quotient is the low width
-pub low-width-at : (u m l : ℕ) → 1 ≤ u → u ≤ 2 ^ widest_low → l ≡ 64 - leading_zeros w64 ((u - 1) / (2 * m + 1)) → (low_width_of u m ≡ l) × IsLowWidth u m l
-low-width-at u m l some fit e =
-    let first = first-few u m l e (omega (arith, fit)) in
+-- that width is the low width
+pub low-width-at : (u m l : ℕ) → 1 ≤ u → u ≤ 2 ^ widest_low → IsFirstFew u m l → (low_width_of u m ≡ l) × IsLowWidth u m l
+low-width-at u m l some fit first =
     let within : l ≤ widest_low = at-most u m l widest_low first some fit in
     let h = best u m l first in
     (is-low-width u m l h within, record { best = h; within = within; few = first.few; many = first.many; takes = ef-payload-at u m l h within })
 
+-- there is one, also where the count is beyond all universes: then it is 0
+pub some-width : (u m : ℕ) → u ≤ 2 ^ 63 → (l : ℕ) × IsFirstFew u m l
+some-width u m fit = ⊎_elim
+    (λ lt.
+    let low : ℕ = digits (u - 1) - digits (2 * m) in
+    let is = first-few u m low fit (omega arith) refl in
+    ⊎_elim (λ more. (low + 1, is.0 more)) (λ few. (low, is.1 few)) (cases_lt (2 * m) ((u - 1) / 2 ^ low)))
+    (λ ge. (0, record { few = omega (arith, fit); many = λ k lt. absurd (omega arith) }))
+    (cases_lt m (2 ^ 62))
+
 pub low-width-is-best : LowWidthIsBest
 low-width-is-best u m some fit =
-    let at = low-width-at u m (64 - leading_zeros w64 ((u - 1) / (2 * m + 1))) some fit refl in
+    let found = some-width u m (omega (arith, fit)) in
+    let at = low-width-at u m found.0 some fit found.1 in
     subst (λ x. IsLowWidth u m x) (sym at.0) at.1

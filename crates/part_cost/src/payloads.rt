@@ -27,8 +27,12 @@ pub fn low_width(u: u64, m: u64) -> u32
     ensures within { result ≤ widest_low }
     ensures few { (u - 1) / 2 ^ result ≤ 2 * m }
 {
-    // v >> l is at most 2m exactly where v / (2m + 1) has at most l digits.
-    digits((u - 1) / (2 * m + 1))
+    // At the width by which the greatest number has more digits than 2m, the shifted number has as many as 2m: it is that
+    // width or the next.
+    let greatest = u - 1;
+    let most = 2 * m;
+    let low = digits(greatest).saturating_sub(digits(most));
+    if greatest >> low > most { low + 1 } else { low }
 }
 
 /// The bits of a part in Elias-Fano form.
