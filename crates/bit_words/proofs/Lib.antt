@@ -2,6 +2,7 @@ pub mod Value
 mod Words
 pub mod Ranges
 mod WordRanges
+mod WordOnes
 mod Writing
 mod OneAfter
 pub mod OnesWritten

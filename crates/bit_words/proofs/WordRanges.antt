@@ -1,11 +1,11 @@
-use Rattle.std.proofs.Common.{◌≡◌, ℕ, zero, suc, ◌+◌, ◌-◌, ◌*◌, ◌/◌, ◌%◌, ◌^◌, ◌<◌, ◌≤◌, min, max, List, [], ◌∷◌, length, take, drop, map, get_or, sym, ap, ◌∙◌, arith, sum, bit_and, count_ones, inl, inr}
+use Rattle.std.proofs.Common.{◌≡◌, ℕ, zero, suc, ◌+◌, ◌-◌, ◌*◌, ◌/◌, ◌%◌, ◌^◌, ◌<◌, ◌≤◌, min, max, List, [], ◌∷◌, length, take, drop, map, get_or, sym, ap, subst, ◌∙◌, arith, sum, bit_and, count_ones, inl, inr}
 use Rattle.std.specs.Int.{bit_at, w64, trailing_zeros}
 use Rattle.std.specs.List.{range_with_len}
 use Rattle.std.proofs.lemmas.Bool.{cases_lt}
-use Rattle.std.proofs.lemmas.Nat.{shr-shr, ones-le}
-use Rattle.std.proofs.lemmas.Nat.Bits.{bit_at-zero, bit_at-lt, bit_at_and, bit_at_ones, bit_at_ones_above, bit_at_mask_inside, bit_at_mask_below, bit_at-trailing_zeros, ones_shl, ones_shr}
-use Rattle.std.proofs.lemmas.List.{get_or_append_left, get_or-append_right}
-use Rattle.std.proofs.lemmas.List.Sums.{sum_by-cons}
+use Rattle.std.proofs.lemmas.Nat.{shr-shr, ones-le, and_mask}
+use Rattle.std.proofs.lemmas.Nat.Bits.{bit_at-zero, bit_at_above, bit_at-trailing_zeros}
+use Rattle.std.proofs.lemmas.List.{get_or_append_left, get_or-append_right, take-take, drop-take, drop-drop}
+use Rattle.std.proofs.lemmas.List.Sums.{sum_by-cons, sum_by-take-drop}
 use Rattle.std.proofs.lemmas.List.FromFn.{get_or-map-range_with_len, sum_by-map-range_with_len_more}
 use Rattle.std.proofs.Math.Nat.{mod-eq_of_lt}
 use lib.Count.{ones_step}
@@ -23,31 +23,6 @@ bit-of_word (w ∷ ws) (suc i) k h =
     get_or-append_right (field_bits 64 w) (bits_of ws) 64 (64 * suc i + k) 0 (length-field_bits 64 w) (omega arith)
     ∙ ap (λ p. get_or (bits_of ws) p 0) (let e : 64 * suc i + k - 64 ≡ 64 * i + k = omega arith in e)
     ∙ bit-of_word ws i k h
-
--- the mask of the bits of a word from lo up to hi
-abbrev pub mask_of : ℕ → ℕ → ℕ
-mask_of lo hi = bit_and ((2 ^ 64 - 1) * 2 ^ lo % 2 ^ 64) ((2 ^ 64 - 1) / 2 ^ (64 - hi))
-
-bit-mask_of : (lo hi k : ℕ) → lo ≤ 64 → hi ≤ 64 → bit_at (mask_of lo hi) k ≡ min (bit_at (2 ^ 64 - 2 ^ lo) k) (bit_at (2 ^ hi - 1) k)
-bit-mask_of lo hi k h g =
-    bit_at_and ((2 ^ 64 - 1) * 2 ^ lo % 2 ^ 64) ((2 ^ 64 - 1) / 2 ^ (64 - hi)) k
-    ∙ ap (λ m. min (bit_at m k) (bit_at ((2 ^ 64 - 1) / 2 ^ (64 - hi)) k)) (ones_shl 64 lo h)
-    ∙ ap (λ m. min (bit_at (2 ^ 64 - 2 ^ lo) k) (bit_at m k))
-    (ones_shr 64 (64 - hi) (omega arith) ∙ ap (λ n. 2 ^ n - 1) (let e : 64 - (64 - hi) ≡ hi = omega arith in e))
-
-pub word-within : (ws : List ℕ) (i from to : ℕ) → from < 64 * i + 64 → 64 * i < to
-    → IsWordWithin (bits_of ws) i from to (bit_and (get_or ws i 0) (mask_of (from - 64 * i) (min (to - 64 * i) 64)))
-word-within ws i from to h g =
-    let w : ℕ = get_or ws i 0 in
-    let lo : ℕ = from - 64 * i in
-    let hi : ℕ = min (to - 64 * i) 64 in
-    let bit : (k : ℕ) → bit_at (bit_and w (mask_of lo hi)) k ≡ min (bit_at w k) (min (bit_at (2 ^ 64 - 2 ^ lo) k) (bit_at (2 ^ hi - 1) k)) =
-    λ k. bit_at_and w (mask_of lo hi) k ∙ ap (λ b. min (bit_at w k) b) (bit-mask_of lo hi k (omega arith) (omega arith)) in
-    record {
-      inside = λ k below after before. omega (arith, bit k, bit_at-lt w k, bit_at_mask_inside lo 64 k (omega arith) below, bit_at_ones hi k (omega arith), bit-of_word ws i k below);
-      before = λ k early. omega (arith, bit k, bit_at_mask_below lo 64 k (omega arith));
-      behind = λ k late. omega (arith, bit k, bit_at_ones_above hi k (omega arith));
-    }
 
 -- the ones of some bits of a number
 ones-bits_from : (v a n : ℕ) → sum (map (λ i. bit_at v i) (range_with_len a n)) ≡ count_ones (v / 2 ^ a % 2 ^ n)
@@ -103,6 +78,72 @@ ones-more ws i from to v h fit small within =
     ap (λ p. ones_between (bits_of ws) from (held from to p)) (let e : 64 * (i + 1) ≡ 64 * i + 64 = omega arith in e)
     ∙ ones-within (bits_of ws) i from to v h (omega (arith, length-bits_of ws)) within 64 (omega arith)
     ∙ ap (λ n. ones_between (bits_of ws) from (held from to (64 * i)) + n) (ones-field_bits 64 v small)
+
+-- The bits of a word in a range of whole words.
+pub whole-within : (ws : List ℕ) (i from to : ℕ) → from ≤ 64 * i → 64 * i + 64 ≤ to → get_or ws i 0 < 2 ^ 64 → IsWordWithin (bits_of ws) i from to (get_or ws i 0)
+whole-within ws i from to h fit small = record {
+  inside = λ k below after before. sym (bit-of_word ws i k below);
+  before = λ k early. absurd (omega arith);
+  behind = λ k late. bit_at_above (get_or ws i 0) 64 k small (omega arith);
+}
+
+-- The ones of a range of whole words up to the end of word i.
+pub ones-whole : (ws : List ℕ) (first i : ℕ) → first ≤ i → i < length ws → get_or ws i 0 < 2 ^ 64
+    → ones_between (bits_of ws) (64 * first) (64 * (i + 1)) ≡ ones_between (bits_of ws) (64 * first) (64 * i) + count_ones (get_or ws i 0)
+ones-whole ws first i h lt small =
+    let end : ℕ = 64 * length ws in
+    let more = ones-more ws i (64 * first) end (get_or ws i 0) (omega arith) (omega arith) small (whole-within ws i (64 * first) end (omega arith) (omega arith) small) in
+    ap (ones_between (bits_of ws) (64 * first)) (let e : 64 * (i + 1) ≡ held (64 * first) end (64 * (i + 1)) = omega arith in e)
+    ∙ more ∙ ap (λ p. ones_between (bits_of ws) (64 * first) p + count_ones (get_or ws i 0)) (let e : held (64 * first) end (64 * i) ≡ 64 * i = omega arith in e)
+
+-- No range of no bits has a one.
+ones-none : (bits : List ℕ) (p : ℕ) → ones_between bits p p ≡ 0
+ones-none bits p = ap (λ n. sum (take n (drop p bits))) (let e : p - p ≡ 0 = omega arith in e)
+
+-- The ones of the first bits of a word.
+ones-first : (ws : List ℕ) (i r w : ℕ) → r < 64 → 64 * i + r ≤ 64 * length ws → w ≡ get_or ws i 0 → w < 2 ^ 64
+    → ones_between (bits_of ws) (64 * i) (64 * i + r) ≡ count_ones (w % 2 ^ r)
+ones-first ws i zero w few fit is small =
+    ap (ones_between (bits_of ws) (64 * i)) (let e : 64 * i + 0 ≡ 64 * i = omega arith in e) ∙ ones-none (bits_of ws) (64 * i) ∙ omega (arith, ones-le 0 (w % 2 ^ 0) (omega arith))
+ones-first ws i (suc r) w few fit is small =
+    let end : ℕ = 64 * length ws in
+    let within : IsWordWithin (bits_of ws) i (64 * i) end w =
+    subst (λ v. IsWordWithin (bits_of ws) i (64 * i) end v) (sym is) (whole-within ws i (64 * i) end (omega arith) (omega arith) (let e : get_or ws i 0 < 2 ^ 64 = omega arith in e)) in
+    let more = ones-within (bits_of ws) i (64 * i) end w (omega arith) (omega (arith, length-bits_of ws)) within (suc r) (omega arith) in
+    let none : ones_between (bits_of ws) (64 * i) (held (64 * i) end (64 * i)) ≡ 0 =
+    ap (ones_between (bits_of ws) (64 * i)) (let e : held (64 * i) end (64 * i) ≡ 64 * i = omega arith in e) ∙ ones-none (bits_of ws) (64 * i) in
+    let bits : sum (field_bits (suc r) w) ≡ count_ones (w % 2 ^ suc r) =
+    ones-bits_from w 0 (suc r) ∙ ap (λ x. count_ones (x % 2 ^ suc r)) (let e : w / 2 ^ 0 ≡ w = omega arith in e) in
+    ap (ones_between (bits_of ws) (64 * i)) (let e : 64 * i + suc r ≡ held (64 * i) end (64 * i + suc r) = omega arith in e)
+    ∙ omega (arith, more, none, bits)
+
+pub ones-of_word : (ws : List ℕ) (to w mask : ℕ) → to ≤ 64 * length ws → w ≡ get_or ws (to / 64) 0 → w < 2 ^ 64 → mask ≡ 2 ^ (to % 64) - 1
+    → count_ones (bit_and w mask) ≡ ones_between (bits_of ws) (64 * (to / 64)) to
+ones-of_word ws to w mask fit is small e =
+    let place : 64 * (to / 64) + to % 64 ≡ to = omega arith in
+    ap (λ m. count_ones (bit_and w m)) e ∙ ap count_ones (and_mask w (to % 64))
+    ∙ sym (ones-first ws (to / 64) (to % 64) w (omega arith) (omega arith) is small)
+    ∙ ap (ones_between (bits_of ws) (64 * (to / 64))) place
+
+-- The ones of two ranges, one behind the other.
+pub ones-joined : (bits : List ℕ) (from mid to : ℕ) → from ≤ mid → mid ≤ to → ones_between bits from to ≡ ones_between bits from mid + ones_between bits mid to
+ones-joined bits from mid to h g =
+    let xs : List ℕ = drop from bits in
+    let n : ℕ = mid - from in
+    let k : ℕ = to - mid in
+    ap (λ i. sum (take i xs)) (let e : to - from ≡ n + k = omega arith in e)
+    ∙ sym (sum_by-take-drop (λ x. x) (take (n + k) xs) n)
+    ∙ ap (λ ys. sum ys + sum (drop n (take (n + k) xs))) (take-take n (n + k) xs (omega arith))
+    ∙ ap (λ ys. sum (take n xs) + sum ys) (drop-take n k xs)
+    ∙ ap (λ ys. sum (take n xs) + sum (take k ys)) (drop-drop n from bits)
+    ∙ ap (λ i. sum (take n xs) + sum (take k (drop i bits))) (let e : from + n ≡ mid = omega arith in e)
+
+-- The ones of a range: those from the start of its first word on, less those of the word before it.
+pub ones-counted : (ws : List ℕ) (from to whole last first : ℕ) → from ≤ to → whole ≡ ones_between (bits_of ws) (64 * (from / 64)) (64 * (to / 64))
+    → last ≡ ones_between (bits_of ws) (64 * (to / 64)) to → first ≡ ones_between (bits_of ws) (64 * (from / 64)) from
+    → whole + last ≡ first + ones_between (bits_of ws) from to
+ones-counted ws from to whole last first h a b c =
+    omega (arith, a, b, c, ones-joined (bits_of ws) (64 * (from / 64)) (64 * (to / 64)) to (omega arith) (omega arith), ones-joined (bits_of ws) (64 * (from / 64)) from to (omega arith) h)
 
 few-ones : (n : ℕ) (bits : List ℕ) → EachBit bits → sum (take n bits) ≤ n
 few-ones zero bits h = omega arith

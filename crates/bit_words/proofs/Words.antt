@@ -1,9 +1,11 @@
-use Rattle.std.proofs.Common.{◌≡◌, ℕ, zero, suc, ◌+◌, ◌-◌, ◌*◌, ◌/◌, ◌%◌, ◌^◌, ◌<◌, ◌≤◌, List, [], ◌∷◌, drop, get_or, refl, sym, ap, ◌∙◌, arith, bit_and, bit_or}
-use Rattle.std.proofs.lemmas.Nat.{pow_pos, pow-add, shr-shr, and_mask, or_shifted, one_shl, and_le_r}
-use Rattle.std.proofs.Math.Pow.{pow_mono}
+use Rattle.std.proofs.Common.{◌≡◌, ℕ, zero, suc, ◌+◌, ◌-◌, ◌*◌, ◌/◌, ◌%◌, ◌^◌, ◌<◌, ◌≤◌, List, [], ◌∷◌, drop, get_or, refl, sym, ap, ◌∙◌, arith, bit_and, bit_or, Option, Some, None, SomeIff}
+use Rattle.std.proofs.lemmas.Nat.{pow_pos, pow-add, shr-shr, and_mask, or_shifted}
+use Rattle.std.proofs.Math.Pow.{mod-mod-pow}
 use Rattle.std.proofs.Math.Nat.{zero-div, mul_assoc, add-mul-div_left, add-mul-mod_self_left, mod-eq_of_lt}
 use Rattle.std.proofs.lemmas.List.{get_or-drop}
 use Rattle.std.proofs.lemmas.Grind.{get_or_after_one}
+use Rattle.std.proofs.lemmas.Nat.Bits.{ones_shr}
+use Rattle.std.specs.Option.{unwrap_or}
 use Rattle.bit_words.specs.Bits.{bits_of, bits_value, field_at}
 use Rattle.bit_words.proofs.Value.{EachBit, value-drop, value-take, value-bits_of_cons, bits-bits_of, bits-drop}
 
@@ -71,26 +73,30 @@ field-two_words ws at width h =
     ∙ field-pair (pair_at ws (at / 64)) pair.0 (at % 64) width (128 - (at % 64 + width)) (omega arith)
 
 -- what a field of two words computes to
-pub masked_pair : (hi lo r width : ℕ) → hi < 2 ^ 64 → lo < 2 ^ 64 → width ≤ 64 →
-    bit_and (bit_or (hi * 2 ^ 64 % 2 ^ 128) lo / 2 ^ r) (1 * 2 ^ width % 2 ^ 128 - 1) ≡ (lo + 2 ^ 64 * hi) / 2 ^ r % 2 ^ width
-masked_pair hi lo r width h k w =
+pub masked_pair : (hi lo r width mask : ℕ) → hi < 2 ^ 64 → lo < 2 ^ 64 → width ≤ 64 → mask ≡ 2 ^ width - 1 →
+    bit_and (bit_and (bit_or (hi * 2 ^ 64 % 2 ^ 128) lo / 2 ^ r) (2 ^ 64 - 1)) mask ≡ (lo + 2 ^ 64 * hi) / 2 ^ r % 2 ^ width
+masked_pair hi lo r width mask h k w e =
     let shifted : hi * 2 ^ 64 % 2 ^ 128 ≡ hi * 2 ^ 64 = mod-eq_of_lt (omega arith) in
     let both : bit_or (hi * 2 ^ 64 % 2 ^ 128) lo ≡ lo + 2 ^ 64 * hi = ap (λ v. bit_or v lo) shifted ∙ or_shifted hi 64 lo k ∙ omega arith in
-    ap (λ m. bit_and (bit_or (hi * 2 ^ 64 % 2 ^ 128) lo / 2 ^ r) (m - 1)) (one_shl width 128 (omega arith))
-    ∙ and_mask (bit_or (hi * 2 ^ 64 % 2 ^ 128) lo / 2 ^ r) width
+    let pair : ℕ = bit_or (hi * 2 ^ 64 % 2 ^ 128) lo / 2 ^ r in
+    ap (λ m. bit_and (bit_and pair (2 ^ 64 - 1)) m) e
+    ∙ and_mask (bit_and pair (2 ^ 64 - 1)) width
+    ∙ ap (λ v. v % 2 ^ width) (and_mask pair 64)
+    ∙ ap (λ n. pair % 2 ^ n % 2 ^ width) (let whole : 64 ≡ 64 - width + width = omega arith in whole)
+    ∙ mod-mod-pow pair (64 - width) width
     ∙ ap (λ v. v / 2 ^ r % 2 ^ width) both
 
--- the masked pair is below 2 ^ 64
-pub masked-below : (n width : ℕ) → width ≤ 64 → bit_and n (1 * 2 ^ width % 2 ^ 128 - 1) < 2 ^ 64
-masked-below n width h =
-    let power : 2 ^ width ≤ 2 ^ 64 = pow_mono h in
-    omega (arith, and_le_r n (1 * 2 ^ width % 2 ^ 128 - 1), one_shl width 128 (omega arith), pow_pos width)
+-- a word's lowest ones, by a shift that gives nothing where it is as wide as a word
+pub lowest-ones : (shifted : Option ℕ) (width : ℕ) → width ≤ 64 → SomeIff shifted (64 - width < 64) ((2 ^ 64 - 1) / 2 ^ (64 - width)) → unwrap_or shifted 0 ≡ 2 ^ width - 1
+lowest-ones None zero h none = omega arith
+lowest-ones None (suc n) h none = absurd (none (omega arith))
+lowest-ones (Some m) width h is = is.1 ∙ ones_shr 64 (64 - width) (omega arith) ∙ ap (λ n. 2 ^ n - 1) (let e : 64 - (64 - width) ≡ width = omega arith in e)
 
 -- the field that two neighbouring words give
-pub got_field : (ws : List ℕ) (at width hi lo : ℕ) → hi ≡ get_or ws (at / 64 + 1) 0 → lo ≡ get_or ws (at / 64) 0 → hi < 2 ^ 64 → lo < 2 ^ 64 → width ≤ 64 →
-    bit_and (bit_or (hi * 2 ^ 64 % 2 ^ 128) lo / 2 ^ (at % 64)) (1 * 2 ^ width % 2 ^ 128 - 1) ≡ field_at (bits_of ws) at width
-got_field ws at width hi lo h l hb lb w =
-    masked_pair hi lo (at % 64) width hb lb w
+pub got_field : (ws : List ℕ) (at width hi lo mask : ℕ) → hi ≡ get_or ws (at / 64 + 1) 0 → lo ≡ get_or ws (at / 64) 0 → hi < 2 ^ 64 → lo < 2 ^ 64 → width ≤ 64 → mask ≡ 2 ^ width - 1 →
+    bit_and (bit_and (bit_or (hi * 2 ^ 64 % 2 ^ 128) lo / 2 ^ (at % 64)) (2 ^ 64 - 1)) mask ≡ field_at (bits_of ws) at width
+got_field ws at width hi lo mask h l hb lb w e =
+    masked_pair hi lo (at % 64) width mask hb lb w e
     ∙ ap (λ v. v / 2 ^ (at % 64) % 2 ^ width)
     (let first : lo ≡ get_or ws (at / 64) 0 % 2 ^ 64 = omega arith in
     let second : hi ≡ get_or ws (at / 64 + 1) 0 % 2 ^ 64 = omega arith in

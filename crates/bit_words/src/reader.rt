@@ -1,4 +1,4 @@
-ghost use Rattle.std.specs.Prelude.{◌≡◌, ℕ, ◌≤◌, ◌<◌, ◌+◌, ◌*◌, length, IsTrue, ◌↔◌, IfSome, IfNone, slice_index};
+ghost use Rattle.std.specs.Prelude.{◌≡◌, ℕ, ◌≤◌, ◌<◌, ◌+◌, ◌-◌, ◌*◌, ◌/◌, ◌^◌, length, IsTrue, ◌↔◌, IfSome, IfNone, slice_index};
 ghost use Rattle.bit_words.specs.Bits.{bits_of, field_at, ones_between, IsFirstOne, HasNoOne, IsWordWithin};
 
 /// Words, read bit by bit: bit p is bit p mod 64 of word p div 64.
@@ -16,12 +16,12 @@ impl<'a> Bits<'a> {
     {
         let word = (at / 64) as usize;
         let pair = (self.word(word + 1) as u128) << 64 | self.word(word) as u128;
-        let mask = (1_u128 << width) - 1;
-        ((pair >> (at % 64)) & mask) as u64
+        let field = ((pair >> (at % 64)) & u64::MAX as u128) as u64;
+        field & lowest(width)
     }
 
     // A word, 0 where there is none.
-    fn word(&self, i: usize) -> u64
+    pub(crate) fn word(&self, i: usize) -> u64
         ensures { result ≡ slice_index self.now.words.now i }
     {
         match self.words.get(i) {
@@ -45,13 +45,7 @@ impl<'a> Bits<'a> {
         ensures first { IfSome result (IsFirstOne (bits_of self.now.words.now) from to) }
         ensures none { IfNone result (HasNoOne (bits_of self.now.words.now) from to) }
     {
-        for i in from / 64..to.div_ceil(64) {
-            let word = self.word_within(i, from, to);
-            if word != 0 {
-                return Some(64 * i + word.trailing_zeros() as u64);
-            }
-        }
-        None
+        self.ones_from(from, to).next()
     }
 
     /// How many bits from one place up to another are 1.
@@ -61,23 +55,26 @@ impl<'a> Bits<'a> {
         ensures { result ≡ ones_between (bits_of self.now.words.now) from to }
     {
         let mut count = 0;
-        for i in from / 64..to.div_ceil(64) {
-            count += self.word_within(i, from, to).count_ones() as u64;
+        for i in from / 64..to / 64 {
+            count += self.words[i as usize].count_ones() as u64;
         }
-        count
+        count + self.ones_of_word(to) - self.ones_of_word(from)
     }
 
-    // Word i, with zeros in place of its bits outside a range. The range may not end before the word, nor begin behind it.
-    fn word_within(&self, i: u64, from: u64, to: u64) -> u64
-        requires begins { from < 64 * i + 64 }
-        requires ends { 64 * i < to }
+    // How many bits are 1 in the word of a place, before the place.
+    fn ones_of_word(&self, to: u64) -> u64
         requires range { to ≤ 64 * length self.now.words.now }
-        ensures { IsWordWithin (bits_of self.now.words.now) i from to result }
+        ensures { result ≡ ones_between (bits_of self.now.words.now) (64 * (to / 64)) to }
     {
-        let start = 64 * i;
-        let low = from.saturating_sub(start);
-        let high = (to - start).min(64);
-        let mask = (u64::MAX << low) & (u64::MAX >> (64 - high));
-        self.words[i as usize] & mask
+        let before = self.word((to / 64) as usize) & lowest((to % 64) as u32);
+        before.count_ones() as u64
     }
+}
+
+// A word with so many of its lowest bits 1.
+fn lowest(width: u32) -> u64
+    requires width { width ≤ 64 }
+    ensures { result ≡ 2 ^ width - 1 }
+{
+    u64::MAX.checked_shr(64 - width).unwrap_or(0)
 }

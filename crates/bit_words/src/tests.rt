@@ -129,6 +129,32 @@ fn counts_and_finds_in_each_range(rt: HostRuntime) -> Result<(), Fail> {
     Ok(())
 }
 
+// The places of the ones of each range of three words, one after the other and then none.
+#[test]
+fn gives_the_ones_of_each_range(rt: HostRuntime) -> Result<(), Fail> {
+    for words in [
+        [u64::MAX; 3],
+        [0; 3],
+        [0x5555_5555_5555_5555; 3],
+        [0x8000_0000_0000_0009, 0, 0x8000_0000_0000_0006],
+    ] {
+        let bits = Bits { words: &words };
+        for to in 0..193_u64 {
+            for from in 0..to + 1 {
+                let mut ones = bits.ones_from(from, to);
+                for place in from..to {
+                    if bits.bit(place) {
+                        assert_eq!(rt; ones.next(), Some(place), "from {from} to {to}");
+                    }
+                }
+                assert_eq!(rt; ones.next(), None, "from {from} to {to}");
+                assert_eq!(rt; ones.next(), None, "from {from} to {to}");
+            }
+        }
+    }
+    Ok(())
+}
+
 // Zeros and then a one, behind the bits of a word: how many zeros, the place of the one, and the words.
 #[test]
 fn puts_a_one_after_zeros(rt: HostRuntime) -> Result<(), Fail> {

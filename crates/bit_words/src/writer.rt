@@ -1,7 +1,7 @@
 ghost use Rattle.std.specs.Prelude.{◌≡◌, ◌≤◌, ◌<◌, ◌+◌, ◌*◌, ◌/◌, ◌^◌, [], ◌∷◌, ◌++◌, length, OnOk, OnErr, IfOk, IsOk};
 ghost use Rattle.bit_words.specs.Bits.{field_bits, bits_of, bits_value, one_after, padded, padding, words_of, AppendsBits, HoldNumber};
 
-use std::alloc::{AllocError, Global};
+use std::alloc::{AllocError, AllocFailed, Global};
 use std::marker::Model;
 
 /// Memory was refused.
@@ -12,6 +12,14 @@ impl From<AllocError> for NoMemory {
     ghost from_gives = { λ _ _. Unit {0} };
 
     fn from(_refused: AllocError) -> NoMemory {
+        NoMemory
+    }
+}
+
+impl<T: Drop> From<AllocFailed<T>> for NoMemory {
+    ghost from_gives = { λ _ _. Unit {0} };
+
+    fn from(_refused: AllocFailed<T>) -> NoMemory {
         NoMemory
     }
 }
@@ -145,8 +153,6 @@ fn append_fresh(words: &mut Vec<u64>, word: u64, width: u32) -> Result<(), NoMem
     if width == 0 {
         return Ok(());
     }
-    match words.push(word) {
-        Ok(()) => Ok(()),
-        Err(_) => Err(NoMemory),
-    }
+    words.push(word)?;
+    Ok(())
 }
