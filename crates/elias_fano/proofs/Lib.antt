@@ -6,7 +6,6 @@ mod Scanning
 pub mod OneList
 mod Views
 mod Passing
-mod Behind
 mod Checking
 mod Lookups
 mod Writing

@@ -3,9 +3,10 @@ use Rattle.std.proofs.lemmas.Bool.{cases_lt}
 use Rattle.std.proofs.Math.Nat.{mul-div_cancel_left, mul-mod_right, div-mul-le_self, mul-le-mul_right, div-add-mod}
 use Rattle.bit_words.specs.Bits.{bits_of, IsFirstOne, HasNoOne}
 use Rattle.bit_words.proofs.Value.{bits-bits_of}
+use Rattle.part_cost.specs.Stored.{IsFirstAtLeast}
 use Rattle.elias_fano.specs.declared.EfView.{EfView}
 use Rattle.elias_fano.specs.EfBits.{high_place}
-use Rattle.elias_fano.specs.EfPlaces.{low_field, sample_at, past_place}
+use Rattle.elias_fano.specs.EfPlaces.{low_field, sample_at, past_place, AreBelow}
 use Rattle.elias_fano.specs.EfView.{Holds}
 use Rattle.elias_fano.specs.Laws.{PlacesFit}
 use Rattle.elias_fano.proofs.Rising.{place-within, places-rise}
@@ -88,3 +89,15 @@ not-last q v ys k number x h lt is below reached =
           let here : number ≡ get_or ys (v.m - 1) 0 = is ∙ ap (λ n. get_or ys n 0) last in
           absurd (omega (arith, here, h.values.last))
     ]
+
+-- the first number from a later place on is the first one, where those before are below
+pub first-onward : (ys : List ℕ) (from k x p : ℕ) → from ≤ k → AreBelow ys from k x → IsFirstAtLeast ys k x p → IsFirstAtLeast ys from x p
+first-onward ys from k x p after below first = record {
+  at_or_after = omega (arith, first.at_or_after);
+  within = first.within;
+  at_least = first.at_least;
+  first = λ j reached before. elim (cases_lt j k) [
+    | inl less ↦ below j reached less
+    | inr more ↦ first.first j more before
+  ];
+}

@@ -2,7 +2,7 @@ use Rattle.std.proofs.Common.{◌≡◌, ℕ, zero, suc, ◌+◌, ◌-◌, ◌*�
 use Rattle.std.specs.List.Sorted.{IsStrictlyIncreasing}
 use Rattle.std.proofs.lemmas.Bool.{cases_lt}
 use Rattle.std.proofs.lemmas.Nat.{pow_pos, le-div}
-use Rattle.bit_words.specs.Bits.{bits_of, ones_between}
+use Rattle.bit_words.specs.Bits.{bits_of, ones_between, IsFirstOne, HasNoOne}
 use Rattle.bit_words.proofs.Value.{EachBit, bits-bits_of}
 use Rattle.bit_words.proofs.Ranges.{bit-below, field-one, ones_between-more}
 use Rattle.part_cost.specs.Span.{AreRelative}
@@ -10,7 +10,7 @@ use Rattle.elias_fano.specs.declared.EfView.{EfView}
 use Rattle.elias_fano.specs.EfBits.{high_place}
 use Rattle.elias_fano.specs.EfPlaces.{low_fields_at, past_place, IsPast, AreBelow}
 use Rattle.elias_fano.specs.EfView.{Holds}
-use Rattle.elias_fano.proofs.Rising.{places-rise, before-past}
+use Rattle.elias_fano.proofs.Rising.{place-within, places-rise, before-past, past-before}
 use Rattle.elias_fano.proofs.Reading.{IsRead}
 use Rattle.elias_fano.proofs.Views.{view-read-at}
 
@@ -128,3 +128,56 @@ ones-passed q v ys h k at end here fit within =
     let read = view-read-at q v ys h in
     subst (λ n. IsPast v.place v.m v.low ys (k + ones_between (bits_of ws) at n) n) (let e : at + (end - at) ≡ end = omega arith in e)
     (past-more (bits_of ws) v.place v.u v.m v.low q ys (bits-bits_of ws) read (omega (arith, read.room)) k at (end - at) here (omega arith))
+
+-- so the first one from there on, up to that end, is that of the next number,
+first-next : (q : ℕ) (v : EfView q) (ys : List ℕ) → Holds q v ys → (k at p : ℕ) → IsPast v.place v.m v.low ys k at
+    → IsFirstOne (bits_of v.bits.words.now) at (v.place + low_fields_at v.u v.m v.low) p → (k < v.m) × (p ≡ v.place + high_place v.low k (get_or ys k 0))
+first-next q v ys h k at p here first =
+    let bits : List ℕ = bits_of v.bits.words.now in
+    let read = view-read-at q v ys h in
+    let i : ℕ = p - v.place in
+    let is : p ≡ v.place + i = omega (arith, here.past, first.at_or_after) in
+    let found = read.only i (omega (arith, first.before_end)) (ap (λ n. get_or bits n 0) (sym is) ∙ first.one) in
+    elim (cases_lt found.0 k) [
+      | inl less ↦ absurd (omega (arith, before-past ys v.low h.values.rising found.0 k less (omega (arith, here.few, h.values.count)), found.2, here.past, first.at_or_after))
+      | inr more ↦ elim (cases_lt k found.0) [
+        | inl less ↦
+            let within : k < v.m = omega (arith, found.1) in
+            let rise = places-rise ys v.low h.values.rising k found.0 (omega arith) (omega (arith, found.1, h.values.count)) in
+            let unset = first.first (v.place + high_place v.low k (get_or ys k 0)) (here.not_past within) (omega (arith, found.2, rise)) in
+            let set = read.one k within in
+            absurd (omega arith)
+        | inr other ↦
+            let same : found.0 ≡ k = omega arith in
+            let own : high_place v.low k (get_or ys k 0) ≡ i = ap (λ n. high_place v.low n (get_or ys n 0)) (sym same) ∙ found.2 in
+            (omega (arith, found.1), omega arith)
+      ]
+    ]
+
+pub same-range : {bits bits2 : List ℕ} {at end end2 p : ℕ} → bits ≡ bits2 → end ≡ end2 → IsFirstOne bits at end p → IsFirstOne bits2 at end2 p
+same-range {bits2 = bits2} {at = at} {end = end} {p = p} same last first = subst (λ n. IsFirstOne bits2 at n p) last (subst (λ xs. IsFirstOne xs at end p) same first)
+
+pub one-next : (q : ℕ) (v : EfView q) (ys : List ℕ) → Holds q v ys → (k : ℕ) → {bits : List ℕ} {at end p : ℕ} → bits ≡ bits_of v.bits.words.now
+    → end ≡ v.place + low_fields_at v.u v.m v.low → IsPast v.place v.m v.low ys k at → IsFirstOne bits at end p → (k < v.m) × (p ≡ v.place + high_place v.low k (get_or ys k 0))
+one-next q v ys h k {at = at} {p = p} same last here first = first-next q v ys h k at p here (same-range same last first)
+
+-- and there is none where all numbers are passed
+pub none-next : (q : ℕ) (v : EfView q) (ys : List ℕ) → Holds q v ys → (k : ℕ) → {bits : List ℕ} {at end : ℕ} → bits ≡ bits_of v.bits.words.now
+    → end ≡ v.place + low_fields_at v.u v.m v.low → IsPast v.place v.m v.low ys k at → HasNoOne bits at end → k ≡ v.m
+none-next q v ys h k same last here none =
+    elim (cases_lt k v.m) [
+      | inl less ↦
+          let own : ℕ = v.place + high_place v.low k (get_or ys k 0) in
+          let unset = none own (here.not_past less) (omega (arith, place-within v.u v.m v.low ys h.values k less, last)) in
+          let set = (view-read-at q v ys h).one k less in
+          absurd (omega (arith, ap (λ xs. get_or xs own 0) same))
+      | inr more ↦ omega (arith, here.few)
+    ]
+
+-- right behind the ones of the first k numbers
+pub past-exactly : (q : ℕ) (v : EfView q) (ys : List ℕ) → Holds q v ys → (k at : ℕ) → k ≤ v.m → at ≡ v.place + past_place v.low ys k → IsPast v.place v.m v.low ys k at
+past-exactly q v ys h k at few is = record {
+  few = few;
+  past = omega arith;
+  not_past = λ lt. omega (arith, past-before ys v.low h.values.rising k (omega (arith, h.values.count)));
+}

@@ -1,4 +1,4 @@
-use Rattle.std.specs.Prelude.{◌≡◌, ℕ, ◌≤◌, ◌<◌, zero, suc, ◌+◌, ◌-◌, ◌*◌, ◌/◌, ◌^◌, List, slice_index}
+use Rattle.std.specs.Prelude.{ℕ, ◌≤◌, ◌<◌, zero, suc, ◌+◌, ◌-◌, ◌*◌, ◌/◌, ◌^◌, List, slice_index}
 use Rattle.bit_words.specs.Bits.{field_at}
 use Rattle.part_cost.specs.Payload.{digits, ef_bits_at, low_width_of}
 use Rattle.elias_fano.specs.EfBits.{high_place}
@@ -37,7 +37,3 @@ pub record IsPast (place m l : ℕ) (ys : List ℕ) (k at : ℕ) : Type 0 where
 -- The numbers from one place up to another are below x.
 abbrev pub AreBelow : List ℕ → ℕ → ℕ → ℕ → Type 0
 AreBelow ys from to x = (k : ℕ) → from ≤ k → k < to → slice_index ys k < x
-
--- The value is that of some bits from this place on.
-abbrev pub IsFieldFrom : List ℕ → ℕ → ℕ → Type 0
-IsFieldFrom bits from value = (width : ℕ) × (value ≡ field_at bits from width)

@@ -1,4 +1,4 @@
-ghost use Rattle.std.specs.Prelude.{ℕ, ◌≤◌, ◌<◌, ◌+◌, ◌-◌, ◌*◌, ◌/◌, ◌^◌, List, length, IfOk};
+ghost use Rattle.std.specs.Prelude.{◌≡◌, ℕ, ◌≤◌, ◌<◌, ◌+◌, ◌-◌, ◌*◌, ◌/◌, ◌^◌, List, length, IfOk};
 ghost use Rattle.part_cost.specs.Payload.{widest_low};
 ghost use Rattle.part_cost.specs.Span.{AreRelative};
 ghost use Rattle.elias_fano.specs.EfView.{Holds};
@@ -201,6 +201,106 @@ fn reads_parts_of_runs(rt: HostRuntime) -> Result<(), Fail> {
                     reads_number(&view, &values, from, k),
                     "{k} of {count} from {from}"
                 );
+            }
+        }
+    }
+    Ok(())
+}
+
+// Whether the first number at least as great as number `to` is found by number k as it is listed, and the first that is
+// greater, if there is one.
+fn reads_from(view: &EfView<128>, values: &[u64], k: u64, to: u64) -> bool
+    requires held { (ys : List ℕ) × Holds 128 view.now ys }
+    requires within { k < view.now.m }
+    requires ordered { k ≤ to }
+    requires before { to < view.now.m }
+    requires listed { view.now.m ≤ length values.now }
+{
+    let number = view.get(k);
+    let x = values[to as usize];
+    if x >= view.u || view.first_from(k, number, x) != (to, x) {
+        return false;
+    }
+    if x + 1 == view.u {
+        return to + 1 == view.m;
+    }
+    to + 1 < view.m && view.first_from(k, number, x + 1) == (to + 1, values[to as usize + 1])
+}
+
+// The same parts, from places about the borders of words and runs, up to numbers near and far.
+#[test]
+fn reads_first_from_numbers(rt: HostRuntime) -> Result<(), Fail> {
+    for count in [128, 129, 256, 257, 5_000] {
+        assert!(rt; 2 <= count && count <= 5_000);
+        let u = count + 930 * ((count - 1) / 70);
+        let values = runs_of_70(rt.alloc(), count).expect(&rt, "memory");
+        let words = behind_five_bits(rt.alloc(), &values, u).expect(&rt, "memory");
+        assert!(rt; 1 <= words.len() && words.len() <= 1 << 20 && count <= values.len() as u64);
+        let view = EfView::<128>::at(Bits { words: &words }, 5, u, count);
+        assert!(rt; view.check());
+        for k in [0, 1, 63, 69, 70, 126, 127, 128, 129, count / 2, count - 1] {
+            assert!(rt; k <= 5_000);
+            for far in [0, 1, 3, 4, 5, 6, 63, 64, 127, 128, 129, 1_000] {
+                if k + far < count {
+                    assert!(rt;
+                        reads_from(&view, &values, k, k + far),
+                        "{k} of {count} and {far} behind"
+                    );
+                }
+            }
+        }
+    }
+    Ok(())
+}
+
+// Whether the numbers below x are read as they are listed, from number k on: no other, and none less than there are and have room.
+fn reads_below(view: &EfView<128>, values: &[u64], k: u64, x: u64, to: &mut [u64]) -> bool
+    requires held { (ys : List ℕ) × Holds 128 view.now ys }
+    requires within { k < view.now.m }
+    requires listed { view.now.m ≡ length values.now }
+{
+    let rest = &values[k as usize..];
+    let given = view.values_below(k, view.get(k), x, to);
+    for i in 0..given {
+        if to[i] != rest[i] || rest[i] >= x {
+            return false;
+        }
+    }
+    given == to.len() || given == rest.len() || rest[given] >= x
+}
+
+// The same parts, from places about the borders of words and runs; below each number that is at most at the end of the room, and
+// one more.
+#[test]
+fn reads_numbers_below(rt: HostRuntime) -> Result<(), Fail> {
+    let mut room = [0; 5_000];
+    for count in [128, 129, 256, 257, 5_000] {
+        assert!(rt; 2 <= count && count <= 5_000);
+        let u = count + 930 * ((count - 1) / 70);
+        let values = runs_of_70(rt.alloc(), count).expect(&rt, "memory");
+        let words = behind_five_bits(rt.alloc(), &values, u).expect(&rt, "memory");
+        assert!(rt; 1 <= words.len() && words.len() <= 1 << 20 && count == values.len() as u64);
+        let view = EfView::<128>::at(Bits { words: &words }, 5, u, count);
+        assert!(rt; view.check());
+        for k in [0, 1, 63, 69, 70, 126, 127, 128, 129, count / 2, count - 1] {
+            assert!(rt; k <= 5_000);
+            for len in [1, 2, 127, 128, count] {
+                assert!(rt; 1 <= len && len <= 5_000);
+                for last in [k, k + 1, k + len - 1, k + len, count - 1] {
+                    if k < count && last < count {
+                        let x = values[last as usize];
+                        assert!(rt; x < u);
+                        let to = &mut room[..len as usize];
+                        assert!(rt;
+                            reads_below(&view, &values, k, x, to),
+                            "{k} of {count} up to {x}"
+                        );
+                        assert!(rt;
+                            reads_below(&view, &values, k, x + 1, to),
+                            "{k} of {count} up to {x}"
+                        );
+                    }
+                }
             }
         }
     }

@@ -1,8 +1,9 @@
-use Rattle.std.proofs.Common.{◌≡◌, ℕ, ◌+◌, ◌-◌, ◌<◌, ◌≤◌, ◌==◌, Bool, true, false, cond, List, length, take, drop, get_or, max, refl, sym, ap, ◌∙◌, subst, arith}
+use Rattle.std.proofs.Common.{◌≡◌, ℕ, ◌+◌, ◌-◌, ◌<◌, ◌≤◌, ◌==◌, Bool, true, false, cond, List, length, take, drop, get_or, max, min, refl, sym, ap, ◌∙◌, subst, arith}
 use Rattle.std.specs.Prelude.{nat_le}
 use Rattle.std.proofs.lemmas.Bool.{eqb-true}
 use Rattle.std.proofs.lemmas.List.{ext_get_or}
 use Rattle.std.proofs.lemmas.List.FromFn.{length-range_with_len, get_or-range_with_len}
+use Rattle.collection_model.specs.NextBelow.{AreNextBelow}
 use Rattle.part_cost.proofs.Numbers.{rises}
 use Rattle.part_cost.specs.declared.kinds.Kind.{Kind}
 use Rattle.part_cost.specs.declared.kinds.Kind.TheVariants.{Ones, Bitmap, Ef}
@@ -75,3 +76,17 @@ first-all_ones u from x p ys reached within h e =
       },
       sym (at-all_ones u p low),
     )
+
+-- those from a place on that are below x: as many as have room, are there and are below it
+pub next-all_ones : (u from number x : ℕ) (given : List ℕ) (count : ℕ) (ys : List ℕ) → from < u → ys ≡ all_ones u → number ≡ from
+    → count ≡ min (length given) (min (u - from) (x - number)) → ((j : ℕ) → j < count → get_or given j 0 ≡ number + j) → AreNextBelow ys from x given count
+next-all_ones u from number x given count ys within h first e stand =
+    rw h (record {
+      room = omega arith;
+      within = omega (arith, length-range_with_len 0 u);
+      same = λ j lt. omega (arith, stand j lt, at-all_ones u (from + j) (omega arith));
+      below = λ j lt. omega (arith, at-all_ones u (from + j) (omega arith));
+      full = λ room more.
+          let there : from + count < u = omega (arith, length-range_with_len 0 u) in
+          omega (arith, at-all_ones u (from + count) there);
+    })

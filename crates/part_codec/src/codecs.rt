@@ -26,8 +26,16 @@ impl<'a, const Q: u64> PartCodec<'a> for EfView<'a, Q> {
         EfView::after(self, k, number)
     }
 
+    fn values_below(&self, k: u64, number: u64, x: u64, to: &mut [u64]) -> usize {
+        EfView::values_below(self, k, number, x, to)
+    }
+
     fn next_geq(&self, x: u64, from: u64) -> (u64, u64) {
         EfView::next_geq(self, x, from)
+    }
+
+    fn first_from(&self, k: u64, number: u64, x: u64) -> (u64, u64) {
+        EfView::first_from(self, k, number, x)
     }
 
     ghost relative = { λ v ys h. h.values };
@@ -57,8 +65,16 @@ impl<'a, const B: u64> PartCodec<'a> for MapView<'a, B> {
         MapView::after(self, k, number)
     }
 
+    fn values_below(&self, k: u64, number: u64, x: u64, to: &mut [u64]) -> usize {
+        MapView::values_below(self, k, number, x, to)
+    }
+
     fn next_geq(&self, x: u64, from: u64) -> (u64, u64) {
         MapView::next_geq(self, x, from)
+    }
+
+    fn first_from(&self, k: u64, number: u64, x: u64) -> (u64, u64) {
+        MapView::first_from(self, k, number, x)
     }
 
     ghost relative = { λ v ys h. h.values };
@@ -90,9 +106,22 @@ impl<'a> PartCodec<'a> for OnesView {
         number + 1
     }
 
+    fn values_below(&self, k: u64, number: u64, x: u64, to: &mut [u64]) -> usize {
+        let below = (self.u - k).min(x.saturating_sub(number));
+        let count = to.len().min(below as usize);
+        for j in 0..count {
+            to[j] = number + j as u64;
+        }
+        count
+    }
+
     fn next_geq(&self, x: u64, from: u64) -> (u64, u64) {
         let at = x.max(from);
         (at, at)
+    }
+
+    fn first_from(&self, k: u64, _number: u64, x: u64) -> (u64, u64) {
+        self.next_geq(x, k)
     }
 
     ghost relative = { λ v ys h. subst (AreRelative v.u v.u) (sym h) (relative-range v.u v.some) };
@@ -141,11 +170,27 @@ impl<'a> PartCodec<'a> for PartView<'a> {
         }
     }
 
+    fn values_below(&self, k: u64, number: u64, x: u64, to: &mut [u64]) -> usize {
+        match &self.form {
+            Form::Ones(v) => v.values_below(k, number, x, to),
+            Form::Bitmap(v) => v.values_below(k, number, x, to),
+            Form::Ef(v) => v.values_below(k, number, x, to),
+        }
+    }
+
     fn next_geq(&self, x: u64, from: u64) -> (u64, u64) {
         match &self.form {
             Form::Ones(v) => v.next_geq(x, from),
             Form::Bitmap(v) => v.next_geq(x, from),
             Form::Ef(v) => v.next_geq(x, from),
+        }
+    }
+
+    fn first_from(&self, k: u64, number: u64, x: u64) -> (u64, u64) {
+        match &self.form {
+            Form::Ones(v) => v.first_from(k, number, x),
+            Form::Bitmap(v) => v.first_from(k, number, x),
+            Form::Ef(v) => v.first_from(k, number, x),
         }
     }
 

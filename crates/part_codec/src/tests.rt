@@ -90,7 +90,10 @@ fn finds<'a, C: PartCodec<'a>>(view: &C, x: u64, from: u64, place: u64, value: u
     requires from { from < C.m view.now }
     requires place { place < C.m view.now }
 {
-    view.check() && view.next_geq(x, from) == (place, value) && view.get(place) == value
+    view.check()
+        && view.next_geq(x, from) == (place, value)
+        && view.first_from(from, view.get(from), x) == (place, value)
+        && view.get(place) == value
 }
 
 // Whether a view accepts its bits, and then finds this value behind the one at a place.
@@ -102,6 +105,20 @@ fn follows<'a, C: PartCodec<'a>>(view: &C, place: u64, value: u64) -> bool
     }
     let before = view.get(place);
     view.after(place, before) == value
+}
+
+// Whether a view accepts its bits, and then gives these values from a place on that are below x, in so much room, and no more.
+fn gives<'a, C: PartCodec<'a>>(view: &C, place: u64, x: u64, room: usize, values: &[u64]) -> bool
+    requires within { place < C.m view.now }
+    requires room { room ≤ 4 }
+{
+    if !view.check() {
+        return false;
+    }
+    let mut to = [0; 4];
+    let first = view.get(place);
+    let count = view.values_below(place, first, x, &mut to[..room]);
+    &to[..count] == values
 }
 
 // Each form of a view, by itself and by its kind.
@@ -243,4 +260,67 @@ fn accepts_each_part_and_nothing_else(rt: HostRuntime) {
     assert!(rt; check_part(Bits { words: &[65] }, 0, 7, 2));
     assert!(rt; check_part(Bits { words: &[130] }, 1, 7, 2));
     assert!(rt; !check_part(Bits { words: &[130] }, 0, 7, 2));
+}
+
+// Each form of a view, by itself and by its kind: from the first place and from the last, below a value and one more, with room
+// for none, for one and for more than there are.
+#[test]
+fn gives_numbers_below(rt: HostRuntime) {
+    let far = [770_105];
+    let bits = Bits { words: &far };
+    let view = PartView::at(bits, 0, 701, 2);
+    for (place, x, room, values) in [
+        (0, 701, 4, [3, 700].as_slice()),
+        (0, 700, 4, [3].as_slice()),
+        (0, 4, 4, [3].as_slice()),
+        (0, 3, 4, [].as_slice()),
+        (0, 701, 1, [3].as_slice()),
+        (0, 701, 0, [].as_slice()),
+        (1, 701, 4, [700].as_slice()),
+        (1, u64::MAX, 4, [700].as_slice()),
+        (1, 0, 4, [].as_slice()),
+    ] {
+        assert!(rt; place < 2 && room <= 4);
+        assert!(rt; gives(&view, place, x, room, values), "{place} {x} {room}");
+        assert!(rt;
+            gives(&EfView::<128>::at(bits, 0, 701, 2), place, x, room, values),
+            "{place} {x} {room}"
+        );
+    }
+    let near = [33];
+    let bits = Bits { words: &near };
+    let view = PartView::at(bits, 0, 6, 2);
+    for (place, x, room, values) in [
+        (0, 6, 4, [0, 5].as_slice()),
+        (0, 5, 4, [0].as_slice()),
+        (0, 0, 4, [].as_slice()),
+        (0, 6, 1, [0].as_slice()),
+        (0, 6, 0, [].as_slice()),
+        (1, 6, 4, [5].as_slice()),
+        (1, u64::MAX, 4, [5].as_slice()),
+    ] {
+        assert!(rt; place < 2 && room <= 4);
+        assert!(rt; gives(&view, place, x, room, values), "{place} {x} {room}");
+        assert!(rt;
+            gives(&MapView::<512>::at(bits, 0, 6, 2), place, x, room, values),
+            "{place} {x} {room}"
+        );
+    }
+    let view = PartView::at(bits, 0, 3, 3);
+    for (place, x, room, values) in [
+        (0, 3, 4, [0, 1, 2].as_slice()),
+        (0, 2, 4, [0, 1].as_slice()),
+        (0, 0, 4, [].as_slice()),
+        (0, 3, 1, [0].as_slice()),
+        (0, 3, 0, [].as_slice()),
+        (1, 3, 4, [1, 2].as_slice()),
+        (2, u64::MAX, 4, [2].as_slice()),
+    ] {
+        assert!(rt; place < 3 && room <= 4);
+        assert!(rt; gives(&view, place, x, room, values), "{place} {x} {room}");
+        assert!(rt;
+            gives(&OnesView::at(3), place, x, room, values),
+            "{place} {x} {room}"
+        );
+    }
 }

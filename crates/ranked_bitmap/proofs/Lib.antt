@@ -4,4 +4,5 @@ mod Marks
 pub mod Reading
 pub mod OneList
 mod Views
+mod Following
 mod Writing

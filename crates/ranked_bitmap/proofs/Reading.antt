@@ -19,7 +19,7 @@ use Rattle.part_cost.specs.Laws.{DigitsHold}
 use Rattle.ranked_bitmap.specs.MapBits.{marks, map_samples, map_bits}
 use Rattle.ranked_bitmap.specs.Laws.{TakesItsPayload}
 use Rattle.ranked_bitmap.specs.MapPlaces.{map_length, sample_at, AreSampled}
-use Rattle.ranked_bitmap.proofs.Ones.{AreOnes, AreBelow, sum-suc, one_count, below-next, set-within, count-below, count-all, places_of, all-ones, one_list_of}
+use Rattle.ranked_bitmap.proofs.Ones.{AreOnes, AreBelow, sum-suc, one_count, below-number, below-next, set-within, count-below, count-all, places_of, all-ones, one_list_of}
 use Rattle.ranked_bitmap.proofs.Marks.{length-marks, marks-are-ones, ones-are-marks}
 
 -- the numbers in the samples
@@ -263,6 +263,15 @@ count-next bits place u m q ys each h k lt =
     one_count ys (get_or ys k 0 + 1) (ones_between bits place (place + (get_or ys k 0 + 1))) (k + 1)
     (counted bits place u m q ys each h (get_or ys k 0 + 1) (omega arith))
     (below-next ys h.values.rising k (omega (arith, h.values.count)))
+
+-- the ones before a number
+pub count-number : (bits : List ℕ) (place u m q : ℕ) (ys : List ℕ) → EachBit bits → IsRead bits place u m q ys → (k : ℕ) → k < m
+    → ones_between bits place (place + get_or ys k 0) ≡ k
+count-number bits place u m q ys each h k lt =
+    let low = below-universe u m ys h.values k lt in
+    one_count ys (get_or ys k 0) (ones_between bits place (place + get_or ys k 0)) k
+    (counted bits place u m q ys each h (get_or ys k 0) (omega arith))
+    (below-number ys h.values.rising k (omega (arith, h.values.count)))
 
 -- so many numbers lie below x, and the next is the first that is at least x
 pub next-is : (bits : List ℕ) (place u m q : ℕ) (ys : List ℕ) → EachBit bits → IsRead bits place u m q ys → (from x : ℕ) → x < u

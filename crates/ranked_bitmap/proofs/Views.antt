@@ -14,7 +14,7 @@ use Rattle.ranked_bitmap.specs.MapView.{Holds, IsWithin}
 use Rattle.ranked_bitmap.specs.Laws.{PartIsBits}
 use Rattle.ranked_bitmap.proofs.Marks.{bits-marks}
 use Rattle.ranked_bitmap.proofs.OneList.{view-read, read-view}
-use Rattle.ranked_bitmap.proofs.Reading.{counts, samples-are, part-is, below-universe, first-number, some-number, count-next, next-is, here-is, read-checked, counted-all, last-set, samples-read}
+use Rattle.ranked_bitmap.proofs.Reading.{counts, samples-are, part-is, below-universe, first-number, some-number, count-next, count-number, next-is, here-is, read-checked, counted-all, last-set, samples-read}
 
 -- what is held lies within the words
 pub within-held : (q : ℕ) (v : MapView q) (ys : List ℕ) → Holds q v ys → IsWithin q v
@@ -49,6 +49,13 @@ pub next-number : (q : ℕ) (v : MapView q) (ys : List ℕ) → Holds q v ys →
 next-number q v ys h k number lt is =
     ap (λ n. ones_between (bits_of v.bits.words.now) v.place (v.place + (n + 1))) is
     ∙ count-next (bits_of v.bits.words.now) v.place v.u v.m q ys (bits-bits_of v.bits.words.now) (view-read q v ys h) k lt
+
+-- so many numbers lie below number k
+pub before-number : (q : ℕ) (v : MapView q) (ys : List ℕ) → Holds q v ys → (k number : ℕ) → k < v.m → number ≡ get_or ys k 0
+    → ones_between (bits_of v.bits.words.now) v.place (v.place + number) ≡ k
+before-number q v ys h k number lt is =
+    ap (λ n. ones_between (bits_of v.bits.words.now) v.place (v.place + n)) is
+    ∙ count-number (bits_of v.bits.words.now) v.place v.u v.m q ys (bits-bits_of v.bits.words.now) (view-read q v ys h) k lt
 
 pub first-at-least : (q : ℕ) (v : MapView q) (ys : List ℕ) → Holds q v ys → (from x : ℕ) → x < v.u
     → from ≤ ones_between (bits_of v.bits.words.now) v.place (v.place + x) → IsFirstAtLeast ys from x (ones_between (bits_of v.bits.words.now) v.place (v.place + x))

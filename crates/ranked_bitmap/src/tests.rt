@@ -1,4 +1,4 @@
-ghost use Rattle.std.specs.Prelude.{◌≡◌, ℕ, ◌<◌, List, length, IsTrue};
+ghost use Rattle.std.specs.Prelude.{◌≡◌, ℕ, ◌<◌, ◌≤◌, List, length, IsTrue};
 ghost use Rattle.part_cost.specs.Span.{AreRelative};
 ghost use Rattle.ranked_bitmap.specs.MapView.{Holds};
 
@@ -117,6 +117,67 @@ fn finds(view: &MapView<'_, 512>, values: &[u64], k: usize) -> bool
         && view.next_geq(before, place) == (place, number)
 }
 
+// Whether each number from number k on is found by number k, by itself and by one more than the number before it.
+fn finds_later(view: &MapView<'_, 512>, values: &[u64], k: usize) -> bool
+    requires held { (ys : List ℕ) × Holds 512 view.now ys }
+    requires count { length values.now ≡ view.now.m }
+    requires within { k < length values.now }
+{
+    let from = k as u64;
+    let number = view.get(from);
+    let mut least = 0;
+    for j in k..values.len() {
+        let (place, later) = (j as u64, values[j]);
+        if later < least || later >= view.u {
+            return false;
+        }
+        if view.first_from(from, number, least) != (place, later)
+            || view.first_from(from, number, later) != (place, later)
+        {
+            return false;
+        }
+        least = later + 1;
+    }
+    true
+}
+
+// Whether the numbers from number k on that are below x are given, as many as have room, and no more.
+fn gives(view: &MapView<'_, 512>, values: &[u64], k: usize, x: u64, room: usize) -> bool
+    requires held { (ys : List ℕ) × Holds 512 view.now ys }
+    requires count { length values.now ≡ view.now.m }
+    requires within { k < length values.now }
+    requires room { room ≤ 1025 }
+{
+    let mut to = [0; 1025];
+    let first = view.get(k as u64);
+    let count = view.values_below(k as u64, first, x, &mut to[..room]);
+    for j in 0..room {
+        let more = k + j < values.len() && values[k + j] < x;
+        if more != (j < count) || more && to[j] != values[k + j] {
+            return false;
+        }
+    }
+    true
+}
+
+// The same for x at number k, at one more, at the last number and at the universe, with room for none, for one, for two and for
+// all.
+fn gives_blocks(view: &MapView<'_, 512>, values: &[u64], k: usize) -> bool
+    requires held { (ys : List ℕ) × Holds 512 view.now ys }
+    requires count { length values.now ≡ view.now.m }
+    requires within { k < length values.now }
+{
+    let number = values[k];
+    for x in [number, number.saturating_add(1), view.u - 1, view.u] {
+        for room in [0, 1, 2, 1025] {
+            if room > 1025 || !gives(view, values, k, x, room) {
+                return false;
+            }
+        }
+    }
+    true
+}
+
 // Whether words are accepted as those of a list, and it is read back from them.
 fn reads_back(words: &[u64], values: &[u64], u: u64) -> bool {
     let m = values.len() as u64;
@@ -128,11 +189,14 @@ fn reads_back(words: &[u64], values: &[u64], u: u64) -> bool {
         return false;
     }
     for k in 0..values.len() {
-        if !finds(&view, values, k) {
+        if !finds(&view, values, k) || !finds_later(&view, values, k) {
             return false;
         }
     }
-    true
+    let last = values.len() - 1;
+    gives_blocks(&view, values, 0)
+        && gives_blocks(&view, values, last / 2)
+        && gives_blocks(&view, values, last)
 }
 
 // The multiples of a step below u outside a gap, and u - 1.

@@ -1,28 +1,7 @@
-use Rattle.std.proofs.Common.{◌+◌, ◌/◌, ◌^◌, ap, arith}
+use Rattle.std.proofs.Common.{◌+◌, arith}
 use Rattle.elias_fano.proofs.Views.{within-held}
 use Rattle.elias_fano.proofs.Lookups.{number-got, place-below}
 use Rattle.elias_fano.proofs.EfView.after.Goals as goal
-
-pub overflow_add-past : goal.overflow_add-past
-overflow_add-past g c =
-    let v = c.args.self.now in
-    let ys = c.requires.held.0 in
-    let h = c.requires.held.1 in
-    omega (arith, ap (λ n. n / 2 ^ v.low) (c.requires.number ys h), place-below g.row.Q v ys c.args.k h (omega arith), within-held g.row.Q v ys h)
-
-pub overflow_add-past-2 : goal.overflow_add-past-2
-overflow_add-past-2 g c =
-    let v = c.args.self.now in
-    let ys = c.requires.held.0 in
-    let h = c.requires.held.1 in
-    omega (arith, ap (λ n. n / 2 ^ v.low) (c.requires.number ys h), place-below g.row.Q v ys c.args.k h (omega arith), within-held g.row.Q v ys h)
-
-pub overflow_add-past-3 : goal.overflow_add-past-3
-overflow_add-past-3 g c =
-    let v = c.args.self.now in
-    let ys = c.requires.held.0 in
-    let h = c.requires.held.1 in
-    omega (arith, ap (λ n. n / 2 ^ v.low) (c.requires.number ys h), place-below g.row.Q v ys c.args.k h (omega arith), within-held g.row.Q v ys h)
 
 pub number-requires : goal.number-requires
 number-requires g c =

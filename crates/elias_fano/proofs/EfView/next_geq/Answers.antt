@@ -1,69 +1,19 @@
-use Rattle.std.proofs.Common.{◌≡◌, ◌^◌, ◌<◌, slice_index, ap, arith, inl, inr}
-use Rattle.std.proofs.lemmas.Bool.{cases_lt}
+use Rattle.std.proofs.Common.{◌^◌, arith}
 use Rattle.std.proofs.Math.Nat.{div-mul-le_self}
-use Rattle.elias_fano.proofs.Views.{within-held}
-use Rattle.elias_fano.proofs.Lookups.{number-got, place-below, not-last}
+use Rattle.elias_fano.proofs.Lookups.{first-onward}
 use Rattle.elias_fano.proofs.EfView.next_geq.Goals as goal
 
-pub number-number-requires : goal.number-number-requires
-number-number-requires g c =
-    let v = c.args.self.now in
+pub step_to-requires : goal.step_to-requires
+step_to-requires g c =
     let ys = c.requires.held.0 in
     let h = c.requires.held.1 in
-    let one = c.seek-k.ensures.one ys h in
-    let within : c.seek-k.result.0 < v.m = omega (arith, (c.seek-k.ensures.first ys h).within, h.values.count) in
-    let below = place-below g.row.Q v ys c.seek-k.result.0 h within in
-    (omega arith, (within-held g.row.Q v ys h, (within, (omega arith, omega arith))))
-
-pub loop-number-init : goal.loop-number-init
-loop-number-init g c =
-    let v = c.args.self.now in
-    let zs = c.requires.held.0 in
-    let held = c.requires.held.1 in
-    let first = c.seek-k.ensures.first zs held in
-    let within : c.seek-k.result.0 < v.m = omega (arith, first.within, held.values.count) in
-    record {
-      reached = first.at_or_after;
-      within = within;
-      number = λ ys h. number-got g.row.Q v ys c.seek-k.result.0 c.seek-k.result.1 c.number-number.result h within (c.seek-k.ensures.one ys h) c.number-number.ensures.value;
-      passed = λ ys h j after before.
-          omega (arith, (c.seek-k.ensures.first ys h).first j after before, div-mul-le_self c.args.x (2 ^ v.low));
-    }
-
-pub after-number-requires : goal.after-number-requires
-after-number-requires g c =
-    let v = c.args.self.now in
-    let ys = c.requires.held.0 in
-    let h = c.requires.held.1 in
-    let i = c.loop-number.invariant in
-    (omega arith, (c.requires.held, (not-last g.row.Q v ys c.loop-number.k c.loop-number.number c.args.x h i.within (i.number ys h) c.loop-number-test.true c.requires.reached, i.number)))
-
-pub loop-number-preserved : goal.loop-number-preserved
-loop-number-preserved g c =
-    let v = c.args.self.now in
-    let zs = c.requires.held.0 in
-    let held = c.requires.held.1 in
-    let i = c.loop-number.invariant in
-    record {
-      reached = omega (arith, i.reached);
-      within = not-last g.row.Q v zs c.loop-number.k c.loop-number.number c.args.x held i.within (i.number zs held) c.loop-number-test.true c.requires.reached;
-      number = λ ys h. c.after-number.ensures ys h;
-      passed = λ ys h j after before.
-          elim (cases_lt j c.loop-number.k) [
-            | inl less ↦ i.passed ys h j after less
-            | inr more ↦
-                let here : j ≡ c.loop-number.k = omega arith in
-                omega (arith, ap (λ n. slice_index ys n) here, i.number ys h, c.loop-number-test.true)
-          ];
-    }
+    (omega arith, (c.requires.held, (c.requires.reached, (omega (arith, (c.seek-k.ensures.first ys h).within, h.values.count), c.seek-k.ensures.one))))
 
 pub returns : goal.returns
-returns g c = λ ys h. (
-  record {
-    at_or_after = c.loop-number.invariant.reached;
-    within = omega (arith, c.loop-number.invariant.within, h.values.count);
-    at_least = omega (arith, c.loop-number.invariant.number ys h, c.loop-number-test.false);
-    first = c.loop-number.invariant.passed ys h;
-  },
-  c.loop-number.invariant.number ys h,
-)
+returns g c = λ ys h.
+    let first = c.seek-k.ensures.first ys h in
+    let found = c.step_to.ensures ys h in (
+      first-onward ys c.args.from c.seek-k.result.0 c.args.x c.step_to.result.0 first.at_or_after
+          (λ j after before. omega (arith, first.first j after before, div-mul-le_self c.args.x (2 ^ c.args.self.now.low))) found.0,
+      found.1,
+    )

@@ -1,16 +1,17 @@
-use Rattle.std.proofs.Common.{◌≡◌, suc, ◌+◌, ◌-◌, ◌*◌, ◌/◌, ◌^◌, ◌<◌, [], ◌∷◌, ◌++◌, length, get_or, refl, ap, ◌∙◌, subst, arith}
+use Rattle.std.proofs.Common.{◌≡◌, suc, ◌+◌, ◌*◌, ◌<◌, [], ◌∷◌, ◌++◌, length, get_or, refl, ap, ◌∙◌, subst, sym, arith}
 use Rattle.std.proofs.lemmas.Bool.{eqb-true, eq-eqb}
 use Rattle.bit_words.specs.Bits.{bits_of}
 use Rattle.bit_words.proofs.Value.{bits-bits_of, length-bits_of}
 use Rattle.part_cost.specs.Span.{past}
 use Rattle.elias_fano.specs.EfBits.{high_place}
+use Rattle.elias_fano.specs.EfPlaces.{low_fields_at}
 use Rattle.elias_fano.specs.EfView.{Holds}
 use Rattle.part_cost.proofs.Parts.{past-number}
-use Rattle.elias_fano.proofs.Rising.{past-before}
 use Rattle.elias_fano.proofs.Scanning.{sample-read}
 use Rattle.elias_fano.proofs.Views.{view-read-at, read-view-at, places-fit-at}
 use Rattle.elias_fano.proofs.Checking.{AreBegun, begun-more, begun-all, past-last}
-use Rattle.elias_fano.proofs.Lookups.{one-found, one-there, number-is, past-next}
+use Rattle.elias_fano.proofs.Lookups.{number-is, past-next, place-below}
+use Rattle.elias_fano.proofs.Passing.{none-next, one-next, past-exactly, same-range}
 use Rattle.elias_fano.proofs.EfView.spells.Goals as goal
 
 pub returns-in_default : goal.returns-in_default
@@ -21,9 +22,21 @@ returns-in_default g c = (
       let zs = held.0 in
       let h : Holds g.row.Q v zs = held.1 in
       let from = c.loop-k.invariant.all zs h in
-      absurd (one-there g.row.Q v zs c.loop-k.k c.loop-k.from h c.loop-k-test.true
-      (omega (arith, from.0, past-before zs v.low h.values.rising c.loop-k.k (omega (arith, h.values.count, c.loop-k-test.true))))
-      c.in_default.ensures.none),
+      let all = none-next g.row.Q v zs h c.loop-k.k c.loop-k.invariant.bits c.loop-k.invariant.end (past-exactly g.row.Q v zs h c.loop-k.k c.loop-k.ones.at (omega arith) from.0) c.in_default.ensures.none in
+      absurd (omega arith),
+)
+
+-- the one of a number stands no further on than its universe lets it
+pub returns-then-one-self : goal.returns-then-one-self
+returns-then-one-self g c = (
+  λ e. cc,
+  λ held.
+      let v = c.args.self.now in
+      let zs = held.0 in
+      let h : Holds g.row.Q v zs = held.1 in
+      let from = c.loop-k.invariant.all zs h in
+      let one = one-next g.row.Q v zs h c.loop-k.k c.loop-k.invariant.bits c.loop-k.invariant.end (past-exactly g.row.Q v zs h c.loop-k.k c.loop-k.ones.at (omega arith) from.0) c.in-Some.ensures.first in
+      absurd (omega (arith, one.1, place-below g.row.Q v zs c.loop-k.k h one.0)),
 )
 
 -- what is read is the number of all that the bits can be
@@ -36,9 +49,8 @@ returns-then-number-least g c = (
       let h : Holds g.row.Q v zs = held.1 in
       let from = c.loop-k.invariant.all zs h in
       let within : c.loop-k.k < length zs = omega (arith, h.values.count, c.loop-k-test.true) in
-      let before = past-before zs v.low h.values.rising c.loop-k.k within in
-      let one = one-found g.row.Q v zs c.loop-k.k c.loop-k.from c.in-Some.found.one h c.loop-k-test.true (omega (arith, from.0)) (omega (arith, from.0)) c.in-Some.ensures.first in
-      let number = number-is g.row.Q v zs c.loop-k.k c.in-Some.found.one h c.loop-k-test.true one in
+      let one = one-next g.row.Q v zs h c.loop-k.k c.loop-k.invariant.bits c.loop-k.invariant.end (past-exactly g.row.Q v zs h c.loop-k.k c.loop-k.ones.at (omega arith) from.0) c.in-Some.ensures.first in
+      let number = number-is g.row.Q v zs c.loop-k.k c.in-Some.one h one.0 one.1 in
       absurd (omega (arith, c.number-number.ensures.value, number, from.1, past-number zs h.values.rising c.loop-k.k within, c.if-number-least.true)),
 )
 
@@ -50,15 +62,13 @@ returns-then-not-is_sampled g c = (
       let zs = held.0 in
       let h : Holds g.row.Q v zs = held.1 in
       let from = c.loop-k.invariant.all zs h in
-      let within : c.loop-k.k < length zs = omega (arith, h.values.count, c.loop-k-test.true) in
-      let before = past-before zs v.low h.values.rising c.loop-k.k within in
-      let one = one-found g.row.Q v zs c.loop-k.k c.loop-k.from c.in-Some.found.one h c.loop-k-test.true (omega (arith, from.0)) (omega (arith, from.0)) c.in-Some.ensures.first in
+      let one = one-next g.row.Q v zs h c.loop-k.k c.loop-k.invariant.bits c.loop-k.invariant.end (past-exactly g.row.Q v zs h c.loop-k.k c.loop-k.ones.at (omega arith) from.0) c.in-Some.ensures.first in
       let sampled = c.if-not-is_sampled.ensures.1
       (λ j e.
       sample-read (bits_of v.bits.words.now) v.place v.u v.m v.low g.row.Q zs (view-read-at g.row.Q v zs h) v.spacing j (omega (arith, e, c.loop-k-test.true))
       (places-fit-at c.places_fit_samples.ensures g.row.Q v zs h (g.row.Q * (j + 1)) (omega (arith, e, c.loop-k-test.true)))
       ∙ ap (λ n. high_place v.low n (get_or zs n 0)) e
-      ∙ omega (arith, one)) in
+      ∙ omega (arith, one.1)) in
       sampled,
 )
 
@@ -68,22 +78,21 @@ loop-k-preserved g c =
     record {
       begun = (
         c.loop-k.invariant.begun.0 ++ c.number-number.result ∷ [],
-        begun-more (bits_of v.bits.words.now) v.place v.u v.m v.low g.row.Q c.loop-k.k c.loop-k.from c.loop-k.least
-            (v.place + c.loop-k.k + (v.u - 1) / 2 ^ v.low + 1) c.in-Some.found.one c.number-number.result c.loop-k.invariant.begun.0
-            (bits-bits_of v.bits.words.now) c.loop-k.invariant.begun.1 c.in-Some.ensures.first
+        subst (λ n. AreBegun (bits_of v.bits.words.now) v.place v.u v.m v.low g.row.Q (c.loop-k.k + 1) n (c.number-number.result + 1) (c.loop-k.invariant.begun.0 ++ c.number-number.result ∷ [])) (sym c.in-Some.ensures.behind)
+            (begun-more (bits_of v.bits.words.now) v.place v.u v.m v.low g.row.Q c.loop-k.k c.loop-k.ones.at c.loop-k.least
+            (v.place + low_fields_at v.u v.m v.low) c.in-Some.one c.number-number.result c.loop-k.invariant.begun.0
+            (bits-bits_of v.bits.words.now) c.loop-k.invariant.begun.1 (same-range c.loop-k.invariant.bits c.loop-k.invariant.end c.in-Some.ensures.first)
             (omega (arith, c.in-Some.ensures.first.at_or_after, c.loop-k.invariant.low))
-            c.number-number.ensures.value c.if-number-least.false (c.if-not-is_sampled.ensures.0 refl),
+            c.number-number.ensures.value c.if-number-least.false (c.if-not-is_sampled.ensures.0 refl)),
       );
       all = λ zs h.
           let from = c.loop-k.invariant.all zs h in
-          let within : c.loop-k.k < length zs = omega (arith, h.values.count, c.loop-k-test.true) in
-          let before = past-before zs v.low h.values.rising c.loop-k.k within in
-          let one = one-found g.row.Q v zs c.loop-k.k c.loop-k.from c.in-Some.found.one h c.loop-k-test.true (omega (arith, from.0)) (omega (arith, from.0)) c.in-Some.ensures.first in
-          let number = number-is g.row.Q v zs c.loop-k.k c.in-Some.found.one h c.loop-k-test.true one in
-          (omega (arith, one, past-next v.low c.loop-k.k zs), omega (arith, c.number-number.ensures.value, number, ap (λ n. past zs n) (let e : c.loop-k.k + 1 ≡ suc c.loop-k.k = omega arith in e)));
-      word = c.in-Some.ensures.rest;
-      low = omega (arith, c.in-Some.ensures.first.at_or_after, c.loop-k.invariant.low);
-      high = omega (arith, c.in-Some.ensures.first.before_end);
+          let one = one-next g.row.Q v zs h c.loop-k.k c.loop-k.invariant.bits c.loop-k.invariant.end (past-exactly g.row.Q v zs h c.loop-k.k c.loop-k.ones.at (omega arith) from.0) c.in-Some.ensures.first in
+          let number = number-is g.row.Q v zs c.loop-k.k c.in-Some.one h one.0 one.1 in
+          (omega (arith, one.1, past-next v.low c.loop-k.k zs, c.in-Some.ensures.behind), omega (arith, c.number-number.ensures.value, number, ap (λ n. past zs n) (let e : c.loop-k.k + 1 ≡ suc c.loop-k.k = omega arith in e)));
+      bits = c.in-Some.ensures.bits ∙ c.loop-k.invariant.bits;
+      end = c.in-Some.ensures.end ∙ c.loop-k.invariant.end;
+      low = omega (arith, c.in-Some.ensures.first.at_or_after, c.loop-k.invariant.low, c.in-Some.ensures.behind);
     }
 
 pub returns : goal.returns
@@ -94,12 +103,12 @@ returns g c =
     let all : c.loop-k.k ≡ v.m = omega (arith, c.loop-k-test.false, c.loop-k.auto.k-end) in (
       λ e.
           let last : c.loop-k.least ≡ v.u = eqb-true c.loop-k.least v.u e in
-          let begun : AreBegun (bits_of v.bits.words.now) v.place v.u v.m v.low g.row.Q v.m c.loop-k.from v.u ys =
-          subst (λ n. AreBegun (bits_of v.bits.words.now) v.place v.u v.m v.low g.row.Q v.m c.loop-k.from n ys) last
-          (subst (λ n. AreBegun (bits_of v.bits.words.now) v.place v.u v.m v.low g.row.Q n c.loop-k.from c.loop-k.least ys) all c.loop-k.invariant.begun.1) in (
+          let begun : AreBegun (bits_of v.bits.words.now) v.place v.u v.m v.low g.row.Q v.m c.loop-k.ones.at v.u ys =
+          subst (λ n. AreBegun (bits_of v.bits.words.now) v.place v.u v.m v.low g.row.Q v.m c.loop-k.ones.at n ys) last
+          (subst (λ n. AreBegun (bits_of v.bits.words.now) v.place v.u v.m v.low g.row.Q n c.loop-k.ones.at c.loop-k.least ys) all c.loop-k.invariant.begun.1) in (
             ys,
             read-view-at g.row.Q v ys
-                (begun-all (bits_of v.bits.words.now) v.place v.u v.m v.low g.row.Q c.loop-k.from ys (bits-bits_of v.bits.words.now) v.some v.spacing
+                (begun-all (bits_of v.bits.words.now) v.place v.u v.m v.low g.row.Q c.loop-k.ones.at ys (bits-bits_of v.bits.words.now) v.some v.spacing
                 (omega (arith, c.requires.bits, length-bits_of v.bits.words.now)) begun),
           ),
       λ held.

@@ -1,7 +1,7 @@
-use Rattle.std.proofs.Common.{◌≡◌, ℕ, ◌≤◌, ◌+◌, ◌-◌, ◌/◌, ◌^◌, List}
+use Rattle.std.proofs.Common.{◌≡◌, ℕ, ◌≤◌, ◌+◌, List}
 use Rattle.bit_words.specs.Bits.{bits_of}
 use Rattle.part_cost.specs.Span.{past}
-use Rattle.elias_fano.specs.EfPlaces.{past_place, IsFieldFrom}
+use Rattle.elias_fano.specs.EfPlaces.{low_fields_at, past_place}
 use Rattle.elias_fano.specs.EfView.{Holds}
 use Rattle.elias_fano.proofs.Checking.{AreBegun}
 use Rattle.elias_fano.proofs.EfView.spells.Given as goal
@@ -9,10 +9,10 @@ use Rattle.elias_fano.proofs.EfView.spells.Given as goal
 abbrev pub invariant-loop-k : goal.invariant-loop-k
 invariant-loop-k g l = record {
   -- the bits so far are those of some numbers
-  begun : (ys : List ℕ) × AreBegun (bits_of l.self.bits.words.now) l.self.place l.self.u l.self.m l.self.low g.row.Q l.k l.from l.least ys;
+  begun : (ys : List ℕ) × AreBegun (bits_of l.self.bits.words.now) l.self.place l.self.u l.self.m l.self.low g.row.Q l.k l.ones.at l.least ys;
   -- and all numbers that these bits are begin so
-  all : (zs : List ℕ) → Holds g.row.Q l.self zs → (l.from ≡ l.self.place + past_place l.self.low zs l.k) × (l.least ≡ past zs l.k);
-  word : IsFieldFrom (bits_of l.self.bits.words.now) l.from l.word;
-  low : l.self.place + l.k ≤ l.from;
-  high : l.from ≤ l.self.place + l.k + (l.self.u - 1) / 2 ^ l.self.low;
+  all : (zs : List ℕ) → Holds g.row.Q l.self zs → (l.ones.at ≡ l.self.place + past_place l.self.low zs l.k) × (l.least ≡ past zs l.k);
+  bits : l.ones.bits ≡ bits_of l.self.bits.words.now;
+  end : l.ones.end ≡ l.self.place + low_fields_at l.self.u l.self.m l.self.low;
+  low : l.self.place + l.k ≤ l.ones.at;
 }

@@ -3,7 +3,7 @@ use Rattle.elias_fano.specs.EfView.{Holds}
 use Rattle.elias_fano.proofs.Views.{within-held}
 use Rattle.elias_fano.proofs.Lookups.{place-below, shifted-back}
 use Rattle.elias_fano.proofs.Passing.{past-number, passed-below, not-all-below}
-use Rattle.elias_fano.proofs.EfView.seek.Goals as goal
+use Rattle.elias_fano.proofs.EfView.seek_behind.Goals as goal
 
 pub overflow_add-one : goal.overflow_add-one
 overflow_add-one g c =

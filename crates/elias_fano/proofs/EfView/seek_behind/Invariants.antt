@@ -2,7 +2,7 @@ use Rattle.std.proofs.Common.{◌≡◌, ℕ, ◌<◌, ◌+◌, ◌-◌, ◌*◌
 use Rattle.elias_fano.specs.EfBits.{high_place}
 use Rattle.elias_fano.specs.EfPlaces.{AreBelow}
 use Rattle.elias_fano.specs.EfView.{Holds}
-use Rattle.elias_fano.proofs.EfView.seek.Given as goal
+use Rattle.elias_fano.proofs.EfView.seek_behind.Given as goal
 
 abbrev pub invariant-numbers : goal.invariant-numbers
 invariant-numbers g l = record {
