@@ -18,7 +18,7 @@ use Rattle.two_level.specs.declared.check.Check.{Check}
 use Rattle.two_level.specs.declared.check.Check.TheVariants.{K6, K7, K8, K9}
 use Rattle.two_level.specs.EntryFacts.{EntryStates}
 use Rattle.two_level.specs.SequenceWords.{sequence_words}
-use Rattle.two_level.specs.SequenceFault.{OrElse, FirstOf, stated_last, stated_end, stated_offset, end_before, past_before, stated_count, stated_universe, payload_before, word_behind, first_bit, parts_fit, cannot_follow, entry_breaks, IsPartStored, FirstInSequence, PassChecks}
+use Rattle.two_level.specs.SequenceFault.{OrElse, FirstOf, stated_last, stated_end, stated_offset, end_before, past_before, stated_count, stated_universe, payload_before, word_behind, first_bit, parts_fit, may_follow, entry_breaks, IsPartStored, FirstInSequence, PassChecks}
 use Rattle.two_level.specs.AtAWord.{NoneBreaks, ChecksStandAtAWord, SequenceStandsAtAWord, FaultStandsAtAWord}
 use Rattle.two_level.proofs.EntryLaws.{entry-is-its-words}
 use Rattle.two_level.proofs.Lengths.{PartLaws, entry-within}
@@ -114,12 +114,12 @@ breaks-at format words p s parts m bound q fit lt =
     let last_in : ℕ = stated_last format within 0 q in
     let offset_in : ℕ = stated_offset format within 0 q in
     let t : Bool = q + 1 == parts in
-    ap (λ n. cannot_follow m bound n (past_before format within 0 q) (payload_before format within 0 q) t end_in last_in offset_in) (before-at format words p s parts q fit le)
-    ∙ ap (λ n. cannot_follow m bound before n (payload_before format within 0 q) t end_in last_in offset_in) (past-at format words p s parts q fit le)
-    ∙ ap (λ n. cannot_follow m bound before past n t end_in last_in offset_in) (payload-at format words p s parts q fit le)
-    ∙ ap (λ n. cannot_follow m bound before past bits t n last_in offset_in) (end-at format words p s parts q fit lt)
-    ∙ ap (λ n. cannot_follow m bound before past bits t end n offset_in) (last-at format words p s parts q fit lt)
-    ∙ ap (λ n. cannot_follow m bound before past bits t end last n) (offset-at format words p s parts q fit lt)
+    ap (λ n. not (may_follow m bound n (past_before format within 0 q) (payload_before format within 0 q) t end_in last_in offset_in)) (before-at format words p s parts q fit le)
+    ∙ ap (λ n. not (may_follow m bound before n (payload_before format within 0 q) t end_in last_in offset_in)) (past-at format words p s parts q fit le)
+    ∙ ap (λ n. not (may_follow m bound before past n t end_in last_in offset_in)) (payload-at format words p s parts q fit le)
+    ∙ ap (λ n. not (may_follow m bound before past bits t n last_in offset_in)) (end-at format words p s parts q fit lt)
+    ∙ ap (λ n. not (may_follow m bound before past bits t end n offset_in)) (last-at format words p s parts q fit lt)
+    ∙ ap (λ n. not (may_follow m bound before past bits t end last n)) (offset-at format words p s parts q fit lt)
 
 less-shifted : (p s x y : ℕ) → p ≤ s → y ≡ p + x → nat_lt (s - p) x ≡ nat_lt s y
 less-shifted p s x y le e = ltb_from_iff {b = nat_lt (s - p) x} {m = s} {n = y} (λ h. grind (arith, nat_tests), λ h. grind (arith, nat_tests))

@@ -1,12 +1,12 @@
 use Rattle.std.proofs.Common.{◌≡◌, ℕ, zero, suc, ◌+◌, ◌-◌, ◌*◌, ◌<◌, ◌≤◌, Bool, false, List, length, inl, inr, sym, ap, ◌∙◌, subst, arith, add-one}
-use Rattle.std.specs.Prelude.{◌==◌}
+use Rattle.std.specs.Prelude.{◌==◌, not}
 use Rattle.std.proofs.lemmas.Bool.{cases_lt}
 use Rattle.collection_model.specs.FormatNumbers.{FormatNumbers}
 use Rattle.bit_words.specs.Bits.{bits_of}
 use Rattle.part_cost.specs.Payload.{payload}
 use Rattle.part_cost.specs.Stored.{HoldsPart}
 use Rattle.part_codec.specs.PartBits.{part_bits}
-use Rattle.two_level.specs.SequenceFault.{stated_last, stated_end, stated_offset, end_before, past_before, payload_before, stated_universe, stated_count, word_behind, first_bit, cannot_follow, entry_breaks, IsPartStored}
+use Rattle.two_level.specs.SequenceFault.{stated_last, stated_end, stated_offset, end_before, past_before, payload_before, stated_universe, stated_count, word_behind, first_bit, may_follow, entry_breaks, IsPartStored}
 use Rattle.two_level.proofs.Follows.{follows-at}
 
 -- what stands before entry q, and the entry itself
@@ -21,15 +21,15 @@ pub record EntryRead (format : FormatNumbers) (words : List ℕ) (q last end off
 
 -- the test of an entry is that of its place
 pub entry-test : (format : FormatNumbers) (words : List ℕ) (parts m bound q before past bits last end offset : ℕ) → Reached format words q before past → bits ≡ payload_before format words 0 q → EntryRead format words q last end offset
-    → cannot_follow m bound before past bits (q + 1 == parts) end last offset ≡ entry_breaks format words 0 parts m bound q
+    → not (may_follow m bound before past bits (q + 1 == parts) end last offset) ≡ entry_breaks format words 0 parts m bound q
 entry-test format words parts m bound q before past bits last end offset h b e =
     let t : Bool = q + 1 == parts in
-    ap (λ x. cannot_follow m bound x past bits t end last offset) h.before_is
-    ∙ ap (λ x. cannot_follow m bound (end_before format words 0 q) x bits t end last offset) h.past_is
-    ∙ ap (λ x. cannot_follow m bound (end_before format words 0 q) (past_before format words 0 q) x t end last offset) b
-    ∙ ap (λ x. cannot_follow m bound (end_before format words 0 q) (past_before format words 0 q) (payload_before format words 0 q) t x last offset) e.end_is
-    ∙ ap (λ x. cannot_follow m bound (end_before format words 0 q) (past_before format words 0 q) (payload_before format words 0 q) t (stated_end format words 0 q) x offset) e.last_is
-    ∙ ap (λ x. cannot_follow m bound (end_before format words 0 q) (past_before format words 0 q) (payload_before format words 0 q) t (stated_end format words 0 q) (stated_last format words 0 q) x) e.offset_is
+    ap (λ x. not (may_follow m bound x past bits t end last offset)) h.before_is
+    ∙ ap (λ x. not (may_follow m bound (end_before format words 0 q) x bits t end last offset)) h.past_is
+    ∙ ap (λ x. not (may_follow m bound (end_before format words 0 q) (past_before format words 0 q) x t end last offset)) b
+    ∙ ap (λ x. not (may_follow m bound (end_before format words 0 q) (past_before format words 0 q) (payload_before format words 0 q) t x last offset)) e.end_is
+    ∙ ap (λ x. not (may_follow m bound (end_before format words 0 q) (past_before format words 0 q) (payload_before format words 0 q) t (stated_end format words 0 q) x offset)) e.last_is
+    ∙ ap (λ x. not (may_follow m bound (end_before format words 0 q) (past_before format words 0 q) (payload_before format words 0 q) t (stated_end format words 0 q) (stated_last format words 0 q) x)) e.offset_is
 
 -- one entry further
 pub reached-next : (format : FormatNumbers) (words : List ℕ) (q last end offset : ℕ) → EntryRead format words q last end offset → Reached format words (q + 1) end (last + 1)

@@ -1,7 +1,7 @@
 use Rattle.std.proofs.Common.{◌≡◌, ℕ, zero, suc, ◌+◌, ◌-◌, ◌*◌, ◌/◌, ◌%◌, ◌<◌, ◌≤◌, Bool, true, false, List, [], ◌∷◌, ◌++◌, length, take, drop, replicate, get_or, refl, inl, inr, sym, ap, ◌∙◌, subst, arith}
 use Rattle.std.specs.Prelude.{◌||◌, ◌&&◌, ◌==◌, not, nat_le, nat_lt, MatchBool}
 use Rattle.std.specs.List.{All}
-use Rattle.std.proofs.lemmas.Bool.{both_ways, not-false, or_parts, or_from, leb-false, ltb-false, lt-leb, le-ltb, eqb-true, eq-eqb, not_from_true}
+use Rattle.std.proofs.lemmas.Bool.{both_ways, not-false, and_parts, and_from, or_from, leb-true, ltb-true, le-leb, le-ltb, lt-ltb, eqb-true, eq-eqb, not_from_true}
 use Rattle.std.proofs.lemmas.Bool.Decides.{nat_tests}
 use Rattle.std.proofs.lemmas.List.{length-replicate, get_or-append_right, get_or_append_left, get_or-replicate, length-take-le}
 use Rattle.collection_model.specs.FormatNumbers.{FormatNumbers, entry_words}
@@ -17,19 +17,19 @@ use Rattle.part_codec.specs.PartBits.{part_bits}
 use Rattle.two_level.specs.declared.check.Check.{Check}
 use Rattle.two_level.specs.declared.check.Check.TheVariants.{K6, K7, K8, K9}
 use Rattle.two_level.specs.SequenceWords.{directory_from, payload_from, BeginsSequence}
-use Rattle.two_level.specs.SequenceFault.{OrElse, FirstOf, stated_last, stated_end, stated_offset, end_before, past_before, stated_count, stated_universe, payload_before, word_behind, first_bit, parts_fit, cannot_follow, entry_breaks, IsPartStored, PassChecks, IsSequenceFault}
+use Rattle.two_level.specs.SequenceFault.{OrElse, FirstOf, stated_last, stated_end, stated_offset, end_before, past_before, stated_count, stated_universe, payload_before, word_behind, first_bit, parts_fit, may_follow, entry_breaks, IsPartStored, PassChecks, IsSequenceFault}
 use Rattle.two_level.proofs.Choices.{unmatch}
 use Rattle.two_level.proofs.Lengths.{PartLaws, AreValues, length-payload, bits-payload, length-directory, length-sequence}
 use Rattle.two_level.proofs.Stated.{EntryIs, StandsFrom, past-part, past-bounded, entry-is, stands-next, payload-all, holds-part, split-bits, values-of, begins-split, stands-whole}
 
--- a test that is made only where another is true
-and-false : (a b : Bool) → (a && not b) ≡ false → a ≡ true → b ≡ true
-and-false true b h k = not-false b h
-and-false false b h k = cc
+-- a test that counts only where another is true
+implied : (a b : Bool) → (not a || b) ≡ true → a ≡ true → b ≡ true
+implied true b h k = h
+implied false b h k = cc
 
-false-and : (a b : Bool) → (a ≡ true → b ≡ true) → (a && not b) ≡ false
-false-and true b h = not_from_true b (h refl)
-false-and false b h = refl
+from-implied : (a b : Bool) → (a ≡ true → b ≡ true) → (not a || b) ≡ true
+from-implied true b h = h refl
+from-implied false b h = refl
 
 -- an entry that follows what is before it
 pub record Follows (m bound before past bits : ℕ) (is_last : Bool) (end last offset : ℕ) : Type 0 where
@@ -41,51 +41,51 @@ pub record Follows (m bound before past bits : ℕ) (is_last : Bool) (end last o
   pub offsets : offset ≡ bits
   pub whole : is_last ≡ true → end ≡ m
 
-pub follows-from : (m bound before past bits : ℕ) (is_last : Bool) (end last offset : ℕ) → cannot_follow m bound before past bits is_last end last offset ≡ false
+pub follows-from : (m bound before past bits : ℕ) (is_last : Bool) (end last offset : ℕ) → may_follow m bound before past bits is_last end last offset ≡ true
     → Follows m bound before past bits is_last end last offset
 follows-from m bound before past bits is_last end last offset h =
-    let a = nat_le end before in
-    let b = nat_lt m end in
-    let c = nat_le bound last in
-    let d = nat_lt last past in
-    let e = nat_lt (last + 1 - past) (end - before) in
-    let f = not (offset == bits) in
-    let g = is_last && not (end == m) in
-    let g7 = or_parts (a || b || c || d || e || f) g h in
-    let g6 = or_parts (a || b || c || d || e) f g7.0 in
-    let g5 = or_parts (a || b || c || d) e g6.0 in
-    let g4 = or_parts (a || b || c) d g5.0 in
-    let g3 = or_parts (a || b) c g4.0 in
-    let g2 = or_parts a b g3.0 in
+    let a = nat_lt before end in
+    let b = nat_le end m in
+    let c = nat_lt last bound in
+    let d = nat_le past last in
+    let e = nat_le (end - before) (last + 1 - past) in
+    let f = offset == bits in
+    let g = not is_last || end == m in
+    let g7 = and_parts (a && b && c && d && e && f) g h in
+    let g6 = and_parts (a && b && c && d && e) f g7.0 in
+    let g5 = and_parts (a && b && c && d) e g6.0 in
+    let g4 = and_parts (a && b && c) d g5.0 in
+    let g3 = and_parts (a && b) c g4.0 in
+    let g2 = and_parts a b g3.0 in
     record {
-      up = leb-false end before g2.0;
-      within = ltb-false m end g2.1;
-      below = leb-false bound last g3.1;
-      above = ltb-false last past g4.1;
-      room = ltb-false (last + 1 - past) (end - before) g5.1;
-      offsets = eqb-true offset bits (not-false (offset == bits) g6.1);
-      whole = λ k. eqb-true end m (and-false is_last (end == m) g7.1 k);
+      up = ltb-true before end g2.0;
+      within = leb-true end m g2.1;
+      below = ltb-true last bound g3.1;
+      above = leb-true past last g4.1;
+      room = leb-true (end - before) (last + 1 - past) g5.1;
+      offsets = eqb-true offset bits g6.1;
+      whole = λ k. eqb-true end m (implied is_last (end == m) g7.1 k);
     }
 
 pub follows-test : (m bound before past bits : ℕ) (is_last : Bool) (end last offset : ℕ) → Follows m bound before past bits is_last end last offset
-    → cannot_follow m bound before past bits is_last end last offset ≡ false
+    → may_follow m bound before past bits is_last end last offset ≡ true
 follows-test m bound before past bits is_last end last offset h =
-    let a = nat_le end before in
-    let b = nat_lt m end in
-    let c = nat_le bound last in
-    let d = nat_lt last past in
-    let e = nat_lt (last + 1 - past) (end - before) in
-    let f = not (offset == bits) in
-    let g = is_last && not (end == m) in
-    or_from (a || b || c || d || e || f) g
-    (or_from (a || b || c || d || e) f
-    (or_from (a || b || c || d) e
-    (or_from (a || b || c) d
-    (or_from (a || b) c (or_from a b (lt-leb end before h.up) (le-ltb m end h.within)) (lt-leb bound last h.below))
-    (le-ltb last past h.above))
-    (le-ltb (last + 1 - past) (end - before) h.room))
-    (not_from_true (offset == bits) (eq-eqb offset bits h.offsets)))
-    (false-and is_last (end == m) (λ k. eq-eqb end m (h.whole k)))
+    let a = nat_lt before end in
+    let b = nat_le end m in
+    let c = nat_lt last bound in
+    let d = nat_le past last in
+    let e = nat_le (end - before) (last + 1 - past) in
+    let f = offset == bits in
+    let g = not is_last || end == m in
+    and_from (a && b && c && d && e && f) g
+    (and_from (a && b && c && d && e) f
+    (and_from (a && b && c && d) e
+    (and_from (a && b && c) d
+    (and_from (a && b) c (and_from a b (lt-ltb before end h.up) (le-leb end m h.within)) (lt-ltb last bound h.below))
+    (le-leb past last h.above))
+    (le-leb (end - before) (last + 1 - past) h.room))
+    (eq-eqb offset bits h.offsets))
+    (from-implied is_last (end == m) (λ k. eq-eqb end m (h.whole k)))
 
 -- entry q of the words follows the entries before it
 abbrev pub FollowsAt : FormatNumbers → List ℕ → ℕ → ℕ → ℕ → ℕ → Type 0
@@ -95,13 +95,19 @@ FollowsAt format words parts m bound q =
 
 pub follows-at : (format : FormatNumbers) (words : List ℕ) (parts m bound q : ℕ) → entry_breaks format words 0 parts m bound q ≡ false → FollowsAt format words parts m bound q
 follows-at format words parts m bound q h =
-    follows-from m bound (end_before format words 0 q) (past_before format words 0 q) (payload_before format words 0 q) (q + 1 == parts)
-    (stated_end format words 0 q) (stated_last format words 0 q) (stated_offset format words 0 q) h
+    let before : ℕ = end_before format words 0 q in
+    let past : ℕ = past_before format words 0 q in
+    let bits : ℕ = payload_before format words 0 q in
+    let end : ℕ = stated_end format words 0 q in
+    let last : ℕ = stated_last format words 0 q in
+    let offset : ℕ = stated_offset format words 0 q in
+    follows-from m bound before past bits (q + 1 == parts) end last offset (not-false (may_follow m bound before past bits (q + 1 == parts) end last offset) h)
 
 pub at-follows : (format : FormatNumbers) (words : List ℕ) (parts m bound q : ℕ) → FollowsAt format words parts m bound q → entry_breaks format words 0 parts m bound q ≡ false
 at-follows format words parts m bound q h =
-    follows-test m bound (end_before format words 0 q) (past_before format words 0 q) (payload_before format words 0 q) (q + 1 == parts)
-    (stated_end format words 0 q) (stated_last format words 0 q) (stated_offset format words 0 q) h
+    ap not
+    (follows-test m bound (end_before format words 0 q) (past_before format words 0 q) (payload_before format words 0 q) (q + 1 == parts)
+    (stated_end format words 0 q) (stated_last format words 0 q) (stated_offset format words 0 q) h)
 
 -- the checks, from the last one
 abbrev pub Found : Check → ℕ → Check → ℕ → Type 0

@@ -12,3 +12,4 @@ mod Places
 mod Probes
 mod Takes
 mod AtAWord
+mod Blocks

@@ -1,4 +1,4 @@
-use Rattle.std.proofs.Common.{◌≡◌, ℕ, zero, suc, ◌+◌, ◌-◌, ◌*◌, ◌<◌, ◌≤◌, List, [], ◌∷◌, length, take, drop, get_or, slice_index, refl, sym, ap, ◌∙◌, subst, arith, add-one}
+use Rattle.std.proofs.Common.{◌≡◌, ℕ, zero, suc, ◌+◌, ◌-◌, ◌*◌, ◌<◌, ◌≤◌, List, [], ◌∷◌, length, take, drop, get_or, slice_index, Option, Some, None, refl, sym, ap, ◌∙◌, subst, arith, add-one}
 use Rattle.std.specs.List.{slice_range}
 use Rattle.std.proofs.lemmas.List.{length-take-le, length-drop, length-map, get_or-take, get_or-drop, get_or-map}
 use Rattle.std.proofs.lemmas.List.FromFn.{get_or-map-range_with_len}
@@ -14,8 +14,9 @@ use Rattle.part_codec.specs.PartBits.{part_bits}
 use Rattle.two_level.specs.SequenceWords.{sequence_words, BeginsSequence}
 use Rattle.two_level.specs.SequenceFault.{stated_last, stated_end, stated_offset, end_before, past_before, stated_count, stated_universe, payload_before, word_behind, first_bit, PassChecks}
 use Rattle.two_level.specs.SequenceView.{SequenceView, BeginWith, sequence_stated, words_used, start_of_part, IsPartOf}
-use Rattle.two_level.specs.SequenceParts.{StatesPart, Restores, HoldsValues}
+use Rattle.two_level.specs.SequenceParts.{StatesPart, Restores, HoldsValues, LiesIn}
 use Rattle.two_level.specs.declared.held.HeldPart.{HeldPart}
+use Rattle.two_level.specs.declared.held.HeldValue.{HeldValue}
 use Rattle.two_level.specs.Laws.{DirectoryStates}
 use Rattle.two_level.specs.declared.part.Part.{Part}
 use Rattle.part_cost.proofs.Partitions.{ends-within}
@@ -242,3 +243,14 @@ directory-states format room laws appended filled words parts m b =
       used = words-in-format format words parts ∙ used-is format room laws appended filled m bound parts used v.values v.ends words begun.2 begun.3;
       part = states-part format room laws appended filled m bound parts used v.values v.ends words begun.2 begun.3;
     }
+
+-- where the place is not the end, its value is held
+pub value-held : (format : FormatNumbers) (words : List ℕ) (parts place : ℕ) (held : Option HeldValue) → place < length (sequence_stated format words parts).values
+    → LiesIn format words parts place held → (at : HeldValue) × (held ≡ Some at) × LiesIn format words parts place (Some at)
+value-held format words parts place (Some at) within lies = (at, refl, lies)
+value-held format words parts place None within lies = absurd (omega (arith, lies, within))
+
+-- a place lies within the sequence, or is its end
+pub lies-within : (format : FormatNumbers) (words : List ℕ) (parts place : ℕ) (held : Option HeldValue) → LiesIn format words parts place held → place ≤ length (sequence_stated format words parts).values
+lies-within format words parts place (Some at) lies = omega (arith, lies.2, lies.0.values.within)
+lies-within format words parts place None lies = omega (arith, lies)

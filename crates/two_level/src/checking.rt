@@ -2,7 +2,7 @@ ghost use Rattle.std.specs.Prelude.{◌≡◌, ℕ, ◌≤◌, ◌<◌, ◌+◌,
 ghost use Rattle.collection_model.specs.FormatNumbers.{entry_words};
 ghost use Rattle.bit_words.specs.Bits.{bits_of, HasNoOne};
 ghost use Rattle.part_cost.specs.Formats.{numbers_of};
-ghost use Rattle.two_level.specs.SequenceFault.{payload_before, word_behind, first_bit, parts_fit, cannot_follow, entry_breaks, IsPartStored, PassChecks, IsSequenceFault};
+ghost use Rattle.two_level.specs.SequenceFault.{payload_before, word_behind, first_bit, parts_fit, may_follow, entry_breaks, IsPartStored, PassChecks, IsSequenceFault};
 
 use crate::check::Check;
 use crate::entry::{Entry, directory_bits, directory_words, entry_at};
@@ -60,25 +60,27 @@ pub fn parts_fit(m: u32, parts: u32) -> bool
     }
 }
 
-// Whether an entry is none that could follow so many values, one past the value before, and so many payload bits.
-fn cannot_follow(
-    entry: Entry,
-    before: u64,
+// What a pass over the entries has behind it: so many values, one past the last of them, and the payload bits of their parts.
+#[derive(Clone, Copy)]
+struct Passed {
+    values: u64,
     past: u64,
     bits: u64,
-    m: u32,
-    bound: u64,
-    is_last: bool,
-) -> bool
-    ensures { result ≡ cannot_follow m bound before past bits is_last entry.end entry.last entry.offset }
-{
-    entry.end <= before
-        || (m as u64) < entry.end
-        || bound <= entry.last
-        || entry.last < past
-        || entry.last + 1 - past < entry.end - before
-        || entry.offset != bits
-        || is_last && entry.end != m as u64
+}
+
+impl Passed {
+    // Whether an entry may follow it, where there are m values below the bound; the last entry has them all.
+    fn may_follow(&self, entry: Entry, m: u32, bound: u64, is_last: bool) -> bool
+        ensures { result ≡ may_follow m bound self.now.values self.now.past self.now.bits is_last entry.end entry.last entry.offset }
+    {
+        self.values < entry.end
+            && entry.end <= m as u64
+            && entry.last < bound
+            && self.past <= entry.last
+            && entry.end - self.values <= entry.last + 1 - self.past
+            && entry.offset == self.bits
+            && (!is_last || entry.end == m as u64)
+    }
 }
 
 // Goes through the entries, and answers the payload bits of all parts.
@@ -100,22 +102,27 @@ fn check_directory(
     ensures first { IfErr result (λ f. (q : ℕ) → q < f.part → entry_breaks (numbers_of format) words.now 0 parts m bound q ≡ false) }
 {
     formats_have_room();
-    let mut before = 0;
-    let mut past = 0;
-    let mut bits = 0;
+    let mut passed = Passed {
+        values: 0,
+        past: 0,
+        bits: 0,
+    };
     for part in 0..parts {
         let entry = entry_at(words, part, format);
-        if cannot_follow(entry, before, past, bits, m, bound, part + 1 == parts) {
+        if !passed.may_follow(entry, m, bound, part + 1 == parts) {
             return Err(SeqFault {
                 check: Check::K7,
                 part,
             });
         }
-        bits += payload_bits(entry.last + 1 - past, entry.end - before);
-        before = entry.end;
-        past = entry.last + 1;
+        let universe = entry.last + 1 - passed.past;
+        passed = Passed {
+            values: entry.end,
+            past: entry.last + 1,
+            bits: passed.bits + payload_bits(universe, entry.end - passed.values),
+        };
     }
-    Ok(bits)
+    Ok(passed.bits)
 }
 
 // Goes through the parts of a directory whose entries stand.

@@ -1,8 +1,10 @@
-ghost use Rattle.std.specs.Prelude.{◌≡◌, ℕ, ◌≤◌, ◌<◌, ◌+◌, length, slice_index};
+ghost use Rattle.std.specs.Prelude.{◌≡◌, ℕ, ◌≤◌, ◌<◌, ◌+◌, length, slice_index, take};
+ghost use Rattle.collection_model.specs.NextBelow.{AreNextBelow};
 ghost use Rattle.two_level.specs.SequenceView.{place_at_least};
 
 use crate::held::{
     Following, HeldValue, behind_place, first_from_part, hold_if_any, hold_value, keep_value,
+    part_values_below,
 };
 use crate::laws::directory_states_its_parts;
 use part_cost::Format;
@@ -88,6 +90,43 @@ impl<'a> SeqCursor<'a> {
                 self.held = hold_if_any(self.words, self.parts, part + 1, self.format);
             }
         }
+    }
+
+    /// Gives the values from the place on that are below x, as many as there are and have room, and goes behind them. It tells how
+    /// many they are.
+    pub fn values_below(&mut self, x: u64, to: &mut [u64]) -> usize
+        ensures sequence { self.new.sequence ≡ self.old.sequence }
+        ensures place { self.new.place ≡ self.old.place + result }
+        ensures room { length to.new ≡ length to.old }
+        ensures values { AreNextBelow self.old.sequence.values self.old.place x to.new result }
+    {
+        let most = to.len().min((self.m - self.place) as usize);
+        let mut count = 0;
+        'given: while count < most && self.value() < x {
+            count += self.pass_below(x, &mut to[count..]);
+        }
+        count
+    }
+
+    // Gives the values of the part from the place on that are below x, as many as there are and have room, and goes behind them.
+    // It tells how many they are. The value at the place is one of them.
+    fn pass_below(&mut self, x: u64, to: &mut [u64]) -> usize
+        requires some { 0 < length to.old }
+        requires within { self.old.place < length self.old.sequence.values }
+        requires below { slice_index self.old.sequence.values self.old.place < x }
+        ensures sequence { self.new.sequence ≡ self.old.sequence }
+        ensures place { self.new.place ≡ self.old.place + result }
+        ensures room { length to.new ≡ length to.old }
+        ensures some { 0 < result }
+        ensures within { self.old.place + result ≤ length self.old.sequence.values }
+        ensures values { AreNextBelow (take (self.old.place + result) self.old.sequence.values) self.old.place x to.new result }
+    {
+        let count = part_values_below(&self.held, self.place, x, to);
+        let last = count - 1;
+        self.place += last as u32;
+        keep_value(&mut self.held, to[last]);
+        self.next();
+        count
     }
 
     /// Goes to the first place at or after this one whose value is at least x, else to the end.

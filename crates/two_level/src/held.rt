@@ -1,4 +1,5 @@
-ghost use Rattle.std.specs.Prelude.{◌≡◌, ℕ, ◌≤◌, ◌<◌, ◌+◌, ◌^◌, IsTrue, ◌↔◌, List, length, slice_index, Some};
+ghost use Rattle.std.specs.Prelude.{◌≡◌, ℕ, ◌≤◌, ◌<◌, ◌+◌, ◌^◌, IsTrue, ◌↔◌, List, length, slice_index, take, Some};
+ghost use Rattle.collection_model.specs.NextBelow.{AreNextBelow};
 ghost use Rattle.part_cost.specs.Stored.{IsFirstAtLeast};
 ghost use Rattle.part_codec.specs.PartView.{Holds, universe_of, count_of};
 ghost use Rattle.part_cost.specs.Formats.{numbers_of};
@@ -14,9 +15,6 @@ use crate::laws::directory_states_its_parts;
 use bit_words::Bits;
 use part_codec::{PartCodec, PartView};
 use part_cost::{Format, formats_have_room};
-
-// How many values behind one are looked at one after another before samples are.
-const NEAR: u64 = 4;
 
 // A part of a sequence that is held to be read: which part it is, the places of its first value and behind its last, one
 // past the value before it, its last value, and the view of its relative values.
@@ -63,6 +61,30 @@ fn number_after(view: &PartView, k: u64, number: u64) -> u64
     view.after(k, number)
 }
 
+// Gives the numbers from number k on of a part that holds some that are below x, as many as there are and have room, by number k.
+// It tells how many they are.
+fn numbers_below(view: &PartView, k: u64, number: u64, x: u64, to: &mut [u64]) -> usize
+    requires held { (ys : List ℕ) × Holds view.now ys }
+    requires within { k < count_of view.now }
+    requires number { (ys : List ℕ) → Holds view.now ys → number ≡ slice_index ys k }
+    ensures room { length to.new ≡ length to.old }
+    ensures numbers { (ys : List ℕ) → Holds view.now ys → AreNextBelow ys k x to.new result }
+{
+    view.values_below(k, number, x, to)
+}
+
+// Adds so much to each of so many first numbers.
+fn raise_first(numbers: &mut [u64], count: usize, more: u64)
+    requires within { count ≤ length numbers.old }
+    requires fits { (j : ℕ) → j < count → slice_index numbers.old j + more < 2 ^ 64 }
+    ensures room { length numbers.new ≡ length numbers.old }
+    ensures raised { (j : ℕ) → j < count → slice_index numbers.new j ≡ slice_index numbers.old j + more }
+{
+    for j in 0..count {
+        numbers[j] += more;
+    }
+}
+
 // Which number of a part that holds some is the first at or after number k that is at least x, and that number.
 fn first_in_part(view: &PartView, x: u64, k: u64) -> (u64, u64)
     requires held { (ys : List ℕ) × Holds view.now ys }
@@ -71,6 +93,17 @@ fn first_in_part(view: &PartView, x: u64, k: u64) -> (u64, u64)
     ensures { (ys : List ℕ) → Holds view.now ys → IsFirstAtLeast ys k x result.0 × (result.1 ≡ slice_index ys result.0) }
 {
     view.next_geq(x, k)
+}
+
+// Which number of a part that holds some is the first at or after number k that is at least x, by number k, and that number.
+fn first_from_number(view: &PartView, x: u64, k: u64, number: u64) -> (u64, u64)
+    requires held { (ys : List ℕ) × Holds view.now ys }
+    requires reached { x < universe_of view.now }
+    requires within { k < count_of view.now }
+    requires number { (ys : List ℕ) → Holds view.now ys → number ≡ slice_index ys k }
+    ensures { (ys : List ℕ) → Holds view.now ys → IsFirstAtLeast ys k x result.0 × (result.1 ≡ slice_index ys result.0) }
+{
+    view.first_from(k, number, x)
 }
 
 impl<'a> HeldPart<'a> {
@@ -111,6 +144,22 @@ impl<'a> HeldPart<'a> {
         number_after(&self.view, place as u64 - self.from, number) + self.past
     }
 
+    // Gives the values of the part from a place on that are below x, as many as there are and have room, by the value at that
+    // place. It tells how many they are.
+    fn values_below(&self, place: u32, value: u64, x: u64, to: &mut [u64]) -> usize
+        requires values { (xs : List ℕ) × HoldsValues self.now xs × (value ≡ slice_index xs place) }
+        requires after { self.now.from ≤ place }
+        requires before { place < self.now.to }
+        ensures room { length to.new ≡ length to.old }
+        ensures values { (xs : List ℕ) → HoldsValues self.now xs → AreNextBelow (take self.now.to xs) place x to.new result }
+    {
+        let k = place as u64 - self.from;
+        let number = value - self.past;
+        let count = numbers_below(&self.view, k, number, x.saturating_sub(self.past), to);
+        raise_first(to, count, self.past);
+        count
+    }
+
     // The first place at or after one in the part whose value is at least x, and that value.
     pub(crate) fn first_at_least(&self, place: u32, x: u64) -> (u32, u64)
         requires values { (xs : List ℕ) × HoldsValues self.now xs }
@@ -126,32 +175,10 @@ impl<'a> HeldPart<'a> {
         let (k, number) = first_in_part(&self.view, least, place as u64 - self.from);
         ((self.from + k) as u32, number + self.past)
     }
-
-    // A place at or after one in the part, only a few behind it, with no value from that one on that is at least x before it;
-    // and the value there.
-    fn step_near(&self, place: u32, value: u64, x: u64) -> (u32, u64)
-        requires values { (xs : List ℕ) × HoldsValues self.now xs × (value ≡ slice_index xs place) }
-        requires after { self.now.from ≤ place }
-        requires before { place < self.now.to }
-        ensures after { place ≤ result.0 }
-        ensures before { result.0 < self.now.to }
-        ensures below { (xs : List ℕ) → HoldsValues self.now xs → value ≡ slice_index xs place → (k : ℕ) → place ≤ k → k < result.0 → slice_index xs k < x }
-        ensures value { (xs : List ℕ) → HoldsValues self.now xs → value ≡ slice_index xs place → result.1 ≡ slice_index xs result.0 }
-    {
-        let end = (u64::from(place) + NEAR).min(self.to - 1);
-        let mut at = place;
-        let mut found = value;
-        'near: while found < x && u64::from(at) < end {
-            found = self.value_after(at, found);
-            at += 1;
-        }
-        (at, found)
-    }
 }
 
 impl<'a> HeldValue<'a> {
-    // The first place at or after this one in the part whose value is at least x, and that value: by the values behind it, and
-    // then by samples.
+    // The first place at or after this one in the part whose value is at least x, and that value.
     pub(crate) fn first_at_least(&self, place: u32, x: u64) -> (u32, u64)
         requires values { (xs : List ℕ) × HoldsValues self.now.part xs × (self.now.value ≡ slice_index xs place) }
         requires after { self.now.part.from ≤ place }
@@ -162,12 +189,12 @@ impl<'a> HeldValue<'a> {
         ensures first { (xs : List ℕ) → HoldsValues self.now.part xs → self.now.value ≡ slice_index xs place → IsFirstAtLeast xs place x result.0 }
         ensures value { (xs : List ℕ) → HoldsValues self.now.part xs → self.now.value ≡ slice_index xs place → result.1 ≡ slice_index xs result.0 }
     {
-        let (near, found) = self.part.step_near(place, self.value, x);
-        if x <= found {
-            (near, found)
-        } else {
-            self.part.first_at_least(near, x)
-        }
+        let part = &self.part;
+        let least = x.saturating_sub(part.past);
+        let from = place as u64 - part.from;
+        let number = self.value - part.past;
+        let (k, number) = first_from_number(&part.view, least, from, number);
+        ((part.from + k) as u32, number + part.past)
     }
 }
 
@@ -313,6 +340,22 @@ pub(crate) fn behind_place(held: &Option<HeldValue>, place: u32) -> Following
     } else {
         Following::End(at.part.index)
     }
+}
+
+// Gives the values from a place on, where the value is held, that are below x and in its part, as many as there are and have room.
+// It tells how many they are.
+pub(crate) fn part_values_below(
+    held: &Option<HeldValue>,
+    place: u32,
+    x: u64,
+    to: &mut [u64],
+) -> usize
+    requires some { (at : HeldValue) × (held.now ≡ Some at) × (at.part.from ≤ place) × (place < at.part.to) × ((xs : List ℕ) × HoldsValues at.part xs × (at.value ≡ slice_index xs place)) }
+    ensures room { length to.new ≡ length to.old }
+    ensures values { (at : HeldValue) (xs : List ℕ) → held.now ≡ Some at → HoldsValues at.part xs → AreNextBelow (take at.part.to xs) place x to.new result }
+{
+    let Some(at) = held else { unreachable!() };
+    at.part.values_below(place, at.value, x, to)
 }
 
 // Puts a value in place of the one that is held.

@@ -500,6 +500,51 @@ fn goes_on(rt: &impl Abort, words: &[u64], values: &[u64], parts: u32, bound: u6
     }
 }
 
+// Whether a cursor gives the values from each place on that are below each later one, or below one more, as many as there is
+// room for, and then all others.
+fn gives_blocks(
+    rt: &impl Abort,
+    words: &[u64],
+    values: &[u64],
+    parts: u32,
+    room: usize,
+    format: Format,
+)
+    requires words { length words.now < 2 ^ 57 }
+    requires few { length values.now ≤ 32 }
+    requires room { room ≤ 32 }
+{
+    let m = values.len() as u32;
+    let view = SeqView::check(words, parts, m, format.most_sum(), format).expect(rt, "a sequence");
+    let mut block = [0; 32];
+    for from in 0..m {
+        for to in from..m {
+            let value = values[to as usize];
+            for (x, below) in [(value, to - from), (value.saturating_add(1), to - from + 1)] {
+                let mut cursor = view.cursor();
+                cursor.move_to(from);
+                let count = cursor.values_below(x, &mut block[..room]);
+                assert_eq!(rt; count, room.min(below as usize), "below {x} from {from}");
+                are_next(rt, &block, values, from as usize, count);
+                assert_eq!(rt; cursor.place() as usize, from as usize + count);
+                let rest = cursor.values_below(u64::MAX, &mut block);
+                assert_eq!(rt; cursor.place(), m);
+                are_next(rt, &block, values, from as usize + count, rest);
+            }
+        }
+    }
+}
+
+// Whether so many values from a place on are those at the head of the block.
+fn are_next(rt: &impl Abort, block: &[u64], values: &[u64], from: usize, count: usize)
+    requires place { from ≤ 64 }
+    requires few { count ≤ 32 }
+{
+    for j in 0..count {
+        assert_eq!(rt; block.get(j), values.get(from + j), "value {j} from {from}");
+    }
+}
+
 // Five parts: 0 to 9; 100, 1000, 5000 in Elias-Fano form; ten of the fifteen values from 5001 to 5015 as a bitmap; 2^30
 // alone; and the five values behind it.
 #[test]
@@ -552,6 +597,9 @@ fn five_parts_are_read_by_every_call(rt: HostRuntime) {
         finds_places(&rt, &words, &values, 5, bound, format);
         has_parts(&rt, &words, &values, &[10, 13, 23, 24, 29], bound, format);
         goes_on(&rt, &words, &values, 5, bound, format);
+        for room in [0, 1, 2, 29] {
+            gives_blocks(&rt, &words, &values, 5, room, format);
+        }
     }
 }
 

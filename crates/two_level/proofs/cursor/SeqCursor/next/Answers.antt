@@ -1,18 +1,11 @@
-use Rattle.std.proofs.Common.{◌≡◌, refl, sym, ℕ, ◌+◌, ◌<◌, List, length, Option, Some, None, subst, arith}
-use Rattle.collection_model.specs.FormatNumbers.{FormatNumbers}
+use Rattle.std.proofs.Common.{◌≡◌, refl, sym, ◌+◌, ◌<◌, length, Some, subst, arith}
 use Rattle.part_cost.specs.Formats.{numbers_of}
 use Rattle.two_level.specs.declared.held.HeldValue.{HeldValue}
 use Rattle.two_level.specs.SequenceFault.{stated_end, end_before}
 use Rattle.two_level.specs.SequenceView.{sequence_stated}
 use Rattle.two_level.specs.SequenceParts.{LiesIn}
-use Rattle.two_level.proofs.Parts.{end-before-next}
+use Rattle.two_level.proofs.Parts.{end-before-next, value-held}
 use Rattle.two_level.proofs.cursor.SeqCursor.next.Goals as goal
-
--- where the place is not the end, its value is held
-value-held : (format : FormatNumbers) (words : List ℕ) (parts place : ℕ) (held : Option HeldValue) → place < length (sequence_stated format words parts).values
-    → LiesIn format words parts place held → (at : HeldValue) × (held ≡ Some at) × LiesIn format words parts place (Some at)
-value-held format words parts place (Some at) within lies = (at, refl, lies)
-value-held format words parts place None within lies = absurd (omega (arith, lies, within))
 
 pub behind_place-requires : goal.behind_place-requires
 behind_place-requires c =

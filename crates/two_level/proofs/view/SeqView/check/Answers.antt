@@ -1,7 +1,6 @@
-use Rattle.std.proofs.Common.{◌≡◌, ℕ, ◌<◌, ◌≤◌, ◌^◌, List, get_or, Fits, w64, Result, Err, refl, sym, subst, arith, rules}
+use Rattle.std.proofs.Common.{◌≡◌, ℕ, ◌<◌, ◌≤◌, ◌^◌, List, get_or, Fits, w64, Err, refl, sym, subst, arith, rules}
 use Rattle.std.specs.List.{All}
-use Rattle.std.specs.Result.{IfErr}
-use Rattle.std.proofs.lemmas.Result.{IfErr-weaker, IfErr-at_err}
+use Rattle.std.proofs.lemmas.Result.{IfErr-at_err}
 use Rattle.std.proofs.lemmas.List.{get_or_default}
 use Rattle.collection_model.specs.FormatNumbers.{FormatNumbers}
 use Rattle.part_cost.specs.Formats.{numbers_of}
@@ -25,18 +24,16 @@ stated-begins format accept state m bound parts words fits are pass =
     let used : ℕ = word_behind format words 0 parts in
     (used, subst (λ s. BeginsSequence format m bound parts s.values s.ends words used) (sym (state m bound parts used a.0 a.1 words fits a.2)) a.2)
 
-from-err : {T U : Type 0} (r : Result T SeqFault) (s : Result U SeqFault) (e : SeqFault) (P : SeqFault → Type 0) → r ≡ Err e → s ≡ Err e → IfErr r P → IfErr s P
-from-err r s e P a b h = subst (λ x. IfErr x P) (sym b) (IfErr-at_err P a h)
-
 pub returns-in_err-check_words-clause-none : goal.returns-in_err-check_words-clause-none
 returns-in_err-check_words-clause-none c =
-    from-err c.check_words.result c.from_residual.result c.in_err-check_words.field-0.0
-    (λ f. (xs : List ℕ) → (ends : List ℕ) → (used : ℕ) → ¬ (BeginsSequence (numbers_of c.args.format) c.args.m c.args.bound c.args.parts xs ends c.args.words.now used))
-    (first_of (search rules, cc)) (first_of (search rules, cc))
-    (IfErr-weaker c.check_words.result (λ f. IsSequenceFault (numbers_of c.args.format) c.args.words.now c.args.parts c.args.m c.args.bound f.check f.part)
-    (λ f. (xs : List ℕ) → (ends : List ℕ) → (used : ℕ) → ¬ (BeginsSequence (numbers_of c.args.format) c.args.m c.args.bound c.args.parts xs ends c.args.words.now used))
-    (λ f h xs ends used b. c.checks_refuse_no_sequence.ensures c.args.format c.args.m c.args.bound c.args.parts used f.part f.check xs ends c.args.words.now c.requires.bound b h)
-    c.check_words.ensures.first)
+    let words = c.args.words.now in
+    let e : SeqFault = c.in_err-check_words.field-0.0 in
+    let fault : IsSequenceFault (numbers_of c.args.format) words c.args.parts c.args.m c.args.bound e.check e.part =
+    IfErr-at_err (λ f. IsSequenceFault (numbers_of c.args.format) words c.args.parts c.args.m c.args.bound f.check f.part) (first_of (search rules, cc)) c.check_words.ensures.first in
+    let is : c.from_residual.result ≡ Err e = first_of (search rules, cc) in
+    let none : (xs ends : List ℕ) (used : ℕ) → ¬ (BeginsSequence (numbers_of c.args.format) c.args.m c.args.bound c.args.parts xs ends words used) =
+    λ xs ends used b. c.checks_refuse_no_sequence.ensures c.args.format c.args.m c.args.bound c.args.parts used e.part e.check xs ends words c.requires.bound b fault in
+    rw is none
 
 pub invariant_of-result : goal.invariant_of-result
 unfolding sequence_stated
