@@ -13,11 +13,11 @@ use std::alloc::Global;
 use std::process::Abort;
 use std::test::Fail;
 
-/// A cursor that counts how often it is moved.
+/// A cursor that counts how many moves it makes; one behind a block is as many as the block has postings.
 #[derive(Drop)]
 struct Counting<C> {
     cursor: C,
-    moves: u32,
+    moves: u64,
 }
 
 impl<C: DocCursor> Counting<C> {
@@ -49,6 +49,18 @@ impl<C: DocCursor> DocCursor for Counting<C> {
     fn next_geq(&mut self, d: u32) {
         self.moves = self.moves.saturating_add(1);
         self.cursor.next_geq(d);
+    }
+
+    fn docs_below(&mut self, end: u64, docs: &mut [u64]) -> usize {
+        let count = self.cursor.docs_below(end, docs);
+        self.moves = self.moves.saturating_add(count as u64);
+        count
+    }
+
+    fn postings_below(&mut self, end: u64, docs: &mut [u64], freqs: &mut [u64]) -> usize {
+        let count = self.cursor.postings_below(end, docs, freqs);
+        self.moves = self.moves.saturating_add(count as u64);
+        count
     }
 
     fn max_freq(&self) -> u32 {
@@ -85,7 +97,7 @@ fn moves_by(
     alloc: Global,
     collection: &Collection,
     plan: Plan,
-) -> Result<u32, Fail>
+) -> Result<u64, Fail>
     requires { WellFormed format_one collection.now }
 {
     let lists = PlainLists::new(collection);

@@ -1,5 +1,5 @@
 -- Lemmas on the places of a cursor.
-use Rattle.std.proofs.Common.{◌≡◌, refl, sym, ap, inl, inr, ◌∙◌, ℕ, ◌+◌, ◌-◌, ◌<◌, ◌≤◌, Bool, true, false, leb, ltb, List, [], ◌∷◌, length, get_or, drop, max, arith, length-drop}
+use Rattle.std.proofs.Common.{◌≡◌, refl, sym, ap, inl, inr, ◌∙◌, ℕ, ◌+◌, ◌-◌, ◌<◌, ◌≤◌, Bool, true, false, leb, ltb, List, [], ◌∷◌, length, get_or, drop, max, min, arith, length-drop}
 use Rattle.std.specs.List.{between, position_or_len, fold, reduce}
 use Rattle.std.specs.Option.{unwrap_or}
 use Rattle.std.specs.List.Sorted.{IsStrictlyIncreasing, IsNonDecreasingBy, IsPartitionPoint, IsPartitionedBy}
@@ -9,7 +9,9 @@ use Rattle.std.proofs.lemmas.List.Edits.{length-between, get_or-between}
 use Rattle.std.proofs.lemmas.List.Sorted.{IsPartitionedBy-ltb}
 use Rattle.std.proofs.lemmas.List.Sums.{prefix_len-le-length, position_or_len_is, fails_before_first, passes_at_first}
 use Rattle.std.proofs.lemmas.List.Kept.{AllPairs-from_increasing}
-use Rattle.collection_model.specs.Collection.{Posting, docs_of, greatest}
+use Rattle.collection_model.specs.Collection.{Posting, docs_of, greatest, postings_of}
+use Rattle.collection_model.specs.NextBelow.{AreNextBelow}
+use Rattle.collection_model.proofs.Lists.{docs-of_postings}
 use Rattle.cursor_api.specs.NextGeq.{IsFirstFrom, next_geq_place}
 use Rattle.cursor_api.specs.Laws.{IsNextGeq}
 
@@ -93,6 +95,22 @@ part-finds docs low high d r le within point bound before last =
             let read = ap (λ i. get_or docs i 0) e in
             absurd (omega arith))
       ];
+    }
+
+-- the documents from a place on that are below an end, as many of them as have room
+pub next-below : (docs freqs given : List ℕ) (at end found count : ℕ) → length docs ≡ length freqs → at ≤ length docs → IsPartitionPoint (λ y. ltb y end ≡ true) (λ y. ltb y end ≡ false) (drop at docs) found → found ≤ length (drop at docs)
+    → count ≡ min found (length given) → ((j : ℕ) → j < count → get_or given j 0 ≡ get_or (drop at docs) j 0) → AreNextBelow (docs_of (postings_of docs freqs)) at end given count
+next-below docs freqs given at end found count same within point bound least copied =
+    let rest : length (drop at docs) ≡ length docs - at = length-drop at docs in
+    let all : docs_of (postings_of docs freqs) ≡ docs = docs-of_postings docs freqs same in
+    let long : length (docs_of (postings_of docs freqs)) ≡ length docs = ap length all in
+    let read : (j : ℕ) → get_or (docs_of (postings_of docs freqs)) (at + j) 0 ≡ get_or (drop at docs) j 0 = λ j. ap (λ xs. get_or xs (at + j) 0) all ∙ sym (get_or-drop at docs j 0) in
+    record {
+      room = omega arith;
+      within = omega arith;
+      same = λ j lt. copied j lt ∙ sym (read j);
+      below = λ j lt. omega (arith, ltb-true _ _ (point.0 j 0 (omega arith) (omega arith)), read j);
+      full = λ short more. omega (arith, ltb-false _ _ (point.1 count 0 (omega arith) (omega arith)), read count);
     }
 
 -- the numbers folded from a first one

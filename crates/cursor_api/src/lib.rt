@@ -1,4 +1,4 @@
-// A cursor over a posting list.
+//! A cursor over a posting list.
 #![tactic(auto)]
 
 mod cursor;

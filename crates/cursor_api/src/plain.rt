@@ -60,6 +60,27 @@ impl<'a> DocCursor for PlainCursor<'a> {
         self.at += passed;
     }
 
+    fn docs_below(&mut self, end: u64, docs: &mut [u64]) -> usize {
+        let rest = &self.docs[self.at..];
+        let count = rest
+            .partition_point(|doc| u64::from(*doc) < end)
+            .min(docs.len());
+        for j in 0..count {
+            docs[j] = u64::from(rest[j]);
+        }
+        self.at += count;
+        count
+    }
+
+    fn postings_below(&mut self, end: u64, docs: &mut [u64], freqs: &mut [u64]) -> usize {
+        let first = self.at;
+        let count = self.docs_below(end, docs);
+        for j in 0..count {
+            freqs[j] = u64::from(self.freqs[first + j]);
+        }
+        count
+    }
+
     fn max_freq(&self) -> u32 {
         self.freqs.iter().max().copied().unwrap_or(0)
     }

@@ -6,6 +6,58 @@ fn next_of<C: DocCursor>(cursor: &mut C, d: u32) -> Option<u32> {
     cursor.doc()
 }
 
+// How many postings below an end a cursor gives, at most two, and what it gives.
+fn two_below<C: DocCursor>(cursor: &mut C, end: u64) -> (usize, [u64; 2], [u64; 2]) {
+    let mut docs = [0; 2];
+    let mut freqs = [0; 2];
+    let count = cursor.postings_below(end, &mut docs, &mut freqs);
+    (count, docs, freqs)
+}
+
+// The same of documents alone.
+fn two_docs_below<C: DocCursor>(cursor: &mut C, end: u64) -> (usize, [u64; 2]) {
+    let mut docs = [0; 2];
+    let count = cursor.docs_below(end, &mut docs);
+    (count, docs)
+}
+
+#[test]
+fn a_list_in_blocks(rt: HostRuntime) {
+    let docs = [1, 2, 4, 7];
+    let freqs = [1, 3, 1, 9];
+    let start = PlainCursor::new(&docs, &freqs);
+    let mut cursor = start;
+    for (end, count, docs, freqs) in [
+        (1, 0, [0, 0], [0, 0]),
+        (2, 1, [1, 0], [1, 0]),
+        (7, 2, [2, 4], [3, 1]),
+        (7, 0, [0, 0], [0, 0]),
+        (u64::MAX, 1, [7, 0], [9, 0]),
+        (u64::MAX, 0, [0, 0], [0, 0]),
+    ] {
+        assert_eq!(rt;
+            two_below(&mut cursor, end),
+            (count, docs, freqs),
+            "below {end}"
+        );
+    }
+    let mut cursor = start;
+    for (end, count, docs) in [
+        (0, 0, [0, 0]),
+        (8, 2, [1, 2]),
+        (5, 1, [4, 0]),
+        (8, 1, [7, 0]),
+        (8, 0, [0, 0]),
+    ] {
+        assert_eq!(rt;
+            two_docs_below(&mut cursor, end),
+            (count, docs),
+            "below {end}"
+        );
+    }
+    assert_eq!(rt; cursor.doc(), None);
+}
+
 #[test]
 fn a_list_of_three(rt: HostRuntime) {
     let docs = [1, 2, 4];

@@ -1,3 +1,4 @@
 mod Steps
 mod Lists
 mod Written
+mod Blocks

@@ -12,7 +12,7 @@ use Rattle.collection_model.specs.FormatNumbers.{FormatNumbers}
 use Rattle.collection_model.specs.Collection.{Posting, docs_of, freqs_of, postings_of, IsPostingList}
 use Rattle.collection_model.specs.Sequences.{doc_sequence, freq_sequence, lessened, sums_from, steps_from, postings_in}
 use Rattle.collection_model.proofs.Sequences.{sums-length, same-steps}
-use Rattle.collection_model.proofs.Lists.{postings-of_list, docs-of_postings, freqs-of_postings, docs_of-length, freqs_of-length}
+use Rattle.collection_model.proofs.Lists.{rising-length, postings-of_list, docs-of_postings, freqs-of_postings, docs_of-length, freqs_of-length}
 use Rattle.two_level.specs.SequenceView.{place_at_least}
 use Rattle.cursor_api.specs.NextGeq.{IsCursorList, next_geq_place}
 use Rattle.cursor_api.specs.Postings.{postings-length}
@@ -36,6 +36,19 @@ in-freqs docs sums same = freqs-of_postings docs (steps_from 0 sums) (same-steps
 -- the documents of a cursor's list
 pub cursor-docs : (docs sums : List ℕ) → length docs ≡ length sums → IsCursorList (postings_in docs sums) → All (λ d. d < 4294967295) docs
 cursor-docs docs sums same list = subst (All (λ d. d < 4294967295)) (in-docs docs sums same) list.docs
+
+-- a cursor's list has fewer documents than 32 bits count
+pub cursor-few : (docs sums : List ℕ) → length docs ≡ length sums → IsCursorList (postings_in docs sums) → length docs < 4294967296
+cursor-few docs sums same list =
+    omega (arith, rising-length docs 4294967295 (subst IsStrictlyIncreasing (in-docs docs sums same) list.rising) (cursor-docs docs sums same list))
+
+-- the steps of a cursor's sums are not zero
+pub cursor-not_zero : (docs sums : List ℕ) → length docs ≡ length sums → IsCursorList (postings_in docs sums) → All (λ f. 1 ≤ f) (steps_from 0 sums)
+cursor-not_zero docs sums same list = subst (All (λ f. 1 ≤ f)) (in-freqs docs sums same) list.not_zero
+
+-- they fit a frequency
+pub cursor-fit : (docs sums : List ℕ) → length docs ≡ length sums → IsCursorList (postings_in docs sums) → All (λ f. f < 2 ^ 32) (steps_from 0 sums)
+cursor-fit docs sums same list = subst (All (λ f. f < 2 ^ 32)) (in-freqs docs sums same) list.fit
 
 -- the document at a place of the list
 pub in-doc : (docs sums : List ℕ) (k : ℕ) → length docs ≡ length sums → slice_get docs k ≡ option_map (λ p. p.doc) (slice_get (postings_in docs sums) k)

@@ -1,9 +1,12 @@
-ghost use Rattle.std.specs.Prelude.{◌≡◌, ◌≤◌, ◌<◌, ◌^◌, [], length};
+ghost use Rattle.std.specs.Prelude.{◌≡◌, ℕ, ◌+◌, ◌≤◌, ◌<◌, List, [], length, slice_index};
 ghost use Rattle.collection_model.specs.Collection.{greatest_freq};
-ghost use Rattle.collection_model.specs.Sequences.{postings_in};
+ghost use Rattle.collection_model.specs.NextBelow.{AreNextBelow};
+ghost use Rattle.collection_model.specs.Sequences.{steps_from, postings_in};
 ghost use Rattle.part_cost.specs.Span as span;
 ghost use Rattle.cursor_api.specs.NextGeq.{IsCursorList, IsCursorAt};
+ghost use Rattle.postings.specs.Blocks.{AreSumsFrom};
 
+use crate::sums::Sums;
 use cursor_api::DocCursor;
 use part_cost::Format;
 use two_level::{SeqCursor, SeqView};
@@ -14,7 +17,7 @@ use two_level::{SeqCursor, SeqView};
 pub struct PostingCursor<'a> {
     docs: SeqCursor<'a>,
     // It stands at the place of the documents or before it.
-    sums: SeqCursor<'a>,
+    sums: Sums<'a>,
     // One more than the sum before the place of the sums, 0 at the start.
     past: u64,
     len: u32,
@@ -34,6 +37,22 @@ fn no_values<'a>() -> SeqView<'a>
     SeqView::known(&[], 0, 0, Format::One)
 }
 
+// Turns the next sums into their frequencies, by one more than the sum before them, and gives one more than the last sum.
+fn sums_to_freqs(sums: &mut [u64], past: u64) -> u64
+    requires sums { (all : List ℕ) × (from : ℕ) × AreSumsFrom all from sums.old past }
+    ensures room { length sums.new ≡ length sums.old }
+    ensures freqs { (all : List ℕ) (from : ℕ) → AreSumsFrom all from sums.old past → (j : ℕ) → j < length sums.old → slice_index sums.new j ≡ slice_index (steps_from 0 all) (from + j) }
+    ensures past { (all : List ℕ) (from : ℕ) → AreSumsFrom all from sums.old past → result ≡ span.past all (from + length sums.old) }
+{
+    let mut past = past;
+    for j in 0..sums.len() {
+        let next = sums[j] + 1;
+        sums[j] = next - past;
+        past = next;
+    }
+    past
+}
+
 impl<'a> PostingCursor<'a> {
     /// A cursor at the start of the list whose sequences these are, and whose greatest frequency is `max`, 0 where the list is
     /// empty.
@@ -47,26 +66,50 @@ impl<'a> PostingCursor<'a> {
         PostingCursor {
             len: docs.len(),
             docs: docs.cursor(),
-            sums: freqs.cursor(),
+            sums: Sums::new(freqs),
             past: 0,
             max,
         }
     }
 
-    // Brings the sums to the place of the documents.
-    fn catch_up(&mut self)
-        requires within { self.old.docs.place < length self.old.docs.sequence.values }
+    // Gives the documents from the place on that are below `end`, as many as there are and have room, and goes behind them. The
+    // sums stay where they are.
+    fn take_docs(&mut self, end: u64, docs: &mut [u64]) -> usize
+        ensures sequence { self.new.docs.sequence ≡ self.old.docs.sequence }
+        ensures place { self.new.docs.place ≡ self.old.docs.place + result }
+        ensures sums { self.new.sums ≡ self.old.sums }
+        ensures room { length docs.new ≡ length docs.old }
+        ensures docs { AreNextBelow self.old.docs.sequence.values self.old.docs.place end docs.new result }
+    {
+        self.docs.values_below(end, docs)
+    }
+
+    // Brings the sums to a place that the documents have reached.
+    fn catch_up(&mut self, place: u32)
+        requires within { place < length self.old.docs.sequence.values }
+        requires ahead { self.old.sums.place ≤ place }
+        requires reached { place ≤ self.old.docs.place }
         ensures docs { self.new.docs ≡ self.old.docs }
         ensures sums { self.new.sums.sequence ≡ self.old.sums.sequence }
-        ensures place { self.new.sums.place ≡ self.old.docs.place }
-        ensures few { self.old.docs.place < 2 ^ 32 }
+        ensures place { self.new.sums.place ≡ place }
     {
-        let place = self.docs.place();
         if self.sums.place() < place {
             self.sums.move_to(place - 1);
             self.past = self.sums.value() + 1;
-            self.sums.next();
+            self.sums.move_to(place);
         }
+    }
+
+    // Fills in the frequencies from the place of the sums on, and goes behind them.
+    fn take_freqs(&mut self, freqs: &mut [u64])
+        requires reached { self.old.sums.place + length freqs.old ≤ self.old.docs.place }
+        ensures docs { self.new.docs ≡ self.old.docs }
+        ensures sums { self.new.sums.sequence ≡ self.old.sums.sequence }
+        ensures room { length freqs.new ≡ length freqs.old }
+        ensures freqs { (j : ℕ) → j < length freqs.old → slice_index freqs.new j ≡ slice_index (steps_from 0 self.old.sums.sequence.values) (self.old.sums.place + j) }
+    {
+        self.sums.values_below(u64::MAX, freqs);
+        self.past = sums_to_freqs(freqs, self.past);
     }
 }
 
@@ -93,7 +136,8 @@ impl<'a> DocCursor for PostingCursor<'a> {
     }
 
     fn freq(&mut self) -> u32 {
-        self.catch_up();
+        let place = self.docs.place();
+        self.catch_up(place);
         (self.sums.value() + 1 - self.past) as u32
     }
 
@@ -103,6 +147,20 @@ impl<'a> DocCursor for PostingCursor<'a> {
 
     fn next_geq(&mut self, d: u32) {
         self.docs.next_geq(u64::from(d));
+    }
+
+    fn docs_below(&mut self, end: u64, docs: &mut [u64]) -> usize {
+        self.take_docs(end, docs)
+    }
+
+    fn postings_below(&mut self, end: u64, docs: &mut [u64], freqs: &mut [u64]) -> usize {
+        let first = self.docs.place();
+        let count = self.take_docs(end, docs);
+        if count > 0 {
+            self.catch_up(first);
+            self.take_freqs(&mut freqs[..count]);
+        }
+        count
     }
 
     fn max_freq(&self) -> u32 {

@@ -3,6 +3,7 @@
 
 mod cursor;
 mod laws;
+mod sums;
 #[cfg(test)]
 mod tests;
 mod write;

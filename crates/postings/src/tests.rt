@@ -99,6 +99,21 @@ fn next_of<C: DocCursor>(cursor: &mut C, d: u32) -> Option<u32> {
     cursor.doc()
 }
 
+// How many postings below an end a cursor gives, at most two, and what it gives.
+fn two_below<C: DocCursor>(cursor: &mut C, end: u64) -> (usize, [u64; 2], [u64; 2]) {
+    let mut docs = [0; 2];
+    let mut freqs = [0; 2];
+    let count = cursor.postings_below(end, &mut docs, &mut freqs);
+    (count, docs, freqs)
+}
+
+// The same of documents alone.
+fn two_docs_below<C: DocCursor>(cursor: &mut C, end: u64) -> (usize, [u64; 2]) {
+    let mut docs = [0; 2];
+    let count = cursor.docs_below(end, &mut docs);
+    (count, docs)
+}
+
 // Frequencies 1, 5 in one part, and 1, 2 in two, in both formats.
 #[test]
 fn reads_the_postings_back(rt: HostRuntime) {
@@ -168,6 +183,38 @@ fn reads_on_from_a_document(rt: HostRuntime) {
     }
 }
 
+// Documents 0, 1, 2 of frequencies 1, 2, 3 in one part and in two: all by two, all behind the first document, and the last one.
+#[test]
+fn reads_the_postings_below(rt: HostRuntime) {
+    let docs_of_one: &[u64] = &[206_158_430_210, 0];
+    let docs_of_two: &[u64] = &[2, 3, 0];
+    let one: &[u64] = &[206_158_430_213, 0, 37];
+    let two: &[u64] = &[68_719_476_736, 0, 206_158_430_213, 0, 18];
+    let two_of_two: &[u64] = &[0, 1, 0, 5, 3, 0, 18];
+    for (format, docs, sums, parts) in [
+        (Format::One, docs_of_one, one, 1),
+        (Format::One, docs_of_one, two, 2),
+        (Format::Two, docs_of_two, two_of_two, 2),
+    ] {
+        assert!(rt; docs.len() <= 3);
+        assert!(rt; sums.len() <= 7);
+        let mut all = opened(&rt, format, docs, sums, 1, parts, 3);
+        assert_eq!(rt; two_below(&mut all, 0), (0, [0, 0], [0, 0]));
+        assert_eq!(rt; two_below(&mut all, 9), (2, [0, 1], [1, 2]));
+        assert_eq!(rt; next_posting(&mut all), Some((2, 3)));
+        assert_eq!(rt; two_below(&mut all, 9), (0, [0, 0], [0, 0]));
+        let mut behind = opened(&rt, format, docs, sums, 1, parts, 3);
+        assert_eq!(rt; two_docs_below(&mut behind, 1), (1, [0, 0]));
+        assert_eq!(rt; two_below(&mut behind, 2), (1, [1, 0], [2, 0]));
+        assert_eq!(rt; two_below(&mut behind, u64::MAX), (1, [2, 0], [3, 0]));
+        assert_eq!(rt; two_docs_below(&mut behind, u64::MAX), (0, [0, 0]));
+        let mut last = opened(&rt, format, docs, sums, 1, parts, 3);
+        assert_eq!(rt; next_of(&mut last, 2), Some(2));
+        assert_eq!(rt; two_below(&mut last, 2), (0, [0, 0], [0, 0]));
+        assert_eq!(rt; two_below(&mut last, 3), (1, [2, 0], [3, 0]));
+    }
+}
+
 #[test]
 fn an_empty_list_is_at_its_end(rt: HostRuntime) {
     for format in [Format::One, Format::Two] {
@@ -175,6 +222,7 @@ fn an_empty_list_is_at_its_end(rt: HostRuntime) {
         assert_eq!(rt; cursor.len(), 0);
         assert_eq!(rt; cursor.max_freq(), 0);
         assert_eq!(rt; next_of(&mut cursor, 0), None);
+        assert_eq!(rt; two_below(&mut cursor, 9), (0, [0, 0], [0, 0]));
         assert_eq!(rt; next_posting(&mut cursor), None);
     }
 }

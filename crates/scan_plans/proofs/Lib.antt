@@ -8,5 +8,7 @@ mod Heap
 mod Bests
 mod Reordered
 mod Windows
+mod Given
+mod Marks
 mod Found
 mod Skipping

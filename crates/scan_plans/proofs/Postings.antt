@@ -15,10 +15,10 @@ use Rattle.cursor_api.specs.Laws.{NextGeqIsFirst, IsNextGeq}
 use Rattle.scan_plans.specs.Matches.{has_doc, freq_of_doc}
 use Rattle.scan_plans.specs.Scan.{doc_at, StandsFrom, HasPassed}
 
-abbrev no_posting : Posting
+abbrev pub no_posting : Posting
 no_posting = record { doc = 0; freq = 0 }
 
-doc-read : (list : List Posting) (k : ℕ) → k < length list → get_or (docs_of list) k 0 ≡ (get_or list k no_posting).doc
+pub doc-read : (list : List Posting) (k : ℕ) → k < length list → get_or (docs_of list) k 0 ≡ (get_or list k no_posting).doc
 doc-read list k within = get_or-map (λ p. p.doc) list k no_posting 0 within
 
 freq-read : (list : List Posting) (k : ℕ) → k < length list → get_or (freqs_of list) k 0 ≡ (get_or list k no_posting).freq

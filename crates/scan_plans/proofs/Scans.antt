@@ -3,9 +3,9 @@ use Rattle.std.proofs.Common.{◌≡◌, refl, sym, ap, inl, inr, ◌⊎◌, ◌
 use Rattle.std.specs.Prelude.{Contains}
 use Rattle.std.specs.List.{All, filter, filter_map, cons_option, fold, reduce, range_with_len, list_any}
 use Rattle.std.proofs.lemmas.Bool.{cases_lt, false≢true}
-use Rattle.std.proofs.lemmas.List.{append-nil, length-map}
-use Rattle.std.proofs.lemmas.List.Elements.{filter-append, All-contains, All-filter, Contains-get_or}
-use Rattle.std.proofs.lemmas.List.FromFn.{length-range_with_len, get_or-range_with_len}
+use Rattle.std.proofs.lemmas.List.{append-nil, length-map, map-id}
+use Rattle.std.proofs.lemmas.List.Elements.{All-contains, All-filter, Contains-get_or}
+use Rattle.std.proofs.lemmas.List.FromFn.{length-range_with_len, get_or-range_with_len, filter_of_map_range_with_len_more}
 use Rattle.std.proofs.lemmas.List.Folds.{list_any_none}
 use Rattle.collection_model.specs.Collection.{Posting, docs_of}
 use Rattle.cursor_api.specs.NextGeq.{IsCursorAt}
@@ -103,15 +103,13 @@ module _ {X : Type 0} (h : X → Option ℕ) where
   ]
 
 -- ---- filters over all documents
-range-more : (a n : ℕ) → range_with_len a (suc n) ≡ range_with_len a n ++ (a + n) ∷ []
-range-more a zero = let e : a ≡ a + 0 = omega arith in ap (λ k. k ∷ []) e
-range-more a (suc n) = let e : a + 1 + n ≡ a + suc n = omega arith in ap (λ l. a ∷ l) (range-more (a + 1) n ∙ ap (λ k. range_with_len (a + 1) n ++ k ∷ []) e)
-
 module _ (p : ℕ → Bool) where
   filter-step : (n : ℕ) → filter p (range_with_len 0 (suc n)) ≡ filter p (range_with_len 0 n) ++ cond (p n) (n ∷ []) []
   filter-step n =
       let e : 0 + n ≡ n = omega arith in
-      ap (filter p) (range-more 0 n ∙ ap (λ k. range_with_len 0 n ++ k ∷ []) e) ∙ filter-append p (range_with_len 0 n) (n ∷ [])
+      let next : suc n ≡ n + 1 = omega arith in
+      ap (λ k. filter p (range_with_len 0 k)) next ∙ ap (filter p) (sym (map-id (range_with_len 0 (n + 1))))
+      ∙ filter_of_map_range_with_len_more p (λ x. x) 0 n n e ∙ ap (λ l. filter p l ++ cond (p n) (n ∷ []) []) (map-id (range_with_len 0 n))
 
   pub filter-yes : (n m : ℕ) → n + 1 ≡ m → p n ≡ true → filter p (range_with_len 0 m) ≡ filter p (range_with_len 0 n) ++ n ∷ []
   filter-yes n m e yes-n =

@@ -1,5 +1,6 @@
-use Rattle.std.specs.Prelude.{◌≡◌, ℕ, ◌+◌, ◌<◌, ◌↔◌, Bool, true, false, List, length, slice_index, slice_index_or}
-use Rattle.std.specs.List.{list_any}
+use Rattle.std.specs.Prelude.{◌≡◌, ◌≢◌, ℕ, ◌+◌, ◌-◌, ◌*◌, ◌/◌, ◌%◌, ◌<◌, ◌≤◌, ◌↔◌, ◌==◌, Bool, true, List, length, slice_index}
+use Rattle.std.specs.Int.{bit_at}
+use Rattle.std.specs.List.{All, list_any}
 use Rattle.collection_model.specs.Collection.{Posting}
 use Rattle.scan_plans.specs.Matches.{has_doc, score}
 
@@ -8,6 +9,23 @@ pub record AreScored (lists : List (List Posting)) (weights : List ℕ) (first :
   pub scored : (k : ℕ) → k < length scores → slice_index scores k ≡ score lists weights (first + k)
   pub found : (k : ℕ) → k < length scores → (0 < slice_index scores k) ↔ (list_any (has_doc (first + k)) lists ≡ true)
 
+-- whether a place is marked: bit k mod 64 of word k div 64 is 1
+abbrev pub is_marked : List ℕ → ℕ → Bool
+is_marked marks k = bit_at (slice_index marks (k / 64)) (k % 64) == 1
+
 -- whether any list has the documents from one on
-abbrev pub AreMarked : List (List Posting) → ℕ → List Bool → Type 0
-AreMarked lists first marks = (k : ℕ) → k < length marks → slice_index_or marks k false ≡ list_any (has_doc (first + k)) lists
+abbrev pub AreMarked : List (List Posting) → ℕ → List ℕ → Type 0
+AreMarked lists first marks = (k : ℕ) → k < 64 * length marks → is_marked marks k ≡ list_any (has_doc (first + k)) lists
+
+-- whether any list has each of the 64 documents from one on, as the bits of a word say
+abbrev pub IsMarkedWord : List (List Posting) → ℕ → ℕ → Type 0
+IsMarkedWord lists base word = (k : ℕ) → k < 64 → (bit_at word k == 1) ≡ list_any (has_doc (base + k)) lists
+
+-- documents that lie in a window of so many from one on
+abbrev pub AreInside : ℕ → ℕ → List ℕ → Type 0
+AreInside first count docs = All (λ d. (first ≤ d) × (d < first + count)) docs
+
+-- Of a window from `first` on the places of some documents, those from one up to another, were each given what is theirs, and no other place anything.
+pub record AreGiven {V : Type 0} (add : V → V → V) (first : ℕ) (docs : List ℕ) (give : ℕ → V) (from to : ℕ) (old now : ℕ → V) : Type 0 where
+  pub given : (i : ℕ) → from ≤ i → i < to → now (slice_index docs i - first) ≡ add (old (slice_index docs i - first)) (give i)
+  pub others : (k : ℕ) → ((i : ℕ) → from ≤ i → i < to → slice_index docs i ≢ first + k) → now k ≡ old k

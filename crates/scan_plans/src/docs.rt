@@ -1,13 +1,14 @@
-ghost use Rattle.std.specs.Prelude.{◌≡◌, ℕ, ◌+◌, ◌^◌, ◌≤◌, ◌<◌, true, false, List, map, length, slice_index_or, IfOk, OnOk};
+ghost use Rattle.std.specs.Prelude.{◌≡◌, ℕ, ◌+◌, ◌*◌, ◌^◌, ◌≤◌, ◌<◌, true, false, List, map, length, IfOk, OnOk};
+ghost use Rattle.std.specs.Int.{bit_at};
 ghost use Rattle.std.specs.List.{All};
 ghost use Rattle.std.specs.List.Sorted.{IsPermutation, IsNonDecreasingBy};
 ghost use Rattle.collection_model.specs.Collection.{Posting};
 ghost use Rattle.scan_plans.specs.Matches.{AreBelow, in_all, in_any};
-ghost use Rattle.scan_plans.specs.Window.{AreMarked};
+ghost use Rattle.scan_plans.specs.Window.{AreMarked, IsMarkedWord, is_marked};
 
 use crate::NoMemory;
 use crate::scan::{least_doc, next_shared};
-use crate::window::{doc_in, mark_lists, new_marks};
+use crate::window::{Block, doc_in, mark_lists, new_marks};
 use cursor_api::DocCursor;
 use std::alloc::Global;
 
@@ -49,8 +50,9 @@ pub fn or_docs<C: DocCursor>(alloc: Global, cursors: &mut [C]) -> Result<Vec<u32
     let mut docs = Vec::new(alloc);
     let mut buffer = new_marks(alloc)?;
     let marks = buffer.as_mut_slice();
+    let mut block = Block::new();
     while let Some(first) = least_doc(cursors) {
-        let reached = mark_lists(cursors, first, marks);
+        let reached = mark_lists(cursors, first, marks, &mut block);
         append_marked(&mut docs, first, reached, marks)?;
     }
     Ok(docs)
@@ -61,22 +63,34 @@ fn append_marked(
     docs: &mut Vec<u32>,
     first: u32,
     reached: usize,
-    marks: &mut [bool],
+    marks: &mut [u64],
 ) -> Result<(), NoMemory>
-    requires within { reached ≤ length marks.old }
-    requires behind { (k : ℕ) → reached ≤ k → k < length marks.old → slice_index_or marks.old k false ≡ false }
-    requires fit { (k : ℕ) → k < length marks.old → slice_index_or marks.old k false ≡ true → first + k < 2 ^ 32 }
-    ensures docs { OnOk result ((lists : List (List Posting)) → AreMarked lists first marks.old → docs.old.items ≡ in_any first lists → docs.new.items ≡ in_any (first + length marks.old) lists) }
+    requires small { length marks.old ≤ 1024 }
+    requires within { reached ≤ 64 * length marks.old }
+    requires behind { (k : ℕ) → reached ≤ k → k < 64 * length marks.old → is_marked marks.old k ≡ false }
+    requires fit { (k : ℕ) → k < 64 * length marks.old → is_marked marks.old k ≡ true → first + k < 2 ^ 32 }
+    ensures docs { OnOk result ((lists : List (List Posting)) → AreMarked lists first marks.old → docs.old.items ≡ in_any first lists → docs.new.items ≡ in_any (first + 64 * length marks.old) lists) }
     ensures count { length marks.new ≡ length marks.old }
-    ensures clear { OnOk result (All (λ m. m ≡ false) marks.new) }
+    ensures clear { OnOk result (All (λ w. w ≡ 0) marks.new) }
 {
-    for at in 0..reached {
-        let marked = marks[at];
-        marks[at] = false;
-        if marked {
-            let doc = doc_in(first, at);
-            docs.push(doc)?;
-        }
+    for i in 0..reached.div_ceil(64) {
+        append_word(docs, u64::from(first) + 64 * i as u64, marks[i])?;
+        marks[i] = 0;
+    }
+    Ok(())
+}
+
+// Adds the documents that the bits of a word mark, of which the lowest stands for document `base` and each for the one after.
+fn append_word(docs: &mut Vec<u32>, base: u64, word: u64) -> Result<(), NoMemory>
+    requires fit { (k : ℕ) → k < 64 → bit_at word k ≡ 1 → base + k < 2 ^ 32 }
+    ensures docs { OnOk result ((lists : List (List Posting)) → IsMarkedWord lists base word → docs.old.items ≡ in_any base lists → docs.new.items ≡ in_any (base + 64) lists) }
+{
+    let mut rest = word;
+    while rest != 0 {
+        let one = rest.trailing_zeros();
+        docs.push((base + u64::from(one)) as u32)?;
+        // The lowest 1 is taken back.
+        rest &= !(1 << one);
     }
     Ok(())
 }

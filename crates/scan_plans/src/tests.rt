@@ -57,22 +57,32 @@ fn one_list(rt: HostRuntime) {
     assert!(rt; none.is_empty());
 }
 
-// A window has 4,096 documents from its first on: here 0 to 4,095 and then 4,096 to 8,191.
+// A window of scores has 8,192 documents from its first on, and one of marks 65,536.
 #[test]
 fn documents_at_the_border_of_a_window(rt: HostRuntime) {
     let starts = [
-        PlainCursor::new(&[0, 4095, 4096], &[1, 2, 3]),
-        PlainCursor::new(&[4096, 4097], &[6, 7]),
+        PlainCursor::new(&[0, 8191, 8192, 65_535], &[1, 2, 3, 1]),
+        PlainCursor::new(&[8192, 8193, 65_536], &[6, 7, 5]),
     ];
     let mut cursors = starts;
     let both = and_docs(rt.alloc(), &mut cursors).expect(&rt, "memory");
-    assert_eq!(rt; both.as_slice(), [4096].as_slice());
+    assert_eq!(rt; both.as_slice(), [8192].as_slice());
     let mut cursors = starts;
     let any = or_docs(rt.alloc(), &mut cursors).expect(&rt, "memory");
-    assert_eq!(rt; any.as_slice(), [0, 4095, 4096, 4097].as_slice());
+    assert_eq!(rt;
+        any.as_slice(),
+        [0, 8191, 8192, 8193, 65_535, 65_536].as_slice()
+    );
     let mut cursors = starts;
-    let top = top_exhaustive(rt.alloc(), &mut cursors, &[1, 1], 9, 4098).expect(&rt, "memory");
-    let best = [(4096, 9), (4097, 7), (4095, 2), (0, 1)];
+    let top = top_exhaustive(rt.alloc(), &mut cursors, &[1, 1], 9, 65_537).expect(&rt, "memory");
+    let best = [
+        (8192, 9),
+        (8193, 7),
+        (65_536, 5),
+        (8191, 2),
+        (0, 1),
+        (65_535, 1),
+    ];
     assert_eq!(rt; top.as_slice(), best.as_slice());
 }
 

@@ -7,7 +7,7 @@ ghost use Rattle.scan_plans.specs.Best.{IsBest, IsBar};
 ghost use Rattle.scan_plans.specs.Window.{AreScored};
 
 use crate::scan::least_doc;
-use crate::window::{add_lists, doc_in, new_scores};
+use crate::window::{Block, add_lists, doc_in, new_scores};
 use crate::{NoMemory, TopK};
 use cursor_api::DocCursor;
 use std::alloc::Global;
@@ -37,8 +37,9 @@ pub fn top_exhaustive<C: DocCursor>(
     let mut top = TopK::new(alloc, k, n)?;
     let mut buffer = new_scores(alloc)?;
     let scores = buffer.as_mut_slice();
+    let mut block = Block::new();
     while let Some(first) = least_doc(cursors) {
-        let reached = add_lists(cursors, weights, first, scores);
+        let reached = add_lists(cursors, weights, first, scores, &mut block);
         offer_scored(&mut top, first, reached, scores);
     }
     top.into_list()

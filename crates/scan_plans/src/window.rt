@@ -1,16 +1,39 @@
-ghost use Rattle.std.specs.Prelude.{◌≡◌, ℕ, ◌+◌, ◌*◌, ◌^◌, ◌≤◌, ◌<◌, ◌||◌, false, map, length, sum, slice_index, slice_index_or, IfSome, IfNone, IfOk};
+ghost use Rattle.std.specs.Prelude.{◌≡◌, ℕ, ◌+◌, ◌-◌, ◌*◌, ◌^◌, ◌≤◌, ◌<◌, ◌||◌, true, false, map, length, sum, slice_index, IfOk};
 ghost use Rattle.std.specs.List.{All};
-ghost use Rattle.collection_model.specs.Collection.{freqs_of};
+ghost use Rattle.std.specs.List.Sorted.{IsStrictlyIncreasing};
+ghost use Rattle.collection_model.specs.Collection.{docs_of};
 ghost use Rattle.scan_plans.specs.Matches.{has_doc, freq_of_doc};
 ghost use Rattle.scan_plans.specs.Scan.{doc_at, StandsFrom};
-ghost use Rattle.scan_plans.specs.Window.{AreScored, AreMarked};
+ghost use Rattle.scan_plans.specs.Window.{AreGiven, AreInside, AreScored, AreMarked, is_marked};
 
 use crate::NoMemory;
 use cursor_api::DocCursor;
 use std::alloc::Global;
 
-// How many documents a window has.
-const SPAN: usize = 4096;
+// How many documents a window has that are scored: their scores take 64 KiB.
+const SPAN: usize = 8192;
+
+// How many words a window has whose documents are marked: it has 65,536 documents.
+const WORDS: usize = 1024;
+
+// How many postings are read at once.
+const BLOCK: usize = 128;
+
+/// Room for the postings that are read at once.
+#[derive(Drop)]
+pub(crate) struct Block {
+    docs: [u64; BLOCK],
+    freqs: [u64; BLOCK],
+}
+
+impl Block {
+    pub(crate) fn new() -> Block {
+        Block {
+            docs: [0; BLOCK],
+            freqs: [0; BLOCK],
+        }
+    }
+}
 
 /// Room for the scores of a window's documents, all 0.
 pub(crate) fn new_scores(alloc: Global) -> Result<Vec<u64>, NoMemory>
@@ -20,12 +43,13 @@ pub(crate) fn new_scores(alloc: Global) -> Result<Vec<u64>, NoMemory>
     Ok(vec![in alloc; 0; SPAN]?)
 }
 
-/// Room for the marks of a window's documents, all false.
-pub(crate) fn new_marks(alloc: Global) -> Result<Vec<bool>, NoMemory>
+/// Room for the marks of a window's documents, a bit for each, none set.
+pub(crate) fn new_marks(alloc: Global) -> Result<Vec<u64>, NoMemory>
     ensures some { IfOk result (λ marks. 0 < length marks.items) }
-    ensures clear { IfOk result (λ marks. All (λ m. m ≡ false) marks.items) }
+    ensures small { IfOk result (λ marks. length marks.items ≤ 1024) }
+    ensures clear { IfOk result (λ marks. All (λ w. w ≡ 0) marks.items) }
 {
-    Ok(vec![in alloc; false; SPAN]?)
+    Ok(vec![in alloc; 0; WORDS]?)
 }
 
 /// The document at a place of a window from `first` on.
@@ -36,31 +60,40 @@ pub(crate) fn doc_in(first: u32, at: usize) -> u32
     first + at as u32
 }
 
-// The place in a window of `count` documents from `first` on at which a cursor stands, None where it stands behind the window. It
-// stands at no document before it.
-fn place_in<C: DocCursor>(cursor: &C, first: u32, count: usize) -> Option<usize>
-    requires from { (d : ℕ) → doc_at (C.list cursor.now) (C.place cursor.now) ≡ Some d → first ≤ d }
-    ensures inside { IfSome result (λ at. (at < count) × (doc_at (C.list cursor.now) (C.place cursor.now) ≡ Some (first + at))) }
-    ensures behind { IfNone result ((d : ℕ) → doc_at (C.list cursor.now) (C.place cursor.now) ≡ Some d → first + count ≤ d) }
+// Whether a cursor stands at a document below an end.
+fn stands_below<C: DocCursor>(cursor: &C, end: u64) -> bool
+    ensures below { result ≡ true → (C.place cursor.now < length (C.list cursor.now)) × (slice_index (docs_of (C.list cursor.now)) (C.place cursor.now) < end) }
+    ensures behind { result ≡ false → (d : ℕ) → doc_at (C.list cursor.now) (C.place cursor.now) ≡ Some d → end ≤ d }
 {
-    let at = (cursor.doc()? - first) as usize;
-    if at < count { Some(at) } else { None }
+    match cursor.doc() {
+        Some(doc) => u64::from(doc) < end,
+        None => false,
+    }
 }
 
-// What a list adds to the score of the document at which its cursor stands.
-fn weighted_freq<C: DocCursor>(cursor: &mut C, weight: u32) -> u64
-    requires { C.place cursor.old < length (C.list cursor.old) }
-    ensures list { C.list cursor.new ≡ C.list cursor.old }
-    ensures place { C.place cursor.new ≡ C.place cursor.old }
-    ensures value { result ≡ weight * slice_index (freqs_of (C.list cursor.old)) (C.place cursor.old) }
-    ensures bound { result ≤ weight * 4294967295 }
+// Adds the frequencies of some postings, times their list's weight, to the scores of their documents in a window from `first` on.
+fn add_postings(docs: &[u64], freqs: &[u64], weight: u32, first: u32, scores: &mut [u64])
+    requires each { length docs.now ≤ length freqs.now }
+    requires rising { IsStrictlyIncreasing docs.now }
+    requires inside { AreInside first (length scores.old) docs.now }
+    requires room { (j : ℕ) → j < length docs.now → slice_index scores.old (slice_index docs.now j - first) + weight * slice_index freqs.now j < 2 ^ 64 }
+    ensures count { length scores.new ≡ length scores.old }
+    ensures given { AreGiven ◌+◌ first docs.now (λ j. weight * slice_index freqs.now j) 0 (length docs.now) (slice_index scores.old) (slice_index scores.new) }
 {
-    u64::from(weight) * u64::from(cursor.freq())
+    for j in 0..docs.len() {
+        scores[(docs[j] - u64::from(first)) as usize] += u64::from(weight) * freqs[j];
+    }
 }
 
 // Adds what a list gives the documents of a window from `first` on, its weight times their frequencies, and moves its cursor behind
-// the window. It tells how many of the window's places it reached.
-fn add_list<C: DocCursor>(cursor: &mut C, weight: u32, first: u32, scores: &mut [u64]) -> usize
+// the window, block by block. It tells how many of the window's places it reached.
+fn add_list<C: DocCursor>(
+    cursor: &mut C,
+    weight: u32,
+    first: u32,
+    scores: &mut [u64],
+    block: &mut Block,
+) -> usize
     requires stand { StandsFrom first (C.list cursor.old) (C.place cursor.old) }
     requires room { All (λ s. s + weight * 4294967295 < 2 ^ 64) scores.old }
     ensures list { C.list cursor.new ≡ C.list cursor.old }
@@ -71,12 +104,12 @@ fn add_list<C: DocCursor>(cursor: &mut C, weight: u32, first: u32, scores: &mut 
     ensures within { result ≤ length scores.old }
     ensures behind { (k : ℕ) → result ≤ k → k < length scores.old → slice_index scores.new k ≡ slice_index scores.old k }
 {
+    let end = u64::from(first) + scores.len() as u64;
     let mut reached = 0;
-    while let Some(at) = place_in(cursor, first, scores.len()) {
-        let added = weighted_freq(cursor, weight);
-        scores[at] += added;
-        reached = at + 1;
-        cursor.advance();
+    while stands_below(cursor, end) {
+        let count = cursor.postings_below(end, &mut block.docs, &mut block.freqs);
+        add_postings(&block.docs[..count], &block.freqs, weight, first, scores);
+        reached = (block.docs[count - 1] - u64::from(first)) as usize + 1;
     }
     reached
 }
@@ -88,6 +121,7 @@ pub(crate) fn add_lists<C: DocCursor>(
     weights: &[u32],
     first: u32,
     scores: &mut [u64],
+    block: &mut Block,
 ) -> usize
     requires stand { All (λ c. StandsFrom first (C.list c) (C.place c)) cursors.old }
     requires each { length weights.now ≡ length cursors.old }
@@ -104,46 +138,72 @@ pub(crate) fn add_lists<C: DocCursor>(
 {
     let mut reached = 0;
     for i in 0..cursors.len() {
-        reached = add_list(&mut cursors[i], weights[i], first, scores).max(reached);
+        reached = add_list(&mut cursors[i], weights[i], first, scores, block).max(reached);
     }
     reached
 }
 
-// Marks the documents of a list in a window from `first` on, and moves its cursor behind the window. It tells how many of the
-// window's places it reached.
-fn mark_list<C: DocCursor>(cursor: &mut C, first: u32, marks: &mut [bool]) -> usize
-    requires stand { StandsFrom first (C.list cursor.old) (C.place cursor.old) }
-    ensures list { C.list cursor.new ≡ C.list cursor.old }
-    ensures stand { StandsFrom (first + length marks.old) (C.list cursor.new) (C.place cursor.new) }
+// Marks some documents of a window from `first` on.
+fn mark_docs(docs: &[u64], first: u32, marks: &mut [u64])
+    requires rising { IsStrictlyIncreasing docs.now }
+    requires inside { AreInside first (64 * length marks.old) docs.now }
     ensures count { length marks.new ≡ length marks.old }
-    ensures marks { (k : ℕ) → k < length marks.old → slice_index_or marks.new k false ≡ (slice_index_or marks.old k false || has_doc (first + k) (C.list cursor.old)) }
-    ensures within { result ≤ length marks.old }
-    ensures behind { (k : ℕ) → result ≤ k → k < length marks.old → slice_index_or marks.new k false ≡ slice_index_or marks.old k false }
+    ensures given { AreGiven ◌||◌ first docs.now (λ _. true) 0 (length docs.now) (is_marked marks.old) (is_marked marks.new) }
 {
+    for j in 0..docs.len() {
+        let at = (docs[j] - u64::from(first)) as usize;
+        marks[at / 64] |= 1 << (at % 64);
+    }
+}
+
+// Marks the documents of a list in a window from `first` on, and moves its cursor behind the window, block by block. It tells how
+// many of the window's places it reached.
+fn mark_list<C: DocCursor>(
+    cursor: &mut C,
+    first: u32,
+    marks: &mut [u64],
+    block: &mut Block,
+) -> usize
+    requires stand { StandsFrom first (C.list cursor.old) (C.place cursor.old) }
+    requires small { length marks.old ≤ 1024 }
+    ensures list { C.list cursor.new ≡ C.list cursor.old }
+    ensures stand { StandsFrom (first + 64 * length marks.old) (C.list cursor.new) (C.place cursor.new) }
+    ensures count { length marks.new ≡ length marks.old }
+    ensures marks { (k : ℕ) → k < 64 * length marks.old → is_marked marks.new k ≡ (is_marked marks.old k || has_doc (first + k) (C.list cursor.old)) }
+    ensures within { result ≤ 64 * length marks.old }
+    ensures behind { (k : ℕ) → result ≤ k → k < 64 * length marks.old → is_marked marks.new k ≡ is_marked marks.old k }
+{
+    let end = u64::from(first) + 64 * marks.len() as u64;
     let mut reached = 0;
-    while let Some(at) = place_in(cursor, first, marks.len()) {
-        marks[at] = true;
-        reached = at + 1;
-        cursor.advance();
+    while stands_below(cursor, end) {
+        let count = cursor.docs_below(end, &mut block.docs);
+        mark_docs(&block.docs[..count], first, marks);
+        reached = (block.docs[count - 1] - u64::from(first)) as usize + 1;
     }
     reached
 }
 
 /// Marks the documents of a window from `first` on that any of the lists has, and moves the cursors behind it. It tells how many of
 /// the window's places were reached: from there on none is marked.
-pub(crate) fn mark_lists<C: DocCursor>(cursors: &mut [C], first: u32, marks: &mut [bool]) -> usize
+pub(crate) fn mark_lists<C: DocCursor>(
+    cursors: &mut [C],
+    first: u32,
+    marks: &mut [u64],
+    block: &mut Block,
+) -> usize
     requires stand { All (λ c. StandsFrom first (C.list c) (C.place c)) cursors.old }
-    requires clear { All (λ m. m ≡ false) marks.old }
+    requires small { length marks.old ≤ 1024 }
+    requires clear { All (λ w. w ≡ 0) marks.old }
     ensures lists { map C.list cursors.new ≡ map C.list cursors.old }
-    ensures stand { All (λ c. StandsFrom (first + length marks.old) (C.list c) (C.place c)) cursors.new }
+    ensures stand { All (λ c. StandsFrom (first + 64 * length marks.old) (C.list c) (C.place c)) cursors.new }
     ensures count { length marks.new ≡ length marks.old }
     ensures marks { AreMarked (map C.list cursors.old) first marks.new }
-    ensures within { result ≤ length marks.old }
-    ensures behind { (k : ℕ) → result ≤ k → k < length marks.old → slice_index_or marks.new k false ≡ false }
+    ensures within { result ≤ 64 * length marks.old }
+    ensures behind { (k : ℕ) → result ≤ k → k < 64 * length marks.old → is_marked marks.new k ≡ false }
 {
     let mut reached = 0;
     for cursor in cursors.iter_mut() {
-        reached = mark_list(cursor, first, marks).max(reached);
+        reached = mark_list(cursor, first, marks, block).max(reached);
     }
     reached
 }

@@ -1,48 +1,64 @@
-use Rattle.std.proofs.Common.{◌≡◌, sym, ap, ◌∙◌, subst, ℕ, ◌+◌, ◌<◌, false, List, [], ◌∷◌, ◌++◌, Bool, length, get_or, arith}
-use Rattle.scan_plans.proofs.Windows.{IsAppended, appended-none, appended-more, appended-same, appended-all, cleared-none, cleared-more, cleared-all, IsCleared}
+use Rattle.std.proofs.Common.{◌≡◌, sym, ap, ◌∙◌, subst, ℕ, ◌+◌, ◌*◌, ◌<◌, List, length, get_or, arith}
+use Rattle.std.specs.Int.{bit_at}
+use Rattle.std.proofs.lemmas.Bool.{eq-eqb}
+use Rattle.scan_plans.proofs.Marks.{IsTaken, marked-at, word-unmarked, appended-none, appended-more, appended-all}
+use Rattle.scan_plans.proofs.Windows.{cleared-none, cleared-more, cleared-all}
 use Rattle.scan_plans.proofs.docs.append_marked.Goals as goal
-use Rattle.scan_plans.proofs.docs.append_marked.Goals.{then-marked+in_ok-push, else-marked}
 
-pub loop-at-init : goal.loop-at-init
-loop-at-init c = record {
+pub loop-i-init : goal.loop-i-init
+loop-i-init c = record {
   appended = appended-none c.args.first c.args.marks.now c.args.docs.now.items;
-  cleared = cleared-none false c.args.marks.now;
+  cleared = cleared-none 0 c.args.marks.now;
+  fits = λ k. let fits = c.type_inv.marks k in omega arith;
 }
 
-pub doc_in-doc-requires : goal.doc_in-doc-requires
-doc_in-doc-requires c =
-    let within = c.requires.within in
-    let read = c.loop-at.invariant.cleared.rest c.loop-at.at (omega arith) in
-    c.requires.fit c.loop-at.at (omega arith) (sym read ∙ c.if-marked.true)
+pub append_word-requires : goal.append_word-requires
+append_word-requires c = record {
+  fit = λ k lt one.
+      let i : ℕ = c.loop-i.i in
+      let within = c.requires.within in
+      let ceil = c.div_ceil-i-end.ensures in
+      let read = c.loop-i.invariant.cleared.rest i (omega arith) in
+      let bit : bit_at (get_or c.args.marks.now i 0) k ≡ 1 = ap (λ (w : ℕ). bit_at w k) (sym read) ∙ one in
+      let fit = c.requires.fit (64 * i + k) (omega arith) (marked-at c.args.marks.now i k lt ∙ eq-eqb _ 1 bit) in
+      let start = c.from.ensures in
+      omega arith;
+}
 
-pub loop-at-preserved : goal.loop-at-preserved
-loop-at-preserved c =
+pub loop-i-preserved : goal.loop-i-preserved
+loop-i-preserved c =
+    let i : ℕ = c.loop-i.i in
     let first : ℕ = c.args.first in
-    let at : ℕ = c.loop-at.at in
-    let marks : List Bool = c.args.marks.now in
-    let old : List ℕ = c.args.docs.now.items in
-    let so_far = c.loop-at.invariant in
-    let reached = c.requires.within in
-    let within : at < length marks = omega arith in
-    let read : get_or c.loop-at.marks at false ≡ get_or marks at false = so_far.cleared.rest at (omega arith) in
+    let marks : List ℕ = c.args.marks.now in
+    let old : List ℕ = c.loop-i.docs.items in
+    let new : List ℕ = c.append_word.new.docs.items in
+    let so_far = c.loop-i.invariant in
+    let within = c.requires.within in
+    let ceil = c.div_ceil-i-end.ensures in
+    let inside : i < length marks = omega arith in
+    let read = so_far.cleared.rest i (omega arith) in
+    let taken : IsTaken (first + 64 * i) 64 (get_or marks i 0) old new =
+    subst (λ (b : ℕ). IsTaken (b + 64 * i) 64 (get_or marks i 0) old new) c.from.ensures
+    (subst (λ (w : ℕ). IsTaken (c.from.result + 64 * i) 64 w old new) read (record { docs = c.in_ok-append_word.ensures.docs })) in
     record {
-      appended = elim c.if-marked.branch as (λ _. IsAppended first (at + 1) marks old c.if-marked.docs.items) [
-        | then-marked+in_ok-push w ↦ (let items : c.if-marked.docs.items ≡ w.push.new.self.items = λ i. (w.docs-is i).items in
-            appended-more first at marks old c.loop-at.docs.items c.if-marked.docs.items within (sym read ∙ w.if-marked.true) (items ∙ w.in_ok-push.ensures.items ∙ ap (λ (d : ℕ). c.loop-at.docs.items ++ d ∷ []) w.doc_in-doc.ensures) so_far.appended)
-        | else-marked w ↦ (let items : c.if-marked.docs.items ≡ c.loop-at.docs.items = λ i. (w.docs-is i).items in
-            subst (λ (l : List ℕ). IsAppended first (at + 1) marks old l) (sym items) (appended-same first at marks old c.loop-at.docs.items within (sym read ∙ w.if-marked.false) so_far.appended))
-      ];
-      cleared = cleared-more false marks at c.loop-at.marks within so_far.cleared;
+      appended = appended-more first i marks c.args.docs.now.items old new inside taken so_far.appended;
+      cleared = cleared-more 0 marks i c.loop-i.marks inside so_far.cleared;
+      fits = so_far.fits;
     }
 
 pub returns-clause-docs : goal.returns-clause-docs
-returns-clause-docs c = λ lists marked is.
-    let end : c.loop-at.at ≡ c.args.reached = omega arith in
-    appended-all c.args.first c.args.reached c.args.marks.now c.args.docs.now.items c.loop-at.docs.items c.requires.within c.requires.behind
-    (subst (λ (n : ℕ). IsAppended c.args.first n c.args.marks.now c.args.docs.now.items c.loop-at.docs.items) end c.loop-at.invariant.appended) lists marked is
+returns-clause-docs c =
+    let within = c.requires.within in
+    let ceil = c.div_ceil-i-end.ensures in
+    appended-all c.args.first (64 * c.loop-i.i) c.args.marks.now c.args.docs.now.items c.loop-i.docs.items (omega arith) (λ k from inside. c.requires.behind k (omega arith) inside) c.loop-i.invariant.appended
 
 pub returns-clause-clear : goal.returns-clause-clear
 returns-clause-clear c =
-    let end : c.loop-at.at ≡ c.args.reached = omega arith in
-    cleared-all false c.args.marks.now c.args.reached c.loop-at.marks c.requires.behind
-    (subst (λ (n : ℕ). IsCleared false n c.args.marks.now c.loop-at.marks) end c.loop-at.invariant.cleared)
+    let i : ℕ = c.loop-i.i in
+    let within = c.requires.within in
+    let ceil = c.div_ceil-i-end.ensures in
+    cleared-all 0 c.args.marks.now i c.loop-i.marks
+    (λ k from inside.
+    let fits = c.loop-i.invariant.fits k in
+    word-unmarked c.args.marks.now k (omega arith) (λ j lt. c.requires.behind (64 * k + j) (omega arith) (omega arith)))
+    c.loop-i.invariant.cleared

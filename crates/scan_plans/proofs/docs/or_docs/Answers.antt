@@ -1,4 +1,4 @@
-use Rattle.std.proofs.Common.{◌≡◌, refl, sym, ap, ◌∙◌, subst, ℕ, ◌+◌, true, false, List, length, map, arith}
+use Rattle.std.proofs.Common.{◌≡◌, refl, sym, ap, ◌∙◌, subst, ℕ, ◌+◌, ◌*◌, true, List, length, map, arith}
 use Rattle.std.specs.List.{All, list_any}
 use Rattle.collection_model.specs.Collection.{Posting}
 use Rattle.scan_plans.specs.Matches.{AreBelow, has_doc, in_any}
@@ -15,7 +15,8 @@ loop-first-init g c = record {
   stand = starts-stand g.C.DocCursor.list g.C.DocCursor.place c.args.cursors.now c.requires.at_start;
   docs = c.new-docs.ensures.items;
   some = let same = ap length c.as_mut_slice-marks.ensures.value in let some = c.in_ok-buffer.ensures.some in omega arith;
-  clear = subst (All (λ m. m ≡ false)) (sym c.as_mut_slice-marks.ensures.value) c.in_ok-buffer.ensures.clear;
+  small = let same = ap length c.as_mut_slice-marks.ensures.value in let small = c.in_ok-buffer.ensures.small in omega arith;
+  clear = subst (All (λ w. w ≡ 0)) (sym c.as_mut_slice-marks.ensures.value) c.in_ok-buffer.ensures.clear;
 }
 
 pub mark_lists-reached-requires-clause-stand : goal.mark_lists-reached-requires-clause-stand
@@ -27,6 +28,7 @@ pub append_marked-requires : goal.append_marked-requires
 append_marked-requires g c =
     let lists : List (List Posting) = map g.C.DocCursor.list c.loop-first.cursors in
     record {
+      small = let small = c.loop-first.invariant.small in let count = c.mark_lists-reached.ensures.count in omega arith;
       within = let count = c.mark_lists-reached.ensures.count in let within = c.mark_lists-reached.ensures.within in omega arith;
       behind = λ k from inside. let count = c.mark_lists-reached.ensures.count in c.mark_lists-reached.ensures.behind k from (omega arith);
       fit = λ k within is_marked.
@@ -39,7 +41,7 @@ pub loop-first-smaller : goal.loop-first-smaller
 loop-first-smaller g c =
     let next = next-doc g.C.DocCursor.list g.C.DocCursor.place g.met.C.DocCursor.well_formed c.loop-first.cursors c.loop-first.invariant.low c.in-Some.first c.loop-first.invariant.stand (sym c.least_doc.ensures ∙ c.in-Some.is) in
     let some = c.loop-first.invariant.some in
-    passing-leaves-less g.C.DocCursor.list g.C.DocCursor.place g.met.C.DocCursor.well_formed c.in-Some.first (c.in-Some.first + length c.loop-first.marks) c.loop-first.cursors c.mark_lists-reached.new.cursors (omega arith) c.mark_lists-reached.ensures.lists next.stand c.mark_lists-reached.ensures.stand next.at
+    passing-leaves-less g.C.DocCursor.list g.C.DocCursor.place g.met.C.DocCursor.well_formed c.in-Some.first (c.in-Some.first + 64 * length c.loop-first.marks) c.loop-first.cursors c.mark_lists-reached.new.cursors (omega arith) c.mark_lists-reached.ensures.lists next.stand c.mark_lists-reached.ensures.stand next.at
 
 pub loop-first-preserved : goal.loop-first-preserved
 loop-first-preserved g c =
@@ -52,14 +54,16 @@ loop-first-preserved g c =
     let skipped : in_any low given ≡ in_any first given = subst (λ (ls : List (List Posting)). in_any low ls ≡ in_any first ls) same next.skipped in
     let marked : AreMarked given first c.mark_lists-reached.new.marks = subst (λ (ls : List (List Posting)). AreMarked ls first c.mark_lists-reached.new.marks) same c.mark_lists-reached.ensures.marks in
     let some = c.loop-first.invariant.some in
+    let small = c.loop-first.invariant.small in
     let count = c.mark_lists-reached.ensures.count in
     let kept = c.append_marked.ensures.count in
     record {
-      low = first + length c.mark_lists-reached.new.marks;
+      low = first + 64 * length c.mark_lists-reached.new.marks;
       lists = c.mark_lists-reached.ensures.lists ∙ same;
-      stand = subst (λ (n : ℕ). All (λ x. StandsFrom (first + n) (g.C.DocCursor.list x) (g.C.DocCursor.place x)) c.mark_lists-reached.new.cursors) (sym count) c.mark_lists-reached.ensures.stand;
+      stand = subst (λ (n : ℕ). All (λ x. StandsFrom (first + 64 * n) (g.C.DocCursor.list x) (g.C.DocCursor.place x)) c.mark_lists-reached.new.cursors) (sym count) c.mark_lists-reached.ensures.stand;
       docs = c.in_ok-append_marked.ensures.docs given marked (c.loop-first.invariant.docs ∙ skipped);
       some = omega arith;
+      small = omega arith;
       clear = c.in_ok-append_marked.ensures.clear;
     }
 

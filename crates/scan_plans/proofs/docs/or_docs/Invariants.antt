@@ -1,4 +1,4 @@
-use Rattle.std.proofs.Common.{◌≡◌, ℕ, ◌-◌, ◌<◌, false, map, length}
+use Rattle.std.proofs.Common.{◌≡◌, ℕ, ◌-◌, ◌<◌, ◌≤◌, map, length}
 use Rattle.std.specs.List.{All, sum_by}
 use Rattle.scan_plans.specs.Matches.{in_any}
 use Rattle.scan_plans.specs.Scan.{StandsFrom}
@@ -11,7 +11,8 @@ invariant-loop-first g l = record {
   stand : All (λ c. StandsFrom low (g.C.DocCursor.list c) (g.C.DocCursor.place c)) l.cursors;
   docs : l.docs.items ≡ in_any low (map g.C.DocCursor.list l.initial.cursors);
   some : 0 < length l.marks;
-  clear : All (λ m. m ≡ false) l.marks;
+  small : length l.marks ≤ 1024;
+  clear : All (λ w. w ≡ 0) l.marks;
 }
 
 abbrev pub decreases-loop-first : goal.decreases-loop-first

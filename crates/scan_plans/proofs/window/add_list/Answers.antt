@@ -1,128 +1,105 @@
-use Rattle.std.proofs.Common.{◌≡◌, refl, sym, ap, ◌∙◌, ℕ, ◌+◌, ◌*◌, ◌<◌, List, length, get_or, arith}
-use Rattle.collection_model.specs.Collection.{Posting}
+use Rattle.std.proofs.Common.{◌≡◌, refl, sym, ap, ◌∙◌, subst, ℕ, ◌+◌, ◌*◌, ◌<◌, ◌≤◌, List, length, get_or, slice_index, arith}
+use Rattle.collection_model.specs.Collection.{Posting, docs_of, freqs_of}
+use Rattle.cursor_api.specs.NextGeq.{IsCursorAt}
 use Rattle.scan_plans.specs.Matches.{freq_of_doc}
-use Rattle.scan_plans.proofs.Postings.{doc_at-some}
-use Rattle.scan_plans.proofs.Steps.{next-is-later}
-use Rattle.scan_plans.proofs.Windows.{plus-none, reached, no-freq, stands-behind, moved-stand, given-none, given-more, given-all, most-more}
+use Rattle.scan_plans.specs.Scan.{StandsFrom}
+use Rattle.scan_plans.specs.Window.{AreGiven}
+use Rattle.scan_plans.proofs.Postings.{has-no-freq}
+use Rattle.scan_plans.proofs.Given.{plus-none, doc-there, most-freq, given-none, given-whole, given-behind, block-some, step-given, step-below, step-within, step-room, next-is, end-is}
 use Rattle.scan_plans.proofs.window.add_list.Goals as goal
 
-pub loop-at-init : goal.loop-at-init
-loop-at-init g c = record {
-  low = c.args.first;
-  is = omega arith;
-  to = omega arith;
+-- what the scores of a window were given once the cursor is behind it
+given-scores : (list : List Posting) (weight first from place : ℕ) (old now : List ℕ) → IsCursorAt list place → StandsFrom first list from → StandsFrom (first + length old) list place → AreGiven ◌+◌ first (docs_of list) (λ i. weight * slice_index (freqs_of list) i) from place (slice_index old) (slice_index now)
+    → (k : ℕ) → k < length old → get_or now k 0 ≡ get_or old k 0 + weight * freq_of_doc (first + k) list
+given-scores list weight first from place old now good before after given =
+    let none : weight * 0 ≡ 0 = omega arith in
+    given-whole ◌+◌ first 0 plus-none list (λ i. weight * slice_index (freqs_of list) i) (λ d. weight * freq_of_doc d list) from place (length old) (slice_index old) (slice_index now) good.within before after
+    (λ i within. ap (λ (f : ℕ). weight * f) (doc-there list i good.well_formed within).freq)
+    (λ d nowhere. ap (λ (f : ℕ). weight * f) (has-no-freq list d nowhere) ∙ none) given
+
+pub loop-reached-init : goal.loop-reached-init
+loop-reached-init g c = record {
   list = refl;
-  stand = c.requires.stand;
-  given = given-none ◌+◌ 0 plus-none (λ d. c.args.weight * freq_of_doc d (g.C.DocCursor.list c.args.cursor.now)) c.args.first c.args.scores.now;
-  most = λ k within. omega arith;
+  from = omega arith;
+  count = refl;
+  given = given-none ◌+◌ c.args.first (docs_of (g.C.DocCursor.list c.args.cursor.now)) (λ i. c.args.weight * slice_index (freqs_of (g.C.DocCursor.list c.args.cursor.now)) i) (g.C.DocCursor.place c.args.cursor.now) (slice_index c.args.scores.now);
+  within = omega arith;
+  below = λ i from lt. absurd (omega arith);
 }
 
-pub place_in-requires : goal.place_in-requires
-place_in-requires g c =
-    let so_far = c.loop-at.invariant in
-    let start = so_far.is in
-    record { from = λ d is. let later = next-is-later (g.C.DocCursor.list c.loop-at.cursor) so_far.low (g.C.DocCursor.place c.loop-at.cursor) d so_far.stand is in omega arith }
-
-pub weighted_freq-added-requires : goal.weighted_freq-added-requires
-weighted_freq-added-requires g c = (doc_at-some (g.C.DocCursor.list c.loop-at.cursor) (g.C.DocCursor.place c.loop-at.cursor) (c.args.first + c.in-Some.at) c.in-Some.ensures.inside.1).0
-
-pub overflow_add-scores : goal.overflow_add-scores
-overflow_add-scores g c =
-    let so_far = c.loop-at.invariant in
-    let count = so_far.given.count in
-    let inside = c.in-Some.ensures.inside in
-    let before = inside.0 in
-    let within : c.in-Some.at < length c.args.scores.now = omega arith in
-    let from = next-is-later (g.C.DocCursor.list c.loop-at.cursor) so_far.low (g.C.DocCursor.place c.loop-at.cursor) (c.args.first + c.in-Some.at) so_far.stand inside.1 in
-    let same = so_far.given.rest c.in-Some.at within from in
-    let room = c.requires.room c.in-Some.at 0 within in
-    let bound = c.weighted_freq-added.ensures.bound in
-    omega arith
-
-pub advance-requires : goal.advance-requires
-advance-requires g c =
-    let within = (doc_at-some (g.C.DocCursor.list c.loop-at.cursor) (g.C.DocCursor.place c.loop-at.cursor) (c.args.first + c.in-Some.at) c.in-Some.ensures.inside.1).0 in
-    let count = ap length c.weighted_freq-added.ensures.list in
-    let place = c.weighted_freq-added.ensures.place in
-    omega arith
-
-pub loop-at-smaller : goal.loop-at-smaller
-loop-at-smaller g c =
-    let here = doc_at-some (g.C.DocCursor.list c.loop-at.cursor) (g.C.DocCursor.place c.loop-at.cursor) (c.args.first + c.in-Some.at) c.in-Some.ensures.inside.1 in
-    let within = here.0 in
-    let place = c.advance.ensures.place in
-    let read = c.weighted_freq-added.ensures.place in
-    let count = ap length (c.advance.ensures.list ∙ c.weighted_freq-added.ensures.list) in
-    omega arith
-
-pub loop-at-preserved : goal.loop-at-preserved
-loop-at-preserved g c =
-    let cursor = c.loop-at.cursor in
-    let so_far = c.loop-at.invariant in
+pub add_postings-requires-clause-room : goal.add_postings-requires-clause-room
+add_postings-requires-clause-room g c =
+    let so_far = c.loop-reached.invariant in
     let list : List Posting = g.C.DocCursor.list c.args.cursor.now in
-    let place : ℕ = g.C.DocCursor.place cursor in
-    let at : ℕ = c.in-Some.at in
-    let doc : ℕ = c.args.first + at in
-    let before : List ℕ = c.args.scores.now in
-    let now : List ℕ = c.loop-at.scores in
-    let count = so_far.given.count in
-    let inside = c.in-Some.ensures.inside.0 in
-    let within : at < length before = omega arith in
-    let good = g.met.C.DocCursor.well_formed cursor in
-    let here = reached list (g.C.DocCursor.list cursor) so_far.list so_far.low place good so_far.stand doc c.in-Some.ensures.inside.1 in
-    let start = so_far.is in
-    let adds : c.weighted_freq-added.result ≡ c.args.weight * freq_of_doc doc list = c.weighted_freq-added.ensures.value ∙ ap (λ (n : ℕ). c.args.weight * n) (sym here.freq) in
-    let bound = c.weighted_freq-added.ensures.bound in
-    let same = so_far.given.rest at within here.from in
-    let kept = c.advance.ensures.list ∙ c.weighted_freq-added.ensures.list in
-    let later = c.advance.ensures.place ∙ ap (λ (n : ℕ). n + 1) c.weighted_freq-added.ensures.place in
-    record {
-      low = doc + 1;
-      is = omega arith;
-      to = omega arith;
-      list = kept ∙ so_far.list;
-      stand = moved-stand (g.C.DocCursor.list c.advance.new.self) (g.C.DocCursor.list cursor) (doc + 1) (place + 1) (g.C.DocCursor.place c.advance.new.self) kept later here.after;
-      given = given-more ◌+◌ 0 plus-none (λ d. c.args.weight * freq_of_doc d list) c.args.first so_far.low at before now (get_or now at 0 + c.weighted_freq-added.result) within here.from
-          (no-freq list (g.C.DocCursor.list cursor) so_far.list so_far.low place good so_far.stand c.args.weight doc here.least)
-          (ap (λ (n : ℕ). get_or now at 0 + n) adds) so_far.given;
-      most = most-more before now at (get_or now at 0 + c.weighted_freq-added.result) (c.args.weight * 4294967295) count within (omega arith) so_far.most;
-    }
+    let place : ℕ = g.C.DocCursor.place c.loop-reached.cursor in
+    let block : List ℕ = c.postings_below-count.new.docs in
+    let count : ℕ = c.postings_below-count.result in
+    let good = subst (λ (l : List Posting). IsCursorAt l place) so_far.list (g.met.C.DocCursor.well_formed c.loop-reached.cursor) in
+    let next = next-is list (g.C.DocCursor.list c.loop-reached.cursor) c.args.first c.from.result (length c.args.scores.now) place block count so_far.list c.from.ensures c.postings_below-count.ensures.docs in
+    let start = so_far.from in
+    step-room list good.well_formed c.args.first place (length c.args.scores.now) (λ i f within. c.requires.stand.left i (omega arith) within) block count next c.args.weight (g.C.DocCursor.place c.args.cursor.now) (λ i. c.args.weight * slice_index (freqs_of list) i) c.args.scores.now c.loop-reached.scores c.postings_below-count.new.freqs refl so_far.given c.requires.room
+    (λ j lt. c.postings_below-count.ensures.freqs j lt ∙ ap (λ (l : List Posting). get_or (freqs_of l) (place + j) 0) so_far.list)
 
-pub returns-clause-list : goal.returns-clause-list
-returns-clause-list g c = c.loop-at.invariant.list
+pub loop-reached-preserved : goal.loop-reached-preserved
+loop-reached-preserved g c =
+    let so_far = c.loop-reached.invariant in
+    let list : List Posting = g.C.DocCursor.list c.args.cursor.now in
+    let place : ℕ = g.C.DocCursor.place c.loop-reached.cursor in
+    let block : List ℕ = c.postings_below-count.new.docs in
+    let count : ℕ = c.postings_below-count.result in
+    let good = subst (λ (l : List Posting). IsCursorAt l place) so_far.list (g.met.C.DocCursor.well_formed c.loop-reached.cursor) in
+    let next = next-is list (g.C.DocCursor.list c.loop-reached.cursor) c.args.first c.from.result (length c.args.scores.now) place block count so_far.list c.from.ensures c.postings_below-count.ensures.docs in
+    let start = so_far.from in
+    let above : (i : ℕ) → place ≤ i → i < length list → c.args.first ≤ get_or (docs_of list) i 0 = λ i f within. c.requires.stand.left i (omega arith) within in
+    let here = c.loop-reached-test.ensures.below refl in
+    let at = here.0 in
+    let less = here.1 in
+    let end = c.from.ensures in
+    let long = ap length so_far.list in
+    let read = ap (λ (l : List Posting). get_or (docs_of l) place 0) so_far.list in
+    let room = c.postings_below-count.ensures.docs_room in
+    let some = block-some list good.well_formed c.args.first place (length c.args.scores.now) above block count next (omega arith) (omega arith) (omega arith) in
+    let moved = c.postings_below-count.ensures.place in
+    let later = c.from-in-loop-reached.ensures in
+    record {
+      list = c.postings_below-count.ensures.list ∙ so_far.list;
+      from = omega arith;
+      count = c.add_postings.ensures.count ∙ so_far.count;
+      given = subst (λ (to : ℕ). AreGiven ◌+◌ c.args.first (docs_of list) (λ i. c.args.weight * slice_index (freqs_of list) i) (g.C.DocCursor.place c.args.cursor.now) to (slice_index c.args.scores.now) (slice_index c.add_postings.new.scores)) (sym moved)
+          (step-given list good.well_formed c.args.first place (length c.args.scores.now) above block count next ◌+◌ (λ i. c.args.weight * slice_index (freqs_of list) i) (λ j. c.args.weight * slice_index c.postings_below-count.new.freqs j) (g.C.DocCursor.place c.args.cursor.now) (slice_index c.args.scores.now) (slice_index c.loop-reached.scores) (slice_index c.add_postings.new.scores) start c.requires.stand.left
+          (λ j lt. ap (λ (f : ℕ). c.args.weight * f) (c.postings_below-count.ensures.freqs j lt ∙ ap (λ (l : List Posting). get_or (freqs_of l) (place + j) 0) so_far.list)) so_far.given c.add_postings.ensures.given);
+      within = (let w = step-within list good.well_formed c.args.first place (length c.args.scores.now) above block count next some in omega arith);
+      below = λ i f lt. (let b = step-below list good.well_formed c.args.first place (length c.args.scores.now) above block count next some i (omega arith) in omega arith);
+    }
 
 pub returns-clause-stand : goal.returns-clause-stand
 returns-clause-stand g c =
-    let so_far = c.loop-at.invariant in
-    let count = so_far.given.count in
-    let behind = c.in_default.ensures.behind in
-    stands-behind (g.C.DocCursor.list c.args.cursor.now) (g.C.DocCursor.list c.loop-at.cursor) so_far.list so_far.low (g.C.DocCursor.place c.loop-at.cursor) (g.met.C.DocCursor.well_formed c.loop-at.cursor) so_far.stand (c.args.first + length c.args.scores.now) so_far.to (λ x is. let h = behind x is in omega arith)
+    let so_far = c.loop-reached.invariant in
+    let list : List Posting = g.C.DocCursor.list c.args.cursor.now in
+    let place : ℕ = g.C.DocCursor.place c.loop-reached.cursor in
+    let end = end-is list (g.C.DocCursor.list c.loop-reached.cursor) c.args.first c.from.result (length c.args.scores.now) (g.C.DocCursor.place c.args.cursor.now) place c.loop-reached.reached so_far.list c.from.ensures (g.met.C.DocCursor.well_formed c.loop-reached.cursor) c.requires.stand so_far.within so_far.below (c.loop-reached-test.ensures.behind refl) in
+    subst (λ (l : List Posting). StandsFrom (c.args.first + length c.args.scores.now) l place) (sym so_far.list) end.1
 
 pub returns-clause-scores : goal.returns-clause-scores
 returns-clause-scores g c =
-    let so_far = c.loop-at.invariant in
-    let count = so_far.given.count in
-    let behind = c.in_default.ensures.behind in
+    let so_far = c.loop-reached.invariant in
     let list : List Posting = g.C.DocCursor.list c.args.cursor.now in
-    let end : ℕ = c.args.first + length c.args.scores.now in
-    given-all ◌+◌ 0 plus-none (λ d. c.args.weight * freq_of_doc d list) c.args.first so_far.low c.args.scores.now c.loop-at.scores so_far.given
-    (no-freq list (g.C.DocCursor.list c.loop-at.cursor) so_far.list so_far.low (g.C.DocCursor.place c.loop-at.cursor) (g.met.C.DocCursor.well_formed c.loop-at.cursor) so_far.stand c.args.weight end (λ x is. let h = behind x is in omega arith))
-
-pub returns-clause-count : goal.returns-clause-count
-returns-clause-count g c = c.loop-at.invariant.given.count
+    let place : ℕ = g.C.DocCursor.place c.loop-reached.cursor in
+    let end = end-is list (g.C.DocCursor.list c.loop-reached.cursor) c.args.first c.from.result (length c.args.scores.now) (g.C.DocCursor.place c.args.cursor.now) place c.loop-reached.reached so_far.list c.from.ensures (g.met.C.DocCursor.well_formed c.loop-reached.cursor) c.requires.stand so_far.within so_far.below (c.loop-reached-test.ensures.behind refl) in
+    given-scores list c.args.weight c.args.first (g.C.DocCursor.place c.args.cursor.now) place c.args.scores.now c.loop-reached.scores end.0 c.requires.stand end.1 so_far.given
 
 pub returns-clause-bound : goal.returns-clause-bound
-returns-clause-bound g c = c.loop-at.invariant.most
-
-pub returns-clause-within : goal.returns-clause-within
-returns-clause-within g c =
-    let so_far = c.loop-at.invariant in
-    let is = so_far.is in
-    let to = so_far.to in
+returns-clause-bound g c = λ k inside.
+    let so_far = c.loop-reached.invariant in
+    let list : List Posting = g.C.DocCursor.list c.args.cursor.now in
+    let place : ℕ = g.C.DocCursor.place c.loop-reached.cursor in
+    let end = end-is list (g.C.DocCursor.list c.loop-reached.cursor) c.args.first c.from.result (length c.args.scores.now) (g.C.DocCursor.place c.args.cursor.now) place c.loop-reached.reached so_far.list c.from.ensures (g.met.C.DocCursor.well_formed c.loop-reached.cursor) c.requires.stand so_far.within so_far.below (c.loop-reached-test.ensures.behind refl) in
+    let scored = given-scores list c.args.weight c.args.first (g.C.DocCursor.place c.args.cursor.now) place c.args.scores.now c.loop-reached.scores end.0 c.requires.stand end.1 so_far.given k inside in
+    let most = most-freq list c.args.weight (c.args.first + k) end.0.well_formed in
     omega arith
 
 pub returns-clause-behind : goal.returns-clause-behind
-returns-clause-behind g c = λ k behind within.
-    let so_far = c.loop-at.invariant in
-    let is = so_far.is in
-    so_far.given.rest k within (omega arith)
+returns-clause-behind g c = λ k reached inside.
+    let so_far = c.loop-reached.invariant in
+    let list : List Posting = g.C.DocCursor.list c.args.cursor.now in
+    given-behind ◌+◌ c.args.first (docs_of list) (λ i. c.args.weight * slice_index (freqs_of list) i) (g.C.DocCursor.place c.args.cursor.now) (g.C.DocCursor.place c.loop-reached.cursor) c.loop-reached.reached (slice_index c.args.scores.now) (slice_index c.loop-reached.scores) so_far.below so_far.given k reached

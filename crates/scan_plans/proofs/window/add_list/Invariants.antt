@@ -1,19 +1,17 @@
 use Rattle.std.proofs.Common.{◌≡◌, ℕ, ◌+◌, ◌-◌, ◌*◌, ◌<◌, ◌≤◌, length, slice_index}
-use Rattle.scan_plans.specs.Matches.{freq_of_doc}
-use Rattle.scan_plans.specs.Scan.{StandsFrom}
-use Rattle.scan_plans.proofs.Windows.{IsGiven}
+use Rattle.collection_model.specs.Collection.{docs_of, freqs_of}
+use Rattle.scan_plans.specs.Window.{AreGiven}
 use Rattle.scan_plans.proofs.window.add_list.Given as goal
 
-abbrev pub invariant-loop-at : goal.invariant-loop-at
-invariant-loop-at g l = record {
-  low : ℕ;
-  is : low ≡ l.first + l.reached;
-  to : low ≤ l.first + length l.initial.scores;
+abbrev pub invariant-loop-reached : goal.invariant-loop-reached
+invariant-loop-reached g l = record {
   list : g.C.DocCursor.list l.cursor ≡ g.C.DocCursor.list l.initial.cursor;
-  stand : StandsFrom low (g.C.DocCursor.list l.cursor) (g.C.DocCursor.place l.cursor);
-  given : IsGiven ◌+◌ 0 (λ d. l.weight * freq_of_doc d (g.C.DocCursor.list l.initial.cursor)) l.first low l.initial.scores l.scores;
-  most : (k : ℕ) → k < length l.initial.scores → slice_index l.scores k ≤ slice_index l.initial.scores k + l.weight * 4294967295;
+  from : g.C.DocCursor.place l.initial.cursor ≤ g.C.DocCursor.place l.cursor;
+  count : length l.scores ≡ length l.initial.scores;
+  given : AreGiven ◌+◌ l.first (docs_of (g.C.DocCursor.list l.initial.cursor)) (λ i. l.weight * slice_index (freqs_of (g.C.DocCursor.list l.initial.cursor)) i) (g.C.DocCursor.place l.initial.cursor) (g.C.DocCursor.place l.cursor) (slice_index l.initial.scores) (slice_index l.scores);
+  within : l.reached ≤ length l.initial.scores;
+  below : (i : ℕ) → g.C.DocCursor.place l.initial.cursor ≤ i → i < g.C.DocCursor.place l.cursor → slice_index (docs_of (g.C.DocCursor.list l.initial.cursor)) i < l.first + l.reached;
 }
 
-abbrev pub decreases-loop-at : goal.decreases-loop-at
-decreases-loop-at g l = length (g.C.DocCursor.list l.cursor) - g.C.DocCursor.place l.cursor
+abbrev pub decreases-loop-reached : goal.decreases-loop-reached
+decreases-loop-reached g l = length (g.C.DocCursor.list l.cursor) - g.C.DocCursor.place l.cursor

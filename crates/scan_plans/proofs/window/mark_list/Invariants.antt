@@ -1,18 +1,17 @@
-use Rattle.std.proofs.Common.{◌≡◌, ℕ, ◌+◌, ◌-◌, ◌≤◌, ◌||◌, false, length}
-use Rattle.scan_plans.specs.Matches.{has_doc}
-use Rattle.scan_plans.specs.Scan.{StandsFrom}
-use Rattle.scan_plans.proofs.Windows.{IsGiven}
+use Rattle.std.proofs.Common.{◌≡◌, ℕ, ◌+◌, ◌-◌, ◌*◌, ◌<◌, ◌≤◌, ◌||◌, true, length, slice_index}
+use Rattle.collection_model.specs.Collection.{docs_of}
+use Rattle.scan_plans.specs.Window.{AreGiven, is_marked}
 use Rattle.scan_plans.proofs.window.mark_list.Given as goal
 
-abbrev pub invariant-loop-at : goal.invariant-loop-at
-invariant-loop-at g l = record {
-  low : ℕ;
-  is : low ≡ l.first + l.reached;
-  to : low ≤ l.first + length l.initial.marks;
+abbrev pub invariant-loop-reached : goal.invariant-loop-reached
+invariant-loop-reached g l = record {
   list : g.C.DocCursor.list l.cursor ≡ g.C.DocCursor.list l.initial.cursor;
-  stand : StandsFrom low (g.C.DocCursor.list l.cursor) (g.C.DocCursor.place l.cursor);
-  given : IsGiven ◌||◌ false (λ d. has_doc d (g.C.DocCursor.list l.initial.cursor)) l.first low l.initial.marks l.marks;
+  from : g.C.DocCursor.place l.initial.cursor ≤ g.C.DocCursor.place l.cursor;
+  count : length l.marks ≡ length l.initial.marks;
+  given : AreGiven ◌||◌ l.first (docs_of (g.C.DocCursor.list l.initial.cursor)) (λ _. true) (g.C.DocCursor.place l.initial.cursor) (g.C.DocCursor.place l.cursor) (is_marked l.initial.marks) (is_marked l.marks);
+  within : l.reached ≤ 64 * length l.initial.marks;
+  below : (i : ℕ) → g.C.DocCursor.place l.initial.cursor ≤ i → i < g.C.DocCursor.place l.cursor → slice_index (docs_of (g.C.DocCursor.list l.initial.cursor)) i < l.first + l.reached;
 }
 
-abbrev pub decreases-loop-at : goal.decreases-loop-at
-decreases-loop-at g l = length (g.C.DocCursor.list l.cursor) - g.C.DocCursor.place l.cursor
+abbrev pub decreases-loop-reached : goal.decreases-loop-reached
+decreases-loop-reached g l = length (g.C.DocCursor.list l.cursor) - g.C.DocCursor.place l.cursor

@@ -1,4 +1,4 @@
-use Rattle.std.proofs.Common.{◌≡◌, refl, ap, ◌∙◌, subst, ℕ, ◌+◌, ◌<◌, false, List, length, get_or, map, max, arith}
+use Rattle.std.proofs.Common.{◌≡◌, refl, ap, ◌∙◌, subst, ℕ, ◌+◌, ◌*◌, ◌<◌, List, length, map, max, arith}
 use Rattle.std.specs.List.{list_any}
 use Rattle.std.proofs.lemmas.List.{length-map, take_all}
 use Rattle.std.proofs.lemmas.List.Elements.{AllWithin-more_set}
@@ -6,6 +6,8 @@ use Rattle.collection_model.specs.Collection.{Posting}
 use Rattle.scan_plans.specs.Matches.{has_doc}
 use Rattle.scan_plans.specs.Scan.{StandsFrom}
 use Rattle.scan_plans.proofs.Steps.{lists-set, rest-set}
+use Rattle.scan_plans.specs.Window.{is_marked}
+use Rattle.scan_plans.proofs.Marks.{unmarked}
 use Rattle.scan_plans.proofs.Windows.{any-step}
 use Rattle.scan_plans.proofs.window.mark_lists.Goals as goal
 
@@ -15,13 +17,13 @@ loop-cursor-init g c = record {
   done = λ k d from within. absurd (omega arith);
   rest = λ k d from within. c.requires.stand k d within;
   count = refl;
-  marked = λ k within. c.requires.clear k false within;
+  marked = unmarked c.args.marks.now c.requires.clear;
   within = omega arith;
-  behind = λ k from within. c.requires.clear k false within;
+  behind = λ k from within. unmarked c.args.marks.now c.requires.clear k within;
 }
 
-pub mark_list-requires : goal.mark_list-requires
-mark_list-requires g c = record { stand = c.loop-cursor.invariant.rest c.loop-cursor.cursor-index c.cursor-item.result (omega arith) (omega arith) }
+pub mark_list-requires-clause-stand : goal.mark_list-requires-clause-stand
+mark_list-requires-clause-stand g c = c.loop-cursor.invariant.rest c.loop-cursor.cursor-index c.cursor-item.result (omega arith) (omega arith)
 
 pub loop-cursor-preserved : goal.loop-cursor-preserved
 loop-cursor-preserved g c =
@@ -37,11 +39,11 @@ loop-cursor-preserved g c =
     let behind-new = c.mark_list.ensures.within in
     record {
       lists = lists-set g.C.DocCursor.list g.C.DocCursor.place cs i new item within c.mark_list.ensures.list ∙ so_far.lists;
-      done = AllWithin-more_set cs i new within (λ x. StandsFrom (c.args.first + length c.args.marks.now) (g.C.DocCursor.list x) (g.C.DocCursor.place x)) so_far.done
-          (subst (λ (n : ℕ). StandsFrom (c.args.first + n) (g.C.DocCursor.list new) (g.C.DocCursor.place new)) so_far.count c.mark_list.ensures.stand);
+      done = AllWithin-more_set cs i new within (λ x. StandsFrom (c.args.first + 64 * length c.args.marks.now) (g.C.DocCursor.list x) (g.C.DocCursor.place x)) so_far.done
+          (subst (λ (n : ℕ). StandsFrom (c.args.first + 64 * n) (g.C.DocCursor.list new) (g.C.DocCursor.place new)) so_far.count c.mark_list.ensures.stand);
       rest = rest-set g.C.DocCursor.list g.C.DocCursor.place (λ x. StandsFrom c.args.first (g.C.DocCursor.list x) (g.C.DocCursor.place x)) cs i new so_far.rest;
       count = c.mark_list.ensures.count ∙ so_far.count;
-      marked = λ k inside. any-step g.C.DocCursor.list (c.args.first + k) i cs (map g.C.DocCursor.list c.args.cursors.now) item (get_or c.loop-cursor.marks k false) (get_or c.mark_list.new.marks k false) so_far.lists within (so_far.marked k inside)
+      marked = λ k inside. any-step g.C.DocCursor.list (c.args.first + k) i cs (map g.C.DocCursor.list c.args.cursors.now) item (is_marked c.loop-cursor.marks k) (is_marked c.mark_list.new.marks k) so_far.lists within (so_far.marked k inside)
           (c.mark_list.ensures.marks k (omega arith));
       within = omega arith;
       behind = λ k from inside. c.mark_list.ensures.behind k (omega arith) (omega arith) ∙ so_far.behind k (omega arith) inside;

@@ -1,0 +1,5 @@
+use Rattle.std.proofs.Common.{◌≡◌, ℕ, ◌+◌, ◌<◌, slice_index}
+use Rattle.cursor_api.proofs.plain.PlainCursorDocCursor.postings_below.Given as goal
+
+abbrev pub invariant-loop-j : goal.invariant-loop-j
+invariant-loop-j l = (k : ℕ) → k < l.j → slice_index l.freqs k ≡ slice_index l.self.freqs.now (l.first + k)

@@ -1,0 +1,95 @@
+ghost use Rattle.std.specs.Prelude.{◌≡◌, ℕ, ◌≤◌, ◌<◌, ◌+◌, length, slice_index, Some};
+ghost use Rattle.collection_model.specs.NextBelow.{AreNextBelow};
+ghost use Rattle.two_level.specs.SequenceView.{SequencePlace};
+ghost use Rattle.postings.specs.Sums.{place_of, IsOver};
+
+use std::marker::Model;
+use two_level::{SeqCursor, SeqView};
+
+// The sums of a list's frequencies, and a place in them. No part of them is held to be read before one of them is asked.
+#[derive(Drop)]
+pub(crate) struct Sums<'a> {
+    view: SeqView<'a>,
+    cursor: Option<SeqCursor<'a>>,
+}
+
+impl<'a> Model for Sums<'a> {
+    ghost use Rattle.two_level.specs.SequenceView.{SequencePlace};
+    ghost use Rattle.postings.specs.Sums.{place_of, IsOver};
+
+    ghost Value = { SequencePlace };
+
+    ghost view = { λ s. record { sequence = s.view; place = place_of s.cursor } };
+
+    ghost invariant = { λ s. IsOver s.view s.cursor };
+}
+
+// Opens a cursor over the sequence where there is none yet.
+fn open<'a>(view: &SeqView<'a>, cursor: &mut Option<SeqCursor<'a>>)
+    requires over { IsOver view.now cursor.old }
+    ensures { (c : SequencePlace) × (cursor.new ≡ Some c) × (c.sequence ≡ view.now) × (c.place ≡ place_of cursor.old) }
+{
+    if cursor.is_none() {
+        *cursor = Some(view.cursor());
+    }
+}
+
+impl<'a> Sums<'a> {
+    // The sums at their start.
+    pub(crate) fn new(view: SeqView<'a>) -> Sums<'a>
+        ensures sequence { result.sequence ≡ view.entry }
+        ensures start { result.place ≡ 0 }
+    {
+        Sums { view, cursor: None }
+    }
+
+    // The place.
+    pub(crate) fn place(&self) -> u32
+        ensures { result ≡ self.now.place }
+    {
+        match &self.cursor {
+            Some(cursor) => cursor.place(),
+            None => 0,
+        }
+    }
+
+    // The value at the place.
+    pub(crate) fn value(&mut self) -> u64
+        requires within { self.old.place < length self.old.sequence.values }
+        ensures same { self.new ≡ self.old }
+        ensures value { result ≡ slice_index self.old.sequence.values self.old.place }
+    {
+        open(&self.view, &mut self.cursor);
+        match &self.cursor {
+            Some(cursor) => cursor.value(),
+            None => unreachable!(),
+        }
+    }
+
+    // Goes to place k, which may be the end.
+    pub(crate) fn move_to(&mut self, k: u32)
+        requires within { k ≤ length self.old.sequence.values }
+        ensures sequence { self.new.sequence ≡ self.old.sequence }
+        ensures place { self.new.place ≡ k }
+    {
+        open(&self.view, &mut self.cursor);
+        match &mut self.cursor {
+            Some(cursor) => cursor.move_to(k),
+            None => unreachable!(),
+        }
+    }
+
+    // Gives the values from the place on that are below x, as many as there are and have room, and goes behind them.
+    pub(crate) fn values_below(&mut self, x: u64, to: &mut [u64]) -> usize
+        ensures sequence { self.new.sequence ≡ self.old.sequence }
+        ensures place { self.new.place ≡ self.old.place + result }
+        ensures room { length to.new ≡ length to.old }
+        ensures values { AreNextBelow self.old.sequence.values self.old.place x to.new result }
+    {
+        open(&self.view, &mut self.cursor);
+        match &mut self.cursor {
+            Some(cursor) => cursor.values_below(x, to),
+            None => unreachable!(),
+        }
+    }
+}
