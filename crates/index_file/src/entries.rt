@@ -54,10 +54,10 @@ pub(crate) fn push_sizes(words: &mut Vec<u64>, sizes: &[u32]) -> Result<(), NoMe
     let (pairs, last) = sizes.as_chunks::<2>();
     for pair in pairs {
         let word = word_of_halves(u64::from(pair[0]), u64::from(pair[1]));
-        words.push(word).map_err(|_| NoMemory)?;
+        words.push(word)?;
     }
     if let Some(size) = last.first() {
-        words.push(u64::from(*size)).map_err(|_| NoMemory)?;
+        words.push(u64::from(*size))?;
     }
     Ok(())
 }

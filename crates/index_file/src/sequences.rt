@@ -64,19 +64,25 @@ pub(crate) fn known_at<'a>(
     SeqView::known(&words[p as usize..], parts, m, format)
 }
 
+// How many values are read at a time.
+const BLOCK: usize = 64;
+
 // The greatest step of a sequence.
 pub(crate) fn greatest_step(sums: &SeqView) -> u64
     requires below { All (λ s. s < 2 ^ widest_low) sums.now.values }
     ensures { result ≡ greatest (steps_from 0 sums.now.values) }
 {
     let mut cursor = sums.cursor();
+    let mut block = [0; BLOCK];
     let mut past = 0;
     let mut most = 0;
-    for _ in 0..sums.len() {
-        let next = cursor.value() + 1;
-        most = next.saturating_sub(past).max(most);
-        past = next;
-        cursor.next();
+    'read: while cursor.place() < sums.len() {
+        let count = cursor.values_below(u64::MAX, &mut block);
+        for j in 0..count {
+            let next = block[j] + 1;
+            most = next.saturating_sub(past).max(most);
+            past = next;
+        }
     }
     most
 }
