@@ -57,6 +57,7 @@ impl<'a> Ones<'a> {
         ensures first { IfSome result (IsFirstOne self.old.bits self.old.at self.old.end) }
         ensures behind { IfSome result (λ p. self.new.at ≡ p + 1) }
         ensures none { IfNone result (HasNoOne self.old.bits self.old.at self.old.end) }
+        ensures stays { IfNone result (self.new.at ≡ self.old.at) }
     {
         'words: while self.rest == 0 {
             if self.end - self.start <= 64 {

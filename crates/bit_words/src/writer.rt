@@ -1,28 +1,9 @@
 ghost use Rattle.std.specs.Prelude.{◌≡◌, ◌≤◌, ◌<◌, ◌+◌, ◌*◌, ◌/◌, ◌^◌, [], ◌∷◌, ◌++◌, length, OnOk, OnErr, IfOk, IsOk};
 ghost use Rattle.bit_words.specs.Bits.{field_bits, bits_of, bits_value, one_after, padded, padding, words_of, AppendsBits, HoldNumber};
 
-use std::alloc::{AllocError, AllocFailed, Global};
+use no_memory::NoMemory;
+use std::alloc::Global;
 use std::marker::Model;
-
-/// Memory was refused.
-#[derive(Clone, Copy, Debug, PartialEq, Eq)]
-pub struct NoMemory;
-
-impl From<AllocError> for NoMemory {
-    ghost from_gives = { λ _ _. Unit {0} };
-
-    fn from(_refused: AllocError) -> NoMemory {
-        NoMemory
-    }
-}
-
-impl<T: Drop> From<AllocFailed<T>> for NoMemory {
-    ghost from_gives = { λ _ _. Unit {0} };
-
-    fn from(_refused: AllocFailed<T>) -> NoMemory {
-        NoMemory
-    }
-}
 
 /// A list of bits that grows at its end.
 #[derive(Drop)]
@@ -45,7 +26,9 @@ impl Model for BitWriter {
 impl BitWriter {
     /// A list of no bits.
     pub fn new(alloc: Global) -> Result<BitWriter, NoMemory>
-        ensures { IfOk result (λ w. w ≡ []) }
+        ensures empty { IfOk result (λ w. w ≡ []) }
+        // It takes no memory, so none is refused.
+        ensures always { IsOk result }
     {
         Ok(BitWriter {
             words: Vec::new(alloc),

@@ -13,7 +13,7 @@ use Rattle.cursor_api.proofs.FirstPosting.{first-is_next}
 use Rattle.scan_plans.specs.Matches.{AreBelow, in_all, in_any}
 use Rattle.query_text.specs.declared.query.Query.{Query}
 use Rattle.query_text.specs.declared.query.Query.TheVariants.{Next, And, Or, Top}
-use Rattle.query_text.specs.declared.query.NoMemory.{NoMemory}
+use Rattle.no_memory.specs.declared.NoMemory.{NoMemory}
 use Rattle.query_text.specs.Parse.{NamesTerms}
 use Rattle.query_text.specs.Texts.{list_text}
 use Rattle.command_model.specs.Replies.{IsAnswer, lists_of, terms_of}

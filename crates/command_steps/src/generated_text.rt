@@ -13,10 +13,10 @@ use crate::lists::Answerer;
 use crate::plan::Plan;
 use crate::printing::PrintError;
 use index_file::Index;
+use no_memory::NoMemory;
 use part_cost::{Kind, formats_have_room};
 use pef_io::{Sink, write_all_own};
 use postings::sequences_of_a_list_rise;
-use query_text::NoMemory;
 use std::alloc::{AllocError, Global};
 use two_level::sequence_takes_its_cost;
 

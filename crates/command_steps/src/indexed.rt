@@ -8,8 +8,9 @@ use crate::plan::Plan;
 use crate::reply::{answer, terms_of};
 use crate::term_cursors::cursors_of;
 use index_file::Index;
+use no_memory::NoMemory;
 use postings::PostingCursor;
-use query_text::{NoMemory, Query};
+use query_text::Query;
 use std::alloc::Global;
 
 /// The lists of the collection that an index stands for.

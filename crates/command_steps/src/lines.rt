@@ -9,8 +9,9 @@ ghost use Rattle.command_steps.specs.Unended.{AnswersBytes};
 
 use crate::lists::Answerer;
 use crate::plan::Plan;
+use no_memory::NoMemory;
 use pef_io::{IoFail, Sink, write_all_own};
-use query_text::{NoMemory, ParseError, bad_reply, parse};
+use query_text::{ParseError, bad_reply, parse};
 use std::alloc::Global;
 use std::borrow::CowSlice;
 

@@ -6,7 +6,8 @@ ghost use Rattle.command_model.specs.Replies.{IsAnswer};
 
 use crate::plan::Plan;
 use cursor_api::DocCursor;
-use query_text::{NoMemory, Query};
+use no_memory::NoMemory;
+use query_text::Query;
 use std::alloc::Global;
 
 /// The posting lists of a collection.

@@ -1,6 +1,7 @@
 ghost use Rattle.std.specs.Prelude.{◌≡◌};
 
 use index_file::FinishError;
+use no_memory::NoMemory;
 use std::alloc::AllocError;
 
 /// Why no words of a collection were made.
@@ -12,22 +13,12 @@ pub enum MakeError {
     NoMemory,
 }
 
-impl From<index_file::NoMemory> for MakeError {
+impl From<NoMemory> for MakeError {
     ghost use Rattle.command_steps.specs.declared.made.MakeError.TheVariants.{NoMemory};
 
     ghost from_gives = { λ _ answer. answer ≡ NoMemory };
 
-    fn from(_e: index_file::NoMemory) -> MakeError {
-        MakeError::NoMemory
-    }
-}
-
-impl From<pef_report::NoMemory> for MakeError {
-    ghost use Rattle.command_steps.specs.declared.made.MakeError.TheVariants.{NoMemory};
-
-    ghost from_gives = { λ _ answer. answer ≡ NoMemory };
-
-    fn from(_e: pef_report::NoMemory) -> MakeError {
+    fn from(_e: NoMemory) -> MakeError {
         MakeError::NoMemory
     }
 }

@@ -9,7 +9,8 @@ use crate::reply::{answer, terms_of};
 use crate::term_cursors::cursors_of;
 use collection_reader::Collection;
 use cursor_api::{DocCursor, PlainCursor};
-use query_text::{NoMemory, Query};
+use no_memory::NoMemory;
+use query_text::Query;
 use std::alloc::Global;
 
 /// The lists of a well-formed collection.

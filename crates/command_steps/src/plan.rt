@@ -4,7 +4,8 @@ ghost use Rattle.scan_plans.specs.IsTop.{IsTop};
 ghost use Rattle.scan_plans.specs.Matches.{AreBelow};
 
 use cursor_api::DocCursor;
-use scan_plans::{NoMemory, top_exhaustive};
+use no_memory::NoMemory;
+use scan_plans::top_exhaustive;
 use std::alloc::Global;
 use topk_pruning::{top_maxscore, top_wand};
 

@@ -4,6 +4,7 @@ ghost use Rattle.command_steps.specs.PrintLine.{PrintsLine};
 ghost use Rattle.command_steps.specs.declared.printing.PrintError.TheVariants as printing;
 
 use index_file::Index;
+use no_memory::NoMemory;
 use part_cost::Kind;
 use pef_io::{IoFail, Sink, write_all_own};
 use pef_report::{Counts, summary};
@@ -31,22 +32,12 @@ impl From<IoFail> for PrintError {
     }
 }
 
-impl From<pef_report::NoMemory> for PrintError {
+impl From<NoMemory> for PrintError {
     ghost use Rattle.command_steps.specs.declared.printing.PrintError.TheVariants as printing;
 
     ghost from_gives = { λ _ e. e ≡ printing.NoMemory };
 
-    fn from(_e: pef_report::NoMemory) -> PrintError {
-        PrintError::NoMemory
-    }
-}
-
-impl From<query_text::NoMemory> for PrintError {
-    ghost use Rattle.command_steps.specs.declared.printing.PrintError.TheVariants as printing;
-
-    ghost from_gives = { λ _ e. e ≡ printing.NoMemory };
-
-    fn from(_e: query_text::NoMemory) -> PrintError {
+    fn from(_e: NoMemory) -> PrintError {
         PrintError::NoMemory
     }
 }

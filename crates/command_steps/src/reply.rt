@@ -9,7 +9,8 @@ ghost use Rattle.command_model.specs.Replies.{IsAnswer, IsTopText, lists_of, ter
 
 use crate::plan::{Plan, plan_top};
 use cursor_api::DocCursor;
-use query_text::{NoMemory, Query, list_reply, next_reply, top_reply};
+use no_memory::NoMemory;
+use query_text::{Query, list_reply, next_reply, top_reply};
 use scan_plans::{and_docs, or_docs};
 use std::alloc::Global;
 use std::slice;
@@ -63,7 +64,7 @@ fn and_answer<C: DocCursor>(alloc: Global, cursors: &mut [C]) -> Result<Vec<u8>,
     requires at_start { All (λ c. C.place c ≡ 0) cursors.old }
     ensures { (n : ℕ) → AreBelow n (map C.list cursors.old) → IfOk result (λ text. text.items ≡ list_text (in_all n (map C.list cursors.old))) }
 {
-    let docs = and_docs(alloc, cursors).map_err(|_| NoMemory)?;
+    let docs = and_docs(alloc, cursors)?;
     list_reply(alloc, docs.as_slice())
 }
 
@@ -73,7 +74,7 @@ fn or_answer<C: DocCursor>(alloc: Global, cursors: &mut [C]) -> Result<Vec<u8>, 
     requires at_start { All (λ c. C.place c ≡ 0) cursors.old }
     ensures { (n : ℕ) → AreBelow n (map C.list cursors.old) → IfOk result (λ text. text.items ≡ list_text (in_any n (map C.list cursors.old))) }
 {
-    let docs = or_docs(alloc, cursors).map_err(|_| NoMemory)?;
+    let docs = or_docs(alloc, cursors)?;
     list_reply(alloc, docs.as_slice())
 }
 
@@ -93,6 +94,6 @@ fn top_answer<C: DocCursor>(
     requires weights { AreWeights weights.now }
     ensures { IfOk result (λ text. IsTopText n (map C.list cursors.old) weights.now k text.items) }
 {
-    let top = plan_top(alloc, plan, cursors, weights, k, n).map_err(|_| NoMemory)?;
+    let top = plan_top(alloc, plan, cursors, weights, k, n)?;
     top_reply(alloc, top.as_slice())
 }

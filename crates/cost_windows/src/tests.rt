@@ -4,7 +4,8 @@ ghost use Rattle.collection_model.specs.FormatNumbers.{part_charge};
 ghost use Rattle.part_cost.specs.Formats.{numbers_of, HasRoom};
 ghost use Rattle.cost_windows.specs.WindowBounds.{window_bounds};
 
-use crate::{NoMemory, Windows, bounds};
+use crate::{Windows, bounds};
+use no_memory::NoMemory;
 use part_cost::{Format, SpanCost, formats_have_room};
 use std::alloc::Global;
 use std::marker::Brand;

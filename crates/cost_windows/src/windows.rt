@@ -5,23 +5,12 @@ ghost use Rattle.cost_windows.specs.Windows.{new_windows, KeepCosts, NoneFell, A
 
 use crate::edge::Edge;
 use crate::tables::{bounds, bounds_follow_rule};
+use no_memory::NoMemory;
 use part_cost::{Format, SpanCost, bounds_cover};
-use std::alloc::{AllocError, Global};
+use std::alloc::Global;
 use std::marker::Model;
 use std::sync::ledger::Ledger;
 use step_count::Steps;
-
-/// Memory was refused.
-#[derive(Clone, Copy, Debug, PartialEq, Eq)]
-pub struct NoMemory;
-
-impl From<AllocError> for NoMemory {
-    ghost from_gives = { λ _ _. Unit {0} };
-
-    fn from(_refused: AllocError) -> NoMemory {
-        NoMemory
-    }
-}
 
 /// For each bound a window, from a place of a sequence to the longest end whose part costs at most the bound, in bits.
 #[derive(Drop)]

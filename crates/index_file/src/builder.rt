@@ -12,9 +12,10 @@ ghost use Rattle.index_file.specs.Builder.{StandsFor, IsNearCut, AddsList, lists
 use crate::entries::{push_sizes, spell_entry};
 use crate::frame::{END_MAGIC, LIST_WORDS, OPENING_MAGIC, WORDS_BEHIND};
 use crate::partitions::cut;
+use no_memory::NoMemory;
 use part_cost::{Format, formats_have_room};
 use partition_path::Cuts;
-use postings::{NoMemory, doc_values, freq_sums, sequences_of_a_list_rise, write_postings};
+use postings::{doc_values, freq_sums, sequences_of_a_list_rise, write_postings};
 use std::alloc::Global;
 use std::marker::Model;
 use std::sync::ledger::Ledger;

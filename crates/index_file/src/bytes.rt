@@ -1,7 +1,7 @@
 ghost use Rattle.std.specs.Prelude.{◌≡◌, ◌≢◌, ◌↔◌, ℕ, ◌*◌, ◌%◌, length, IfOk};
 ghost use Rattle.collection_model.specs.Bytes.{word_bytes};
 
-use postings::NoMemory;
+use no_memory::NoMemory;
 use std::alloc::Global;
 
 /// Why bytes are no words.

@@ -2,8 +2,8 @@ ghost use Rattle.std.specs.Prelude.{◌≡◌, ℕ, ◌≤◌, ◌<◌, ◌+◌,
 ghost use Rattle.collection_model.specs.Collection.{greatest};
 ghost use Rattle.index_file.specs.FileWords.{sizes_words};
 
+use no_memory::NoMemory;
 use partition_path::Cuts;
-use postings::NoMemory;
 
 /// The bits of a word.
 const WORD_BITS: u64 = 64;

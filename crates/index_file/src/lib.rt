@@ -26,4 +26,3 @@ pub use laws::{
     files_spell_collections, index_is_read, lists_are_counted, no_version_breaks, one_broken_check,
     one_index, words_and_bytes_undo_each_other,
 };
-pub use postings::NoMemory;

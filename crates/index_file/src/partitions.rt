@@ -7,9 +7,9 @@ ghost use Rattle.part_cost.specs.Span.{cost_of_part};
 ghost use Rattle.part_cost.specs.Partition.{IsNear, partition_cost};
 ghost use Rattle.cost_windows.specs.WindowBounds.{window_bounds};
 
+use no_memory::NoMemory;
 use part_cost::{Format, ListCost};
 use partition_path::{Cuts, partition};
-use postings::NoMemory;
 use std::alloc::Global;
 use std::sync::ledger::Ledger;
 use step_count::Steps;
@@ -29,5 +29,5 @@ pub(crate) fn cut<L: Ledger>(
     ensures counted { IfOk result (λ cuts. steps.old + length cuts.ends ≤ steps.new) }
     ensures bounded { steps.new ≤ steps.old + 3 * length (window_bounds format) * (length values.now + 1) }
 {
-    partition(alloc, &ListCost::new(values, format), steps).map_err(|_| NoMemory)
+    partition(alloc, &ListCost::new(values, format), steps)
 }

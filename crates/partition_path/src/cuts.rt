@@ -4,31 +4,12 @@ ghost use Rattle.part_cost.specs.Partition.{IsNear, partition_cost};
 ghost use Rattle.cost_windows.specs.WindowBounds.{window_bounds};
 
 use crate::routes::Routes;
+use no_memory::NoMemory;
 use part_cost::SpanCost;
-use std::alloc::{AllocError, Global};
+use std::alloc::Global;
 use std::marker::Model;
 use std::sync::ledger::Ledger;
 use step_count::Steps;
-
-/// Memory was refused.
-#[derive(Clone, Copy, Debug, PartialEq, Eq)]
-pub struct NoMemory;
-
-impl From<AllocError> for NoMemory {
-    ghost from_gives = { λ _ _. Unit {0} };
-
-    fn from(_refused: AllocError) -> NoMemory {
-        NoMemory
-    }
-}
-
-impl From<cost_windows::NoMemory> for NoMemory {
-    ghost from_gives = { λ _ _. Unit {0} };
-
-    fn from(_refused: cost_windows::NoMemory) -> NoMemory {
-        NoMemory
-    }
-}
 
 /// A partition, with its cost.
 #[derive(Drop)]

@@ -7,4 +7,4 @@ mod routes;
 #[cfg(test)]
 mod tests;
 
-pub use cuts::{Cuts, NoMemory, partition};
+pub use cuts::{Cuts, partition};

@@ -6,9 +6,9 @@ ghost use Rattle.cost_windows.specs.WindowBounds.{window_bounds};
 ghost use Rattle.partition_path.specs.Tables.{IsReached, IsRival, IsCheapest, AreLinked, AreRoutes, AreExtended, ShareCosts, IsOffered, cost_to, start_to, new_table, unreached};
 ghost use Rattle.partition_path.specs.Chains.{IsChain};
 
-use crate::cuts::NoMemory;
 use crate::rival::Rival;
 use cost_windows::{Windows, bounds_follow_rule};
+use no_memory::NoMemory;
 use part_cost::{SpanCost, bounds_cover, formats_have_room};
 use std::alloc::Global;
 use std::marker::Model;
@@ -164,7 +164,7 @@ impl Routes {
         let mut ends = Vec::new(alloc);
         let mut end = self.known.len() - 1;
         while end > 0 {
-            ends.push(end as u64).map_err(|_| NoMemory)?;
+            ends.push(end as u64)?;
             end = self.to(end).start as usize;
         }
         ends.reverse();

@@ -3,7 +3,8 @@ ghost use Rattle.std.specs.List.{All};
 ghost use Rattle.std.specs.List.Sorted.{IsStrictlyIncreasing};
 ghost use Rattle.part_cost.specs.Formats.{numbers_of};
 
-use crate::{Cuts, NoMemory, partition};
+use crate::{Cuts, partition};
+use no_memory::NoMemory;
 use part_cost::{Format, ListCost};
 use std::alloc::{AllocError, Global};
 use std::marker::Brand;

@@ -4,8 +4,9 @@ ghost use Rattle.pef_io.specs.SourceState.{Reads};
 ghost use Rattle.pef_io.specs.SinkState.{Writes};
 
 use crate::fail::IoFail;
-use crate::steady::{NoMemory, SteadySink, SteadySource};
+use crate::steady::{SteadySink, SteadySource};
 use crate::traits::{Sink, Source};
+use no_memory::NoMemory;
 use std::alloc::Global;
 use std::marker::Model;
 

@@ -9,9 +9,9 @@ ghost use Rattle.pef_io.specs.declared.calls.Op.{Op};
 use crate::calls::Op;
 use crate::fail::{IoFail, Slot};
 use crate::per_slot::PerSlot;
-use crate::steady::NoMemory;
 use crate::steady_depot::SteadyDepot;
 use crate::traits::Depot;
+use no_memory::NoMemory;
 use std::alloc::Global;
 
 /// Files in memory, where some calls fail, and each start of a name that has no file.

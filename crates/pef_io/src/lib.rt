@@ -24,6 +24,6 @@ pub use failing_depot::MemDepot;
 pub use helpers::{depot_write_all, write_all_own};
 pub use load::{LoadError, load_bytes};
 pub use standard::{StdDepot, StdSink, StdSource};
-pub use steady::{NoMemory, SteadySink, SteadySource};
+pub use steady::{SteadySink, SteadySource};
 pub use steady_depot::SteadyDepot;
 pub use traits::{Depot, Sink, Source};

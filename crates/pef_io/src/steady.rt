@@ -6,12 +6,9 @@ ghost use Rattle.pef_io.specs.SinkState.{Writes};
 use crate::fail::IoFail;
 use crate::opened::Opened;
 use crate::traits::{Sink, Source};
+use no_memory::NoMemory;
 use std::alloc::Global;
 use std::marker::Model;
-
-/// Memory was refused.
-#[derive(Clone, Copy, Debug, PartialEq, Eq)]
-pub struct NoMemory;
 
 /// Bytes in memory that are read without a fault.
 #[derive(Drop)]

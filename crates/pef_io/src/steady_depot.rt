@@ -10,8 +10,8 @@ use crate::fail::{IoFail, Slot};
 use crate::files::Files;
 use crate::opened::Opened;
 use crate::per_slot::PerSlot;
-use crate::steady::NoMemory;
 use crate::traits::Depot;
+use no_memory::NoMemory;
 use std::alloc::Global;
 
 /// Files in memory that are read and written without a fault; memory may be refused.

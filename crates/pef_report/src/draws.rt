@@ -2,7 +2,7 @@ ghost use Rattle.std.specs.Prelude.{◌≡◌, ◌≤◌, ◌<◌, ◌+◌, ◌/
 ghost use Rattle.collection_model.specs.Collection.{postings_of};
 ghost use Rattle.pef_report.specs.Generated.{next_state, list_drawn, state_behind};
 
-use crate::NoMemory;
+use no_memory::NoMemory;
 
 /// What a state is multiplied by.
 const FACTOR: u32 = 69069;

@@ -3,8 +3,8 @@ ghost use Rattle.collection_model.specs.FormatNumbers.{FormatNumbers};
 ghost use Rattle.collection_model.specs.Collection.{postings_of, IsPostingList};
 ghost use Rattle.pef_report.specs.Generated.{generated, state_behind};
 
-use crate::NoMemory;
 use crate::draws::draw_list;
+use no_memory::NoMemory;
 use std::marker::Model;
 
 /// The lists of a generated collection, one by one.

@@ -14,25 +14,4 @@ pub use counts::Counts;
 pub use generate::Gen;
 pub use laws::generated_are_well_formed;
 pub use sizes::document_sizes;
-use std::alloc::{AllocError, AllocFailed};
 pub use summing::summary;
-
-/// Memory was refused.
-#[derive(Clone, Copy, Debug, PartialEq, Eq)]
-pub struct NoMemory;
-
-impl From<AllocError> for NoMemory {
-    ghost from_gives = { λ _ _. Unit {0} };
-
-    fn from(_refused: AllocError) -> NoMemory {
-        NoMemory
-    }
-}
-
-impl<T: Drop> From<AllocFailed<T>> for NoMemory {
-    ghost from_gives = { λ _ _. Unit {0} };
-
-    fn from(_refused: AllocFailed<T>) -> NoMemory {
-        NoMemory
-    }
-}

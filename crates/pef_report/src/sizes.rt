@@ -2,7 +2,7 @@ ghost use Rattle.std.specs.Prelude.{◌≡◌, ℕ, ◌+◌, ◌%◌, map, IfOk}
 ghost use Rattle.std.specs.List.{range_with_len};
 ghost use Rattle.pef_report.specs.Generated.{generated};
 
-use crate::NoMemory;
+use no_memory::NoMemory;
 use std::alloc::{AllocError, Global};
 
 /// The sizes of the n documents of a generated collection, which are the same for every seed and every number of lists.

@@ -2,8 +2,8 @@ ghost use Rattle.std.specs.Prelude.{◌≡◌, IfOk};
 ghost use Rattle.serde_json.specs.View.{view};
 ghost use Rattle.pef_report.specs.Summary.{summary_of};
 
-use crate::NoMemory;
 use crate::counts::Counts;
+use no_memory::NoMemory;
 use serde_json::{Value, json};
 use std::alloc::{AllocError, Global};
 

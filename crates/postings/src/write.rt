@@ -6,9 +6,10 @@ ghost use Rattle.part_cost.specs.Formats.{numbers_of};
 ghost use Rattle.part_cost.specs.Partition.{IsPartition};
 ghost use Rattle.two_level.specs.SequenceWords.{sequence_words};
 
+use no_memory::NoMemory;
 use part_cost::Format;
 use std::alloc::Global;
-use two_level::{NoMemory, write_seq};
+use two_level::write_seq;
 
 /// Appends the words of the two sequences of a list in a format, each in its parts: first of the documents, then of the sums of
 /// the frequencies, as `doc_values` and `freq_sums` give them. A refusal leaves the words as they were.
@@ -45,7 +46,7 @@ pub fn doc_values(alloc: Global, docs: &[u32]) -> Result<Vec<u64>, NoMemory>
 {
     let mut values = Vec::new(alloc);
     for doc in docs {
-        values.push(u64::from(*doc)).map_err(|_| NoMemory)?;
+        values.push(u64::from(*doc))?;
     }
     Ok(values)
 }
@@ -60,7 +61,7 @@ pub fn freq_sums(alloc: Global, freqs: &[u32]) -> Result<Vec<u64>, NoMemory>
     let mut sum = 0;
     for freq in freqs {
         sum += u64::from(*freq);
-        sums.push(sum - 1).map_err(|_| NoMemory)?;
+        sums.push(sum - 1)?;
     }
     Ok(sums)
 }

@@ -12,7 +12,7 @@ mod weighted_terms;
 
 pub use numbers::number;
 pub use parsing::parse;
-pub use query::{Bad, NoMemory, ParseError, Query, Terms};
+pub use query::{Bad, ParseError, Query, Terms};
 pub use replies::{bad_reply, list_reply, next_reply, top_reply};
 pub use weighted_terms::Weighted;
 

@@ -2,8 +2,9 @@
 ghost use Rattle.std.specs.Prelude.{◌≡◌, ◌+◌, ◌<◌, ◌≤◌, ◌++◌, length, decimal, IfOk, OnOk};
 ghost use Rattle.query_text.specs.Texts.{next_text, list_text, top_text, bad_text};
 
-use crate::query::{Bad, NoMemory};
+use crate::query::Bad;
 use itoa::write_digits;
+use no_memory::NoMemory;
 use std::alloc::Global;
 
 // How many decimal digits a number has.

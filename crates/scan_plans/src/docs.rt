@@ -6,10 +6,10 @@ ghost use Rattle.collection_model.specs.Collection.{Posting};
 ghost use Rattle.scan_plans.specs.Matches.{AreBelow, in_all, in_any};
 ghost use Rattle.scan_plans.specs.Window.{AreMarked, IsMarkedWord, is_marked};
 
-use crate::NoMemory;
 use crate::scan::{least_doc, next_shared};
 use crate::window::{Block, doc_in, mark_lists, new_marks};
 use cursor_api::DocCursor;
+use no_memory::NoMemory;
 use std::alloc::Global;
 
 /// The documents that are in all the lists, rising; none where there is no list. It goes from the shortest list, whose documents

@@ -6,10 +6,11 @@ ghost use Rattle.scan_plans.specs.IsTop.{IsTop};
 ghost use Rattle.scan_plans.specs.Best.{IsBest, IsBar};
 ghost use Rattle.scan_plans.specs.Window.{AreScored};
 
+use crate::TopK;
 use crate::scan::least_doc;
 use crate::window::{Block, add_lists, doc_in, new_scores};
-use crate::{NoMemory, TopK};
 use cursor_api::DocCursor;
+use no_memory::NoMemory;
 use std::alloc::Global;
 
 /// The first k of the documents that are in any of the lists, by score falling and then document rising, each with its score:

@@ -6,8 +6,8 @@ ghost use Rattle.scan_plans.specs.Matches.{has_doc, freq_of_doc};
 ghost use Rattle.scan_plans.specs.Scan.{doc_at, StandsFrom};
 ghost use Rattle.scan_plans.specs.Window.{AreGiven, AreInside, AreScored, AreMarked, is_marked};
 
-use crate::NoMemory;
 use cursor_api::DocCursor;
+use no_memory::NoMemory;
 use std::alloc::Global;
 
 // How many documents a window has that are scored: their scores take 64 KiB.

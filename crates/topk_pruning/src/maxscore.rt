@@ -8,7 +8,8 @@ ghost use Rattle.topk_pruning.specs.Terms.{AreTerms, IsFirstDoc, AreSpared, IsEs
 use crate::probe::{doc_from, is_above, probe};
 use crate::term::{Term, terms_by_bound, total_bound};
 use cursor_api::DocCursor;
-use scan_plans::{NoMemory, TopK, cursors_tell, top_list_grows};
+use no_memory::NoMemory;
+use scan_plans::{TopK, cursors_tell, top_list_grows};
 use std::alloc::Global;
 
 /// The first k of the documents that are in any of the lists, by score falling and then document rising, each with its score, as

@@ -4,7 +4,7 @@ ghost use Rattle.collection_model.specs.Collection.{greatest_freq};
 ghost use Rattle.topk_pruning.specs.Terms.{terms_of, bounds};
 
 use cursor_api::DocCursor;
-use scan_plans::NoMemory;
+use no_memory::NoMemory;
 use std::alloc::Global;
 
 // A list of a query.

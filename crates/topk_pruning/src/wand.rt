@@ -9,7 +9,8 @@ ghost use Rattle.topk_pruning.specs.Order.{IsFalling, IsNext, StandsAt, terms_at
 use crate::order::{Standing, catch_up, order_of, pivot, score_at_pivot};
 use crate::term::terms_by_bound;
 use cursor_api::DocCursor;
-use scan_plans::{NoMemory, TopK, top_list_grows};
+use no_memory::NoMemory;
+use scan_plans::{TopK, top_list_grows};
 use std::alloc::Global;
 
 /// The first k of the documents that are in any of the lists, by score falling and then document rising, each with its score, as
