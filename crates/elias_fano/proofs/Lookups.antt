@@ -41,52 +41,52 @@ sampled-number q k some fit none =
 
 -- the sample of the first number of a run is its place
 pub run-sample : PlacesFit → (q : ℕ) (v : EfView q) (ys : List ℕ) → Holds q v ys
-    → (run : ℕ) → 1 ≤ run → q * run < v.m → sample_at (bits_of v.bits.words.now) v.place v.u v.m v.low (run - 1) ≡ high_place v.low (q * run) (get_or ys (q * run) 0)
+    → (run : ℕ) → 1 ≤ run → q * run < v.part.m → sample_at (bits_of v.part.bits.words.now) v.part.place v.part.u v.part.m v.low (run - 1) ≡ high_place v.low (q * run) (get_or ys (q * run) 0)
 run-sample fit q v ys h run some lt =
     let next : run - 1 + 1 ≡ run = omega arith in
     let here : q * (run - 1 + 1) ≡ q * run = ap (λ n. q * n) next in
-    sample-read (bits_of v.bits.words.now) v.place v.u v.m v.low q ys (view-read-at q v ys h) v.spacing (run - 1) (omega arith)
+    sample-read (bits_of v.part.bits.words.now) v.part.place v.part.u v.part.m v.low q ys (view-read-at q v ys h) v.spacing (run - 1) (omega arith)
     (places-fit-at fit q v ys h (q * (run - 1 + 1)) (omega arith))
     ∙ ap (λ n. high_place v.low n (get_or ys n 0)) here
 
 -- the one of number k is where the search for it ends
-pub one-found : (q : ℕ) (v : EfView q) (ys : List ℕ) (k from p : ℕ) → Holds q v ys → k < v.m
-    → v.place + past_place v.low ys k ≤ from → from ≤ v.place + high_place v.low k (get_or ys k 0) → IsFirstOne (bits_of v.bits.words.now) from (v.place + k + (v.u - 1) / 2 ^ v.low + 1) p
-    → p ≡ v.place + high_place v.low k (get_or ys k 0)
+pub one-found : (q : ℕ) (v : EfView q) (ys : List ℕ) (k from p : ℕ) → Holds q v ys → k < v.part.m
+    → v.part.place + past_place v.low ys k ≤ from → from ≤ v.part.place + high_place v.low k (get_or ys k 0) → IsFirstOne (bits_of v.part.bits.words.now) from (v.part.place + k + (v.part.u - 1) / 2 ^ v.low + 1) p
+    → p ≡ v.part.place + high_place v.low k (get_or ys k 0)
 one-found q v ys k from p h lt past not_past first =
-    found-number (bits_of v.bits.words.now) v.place v.u v.m v.low q ys (bits-bits_of v.bits.words.now) (view-read-at q v ys h) k from p lt past not_past first
+    found-number (bits_of v.part.bits.words.now) v.part.place v.part.u v.part.m v.low q ys (bits-bits_of v.part.bits.words.now) (view-read-at q v ys h) k from p lt past not_past first
 
-pub one-there : (q : ℕ) (v : EfView q) (ys : List ℕ) (k from : ℕ) → Holds q v ys → k < v.m
-    → from ≤ v.place + high_place v.low k (get_or ys k 0) → HasNoOne (bits_of v.bits.words.now) from (v.place + k + (v.u - 1) / 2 ^ v.low + 1) → ⊥
+pub one-there : (q : ℕ) (v : EfView q) (ys : List ℕ) (k from : ℕ) → Holds q v ys → k < v.part.m
+    → from ≤ v.part.place + high_place v.low k (get_or ys k 0) → HasNoOne (bits_of v.part.bits.words.now) from (v.part.place + k + (v.part.u - 1) / 2 ^ v.low + 1) → ⊥
 one-there q v ys k from h lt not_past none =
-    some-found (bits_of v.bits.words.now) v.place v.u v.m v.low q ys (view-read-at q v ys h) k from lt not_past none
+    some-found (bits_of v.part.bits.words.now) v.part.place v.part.u v.part.m v.low q ys (view-read-at q v ys h) k from lt not_past none
 
-pub number-is : (q : ℕ) (v : EfView q) (ys : List ℕ) (k one : ℕ) → Holds q v ys → k < v.m → one ≡ v.place + high_place v.low k (get_or ys k 0)
-    → (one - v.place - k) * 2 ^ v.low + low_field (bits_of v.bits.words.now) v.place v.u v.m v.low k ≡ get_or ys k 0
-number-is q v ys k one h lt e = number-read (bits_of v.bits.words.now) v.place v.u v.m v.low q ys (view-read-at q v ys h) k one lt e
+pub number-is : (q : ℕ) (v : EfView q) (ys : List ℕ) (k one : ℕ) → Holds q v ys → k < v.part.m → one ≡ v.part.place + high_place v.low k (get_or ys k 0)
+    → (one - v.part.place - k) * 2 ^ v.low + low_field (bits_of v.part.bits.words.now) v.part.place v.part.u v.part.m v.low k ≡ get_or ys k 0
+number-is q v ys k one h lt e = number-read (bits_of v.part.bits.words.now) v.part.place v.part.u v.part.m v.low q ys (view-read-at q v ys h) k one lt e
 
-pub number-got : (q : ℕ) (v : EfView q) (ys : List ℕ) (k one number : ℕ) → Holds q v ys → k < v.m → one ≡ v.place + high_place v.low k (get_or ys k 0)
-    → number ≡ (one - v.place - k) * 2 ^ v.low + low_field (bits_of v.bits.words.now) v.place v.u v.m v.low k → number ≡ get_or ys k 0
+pub number-got : (q : ℕ) (v : EfView q) (ys : List ℕ) (k one number : ℕ) → Holds q v ys → k < v.part.m → one ≡ v.part.place + high_place v.low k (get_or ys k 0)
+    → number ≡ (one - v.part.place - k) * 2 ^ v.low + low_field (bits_of v.part.bits.words.now) v.part.place v.part.u v.part.m v.low k → number ≡ get_or ys k 0
 number-got q v ys k one number h lt e is = is ∙ number-is q v ys k one h lt e
 
 -- where the search for the next one begins
 pub past-next : (l k : ℕ) (ys : List ℕ) → past_place l ys (k + 1) ≡ high_place l k (get_or ys k 0) + 1
 past-next l k ys = ap (λ n. past_place l ys n) (add-one k)
 
-pub next-after : (q : ℕ) (v : EfView q) (ys : List ℕ) (k : ℕ) → Holds q v ys → k + 1 < v.m → high_place v.low k (get_or ys k 0) < high_place v.low (k + 1) (get_or ys (k + 1) 0)
+pub next-after : (q : ℕ) (v : EfView q) (ys : List ℕ) (k : ℕ) → Holds q v ys → k + 1 < v.part.m → high_place v.low k (get_or ys k 0) < high_place v.low (k + 1) (get_or ys (k + 1) 0)
 next-after q v ys k h lt = omega (arith, places-rise ys v.low h.values.rising k (k + 1) (omega arith) (omega (arith, h.values.count)))
 
-pub place-below : (q : ℕ) (v : EfView q) (ys : List ℕ) (k : ℕ) → Holds q v ys → k < v.m → high_place v.low k (get_or ys k 0) ≤ k + (v.u - 1) / 2 ^ v.low
-place-below q v ys k h lt = place-within v.u v.m v.low ys h.values k lt
+pub place-below : (q : ℕ) (v : EfView q) (ys : List ℕ) (k : ℕ) → Holds q v ys → k < v.part.m → high_place v.low k (get_or ys k 0) ≤ k + (v.part.u - 1) / 2 ^ v.low
+place-below q v ys k h lt = place-within v.part.u v.part.m v.low ys h.values k lt
 
 -- a number below what is asked is not the last
-pub not-last : (q : ℕ) (v : EfView q) (ys : List ℕ) (k number x : ℕ) → Holds q v ys → k < v.m → number ≡ get_or ys k 0 → number < x → x < v.u → k + 1 < v.m
+pub not-last : (q : ℕ) (v : EfView q) (ys : List ℕ) (k number x : ℕ) → Holds q v ys → k < v.part.m → number ≡ get_or ys k 0 → number < x → x < v.part.u → k + 1 < v.part.m
 not-last q v ys k number x h lt is below reached =
-    elim (cases_lt (k + 1) v.m) [
+    elim (cases_lt (k + 1) v.part.m) [
       | inl less ↦ less
       | inr more ↦
-          let last : k ≡ v.m - 1 = omega arith in
-          let here : number ≡ get_or ys (v.m - 1) 0 = is ∙ ap (λ n. get_or ys n 0) last in
+          let last : k ≡ v.part.m - 1 = omega arith in
+          let here : number ≡ get_or ys (v.part.m - 1) 0 = is ∙ ap (λ n. get_or ys n 0) last in
           absurd (omega (arith, here, h.values.last))
     ]
 

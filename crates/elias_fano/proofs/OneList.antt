@@ -10,12 +10,12 @@ use Rattle.elias_fano.proofs.Reading.{IsRead, read-held, held-read}
 use Rattle.elias_fano.proofs.Scanning.{one_list-read}
 
 -- what a view holds is read from its words
-pub view-read : (q : ℕ) (v : EfView q) (ys : List ℕ) → Holds q v ys → IsRead (bits_of v.bits.words.now) v.place v.u v.m (low_width_of v.u v.m) q ys
-view-read q v ys h = read-held (bits_of v.bits.words.now) v.place v.u v.m q ys (omega (arith, length-bits_of v.bits.words.now, v.placed)) h
+pub view-read : (q : ℕ) (v : EfView q) (ys : List ℕ) → Holds q v ys → IsRead (bits_of v.part.bits.words.now) v.part.place v.part.u v.part.m (low_width_of v.part.u v.part.m) q ys
+view-read q v ys h = read-held (bits_of v.part.bits.words.now) v.part.place v.part.u v.part.m q ys (omega (arith, length-bits_of v.part.bits.words.now, v.part.placed)) h
 
-pub read-view : (q : ℕ) (v : EfView q) (ys : List ℕ) → IsRead (bits_of v.bits.words.now) v.place v.u v.m (low_width_of v.u v.m) q ys → Holds q v ys
-read-view q v ys h = held-read (bits_of v.bits.words.now) v.place v.u v.m q ys (bits-bits_of v.bits.words.now) h
+pub read-view : (q : ℕ) (v : EfView q) (ys : List ℕ) → IsRead (bits_of v.part.bits.words.now) v.part.place v.part.u v.part.m (low_width_of v.part.u v.part.m) q ys → Holds q v ys
+read-view q v ys h = held-read (bits_of v.part.bits.words.now) v.part.place v.part.u v.part.m q ys (bits-bits_of v.part.bits.words.now) h
 
 pub one-list : OneList
 one-list q v xs ys h g =
-    one_list-read (bits_of v.bits.words.now) v.place v.u v.m (low_width_of v.u v.m) q xs ys (bits-bits_of v.bits.words.now) (view-read q v xs h) (view-read q v ys g)
+    one_list-read (bits_of v.part.bits.words.now) v.part.place v.part.u v.part.m (low_width_of v.part.u v.part.m) q xs ys (bits-bits_of v.part.bits.words.now) (view-read q v xs h) (view-read q v ys g)

@@ -121,30 +121,30 @@ not-all-below u m ys h from k x lt few reached below =
     ]
 
 -- so for the ones of a view, up to the end of its high bits
-pub ones-passed : (q : ℕ) (v : EfView q) (ys : List ℕ) → Holds q v ys → (k at end : ℕ) → IsPast v.place v.m v.low ys k at → at ≤ end
-    → end ≤ v.place + low_fields_at v.u v.m v.low → IsPast v.place v.m v.low ys (k + ones_between (bits_of v.bits.words.now) at end) end
+pub ones-passed : (q : ℕ) (v : EfView q) (ys : List ℕ) → Holds q v ys → (k at end : ℕ) → IsPast v.part.place v.part.m v.low ys k at → at ≤ end
+    → end ≤ v.part.place + low_fields_at v.part.u v.part.m v.low → IsPast v.part.place v.part.m v.low ys (k + ones_between (bits_of v.part.bits.words.now) at end) end
 ones-passed q v ys h k at end here fit within =
-    let ws = v.bits.words.now in
+    let ws = v.part.bits.words.now in
     let read = view-read-at q v ys h in
-    subst (λ n. IsPast v.place v.m v.low ys (k + ones_between (bits_of ws) at n) n) (let e : at + (end - at) ≡ end = omega arith in e)
-    (past-more (bits_of ws) v.place v.u v.m v.low q ys (bits-bits_of ws) read (omega (arith, read.room)) k at (end - at) here (omega arith))
+    subst (λ n. IsPast v.part.place v.part.m v.low ys (k + ones_between (bits_of ws) at n) n) (let e : at + (end - at) ≡ end = omega arith in e)
+    (past-more (bits_of ws) v.part.place v.part.u v.part.m v.low q ys (bits-bits_of ws) read (omega (arith, read.room)) k at (end - at) here (omega arith))
 
 -- so the first one from there on, up to that end, is that of the next number,
-first-next : (q : ℕ) (v : EfView q) (ys : List ℕ) → Holds q v ys → (k at p : ℕ) → IsPast v.place v.m v.low ys k at
-    → IsFirstOne (bits_of v.bits.words.now) at (v.place + low_fields_at v.u v.m v.low) p → (k < v.m) × (p ≡ v.place + high_place v.low k (get_or ys k 0))
+first-next : (q : ℕ) (v : EfView q) (ys : List ℕ) → Holds q v ys → (k at p : ℕ) → IsPast v.part.place v.part.m v.low ys k at
+    → IsFirstOne (bits_of v.part.bits.words.now) at (v.part.place + low_fields_at v.part.u v.part.m v.low) p → (k < v.part.m) × (p ≡ v.part.place + high_place v.low k (get_or ys k 0))
 first-next q v ys h k at p here first =
-    let bits : List ℕ = bits_of v.bits.words.now in
+    let bits : List ℕ = bits_of v.part.bits.words.now in
     let read = view-read-at q v ys h in
-    let i : ℕ = p - v.place in
-    let is : p ≡ v.place + i = omega (arith, here.past, first.at_or_after) in
+    let i : ℕ = p - v.part.place in
+    let is : p ≡ v.part.place + i = omega (arith, here.past, first.at_or_after) in
     let found = read.only i (omega (arith, first.before_end)) (ap (λ n. get_or bits n 0) (sym is) ∙ first.one) in
     elim (cases_lt found.0 k) [
       | inl less ↦ absurd (omega (arith, before-past ys v.low h.values.rising found.0 k less (omega (arith, here.few, h.values.count)), found.2, here.past, first.at_or_after))
       | inr more ↦ elim (cases_lt k found.0) [
         | inl less ↦
-            let within : k < v.m = omega (arith, found.1) in
+            let within : k < v.part.m = omega (arith, found.1) in
             let rise = places-rise ys v.low h.values.rising k found.0 (omega arith) (omega (arith, found.1, h.values.count)) in
-            let unset = first.first (v.place + high_place v.low k (get_or ys k 0)) (here.not_past within) (omega (arith, found.2, rise)) in
+            let unset = first.first (v.part.place + high_place v.low k (get_or ys k 0)) (here.not_past within) (omega (arith, found.2, rise)) in
             let set = read.one k within in
             absurd (omega arith)
         | inr other ↦
@@ -157,25 +157,25 @@ first-next q v ys h k at p here first =
 pub same-range : {bits bits2 : List ℕ} {at end end2 p : ℕ} → bits ≡ bits2 → end ≡ end2 → IsFirstOne bits at end p → IsFirstOne bits2 at end2 p
 same-range {bits2 = bits2} {at = at} {end = end} {p = p} same last first = subst (λ n. IsFirstOne bits2 at n p) last (subst (λ xs. IsFirstOne xs at end p) same first)
 
-pub one-next : (q : ℕ) (v : EfView q) (ys : List ℕ) → Holds q v ys → (k : ℕ) → {bits : List ℕ} {at end p : ℕ} → bits ≡ bits_of v.bits.words.now
-    → end ≡ v.place + low_fields_at v.u v.m v.low → IsPast v.place v.m v.low ys k at → IsFirstOne bits at end p → (k < v.m) × (p ≡ v.place + high_place v.low k (get_or ys k 0))
+pub one-next : (q : ℕ) (v : EfView q) (ys : List ℕ) → Holds q v ys → (k : ℕ) → {bits : List ℕ} {at end p : ℕ} → bits ≡ bits_of v.part.bits.words.now
+    → end ≡ v.part.place + low_fields_at v.part.u v.part.m v.low → IsPast v.part.place v.part.m v.low ys k at → IsFirstOne bits at end p → (k < v.part.m) × (p ≡ v.part.place + high_place v.low k (get_or ys k 0))
 one-next q v ys h k {at = at} {p = p} same last here first = first-next q v ys h k at p here (same-range same last first)
 
 -- and there is none where all numbers are passed
-pub none-next : (q : ℕ) (v : EfView q) (ys : List ℕ) → Holds q v ys → (k : ℕ) → {bits : List ℕ} {at end : ℕ} → bits ≡ bits_of v.bits.words.now
-    → end ≡ v.place + low_fields_at v.u v.m v.low → IsPast v.place v.m v.low ys k at → HasNoOne bits at end → k ≡ v.m
+pub none-next : (q : ℕ) (v : EfView q) (ys : List ℕ) → Holds q v ys → (k : ℕ) → {bits : List ℕ} {at end : ℕ} → bits ≡ bits_of v.part.bits.words.now
+    → end ≡ v.part.place + low_fields_at v.part.u v.part.m v.low → IsPast v.part.place v.part.m v.low ys k at → HasNoOne bits at end → k ≡ v.part.m
 none-next q v ys h k same last here none =
-    elim (cases_lt k v.m) [
+    elim (cases_lt k v.part.m) [
       | inl less ↦
-          let own : ℕ = v.place + high_place v.low k (get_or ys k 0) in
-          let unset = none own (here.not_past less) (omega (arith, place-within v.u v.m v.low ys h.values k less, last)) in
+          let own : ℕ = v.part.place + high_place v.low k (get_or ys k 0) in
+          let unset = none own (here.not_past less) (omega (arith, place-within v.part.u v.part.m v.low ys h.values k less, last)) in
           let set = (view-read-at q v ys h).one k less in
           absurd (omega (arith, ap (λ xs. get_or xs own 0) same))
       | inr more ↦ omega (arith, here.few)
     ]
 
 -- right behind the ones of the first k numbers
-pub past-exactly : (q : ℕ) (v : EfView q) (ys : List ℕ) → Holds q v ys → (k at : ℕ) → k ≤ v.m → at ≡ v.place + past_place v.low ys k → IsPast v.place v.m v.low ys k at
+pub past-exactly : (q : ℕ) (v : EfView q) (ys : List ℕ) → Holds q v ys → (k at : ℕ) → k ≤ v.part.m → at ≡ v.part.place + past_place v.low ys k → IsPast v.part.place v.part.m v.low ys k at
 past-exactly q v ys h k at few is = record {
   few = few;
   past = omega arith;

@@ -43,16 +43,16 @@ places-fit best hold u m ys fit h k lt =
     omega (arith, place-within u m (low_width_of u m) ys h k lt)
 
 -- at its low width
-pub view-read-at : (q : ℕ) (v : EfView q) (ys : List ℕ) → Holds q v ys → IsRead (bits_of v.bits.words.now) v.place v.u v.m v.low q ys
-view-read-at q v ys h = subst (λ n. IsRead (bits_of v.bits.words.now) v.place v.u v.m n q ys) (sym v.low_is) (view-read q v ys h)
+pub view-read-at : (q : ℕ) (v : EfView q) (ys : List ℕ) → Holds q v ys → IsRead (bits_of v.part.bits.words.now) v.part.place v.part.u v.part.m v.low q ys
+view-read-at q v ys h = subst (λ n. IsRead (bits_of v.part.bits.words.now) v.part.place v.part.u v.part.m n q ys) (sym v.low_is) (view-read q v ys h)
 
-pub read-view-at : (q : ℕ) (v : EfView q) (ys : List ℕ) → IsRead (bits_of v.bits.words.now) v.place v.u v.m v.low q ys → Holds q v ys
-read-view-at q v ys h = read-view q v ys (subst (λ n. IsRead (bits_of v.bits.words.now) v.place v.u v.m n q ys) v.low_is h)
+pub read-view-at : (q : ℕ) (v : EfView q) (ys : List ℕ) → IsRead (bits_of v.part.bits.words.now) v.part.place v.part.u v.part.m v.low q ys → Holds q v ys
+read-view-at q v ys h = read-view q v ys (subst (λ n. IsRead (bits_of v.part.bits.words.now) v.part.place v.part.u v.part.m n q ys) v.low_is h)
 
 -- what is held lies within the words
 pub within-held : (q : ℕ) (v : EfView q) (ys : List ℕ) → Holds q v ys → IsWithin q v
-within-held q v ys h = omega (arith, (view-read-at q v ys h).room, length-bits_of v.bits.words.now)
+within-held q v ys h = omega (arith, (view-read-at q v ys h).room, length-bits_of v.part.bits.words.now)
 
-pub places-fit-at : PlacesFit → (q : ℕ) (v : EfView q) (ys : List ℕ) → Holds q v ys → (k : ℕ) → k < v.m → high_place v.low k (get_or ys k 0) < 2 ^ digits (3 * v.m)
+pub places-fit-at : PlacesFit → (q : ℕ) (v : EfView q) (ys : List ℕ) → Holds q v ys → (k : ℕ) → k < v.part.m → high_place v.low k (get_or ys k 0) < 2 ^ digits (3 * v.part.m)
 places-fit-at fit q v ys h k lt =
-    subst (λ n. high_place n k (get_or ys k 0) < 2 ^ digits (3 * v.m)) (sym v.low_is) (fit v.u v.m ys v.in_range h.values k lt)
+    subst (λ n. high_place n k (get_or ys k 0) < 2 ^ digits (3 * v.part.m)) (sym v.low_is) (fit v.part.u v.part.m ys v.part.in_range h.values k lt)

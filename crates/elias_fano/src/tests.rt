@@ -4,7 +4,8 @@ ghost use Rattle.part_cost.specs.Span.{AreRelative};
 ghost use Rattle.elias_fano.specs.EfView.{Holds};
 
 use super::*;
-use bit_words::BitWriter;
+use bit_words::{BitWriter, Bits};
+use no_memory::NoMemory;
 use part_cost::low_width_is_best;
 use std::alloc::Global;
 use std::test::Fail;
@@ -27,7 +28,7 @@ fn reads_the_widest_number(rt: HostRuntime) -> Result<(), Fail> {
     assert_eq!(rt; writer.len(), 49);
     let words = writer.into_words();
     assert_eq!(rt; words.as_slice(), [562_949_953_421_310].as_slice());
-    let view = EfView::<128>::at(Bits { words: &words }, 0, 1 << 48, 1);
+    let view = EfView::<128>::at(PlacedPart::at(Bits { words: &words }, 0, 1 << 48, 1));
     assert!(rt; view.check());
     assert_eq!(rt; view.get(0), 281_474_976_710_655);
     for x in [0, 1 << 47, 281_474_976_710_655] {
@@ -36,7 +37,9 @@ fn reads_the_widest_number(rt: HostRuntime) -> Result<(), Fail> {
     // With its one a place earlier it is a lesser number, and with a low bit less too.
     for word in [562_949_953_421_309, 562_949_953_421_306] {
         let other = [word];
-        assert!(rt; !EfView::<128>::at(Bits { words: &other }, 0, 1 << 48, 1).check());
+        assert!(rt;
+            !EfView::<128>::at(PlacedPart::at(Bits { words: &other }, 0, 1 << 48, 1)).check()
+        );
     }
     Ok(())
 }
@@ -52,12 +55,14 @@ fn reads_the_widest_numbers(rt: HostRuntime) -> Result<(), Fail> {
         words.as_slice(),
         [18_444_492_273_895_866_385, 8_589_934_591].as_slice()
     );
-    let view = EfView::<128>::at(Bits { words: &words }, 0, 1 << 48, 2);
+    let view = EfView::<128>::at(PlacedPart::at(Bits { words: &words }, 0, 1 << 48, 2));
     assert!(rt; view.check());
     assert_eq!(rt; view.get(0), 0);
     assert_eq!(rt; view.get(1), 281_474_976_710_655);
     assert_eq!(rt; view.next_geq(1, 0), (1, 281_474_976_710_655));
-    assert!(rt; !EfView::<128>::at(Bits { words: &words[..1] }, 0, 1 << 48, 2).check());
+    assert!(rt;
+        !EfView::<128>::at(PlacedPart::at(Bits { words: &words[..1] }, 0, 1 << 48, 2)).check()
+    );
     Ok(())
 }
 
@@ -77,7 +82,7 @@ fn reads_many_numbers(rt: HostRuntime) -> Result<(), Fail> {
         0x1a21_a21a_21a2_1a21,
         0x1201_a21a_21a2,
     ];
-    let view = EfView::<128>::at(Bits { words: &words }, 0, 1281, 129);
+    let view = EfView::<128>::at(PlacedPart::at(Bits { words: &words }, 0, 1281, 129));
     assert!(rt; view.check());
     for (k, number) in [(0, 0), (1, 10), (127, 1270), (128, 1280)] {
         assert!(rt; k < 129);
@@ -112,25 +117,25 @@ fn reads_many_numbers(rt: HostRuntime) -> Result<(), Fail> {
         0x11f1_a21a_21a2,
     ];
     assert!(rt;
-        !EfView::<128>::at(
+        !EfView::<128>::at(PlacedPart::at(
             Bits {
                 words: &words_of_287
             },
             0,
             1281,
             129
-        )
+        ))
         .check()
     );
     assert!(rt;
-        !EfView::<128>::at(
+        !EfView::<128>::at(PlacedPart::at(
             Bits {
                 words: &words[..10]
             },
             0,
             1281,
             129
-        )
+        ))
         .check()
     );
     Ok(())
@@ -168,13 +173,13 @@ fn behind_five_bits(alloc: Global, values: &[u64], u: u64) -> Result<Vec<u64>, N
 // place on as the first at or after the number and at or after one more.
 fn reads_number(view: &EfView<128>, values: &[u64], from: u64, k: u64) -> bool
     requires held { (ys : List ℕ) × Holds 128 view.now ys }
-    requires within { k + 1 < view.now.m }
+    requires within { k + 1 < view.now.part.m }
     requires before { from ≤ k }
-    requires listed { view.now.m ≤ length values.now }
+    requires listed { view.now.part.m ≤ length values.now }
 {
     let number = values[k as usize];
     let next = values[k as usize + 1];
-    if next >= view.u || number >= next || view.get(k) != number {
+    if next >= view.part.u || number >= next || view.get(k) != number {
         return false;
     }
     view.get(k + 1) == next
@@ -192,7 +197,7 @@ fn reads_parts_of_runs(rt: HostRuntime) -> Result<(), Fail> {
         let values = runs_of_70(rt.alloc(), count).expect(&rt, "memory");
         let words = behind_five_bits(rt.alloc(), &values, u).expect(&rt, "memory");
         assert!(rt; 1 <= words.len() && words.len() <= 1 << 20 && count <= values.len() as u64);
-        let view = EfView::<128>::at(Bits { words: &words }, 5, u, count);
+        let view = EfView::<128>::at(PlacedPart::at(Bits { words: &words }, 5, u, count));
         assert!(rt; view.check());
         for k in 0..count - 1 {
             for from in [0, k / 2, k] {
@@ -211,20 +216,20 @@ fn reads_parts_of_runs(rt: HostRuntime) -> Result<(), Fail> {
 // greater, if there is one.
 fn reads_from(view: &EfView<128>, values: &[u64], k: u64, to: u64) -> bool
     requires held { (ys : List ℕ) × Holds 128 view.now ys }
-    requires within { k < view.now.m }
+    requires within { k < view.now.part.m }
     requires ordered { k ≤ to }
-    requires before { to < view.now.m }
-    requires listed { view.now.m ≤ length values.now }
+    requires before { to < view.now.part.m }
+    requires listed { view.now.part.m ≤ length values.now }
 {
     let number = view.get(k);
     let x = values[to as usize];
-    if x >= view.u || view.first_from(k, number, x) != (to, x) {
+    if x >= view.part.u || view.first_from(k, number, x) != (to, x) {
         return false;
     }
-    if x + 1 == view.u {
-        return to + 1 == view.m;
+    if x + 1 == view.part.u {
+        return to + 1 == view.part.m;
     }
-    to + 1 < view.m && view.first_from(k, number, x + 1) == (to + 1, values[to as usize + 1])
+    to + 1 < view.part.m && view.first_from(k, number, x + 1) == (to + 1, values[to as usize + 1])
 }
 
 // The same parts, from places about the borders of words and runs, up to numbers near and far.
@@ -236,7 +241,7 @@ fn reads_first_from_numbers(rt: HostRuntime) -> Result<(), Fail> {
         let values = runs_of_70(rt.alloc(), count).expect(&rt, "memory");
         let words = behind_five_bits(rt.alloc(), &values, u).expect(&rt, "memory");
         assert!(rt; 1 <= words.len() && words.len() <= 1 << 20 && count <= values.len() as u64);
-        let view = EfView::<128>::at(Bits { words: &words }, 5, u, count);
+        let view = EfView::<128>::at(PlacedPart::at(Bits { words: &words }, 5, u, count));
         assert!(rt; view.check());
         for k in [0, 1, 63, 69, 70, 126, 127, 128, 129, count / 2, count - 1] {
             assert!(rt; k <= 5_000);
@@ -256,8 +261,8 @@ fn reads_first_from_numbers(rt: HostRuntime) -> Result<(), Fail> {
 // Whether the numbers below x are read as they are listed, from number k on: no other, and none less than there are and have room.
 fn reads_below(view: &EfView<128>, values: &[u64], k: u64, x: u64, to: &mut [u64]) -> bool
     requires held { (ys : List ℕ) × Holds 128 view.now ys }
-    requires within { k < view.now.m }
-    requires listed { view.now.m ≡ length values.now }
+    requires within { k < view.now.part.m }
+    requires listed { view.now.part.m ≡ length values.now }
 {
     let rest = &values[k as usize..];
     let given = view.values_below(k, view.get(k), x, to);
@@ -280,7 +285,7 @@ fn reads_numbers_below(rt: HostRuntime) -> Result<(), Fail> {
         let values = runs_of_70(rt.alloc(), count).expect(&rt, "memory");
         let words = behind_five_bits(rt.alloc(), &values, u).expect(&rt, "memory");
         assert!(rt; 1 <= words.len() && words.len() <= 1 << 20 && count == values.len() as u64);
-        let view = EfView::<128>::at(Bits { words: &words }, 5, u, count);
+        let view = EfView::<128>::at(PlacedPart::at(Bits { words: &words }, 5, u, count));
         assert!(rt; view.check());
         for k in [0, 1, 63, 69, 70, 126, 127, 128, 129, count / 2, count - 1] {
             assert!(rt; k <= 5_000);
@@ -316,7 +321,7 @@ fn patterns(u: u64, m: u64, bits: u32) -> u64
 {
     let mut count = 0;
     for pattern in 0..1_u64 << bits {
-        if EfView::<2>::at(Bits { words: &[pattern] }, 0, u, m).check() {
+        if EfView::<2>::at(PlacedPart::at(Bits { words: &[pattern] }, 0, u, m)).check() {
             count += 1;
         }
     }

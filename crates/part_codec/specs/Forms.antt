@@ -15,14 +15,14 @@ all_ones u = range_with_len 0 u
 -- the universe of a view in one of the forms
 abbrev pub universe_in : Form → ℕ
 universe_in (Ones v) = v.u
-universe_in (Bitmap v) = v.u
-universe_in (Ef v) = v.u
+universe_in (Bitmap v) = v.part.u
+universe_in (Ef v) = v.part.u
 
 -- how many values it has
 abbrev pub count_in : Form → ℕ
 count_in (Ones v) = v.u
-count_in (Bitmap v) = v.m
-count_in (Ef v) = v.m
+count_in (Bitmap v) = v.part.m
+count_in (Ef v) = v.part.m
 
 -- the kind that has this form
 abbrev pub kind_in : Form → Kind

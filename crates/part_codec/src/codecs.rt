@@ -8,9 +8,9 @@ impl<'a, const Q: u64> PartCodec<'a> for EfView<'a, Q> {
     ghost use Rattle.elias_fano.proofs.OneList.{one-list};
     ghost use Rattle.elias_fano.specs.EfView.{Holds};
 
-    ghost u = { λ v. v.u };
+    ghost u = { λ v. v.part.u };
 
-    ghost m = { λ v. v.m };
+    ghost m = { λ v. v.part.m };
 
     ghost holds = { λ v ys. Holds Q v ys };
 
@@ -47,9 +47,9 @@ impl<'a, const B: u64> PartCodec<'a> for MapView<'a, B> {
     ghost use Rattle.ranked_bitmap.proofs.OneList.{one-list};
     ghost use Rattle.ranked_bitmap.specs.MapView.{Holds};
 
-    ghost u = { λ v. v.u };
+    ghost u = { λ v. v.part.u };
 
-    ghost m = { λ v. v.m };
+    ghost m = { λ v. v.part.m };
 
     ghost holds = { λ v ys. Holds B v ys };
 

@@ -3,6 +3,7 @@ ghost use Rattle.part_cost.specs.Payload.{widest_low};
 ghost use Rattle.part_cost.specs.Span.{AreRelative};
 
 use super::*;
+use bit_words::Bits;
 use elias_fano::EfView;
 use part_cost::payload_bits;
 use ranked_bitmap::MapView;
@@ -27,11 +28,11 @@ fn reads_the_widest_number(rt: HostRuntime) -> Result<(), Fail> {
     assert_eq!(rt; writer.len(), 49);
     let words = writer.into_words();
     assert_eq!(rt; words.as_slice(), [562_949_953_421_310].as_slice());
-    assert!(rt; check_part(Bits { words: &words }, 0, 1 << 48, 1));
-    let view = PartView::at(Bits { words: &words }, 0, 1 << 48, 1);
+    assert!(rt; check_part(PlacedPart::at(Bits { words: &words }, 0, 1 << 48, 1)));
+    let view = PartView::at(PlacedPart::at(Bits { words: &words }, 0, 1 << 48, 1));
     assert!(rt; finds(&view, 1 << 47, 0, 0, 281_474_976_710_655));
     let other = [562_949_953_421_309];
-    assert!(rt; !check_part(Bits { words: &other }, 0, 1 << 48, 1));
+    assert!(rt; !check_part(PlacedPart::at(Bits { words: &other }, 0, 1 << 48, 1)));
     Ok(())
 }
 
@@ -76,7 +77,7 @@ fn reads_what_was_written(rt: HostRuntime) -> Result<(), Fail> {
     assert_eq!(rt; writer.len(), 685);
     let words = writer.into_words();
     assert_eq!(rt; words.len(), 11);
-    let view = PartView::at(Bits { words: &words }, 0, 1281, 129);
+    let view = PartView::at(PlacedPart::at(Bits { words: &words }, 0, 1281, 129));
     assert!(rt; view.check());
     for k in 0..129 {
         assert_eq!(rt; view.get(k as u64), values[k]);
@@ -126,20 +127,36 @@ fn gives<'a, C: PartCodec<'a>>(view: &C, place: u64, x: u64, room: usize, values
 fn finds_numbers(rt: HostRuntime) {
     let far = [770_105];
     let bits = Bits { words: &far };
-    assert!(rt; finds(&EfView::<128>::at(bits, 0, 701, 2), 4, 0, 1, 700));
-    assert!(rt; finds(&PartView::at(bits, 0, 701, 2), 3, 0, 0, 3));
-    assert!(rt; follows(&EfView::<128>::at(bits, 0, 701, 2), 0, 700));
-    assert!(rt; follows(&PartView::at(bits, 0, 701, 2), 0, 700));
+    assert!(rt;
+        finds(
+            &EfView::<128>::at(PlacedPart::at(bits, 0, 701, 2)),
+            4,
+            0,
+            1,
+            700
+        )
+    );
+    assert!(rt; finds(&PartView::at(PlacedPart::at(bits, 0, 701, 2)), 3, 0, 0, 3));
+    assert!(rt; follows(&EfView::<128>::at(PlacedPart::at(bits, 0, 701, 2)), 0, 700));
+    assert!(rt; follows(&PartView::at(PlacedPart::at(bits, 0, 701, 2)), 0, 700));
     let near = [33];
     let bits = Bits { words: &near };
-    assert!(rt; finds(&MapView::<512>::at(bits, 0, 6, 2), 1, 0, 1, 5));
-    assert!(rt; finds(&PartView::at(bits, 0, 6, 2), 0, 1, 1, 5));
-    assert!(rt; follows(&MapView::<512>::at(bits, 0, 6, 2), 0, 5));
-    assert!(rt; follows(&PartView::at(bits, 0, 6, 2), 0, 5));
+    assert!(rt;
+        finds(
+            &MapView::<512>::at(PlacedPart::at(bits, 0, 6, 2)),
+            1,
+            0,
+            1,
+            5
+        )
+    );
+    assert!(rt; finds(&PartView::at(PlacedPart::at(bits, 0, 6, 2)), 0, 1, 1, 5));
+    assert!(rt; follows(&MapView::<512>::at(PlacedPart::at(bits, 0, 6, 2)), 0, 5));
+    assert!(rt; follows(&PartView::at(PlacedPart::at(bits, 0, 6, 2)), 0, 5));
     assert!(rt; finds(&OnesView::at(3), 1, 0, 1, 1));
-    assert!(rt; finds(&PartView::at(bits, 0, 3, 3), 1, 2, 2, 2));
+    assert!(rt; finds(&PartView::at(PlacedPart::at(bits, 0, 3, 3)), 1, 2, 2, 2));
     assert!(rt; follows(&OnesView::at(3), 0, 1));
-    assert!(rt; follows(&PartView::at(bits, 0, 3, 3), 1, 2));
+    assert!(rt; follows(&PartView::at(PlacedPart::at(bits, 0, 3, 3)), 1, 2));
 }
 
 // How many patterns of so many bits are those of a part.
@@ -151,7 +168,7 @@ fn patterns(u: u64, m: u64, bits: u32) -> u64
 {
     let mut count = 0;
     for pattern in 0..1_u64 << bits {
-        if check_part(Bits { words: &[pattern] }, 0, u, m) {
+        if check_part(PlacedPart::at(Bits { words: &[pattern] }, 0, u, m)) {
             count += 1;
         }
     }
@@ -188,7 +205,7 @@ fn reads_back(alloc: Global, values: &[u64], u: u64) -> Result<bool, NoMemory>
     if words.len() > 1 {
         return Ok(false);
     }
-    let view = PartView::at(Bits { words: &words }, 0, u, m);
+    let view = PartView::at(PlacedPart::at(Bits { words: &words }, 0, u, m));
     if !view.check() {
         return Ok(false);
     }
@@ -257,9 +274,9 @@ fn accepts_each_part_and_nothing_else(rt: HostRuntime) {
         assert!(rt; 1 <= m && m <= u && u <= 1 << 48 && bits < 64);
         assert_eq!(rt; patterns(u, m, bits), count, "{m} in {u}");
     }
-    assert!(rt; check_part(Bits { words: &[65] }, 0, 7, 2));
-    assert!(rt; check_part(Bits { words: &[130] }, 1, 7, 2));
-    assert!(rt; !check_part(Bits { words: &[130] }, 0, 7, 2));
+    assert!(rt; check_part(PlacedPart::at(Bits { words: &[65] }, 0, 7, 2)));
+    assert!(rt; check_part(PlacedPart::at(Bits { words: &[130] }, 1, 7, 2)));
+    assert!(rt; !check_part(PlacedPart::at(Bits { words: &[130] }, 0, 7, 2)));
 }
 
 // Each form of a view, by itself and by its kind: from the first place and from the last, below a value and one more, with room
@@ -268,7 +285,7 @@ fn accepts_each_part_and_nothing_else(rt: HostRuntime) {
 fn gives_numbers_below(rt: HostRuntime) {
     let far = [770_105];
     let bits = Bits { words: &far };
-    let view = PartView::at(bits, 0, 701, 2);
+    let view = PartView::at(PlacedPart::at(bits, 0, 701, 2));
     for (place, x, room, values) in [
         (0, 701, 4, [3, 700].as_slice()),
         (0, 700, 4, [3].as_slice()),
@@ -283,13 +300,19 @@ fn gives_numbers_below(rt: HostRuntime) {
         assert!(rt; place < 2 && room <= 4);
         assert!(rt; gives(&view, place, x, room, values), "{place} {x} {room}");
         assert!(rt;
-            gives(&EfView::<128>::at(bits, 0, 701, 2), place, x, room, values),
+            gives(
+                &EfView::<128>::at(PlacedPart::at(bits, 0, 701, 2)),
+                place,
+                x,
+                room,
+                values
+            ),
             "{place} {x} {room}"
         );
     }
     let near = [33];
     let bits = Bits { words: &near };
-    let view = PartView::at(bits, 0, 6, 2);
+    let view = PartView::at(PlacedPart::at(bits, 0, 6, 2));
     for (place, x, room, values) in [
         (0, 6, 4, [0, 5].as_slice()),
         (0, 5, 4, [0].as_slice()),
@@ -302,11 +325,17 @@ fn gives_numbers_below(rt: HostRuntime) {
         assert!(rt; place < 2 && room <= 4);
         assert!(rt; gives(&view, place, x, room, values), "{place} {x} {room}");
         assert!(rt;
-            gives(&MapView::<512>::at(bits, 0, 6, 2), place, x, room, values),
+            gives(
+                &MapView::<512>::at(PlacedPart::at(bits, 0, 6, 2)),
+                place,
+                x,
+                room,
+                values
+            ),
             "{place} {x} {room}"
         );
     }
-    let view = PartView::at(bits, 0, 3, 3);
+    let view = PartView::at(PlacedPart::at(bits, 0, 3, 3));
     for (place, x, room, values) in [
         (0, 3, 4, [0, 1, 2].as_slice()),
         (0, 2, 4, [0, 1].as_slice()),

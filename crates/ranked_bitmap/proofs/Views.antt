@@ -18,7 +18,7 @@ use Rattle.ranked_bitmap.proofs.Reading.{counts, samples-are, part-is, below-uni
 
 -- what is held lies within the words
 pub within-held : (q : ℕ) (v : MapView q) (ys : List ℕ) → Holds q v ys → IsWithin q v
-within-held q v ys h = omega (arith, (view-read q v ys h).room, length-bits_of v.bits.words.now)
+within-held q v ys h = omega (arith, (view-read q v ys h).room, length-bits_of v.part.bits.words.now)
 
 -- all pieces are bits
 pub part-is-bits : PartIsBits
@@ -28,61 +28,61 @@ part-is-bits q u ys =
     (subst (λ xs. AreBits xs) (samples-are q ys u) (bits-fields (digits (length ys)) (counts q ys u))))
 
 -- what is read of the numbers that a view holds
-pub number-found : (q : ℕ) (v : MapView q) (ys : List ℕ) → Holds q v ys → (least p : ℕ) → least < v.u
-    → IsFirstOne (bits_of v.bits.words.now) (v.place + least) (v.place + v.u) p → p - v.place ≡ get_or ys (ones_between (bits_of v.bits.words.now) v.place (v.place + least)) 0
+pub number-found : (q : ℕ) (v : MapView q) (ys : List ℕ) → Holds q v ys → (least p : ℕ) → least < v.part.u
+    → IsFirstOne (bits_of v.part.bits.words.now) (v.part.place + least) (v.part.place + v.part.u) p → p - v.part.place ≡ get_or ys (ones_between (bits_of v.part.bits.words.now) v.part.place (v.part.place + least)) 0
 number-found q v ys h least p lt first =
-    first-number (bits_of v.bits.words.now) v.place v.u v.m q ys (bits-bits_of v.bits.words.now) (view-read q v ys h) least p first (omega arith)
+    first-number (bits_of v.part.bits.words.now) v.part.place v.part.u v.part.m q ys (bits-bits_of v.part.bits.words.now) (view-read q v ys h) least p first (omega arith)
 
-pub number-there : (q : ℕ) (v : MapView q) (ys : List ℕ) → Holds q v ys → (least : ℕ) → least < v.u
-    → HasNoOne (bits_of v.bits.words.now) (v.place + least) (v.place + v.u) → ⊥
-number-there q v ys h least lt none = some-number (bits_of v.bits.words.now) v.place v.u v.m q ys (view-read q v ys h) least lt none
+pub number-there : (q : ℕ) (v : MapView q) (ys : List ℕ) → Holds q v ys → (least : ℕ) → least < v.part.u
+    → HasNoOne (bits_of v.part.bits.words.now) (v.part.place + least) (v.part.place + v.part.u) → ⊥
+number-there q v ys h least lt none = some-number (bits_of v.part.bits.words.now) v.part.place v.part.u v.part.m q ys (view-read q v ys h) least lt none
 
-pub number-below : (q : ℕ) (v : MapView q) (ys : List ℕ) → Holds q v ys → (k : ℕ) → k < v.m → get_or ys k 0 < v.u
-number-below q v ys h k lt = below-universe v.u v.m ys h.values k lt
+pub number-below : (q : ℕ) (v : MapView q) (ys : List ℕ) → Holds q v ys → (k : ℕ) → k < v.part.m → get_or ys k 0 < v.part.u
+number-below q v ys h k lt = below-universe v.part.u v.part.m ys h.values k lt
 
-pub next-below : (q : ℕ) (v : MapView q) (ys : List ℕ) → Holds q v ys → (k : ℕ) → k + 1 < v.m → get_or ys k 0 + 1 < v.u
+pub next-below : (q : ℕ) (v : MapView q) (ys : List ℕ) → Holds q v ys → (k : ℕ) → k + 1 < v.part.m → get_or ys k 0 + 1 < v.part.u
 next-below q v ys h k lt =
     omega (arith, rises ys h.values.rising k (k + 1) (omega arith) (omega (arith, h.values.count)), number-below q v ys h (k + 1) lt)
 
-pub next-number : (q : ℕ) (v : MapView q) (ys : List ℕ) → Holds q v ys → (k number : ℕ) → k < v.m → number ≡ get_or ys k 0
-    → ones_between (bits_of v.bits.words.now) v.place (v.place + (number + 1)) ≡ k + 1
+pub next-number : (q : ℕ) (v : MapView q) (ys : List ℕ) → Holds q v ys → (k number : ℕ) → k < v.part.m → number ≡ get_or ys k 0
+    → ones_between (bits_of v.part.bits.words.now) v.part.place (v.part.place + (number + 1)) ≡ k + 1
 next-number q v ys h k number lt is =
-    ap (λ n. ones_between (bits_of v.bits.words.now) v.place (v.place + (n + 1))) is
-    ∙ count-next (bits_of v.bits.words.now) v.place v.u v.m q ys (bits-bits_of v.bits.words.now) (view-read q v ys h) k lt
+    ap (λ n. ones_between (bits_of v.part.bits.words.now) v.part.place (v.part.place + (n + 1))) is
+    ∙ count-next (bits_of v.part.bits.words.now) v.part.place v.part.u v.part.m q ys (bits-bits_of v.part.bits.words.now) (view-read q v ys h) k lt
 
 -- so many numbers lie below number k
-pub before-number : (q : ℕ) (v : MapView q) (ys : List ℕ) → Holds q v ys → (k number : ℕ) → k < v.m → number ≡ get_or ys k 0
-    → ones_between (bits_of v.bits.words.now) v.place (v.place + number) ≡ k
+pub before-number : (q : ℕ) (v : MapView q) (ys : List ℕ) → Holds q v ys → (k number : ℕ) → k < v.part.m → number ≡ get_or ys k 0
+    → ones_between (bits_of v.part.bits.words.now) v.part.place (v.part.place + number) ≡ k
 before-number q v ys h k number lt is =
-    ap (λ n. ones_between (bits_of v.bits.words.now) v.place (v.place + n)) is
-    ∙ count-number (bits_of v.bits.words.now) v.place v.u v.m q ys (bits-bits_of v.bits.words.now) (view-read q v ys h) k lt
+    ap (λ n. ones_between (bits_of v.part.bits.words.now) v.part.place (v.part.place + n)) is
+    ∙ count-number (bits_of v.part.bits.words.now) v.part.place v.part.u v.part.m q ys (bits-bits_of v.part.bits.words.now) (view-read q v ys h) k lt
 
-pub first-at-least : (q : ℕ) (v : MapView q) (ys : List ℕ) → Holds q v ys → (from x : ℕ) → x < v.u
-    → from ≤ ones_between (bits_of v.bits.words.now) v.place (v.place + x) → IsFirstAtLeast ys from x (ones_between (bits_of v.bits.words.now) v.place (v.place + x))
+pub first-at-least : (q : ℕ) (v : MapView q) (ys : List ℕ) → Holds q v ys → (from x : ℕ) → x < v.part.u
+    → from ≤ ones_between (bits_of v.part.bits.words.now) v.part.place (v.part.place + x) → IsFirstAtLeast ys from x (ones_between (bits_of v.part.bits.words.now) v.part.place (v.part.place + x))
 first-at-least q v ys h from x reached ahead =
-    next-is (bits_of v.bits.words.now) v.place v.u v.m q ys (bits-bits_of v.bits.words.now) (view-read q v ys h) from x reached ahead
+    next-is (bits_of v.part.bits.words.now) v.part.place v.part.u v.part.m q ys (bits-bits_of v.part.bits.words.now) (view-read q v ys h) from x reached ahead
 
-pub first-is-here : (q : ℕ) (v : MapView q) (ys : List ℕ) → Holds q v ys → (from x : ℕ) → x < v.u → from < v.m
-    → ones_between (bits_of v.bits.words.now) v.place (v.place + x) ≤ from → IsFirstAtLeast ys from x from
+pub first-is-here : (q : ℕ) (v : MapView q) (ys : List ℕ) → Holds q v ys → (from x : ℕ) → x < v.part.u → from < v.part.m
+    → ones_between (bits_of v.part.bits.words.now) v.part.place (v.part.place + x) ≤ from → IsFirstAtLeast ys from x from
 first-is-here q v ys h from x reached within passed =
-    here-is (bits_of v.bits.words.now) v.place v.u v.m q ys (bits-bits_of v.bits.words.now) (view-read q v ys h) from x reached within passed
+    here-is (bits_of v.part.bits.words.now) v.part.place v.part.u v.part.m q ys (bits-bits_of v.part.bits.words.now) (view-read q v ys h) from x reached within passed
 
 -- a view whose bits pass the check holds some numbers
-pub checked-holds : (q : ℕ) (v : MapView q) → IsWithin q v → ones_between (bits_of v.bits.words.now) v.place (v.place + v.u) ≡ v.m
-    → get_or (bits_of v.bits.words.now) (v.place + (v.u - 1)) 0 ≡ 1 → AreSampled q (bits_of v.bits.words.now) v.place v.u v.m
+pub checked-holds : (q : ℕ) (v : MapView q) → IsWithin q v → ones_between (bits_of v.part.bits.words.now) v.part.place (v.part.place + v.part.u) ≡ v.part.m
+    → get_or (bits_of v.part.bits.words.now) (v.part.place + (v.part.u - 1)) 0 ≡ 1 → AreSampled q (bits_of v.part.bits.words.now) v.part.place v.part.u v.part.m
     → (ys : List ℕ) × Holds q v ys
 checked-holds q v within all last sampled =
-    let found = read-checked (bits_of v.bits.words.now) v.place v.u v.m q (bits-bits_of v.bits.words.now) v.some (let e : 1 ≤ v.u = omega (arith, v.some, v.fit) in e)
-    (omega (arith, within, length-bits_of v.bits.words.now)) all last sampled in
+    let found = read-checked (bits_of v.part.bits.words.now) v.part.place v.part.u v.part.m q (bits-bits_of v.part.bits.words.now) v.part.some (let e : 1 ≤ v.part.u = omega (arith, v.part.some, v.part.fit) in e)
+    (omega (arith, within, length-bits_of v.part.bits.words.now)) all last sampled in
     (found.0, read-view q v found.0 found.1)
 
 -- and what holds some numbers passes it
-pub held-all : (q : ℕ) (v : MapView q) (ys : List ℕ) → Holds q v ys → ones_between (bits_of v.bits.words.now) v.place (v.place + v.u) ≡ v.m
-held-all q v ys h = counted-all (bits_of v.bits.words.now) v.place v.u v.m q ys (bits-bits_of v.bits.words.now) (view-read q v ys h)
+pub held-all : (q : ℕ) (v : MapView q) (ys : List ℕ) → Holds q v ys → ones_between (bits_of v.part.bits.words.now) v.part.place (v.part.place + v.part.u) ≡ v.part.m
+held-all q v ys h = counted-all (bits_of v.part.bits.words.now) v.part.place v.part.u v.part.m q ys (bits-bits_of v.part.bits.words.now) (view-read q v ys h)
 
-pub held-last : (q : ℕ) (v : MapView q) (ys : List ℕ) → Holds q v ys → get_or (bits_of v.bits.words.now) (v.place + (v.u - 1)) 0 ≡ 1
-held-last q v ys h = last-set (bits_of v.bits.words.now) v.place v.u v.m q ys (view-read q v ys h)
+pub held-last : (q : ℕ) (v : MapView q) (ys : List ℕ) → Holds q v ys → get_or (bits_of v.part.bits.words.now) (v.part.place + (v.part.u - 1)) 0 ≡ 1
+held-last q v ys h = last-set (bits_of v.part.bits.words.now) v.part.place v.part.u v.part.m q ys (view-read q v ys h)
 
-pub held-samples : DigitsHold → (q : ℕ) (v : MapView q) (ys : List ℕ) → Holds q v ys → AreSampled q (bits_of v.bits.words.now) v.place v.u v.m
+pub held-samples : DigitsHold → (q : ℕ) (v : MapView q) (ys : List ℕ) → Holds q v ys → AreSampled q (bits_of v.part.bits.words.now) v.part.place v.part.u v.part.m
 held-samples hold q v ys h =
-    samples-read hold (bits_of v.bits.words.now) v.place v.u v.m q ys (bits-bits_of v.bits.words.now) v.spacing (omega (arith, v.fit, v.in_range)) (view-read q v ys h)
+    samples-read hold (bits_of v.part.bits.words.now) v.part.place v.part.u v.part.m q ys (bits-bits_of v.part.bits.words.now) v.spacing (omega (arith, v.part.fit, v.part.in_range)) (view-read q v ys h)

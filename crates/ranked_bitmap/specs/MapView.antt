@@ -7,8 +7,8 @@ use Rattle.ranked_bitmap.specs.MapPlaces.{map_length}
 
 -- The view's bits are those of these relative values.
 abbrev pub Holds : (q : ℕ) → MapView q → List ℕ → Type 0
-Holds q v ys = HoldsPart (map_bits q) (bits_of v.bits.words.now) v.place v.u v.m ys
+Holds q v ys = HoldsPart (map_bits q) (bits_of v.part.bits.words.now) v.part.place v.part.u v.part.m ys
 
 -- The view's bits lie within the words.
 abbrev pub IsWithin : (q : ℕ) → MapView q → Type 0
-IsWithin q v = v.place + map_length q v.u v.m ≤ 64 * length v.bits.words.now
+IsWithin q v = v.part.place + map_length q v.part.u v.part.m ≤ 64 * length v.part.bits.words.now

@@ -3,7 +3,8 @@ ghost use Rattle.part_cost.specs.Span.{AreRelative};
 ghost use Rattle.ranked_bitmap.specs.MapView.{Holds};
 
 use super::*;
-use bit_words::BitWriter;
+use bit_words::{BitWriter, Bits};
+use no_memory::NoMemory;
 use std::alloc::{AllocError, Global};
 use std::test::Fail;
 
@@ -23,7 +24,7 @@ fn accepts_the_lists_alone(rt: HostRuntime) -> Result<(), Fail> {
     let lists = [97, 98, 100, 104, 48];
     for word in 0..256 {
         let words = [word];
-        let view = MapView::<4>::at(Bits { words: &words }, 0, 6, 2);
+        let view = MapView::<4>::at(PlacedPart::at(Bits { words: &words }, 0, 6, 2));
         assert_eq!(rt; view.check(), lists.contains(&word), "{word}");
     }
     Ok(())
@@ -35,7 +36,7 @@ fn reads_many_numbers(rt: HostRuntime) -> Result<(), Fail> {
     let mut words = [u64::MAX; 10];
     words[4] = !(1 << 44);
     words[9] = (511 << 24) | ((1 << 24) - 1);
-    let view = MapView::<512>::at(Bits { words: &words }, 0, 600, 599);
+    let view = MapView::<512>::at(PlacedPart::at(Bits { words: &words }, 0, 600, 599));
     assert!(rt; view.check());
     for (k, number) in [(0, 0), (299, 299), (300, 301), (598, 599)] {
         assert_eq!(rt; view.get(k), number, "{k}");
@@ -58,12 +59,16 @@ fn refuses_other_bits(rt: HostRuntime) -> Result<(), Fail> {
     let mut words = [u64::MAX; 10];
     words[4] = !(1 << 44);
     words[9] = (510 << 24) | ((1 << 24) - 1);
-    assert!(rt; !MapView::<512>::at(Bits { words: &words }, 0, 600, 599).check());
+    assert!(rt; !MapView::<512>::at(PlacedPart::at(Bits { words: &words }, 0, 600, 599)).check());
     words[9] = (511 << 24) | ((1 << 24) - 1);
-    assert!(rt; !MapView::<512>::at(Bits { words: &words[..9] }, 0, 600, 599).check());
-    assert!(rt; !MapView::<512>::at(Bits { words: &words }, 31, 600, 599).check());
+    assert!(rt;
+        !MapView::<512>::at(PlacedPart::at(Bits { words: &words[..9] }, 0, 600, 599)).check()
+    );
+    assert!(rt; !MapView::<512>::at(PlacedPart::at(Bits { words: &words }, 31, 600, 599)).check());
     // The widest universe takes far more words.
-    assert!(rt; !MapView::<512>::at(Bits { words: &words }, 0, 1 << 48, 1 << 47).check());
+    assert!(rt;
+        !MapView::<512>::at(PlacedPart::at(Bits { words: &words }, 0, 1 << 48, 1 << 47)).check()
+    );
     Ok(())
 }
 
@@ -96,11 +101,11 @@ fn written(alloc: Global, values: &[u64], u: u64) -> Result<Option<Vec<u64>>, No
 // Whether number k is found by its place, by the number before it, by itself and by one more than the number before it.
 fn finds(view: &MapView<'_, 512>, values: &[u64], k: usize) -> bool
     requires held { (ys : List ℕ) × Holds 512 view.now ys }
-    requires count { length values.now ≡ view.now.m }
+    requires count { length values.now ≡ view.now.part.m }
     requires within { k < length values.now }
 {
     let (place, number) = (k as u64, values[k]);
-    if view.get(place) != number || number >= view.u {
+    if view.get(place) != number || number >= view.part.u {
         return false;
     }
     if view.next_geq(number, 0) != (place, number) || view.next_geq(0, place) != (place, number) {
@@ -120,7 +125,7 @@ fn finds(view: &MapView<'_, 512>, values: &[u64], k: usize) -> bool
 // Whether each number from number k on is found by number k, by itself and by one more than the number before it.
 fn finds_later(view: &MapView<'_, 512>, values: &[u64], k: usize) -> bool
     requires held { (ys : List ℕ) × Holds 512 view.now ys }
-    requires count { length values.now ≡ view.now.m }
+    requires count { length values.now ≡ view.now.part.m }
     requires within { k < length values.now }
 {
     let from = k as u64;
@@ -128,7 +133,7 @@ fn finds_later(view: &MapView<'_, 512>, values: &[u64], k: usize) -> bool
     let mut least = 0;
     for j in k..values.len() {
         let (place, later) = (j as u64, values[j]);
-        if later < least || later >= view.u {
+        if later < least || later >= view.part.u {
             return false;
         }
         if view.first_from(from, number, least) != (place, later)
@@ -144,7 +149,7 @@ fn finds_later(view: &MapView<'_, 512>, values: &[u64], k: usize) -> bool
 // Whether the numbers from number k on that are below x are given, as many as have room, and no more.
 fn gives(view: &MapView<'_, 512>, values: &[u64], k: usize, x: u64, room: usize) -> bool
     requires held { (ys : List ℕ) × Holds 512 view.now ys }
-    requires count { length values.now ≡ view.now.m }
+    requires count { length values.now ≡ view.now.part.m }
     requires within { k < length values.now }
     requires room { room ≤ 1025 }
 {
@@ -164,11 +169,16 @@ fn gives(view: &MapView<'_, 512>, values: &[u64], k: usize, x: u64, room: usize)
 // all.
 fn gives_blocks(view: &MapView<'_, 512>, values: &[u64], k: usize) -> bool
     requires held { (ys : List ℕ) × Holds 512 view.now ys }
-    requires count { length values.now ≡ view.now.m }
+    requires count { length values.now ≡ view.now.part.m }
     requires within { k < length values.now }
 {
     let number = values[k];
-    for x in [number, number.saturating_add(1), view.u - 1, view.u] {
+    for x in [
+        number,
+        number.saturating_add(1),
+        view.part.u - 1,
+        view.part.u,
+    ] {
         for room in [0, 1, 2, 1025] {
             if room > 1025 || !gives(view, values, k, x, room) {
                 return false;
@@ -184,7 +194,7 @@ fn reads_back(words: &[u64], values: &[u64], u: u64) -> bool {
     if words.len() > 100 || m == 0 || m > u || u > 2000 {
         return false;
     }
-    let view = MapView::<512>::at(Bits { words }, 0, u, m);
+    let view = MapView::<512>::at(PlacedPart::at(Bits { words }, 0, u, m));
     if !view.check() {
         return false;
     }

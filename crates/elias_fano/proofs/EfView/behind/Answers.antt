@@ -36,5 +36,5 @@ returns-clause-within g c =
 pub returns-clause-past : goal.returns-clause-past
 returns-clause-past g c = λ ys h.
     let v = c.args.self.now in
-    let one : v.place + c.args.number / 2 ^ v.low + c.args.k ≡ v.place + high_place v.low c.args.k (get_or ys c.args.k 0) = omega (arith, ap (λ n. n / 2 ^ v.low) (c.requires.number ys h)) in
-    past-number v.place v.m v.low ys h.values.rising h.values.count c.args.k (v.place + c.args.number / 2 ^ v.low + c.args.k) c.requires.within one
+    let one : v.part.place + c.args.number / 2 ^ v.low + c.args.k ≡ v.part.place + high_place v.low c.args.k (get_or ys c.args.k 0) = omega (arith, ap (λ n. n / 2 ^ v.low) (c.requires.number ys h)) in
+    past-number v.part.place v.part.m v.low ys h.values.rising h.values.count c.args.k (v.part.place + c.args.number / 2 ^ v.low + c.args.k) c.requires.within one

@@ -10,7 +10,7 @@ number-requires g c =
     let ys = c.requires.held.0 in
     let h = c.requires.held.1 in
     let one = c.seek-found.ensures.one ys h in
-    let within : c.seek-found.result.0 < v.m = omega (arith, (c.seek-found.ensures.first ys h).within, h.values.count) in
+    let within : c.seek-found.result.0 < v.part.m = omega (arith, (c.seek-found.ensures.first ys h).within, h.values.count) in
     let below = place-below g.row.Q v ys c.seek-found.result.0 h within in
     (omega arith, (within-held g.row.Q v ys h, (within, (omega arith, omega arith))))
 

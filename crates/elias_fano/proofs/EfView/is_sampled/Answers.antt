@@ -18,7 +18,7 @@ pub sample-requires : goal.sample-requires
 sample-requires g c =
     let last = last-is-k g.row.Q c.args.k c.if-k.value c.args.self.now.spacing c.if-k-ne0.false
     (elim c.if-k.branch [ then-k w ↦ inl (w.if-k.true, w.value-is) | else-k w ↦ inr (w.if-k.false, w.value-is) ]) in
-    (omega arith, (c.requires.bits, within-sampled g.row.Q c.args.self.now.m (c.args.k / g.row.Q - 1) c.args.self.now.spacing (omega (arith, c.requires.within, last))))
+    (omega arith, (c.requires.bits, within-sampled g.row.Q c.args.self.now.part.m (c.args.k / g.row.Q - 1) c.args.self.now.spacing (omega (arith, c.requires.within, last))))
 
 pub returns-then-k-ne0 : goal.returns-then-k-ne0
 returns-then-k-ne0 g c =
@@ -38,7 +38,7 @@ returns-else-k-ne0 g c =
     let last = last-is-k g.row.Q c.args.k c.if-k.value v.spacing c.if-k-ne0.false
     (elim c.if-k.branch [ then-k w ↦ inl (w.if-k.true, w.value-is) | else-k w ↦ inr (w.if-k.false, w.value-is) ]) in (
       λ set j e.
-          ap (λ n. sample_at (bits_of v.bits.words.now) v.place v.u v.m v.low n) (sym (sample-number g.row.Q c.args.k j v.spacing e))
-          ∙ sym c.sample.ensures ∙ eqb-true c.sample.result (c.args.one - v.place) set,
-      λ same. eq-eqb c.sample.result (c.args.one - v.place) (c.sample.ensures ∙ same (c.args.k / g.row.Q - 1) last),
+          ap (λ n. sample_at (bits_of v.part.bits.words.now) v.part.place v.part.u v.part.m v.low n) (sym (sample-number g.row.Q c.args.k j v.spacing e))
+          ∙ sym c.sample.ensures ∙ eqb-true c.sample.result (c.args.one - v.part.place) set,
+      λ same. eq-eqb c.sample.result (c.args.one - v.part.place) (c.sample.ensures ∙ same (c.args.k / g.row.Q - 1) last),
     )

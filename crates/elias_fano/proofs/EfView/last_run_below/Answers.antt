@@ -10,6 +10,6 @@ runs-preserved-then-start_of_run-self g c =
       order = omega (arith, c.runs-test.true, c.runs.invariant.order);
       within = c.runs.invariant.within;
       before = λ ys h.
-          passed-below v.place v.m v.low ys h.values.rising h.values.count (g.row.Q * c.args.first) (g.row.Q * middle) c.start_of_run.result c.args.high (c.start_of_run.ensures ys h)
+          passed-below v.part.place v.part.m v.low ys h.values.rising h.values.count (g.row.Q * c.args.first) (g.row.Q * middle) c.start_of_run.result c.args.high (c.start_of_run.ensures ys h)
           (λ some. c.if-start_of_run-self.true);
     }

@@ -6,7 +6,7 @@ use Rattle.elias_fano.proofs.EfView.last_run_below.Given as goal
 abbrev pub invariant-runs : goal.invariant-runs
 invariant-runs g l = record {
   order : l.run < l.end;
-  within : l.end ≤ (l.self.m - 1) / g.row.Q + 1;
+  within : l.end ≤ (l.self.part.m - 1) / g.row.Q + 1;
   before : (ys : List ℕ) → Holds g.row.Q l.self ys → AreBelow ys (g.row.Q * l.first) (g.row.Q * l.run) (l.high * 2 ^ l.self.low);
 }
 

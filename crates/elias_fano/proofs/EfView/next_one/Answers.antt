@@ -17,11 +17,11 @@ unwrap-requires g c =
     let v = c.args.self.now in
     let ys = c.requires.held.0 in
     let h = c.requires.held.1 in
-    some-from c.one_from.result (HasNoOne (bits_of v.bits.words.now) c.args.from (v.place + c.args.k + (v.u - 1) / 2 ^ v.low + 1)) c.one_from.ensures.none
+    some-from c.one_from.result (HasNoOne (bits_of v.part.bits.words.now) c.args.from (v.part.place + c.args.k + (v.part.u - 1) / 2 ^ v.low + 1)) c.one_from.ensures.none
     (λ none. one-there g.row.Q v ys c.args.k c.args.from h c.requires.within ((c.requires.past ys h).not_past c.requires.within) none)
 
 pub returns : goal.returns
 returns g c = λ ys h.
     let v = c.args.self.now in
     one-found g.row.Q v ys c.args.k c.args.from c.unwrap.result h c.requires.within (c.requires.past ys h).past ((c.requires.past ys h).not_past c.requires.within)
-    (MatchOption-at_some _ (λ p. IsFirstOne (bits_of v.bits.words.now) c.args.from (v.place + c.args.k + (v.u - 1) / 2 ^ v.low + 1) p) c.unwrap.result c.unwrap.ensures c.one_from.ensures.first)
+    (MatchOption-at_some _ (λ p. IsFirstOne (bits_of v.part.bits.words.now) c.args.from (v.part.place + c.args.k + (v.part.u - 1) / 2 ^ v.low + 1) p) c.unwrap.result c.unwrap.ensures c.one_from.ensures.first)

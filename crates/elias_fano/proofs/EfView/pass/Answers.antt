@@ -21,8 +21,8 @@ is_before-requires g c =
     let ys = c.requires.held.0 in
     let h = c.requires.held.1 in
     let next = ones-passed g.row.Q v ys h c.args.k c.args.at c.args.end (c.requires.past ys h) c.requires.ordered c.requires.inside in
-    let past : IsPast v.place v.m v.low ys (c.args.k + c.ones.result) c.args.end =
-    subst (λ n. IsPast v.place v.m v.low ys (c.args.k + n) c.args.end) (sym c.ones.ensures) next in
+    let past : IsPast v.part.place v.part.m v.low ys (c.args.k + c.ones.result) c.args.end =
+    subst (λ n. IsPast v.part.place v.part.m v.low ys (c.args.k + n) c.args.end) (sym c.ones.ensures) next in
     (omega arith, omega (arith, past.past, past-count v.low ys (c.args.k + c.ones.result)))
 
 pub returns-then-is_before-clause-within : goal.returns-then-is_before-clause-within
@@ -30,22 +30,22 @@ returns-then-is_before-clause-within g c =
     let v = c.args.self.now in
     let ys = c.requires.held.0 in
     let h = c.requires.held.1 in
-    let past : IsPast v.place v.m v.low ys (c.args.k + c.ones.result) c.args.end =
-    subst (λ n. IsPast v.place v.m v.low ys (c.args.k + n) c.args.end) (sym c.ones.ensures)
+    let past : IsPast v.part.place v.part.m v.low ys (c.args.k + c.ones.result) c.args.end =
+    subst (λ n. IsPast v.part.place v.part.m v.low ys (c.args.k + n) c.args.end) (sym c.ones.ensures)
     (ones-passed g.row.Q v ys h c.args.k c.args.at c.args.end (c.requires.past ys h) c.requires.ordered c.requires.inside) in
-    not-all-below v.u v.m ys h.values c.args.from (c.args.k + c.ones.result) (c.args.high * 2 ^ v.low) c.requires.within past.few c.requires.reached
-    (passed-below v.place v.m v.low ys h.values.rising h.values.count c.args.from (c.args.k + c.ones.result) c.args.end c.args.high past (c.is_before.ensures.before c.if-is_before.true))
+    not-all-below v.part.u v.part.m ys h.values c.args.from (c.args.k + c.ones.result) (c.args.high * 2 ^ v.low) c.requires.within past.few c.requires.reached
+    (passed-below v.part.place v.part.m v.low ys h.values.rising h.values.count c.args.from (c.args.k + c.ones.result) c.args.end c.args.high past (c.is_before.ensures.before c.if-is_before.true))
 
 pub returns-then-is_before-clause-past : goal.returns-then-is_before-clause-past
 returns-then-is_before-clause-past g c = λ ys h.
     let v = c.args.self.now in
-    subst (λ n. IsPast v.place v.m v.low ys (c.args.k + n) c.args.end) (sym c.ones.ensures)
+    subst (λ n. IsPast v.part.place v.part.m v.low ys (c.args.k + n) c.args.end) (sym c.ones.ensures)
     (ones-passed g.row.Q v ys h c.args.k c.args.at c.args.end (c.requires.past ys h) c.requires.ordered c.requires.inside)
 
 pub returns-then-is_before-clause-below : goal.returns-then-is_before-clause-below
 returns-then-is_before-clause-below g c = λ ys h.
     let v = c.args.self.now in
-    let past : IsPast v.place v.m v.low ys (c.args.k + c.ones.result) c.args.end =
-    subst (λ n. IsPast v.place v.m v.low ys (c.args.k + n) c.args.end) (sym c.ones.ensures)
+    let past : IsPast v.part.place v.part.m v.low ys (c.args.k + c.ones.result) c.args.end =
+    subst (λ n. IsPast v.part.place v.part.m v.low ys (c.args.k + n) c.args.end) (sym c.ones.ensures)
     (ones-passed g.row.Q v ys h c.args.k c.args.at c.args.end (c.requires.past ys h) c.requires.ordered c.requires.inside) in
-    passed-below v.place v.m v.low ys h.values.rising h.values.count c.args.from (c.args.k + c.ones.result) c.args.end c.args.high past (c.is_before.ensures.before c.if-is_before.true)
+    passed-below v.part.place v.part.m v.low ys h.values.rising h.values.count c.args.from (c.args.k + c.ones.result) c.args.end c.args.high past (c.is_before.ensures.before c.if-is_before.true)

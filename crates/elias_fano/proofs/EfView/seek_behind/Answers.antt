@@ -24,9 +24,9 @@ next_one-one-requires-in-numbers g c =
     let v = c.args.self.now in
     let ys = c.requires.held.0 in
     let h = c.requires.held.1 in
-    let past = λ (zs : List ℕ) (held : Holds g.row.Q v zs). past-number v.place v.m v.low zs held.values.rising held.values.count c.numbers.k c.numbers.one c.numbers.invariant.within (c.numbers.invariant.place zs held) in
-    let below = passed-below v.place v.m v.low ys h.values.rising h.values.count c.args.from (c.numbers.k + 1) (c.numbers.one + 1) c.args.high (past ys h) (c.is_before.ensures.before c.numbers-test.true) in
-    (omega arith, (c.requires.held, (not-all-below v.u v.m ys h.values c.args.from (c.numbers.k + 1) (c.args.high * 2 ^ v.low) c.requires.within (past ys h).few c.requires.reached below, past)))
+    let past = λ (zs : List ℕ) (held : Holds g.row.Q v zs). past-number v.part.place v.part.m v.low zs held.values.rising held.values.count c.numbers.k c.numbers.one c.numbers.invariant.within (c.numbers.invariant.place zs held) in
+    let below = passed-below v.part.place v.part.m v.low ys h.values.rising h.values.count c.args.from (c.numbers.k + 1) (c.numbers.one + 1) c.args.high (past ys h) (c.is_before.ensures.before c.numbers-test.true) in
+    (omega arith, (c.requires.held, (not-all-below v.part.u v.part.m ys h.values c.args.from (c.numbers.k + 1) (c.args.high * 2 ^ v.low) c.requires.within (past ys h).few c.requires.reached below, past)))
 
 pub numbers-preserved : goal.numbers-preserved
 numbers-preserved g c =
@@ -34,10 +34,10 @@ numbers-preserved g c =
     let ys = c.requires.held.0 in
     let h = c.requires.held.1 in
     let below = λ (zs : List ℕ) (held : Holds g.row.Q v zs).
-    passed-below v.place v.m v.low zs held.values.rising held.values.count c.args.from (c.numbers.k + 1) (c.numbers.one + 1) c.args.high
-    (past-number v.place v.m v.low zs held.values.rising held.values.count c.numbers.k c.numbers.one c.numbers.invariant.within (c.numbers.invariant.place zs held)) (c.is_before.ensures.before c.numbers-test.true) in
+    passed-below v.part.place v.part.m v.low zs held.values.rising held.values.count c.args.from (c.numbers.k + 1) (c.numbers.one + 1) c.args.high
+    (past-number v.part.place v.part.m v.low zs held.values.rising held.values.count c.numbers.k c.numbers.one c.numbers.invariant.within (c.numbers.invariant.place zs held)) (c.is_before.ensures.before c.numbers-test.true) in
     record {
-      within = not-all-below v.u v.m ys h.values c.args.from (c.numbers.k + 1) (c.args.high * 2 ^ v.low) c.requires.within (omega (arith, c.numbers.invariant.within)) c.requires.reached (below ys h);
+      within = not-all-below v.part.u v.part.m ys h.values c.args.from (c.numbers.k + 1) (c.args.high * 2 ^ v.low) c.requires.within (omega (arith, c.numbers.invariant.within)) c.requires.reached (below ys h);
       place = λ zs held. c.next_one-one-in-numbers.ensures zs held;
       below = below;
     }

@@ -65,7 +65,7 @@ returns-then-not-is_sampled g c = (
       let one = one-next g.row.Q v zs h c.loop-k.k c.loop-k.invariant.bits c.loop-k.invariant.end (past-exactly g.row.Q v zs h c.loop-k.k c.loop-k.ones.at (omega arith) from.0) c.in-Some.ensures.first in
       let sampled = c.if-not-is_sampled.ensures.1
       (λ j e.
-      sample-read (bits_of v.bits.words.now) v.place v.u v.m v.low g.row.Q zs (view-read-at g.row.Q v zs h) v.spacing j (omega (arith, e, c.loop-k-test.true))
+      sample-read (bits_of v.part.bits.words.now) v.part.place v.part.u v.part.m v.low g.row.Q zs (view-read-at g.row.Q v zs h) v.spacing j (omega (arith, e, c.loop-k-test.true))
       (places-fit-at c.places_fit_samples.ensures g.row.Q v zs h (g.row.Q * (j + 1)) (omega (arith, e, c.loop-k-test.true)))
       ∙ ap (λ n. high_place v.low n (get_or zs n 0)) e
       ∙ omega (arith, one.1)) in
@@ -78,10 +78,10 @@ loop-k-preserved g c =
     record {
       begun = (
         c.loop-k.invariant.begun.0 ++ c.number-number.result ∷ [],
-        subst (λ n. AreBegun (bits_of v.bits.words.now) v.place v.u v.m v.low g.row.Q (c.loop-k.k + 1) n (c.number-number.result + 1) (c.loop-k.invariant.begun.0 ++ c.number-number.result ∷ [])) (sym c.in-Some.ensures.behind)
-            (begun-more (bits_of v.bits.words.now) v.place v.u v.m v.low g.row.Q c.loop-k.k c.loop-k.ones.at c.loop-k.least
-            (v.place + low_fields_at v.u v.m v.low) c.in-Some.one c.number-number.result c.loop-k.invariant.begun.0
-            (bits-bits_of v.bits.words.now) c.loop-k.invariant.begun.1 (same-range c.loop-k.invariant.bits c.loop-k.invariant.end c.in-Some.ensures.first)
+        subst (λ n. AreBegun (bits_of v.part.bits.words.now) v.part.place v.part.u v.part.m v.low g.row.Q (c.loop-k.k + 1) n (c.number-number.result + 1) (c.loop-k.invariant.begun.0 ++ c.number-number.result ∷ [])) (sym c.in-Some.ensures.behind)
+            (begun-more (bits_of v.part.bits.words.now) v.part.place v.part.u v.part.m v.low g.row.Q c.loop-k.k c.loop-k.ones.at c.loop-k.least
+            (v.part.place + low_fields_at v.part.u v.part.m v.low) c.in-Some.one c.number-number.result c.loop-k.invariant.begun.0
+            (bits-bits_of v.part.bits.words.now) c.loop-k.invariant.begun.1 (same-range c.loop-k.invariant.bits c.loop-k.invariant.end c.in-Some.ensures.first)
             (omega (arith, c.in-Some.ensures.first.at_or_after, c.loop-k.invariant.low))
             c.number-number.ensures.value c.if-number-least.false (c.if-not-is_sampled.ensures.0 refl)),
       );
@@ -98,22 +98,22 @@ loop-k-preserved g c =
 pub returns : goal.returns
 returns g c =
     let v = c.args.self.now in
-    let bits = bits_of v.bits.words.now in
+    let bits = bits_of v.part.bits.words.now in
     let ys = c.loop-k.invariant.begun.0 in
-    let all : c.loop-k.k ≡ v.m = omega (arith, c.loop-k-test.false, c.loop-k.auto.k-end) in (
+    let all : c.loop-k.k ≡ v.part.m = omega (arith, c.loop-k-test.false, c.loop-k.auto.k-end) in (
       λ e.
-          let last : c.loop-k.least ≡ v.u = eqb-true c.loop-k.least v.u e in
-          let begun : AreBegun (bits_of v.bits.words.now) v.place v.u v.m v.low g.row.Q v.m c.loop-k.ones.at v.u ys =
-          subst (λ n. AreBegun (bits_of v.bits.words.now) v.place v.u v.m v.low g.row.Q v.m c.loop-k.ones.at n ys) last
-          (subst (λ n. AreBegun (bits_of v.bits.words.now) v.place v.u v.m v.low g.row.Q n c.loop-k.ones.at c.loop-k.least ys) all c.loop-k.invariant.begun.1) in (
+          let last : c.loop-k.least ≡ v.part.u = eqb-true c.loop-k.least v.part.u e in
+          let begun : AreBegun (bits_of v.part.bits.words.now) v.part.place v.part.u v.part.m v.low g.row.Q v.part.m c.loop-k.ones.at v.part.u ys =
+          subst (λ n. AreBegun (bits_of v.part.bits.words.now) v.part.place v.part.u v.part.m v.low g.row.Q v.part.m c.loop-k.ones.at n ys) last
+          (subst (λ n. AreBegun (bits_of v.part.bits.words.now) v.part.place v.part.u v.part.m v.low g.row.Q n c.loop-k.ones.at c.loop-k.least ys) all c.loop-k.invariant.begun.1) in (
             ys,
             read-view-at g.row.Q v ys
-                (begun-all (bits_of v.bits.words.now) v.place v.u v.m v.low g.row.Q c.loop-k.ones.at ys (bits-bits_of v.bits.words.now) v.some v.spacing
-                (omega (arith, c.requires.bits, length-bits_of v.bits.words.now)) begun),
+                (begun-all (bits_of v.part.bits.words.now) v.part.place v.part.u v.part.m v.low g.row.Q c.loop-k.ones.at ys (bits-bits_of v.part.bits.words.now) v.part.some v.spacing
+                (omega (arith, c.requires.bits, length-bits_of v.part.bits.words.now)) begun),
           ),
       λ held.
           let zs = held.0 in
           let h : Holds g.row.Q v zs = held.1 in
           let from = c.loop-k.invariant.all zs h in
-          eq-eqb c.loop-k.least v.u (from.1 ∙ ap (λ n. past zs n) all ∙ past-last zs v.m v.some ∙ h.values.last),
+          eq-eqb c.loop-k.least v.part.u (from.1 ∙ ap (λ n. past zs n) all ∙ past-last zs v.part.m v.part.some ∙ h.values.last),
     )

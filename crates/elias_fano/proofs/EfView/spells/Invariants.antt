@@ -9,10 +9,10 @@ use Rattle.elias_fano.proofs.EfView.spells.Given as goal
 abbrev pub invariant-loop-k : goal.invariant-loop-k
 invariant-loop-k g l = record {
   -- the bits so far are those of some numbers
-  begun : (ys : List ℕ) × AreBegun (bits_of l.self.bits.words.now) l.self.place l.self.u l.self.m l.self.low g.row.Q l.k l.ones.at l.least ys;
+  begun : (ys : List ℕ) × AreBegun (bits_of l.self.part.bits.words.now) l.self.part.place l.self.part.u l.self.part.m l.self.low g.row.Q l.k l.ones.at l.least ys;
   -- and all numbers that these bits are begin so
-  all : (zs : List ℕ) → Holds g.row.Q l.self zs → (l.ones.at ≡ l.self.place + past_place l.self.low zs l.k) × (l.least ≡ past zs l.k);
-  bits : l.ones.bits ≡ bits_of l.self.bits.words.now;
-  end : l.ones.end ≡ l.self.place + low_fields_at l.self.u l.self.m l.self.low;
-  low : l.self.place + l.k ≤ l.ones.at;
+  all : (zs : List ℕ) → Holds g.row.Q l.self zs → (l.ones.at ≡ l.self.part.place + past_place l.self.low zs l.k) × (l.least ≡ past zs l.k);
+  bits : l.ones.bits ≡ bits_of l.self.part.bits.words.now;
+  end : l.ones.end ≡ l.self.part.place + low_fields_at l.self.part.u l.self.part.m l.self.low;
+  low : l.self.part.place + l.k ≤ l.ones.at;
 }

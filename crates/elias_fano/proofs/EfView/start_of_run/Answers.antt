@@ -10,8 +10,8 @@ pub sample-requires : goal.sample-requires
 sample-requires g c =
     let v = c.args.self.now in
     let run : c.args.run - 1 + 1 ≡ c.args.run = omega arith in
-    let lt : g.row.Q * (c.args.run - 1 + 1) < v.m = omega (arith, ap (λ n. g.row.Q * n) run, c.requires.within) in
-    (omega arith, (within-held g.row.Q v c.requires.held.0 c.requires.held.1, within-sampled g.row.Q v.m (c.args.run - 1) v.spacing lt))
+    let lt : g.row.Q * (c.args.run - 1 + 1) < v.part.m = omega (arith, ap (λ n. g.row.Q * n) run, c.requires.within) in
+    (omega arith, (within-held g.row.Q v c.requires.held.0 c.requires.held.1, within-sampled g.row.Q v.part.m (c.args.run - 1) v.spacing lt))
 
 pub overflow_add-result : goal.overflow_add-result
 overflow_add-result g c =

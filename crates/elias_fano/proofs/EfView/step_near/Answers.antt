@@ -41,6 +41,6 @@ loop-near-preserved g c =
       end = c.in-Some.ensures.end ∙ i.end;
       past = λ ys h.
           let one = one-next g.row.Q v ys h k i.bits i.end (i.past ys h) c.in-Some.ensures.first in
-          subst (λ n. IsPast v.place v.m v.low ys (k + 1) n) (sym c.in-Some.ensures.behind)
-          (past-number v.place v.m v.low ys h.values.rising h.values.count k c.in-Some.one one.0 one.1);
+          subst (λ n. IsPast v.part.place v.part.m v.low ys (k + 1) n) (sym c.in-Some.ensures.behind)
+          (past-number v.part.place v.part.m v.low ys h.values.rising h.values.count k c.in-Some.one one.0 one.1);
     }

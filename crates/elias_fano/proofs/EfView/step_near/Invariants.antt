@@ -8,10 +8,10 @@ abbrev pub invariant-loop-near : goal.invariant-loop-near
 invariant-loop-near g l =
     let v = l.self in
     record {
-      within : l.near < v.m;
+      within : l.near < v.part.m;
       below : (ys : List ℕ) → Holds g.row.Q v ys → AreBelow ys l.k l.near l.x;
       number : (ys : List ℕ) → Holds g.row.Q v ys → l.found ≡ slice_index ys l.near;
-      bits : l.ones.bits ≡ bits_of v.bits.words.now;
-      end : l.ones.end ≡ v.place + low_fields_at v.u v.m v.low;
-      past : (ys : List ℕ) → Holds g.row.Q v ys → IsPast v.place v.m v.low ys (l.near + 1) l.ones.at;
+      bits : l.ones.bits ≡ bits_of v.part.bits.words.now;
+      end : l.ones.end ≡ v.part.place + low_fields_at v.part.u v.part.m v.low;
+      past : (ys : List ℕ) → Holds g.row.Q v ys → IsPast v.part.place v.part.m v.low ys (l.near + 1) l.ones.at;
     }

@@ -9,10 +9,10 @@ abbrev pub invariant-loop-i : goal.invariant-loop-i
 invariant-loop-i g l =
     let v = l.self in
     record {
-      within : l.k + l.i < v.m;
+      within : l.k + l.i < v.part.m;
       number : (ys : List ℕ) → Holds g.row.Q v ys → l.number ≡ slice_index ys (l.k + l.i);
       given : (ys : List ℕ) → Holds g.row.Q v ys → AreGiven ys l.k l.x l.to l.i;
-      bits : l.ones.bits ≡ bits_of v.bits.words.now;
-      end : l.ones.end ≡ v.place + low_fields_at v.u v.m v.low;
-      past : (ys : List ℕ) → Holds g.row.Q v ys → IsPast v.place v.m v.low ys (l.k + l.i + 1) l.ones.at;
+      bits : l.ones.bits ≡ bits_of v.part.bits.words.now;
+      end : l.ones.end ≡ v.part.place + low_fields_at v.part.u v.part.m v.low;
+      past : (ys : List ℕ) → Holds g.row.Q v ys → IsPast v.part.place v.part.m v.low ys (l.k + l.i + 1) l.ones.at;
     }

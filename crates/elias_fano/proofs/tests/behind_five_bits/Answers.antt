@@ -13,5 +13,5 @@ ef_write-requires-clause-room c =
       ap length c.in_ok-put.ensures.ok,
       length-append c.in_ok-writer.writer (field_bits 5 21),
       length-field_bits 5 21,
-      ap length c.in_ok-writer.ensures,
+      ap length c.in_ok-writer.ensures.empty,
     )

@@ -12,4 +12,4 @@ write_part-requires-clause-room g c =
     let takes = c.part_takes_its_payload.ensures.payload 1281 129 c.tens-values.result (omega arith)
     (subst (λ n. AreRelative 1281 n c.tens-values.result) c.tens-values.ensures.count
     (tens-relative c.tens-values.result c.tens-values.ensures.count c.tens-values.ensures.values)) in
-    omega (arith, takes, tens-payload, ap length (IfOk-at_ok (λ w. w ≡ []) c.expect-writer.ensures c.new.ensures))
+    omega (arith, takes, tens-payload, ap length (IfOk-at_ok (λ w. w ≡ []) c.expect-writer.ensures c.new.ensures.empty))

@@ -4,4 +4,4 @@ use Rattle.part_codec.proofs.Rows.{near-length}
 use Rattle.part_codec.proofs.tests.writes_near_numbers.Goals as goal
 
 pub write_part-requires-clause-room : goal.write_part-requires-clause-room
-write_part-requires-clause-room g c = omega (arith, near-length, ap length (IfOk-at_ok (λ w. w ≡ []) c.expect-writer.ensures c.new.ensures))
+write_part-requires-clause-room g c = omega (arith, near-length, ap length (IfOk-at_ok (λ w. w ≡ []) c.expect-writer.ensures c.new.ensures.empty))

@@ -7,7 +7,7 @@ overflow_add-number g c =
     let v = c.args.self.now in
     let ys = c.requires.held.0 in
     let h = c.requires.held.1 in
-    omega (arith, c.requires.number ys h, number-below g.row.B v ys h c.args.k (omega arith), v.in_range)
+    omega (arith, c.requires.number ys h, number-below g.row.B v ys h c.args.k (omega arith), v.part.in_range)
 
 pub number_from-requires : goal.number_from-requires
 number_from-requires g c =

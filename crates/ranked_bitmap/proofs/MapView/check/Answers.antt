@@ -24,10 +24,10 @@ pub returns-in-Some : goal.returns-in-Some
 returns-in-Some g c = (
   λ same.
       checked-holds g.row.B c.args.self.now (omega (arith, c.len.ensures, c.if-self-len.false))
-      (sym c.in-Some.ensures.some ∙ eqb-true c.in-Some.count c.args.self.now.m same) (c.if-not-bit.ensures.0 refl) c.in-Some.ensures.sampled,
+      (sym c.in-Some.ensures.some ∙ eqb-true c.in-Some.count c.args.self.now.part.m same) (c.if-not-bit.ensures.0 refl) c.in-Some.ensures.sampled,
   λ held.
       let h : Holds g.row.B c.args.self.now held.0 = held.1 in
-      eq-eqb c.in-Some.count c.args.self.now.m (c.in-Some.ensures.some ∙ held-all g.row.B c.args.self.now held.0 h),
+      eq-eqb c.in-Some.count c.args.self.now.part.m (c.in-Some.ensures.some ∙ held-all g.row.B c.args.self.now held.0 h),
 )
 
 pub returns-in-None : goal.returns-in-None

@@ -15,7 +15,7 @@ pub returns : goal.returns
 returns g c = λ ys h.
     let v = c.args.self.now in
     let count = before-number g.row.B v ys h c.args.k c.args.number c.requires.within (c.requires.number ys h) in
-    let more = ones-on (bits_of v.bits.words.now) v.place c.args.number c.args.x c.args.k (ones_between (bits_of v.bits.words.now) (v.place + c.args.number) (v.place + c.args.x)) (omega arith) (sym count) refl in (
+    let more = ones-on (bits_of v.part.bits.words.now) v.part.place c.args.number c.args.x c.args.k (ones_between (bits_of v.part.bits.words.now) (v.part.place + c.args.number) (v.part.place + c.args.x)) (omega arith) (sym count) refl in (
       subst (λ r. IsFirstAtLeast ys c.args.k c.args.x r) (sym c.ones_before_by.ensures)
           (first-at-least g.row.B v ys h c.args.k c.args.x c.requires.reached (omega arith)),
       c.number_from.ensures ys h ∙ ap (λ r. slice_index ys r) (sym c.ones_before_by.ensures),

@@ -13,14 +13,14 @@ overflow_add-result g c =
     let v = c.args.self.now in
     omega (
       arith,
-      ones-on (bits_of v.bits.words.now) v.place (g.row.B * (c.args.number / g.row.B)) c.args.number c.ones_before_run.result c.ones.result (omega (arith, v.spacing))
+      ones-on (bits_of v.part.bits.words.now) v.part.place (g.row.B * (c.args.number / g.row.B)) c.args.number c.ones_before_run.result c.ones.result (omega (arith, v.spacing))
           c.ones_before_run.ensures c.ones.ensures,
-      ones-few (bits_of v.bits.words.now) v.place c.args.number (bits-bits_of v.bits.words.now),
-      v.in_range,
+      ones-few (bits_of v.part.bits.words.now) v.part.place c.args.number (bits-bits_of v.part.bits.words.now),
+      v.part.in_range,
     )
 
 pub returns : goal.returns
 returns g c =
     let v = c.args.self.now in
-    ones-on (bits_of v.bits.words.now) v.place (g.row.B * (c.args.number / g.row.B)) c.args.number c.ones_before_run.result c.ones.result (omega (arith, v.spacing))
+    ones-on (bits_of v.part.bits.words.now) v.part.place (g.row.B * (c.args.number / g.row.B)) c.args.number c.ones_before_run.result c.ones.result (omega (arith, v.spacing))
     c.ones_before_run.ensures c.ones.ensures

@@ -13,12 +13,12 @@ overflow_add-result g c =
     let v = c.args.self.now in
     omega (
       arith,
-      ones-on (bits_of v.bits.words.now) v.place c.args.number c.args.x c.args.k c.ones.result (omega arith) c.requires.count c.ones.ensures,
-      ones-few (bits_of v.bits.words.now) v.place c.args.x (bits-bits_of v.bits.words.now),
-      v.in_range,
+      ones-on (bits_of v.part.bits.words.now) v.part.place c.args.number c.args.x c.args.k c.ones.result (omega arith) c.requires.count c.ones.ensures,
+      ones-few (bits_of v.part.bits.words.now) v.part.place c.args.x (bits-bits_of v.part.bits.words.now),
+      v.part.in_range,
     )
 
 pub returns : goal.returns
 returns g c =
     let v = c.args.self.now in
-    ones-on (bits_of v.bits.words.now) v.place c.args.number c.args.x c.args.k c.ones.result (omega arith) c.requires.count c.ones.ensures
+    ones-on (bits_of v.part.bits.words.now) v.part.place c.args.number c.args.x c.args.k c.ones.result (omega arith) c.requires.count c.ones.ensures

@@ -12,4 +12,4 @@ returns-else-run-eq0 g c =
     let v = c.args.self.now in
     c.sample.ensures
     ∙ held-samples c.digits_hold.ensures.hold g.row.B v c.requires.held.0 c.requires.held.1 (c.args.run - 1) (omega (arith, c.if-run-eq0.false))
-    ∙ ap (λ n. ones_between (bits_of v.bits.words.now) v.place (v.place + g.row.B * n)) (let e : c.args.run - 1 + 1 ≡ c.args.run = omega (arith, c.if-run-eq0.false) in e)
+    ∙ ap (λ n. ones_between (bits_of v.part.bits.words.now) v.part.place (v.part.place + g.row.B * n)) (let e : c.args.run - 1 + 1 ≡ c.args.run = omega (arith, c.if-run-eq0.false) in e)

@@ -9,9 +9,9 @@ overflow_add-below g c =
     let v = c.args.self.now in
     omega (
       arith,
-      ones-on (bits_of v.bits.words.now) v.place c.args.from.at c.args.to c.args.from.below c.ones.result c.requires.ordered c.requires.from.rank c.ones.ensures,
-      ones-few (bits_of v.bits.words.now) v.place c.args.to (bits-bits_of v.bits.words.now),
-      v.in_range,
+      ones-on (bits_of v.part.bits.words.now) v.part.place c.args.from.at c.args.to c.args.from.below c.ones.result c.requires.ordered c.requires.from.rank c.ones.ensures,
+      ones-few (bits_of v.part.bits.words.now) v.part.place c.args.to (bits-bits_of v.part.bits.words.now),
+      v.part.in_range,
     )
 
 pub returns-then-below-k-clause-some : goal.returns-then-below-k-clause-some
@@ -19,7 +19,7 @@ returns-then-below-k-clause-some g c =
     let v = c.args.self.now in
     record {
       within = c.requires.within;
-      rank = ones-on (bits_of v.bits.words.now) v.place c.args.from.at c.args.to c.args.from.below c.ones.result c.requires.ordered c.requires.from.rank c.ones.ensures;
+      rank = ones-on (bits_of v.part.bits.words.now) v.part.place c.args.from.at c.args.to c.args.from.below c.ones.result c.requires.ordered c.requires.from.rank c.ones.ensures;
       few = c.if-below-k.true;
     }
 
@@ -28,6 +28,6 @@ returns-else-below-k-clause-none g c =
     let v = c.args.self.now in
     omega (
       arith,
-      ones-on (bits_of v.bits.words.now) v.place c.args.from.at c.args.to c.args.from.below c.ones.result c.requires.ordered c.requires.from.rank c.ones.ensures,
+      ones-on (bits_of v.part.bits.words.now) v.part.place c.args.from.at c.args.to c.args.from.below c.ones.result c.requires.ordered c.requires.from.rank c.ones.ensures,
       c.if-below-k.false,
     )

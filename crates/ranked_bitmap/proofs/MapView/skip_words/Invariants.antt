@@ -5,6 +5,6 @@ use Rattle.ranked_bitmap.proofs.MapView.skip_words.Given as goal
 
 abbrev pub invariant-loop-word : goal.invariant-loop-word
 invariant-loop-word g l = record {
-  ranked : IsRanked (bits_of l.self.bits.words.now) l.self.place l.self.u l.k l.rank.at l.rank.below;
-  before : l.self.place + l.rank.at < 64 * l.word + 64;
+  ranked : IsRanked (bits_of l.self.part.bits.words.now) l.self.part.place l.self.part.u l.k l.rank.at l.rank.below;
+  before : l.self.part.place + l.rank.at < 64 * l.word + 64;
 }

@@ -12,7 +12,7 @@ overflow_add-self g c =
     let v = c.args.self.now in
     let ys = c.requires.held.0 in
     let h = c.requires.held.1 in
-    omega (arith, c.requires.number ys h, number-below g.row.B v ys h c.args.k (omega arith), v.in_range, v.placed, v.few_words)
+    omega (arith, c.requires.number ys h, number-below g.row.B v ys h c.args.k (omega arith), v.part.in_range, v.part.placed, v.part.few_words)
 
 pub ones_from-ones-requires-clause-ordered : goal.ones_from-ones-requires-clause-ordered
 ones_from-ones-requires-clause-ordered g c =
@@ -27,15 +27,15 @@ pub loop-j-init : goal.loop-j-init
 loop-j-init g c =
     let begun = c.ones_from-ones.ensures in
     let at = c.ones_from-ones.result.at in
-    let number : at - c.args.self.now.place ≡ c.args.number = omega (arith, begun.at) in
+    let number : at - c.args.self.now.part.place ≡ c.args.number = omega (arith, begun.at) in
     record {
       bits = begun.bits;
       end = begun.end;
       started = omega (arith, begun.at);
       given = λ ys h. given-none ys c.args.k c.args.x c.args.to.now;
       passed = λ ys h.
-          subst (λ i. AreBelow ys (at - c.args.self.now.place) i) (let e : c.args.k ≡ c.args.k + 0 = omega arith in e)
-          (below-number g.row.B c.args.self.now ys h c.args.k (at - c.args.self.now.place) (omega arith) (number ∙ c.requires.number ys h));
+          subst (λ i. AreBelow ys (at - c.args.self.now.part.place) i) (let e : c.args.k ≡ c.args.k + 0 = omega arith in e)
+          (below-number g.row.B c.args.self.now ys h c.args.k (at - c.args.self.now.part.place) (omega arith) (number ∙ c.requires.number ys h));
     }
 
 pub returns-in_default-clause-values : goal.returns-in_default-clause-values
@@ -45,8 +45,8 @@ returns-in_default-clause-values g c ys h =
     let j = c.loop-j.j in
     let ones = c.loop-j.ones in
     let so_far = c.loop-j.invariant in
-    let end : ℕ = v.place + c.min-end.result in
-    let none : HasNoOne (bits_of v.bits.words.now) ones.at end = λ q after before.
+    let end : ℕ = v.part.place + c.min-end.result in
+    let none : HasNoOne (bits_of v.part.bits.words.now) ones.at end = λ q after before.
     ap (λ bits. get_or bits q 0) (sym so_far.bits) ∙ c.in_default.ensures.none q after (omega (arith, so_far.end)) in
     given-all ys k c.args.x c.loop-j.to j (so_far.given ys h) (omega arith) (so_far.passed ys h).fit
     (λ room more.
@@ -62,20 +62,20 @@ loop-j-preserved g c =
     let so_far = c.loop-j.invariant in
     let found = c.in-Some.ensures in
     let one = c.in-Some.one in
-    let end : ℕ = v.place + c.min-end.result in
-    let first : IsFirstOne (bits_of v.bits.words.now) ones.at end one =
+    let end : ℕ = v.part.place + c.min-end.result in
+    let first : IsFirstOne (bits_of v.part.bits.words.now) ones.at end one =
     subst (λ bits. IsFirstOne bits ones.at end one) so_far.bits (subst (λ e. IsFirstOne ones.bits ones.at e one) so_far.end found.first) in
     let after = first.at_or_after in
     let before = first.before_end in
-    let number : (ys : List ℕ) → Holds g.row.B v ys → IsNumber ys (k + j) (one - v.place) = λ ys h.
+    let number : (ys : List ℕ) → Holds g.row.B v ys → IsNumber ys (k + j) (one - v.part.place) = λ ys h.
     next-of-ones g.row.B v ys h ones.at end one (k + j) (omega (arith, so_far.started)) (omega (arith, c.min-end.ensures)) (so_far.passed ys h) first in
-    let below : one - v.place < c.args.x = omega (arith, so_far.started, c.max.ensures, c.min-end.ensures) in
+    let below : one - v.part.place < c.args.x = omega (arith, so_far.started, c.max.ensures, c.min-end.ensures) in
     record {
       bits = found.bits ∙ so_far.bits;
       end = found.end ∙ so_far.end;
       started = omega (arith, found.behind, so_far.started);
-      given = λ ys h. given-more ys k c.args.x c.loop-j.to j (one - v.place) (so_far.given ys h) (omega arith) (number ys h).is below;
+      given = λ ys h. given-more ys k c.args.x c.loop-j.to j (one - v.part.place) (so_far.given ys h) (omega arith) (number ys h).is below;
       passed = λ ys h.
-          subst (λ i. AreBelow ys i (k + (j + 1))) (let e : one - v.place + 1 ≡ c.next.new.self.at - v.place = omega (arith, found.behind, so_far.started) in e)
-          (subst (λ i. AreBelow ys (one - v.place + 1) i) (let e : k + j + 1 ≡ k + (j + 1) = omega arith in e) (number ys h).passed);
+          subst (λ i. AreBelow ys i (k + (j + 1))) (let e : one - v.part.place + 1 ≡ c.next.new.self.at - v.part.place = omega (arith, found.behind, so_far.started) in e)
+          (subst (λ i. AreBelow ys (one - v.part.place + 1) i) (let e : k + j + 1 ≡ k + (j + 1) = omega arith in e) (number ys h).passed);
     }
