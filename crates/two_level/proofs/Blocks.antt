@@ -52,20 +52,20 @@ some-of-part xs given to place x zero fit lt room small h =
 some-of-part xs given to place x (suc n) fit lt room small h = omega arith
 
 -- the numbers of a part below x, raised by what stands before the part, are its values below x
-pub restored-below : (part : HeldPart) (xs : List ℕ) → HoldsValues part xs → (place x least n : ℕ) (numbers given : List ℕ) → part.from ≤ place → place < part.to → least ≡ x - part.past
-    → AreNextBelow (relative_values xs part.from part.to) (place - part.from) least numbers n → length given ≡ length numbers
-    → ((j : ℕ) → j < n → slice_index given j ≡ slice_index numbers j + part.past) → AreNextBelow (take part.to xs) place x given n
-restored-below part xs h place x least n numbers given after before l r room raised =
-    let from : ℕ = part.from in
-    let ys : List ℕ = relative_values xs from part.to in
-    let few : length ys ≡ part.to - from = relative-count part xs h in
-    let count : length (take part.to xs) ≡ part.to = length-take-le part.to xs h.within in
-    let value : (j : ℕ) → place + j < part.to → slice_index ys (place - from + j) + part.past ≡ slice_index (take part.to xs) (place + j) =
+pub restored-below : (held : HeldPart) (xs : List ℕ) → HoldsValues held xs → (place x least n : ℕ) (numbers given : List ℕ) → held.part.from ≤ place → place < held.part.to → least ≡ x - held.past
+    → AreNextBelow (relative_values xs held.part.from held.part.to) (place - held.part.from) least numbers n → length given ≡ length numbers
+    → ((j : ℕ) → j < n → slice_index given j ≡ slice_index numbers j + held.past) → AreNextBelow (take held.part.to xs) place x given n
+restored-below held xs h place x least n numbers given after before l r room raised =
+    let from : ℕ = held.part.from in
+    let ys : List ℕ = relative_values xs from held.part.to in
+    let few : length ys ≡ held.part.to - from = relative-count held xs h in
+    let count : length (take held.part.to xs) ≡ held.part.to = length-take-le held.part.to xs h.within in
+    let value : (j : ℕ) → place + j < held.part.to → slice_index ys (place - from + j) + held.past ≡ slice_index (take held.part.to xs) (place + j) =
     λ j lt.
     h.restored (place - from + j) (omega (arith, after, lt))
     ∙ ap (slice_index xs) (let e : from + (place - from + j) ≡ place + j = omega (arith, after) in e)
-    ∙ sym (get_or-take part.to xs (place + j) 0 lt) in
-    let fits : place + n ≤ part.to = omega (arith, r.within, few, after, before) in
+    ∙ sym (get_or-take held.part.to xs (place + j) 0 lt) in
+    let fits : place + n ≤ held.part.to = omega (arith, r.within, few, after, before) in
     record {
       room = omega (arith, r.room, room);
       within = omega (arith, fits, count);
@@ -75,13 +75,13 @@ restored-below part xs h place x least n numbers given after before l r room rai
     }
 
 -- a number of a part that is given, raised so, is still a value
-pub value-fits : (part : HeldPart) (xs : List ℕ) → HoldsValues part xs → (place x n : ℕ) (numbers : List ℕ) → part.from ≤ place → place < part.to
-    → AreNextBelow (relative_values xs part.from part.to) (place - part.from) x numbers n → (j : ℕ) → j < n → slice_index numbers j + part.past < 2 ^ 64
-value-fits part xs h place x n numbers after before r j lt =
-    let few = relative-count part xs h in
-    let at : ℕ = place - part.from + j in
+pub value-fits : (held : HeldPart) (xs : List ℕ) → HoldsValues held xs → (place x n : ℕ) (numbers : List ℕ) → held.part.from ≤ place → place < held.part.to
+    → AreNextBelow (relative_values xs held.part.from held.part.to) (place - held.part.from) x numbers n → (j : ℕ) → j < n → slice_index numbers j + held.past < 2 ^ 64
+value-fits held xs h place x n numbers after before r j lt =
+    let few = relative-count held xs h in
+    let at : ℕ = place - held.part.from + j in
     let here = h.restored at (omega (arith, r.within, few, after, before, lt)) in
-    omega (arith, r.same j lt, here, h.in_range (part.from + at) 0 (omega (arith, r.within, few, after, before, lt, h.within)))
+    omega (arith, r.same j lt, here, h.in_range (held.part.from + at) 0 (omega (arith, r.within, few, after, before, lt, h.within)))
 
 -- they are all those up to the last of them
 pub up-to : (xs given : List ℕ) (to place x n : ℕ) → to ≤ length xs → AreNextBelow (take to xs) place x given n → AreNextBelow (take (place + n) xs) place x given n

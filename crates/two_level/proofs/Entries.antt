@@ -1,4 +1,4 @@
-use Rattle.std.proofs.Common.{◌≡◌, ℕ, zero, suc, ◌+◌, ◌-◌, ◌*◌, ◌<◌, ◌≤◌, Bool, false, List, length, inl, inr, sym, ap, ◌∙◌, subst, arith, add-one}
+use Rattle.std.proofs.Common.{◌≡◌, ℕ, zero, suc, ◌+◌, ◌-◌, ◌*◌, ◌<◌, ◌≤◌, Bool, false, List, length, inl, inr, refl, sym, ap, ◌∙◌, subst, arith, add-one}
 use Rattle.std.specs.Prelude.{◌==◌, not}
 use Rattle.std.proofs.lemmas.Bool.{cases_lt}
 use Rattle.collection_model.specs.FormatNumbers.{FormatNumbers}
@@ -59,6 +59,14 @@ payload-rises format words q zero = omega (arith, ap (payload_before format word
 payload-rises format words q (suc d) =
     omega (arith, payload-rises format words q d, ap (payload_before format words 0) (let e : q + suc d ≡ suc (q + d) = omega arith in e))
 
+-- values are held where the same part stands
+pub held-as : (words there : List ℕ) (place at u v m n : ℕ) (ys : List ℕ) → words ≡ there → place ≡ at → u ≡ v → m ≡ n
+    → HoldsPart part_bits (bits_of words) place u m ys → HoldsPart part_bits (bits_of there) at v n ys
+held-as words there place at u v m n ys words_are place_is universe_is count_is held =
+    subst (λ ws. HoldsPart part_bits (bits_of ws) at v n ys) words_are
+    (subst (λ p. HoldsPart part_bits (bits_of words) p v n ys) place_is
+    (subst (λ x. HoldsPart part_bits (bits_of words) place x n ys) universe_is (subst (λ k. HoldsPart part_bits (bits_of words) place u k ys) count_is held)))
+
 -- a part whose entry follows begins within the words
 pub place-fits : (format : FormatNumbers) (words : List ℕ) (parts m bound q offset : ℕ) → q < parts → entry_breaks format words 0 parts m bound q ≡ false → offset ≡ stated_offset format words 0 q
     → word_behind format words 0 parts ≤ length words → first_bit format 0 parts + offset ≤ 64 * length words
@@ -76,9 +84,5 @@ stored-here format words parts m bound q before past last end offset ys r e h he
     let k = follows-at format words parts m bound q h in
     let place : first_bit format 0 parts + offset ≡ first_bit format 0 parts + payload_before format words 0 q = omega (arith, e.offset_is, k.offsets) in
     let universe_is : last + 1 - past ≡ stated_universe format words 0 q = ap (λ x. x + 1 - past) e.last_is ∙ ap (λ x. stated_last format words 0 q + 1 - x) r.past_is in
-    let count_is : end - before ≡ stated_count format words 0 q = ap (λ x. x - before) e.end_is ∙ ap (λ x. stated_end format words 0 q - x) r.before_is in (
-      ys,
-      subst (λ p. HoldsPart part_bits (bits_of words) p (stated_universe format words 0 q) (stated_count format words 0 q) ys) place
-          (subst (λ u. HoldsPart part_bits (bits_of words) (first_bit format 0 parts + offset) u (stated_count format words 0 q) ys) universe_is
-          (subst (λ n. HoldsPart part_bits (bits_of words) (first_bit format 0 parts + offset) (last + 1 - past) n ys) count_is held)),
-    )
+    let count_is : end - before ≡ stated_count format words 0 q = ap (λ x. x - before) e.end_is ∙ ap (λ x. stated_end format words 0 q - x) r.before_is in
+    (ys, held-as words words (first_bit format 0 parts + offset) _ (last + 1 - past) _ (end - before) _ ys refl place universe_is count_is held)

@@ -6,17 +6,15 @@ use Rattle.collection_model.specs.FormatNumbers.{FormatNumbers, entry_words}
 use Rattle.bit_words.specs.Bits.{bits_of}
 use Rattle.bit_words.specs.Laws.{BitsOfAppended, BitsOfWords}
 use Rattle.part_cost.specs.Formats.{HasRoom}
-use Rattle.part_cost.specs.Payload.{payload}
 use Rattle.part_cost.specs.Span.{past, universe, relative_values, payload_of_part}
 use Rattle.part_cost.specs.Partition.{cost_from}
 use Rattle.part_cost.specs.Stored.{HoldsPart, IsFirstAtLeast}
 use Rattle.part_codec.specs.PartBits.{part_bits}
 use Rattle.two_level.specs.SequenceWords.{sequence_words, BeginsSequence}
-use Rattle.two_level.specs.SequenceFault.{stated_last, stated_end, stated_offset, end_before, past_before, stated_count, stated_universe, payload_before, word_behind, first_bit, PassChecks}
+use Rattle.two_level.specs.SequenceFault.{stated_last, stated_end, end_before, past_before, stated_universe, payload_before, word_behind, first_bit, PassChecks}
 use Rattle.two_level.specs.SequenceView.{SequenceView, BeginWith, sequence_stated, words_used, start_of_part, IsPartOf}
 use Rattle.two_level.specs.SequenceParts.{StatesPart, Restores, HoldsValues, LiesIn}
 use Rattle.two_level.specs.declared.held.HeldPart.{HeldPart}
-use Rattle.two_level.specs.declared.held.HeldValue.{HeldValue}
 use Rattle.two_level.specs.Laws.{DirectoryStates}
 use Rattle.two_level.specs.declared.part.Part.{Part}
 use Rattle.part_cost.proofs.Partitions.{ends-within}
@@ -24,7 +22,7 @@ use Rattle.two_level.proofs.Lengths.{PartLaws, AreValues, length-sequence}
 use Rattle.two_level.proofs.Stated.{EntryIs, StandsFrom, past-part, past-bounded, entry-is, stands-next, payload-all, holds-part, values-of, stands-whole}
 use Rattle.std.proofs.lemmas.Bool.{eq-eqb}
 use Rattle.two_level.proofs.Follows.{fits-begun, some-parts, follows-at}
-use Rattle.two_level.proofs.Entries.{payload-rises, bits-next}
+use Rattle.two_level.proofs.Entries.{payload-rises}
 
 -- part q stands from where the entry before it says up to where its own says
 pub record PartStands (format : FormatNumbers) (words xs : List ℕ) (parts q : ℕ) : Type 0 where
@@ -121,14 +119,6 @@ used-is format room laws appended filled m bound parts used xs ends words fits b
     let same : payload_before format words 0 parts ≡ cost_from (payload_of_part xs) 0 ends = omega (arith, total, ap (payload_before format words 0) count) in
     omega (arith, length-sequence format laws xs a ends whole.parts, same, ap (λ n. entry_words format * n) s.parts_count)
 
--- the payload up to behind a part
-pub payload-behind : (format : FormatNumbers) (words : List ℕ) (q parts from past last to offset : ℕ) → suc q ≡ parts → from ≡ end_before format words 0 q → past ≡ past_before format words 0 q
-    → last ≡ stated_last format words 0 q → to ≡ stated_end format words 0 q → offset ≡ payload_before format words 0 q
-    → offset + payload (last + 1 - past) (to - from) ≡ payload_before format words 0 parts
-payload-behind format words q parts from past last to offset e f p l t o =
-    bits-next format words q from past last to (stated_offset format words 0 q) offset (record { before_is = f; past_is = p }) (record { last_is = l; end_is = t; offset_is = refl }) o
-    ∙ ap (payload_before format words 0) (let k : q + 1 ≡ parts = omega (arith, e) in k)
-
 -- what a part of the sequence is
 pub part-of : (format : FormatNumbers) (words : List ℕ) (parts q : ℕ) → q < parts → StatesPart format words (sequence_stated format words parts).values parts q → (part : Part) → part.from ≡ end_before format words 0 q
     → part.to ≡ stated_end format words 0 q → part.last ≡ stated_last format words 0 q → part.u ≡ stated_universe format words 0 q → IsPartOf (sequence_stated format words parts) q part
@@ -150,21 +140,7 @@ end-whole : (format : FormatNumbers) (words : List ℕ) (parts m bound : ℕ) �
 end-whole format words zero m bound pass ends none count = sym (none count)
 end-whole format words (suc q) m bound pass ends none count = (follows-at format words (suc q) m bound q (pass.entries q (omega arith))).whole (eq-eqb (q + 1) (suc q) (omega arith))
 
--- the values that stand where a part is said to stand
-pub held-here : (format : FormatNumbers) (words xs : List ℕ) (parts q from past last to offset : ℕ) → StatesPart format words xs parts q → from ≡ end_before format words 0 q → past ≡ past_before format words 0 q
-    → last ≡ stated_last format words 0 q → to ≡ stated_end format words 0 q → offset ≡ payload_before format words 0 q
-    → HoldsPart part_bits (bits_of words) (first_bit format 0 parts + offset) (last + 1 - past) (to - from) (relative_values xs from to)
-held-here format words xs parts q from past last to offset p f b l t o =
-    let place : first_bit format 0 parts + payload_before format words 0 q ≡ first_bit format 0 parts + offset = omega (arith, o) in
-    let universe_is : stated_universe format words 0 q ≡ last + 1 - past = omega (arith, l, b) in
-    let count_is : stated_count format words 0 q ≡ to - from = omega (arith, t, f) in
-    let values_are : relative_values xs (end_before format words 0 q) (stated_end format words 0 q) ≡ relative_values xs from to =
-    ap (λ n. relative_values xs n (stated_end format words 0 q)) (sym f) ∙ ap (relative_values xs from) (sym t) in
-    subst (λ n. HoldsPart part_bits (bits_of words) n (last + 1 - past) (to - from) (relative_values xs from to)) place
-    (subst (λ n. HoldsPart part_bits (bits_of words) (first_bit format 0 parts + payload_before format words 0 q) n (to - from) (relative_values xs from to)) universe_is
-    (subst (λ n. HoldsPart part_bits (bits_of words) (first_bit format 0 parts + payload_before format words 0 q) (stated_universe format words 0 q) n (relative_values xs from to)) count_is
-    (subst (HoldsPart part_bits (bits_of words) (first_bit format 0 parts + payload_before format words 0 q) (stated_universe format words 0 q) (stated_count format words 0 q)) values_are p.held)))
-
+-- the values of a part are restored where it is said to stand
 pub restored-here : (format : FormatNumbers) (words xs : List ℕ) (parts q from past to : ℕ) → StatesPart format words xs parts q → from ≡ end_before format words 0 q → past ≡ past_before format words 0 q
     → to ≡ stated_end format words 0 q → Restores xs from to past
 restored-here format words xs parts q from past to p f b t =
@@ -173,34 +149,34 @@ restored-here format words xs parts q from past to p f b t =
     (subst (λ n. Restores xs n (stated_end format words 0 q) (past_before format words 0 q)) (sym f) p.restored))
 
 -- how many relative values a part that is held has
-pub relative-count : (part : HeldPart) (xs : List ℕ) → HoldsValues part xs → length (relative_values xs part.from part.to) ≡ part.to - part.from
-relative-count part xs h =
-    let from : ℕ = part.from in
-    length-map (slice_range xs from part.to) (λ y. y - past xs from) ∙ length-take-le (part.to - from) (drop from xs) (omega (arith, length-drop from xs, h.within))
+pub relative-count : (held : HeldPart) (xs : List ℕ) → HoldsValues held xs → length (relative_values xs held.part.from held.part.to) ≡ held.part.to - held.part.from
+relative-count held xs h =
+    let from : ℕ = held.part.from in
+    length-map (slice_range xs from held.part.to) (λ y. y - past xs from) ∙ length-take-le (held.part.to - from) (drop from xs) (omega (arith, length-drop from xs, h.within))
 
 -- a number of a part is the value at its place, less what stands before the part
-pub number-here : (part : HeldPart) (xs : List ℕ) → HoldsValues part xs → (place : ℕ) → part.from ≤ place → place < part.to
-    → slice_index (relative_values xs part.from part.to) (place - part.from) + part.past ≡ slice_index xs place
-number-here part xs h place after before =
-    let here = h.restored (place - part.from) (omega (arith, after, before)) in
-    let same : slice_index xs (part.from + (place - part.from)) ≡ slice_index xs place = ap (slice_index xs) (let e : part.from + (place - part.from) ≡ place = omega (arith, after) in e) in
+pub number-here : (held : HeldPart) (xs : List ℕ) → HoldsValues held xs → (place : ℕ) → held.part.from ≤ place → place < held.part.to
+    → slice_index (relative_values xs held.part.from held.part.to) (place - held.part.from) + held.past ≡ slice_index xs place
+number-here held xs h place after before =
+    let here = h.restored (place - held.part.from) (omega (arith, after, before)) in
+    let same : slice_index xs (held.part.from + (place - held.part.from)) ≡ slice_index xs place = ap (slice_index xs) (let e : held.part.from + (place - held.part.from) ≡ place = omega (arith, after) in e) in
     omega (arith, here, same)
 
 -- the value at the place of a number that was found
-pub value-here : (part : HeldPart) (xs : List ℕ) → HoldsValues part xs → (from x k number : ℕ) → IsFirstAtLeast (relative_values xs part.from part.to) from x k
-    → number ≡ slice_index (relative_values xs part.from part.to) k → number + part.past ≡ slice_index xs (part.from + k)
-value-here part xs h from x k number first is =
-    let here = h.restored k (omega (arith, first.within, relative-count part xs h)) in
+pub value-here : (held : HeldPart) (xs : List ℕ) → HoldsValues held xs → (from x k number : ℕ) → IsFirstAtLeast (relative_values xs held.part.from held.part.to) from x k
+    → number ≡ slice_index (relative_values xs held.part.from held.part.to) k → number + held.past ≡ slice_index xs (held.part.from + k)
+value-here held xs h from x k number first is =
+    let here = h.restored k (omega (arith, first.within, relative-count held xs h)) in
     omega (arith, here, is)
 
 -- the first number of a part that is large enough is the first value there
-pub first-here : (part : HeldPart) (xs : List ℕ) → HoldsValues part xs → (place x least number : ℕ) → part.from ≤ place → least ≡ x - part.past
-    → IsFirstAtLeast (relative_values xs part.from part.to) (place - part.from) least number → IsFirstAtLeast xs place x (part.from + number)
-first-here part xs h place x least number after l first =
-    let from : ℕ = part.from in
-    let ys : List ℕ = relative_values xs from part.to in
-    let count : length ys ≡ part.to - from = relative-count part xs h in
-    let lt : from + number < part.to = omega (arith, first.within, count) in
+pub first-here : (held : HeldPart) (xs : List ℕ) → HoldsValues held xs → (place x least number : ℕ) → held.part.from ≤ place → least ≡ x - held.past
+    → IsFirstAtLeast (relative_values xs held.part.from held.part.to) (place - held.part.from) least number → IsFirstAtLeast xs place x (held.part.from + number)
+first-here held xs h place x least number after l first =
+    let from : ℕ = held.part.from in
+    let ys : List ℕ = relative_values xs from held.part.to in
+    let count : length ys ≡ held.part.to - from = relative-count held xs h in
+    let lt : from + number < held.part.to = omega (arith, first.within, count) in
     let value = h.restored number lt in
     record {
       at_or_after = omega (arith, first.at_or_after, after);
@@ -244,13 +220,7 @@ directory-states format room laws appended filled words parts m b =
       part = states-part format room laws appended filled m bound parts used v.values v.ends words begun.2 begun.3;
     }
 
--- where the place is not the end, its value is held
-pub value-held : (format : FormatNumbers) (words : List ℕ) (parts place : ℕ) (held : Option HeldValue) → place < length (sequence_stated format words parts).values
-    → LiesIn format words parts place held → (at : HeldValue) × (held ≡ Some at) × LiesIn format words parts place (Some at)
-value-held format words parts place (Some at) within lies = (at, refl, lies)
-value-held format words parts place None within lies = absurd (omega (arith, lies, within))
-
 -- a place lies within the sequence, or is its end
-pub lies-within : (format : FormatNumbers) (words : List ℕ) (parts place : ℕ) (held : Option HeldValue) → LiesIn format words parts place held → place ≤ length (sequence_stated format words parts).values
-lies-within format words parts place (Some at) lies = omega (arith, lies.2, lies.0.values.within)
-lies-within format words parts place None lies = omega (arith, lies)
+pub lies-within : (format : FormatNumbers) (words : List ℕ) (parts place : ℕ) (held : Option HeldPart) (value : ℕ) → LiesIn format words parts place held value → place ≤ length (sequence_stated format words parts).values
+lies-within format words parts place (Some held) value lies = omega (arith, lies.2, lies.0.values.within)
+lies-within format words parts place None value lies = omega (arith, lies)

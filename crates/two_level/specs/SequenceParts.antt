@@ -9,7 +9,6 @@ use Rattle.part_cost.specs.Stored.{HoldsPart}
 use Rattle.part_codec.specs.PartBits.{part_bits}
 use Rattle.part_codec.specs.PartView.{Holds, universe_of, count_of}
 use Rattle.two_level.specs.declared.held.HeldPart.{HeldPart}
-use Rattle.two_level.specs.declared.held.HeldValue.{HeldValue}
 use Rattle.two_level.specs.SequenceFault.{stated_last, stated_end, stated_offset, end_before, past_before, stated_count, stated_universe, payload_before, word_behind, first_bit}
 use Rattle.two_level.specs.SequenceView.{SequenceView, sequence_stated, words_used}
 
@@ -42,26 +41,27 @@ pub record StatesParts (format : FormatNumbers) (words : List ℕ) (parts : ℕ)
   pub part : (q : ℕ) → q < parts → StatesPart format words v.values parts q
 
 -- The view of a part that is held has the relative values of these values from its start up to its end.
-pub record HoldsValues (part : HeldPart) (xs : List ℕ) : Type 0 where
+pub record HoldsValues (held : HeldPart) (xs : List ℕ) : Type 0 where
   pub in_range : All (λ x. x < 2 ^ widest_low) xs
-  pub within : part.to ≤ length xs
+  pub within : held.part.to ≤ length xs
   pub few : length xs < 2 ^ 32
-  pub above : part.past ≤ part.last
-  pub u : universe_of part.view ≡ part.last + 1 - part.past
-  pub m : count_of part.view ≡ part.to - part.from
-  pub held : Holds part.view (relative_values xs part.from part.to)
-  pub restored : Restores xs part.from part.to part.past
+  pub above : held.past ≤ held.part.last
+  pub u : universe_of held.view ≡ held.part.last + 1 - held.past
+  pub m : count_of held.view ≡ held.part.to - held.part.from
+  pub numbers : Holds held.view (relative_values xs held.part.from held.part.to)
+  pub restored : Restores xs held.part.from held.part.to held.past
 
 -- A part that is held is one of so many in the sequence with which the words begin.
-pub record IsHeldPart (format : FormatNumbers) (words : List ℕ) (parts : ℕ) (part : HeldPart) : Type 0 where
-  pub within : part.index < parts
-  pub from : part.from ≡ end_before format words 0 part.index
-  pub to : part.to ≡ stated_end format words 0 part.index
-  pub last : part.last ≡ stated_last format words 0 part.index
-  pub values : HoldsValues part (sequence_stated format words parts).values
+pub record IsHeldPart (format : FormatNumbers) (words : List ℕ) (parts : ℕ) (held : HeldPart) : Type 0 where
+  pub within : held.index < parts
+  pub from : held.part.from ≡ end_before format words 0 held.index
+  pub to : held.part.to ≡ stated_end format words 0 held.index
+  pub last : held.part.last ≡ stated_last format words 0 held.index
+  pub universe_of_part : held.part.u ≡ stated_universe format words 0 held.index
+  pub values : HoldsValues held (sequence_stated format words parts).values
 
--- A place lies in the part whose value there is held, or is the end and none is held.
-abbrev pub LiesIn : FormatNumbers → List ℕ → ℕ → ℕ → Option HeldValue → Type 0
-LiesIn format words parts place (Some held) =
-    IsHeldPart format words parts held.part × (held.part.from ≤ place) × (place < held.part.to) × (held.value ≡ slice_index (sequence_stated format words parts).values place)
-LiesIn format words parts place None = place ≡ length (sequence_stated format words parts).values
+-- A place lies in the part that is held, and the value is that there; or it is the end, and none is held.
+abbrev pub LiesIn : FormatNumbers → List ℕ → ℕ → ℕ → Option HeldPart → ℕ → Type 0
+LiesIn format words parts place (Some held) value =
+    IsHeldPart format words parts held × (held.part.from ≤ place) × (place < held.part.to) × (value ≡ slice_index (sequence_stated format words parts).values place)
+LiesIn format words parts place None value = place ≡ length (sequence_stated format words parts).values

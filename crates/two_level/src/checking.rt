@@ -8,7 +8,7 @@ use crate::check::Check;
 use crate::entry::{Entry, directory_bits, directory_words, entry_at};
 use bit_words::Bits;
 use part_codec::check_part;
-use part_cost::{Format, formats_have_room, payload_bits};
+use part_cost::{Format, PlacedPart, formats_have_room, payload_bits};
 
 /// The first check of a sequence's words that breaks, and its part.
 #[derive(Clone, Copy, Debug, PartialEq, Eq)]
@@ -143,12 +143,13 @@ fn check_parts(words: &[u64], parts: u32, format: Format) -> Result<(), SeqFault
     for part in 0..parts {
         let entry = entry_at(words, part, format);
         let place = directory_bits(parts, format) + entry.offset;
-        if !check_part(
+        let placed = PlacedPart::at(
             Bits { words },
             place,
             entry.last + 1 - past,
             entry.end - before,
-        ) {
+        );
+        if !check_part(placed) {
             return Err(SeqFault {
                 check: Check::K8,
                 part,

@@ -2,16 +2,13 @@ ghost use Rattle.std.specs.Prelude.{◌≡◌, ℕ, ◌≤◌, ◌<◌, ◌+◌,
 ghost use Rattle.collection_model.specs.NextBelow.{AreNextBelow};
 ghost use Rattle.two_level.specs.SequenceView.{place_at_least};
 
-use crate::held::{
-    Following, HeldValue, behind_place, first_from_part, hold_if_any, hold_value, keep_value,
-    part_values_below,
-};
+use crate::held::{HeldPart, first_from_part, hold_if_any, hold_place};
 use crate::laws::directory_states_its_parts;
 use part_cost::Format;
 use std::marker::Model;
 
-/// A place in a sequence, which may be its end. The value at the place and its part are held, so that the values of a part
-/// are read one after another, each by the one before it, without a search.
+/// A place in a sequence, which may be its end. The part of the place and the value there are held, so that the values of a
+/// part are read one after another, each by the one before it, without a search. At the end the value says nothing.
 #[derive(Drop)]
 pub struct SeqCursor<'a> {
     words: &'a [u64],
@@ -19,7 +16,8 @@ pub struct SeqCursor<'a> {
     m: u32,
     format: Format,
     place: u32,
-    held: Option<HeldValue<'a>>,
+    held: Option<HeldPart<'a>>,
+    value: u64,
 }
 
 impl<'a> Model for SeqCursor<'a> {
@@ -32,7 +30,7 @@ impl<'a> Model for SeqCursor<'a> {
 
     ghost view = { λ c. record { sequence = sequence_stated (numbers_of c.format) c.words.now c.parts; place = c.place } };
 
-    ghost invariant = { λ c. BeginWith c.words.now c.parts c.m (sequence_stated (numbers_of c.format) c.words.now c.parts) × (length c.words.now < 2 ^ 57) × LiesIn (numbers_of c.format) c.words.now c.parts c.place c.held };
+    ghost invariant = { λ c. BeginWith c.words.now c.parts c.m (sequence_stated (numbers_of c.format) c.words.now c.parts) × (length c.words.now < 2 ^ 57) × LiesIn (numbers_of c.format) c.words.now c.parts c.place c.held c.value };
 }
 
 impl<'a> SeqCursor<'a> {
@@ -47,7 +45,7 @@ impl<'a> SeqCursor<'a> {
         ensures sequence { result.sequence ≡ sequence_stated (numbers_of format) words.entry.now parts }
         ensures start { result.place ≡ 0 }
     {
-        let held = hold_if_any(words, parts, 0, format);
+        let (held, value) = hold_if_any(words, parts, 0, format);
         SeqCursor {
             words,
             parts,
@@ -55,6 +53,7 @@ impl<'a> SeqCursor<'a> {
             format,
             place: 0,
             held,
+            value,
         }
     }
 
@@ -70,10 +69,7 @@ impl<'a> SeqCursor<'a> {
         requires within { self.now.place < length self.now.sequence.values }
         ensures { result ≡ slice_index self.now.sequence.values self.now.place }
     {
-        match &self.held {
-            Some(held) => held.value,
-            None => unreachable!(),
-        }
+        self.value
     }
 
     /// Goes to the next place.
@@ -83,12 +79,16 @@ impl<'a> SeqCursor<'a> {
         ensures place { self.new.place ≡ self.old.place + 1 }
     {
         let place = self.place;
+        let value = self.value;
         self.place += 1;
-        match behind_place(&self.held, place) {
-            Following::Value(value) => keep_value(&mut self.held, value),
-            Following::End(part) => {
-                self.held = hold_if_any(self.words, self.parts, part + 1, self.format);
-            }
+        let Some(held) = &self.held else {
+            unreachable!()
+        };
+        if place + 1 < held.part.to {
+            self.value = held.value_after(place, value);
+        } else {
+            let behind = held.index + 1;
+            (self.held, self.value) = hold_if_any(self.words, self.parts, behind, self.format);
         }
     }
 
@@ -121,10 +121,15 @@ impl<'a> SeqCursor<'a> {
         ensures within { self.old.place + result ≤ length self.old.sequence.values }
         ensures values { AreNextBelow (take (self.old.place + result) self.old.sequence.values) self.old.place x to.new result }
     {
-        let count = part_values_below(&self.held, self.place, x, to);
+        let place = self.place;
+        let value = self.value;
+        let Some(held) = &self.held else {
+            unreachable!()
+        };
+        let count = held.values_below(place, value, x, to);
         let last = count - 1;
-        self.place += last as u32;
-        keep_value(&mut self.held, to[last]);
+        self.place = place + last as u32;
+        self.value = to[last];
         self.next();
         count
     }
@@ -135,20 +140,23 @@ impl<'a> SeqCursor<'a> {
         ensures place { self.new.place ≡ place_at_least self.old.sequence.values self.old.place x }
     {
         directory_states_its_parts();
-        let Some(held) = &mut self.held else {
+        let place = self.place;
+        let value = self.value;
+        let Some(held) = &self.held else {
             return;
         };
-        if x <= held.value {
+        if x <= value {
             return;
         }
         if x <= held.part.last {
-            (self.place, held.value) = held.first_at_least(self.place, x);
+            (self.place, self.value) = held.first_from(place, value, x);
         } else {
-            (self.place, self.held) = first_from_part(
+            let behind = held.index + 1;
+            (self.place, self.held, self.value) = first_from_part(
                 self.words,
                 self.parts,
                 self.m,
-                held.part.index + 1,
+                behind,
                 x,
                 self.format,
             );
@@ -174,15 +182,15 @@ impl<'a> SeqCursor<'a> {
         ensures sequence { self.new.sequence ≡ self.old.sequence }
         ensures place { self.new.place ≡ k }
     {
-        let held = self.held;
-        self.held = match held {
-            Some(HeldValue { part, .. }) if part.has(k) => Some(HeldValue {
-                part,
-                value: part.value(k),
-            }),
-            _ if k < self.m => Some(hold_value(self.words, self.parts, k, self.format)),
-            _ => None,
-        };
         self.place = k;
+        match &self.held {
+            Some(held) if held.has(k) => self.value = held.value(k),
+            _ if k < self.m => {
+                let held = hold_place(self.words, self.parts, k, self.format);
+                self.value = held.value(k);
+                self.held = Some(held);
+            }
+            _ => self.held = None,
+        }
     }
 }

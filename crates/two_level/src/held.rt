@@ -1,4 +1,4 @@
-ghost use Rattle.std.specs.Prelude.{◌≡◌, ℕ, ◌≤◌, ◌<◌, ◌+◌, ◌^◌, IsTrue, ◌↔◌, List, length, slice_index, take, Some};
+ghost use Rattle.std.specs.Prelude.{◌≡◌, ℕ, ◌≤◌, ◌<◌, ◌+◌, ◌^◌, IsTrue, ◌↔◌, List, length, slice_index, take};
 ghost use Rattle.collection_model.specs.NextBelow.{AreNextBelow};
 ghost use Rattle.part_cost.specs.Stored.{IsFirstAtLeast};
 ghost use Rattle.part_codec.specs.PartView.{Holds, universe_of, count_of};
@@ -6,40 +6,22 @@ ghost use Rattle.part_cost.specs.Formats.{numbers_of};
 ghost use Rattle.two_level.specs.SequenceFault.{end_before};
 ghost use Rattle.two_level.specs.SequenceView.{BeginWith, sequence_stated, place_at_least};
 ghost use Rattle.two_level.specs.SequenceParts.{HoldsValues, IsHeldPart, LiesIn};
-ghost use Rattle.two_level.specs.declared.held.HeldValue.{HeldValue};
 
 use crate::directory::part_reaching;
-use crate::entry::directory_bits;
 use crate::finding::{part_of_place, stated_part};
 use crate::laws::directory_states_its_parts;
-use bit_words::Bits;
+use crate::part::Part;
 use part_codec::{PartCodec, PartView};
 use part_cost::{Format, formats_have_room};
 
-// A part of a sequence that is held to be read: which part it is, the places of its first value and behind its last, one
-// past the value before it, its last value, and the view of its relative values.
+// A part of a sequence that is held to be read: which part it is, what is said of it, one past the value before it, and the
+// view of its relative values.
 #[derive(Clone, Copy)]
 pub(crate) struct HeldPart<'a> {
     pub(crate) index: u32,
-    from: u64,
-    pub(crate) to: u64,
+    pub(crate) part: Part,
     past: u64,
-    pub(crate) last: u64,
     view: PartView<'a>,
-}
-
-// A value of a part that is held, and the part.
-#[derive(Clone, Copy)]
-pub(crate) struct HeldValue<'a> {
-    pub(crate) part: HeldPart<'a>,
-    pub(crate) value: u64,
-}
-
-// What comes behind a value of a part: the next value of the part, or the end of the part, which is named.
-#[derive(Clone, Copy)]
-pub(crate) enum Following {
-    Value(u64),
-    End(u32),
 }
 
 // Number k of a part that holds some numbers.
@@ -109,26 +91,26 @@ fn first_from_number(view: &PartView, x: u64, k: u64, number: u64) -> (u64, u64)
 impl<'a> HeldPart<'a> {
     // Whether a place lies in the part.
     pub(crate) fn has(&self, place: u32) -> bool
-        ensures { IsTrue result ↔ (self.now.from ≤ place) × (place < self.now.to) }
+        ensures { IsTrue result ↔ (self.now.part.from ≤ place) × (place < self.now.part.to) }
     {
-        self.from <= place as u64 && (place as u64) < self.to
+        self.part.from <= place && place < self.part.to
     }
 
     // The value at a place in the part.
     pub(crate) fn value(&self, place: u32) -> u64
         requires values { (xs : List ℕ) × HoldsValues self.now xs }
-        requires after { self.now.from ≤ place }
-        requires before { place < self.now.to }
+        requires after { self.now.part.from ≤ place }
+        requires before { place < self.now.part.to }
         ensures { (xs : List ℕ) → HoldsValues self.now xs → result ≡ slice_index xs place }
     {
-        number_in_part(&self.view, place as u64 - self.from) + self.past
+        number_in_part(&self.view, (place - self.part.from) as u64) + self.past
     }
 
     // The first value of the part.
     fn first(&self) -> u64
         requires values { (xs : List ℕ) × HoldsValues self.now xs }
-        requires some { self.now.from < self.now.to }
-        ensures { (xs : List ℕ) → HoldsValues self.now xs → result ≡ slice_index xs self.now.from }
+        requires some { self.now.part.from < self.now.part.to }
+        ensures { (xs : List ℕ) → HoldsValues self.now xs → result ≡ slice_index xs self.now.part.from }
     {
         first_in_part(&self.view, 0, 0).1 + self.past
     }
@@ -136,24 +118,24 @@ impl<'a> HeldPart<'a> {
     // The value behind a place in the part, by the value at that place.
     pub(crate) fn value_after(&self, place: u32, value: u64) -> u64
         requires values { (xs : List ℕ) × HoldsValues self.now xs × (value ≡ slice_index xs place) }
-        requires after { self.now.from ≤ place }
-        requires before { place + 1 < self.now.to }
+        requires after { self.now.part.from ≤ place }
+        requires before { place + 1 < self.now.part.to }
         ensures { (xs : List ℕ) → HoldsValues self.now xs → result ≡ slice_index xs (place + 1) }
     {
         let number = value - self.past;
-        number_after(&self.view, place as u64 - self.from, number) + self.past
+        number_after(&self.view, (place - self.part.from) as u64, number) + self.past
     }
 
     // Gives the values of the part from a place on that are below x, as many as there are and have room, by the value at that
     // place. It tells how many they are.
-    fn values_below(&self, place: u32, value: u64, x: u64, to: &mut [u64]) -> usize
+    pub(crate) fn values_below(&self, place: u32, value: u64, x: u64, to: &mut [u64]) -> usize
         requires values { (xs : List ℕ) × HoldsValues self.now xs × (value ≡ slice_index xs place) }
-        requires after { self.now.from ≤ place }
-        requires before { place < self.now.to }
+        requires after { self.now.part.from ≤ place }
+        requires before { place < self.now.part.to }
         ensures room { length to.new ≡ length to.old }
-        ensures values { (xs : List ℕ) → HoldsValues self.now xs → AreNextBelow (take self.now.to xs) place x to.new result }
+        ensures values { (xs : List ℕ) → HoldsValues self.now xs → AreNextBelow (take self.now.part.to xs) place x to.new result }
     {
-        let k = place as u64 - self.from;
+        let k = (place - self.part.from) as u64;
         let number = value - self.past;
         let count = numbers_below(&self.view, k, number, x.saturating_sub(self.past), to);
         raise_first(to, count, self.past);
@@ -163,89 +145,78 @@ impl<'a> HeldPart<'a> {
     // The first place at or after one in the part whose value is at least x, and that value.
     pub(crate) fn first_at_least(&self, place: u32, x: u64) -> (u32, u64)
         requires values { (xs : List ℕ) × HoldsValues self.now xs }
-        requires after { self.now.from ≤ place }
-        requires before { place < self.now.to }
-        requires reached { x ≤ self.now.last }
-        ensures after { self.now.from ≤ result.0 }
-        ensures before { result.0 < self.now.to }
-        ensures first { (xs : List ℕ) → HoldsValues self.now xs → IsFirstAtLeast xs place x result.0 }
-        ensures value { (xs : List ℕ) → HoldsValues self.now xs → result.1 ≡ slice_index xs result.0 }
-    {
-        let least = x.saturating_sub(self.past);
-        let (k, number) = first_in_part(&self.view, least, place as u64 - self.from);
-        ((self.from + k) as u32, number + self.past)
-    }
-}
-
-impl<'a> HeldValue<'a> {
-    // The first place at or after this one in the part whose value is at least x, and that value.
-    pub(crate) fn first_at_least(&self, place: u32, x: u64) -> (u32, u64)
-        requires values { (xs : List ℕ) × HoldsValues self.now.part xs × (self.now.value ≡ slice_index xs place) }
         requires after { self.now.part.from ≤ place }
         requires before { place < self.now.part.to }
         requires reached { x ≤ self.now.part.last }
         ensures after { self.now.part.from ≤ result.0 }
         ensures before { result.0 < self.now.part.to }
-        ensures first { (xs : List ℕ) → HoldsValues self.now.part xs → self.now.value ≡ slice_index xs place → IsFirstAtLeast xs place x result.0 }
-        ensures value { (xs : List ℕ) → HoldsValues self.now.part xs → self.now.value ≡ slice_index xs place → result.1 ≡ slice_index xs result.0 }
+        ensures first { (xs : List ℕ) → HoldsValues self.now xs → IsFirstAtLeast xs place x result.0 }
+        ensures value { (xs : List ℕ) → HoldsValues self.now xs → result.1 ≡ slice_index xs result.0 }
     {
-        let part = &self.part;
-        let least = x.saturating_sub(part.past);
-        let from = place as u64 - part.from;
-        let number = self.value - part.past;
-        let (k, number) = first_from_number(&part.view, least, from, number);
-        ((part.from + k) as u32, number + part.past)
+        let least = x.saturating_sub(self.past);
+        let (k, number) = first_in_part(&self.view, least, (place - self.part.from) as u64);
+        (self.part.from + k as u32, number + self.past)
+    }
+
+    // The same, by the value at that place.
+    pub(crate) fn first_from(&self, place: u32, value: u64, x: u64) -> (u32, u64)
+        requires values { (xs : List ℕ) × HoldsValues self.now xs × (value ≡ slice_index xs place) }
+        requires after { self.now.part.from ≤ place }
+        requires before { place < self.now.part.to }
+        requires reached { x ≤ self.now.part.last }
+        ensures after { self.now.part.from ≤ result.0 }
+        ensures before { result.0 < self.now.part.to }
+        ensures first { (xs : List ℕ) → HoldsValues self.now xs → value ≡ slice_index xs place → IsFirstAtLeast xs place x result.0 }
+        ensures value { (xs : List ℕ) → HoldsValues self.now xs → value ≡ slice_index xs place → result.1 ≡ slice_index xs result.0 }
+    {
+        let least = x.saturating_sub(self.past);
+        let from = (place - self.part.from) as u64;
+        let number = value - self.past;
+        let (k, number) = first_from_number(&self.view, least, from, number);
+        (self.part.from + k as u32, number + self.past)
     }
 }
 
 // Holds a part of the sequence with which the words begin.
-pub(crate) fn hold<'a>(words: &'a [u64], parts: u32, part: u32, format: Format) -> HeldPart<'a>
+pub(crate) fn hold<'a>(words: &'a [u64], parts: u32, index: u32, format: Format) -> HeldPart<'a>
     requires words { length words.now < 2 ^ 57 }
     requires begun { (m : ℕ) × BeginWith words.now parts m (sequence_stated (numbers_of format) words.now parts) }
     requires few { length (sequence_stated (numbers_of format) words.now parts).values < 2 ^ 32 }
-    requires within { part < parts }
-    ensures index { result.index ≡ part }
+    requires within { index < parts }
+    ensures index { result.index ≡ index }
     ensures held { IsHeldPart (numbers_of format) words.entry.now parts result }
 {
     directory_states_its_parts();
     formats_have_room();
-    let stated = stated_part(words, parts, part, format);
-    let view = PartView::at(
-        Bits { words },
-        directory_bits(parts, format) + stated.offset,
-        stated.last + 1 - stated.past,
-        stated.to - stated.from,
-    );
+    let (part, placed) = stated_part(words, parts, index, format);
     HeldPart {
-        index: part,
-        from: stated.from,
-        to: stated.to,
-        past: stated.past,
-        last: stated.last,
-        view,
+        index,
+        part,
+        past: part.last + 1 - part.u,
+        view: PartView::at(placed),
     }
 }
 
-// Holds the first value of a part of the sequence with which the words begin, and none behind the last part.
+// Holds a part of the sequence with which the words begin, and gives its first value; behind the last part it holds none.
 pub(crate) fn hold_if_any<'a>(
     words: &'a [u64],
     parts: u32,
     part: u32,
     format: Format,
-) -> Option<HeldValue<'a>>
+) -> (Option<HeldPart<'a>>, u64)
     requires words { length words.now < 2 ^ 57 }
     requires begun { (m : ℕ) × BeginWith words.now parts m (sequence_stated (numbers_of format) words.now parts) }
     requires few { length (sequence_stated (numbers_of format) words.now parts).values < 2 ^ 32 }
     requires within { part ≤ parts }
-    ensures lies { LiesIn (numbers_of format) words.entry.now parts (end_before (numbers_of format) words.entry.now 0 part) result }
+    ensures lies { LiesIn (numbers_of format) words.entry.now parts (end_before (numbers_of format) words.entry.now 0 part) result.0 result.1 }
 {
     directory_states_its_parts();
     if part < parts {
-        let part = hold(words, parts, part, format);
-        let value = part.first();
-        Some(HeldValue { part, value })
+        let held = hold(words, parts, part, format);
+        let value = held.first();
+        (Some(held), value)
     } else {
-        None
+        (None, 0)
     }
 }
 
@@ -261,8 +232,8 @@ pub(crate) fn hold_place<'a>(
     requires few { length (sequence_stated (numbers_of format) words.now parts).values < 2 ^ 32 }
     requires within { place < length (sequence_stated (numbers_of format) words.now parts).values }
     ensures held { IsHeldPart (numbers_of format) words.entry.now parts result }
-    ensures after { result.from ≤ place }
-    ensures before { place < result.to }
+    ensures after { result.part.from ≤ place }
+    ensures before { place < result.part.to }
 {
     directory_states_its_parts();
     hold(
@@ -273,25 +244,7 @@ pub(crate) fn hold_place<'a>(
     )
 }
 
-// Holds the value at a place of the sequence with which the words begin.
-pub(crate) fn hold_value<'a>(
-    words: &'a [u64],
-    parts: u32,
-    place: u32,
-    format: Format,
-) -> HeldValue<'a>
-    requires words { length words.now < 2 ^ 57 }
-    requires begun { (m : ℕ) × BeginWith words.now parts m (sequence_stated (numbers_of format) words.now parts) }
-    requires few { length (sequence_stated (numbers_of format) words.now parts).values < 2 ^ 32 }
-    requires within { place < length (sequence_stated (numbers_of format) words.now parts).values }
-    ensures { LiesIn (numbers_of format) words.entry.now parts place (Some result) }
-{
-    let part = hold_place(words, parts, place, format);
-    let value = part.value(place);
-    HeldValue { part, value }
-}
-
-// The first place from the start of a part on whose value is at least x, with that value and its part; else the end.
+// The first place from the start of a part on whose value is at least x, with its part and that value; else the end.
 pub(crate) fn first_from_part<'a>(
     words: &'a [u64],
     parts: u32,
@@ -299,21 +252,21 @@ pub(crate) fn first_from_part<'a>(
     part: u32,
     x: u64,
     format: Format,
-) -> (u32, Option<HeldValue<'a>>)
+) -> (u32, Option<HeldPart<'a>>, u64)
     requires words { length words.now < 2 ^ 57 }
     requires begun { BeginWith words.now parts m (sequence_stated (numbers_of format) words.now parts) }
     requires within { part ≤ parts }
-    ensures lies { LiesIn (numbers_of format) words.entry.now parts result.0 result.1 }
+    ensures lies { LiesIn (numbers_of format) words.entry.now parts result.0 result.1 result.2 }
     ensures first { result.0 ≡ place_at_least (sequence_stated (numbers_of format) words.entry.now parts).values (end_before (numbers_of format) words.entry.now 0 part) x }
 {
     directory_states_its_parts();
     let reaching = part_reaching(words, parts, part, x, format);
     if reaching < parts {
-        let part = hold(words, parts, reaching, format);
-        let (place, value) = part.first_at_least(part.from as u32, x);
-        (place, Some(HeldValue { part, value }))
+        let held = hold(words, parts, reaching, format);
+        let (place, value) = held.first_at_least(held.part.from, x);
+        (place, Some(held), value)
     } else {
-        (m, None)
+        (m, None, 0)
     }
 }
 
@@ -326,43 +279,4 @@ pub(crate) fn value_at(words: &[u64], parts: u32, place: u32, format: Format) ->
     ensures { result ≡ slice_index (sequence_stated (numbers_of format) words.now parts).values place }
 {
     hold_place(words, parts, place, format).value(place)
-}
-
-// What comes behind the value at a place, which is held.
-pub(crate) fn behind_place(held: &Option<HeldValue>, place: u32) -> Following
-    requires some { (at : HeldValue) × (held.now ≡ Some at) × (at.part.from ≤ place) × (place < at.part.to) × ((xs : List ℕ) × HoldsValues at.part xs × (at.value ≡ slice_index xs place)) }
-    ensures value { (at : HeldValue) (value : ℕ) → held.now ≡ Some at → result ≡ Following.Value value → (place + 1 < at.part.to) × ((xs : List ℕ) → HoldsValues at.part xs → value ≡ slice_index xs (place + 1)) }
-    ensures end { (at : HeldValue) (part : ℕ) → held.now ≡ Some at → result ≡ Following.End part → (at.part.to ≡ place + 1) × (part ≡ at.part.index) }
-{
-    let Some(at) = held else { unreachable!() };
-    if u64::from(place) + 1 < at.part.to {
-        Following::Value(at.part.value_after(place, at.value))
-    } else {
-        Following::End(at.part.index)
-    }
-}
-
-// Gives the values from a place on, where the value is held, that are below x and in its part, as many as there are and have room.
-// It tells how many they are.
-pub(crate) fn part_values_below(
-    held: &Option<HeldValue>,
-    place: u32,
-    x: u64,
-    to: &mut [u64],
-) -> usize
-    requires some { (at : HeldValue) × (held.now ≡ Some at) × (at.part.from ≤ place) × (place < at.part.to) × ((xs : List ℕ) × HoldsValues at.part xs × (at.value ≡ slice_index xs place)) }
-    ensures room { length to.new ≡ length to.old }
-    ensures values { (at : HeldValue) (xs : List ℕ) → held.now ≡ Some at → HoldsValues at.part xs → AreNextBelow (take at.part.to xs) place x to.new result }
-{
-    let Some(at) = held else { unreachable!() };
-    at.part.values_below(place, at.value, x, to)
-}
-
-// Puts a value in place of the one that is held.
-pub(crate) fn keep_value(held: &mut Option<HeldValue>, value: u64)
-    ensures { (before : HeldValue) → held.old ≡ Some before → held.new ≡ Some (record { part = before.part; value = value }) }
-{
-    if let Some(held) = held {
-        held.value = value;
-    }
 }

@@ -16,7 +16,6 @@ mod tests;
 mod view;
 mod write;
 
-pub use bit_words::NoMemory;
 pub use check::Check;
 pub use checking::{SeqFault, parts_fit};
 pub use cursor::SeqCursor;

@@ -362,6 +362,23 @@ fn has_parts(
     }
 }
 
+// Whether a sequence in parts that end at such places is read back by each call.
+fn are_read_back(
+    rt: &impl Abort,
+    words: &[u64],
+    values: &[u64],
+    ends: &[u32],
+    bound: u64,
+    format: Format,
+) {
+    assert!(rt; words.len() < 1 << 28 && values.len() < 1 << 28 && ends.len() < 1 << 28);
+    assert!(rt; bound <= format.most_sum());
+    let parts = ends.len() as u32;
+    reads_back(rt, words, values, parts, bound, format);
+    finds_places(rt, words, values, parts, bound, format);
+    has_parts(rt, words, values, ends, bound, format);
+}
+
 // 0, 2 in one part and in two; 0, 5; and 1, 2, where the first bit is not set; 0, 1; and 0 with the greatest value.
 #[test]
 fn two_values_are_read_back(rt: HostRuntime) {
@@ -415,11 +432,7 @@ fn two_values_are_read_back(rt: HostRuntime) {
             1 << 48,
         ),
     ] {
-        assert!(rt; words.len() < 1 << 28 && ends.len() < 1 << 28 && bound <= format.most_sum());
-        let parts = ends.len() as u32;
-        reads_back(&rt, words, &values, parts, bound, format);
-        finds_places(&rt, words, &values, parts, bound, format);
-        has_parts(&rt, words, &values, ends, bound, format);
+        are_read_back(&rt, words, &values, ends, bound, format);
     }
 }
 
@@ -453,9 +466,7 @@ fn a_part_with_a_sample_is_read_back(rt: HostRuntime) -> Result<(), Fail> {
         write_seq(rt.alloc(), &values, &[129, 130], format, &mut words).expect(&rt, "memory");
         assert!(rt; directory <= 6);
         assert_eq!(rt; words.len(), directory + 12);
-        reads_back(&rt, &words, &values, 2, bound, format);
-        finds_places(&rt, &words, &values, 2, bound, format);
-        has_parts(&rt, &words, &values, &[129, 130], bound, format);
+        are_read_back(&rt, &words, &values, &[129, 130], bound, format);
         assert_eq!(rt; words[directory + 10] >> 36 & 511, 288);
         for (word, bit, fault) in [
             (10, 36, (Check::K8, 0)),
@@ -593,9 +604,7 @@ fn five_parts_are_read_by_every_call(rt: HostRuntime) {
         .expect(&rt, "memory");
         assert!(rt; words.len() < 100);
         let bound = format.most_sum();
-        reads_back(&rt, &words, &values, 5, bound, format);
-        finds_places(&rt, &words, &values, 5, bound, format);
-        has_parts(&rt, &words, &values, &[10, 13, 23, 24, 29], bound, format);
+        are_read_back(&rt, &words, &values, &[10, 13, 23, 24, 29], bound, format);
         goes_on(&rt, &words, &values, 5, bound, format);
         for room in [0, 1, 2, 29] {
             gives_blocks(&rt, &words, &values, 5, room, format);

@@ -10,7 +10,8 @@ ghost use Rattle.two_level.specs.EntryWords.{entry};
 ghost use Rattle.two_level.specs.SequenceWords.{directory_from, payload_from, sequence_words, Extends};
 
 use crate::entry::Entry;
-use bit_words::{BitWriter, NoMemory};
+use bit_words::BitWriter;
+use no_memory::NoMemory;
 use part_codec::{part_takes_its_payload, write_part};
 use part_cost::{Format, formats_have_room, part_is_relative, payload_bits};
 use std::alloc::Global;
@@ -120,7 +121,7 @@ fn fill_part(values: &[u64], from: u64, end: u64, part: &mut Vec<u64>) -> Result
     let past = past_value(values, from);
     part.clear();
     for value in &values[from as usize..end as usize] {
-        part.push(*value - past).map_err(|_| NoMemory)?;
+        part.push(*value - past)?;
     }
     Ok(())
 }

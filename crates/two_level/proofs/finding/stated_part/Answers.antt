@@ -1,4 +1,4 @@
-use Rattle.std.proofs.Common.{◌∙◌, arith}
+use Rattle.std.proofs.Common.{arith}
 use Rattle.part_cost.specs.Formats.{numbers_of}
 use Rattle.two_level.proofs.Lengths.{entry-within}
 use Rattle.two_level.proofs.finding.stated_part.Goals as goal
@@ -18,45 +18,70 @@ before_part-from-requires c =
       in_range = omega (arith, p.above, p.small, room.sums);
     }
 
-pub returns-clause-offset : goal.returns-clause-offset
-returns-clause-offset c =
-    let d = c.directory_states_its_parts.ensures c.args.format c.args.words.now c.args.parts c.requires.begun.0 c.requires.begun.1 in
-    let p = d.part c.args.part c.requires.within in
-    c.entry_at-entry.ensures.offset ∙ p.offset
-
-pub returns-clause-some : goal.returns-clause-some
-returns-clause-some c =
-    let d = c.directory_states_its_parts.ensures c.args.format c.args.words.now c.args.parts c.requires.begun.0 c.requires.begun.1 in
-    let p = d.part c.args.part c.requires.within in
-    omega (arith, c.before_part-from.ensures.end, c.entry_at-entry.ensures.end, p.some)
-
-pub returns-clause-within : goal.returns-clause-within
-returns-clause-within c =
-    let d = c.directory_states_its_parts.ensures c.args.format c.args.words.now c.args.parts c.requires.begun.0 c.requires.begun.1 in
-    let p = d.part c.args.part c.requires.within in
-    omega (arith, c.entry_at-entry.ensures.end, p.within)
-
-pub returns-clause-above : goal.returns-clause-above
-returns-clause-above c =
-    let d = c.directory_states_its_parts.ensures c.args.format c.args.words.now c.args.parts c.requires.begun.0 c.requires.begun.1 in
-    let p = d.part c.args.part c.requires.within in
-    omega (arith, c.before_part-from.ensures.past, c.entry_at-entry.ensures.last, p.above)
-
-pub returns-clause-in_range : goal.returns-clause-in_range
-returns-clause-in_range c =
+pub overflow_add-u : goal.overflow_add-u
+overflow_add-u c =
     let d = c.directory_states_its_parts.ensures c.args.format c.args.words.now c.args.parts c.requires.begun.0 c.requires.begun.1 in
     let p = d.part c.args.part c.requires.within in
     let room = c.formats_have_room.ensures c.args.format in
     omega (arith, c.entry_at-entry.ensures.last, p.small, room.sums)
 
-pub returns-clause-room : goal.returns-clause-room
-returns-clause-room c =
+pub overflow_sub-u : goal.overflow_sub-u
+overflow_sub-u c =
     let d = c.directory_states_its_parts.ensures c.args.format c.args.words.now c.args.parts c.requires.begun.0 c.requires.begun.1 in
     let p = d.part c.args.part c.requires.within in
-    omega (arith, c.before_part-from.ensures.end, c.before_part-from.ensures.past, c.entry_at-entry.ensures.end, c.entry_at-entry.ensures.last, p.room)
+    omega (arith, c.before_part-from.ensures.past, c.entry_at-entry.ensures.last, p.above)
+
+pub overflow_add-place : goal.overflow_add-place
+overflow_add-place c =
+    let d = c.directory_states_its_parts.ensures c.args.format c.args.words.now c.args.parts c.requires.begun.0 c.requires.begun.1 in
+    let p = d.part c.args.part c.requires.within in
+    omega (arith, c.directory_bits.ensures.bits, c.entry_at-entry.ensures.offset, p.offset, p.place, c.requires.words)
+
+pub overflow_cast-result : goal.overflow_cast-result
+overflow_cast-result c =
+    let d = c.directory_states_its_parts.ensures c.args.format c.args.words.now c.args.parts c.requires.begun.0 c.requires.begun.1 in
+    let p = d.part c.args.part c.requires.within in
+    omega (arith, c.before_part-from.ensures.end, p.some, p.within, c.requires.few)
+
+pub overflow_cast-result-2 : goal.overflow_cast-result-2
+overflow_cast-result-2 c =
+    let d = c.directory_states_its_parts.ensures c.args.format c.args.words.now c.args.parts c.requires.begun.0 c.requires.begun.1 in
+    let p = d.part c.args.part c.requires.within in
+    omega (arith, c.entry_at-entry.ensures.end, p.within, c.requires.few)
+
+pub overflow_sub-entry : goal.overflow_sub-entry
+overflow_sub-entry c =
+    let d = c.directory_states_its_parts.ensures c.args.format c.args.words.now c.args.parts c.requires.begun.0 c.requires.begun.1 in
+    let p = d.part c.args.part c.requires.within in
+    omega (arith, c.before_part-from.ensures.end, c.entry_at-entry.ensures.end, p.some)
+
+pub at-requires-clause-some : goal.at-requires-clause-some
+at-requires-clause-some c =
+    let d = c.directory_states_its_parts.ensures c.args.format c.args.words.now c.args.parts c.requires.begun.0 c.requires.begun.1 in
+    let p = d.part c.args.part c.requires.within in
+    omega (arith, c.before_part-from.ensures.end, c.entry_at-entry.ensures.end, p.some)
+
+pub at-requires-clause-fit : goal.at-requires-clause-fit
+at-requires-clause-fit c =
+    let d = c.directory_states_its_parts.ensures c.args.format c.args.words.now c.args.parts c.requires.begun.0 c.requires.begun.1 in
+    let p = d.part c.args.part c.requires.within in
+    omega (arith, c.before_part-from.ensures.end, c.entry_at-entry.ensures.end, c.before_part-from.ensures.past, c.entry_at-entry.ensures.last, p.room)
+
+pub at-requires-clause-in_range : goal.at-requires-clause-in_range
+at-requires-clause-in_range c =
+    let d = c.directory_states_its_parts.ensures c.args.format c.args.words.now c.args.parts c.requires.begun.0 c.requires.begun.1 in
+    let p = d.part c.args.part c.requires.within in
+    let room = c.formats_have_room.ensures c.args.format in
+    omega (arith, c.entry_at-entry.ensures.last, p.small, room.sums)
+
+pub at-requires-clause-place : goal.at-requires-clause-place
+at-requires-clause-place c =
+    let d = c.directory_states_its_parts.ensures c.args.format c.args.words.now c.args.parts c.requires.begun.0 c.requires.begun.1 in
+    let p = d.part c.args.part c.requires.within in
+    omega (arith, c.directory_bits.ensures.bits, c.entry_at-entry.ensures.offset, p.offset, p.place)
 
 pub returns-clause-place : goal.returns-clause-place
 returns-clause-place c =
     let d = c.directory_states_its_parts.ensures c.args.format c.args.words.now c.args.parts c.requires.begun.0 c.requires.begun.1 in
     let p = d.part c.args.part c.requires.within in
-    omega (arith, c.entry_at-entry.ensures.offset, p.offset, p.place)
+    omega (arith, c.at.ensures.place, c.directory_bits.ensures.bits, c.entry_at-entry.ensures.offset, p.offset)

@@ -11,12 +11,12 @@ returns-then-reaching-parts-clause-first c =
     let start : ℕ = end_before (numbers_of c.args.format) c.args.words.now 0 c.args.part in
     let d = c.directory_states_its_parts.ensures c.args.format c.args.words.now c.args.parts c.args.m c.requires.begun in
     let r = c.part_reaching-reaching.ensures in
-    let held = c.hold-part.result in
-    let is = c.hold-part.ensures.held in
-    let from : held.from ≡ end_before (numbers_of c.args.format) c.args.words.now 0 c.part_reaching-reaching.result = is.from ∙ ap (end_before (numbers_of c.args.format) c.args.words.now 0) c.hold-part.ensures.index in
+    let held = c.hold-held.result in
+    let is = c.hold-held.ensures.held in
+    let from : held.part.from ≡ end_before (numbers_of c.args.format) c.args.words.now 0 c.part_reaching-reaching.result = is.from ∙ ap (end_before (numbers_of c.args.format) c.args.words.now 0) c.hold-held.ensures.index in
     let rises = ends-rise (numbers_of c.args.format) c.args.words.now c.args.parts c.args.part c.part_reaching-reaching.result v d r.after r.within in
-    found-first v.values held.from c.first_at_least-place.result.0 c.args.x (c.first_at_least-place.ensures.first v.values is.values)
-    ∙ later-place v.values start held.from c.args.x (omega (arith, from, rises)) (omega (arith, c.first_at_least-place.ensures.after, c.first_at_least-place.ensures.before, is.values.within))
+    found-first v.values held.part.from c.first_at_least-place.result.0 c.args.x (c.first_at_least-place.ensures.first v.values is.values)
+    ∙ later-place v.values start held.part.from c.args.x (omega (arith, from, rises)) (omega (arith, c.first_at_least-place.ensures.after, c.first_at_least-place.ensures.before, is.values.within))
     (λ k after lt. below-reached (numbers_of c.args.format) c.args.words.now c.args.parts c.args.part c.part_reaching-reaching.result c.args.x v d r.after r.within r.before k after (omega (arith, lt, from)))
 
 pub returns-else-reaching-parts-clause-first : goal.returns-else-reaching-parts-clause-first

@@ -1,38 +1,53 @@
-use Rattle.std.proofs.Common.{◌+◌, ◌-◌, ◌^◌, sym, subst}
+use Rattle.std.proofs.Common.{◌≡◌, ◌+◌, ◌-◌, ◌^◌, sym, ap, ◌∙◌, subst, arith}
 use Rattle.bit_words.specs.Bits.{bits_of}
 use Rattle.part_cost.specs.Formats.{numbers_of}
 use Rattle.part_cost.specs.Payload.{widest_low}
 use Rattle.part_cost.specs.Span.{relative_values}
 use Rattle.part_cost.specs.Stored.{HoldsPart}
 use Rattle.part_codec.specs.PartBits.{part_bits}
+use Rattle.two_level.specs.SequenceFault.{stated_end, end_before, past_before}
 use Rattle.two_level.specs.SequenceView.{sequence_stated}
+use Rattle.two_level.proofs.Entries.{held-as}
 use Rattle.two_level.proofs.Lengths.{below-bound}
-use Rattle.two_level.proofs.Parts.{held-here, restored-here}
+use Rattle.two_level.proofs.Parts.{restored-here}
 use Rattle.two_level.proofs.held.hold.Goals as goal
+
+pub overflow_add-result : goal.overflow_add-result
+overflow_add-result c =
+    let d = c.directory_states_its_parts.ensures c.args.format c.args.words.now c.args.parts c.requires.begun.0 c.requires.begun.1 in
+    let p = d.part c.args.index c.requires.within in
+    let room = c.formats_have_room.ensures c.args.format in
+    omega (arith, c.stated_part.ensures.last, p.small, room.sums)
 
 pub returns-clause-held : goal.returns-clause-held
 returns-clause-held c =
-    let d = c.directory_states_its_parts.ensures c.args.format c.args.words.now c.args.parts c.requires.begun.0 c.requires.begun.1 in
-    let p = d.part c.args.part c.requires.within in
-    let s = c.stated_part-stated.ensures in
-    let r = c.stated_part-stated.result in
-    let xs = (sequence_stated (numbers_of c.args.format) c.args.words.now c.args.parts).values in
-    let here = held-here (numbers_of c.args.format) c.args.words.now xs c.args.parts c.args.part r.from r.past r.last r.to r.offset p s.from s.past s.last s.to s.offset in
-    let held =
-    subst (λ n. HoldsPart part_bits (bits_of c.args.words.now) (n + r.offset) (r.last + 1 - r.past) (r.to - r.from) (relative_values xs r.from r.to)) (sym c.directory_bits.ensures.bits) here in
+    let format = numbers_of c.args.format in
+    let words = c.args.words.now in
+    let q = c.args.index in
+    let d = c.directory_states_its_parts.ensures c.args.format words c.args.parts c.requires.begun.0 c.requires.begun.1 in
+    let p = d.part q c.requires.within in
+    let xs = (sequence_stated format words c.args.parts).values in
+    let s = c.stated_part.ensures in
+    let part = c.stated_part.result.0 in
+    let placed = c.stated_part.result.1 in
+    let past : part.last + 1 - part.u ≡ past_before format words 0 q = omega (arith, s.last, s.u, p.above) in
+    let values_are : relative_values xs (end_before format words 0 q) (stated_end format words 0 q) ≡ relative_values xs part.from part.to =
+    ap (λ n. relative_values xs n (stated_end format words 0 q)) (sym s.from) ∙ ap (relative_values xs part.from) (sym s.to) in
+    let held = held-as words placed.bits.words.now _ placed.place _ placed.u _ placed.m _ (sym s.bits) (sym s.place) (sym s.universe) (sym s.count) p.held in
     record {
       within = c.requires.within;
       from = s.from;
       to = s.to;
       last = s.last;
+      universe_of_part = s.u;
       values = record {
         in_range = below-bound (numbers_of c.args.format).most_sum (2 ^ widest_low) xs (c.formats_have_room.ensures c.args.format).sums d.below;
-        within = s.within;
+        within = omega (arith, s.to, p.within);
         few = c.requires.few;
-        above = s.above;
-        u = c.at-view.ensures.u;
-        m = c.at-view.ensures.m;
-        held = (c.at-view.ensures.part _).1 held;
-        restored = restored-here (numbers_of c.args.format) c.args.words.now xs c.args.parts c.args.part r.from r.past r.to p s.from s.past s.to;
+        above = omega (arith, past, s.last, p.above);
+        u = omega (arith, c.at.ensures.u, s.universe, s.u, s.last);
+        m = omega (arith, c.at.ensures.m, s.count, s.from, s.to);
+        numbers = (c.at.ensures.part _).1 (subst (HoldsPart part_bits (bits_of placed.bits.words.now) placed.place placed.u placed.m) values_are held);
+        restored = restored-here format words xs c.args.parts q part.from _ part.to p s.from past s.to;
       };
     }

@@ -10,7 +10,7 @@ use Rattle.two_level.proofs.cursor.SeqCursor.values_below.Goals as goal
 pub given-init : goal.given-init
 given-init c =
     let s = c.self.inside in
-    let within = lies-within (numbers_of s.format) s.words.now s.parts s.place s.held c.self.invariant.2 in
+    let within = lies-within (numbers_of s.format) s.words.now s.parts s.place s.held s.value c.self.invariant.2 in
     let count = c.self.invariant.0.3.sequence.count in
     record {
       sequence = refl;

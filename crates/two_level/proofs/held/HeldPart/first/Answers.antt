@@ -10,9 +10,9 @@ found-at-start ys (suc k) found = let none = found.first 0 (omega arith) (omega 
 
 pub returns : goal.returns
 returns c xs h =
-    let part = c.args.self.now in
-    let found = c.first_in_part.ensures _ h.held in
+    let held = c.args.self.now in
+    let found = c.first_in_part.ensures _ h.numbers in
     let k : ℕ = c.first_in_part.result.0 in
     let none = found-at-start _ k found.0 in
-    let at : part.from + k ≡ part.from = omega arith in
-    value-here part xs h 0 0 k c.first_in_part.result.1 found.0 found.1 ∙ ap (slice_index xs) at
+    let at : held.part.from + k ≡ held.part.from = omega arith in
+    value-here held xs h 0 0 k c.first_in_part.result.1 found.0 found.1 ∙ ap (slice_index xs) at

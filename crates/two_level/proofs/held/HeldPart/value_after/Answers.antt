@@ -11,18 +11,18 @@ overflow_sub-number c =
     omega (arith, h.2, number-here c.args.self.now h.0 h.1 c.args.place c.requires.after (omega (arith, c.requires.before)))
 
 pub number_after-requires-clause-number : goal.number_after-requires-clause-number
-number_after-requires-clause-number c ys held =
-    let part = c.args.self.now in
+number_after-requires-clause-number c ys numbers =
+    let held = c.args.self.now in
     let h = c.requires.values in
-    let relative : List ℕ = relative_values h.0 part.from part.to in
-    let same : slice_index ys (c.args.place - part.from) ≡ slice_index relative (c.args.place - part.from) =
-    ap (λ zs. slice_index zs (c.args.place - part.from)) (one_list-held part.view ys relative held h.1.held) in
-    omega (arith, same, h.2, number-here part h.0 h.1 c.args.place c.requires.after (omega (arith, c.requires.before)))
+    let relative : List ℕ = relative_values h.0 held.part.from held.part.to in
+    let same : slice_index ys (c.args.place - held.part.from) ≡ slice_index relative (c.args.place - held.part.from) =
+    ap (λ zs. slice_index zs (c.args.place - held.part.from)) (one_list-held held.view ys relative numbers h.1.numbers) in
+    omega (arith, same, h.2, number-here held h.0 h.1 c.args.place c.requires.after (omega (arith, c.requires.before)))
 
 pub returns : goal.returns
 returns c xs h =
-    let part = c.args.self.now in
-    let relative : List ℕ = relative_values xs part.from part.to in
-    let same : slice_index relative (c.args.place - part.from + 1) ≡ slice_index relative (c.args.place + 1 - part.from) =
-    ap (slice_index relative) (let e : c.args.place - part.from + 1 ≡ c.args.place + 1 - part.from = omega (arith, c.requires.after) in e) in
-    omega (arith, c.number_after.ensures relative h.held, same, number-here part xs h (c.args.place + 1) (omega (arith, c.requires.after)) c.requires.before)
+    let held = c.args.self.now in
+    let relative : List ℕ = relative_values xs held.part.from held.part.to in
+    let same : slice_index relative (c.args.place - held.part.from + 1) ≡ slice_index relative (c.args.place + 1 - held.part.from) =
+    ap (slice_index relative) (let e : c.args.place - held.part.from + 1 ≡ c.args.place + 1 - held.part.from = omega (arith, c.requires.after) in e) in
+    omega (arith, c.number_after.ensures relative h.numbers, same, number-here held xs h (c.args.place + 1) (omega (arith, c.requires.after)) c.requires.before)

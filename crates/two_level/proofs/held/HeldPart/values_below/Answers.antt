@@ -12,21 +12,21 @@ overflow_sub-number c =
     omega (arith, h.2, number-here c.args.self.now h.0 h.1 c.args.place c.requires.after c.requires.before)
 
 pub numbers_below-count-requires-clause-number : goal.numbers_below-count-requires-clause-number
-numbers_below-count-requires-clause-number c ys held =
-    let part = c.args.self.now in
+numbers_below-count-requires-clause-number c ys numbers =
+    let held = c.args.self.now in
     let h = c.requires.values in
-    let relative : List ℕ = relative_values h.0 part.from part.to in
-    let same : slice_index ys (c.args.place - part.from) ≡ slice_index relative (c.args.place - part.from) =
-    ap (λ zs. slice_index zs (c.args.place - part.from)) (one_list-held part.view ys relative held h.1.held) in
-    omega (arith, same, h.2, number-here part h.0 h.1 c.args.place c.requires.after c.requires.before)
+    let relative : List ℕ = relative_values h.0 held.part.from held.part.to in
+    let same : slice_index ys (c.args.place - held.part.from) ≡ slice_index relative (c.args.place - held.part.from) =
+    ap (λ zs. slice_index zs (c.args.place - held.part.from)) (one_list-held held.view ys relative numbers h.1.numbers) in
+    omega (arith, same, h.2, number-here held h.0 h.1 c.args.place c.requires.after c.requires.before)
 
 pub raise_first-requires-clause-fits : goal.raise_first-requires-clause-fits
 raise_first-requires-clause-fits c =
     let h = c.requires.values in
     value-fits c.args.self.now h.0 h.1 c.args.place c.saturating_sub.result c.numbers_below-count.result c.numbers_below-count.new.to c.requires.after c.requires.before
-    (c.numbers_below-count.ensures.numbers _ h.1.held)
+    (c.numbers_below-count.ensures.numbers _ h.1.numbers)
 
 pub returns-clause-values : goal.returns-clause-values
 returns-clause-values c xs h =
     restored-below c.args.self.now xs h c.args.place c.args.x c.saturating_sub.result c.numbers_below-count.result c.numbers_below-count.new.to c.raise_first.new.numbers c.requires.after c.requires.before c.saturating_sub.ensures
-    (c.numbers_below-count.ensures.numbers _ h.held) c.raise_first.ensures.room c.raise_first.ensures.raised
+    (c.numbers_below-count.ensures.numbers _ h.numbers) c.raise_first.ensures.room c.raise_first.ensures.raised
