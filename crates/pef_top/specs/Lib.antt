@@ -19,5 +19,6 @@ pub mod Generate
 pub mod Migrate
 pub mod Commands
 pub mod Uncalled
+pub mod Runs
 pub mod Laws
 pub mod Private

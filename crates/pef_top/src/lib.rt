@@ -18,4 +18,4 @@ mod words;
 pub use command_steps::{BuildError, Plan, RunFault, answer_text, build_words, plan_top};
 pub use laws::{built_files_answer, migrated_files_answer};
 pub use status::Status;
-pub use top::run;
+pub use top::{run, run_uncounted};

@@ -1,11 +1,9 @@
-ghost use Rattle.std.specs.Prelude.{◌≡◌, None, IsOk};
+ghost use Rattle.std.specs.Prelude.{◌≡◌, ℕ, ◌<◌, IsOk};
 ghost use Rattle.pef_io.specs.SinkState.{SinkState};
 ghost use Rattle.pef_top.specs.Command.{command_of, texts};
 ghost use Rattle.pef_top.specs.Outside.{outside};
-ghost use Rattle.pef_top.specs.Outcome.{Outcome, Done};
-ghost use Rattle.pef_top.specs.Ends.{Ends};
-ghost use Rattle.pef_top.specs.Commands.{IsUsage, Performs};
 ghost use Rattle.pef_top.specs.Uncalled.{objects, Accepts, LeavesUncalled};
+ghost use Rattle.pef_top.specs.Runs.{Runs};
 ghost use Rattle.pef_top.specs.Private.Leaves.{Leaves, Reports};
 ghost use Rattle.pef_top.specs.Private.Stops.{outcome_of};
 
@@ -22,7 +20,8 @@ use crate::stop::Stop;
 use crate::words::Command;
 use pef_io::{Depot, Sink, Source};
 use std::alloc::Global;
-use std::sync::ledger::Ledger;
+use std::marker::Brand;
+use std::sync::ledger::{Blank, Ledger};
 use step_count::Steps;
 
 /// The most bytes of query text that are answered.
@@ -48,25 +47,52 @@ pub fn run<D: Depot, I: Source, O: Sink, E: Sink, L: Ledger>(
     err: &mut E,
     steps: &mut Steps<L>,
 ) -> Status
-
-    // Words that are no command call nothing but err.
-    ensures usage { command_of (texts words.now) ≡ None → IsUsage (E.state err.old) (E.state err.new) result
-        × (depot.new ≡ depot.old) × (input.new ≡ input.old) × (out.new ≡ out.old) }
-
-    // There is an outcome: the status and err's line are its own, what the command promises holds of it, and what it does
-    // not call is the same object.
-    ensures outcome { let command = command_of (texts words.now) in
-        let old = outside (D.state depot.old) (I.state input.old) (O.state out.old) (E.state err.old) steps.old in
-        let new = outside (D.state depot.new) (I.state input.new) (O.state out.new) (E.state err.new) steps.new in
-        (outcome : Outcome)
-        × Ends old new outcome result
-        × Performs command old new outcome
-        × LeavesUncalled command (Accepts command (D.state depot.old)) outcome
-        (objects depot.old input.old out.old) (objects depot.new input.new out.new)
-        × (outcome ≡ Done → err.new ≡ err.old) }
+    ensures { Runs (command_of (texts words.now))
+        (outside (D.state depot.old) (I.state input.old) (O.state out.old) (E.state err.old) steps.old)
+        (outside (D.state depot.new) (I.state input.new) (O.state out.new) (E.state err.new) steps.new)
+        (objects depot.old input.old out.old) (objects depot.new input.new out.new) err.old err.new result }
 {
     let ending = perform(alloc, words, depot, input, out, steps);
     report(err, ending)
+}
+
+/// Runs the command of the words as `run` does, for a caller that counts nothing.
+pub fn run_uncounted<D: Depot, I: Source, O: Sink, E: Sink>(
+    alloc: Global,
+    words: &[String],
+    depot: &mut D,
+    input: &mut I,
+    out: &mut O,
+    err: &mut E,
+) -> Status
+    ensures { (counted : ℕ) × Runs (command_of (texts words.now))
+        (outside (D.state depot.old) (I.state input.old) (O.state out.old) (E.state err.old) 0)
+        (outside (D.state depot.new) (I.state input.new) (O.state out.new) (E.state err.new) counted)
+        (objects depot.old input.old out.old) (objects depot.new input.new out.new) err.old err.new result }
+{
+    run_counted::<_, _, _, _, Brand>(alloc, words, depot, input, out, err, Blank::new(1))
+}
+
+/// Runs the command of the words with a counter of its own.
+fn run_counted<D: Depot, I: Source, O: Sink, E: Sink, L: Ledger>(
+    alloc: Global,
+    words: &[String],
+    depot: &mut D,
+    input: &mut I,
+    out: &mut O,
+    err: &mut E,
+    blank: Blank,
+) -> Status
+    requires name { blank.name ≡ L.name }
+    requires parts { blank.parts ≡ L.parts }
+    requires some { 0 < L.parts }
+    ensures { (counted : ℕ) × Runs (command_of (texts words.now))
+        (outside (D.state depot.old) (I.state input.old) (O.state out.old) (E.state err.old) 0)
+        (outside (D.state depot.new) (I.state input.new) (O.state out.new) (E.state err.new) counted)
+        (objects depot.old input.old out.old) (objects depot.new input.new out.new) err.old err.new result }
+{
+    let mut steps = Steps::<L>::new(blank);
+    run(alloc, words, depot, input, out, err, &mut steps)
 }
 
 /// Carries out the command of the words.

@@ -1,20 +1,17 @@
 //! Runs the posting store over the files and the streams of the system.
 #![tactic(auto)]
 
-ghost use Rattle.std.specs.Prelude.{◌≡◌, ◌<◌};
+ghost use Rattle.std.specs.Prelude.{◌≡◌};
 ghost use Rattle.std.specs.Process.{exit_status};
 ghost use Rattle.pef_top.specs.StatusNumber.{status_number};
 
-use pef_io::{Depot, NoMemory, Sink, Source, StdDepot, StdSink, StdSource, write_all_own};
-use pef_top::{Status, run};
-use std::alloc::Global;
+use no_memory::NoMemory;
+use pef_io::{StdDepot, StdSink, StdSource, write_all_own};
+use pef_top::{Status, run_uncounted};
 use std::env;
 use std::io::ErrorKind;
-use std::marker::Brand;
 use std::process::ExitCode;
 use std::rt::Env;
-use std::sync::ledger::{Blank, Ledger};
-use step_count::Steps;
 
 fn main(rt: HostRuntime) -> ExitCode {
     let mut depot = StdDepot::new(rt);
@@ -22,14 +19,13 @@ fn main(rt: HostRuntime) -> ExitCode {
     let mut out = StdSink::new(rt.stdout());
     let mut err = StdSink::new(rt.stderr());
     let status = match words(&rt) {
-        Ok(words) => run_counted::<_, _, _, _, Brand>(
+        Ok(words) => run_uncounted(
             rt.alloc(),
             words.as_slice(),
             &mut depot,
             &mut input,
             &mut out,
             &mut err,
-            Blank::new(1),
         ),
         Err(NoMemory) => {
             let _ = write_all_own(&mut err, b"no memory\n");
@@ -50,26 +46,8 @@ fn exit_code(status: Status) -> ExitCode
 /// which is refused as usage.
 fn words<R: Env + AllocGlobal>(rt: &R) -> Result<Vec<String>, NoMemory> {
     match env::args(rt) {
-        Ok(args) => args.collect(rt.alloc()).map_err(|_| NoMemory),
+        Ok(args) => Ok(args.collect(rt.alloc())?),
         Err(e) if e.kind() == ErrorKind::OutOfMemory => Err(NoMemory),
         Err(_) => Ok(Vec::new(rt.alloc())),
     }
-}
-
-/// Runs the command of the words with a counter of its own.
-fn run_counted<D: Depot, I: Source, O: Sink, E: Sink, L: Ledger>(
-    alloc: Global,
-    words: &[String],
-    depot: &mut D,
-    input: &mut I,
-    out: &mut O,
-    err: &mut E,
-    blank: Blank,
-) -> Status
-    requires name { blank.name ≡ L.name }
-    requires parts { blank.parts ≡ L.parts }
-    requires some { 0 < L.parts }
-{
-    let mut steps = Steps::<L>::new(blank);
-    run(alloc, words, depot, input, out, err, &mut steps)
 }

@@ -1,12 +1,7 @@
 // One run.
-ghost use Rattle.std.specs.Prelude.{◌≡◌, ◌<◌};
-
 use pef_io::{Depot, Op, Sink, Slot, Source, SteadyDepot, SteadySink, SteadySource};
-use pef_top::{Status, run};
+use pef_top::{Status, run_uncounted};
 use std::alloc::Global;
-use std::marker::Brand;
-use std::sync::ledger::{Blank, Ledger};
-use step_count::Steps;
 
 /// Files by name.
 pub type FileList = Vec<(String, Vec<u8>)>;
@@ -77,27 +72,7 @@ pub fn run_words<D: Depot, I: Source, O: Sink, E: Sink>(
     for word in words {
         texts.push(String::from_str(alloc, word).ok()?).ok()?;
     }
-    let words = texts.as_slice();
-    let blank = Blank::new(1);
-    Some(run_counted::<_, _, _, _, Brand>(alloc, words, depot, input, out, err, blank))
-}
-
-/// Runs the words with a counter of their own.
-fn run_counted<D: Depot, I: Source, O: Sink, E: Sink, L: Ledger>(
-    alloc: Global,
-    words: &[String],
-    depot: &mut D,
-    input: &mut I,
-    out: &mut O,
-    err: &mut E,
-    blank: Blank,
-) -> Status
-    requires name { blank.name ≡ L.name }
-    requires parts { blank.parts ≡ L.parts }
-    requires some { 0 < L.parts }
-{
-    let mut steps = Steps::<L>::new(blank);
-    run(alloc, words, depot, input, out, err, &mut steps)
+    Some(run_uncounted(alloc, texts.as_slice(), depot, input, out, err))
 }
 
 /// Runs the words over these files and this query text, where no call fails.

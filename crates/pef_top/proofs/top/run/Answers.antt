@@ -4,22 +4,20 @@ use Rattle.pef_top.specs.Private.Stops.{outcome_of}
 use Rattle.pef_top.proofs.RunEnds.{run_ends, usage_reported, usage_uncalled, is_ok}
 use Rattle.pef_top.proofs.top.run.Goals as goal
 
-pub returns-clause-usage : goal.returns-clause-usage
-returns-clause-usage g c = λ none.
+pub returns : goal.returns
+returns g c =
     let command = command_of (texts c.args.words.now) in
     let outcome = outcome_of c.perform-ending.result in
     let left = c.perform-ending.ensures.leaves (g.E.Sink.state c.args.err.now) (g.E.Sink.state c.report.new.err) in
-    let same = usage_uncalled command (Accepts command (g.D.Depot.state c.args.depot.now)) outcome _ _ _ _ _ _ none c.perform-ending.ensures.uncalled in
-    (usage_reported command _ _ outcome _ left c.report.ensures.ending none, same.0, same.1, same.2)
-
-pub returns-clause-outcome : goal.returns-clause-outcome
-returns-clause-outcome g c =
-    let command = command_of (texts c.args.words.now) in
-    let outcome = outcome_of c.perform-ending.result in
-    let left = c.perform-ending.ensures.leaves (g.E.Sink.state c.args.err.now) (g.E.Sink.state c.report.new.err) in (
-      outcome,
-      run_ends command _ _ outcome _ left c.report.ensures.ending,
-      left.performs,
-      c.perform-ending.ensures.uncalled,
-      λ done. c.report.ensures.done (is_ok c.perform-ending.result done),
-    )
+    record {
+      usage = λ none.
+          let same = usage_uncalled command (Accepts command (g.D.Depot.state c.args.depot.now)) outcome _ _ _ _ _ _ none c.perform-ending.ensures.uncalled in
+          (usage_reported command _ _ outcome _ left c.report.ensures.ending none, same.0, same.1, same.2);
+      outcome = (
+        outcome,
+        run_ends command _ _ outcome _ left c.report.ensures.ending,
+        left.performs,
+        c.perform-ending.ensures.uncalled,
+        λ done. c.report.ensures.done (is_ok c.perform-ending.result done),
+      );
+    }

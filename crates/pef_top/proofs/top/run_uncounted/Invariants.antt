@@ -1,4 +1,4 @@
-use Rattle.run_tables.proofs.runs.run_words.Given as goal
+use Rattle.pef_top.proofs.top.run_uncounted.Given as goal
 
 abbrev pub ghosts-run_counted : goal.ghosts-run_counted
 ghosts-run_counted g a = record { name = a.blank.name; parts = a.blank.parts }
