@@ -1,6 +1,8 @@
+ghost use Rattle.collection_reader.specs.Starting.{AreStarted};
+
 use crate::{CollError, Fault, ListReader, Rule, read_collection};
 use part_cost::Format;
-use pef_io::{MemDepot, Op, Slot, SteadyDepot};
+use pef_io::{Depot, MemDepot, Op, Slot, SteadyDepot};
 use std::alloc::{AllocError, Global};
 use std::test::Fail;
 
@@ -74,39 +76,60 @@ fn are(lists: &[Vec<u32>], wanted: &[&[u32]]) -> bool {
             .all(|(list, want)| list.as_slice() == *want)
 }
 
+/// Whether these numbers are read as a collection of so many documents, with these lists and sizes.
+fn are_read_as(
+    alloc: Global,
+    numbers: &Numbers,
+    format: Format,
+    documents: u32,
+    docs: &[&[u32]],
+    freqs: &[&[u32]],
+    sizes: &[u32],
+) -> Result<bool, Fail> {
+    let read = read_collection(alloc, "small", &mut depot(alloc, numbers)?, format)?;
+    Ok(
+        read.documents == documents
+            && are(&read.docs, docs)
+            && are(&read.freqs, freqs)
+            && read.sizes.as_slice() == sizes,
+    )
+}
+
 #[test]
 fn small_collections_are_read(rt: HostRuntime) -> Result<(), Fail> {
     let alloc = rt.alloc();
+    let empty = in_files(&[1, 0], &[], &[0]);
+    let three_lists = in_files(&[1, 2, 1, 0, 0, 1, 1], &[1, 1, 0, 1, 3], &[2, 1, 1]);
     for format in [Format::One, Format::Two] {
-        let read = read_collection(alloc, "small", &mut depot(alloc, &ONE_LIST)?, format)?;
-        assert_eq!(rt; read.documents, 3);
-        assert!(rt; are(&read.docs, &[&[0, 2]]));
-        assert!(rt; are(&read.freqs, &[&[1, 5]]));
-        assert_eq!(rt; read.sizes.as_slice(), [4, 0, 7].as_slice());
-
-        let empty = Numbers {
-            docs: &[1, 0],
-            freqs: &[],
-            sizes: &[0],
-        };
-        let read = read_collection(alloc, "small", &mut depot(alloc, &empty)?, format)?;
-        assert_eq!(rt; read.documents, 0);
-        assert!(rt; are(&read.docs, &[]));
-        assert!(rt; are(&read.freqs, &[]));
-        assert_eq!(rt; read.sizes.len(), 0);
-
-        let three_lists = Numbers {
-            docs: &[1, 2, 1, 0, 0, 1, 1],
-            freqs: &[1, 1, 0, 1, 3],
-            sizes: &[2, 1, 1],
-        };
-        let read = read_collection(alloc, "small", &mut depot(alloc, &three_lists)?, format)?;
-        assert_eq!(rt; read.documents, 2);
-        assert!(rt; are(&read.docs, &[&[0], &[], &[1]]));
-        assert!(rt; are(&read.freqs, &[&[1], &[], &[3]]));
-        assert_eq!(rt; read.sizes.as_slice(), [1, 1].as_slice());
+        let (docs, freqs) = ([[0, 2].as_slice()], [[1, 5].as_slice()]);
+        assert!(rt; are_read_as(alloc, &ONE_LIST, format, 3, &docs, &freqs, &[4, 0, 7])?);
+        assert!(rt; are_read_as(alloc, &empty, format, 0, &[], &[], &[])?);
+        let (docs, freqs): ([&[u32]; 3], [&[u32]; 3]) = ([&[0], &[], &[1]], [&[1], &[], &[3]]);
+        assert!(rt; are_read_as(alloc, &three_lists, format, 2, &docs, &freqs, &[1, 1])?);
     }
     Ok(())
+}
+
+/// Whether these are the documents and the frequencies wanted.
+fn is_list(docs: &[u32], freqs: &[u32], wanted: (&[u32], &[u32])) -> bool {
+    docs == wanted.0 && freqs == wanted.1
+}
+
+/// Whether the one list is given, and then none, into vectors that held other numbers.
+fn gives_its_list(
+    reader: &mut ListReader,
+    depot: &mut SteadyDepot,
+    docs: &mut Vec<u32>,
+    freqs: &mut Vec<u32>,
+) -> Result<bool, CollError>
+    requires started { AreStarted (⟦<SteadyDepot as Depot>⟧.state depot.old) }
+{
+    let more = reader.next_list(depot, docs, freqs)?;
+    if !more || reader.lists_ended() || !is_list(docs, freqs, (&[0, 2], &[1, 5])) {
+        return Ok(false);
+    }
+    let more = reader.next_list(depot, docs, freqs)?;
+    Ok(!more && reader.lists_ended() && is_list(docs, freqs, (&[], &[])))
 }
 
 #[test]
@@ -117,13 +140,7 @@ fn readers_give_one_list_at_a_time(rt: HostRuntime) -> Result<(), Fail> {
     assert_eq!(rt; reader.documents(), 3);
     let mut docs = vec![in alloc; 7]?;
     let mut freqs = vec![in alloc; 7]?;
-    let more = reader.next_list(&mut depot, &mut docs, &mut freqs)?;
-    assert!(rt; more && !reader.lists_ended());
-    assert_eq!(rt; docs.as_slice(), [0, 2].as_slice());
-    assert_eq!(rt; freqs.as_slice(), [1, 5].as_slice());
-    let more = reader.next_list(&mut depot, &mut docs, &mut freqs)?;
-    assert!(rt; !more && reader.lists_ended());
-    assert_eq!(rt; docs.len() + freqs.len(), 0);
+    assert!(rt; gives_its_list(&mut reader, &mut depot, &mut docs, &mut freqs)?);
     Ok(())
 }
 
