@@ -8,3 +8,12 @@ pub enum Kind {
     /// Elias-Fano: low bits apart, high bits in unary.
     Ef,
 }
+
+/// Which of the two sequences of a list.
+#[derive(Clone, Copy, Debug, PartialEq, Eq)]
+pub enum Which {
+    /// Its documents.
+    Docs,
+    /// The sums of its frequencies.
+    Freqs,
+}
