@@ -4,3 +4,4 @@ mod Places
 mod Extending
 mod Rises
 mod Search
+mod LeastRests

@@ -1,3 +1,4 @@
 pub mod FoundCuts
 pub mod Tables
 pub mod Chains
+pub mod Rests

@@ -2,9 +2,11 @@
 #![tactic(auto)]
 
 mod cuts;
+mod exact;
 mod rival;
 mod routes;
 #[cfg(test)]
 mod tests;
 
 pub use cuts::{Cuts, partition};
+pub use exact::exact_cost;

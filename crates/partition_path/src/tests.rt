@@ -1,9 +1,9 @@
-ghost use Rattle.std.specs.Prelude.{◌≡◌, ◌<◌, ◌^◌, length, IsTrue};
+ghost use Rattle.std.specs.Prelude.{◌≡◌, ◌<◌, ◌≤◌, ◌^◌, length, IsTrue};
 ghost use Rattle.std.specs.List.{All};
 ghost use Rattle.std.specs.List.Sorted.{IsStrictlyIncreasing};
 ghost use Rattle.part_cost.specs.Formats.{numbers_of};
 
-use crate::{Cuts, partition};
+use crate::{Cuts, exact_cost, partition};
 use no_memory::NoMemory;
 use part_cost::{Format, ListCost};
 use std::alloc::{AllocError, Global};
@@ -63,6 +63,36 @@ fn cuts<L: Ledger>(
     partition(alloc, &ListCost::new(values, format), &mut steps)
 }
 
+/// The cheapest cost of a sequence of values.
+fn cheapest<L: Ledger>(
+    alloc: Global,
+    blank: Blank,
+    values: &[u64],
+    format: Format,
+    limited: bool,
+) -> Result<u64, NoMemory>
+    requires name { blank.name ≡ L.name }
+    requires parts { blank.parts ≡ L.parts }
+    requires some { 0 < L.parts }
+    requires rising { IsStrictlyIncreasing values.now }
+    requires below { All (λ x. x < (numbers_of format).most_sum) values.now }
+    requires few { length values.now < 2 ^ 32 }
+{
+    let mut steps = Steps::<L>::new(blank);
+    exact_cost(alloc, &ListCost::new(values, format), limited, &mut steps)
+}
+
+/// The numbers before the first so many multiples of 2^20.
+fn far_apart(alloc: Global, count: u64) -> Result<Vec<u64>, AllocError>
+    requires { count ≤ 256 }
+{
+    let mut values = Vec::new(alloc);
+    for k in 0..count {
+        values.push((k + 1) * 1_048_576 - 1)?;
+    }
+    Ok(values)
+}
+
 #[test]
 fn near_the_cheapest(rt: HostRuntime) -> Result<(), Fail> {
     // A format, a count, a number below it that is left out, a last number; the cheapest total, and 103/100 of it.
@@ -97,6 +127,27 @@ fn all_numbers_are_one_part(rt: HostRuntime) -> Result<(), Fail> {
         let found = cuts::<Brand>(rt.alloc(), Blank::new(1), &values, format)?;
         assert_eq!(rt; found.ends(), [1_000].as_slice());
         assert_eq!(rt; found.total(), cost);
+    }
+    Ok(())
+}
+
+#[test]
+fn the_cheapest_of_all_and_of_the_allowed(rt: HostRuntime) -> Result<(), Fail> {
+    // A format, how many numbers; the cheapest cost of an allowed partition, and of any.
+    let rows = [
+        (Format::One, 0, 0, 0),
+        (Format::One, 1, 149, 149),
+        // One part of them all is above the limit.
+        (Format::One, 256, 5_886, 5_769),
+        (Format::Two, 256, 5_833, 5_833),
+    ];
+    for (format, count, allowed, any) in rows {
+        let values = far_apart(rt.alloc(), count)?;
+        assert!(rt; is_sequence(&values, format));
+        for (limited, least) in [(true, allowed), (false, any)] {
+            let found = cheapest::<Brand>(rt.alloc(), Blank::new(1), &values, format, limited)?;
+            assert_eq!(rt; found, least, "{count}");
+        }
     }
     Ok(())
 }

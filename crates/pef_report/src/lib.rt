@@ -1,6 +1,7 @@
-//! The summary of an index, and the lists of a generated collection.
+//! The summary of an index, the lines of its audit, and the lists of a generated collection.
 #![tactic(auto)]
 
+mod audit;
 mod counts;
 mod draws;
 mod generate;
@@ -10,6 +11,7 @@ mod summing;
 #[cfg(test)]
 mod tests;
 
+pub use audit::{audit_end, audit_line};
 pub use counts::Counts;
 pub use generate::Gen;
 pub use laws::generated_are_well_formed;
