@@ -3,6 +3,8 @@ mod Words
 pub mod Ranges
 mod WordRanges
 mod WordOnes
+mod NthOnes
+mod Flipped
 mod Writing
 mod OneAfter
 pub mod OnesWritten

@@ -11,3 +11,8 @@ on-err (Err e) P h = h
 pub some-from : (o : Option ℕ) (P : Type 0) → IfNone o P → (P → ⊥) → IsSome o
 some-from None P h never = absurd (never h)
 some-from (Some x) P h never = search rules
+
+-- what follows from what an absent value says
+pub none-then : {T : Type 0} (o : Option T) (P Q : Type 0) → IfNone o P → (P → Q) → IfNone o Q
+none-then None P Q h then = then h
+none-then (Some x) P Q h then = tt

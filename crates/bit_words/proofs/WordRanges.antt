@@ -43,7 +43,7 @@ abbrev pub held : ℕ → ℕ → ℕ → ℕ
 held from to p = max from (min p to)
 
 -- The ones of a range up to some bits of word i.
-ones-within : (bits : List ℕ) (i from to v : ℕ) → from ≤ to → to ≤ length bits → IsWordWithin bits i from to v → (k : ℕ) → k ≤ 64
+pub ones-within : (bits : List ℕ) (i from to v : ℕ) → from ≤ to → to ≤ length bits → IsWordWithin bits i from to v → (k : ℕ) → k ≤ 64
     → ones_between bits from (held from to (64 * i + k)) ≡ ones_between bits from (held from to (64 * i)) + sum (field_bits k v)
 ones-within bits i from to v h fit within zero few =
     ap (λ p. ones_between bits from (held from to p)) (let e : 64 * i + 0 ≡ 64 * i = omega arith in e) ∙ omega arith
@@ -97,7 +97,7 @@ ones-whole ws first i h lt small =
     ∙ more ∙ ap (λ p. ones_between (bits_of ws) (64 * first) p + count_ones (get_or ws i 0)) (let e : held (64 * first) end (64 * i) ≡ 64 * i = omega arith in e)
 
 -- No range of no bits has a one.
-ones-none : (bits : List ℕ) (p : ℕ) → ones_between bits p p ≡ 0
+pub ones-none : (bits : List ℕ) (p : ℕ) → ones_between bits p p ≡ 0
 ones-none bits p = ap (λ n. sum (take n (drop p bits))) (let e : p - p ≡ 0 = omega arith in e)
 
 -- The ones of the first bits of a word.

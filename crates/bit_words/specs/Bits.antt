@@ -1,5 +1,6 @@
 use Rattle.std.specs.Prelude.{◌≡◌, ℕ, ◌+◌, ◌-◌, ◌*◌, ◌/◌, ◌%◌, ◌^◌, ◌<◌, ◌≤◌, List, [], ◌∷◌, ◌++◌, map, length, take, drop, replicate, sum, flat_map, slice_index, slice_range}
 use Rattle.std.specs.Int.{bit_at}
+use Rattle.std.specs.Int.Bits.{bit_xor}
 use Rattle.std.specs.List.{All, range_with_len}
 
 -- the lowest bits of a value, the lowest first
@@ -49,6 +50,31 @@ pub record IsFirstOne (bits : List ℕ) (from to p : ℕ) : Type 0 where
 -- No bit of the range is 1.
 abbrev pub HasNoOne : List ℕ → ℕ → ℕ → Type 0
 HasNoOne bits from to = (q : ℕ) → from ≤ q → q < to → slice_index bits q ≡ 0
+
+-- the place of a range whose bit is 1 and before which n bits of the range are 1
+pub record IsNthOne (bits : List ℕ) (from to n p : ℕ) : Type 0 where
+  pub at_or_after : from ≤ p
+  pub before_end : p < to
+  pub one : slice_index bits p ≡ 1
+  pub before : ones_between bits from p ≡ n
+
+-- the place of a range whose bit is 1 and behind which n bits of the range are 1
+pub record IsNthOneBack (bits : List ℕ) (from to n p : ℕ) : Type 0 where
+  pub at_or_after : from ≤ p
+  pub before_end : p < to
+  pub one : slice_index bits p ≡ 1
+  pub behind : ones_between bits (p + 1) to ≡ n
+
+-- the place of a range whose bit is 0 and before which n bits of the range are 0
+pub record IsNthZero (bits : List ℕ) (from to n p : ℕ) : Type 0 where
+  pub at_or_after : from ≤ p
+  pub before_end : p < to
+  pub zero : slice_index bits p ≡ 0
+  pub before : from + ones_between bits from p + n ≡ p
+
+-- words whose bits are exchanged where this one has a 1
+abbrev pub flipped : ℕ → List ℕ → List ℕ
+flipped flip words = map (λ w. bit_xor w flip) words
 
 -- The bits of word i that lie in a range stand in this value at their places, and the others are 0 there.
 pub record IsWordWithin (bits : List ℕ) (i from to word : ℕ) : Type 0 where

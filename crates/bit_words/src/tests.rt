@@ -184,3 +184,34 @@ fn puts_a_one_after_zeros(rt: HostRuntime) -> Result<(), Fail> {
     }
     Ok(())
 }
+
+// The ones of a range by their number from its start and from its end, and its zeros: from, to, n, and the three places.
+#[test]
+fn finds_by_number(rt: HostRuntime) -> Result<(), Fail> {
+    let words = [0x8000_0000_0000_0009_u64, 0, 0x6];
+    let bits = Bits { words: &words };
+    for (from, to, n, one, back, zero) in [
+        (0, 192, 0, Some(0), Some(130), Some(1)),
+        (0, 192, 2, Some(63), Some(63), Some(4)),
+        (0, 192, 4, Some(130), Some(0), Some(6)),
+        (0, 192, 5, None, None, Some(7)),
+        (1, 63, 0, Some(3), Some(3), Some(1)),
+        (1, 63, 1, None, None, Some(2)),
+        (4, 130, 1, Some(129), Some(63), Some(5)),
+        (4, 130, 59, None, None, Some(64)),
+        (4, 130, 123, None, None, Some(128)),
+        (4, 130, 124, None, None, None),
+        (64, 64, 0, None, None, None),
+        (192, 192, 0, None, None, None),
+    ] {
+        assert!(rt; from <= to && to <= 192);
+        assert_eq!(rt; bits.nth_one(from, to, n), one, "{n} from {from} to {to}");
+        assert_eq!(rt;
+            bits.nth_one_back(from, to, n),
+            back,
+            "{n} from {from} to {to}"
+        );
+        assert_eq!(rt; bits.nth_zero(from, to, n), zero, "{n} from {from} to {to}");
+    }
+    Ok(())
+}

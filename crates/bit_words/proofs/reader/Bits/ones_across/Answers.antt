@@ -1,7 +1,7 @@
 use Rattle.std.proofs.Common.{◌≡◌, ◌+◌, ◌*◌, ◌/◌, ◌^◌, ◌<◌, get_or, ap, ◌∙◌, arith, rules}
 use Rattle.bit_words.specs.Bits.{bits_of, ones_between}
 use Rattle.bit_words.proofs.WordRanges.{ones-whole, ones-counted, ones_between-le}
-use Rattle.bit_words.proofs.reader.Bits.ones.Goals as goal
+use Rattle.bit_words.proofs.reader.Bits.ones_across.Goals as goal
 
 pub overflow_add-count : goal.overflow_add-count
 overflow_add-count c =
