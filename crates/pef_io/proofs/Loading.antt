@@ -10,8 +10,9 @@ use Rattle.pef_io.specs.declared.fail.Slot.{Slot}
 use Rattle.pef_io.specs.declared.load.LoadError.{LoadError}
 use Rattle.pef_io.specs.declared.load.LoadError.TheVariants.{Read, TooLarge, NoMemory}
 use Rattle.pef_io.specs.Calls.{Rose}
-use Rattle.pef_io.specs.DepotState.{DepotState, OnlyReads, ReadsSlot, SameButCounts}
+use Rattle.pef_io.specs.DepotState.{DepotState, SameStarts, OnlyReads, ReadsSlot, SameButCounts}
 use Rattle.pef_io.specs.Loads.{Loads, TakesBytes, load_error}
+use Rattle.pef_io.proofs.Fronts.{no_more_at_ok}
 use Rattle.pef_io.proofs.Ops.{same_or_other}
 
 -- what stands in front after a piece was read into a part of a list
@@ -57,12 +58,17 @@ OnlyReads-then {touched} {a} {b} {c} {slot} p it r = record {
       r.counts.others s other ∙ p.other_counts s n;
   create_count = r.counts.create_count ∙ p.create_count;
   finish_count = r.counts.finish_count ∙ p.finish_count;
+  starts_never_fall = λ s. omega (arith, p.starts_never_fall s, r.starts s);
+  other_starts = λ s n. r.starts s ∙ p.other_starts s n;
+  refusals_never_fall = omega (arith, p.refusals_never_fall, r.counts.refusals.never_falls);
 }
 
 -- These bytes were read from a slot, and no call failed.
 pub record HasRead (old new : DepotState) (slot : Slot) (bytes : List ℕ) : Type 0 where
   pub front : IsTrue old.tells → old.left slot ≡ bytes ++ new.left slot
   pub count : new.faults slot ≡ old.faults slot
+  pub starts : SameStarts old new
+  pub refusals : new.refusals ≡ old.refusals
   pub reads : OnlyReads (λ s. s ≡ slot) old new
 
 -- the same bytes otherwise written
@@ -74,6 +80,8 @@ pub read_on : (old mid new : DepotState) (slot : Slot) (bytes before after : Lis
 read_on old mid new slot bytes before after result n h r e = record {
   front = λ t. h.front t ∙ ap (λ xs. bytes ++ xs) (IfOk-at_ok (λ k. mid.left slot ≡ take k after ++ new.left slot) e (r.next_bytes (h.reads.tells ∙ t))) ∙ sym (append_assoc bytes (take n after) (new.left slot));
   count = r.counts.this.same_at_ok (ap is_ok e) ∙ h.count;
+  starts = λ s. r.starts s ∙ h.starts s;
+  refusals = no_more_at_ok result n e r.counts.refusals.rises_only_there ∙ h.refusals;
   reads = OnlyReads-then h.reads refl r;
 }
 
@@ -96,6 +104,8 @@ whole old mid new slot limit bytes before after items result h r e room few same
   read_only_where_it_rose = λ was. absurd (not_err Read was);
   count_rises_only_there = inr (r.counts.this.same_at_ok (ap is_ok e) ∙ h.count);
   reads = OnlyReads-then h.reads refl r;
+  starts = λ s. r.starts s ∙ h.starts s;
+  refusals_rise_only_there = inr (no_more_at_ok result 0 e r.counts.refusals.rises_only_there ∙ h.refusals);
 }
   where
     none : IsTrue old.tells → mid.left slot ≡ []
@@ -116,6 +126,8 @@ refused old mid new slot limit bytes before after result fail h r e few = record
   read_only_where_it_rose = rose fail e;
   count_rises_only_there = count fail e;
   reads = OnlyReads-then h.reads refl r;
+  starts = λ s. r.starts s ∙ h.starts s;
+  refusals_rise_only_there = refusals fail e r.counts.refusals.rises_only_there;
 }
   where
     not_large : (f : IoFail) → IsErrOf {T = List ℕ} (Err (load_error f)) TooLarge → ⊥
@@ -139,3 +151,11 @@ refused old mid new slot limit bytes before after result fail h r e few = record
     count : (f : IoFail) → result ≡ Err f → IsErrOf {T = List ℕ} (Err (load_error f)) Read ⊎ (new.faults slot ≡ old.faults slot)
     count call.Failed was = inl refl
     count call.NoMemory was = inr (r.counts.this.same_at_no_memory was ∙ h.count)
+
+    failed_is_not : IsErrOf {T = ℕ} (Err call.Failed) call.NoMemory → ⊥
+    failed_is_not is = cc
+
+    refusals : (f : IoFail) → result ≡ Err f → IsErrOf result call.NoMemory ⊎ (new.refusals ≡ mid.refusals) → IsErrOf {T = List ℕ} (Err (load_error f)) NoMemory ⊎ (new.refusals ≡ old.refusals)
+    refusals call.Failed was (inl is) = absurd (failed_is_not (subst (λ r. IsErrOf r call.NoMemory) was is))
+    refusals call.Failed was (inr same) = inr (same ∙ h.refusals)
+    refusals call.NoMemory was answer = inl refl

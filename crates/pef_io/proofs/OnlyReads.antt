@@ -1,8 +1,9 @@
--- Starts and reads of some slots: none of them, one behind the other, and among more slots.
-use Rattle.std.proofs.Common.{◌≡◌, refl, ◌∙◌, ap, sym, arith, inl, inr, ℕ, List, IsTrue, Result, Ok, Err}
+-- Starts and reads of some slots: none of them, one behind the other, and among more slots; and that no slot is started twice.
+use Rattle.std.proofs.Common.{◌≡◌, ◌≤◌, refl, ◌∙◌, ap, sym, arith, inl, inr, ℕ, List, IsTrue, Result, Ok, Err}
 use Rattle.pef_io.specs.declared.fail.IoFail.{IoFail}
 use Rattle.pef_io.specs.declared.fail.Slot.{Slot}
-use Rattle.pef_io.specs.DepotState.{DepotState, OnlyReads, Starts}
+use Rattle.pef_io.specs.Calls.{one_more}
+use Rattle.pef_io.specs.DepotState.{DepotState, SameStarts, NoneStartedTwice, OnlyReads, Starts}
 use Rattle.pef_io.proofs.Ops.{same_or_other}
 
 -- nothing read
@@ -18,6 +19,9 @@ OnlyReads-same a = record {
   other_counts = λ slot n. refl;
   create_count = refl;
   finish_count = refl;
+  starts_never_fall = λ slot. omega arith;
+  other_starts = λ slot n. refl;
+  refusals_never_fall = omega arith;
 }
 
 -- reads after reads
@@ -36,6 +40,9 @@ OnlyReads-trans p q = record {
   other_counts = λ slot n. q.other_counts slot n ∙ p.other_counts slot n;
   create_count = q.create_count ∙ p.create_count;
   finish_count = q.finish_count ∙ p.finish_count;
+  starts_never_fall = λ slot. omega (arith, p.starts_never_fall slot, q.starts_never_fall slot);
+  other_starts = λ slot n. q.other_starts slot n ∙ p.other_starts slot n;
+  refusals_never_fall = omega (arith, p.refusals_never_fall, q.refusals_never_fall);
 }
 
 -- the same among more slots
@@ -51,6 +58,9 @@ OnlyReads-wider w p = record {
   other_counts = λ slot n. p.other_counts slot (λ t. n (w slot t));
   create_count = p.create_count;
   finish_count = p.finish_count;
+  starts_never_fall = p.starts_never_fall;
+  other_starts = λ slot n. p.other_starts slot (λ t. n (w slot t));
+  refusals_never_fall = p.refusals_never_fall;
 }
 
 -- the start of a slot
@@ -72,8 +82,29 @@ OnlyReads-start old new slot name result s = record {
   other_counts = s.counts.others;
   create_count = s.counts.create_count;
   finish_count = s.counts.finish_count;
+  starts_never_fall = λ other. elim (same_or_other other slot) [
+    | inl e ↦ omega (arith, s.start_count, ap old.starts e, ap new.starts e)
+    | inr n ↦ omega (arith, s.other_starts other n)
+  ];
+  other_starts = s.other_starts;
+  refusals_never_fall = s.counts.refusals.never_falls;
 }
   where
     this : (result : Result (Unit {0}) IoFail) → Starts old new slot name result → IsTrue (old.started slot) → IsTrue (new.started slot)
     this (Ok u) s h = s.started
     this (Err e) s h = (s.unchanged.slots slot).0 ∙ h
+
+-- no start
+pub NoneStartedTwice-same : (a : DepotState) → NoneStartedTwice a a
+NoneStartedTwice-same a slot = omega arith
+
+-- calls that start nothing, after some that start no slot twice
+pub NoneStartedTwice-then : (a b c : DepotState) → NoneStartedTwice a b → SameStarts b c → NoneStartedTwice a c
+NoneStartedTwice-then a b c p same slot = omega (arith, p slot, same slot)
+
+-- calls that start one slot at most once, which was not started since
+pub NoneStartedTwice-start : (a b c : DepotState) (slot : Slot) → NoneStartedTwice a b → b.starts slot ≡ a.starts slot → OnlyReads (λ s. s ≡ slot) b c → c.starts slot ≤ one_more (b.starts slot) → NoneStartedTwice a c
+NoneStartedTwice-start a b c slot p fresh reads once other = elim (same_or_other other slot) [
+  | inl e ↦ omega (arith, once, fresh, ap a.starts e, ap c.starts e)
+  | inr n ↦ omega (arith, p other, reads.other_starts other n)
+]

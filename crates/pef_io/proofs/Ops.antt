@@ -1,11 +1,16 @@
-use Rattle.std.proofs.Common.{◌≡◌, ◌≢◌, ◌⊎◌, inl, inr, ℕ, Bool, true, false, refl, ap, Decides, ◌&&◌, nat_eq}
+use Rattle.std.proofs.Common.{arith, ◌≡◌, ◌≢◌, ◌⊎◌, ◌+◌, ◌-◌, ◌^◌, ◌≤◌, min, inl, inr, ℕ, Bool, true, false, refl, ap, Decides, ◌&&◌, nat_eq}
 use Rattle.std.proofs.lemmas.Bool.Decides.{Decides-eqb}
 use Rattle.pef_io.specs.declared.fail.Slot.{Slot}
-use Rattle.pef_io.specs.declared.fail.Slot.TheVariants.{Docs, Freqs, Sizes, Index}
+use Rattle.pef_io.specs.declared.fail.Slot.TheVariants.{Docs, Freqs, Sizes, Index, Side, Map}
 use Rattle.pef_io.specs.declared.calls.Op.{Op}
+use Rattle.pef_io.specs.Calls.{one_more}
 use Rattle.pef_io.specs.declared.calls.Op.TheVariants.{Start, Read, Create, Write, Finish}
 use Rattle.pef_io.specs.contracts.fail.SlotPartialEq.TheImpl as slot
 use Rattle.pef_io.specs.contracts.calls.OpPartialEq.TheImpl as op
+
+-- a number of 64 bits that is raised by one, where it can be
+pub one_more-min : (raised n : ℕ) → raised ≡ min (n + 1) (2 ^ 64 - 1) → n ≤ 2 ^ 64 - 1 → raised ≡ one_more n
+one_more-min raised n e fits = omega (arith, e, fits)
 
 -- `==` of slots is equality
 pub slot_eq : (a b : Slot) → Decides (slot.ghosts.eq a b) (a ≡ b)
@@ -13,6 +18,8 @@ slot_eq Docs Docs = (λ _. refl, λ _. refl)
 slot_eq Freqs Freqs = (λ _. refl, λ _. refl)
 slot_eq Sizes Sizes = (λ _. refl, λ _. refl)
 slot_eq Index Index = (λ _. refl, λ _. refl)
+slot_eq Side Side = (λ _. refl, λ _. refl)
+slot_eq Map Map = (λ _. refl, λ _. refl)
 slot_eq a b = (λ e. cc, λ e. cc)
 
 pub same_or_other : (a b : Slot) → (a ≡ b) ⊎ (a ≢ b)

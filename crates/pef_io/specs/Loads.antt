@@ -6,7 +6,7 @@ use Rattle.pef_io.specs.declared.fail.Slot.{Slot}
 use Rattle.pef_io.specs.declared.load.LoadError.{LoadError}
 use Rattle.pef_io.specs.declared.load.LoadError.TheVariants.{Read, TooLarge, NoMemory}
 use Rattle.pef_io.specs.Calls.{Rose}
-use Rattle.pef_io.specs.DepotState.{DepotState, OnlyReads}
+use Rattle.pef_io.specs.DepotState.{DepotState, SameStarts, OnlyReads}
 
 -- the bytes of a vector that was loaded
 abbrev pub loaded : Result (Vec ℕ Global) LoadError → Result (List ℕ) LoadError
@@ -33,3 +33,5 @@ pub record Loads (old new : DepotState) (slot : Slot) (limit : ℕ) (result : Re
   pub read_only_where_it_rose : IsErrOf result Read → Rose (old.faults slot) (new.faults slot)
   pub count_rises_only_there : IsErrOf result Read ⊎ (new.faults slot ≡ old.faults slot)
   pub reads : OnlyReads (λ s. s ≡ slot) old new
+  pub starts : SameStarts old new
+  pub refusals_rise_only_there : IsErrOf result NoMemory ⊎ (new.refusals ≡ old.refusals)

@@ -1,24 +1,29 @@
-use Rattle.std.specs.Prelude.{◌≡◌, ◌+◌, ◌-◌, ◌^◌, min, Contains, Err}
+use Rattle.std.specs.Prelude.{◌≡◌, ◌≢◌, Err}
 use Rattle.pef_io.specs.declared.fail.IoFail.TheVariants.{Failed}
+use Rattle.pef_io.specs.declared.fail.Slot.{Slot}
 use Rattle.pef_io.specs.declared.calls.Op.{Op}
 use Rattle.pef_io.specs.declared.calls.Op.TheVariants.{Start, Read, Create, Write, Finish}
 use Rattle.pef_io.specs.declared.failing_depot.MemDepot.{MemDepot}
-use Rattle.pef_io.specs.DepotCalls.{calls_of}
-use Rattle.pef_io.specs.Calls.{CountsFaults}
-use Rattle.pef_io.specs.DepotState.{DepotState, CountsSlot, CountsWriting}
+use Rattle.pef_io.specs.Calls.{CountsFaults, one_more}
+use Rattle.pef_io.specs.PerSlot.{at_slot}
+use Rattle.pef_io.specs.InMemory.{DepotInMemory}
+use Rattle.pef_io.specs.SteadyDepot.{steady_depot}
+use Rattle.pef_io.specs.DepotState.{DepotState, SameStarts, CountsSlot, CountsWriting}
 
--- The next call of this kind is one of those that fail.
-abbrev pub FailsNext : MemDepot → Op → Type 0
-FailsNext d op = Contains d.fails.items (op, min (calls_of d.depot.calls op + 1) (2 ^ 64 - 1))
-
--- The calls that fail, and how many bytes a call moves, are as they were.
-abbrev pub KeepsSettings : MemDepot → MemDepot → Type 0
-KeepsSettings old new = (new.depot.most ≡ old.depot.most) × (new.fails ≡ old.fails)
+-- what is known of a depot in memory where some calls fail
+abbrev pub mem_depot : MemDepot → DepotInMemory
+mem_depot d =
+    let steady = steady_depot d.depot in
+    record steady {
+      state = record steady.state { faults = λ slot. at_slot d.faults slot; writing_faults = d.writing_faults; create_faults = d.create_faults; finish_faults = d.finish_faults };
+      fails = d.fails.items;
+    }
 
 -- The counts of a call of this kind that failed.
 abbrev pub CountsFault : Op → DepotState → DepotState → Type 0
-CountsFault (Start slot) old new = CountsSlot {A = Unit {0}} old new slot (Err Failed)
-CountsFault (Read slot) old new = CountsSlot {A = Unit {0}} old new slot (Err Failed)
+CountsFault (Start slot) old new =
+    CountsSlot {A = Unit {0}} old new slot (Err Failed) × (new.starts slot ≡ one_more (old.starts slot)) × ((other : Slot) → other ≢ slot → new.starts other ≡ old.starts other)
+CountsFault (Read slot) old new = CountsSlot {A = Unit {0}} old new slot (Err Failed) × SameStarts old new
 CountsFault Create old new =
     CountsWriting {A = Unit {0}} old new (Err Failed) × CountsFaults {A = Unit {0}} old.create_faults new.create_faults (Err Failed) × (new.finish_faults ≡ old.finish_faults)
 CountsFault Write old new =

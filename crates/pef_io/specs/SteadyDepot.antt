@@ -2,8 +2,9 @@ use Rattle.std.specs.Prelude.{ℕ, true, List, [], Option, None, Some, Vec, Stri
 use Rattle.std.specs.declared.alloc.Global.{Global}
 use Rattle.pef_io.specs.declared.opened.Opened.{Opened}
 use Rattle.pef_io.specs.declared.steady_depot.SteadyDepot.{SteadyDepot}
+use Rattle.pef_io.specs.DepotCalls.{calls_of}
 use Rattle.pef_io.specs.DepotState.{DepotState}
-use Rattle.pef_io.specs.InMemory.{file_in}
+use Rattle.pef_io.specs.InMemory.{DepotInMemory, file_in}
 use Rattle.pef_io.specs.Files.{name_at}
 use Rattle.pef_io.specs.Opened.{rest}
 use Rattle.pef_io.specs.PerSlot.{at_slot}
@@ -31,4 +32,10 @@ steady_state d = record {
   writing_faults = 0;
   create_faults = 0;
   finish_faults = 0;
+  starts = λ slot. at_slot d.calls.starts slot;
+  refusals = d.refusals;
 }
+
+-- the same with how many bytes a call moves at most, and how many calls of each kind there were
+abbrev pub steady_depot : SteadyDepot → DepotInMemory
+steady_depot d = record { state = steady_state d; most = d.most; fails = []; calls = calls_of d.calls }

@@ -1,5 +1,7 @@
 ghost use Rattle.std.specs.Prelude.{◌≡◌};
-ghost use Rattle.pef_io.specs.DepotCalls.{calls_of, CountsCall};
+ghost use Rattle.pef_io.specs.DepotCalls.{calls_of, CountsCall, CountsStart};
+ghost use Rattle.pef_io.specs.PerSlot.{at_slot};
+ghost use Rattle.pef_io.specs.declared.fail.Slot.{Slot};
 ghost use Rattle.pef_io.specs.declared.calls.Op.{Op};
 
 use crate::fail::Slot;
@@ -32,7 +34,8 @@ pub(crate) struct Calls {
 
 impl Calls {
     pub(crate) fn new() -> Calls
-        ensures { (op : Op) → calls_of result op ≡ 0 }
+        ensures none { (op : Op) → calls_of result op ≡ 0 }
+        ensures no_start { (slot : Slot) → at_slot result.starts slot ≡ 0 }
     {
         Calls {
             starts: PerSlot::all(0),
@@ -56,7 +59,8 @@ impl Calls {
     }
 
     pub(crate) fn count(&mut self, op: Op)
-        ensures { CountsCall op self.old self.new }
+        ensures counted { CountsCall op self.old self.new }
+        ensures started { CountsStart op self.old self.new }
     {
         match op {
             Op::Start(slot) => self.starts.raise(slot),

@@ -18,4 +18,8 @@ pub enum Slot {
     Sizes,
     /// An index.
     Index,
+    /// A side file of an index.
+    Side,
+    /// A map of new document ids.
+    Map,
 }

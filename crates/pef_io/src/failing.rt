@@ -56,6 +56,7 @@ impl Source for MemSource {
         ensures reads { Reads self.old.state self.new.state buf.old buf.new result }
         ensures moved { IfOk result (λ n. n ≡ min (min (length self.old.state.left) (length buf.old)) self.old.most) }
         ensures fails_where_listed { IsErrOf result IoFail.Failed ↔ Contains self.old.fails self.new.calls }
+        ensures takes_no_memory { IsErrOf result IoFail.NoMemory → ⊥ }
         ensures counted { ReadOnce self.old self.new }
     {
         let number = self.source.calls().saturating_add(1);

@@ -1,8 +1,6 @@
 ghost use Rattle.std.specs.Prelude.{◌≡◌, ◌≤◌, ◌↔◌, ◌⊎◌, min, length, IfOk, IsOk, IsErrOf, IsTrue, None, option_map};
-ghost use Rattle.pef_io.specs.InMemory.{IsNewDepot, file_in};
-ghost use Rattle.pef_io.specs.DepotCalls.{calls_of, CountsCall};
-ghost use Rattle.pef_io.specs.PerSlot.{at_slot};
-ghost use Rattle.pef_io.specs.MemDepot.{FailsNext, KeepsSettings, CountsFault};
+ghost use Rattle.pef_io.specs.InMemory.{IsNewDepot, CalledOnce, FailsNext};
+ghost use Rattle.pef_io.specs.MemDepot.{mem_depot, CountsFault};
 ghost use Rattle.pef_io.specs.DepotState.{SameButCounts, Starts, ReadsSlot, Creates, WritesFile, Finishes};
 ghost use Rattle.pef_io.specs.declared.calls.Op.{Op};
 
@@ -37,8 +35,8 @@ impl MemDepot {
     ) -> Result<MemDepot, NoMemory>
         requires { 1 ≤ most }
         ensures always { IsOk result }
-        ensures fresh { IfOk result (λ d. IsNewDepot files.items (⟦<MemDepot as Depot>⟧.state d)) }
-        ensures made { IfOk result (λ d. (d.depot.most ≡ most) × ((op : Op) → calls_of d.depot.calls op ≡ 0) × (d.fails ≡ fails)) }
+        ensures fresh { IfOk result (λ d. IsNewDepot files.items (mem_depot d).state) }
+        ensures made { IfOk result (λ d. ((mem_depot d).most ≡ most) × ((op : Op) → (mem_depot d).calls op ≡ 0) × ((mem_depot d).fails ≡ fails.items)) }
     {
         let depot = SteadyDepot::new(alloc, files, most)?;
         Ok(MemDepot {
@@ -53,21 +51,21 @@ impl MemDepot {
 
     /// The bytes under a name.
     pub fn file(&self, name: &str) -> Option<&[u8]>
-        ensures { option_map (λ bytes. bytes.now) result ≡ (⟦<MemDepot as Depot>⟧.state self.now).file name.now }
+        ensures { option_map (λ bytes. bytes.now) result ≡ (mem_depot self.now).state.file name.now }
     {
         self.depot.file(name)
     }
 
     /// How often this kind of call was made.
     pub fn calls(&self, op: Op) -> u64
-        ensures { result ≡ calls_of self.now.depot.calls op }
+        ensures { result ≡ (mem_depot self.now).calls op }
     {
         self.depot.calls(op)
     }
 
     /// Whether the next call of this kind is one of those that fail.
     fn fails_next(&self, op: Op) -> bool
-        ensures { IsTrue result ↔ FailsNext self.now op }
+        ensures { IsTrue result ↔ FailsNext (mem_depot self.now) op }
     {
         let number = self.depot.calls(op).saturating_add(1);
         self.fails.contains(&(op, number))
@@ -76,10 +74,9 @@ impl MemDepot {
     /// Counts a call of this kind and its fault.
     fn fail(&mut self, op: Op) -> IoFail
         ensures failed { result ≡ IoFail.Failed }
-        ensures unchanged { SameButCounts (⟦<MemDepot as Depot>⟧.state self.old) (⟦<MemDepot as Depot>⟧.state self.new) }
-        ensures fault { CountsFault op (⟦<MemDepot as Depot>⟧.state self.old) (⟦<MemDepot as Depot>⟧.state self.new) }
-        ensures counted { CountsCall op self.old.depot.calls self.new.depot.calls }
-        ensures kept { KeepsSettings self.old self.new }
+        ensures unchanged { SameButCounts (mem_depot self.old).state (mem_depot self.new).state }
+        ensures fault { CountsFault op (mem_depot self.old).state (mem_depot self.new).state }
+        ensures counted { CalledOnce op (mem_depot self.old) (mem_depot self.new) }
     {
         self.depot.calls.count(op);
         match op {
@@ -99,13 +96,12 @@ impl MemDepot {
 }
 
 impl Depot for MemDepot {
-    ghost state = { λ d. record (⟦<SteadyDepot as Depot>⟧.state d.depot) { faults = λ slot. at_slot d.faults slot; writing_faults = d.writing_faults; create_faults = d.create_faults; finish_faults = d.finish_faults } };
+    ghost state = { λ d. (mem_depot d).state };
 
     fn start(&mut self, slot: Slot, name: &str) -> Result<(), IoFail>
-        ensures starts { Starts (⟦<MemDepot as Depot>⟧.state self.old) (⟦<MemDepot as Depot>⟧.state self.new) slot name.now result }
-        ensures fails_where_listed { IsErrOf result IoFail.Failed ↔ (FailsNext self.old (Op.Start slot) ⊎ (file_in self.old.depot.files.list.items name.now ≡ None)) }
-        ensures counted { CountsCall (Op.Start slot) self.old.depot.calls self.new.depot.calls }
-        ensures kept { KeepsSettings self.old self.new }
+        ensures starts { Starts (mem_depot self.old).state (mem_depot self.new).state slot name.now result }
+        ensures fails_where_listed { IsErrOf result IoFail.Failed ↔ (FailsNext (mem_depot self.old) (Op.Start slot) ⊎ ((mem_depot self.old).state.file name.now ≡ None)) }
+        ensures counted { CalledOnce (Op.Start slot) (mem_depot self.old) (mem_depot self.new) }
     {
         let op = Op::Start(slot);
         if self.fails_next(op) || self.depot.file(name).is_none() {
@@ -115,12 +111,12 @@ impl Depot for MemDepot {
     }
 
     fn read(&mut self, slot: Slot, buf: &mut [u8]) -> Result<usize, IoFail>
-        requires { IsTrue ((⟦<MemDepot as Depot>⟧.state self.old).started slot) }
-        ensures reads { ReadsSlot (⟦<MemDepot as Depot>⟧.state self.old) (⟦<MemDepot as Depot>⟧.state self.new) slot buf.old buf.new result }
-        ensures moved { IfOk result (λ n. n ≡ min (min (length ((⟦<MemDepot as Depot>⟧.state self.old).left slot)) (length buf.old)) self.old.depot.most) }
-        ensures fails_where_listed { IsErrOf result IoFail.Failed ↔ FailsNext self.old (Op.Read slot) }
-        ensures counted { CountsCall (Op.Read slot) self.old.depot.calls self.new.depot.calls }
-        ensures kept { KeepsSettings self.old self.new }
+        requires { IsTrue ((mem_depot self.old).state.started slot) }
+        ensures reads { ReadsSlot (mem_depot self.old).state (mem_depot self.new).state slot buf.old buf.new result }
+        ensures moved { IfOk result (λ n. n ≡ min (min (length ((mem_depot self.old).state.left slot)) (length buf.old)) (mem_depot self.old).most) }
+        ensures fails_where_listed { IsErrOf result IoFail.Failed ↔ FailsNext (mem_depot self.old) (Op.Read slot) }
+        ensures takes_no_memory { IsErrOf result IoFail.NoMemory → ⊥ }
+        ensures counted { CalledOnce (Op.Read slot) (mem_depot self.old) (mem_depot self.new) }
     {
         let op = Op::Read(slot);
         if self.fails_next(op) {
@@ -130,10 +126,9 @@ impl Depot for MemDepot {
     }
 
     fn create(&mut self, name: &str) -> Result<(), IoFail>
-        ensures creates { Creates (⟦<MemDepot as Depot>⟧.state self.old) (⟦<MemDepot as Depot>⟧.state self.new) name.now result }
-        ensures fails_where_listed { IsErrOf result IoFail.Failed ↔ FailsNext self.old Op.Create }
-        ensures counted { CountsCall Op.Create self.old.depot.calls self.new.depot.calls }
-        ensures kept { KeepsSettings self.old self.new }
+        ensures creates { Creates (mem_depot self.old).state (mem_depot self.new).state name.now result }
+        ensures fails_where_listed { IsErrOf result IoFail.Failed ↔ FailsNext (mem_depot self.old) Op.Create }
+        ensures counted { CalledOnce Op.Create (mem_depot self.old) (mem_depot self.new) }
     {
         if self.fails_next(Op::Create) {
             return Err(self.fail(Op::Create));
@@ -142,12 +137,11 @@ impl Depot for MemDepot {
     }
 
     fn write(&mut self, piece: &[u8]) -> Result<usize, IoFail>
-        requires { IsTrue (⟦<MemDepot as Depot>⟧.state self.old).created }
-        ensures writes { WritesFile (⟦<MemDepot as Depot>⟧.state self.old) (⟦<MemDepot as Depot>⟧.state self.new) piece.now result }
-        ensures moved { IfOk result (λ n. n ≡ min (length piece.now) self.old.depot.most) }
-        ensures fails_where_listed { IsErrOf result IoFail.Failed ↔ FailsNext self.old Op.Write }
-        ensures counted { CountsCall Op.Write self.old.depot.calls self.new.depot.calls }
-        ensures kept { KeepsSettings self.old self.new }
+        requires { IsTrue (mem_depot self.old).state.created }
+        ensures writes { WritesFile (mem_depot self.old).state (mem_depot self.new).state piece.now result }
+        ensures moved { IfOk result (λ n. n ≡ min (length piece.now) (mem_depot self.old).most) }
+        ensures fails_where_listed { IsErrOf result IoFail.Failed ↔ FailsNext (mem_depot self.old) Op.Write }
+        ensures counted { CalledOnce Op.Write (mem_depot self.old) (mem_depot self.new) }
     {
         if self.fails_next(Op::Write) {
             return Err(self.fail(Op::Write));
@@ -156,11 +150,11 @@ impl Depot for MemDepot {
     }
 
     fn finish(&mut self) -> Result<(), IoFail>
-        requires { IsTrue (⟦<MemDepot as Depot>⟧.state self.old).created }
-        ensures finishes { Finishes (⟦<MemDepot as Depot>⟧.state self.old) (⟦<MemDepot as Depot>⟧.state self.new) result }
-        ensures fails_where_listed { IsErrOf result IoFail.Failed ↔ FailsNext self.old Op.Finish }
-        ensures counted { CountsCall Op.Finish self.old.depot.calls self.new.depot.calls }
-        ensures kept { KeepsSettings self.old self.new }
+        requires { IsTrue (mem_depot self.old).state.created }
+        ensures finishes { Finishes (mem_depot self.old).state (mem_depot self.new).state result }
+        ensures fails_where_listed { IsErrOf result IoFail.Failed ↔ FailsNext (mem_depot self.old) Op.Finish }
+        ensures takes_no_memory { IsErrOf result IoFail.NoMemory → ⊥ }
+        ensures counted { CalledOnce Op.Finish (mem_depot self.old) (mem_depot self.new) }
     {
         if self.fails_next(Op::Finish) {
             return Err(self.fail(Op::Finish));

@@ -1,5 +1,5 @@
-ghost use Rattle.std.specs.Prelude.{◌≡◌, ◌≢◌, ◌+◌, ◌≤◌, min};
-ghost use Rattle.pef_io.specs.Calls.{Rose};
+ghost use Rattle.std.specs.Prelude.{◌≡◌, ◌≢◌, ◌≤◌};
+ghost use Rattle.pef_io.specs.Calls.{Rose, one_more};
 ghost use Rattle.std.specs.Borrow.{sem};
 ghost use Rattle.pef_io.specs.PerSlot.{at_slot};
 ghost use Rattle.pef_io.specs.LentSlot.{LendsSlot};
@@ -14,6 +14,8 @@ pub(crate) struct PerSlot<T> {
     pub(crate) freqs: T,
     pub(crate) sizes: T,
     pub(crate) index: T,
+    pub(crate) side: T,
+    pub(crate) map: T,
 }
 
 impl PerSlot<u64> {
@@ -26,12 +28,14 @@ impl PerSlot<u64> {
             freqs: number,
             sizes: number,
             index: number,
+            side: number,
+            map: number,
         }
     }
 
     /// Raises the number at the slot, which stays at its type's last value.
     pub(crate) fn raise(&mut self, slot: Slot)
-        ensures this { at_slot self.new slot ≡ min (at_slot self.old slot + 1) u64.MAX }
+        ensures this { at_slot self.new slot ≡ one_more (at_slot self.old slot) }
         ensures never_falls { at_slot self.old slot ≤ at_slot self.new slot }
         ensures rose { Rose (at_slot self.old slot) (at_slot self.new slot) }
         ensures others { (other : Slot) → other ≢ slot → at_slot self.new other ≡ at_slot self.old other }
@@ -50,6 +54,8 @@ impl<T> PerSlot<T> {
             Slot::Freqs => &self.freqs,
             Slot::Sizes => &self.sizes,
             Slot::Index => &self.index,
+            Slot::Side => &self.side,
+            Slot::Map => &self.map,
         }
     }
 
@@ -62,6 +68,8 @@ impl<T> PerSlot<T> {
             Slot::Freqs => &mut self.freqs,
             Slot::Sizes => &mut self.sizes,
             Slot::Index => &mut self.index,
+            Slot::Side => &mut self.side,
+            Slot::Map => &mut self.map,
         }
     }
 }

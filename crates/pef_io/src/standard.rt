@@ -1,8 +1,8 @@
-ghost use Rattle.std.specs.Prelude.{◌≡◌, ◌≤◌, ◌<◌, false, [], None, is_some, IfSome, IfOk, length, take};
+ghost use Rattle.std.specs.Prelude.{◌≡◌, ◌≤◌, ◌<◌, false, [], None, is_some, IsTrue, IfSome, IfOk, length, take, option_and_then};
 ghost use Rattle.std.specs.Io.KnownBytes.{Appends, ReadConsumes};
 ghost use Rattle.pef_io.specs.SourceState.{SourceState, Reads};
 ghost use Rattle.pef_io.specs.SinkState.{SinkState, Writes};
-ghost use Rattle.pef_io.specs.DepotState.{DepotState};
+ghost use Rattle.pef_io.specs.DepotState.{DepotState, ReadsSlot, WritesFile};
 ghost use Rattle.pef_io.specs.Standard.{IsUntouched};
 ghost use Rattle.pef_io.specs.PerSlot.{at_slot};
 
@@ -94,6 +94,7 @@ pub struct StdDepot<R: Files> {
     rt: R,
     opened: PerSlot<Option<R::File>>,
     created: Option<R::File>,
+    starts: PerSlot<u64>,
     faults: PerSlot<u64>,
     writing_faults: u64,
     create_faults: u64,
@@ -110,8 +111,11 @@ impl<R: Files> StdDepot<R> {
                 freqs: None,
                 sizes: None,
                 index: None,
+                side: None,
+                map: None,
             },
             created: None,
+            starts: PerSlot::all(0),
             faults: PerSlot::all(0),
             writing_faults: 0,
             create_faults: 0,
@@ -120,9 +124,10 @@ impl<R: Files> StdDepot<R> {
 }
 
 impl<R: Files> Depot for StdDepot<R> {
-    ghost state = { λ d. record { tells = false; file = λ _. None; left = λ _. []; name = []; started = λ slot. is_some (at_slot d.opened slot); created = is_some d.created; faults = λ slot. at_slot d.faults slot; writing_faults = d.writing_faults; create_faults = d.create_faults; finish_faults = 0 } };
+    ghost state = { λ d. record { tells = false; file = λ _. None; left = λ _. []; name = []; started = λ slot. is_some (at_slot d.opened slot); created = is_some d.created; faults = λ slot. at_slot d.faults slot; writing_faults = d.writing_faults; create_faults = d.create_faults; finish_faults = 0; starts = λ slot. at_slot d.starts slot; refusals = 0 } };
 
     fn start(&mut self, slot: Slot, name: &str) -> Result<(), IoFail> {
+        self.starts.raise(slot);
         if let Ok(file) = fs::open(&self.rt, name) {
             *self.opened.get_mut(slot) = Some(file);
             return Ok(());
@@ -131,7 +136,11 @@ impl<R: Files> Depot for StdDepot<R> {
         Err(IoFail::Failed)
     }
 
-    fn read(&mut self, slot: Slot, buf: &mut [u8]) -> Result<usize, IoFail> {
+    fn read(&mut self, slot: Slot, buf: &mut [u8]) -> Result<usize, IoFail>
+        requires { IsTrue ((⟦<StdDepot<R> as Depot>⟧.state self.old).started slot) }
+        ensures reads { ReadsSlot (⟦<StdDepot<R> as Depot>⟧.state self.old) (⟦<StdDepot<R> as Depot>⟧.state self.new) slot buf.old buf.new result }
+        ensures given { ReadConsumes (option_and_then ⟦<R::File as Read>⟧.remaining (at_slot self.old.opened slot)) (option_and_then ⟦<R::File as Read>⟧.remaining (at_slot self.new.opened slot)) result buf.new }
+    {
         let Some(file) = self.opened.get_mut(slot) else {
             unreachable!()
         };
@@ -152,7 +161,11 @@ impl<R: Files> Depot for StdDepot<R> {
         Err(IoFail::Failed)
     }
 
-    fn write(&mut self, piece: &[u8]) -> Result<usize, IoFail> {
+    fn write(&mut self, piece: &[u8]) -> Result<usize, IoFail>
+        requires { IsTrue (⟦<StdDepot<R> as Depot>⟧.state self.old).created }
+        ensures writes { WritesFile (⟦<StdDepot<R> as Depot>⟧.state self.old) (⟦<StdDepot<R> as Depot>⟧.state self.new) piece.now result }
+        ensures taken { IfOk result (λ n. Appends (option_and_then ⟦<R::File as Write>⟧.contents self.old.created) (option_and_then ⟦<R::File as Write>⟧.contents self.new.created) (take n piece.now)) }
+    {
         let Some(file) = &mut self.created else {
             unreachable!()
         };

@@ -1,6 +1,5 @@
-ghost use Rattle.std.specs.Prelude.{◌≡◌, ℕ, ◌≤◌, min, length, IfOk, IsOk, IsErrOf, IsTrue, Some, option_map};
-ghost use Rattle.pef_io.specs.InMemory.{IsNewDepot};
-ghost use Rattle.pef_io.specs.DepotCalls.{calls_of, CountsCall};
+ghost use Rattle.std.specs.Prelude.{◌≡◌, ℕ, ◌≤◌, [], Some, min, length, IfOk, IsOk, IsErrOf, IsTrue, option_map};
+ghost use Rattle.pef_io.specs.InMemory.{IsNewDepot, CalledOnce};
 ghost use Rattle.pef_io.specs.Files.{IsFirst};
 ghost use Rattle.pef_io.specs.DepotState.{Starts, ReadsSlot, Creates, WritesFile, Finishes};
 ghost use Rattle.pef_io.specs.declared.calls.Op.{Op};
@@ -23,11 +22,14 @@ pub struct SteadyDepot {
     created: Option<usize>,
     most: usize,
     pub(crate) calls: Calls,
+    refusals: u64,
     ghost moves_some: { 1 ≤ most },
     ghost writes_first: { (at : ℕ) → created ≡ Some at → IsFirst files.list.items at },
 }
 
 impl SteadyDepot {
+    ghost use Rattle.pef_io.specs.SteadyDepot.{steady_depot};
+
     /// A depot of these files, of which each read and write moves at most `most` bytes. A name that
     /// stands twice has the bytes of its first file.
     pub fn new(
@@ -37,8 +39,8 @@ impl SteadyDepot {
     ) -> Result<SteadyDepot, NoMemory>
         requires { 1 ≤ most }
         ensures always { IsOk result }
-        ensures fresh { IfOk result (λ d. IsNewDepot files.items (⟦<SteadyDepot as Depot>⟧.state d)) }
-        ensures made { IfOk result (λ d. (d.most ≡ most) × ((op : Op) → calls_of d.calls op ≡ 0)) }
+        ensures fresh { IfOk result (λ d. IsNewDepot files.items (steady_depot d).state) }
+        ensures made { IfOk result (λ d. ((steady_depot d).most ≡ most) × ((op : Op) → (steady_depot d).calls op ≡ 0) × ((steady_depot d).fails ≡ [])) }
     {
         Ok(SteadyDepot {
             alloc,
@@ -48,56 +50,56 @@ impl SteadyDepot {
                 freqs: None,
                 sizes: None,
                 index: None,
+                side: None,
+                map: None,
             },
             created: None,
             most,
             calls: Calls::new(),
+            refusals: 0,
         })
     }
 
     /// The bytes under a name.
     pub fn file(&self, name: &str) -> Option<&[u8]>
-        ensures { option_map (λ bytes. bytes.now) result ≡ (⟦<SteadyDepot as Depot>⟧.state self.now).file name.now }
+        ensures { option_map (λ bytes. bytes.now) result ≡ (steady_depot self.now).state.file name.now }
     {
         self.files.bytes_of(name)
     }
 
     /// How often this kind of call was made.
     pub fn calls(&self, op: Op) -> u64
-        ensures { result ≡ calls_of self.now.calls op }
+        ensures { result ≡ (steady_depot self.now).calls op }
     {
         self.calls.of(op)
     }
 }
 
 impl Depot for SteadyDepot {
-    ghost use Rattle.pef_io.specs.SteadyDepot.{steady_state};
+    ghost use Rattle.pef_io.specs.SteadyDepot.{steady_depot};
 
-    ghost state = { steady_state };
+    ghost state = { λ d. (steady_depot d).state };
 
     fn start(&mut self, slot: Slot, name: &str) -> Result<(), IoFail>
-        ensures starts { Starts (⟦<SteadyDepot as Depot>⟧.state self.old) (⟦<SteadyDepot as Depot>⟧.state self.new) slot name.now result }
+        ensures starts { Starts (steady_depot self.old).state (steady_depot self.new).state slot name.now result }
         ensures never_fails { IsErrOf result IoFail.Failed → ⊥ }
-        ensures counted { CountsCall (Op.Start slot) self.old.calls self.new.calls }
-        ensures kept { self.new.most ≡ self.old.most }
+        ensures counted { CalledOnce (Op.Start slot) (steady_depot self.old) (steady_depot self.new) }
     {
         self.calls.count(Op::Start(slot));
-        match self.files.copy_of(self.alloc, name) {
-            Ok(bytes) => {
-                *self.opened.get_mut(slot) = Some(Opened::new(bytes));
-                Ok(())
-            }
-            Err(_) => Err(IoFail::NoMemory),
-        }
+        let Ok(bytes) = self.files.copy_of(self.alloc, name) else {
+            self.refusals = self.refusals.saturating_add(1);
+            return Err(IoFail::NoMemory);
+        };
+        *self.opened.get_mut(slot) = Some(Opened::new(bytes));
+        Ok(())
     }
 
     fn read(&mut self, slot: Slot, buf: &mut [u8]) -> Result<usize, IoFail>
-        requires { IsTrue ((⟦<SteadyDepot as Depot>⟧.state self.old).started slot) }
-        ensures reads { ReadsSlot (⟦<SteadyDepot as Depot>⟧.state self.old) (⟦<SteadyDepot as Depot>⟧.state self.new) slot buf.old buf.new result }
-        ensures moved { IfOk result (λ n. n ≡ min (min (length ((⟦<SteadyDepot as Depot>⟧.state self.old).left slot)) (length buf.old)) self.old.most) }
-        ensures never_fails { IsErrOf result IoFail.Failed → ⊥ }
-        ensures counted { CountsCall (Op.Read slot) self.old.calls self.new.calls }
-        ensures kept { self.new.most ≡ self.old.most }
+        requires { IsTrue ((steady_depot self.old).state.started slot) }
+        ensures reads { ReadsSlot (steady_depot self.old).state (steady_depot self.new).state slot buf.old buf.new result }
+        ensures moved { IfOk result (λ n. n ≡ min (min (length ((steady_depot self.old).state.left slot)) (length buf.old)) (steady_depot self.old).most) }
+        ensures never_fails { IsOk result }
+        ensures counted { CalledOnce (Op.Read slot) (steady_depot self.old) (steady_depot self.new) }
     {
         self.calls.count(Op::Read(slot));
         let Some(opened) = self.opened.get_mut(slot) else {
@@ -107,10 +109,9 @@ impl Depot for SteadyDepot {
     }
 
     fn create(&mut self, name: &str) -> Result<(), IoFail>
-        ensures creates { Creates (⟦<SteadyDepot as Depot>⟧.state self.old) (⟦<SteadyDepot as Depot>⟧.state self.new) name.now result }
+        ensures creates { Creates (steady_depot self.old).state (steady_depot self.new).state name.now result }
         ensures never_fails { IsErrOf result IoFail.Failed → ⊥ }
-        ensures counted { CountsCall Op.Create self.old.calls self.new.calls }
-        ensures kept { self.new.most ≡ self.old.most }
+        ensures counted { CalledOnce Op.Create (steady_depot self.old) (steady_depot self.new) }
     {
         self.calls.count(Op::Create);
         match self.files.make_empty(self.alloc, name) {
@@ -118,35 +119,37 @@ impl Depot for SteadyDepot {
                 self.created = Some(at);
                 Ok(())
             }
-            Err(_) => Err(IoFail::NoMemory),
+            Err(_) => {
+                self.refusals = self.refusals.saturating_add(1);
+                Err(IoFail::NoMemory)
+            }
         }
     }
 
     fn write(&mut self, piece: &[u8]) -> Result<usize, IoFail>
-        requires { IsTrue (⟦<SteadyDepot as Depot>⟧.state self.old).created }
-        ensures writes { WritesFile (⟦<SteadyDepot as Depot>⟧.state self.old) (⟦<SteadyDepot as Depot>⟧.state self.new) piece.now result }
-        ensures moved { IfOk result (λ n. n ≡ min (length piece.now) self.old.most) }
+        requires { IsTrue (steady_depot self.old).state.created }
+        ensures writes { WritesFile (steady_depot self.old).state (steady_depot self.new).state piece.now result }
+        ensures moved { IfOk result (λ n. n ≡ min (length piece.now) (steady_depot self.old).most) }
         ensures never_fails { IsErrOf result IoFail.Failed → ⊥ }
-        ensures counted { CountsCall Op.Write self.old.calls self.new.calls }
-        ensures kept { self.new.most ≡ self.old.most }
+        ensures counted { CalledOnce Op.Write (steady_depot self.old) (steady_depot self.new) }
     {
         self.calls.count(Op::Write);
         let Some(at) = self.created else {
             unreachable!()
         };
         let n = piece.len().min(self.most);
-        match self.files.append(at, &piece[..n]) {
-            Ok(()) => Ok(n),
-            Err(_) => Err(IoFail::NoMemory),
+        if self.files.append(at, &piece[..n]).is_err() {
+            self.refusals = self.refusals.saturating_add(1);
+            return Err(IoFail::NoMemory);
         }
+        Ok(n)
     }
 
     fn finish(&mut self) -> Result<(), IoFail>
-        requires { IsTrue (⟦<SteadyDepot as Depot>⟧.state self.old).created }
-        ensures finishes { Finishes (⟦<SteadyDepot as Depot>⟧.state self.old) (⟦<SteadyDepot as Depot>⟧.state self.new) result }
-        ensures never_fails { IsErrOf result IoFail.Failed → ⊥ }
-        ensures counted { CountsCall Op.Finish self.old.calls self.new.calls }
-        ensures kept { self.new.most ≡ self.old.most }
+        requires { IsTrue (steady_depot self.old).state.created }
+        ensures finishes { Finishes (steady_depot self.old).state (steady_depot self.new).state result }
+        ensures never_fails { IsOk result }
+        ensures counted { CalledOnce Op.Finish (steady_depot self.old) (steady_depot self.new) }
     {
         self.calls.count(Op::Finish);
         self.created = None;

@@ -2,7 +2,7 @@ use Rattle.std.proofs.Common.{arith, ◌≡◌, ◌∙◌, sym, ap, IsTrue, drop
 use Rattle.std.specs.Prelude.{is_ok}
 use Rattle.std.proofs.lemmas.List.{length-drop, length-take}
 use Rattle.std.proofs.lemmas.Result.{IfOk-at_ok}
-use Rattle.pef_io.proofs.Fronts.{one_front}
+use Rattle.pef_io.proofs.Fronts.{one_front, no_more_at_ok}
 use Rattle.pef_io.proofs.helpers.depot_write_all.Goals as goal
 
 pub loop-at-preserved : goal.loop-at-preserved
@@ -31,4 +31,6 @@ loop-at-preserved g c =
       (λ t _. (_, ap new.file (sym (before.5.1 t)) ∙ appended t)),
       write.create_count ∙ before.9,
       write.finish_count ∙ before.10,
+      (λ slot. write.counts.starts slot ∙ before.11 slot),
+      no_more_at_ok c.write.result c.in_ok-at.field-0 c.in_ok-at.was write.counts.refusals.rises_only_there ∙ before.12,
     )

@@ -1,5 +1,5 @@
 use Rattle.std.proofs.Common.{◌≡◌, ◌-◌, ◌≤◌, ◌++◌, [], length, take, unwrap_or, IsTrue}
-use Rattle.pef_io.specs.DepotState.{SameFilesBut, SameSlots, SameWriting}
+use Rattle.pef_io.specs.DepotState.{SameFilesBut, SameSlots, SameWriting, SameStarts}
 use Rattle.pef_io.specs.Helpers.{HasFile}
 use Rattle.pef_io.proofs.helpers.depot_write_all.Given as goal
 
@@ -18,6 +18,8 @@ invariant-loop-at g l =
     × (IsTrue old.tells → HasFile old old.name → HasFile now old.name)
     × (now.create_faults ≡ old.create_faults)
     × (now.finish_faults ≡ old.finish_faults)
+    × SameStarts old now
+    × (now.refusals ≡ old.refusals)
 
 abbrev pub decreases-loop-at : goal.decreases-loop-at
 decreases-loop-at g l = length l.piece - l.at
