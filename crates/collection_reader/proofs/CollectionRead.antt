@@ -1,5 +1,5 @@
 -- Lemmas on reading a collection: what its answer is at each refusal, and at the end.
-use Rattle.std.proofs.Common.{◌≡◌, refl, sym, ap, ◌∙◌, subst, ℕ, ◌^◌, ◌<◌, ◌≤◌, List, [], ◌++◌, inl, inr, length, IsTrue, Bool, true, false, ◌==◌, Option, Some, None, MatchBool, MatchOption, Result, Ok, Err, IfErr, arith, append_assoc}
+use Rattle.std.proofs.Common.{◌≡◌, refl, sym, ap, ◌∙◌, subst, ℕ, ◌^◌, ◌<◌, ◌≤◌, List, [], ◌++◌, inl, inr, length, IsTrue, Bool, true, false, ◌==◌, Option, Some, None, MatchBool, MatchOption, Result, Ok, Err, IfErr, OnOk, arith, append_assoc}
 use Rattle.std.specs.List.{All}
 use Rattle.std.proofs.lemmas.Bool.{eqb-true}
 use Rattle.std.proofs.lemmas.List.{append-nil}
@@ -7,10 +7,10 @@ use Rattle.collection_model.specs.FormatNumbers.{FormatNumbers, most_terms}
 use Rattle.collection_model.specs.Collection.{Posting, Collection, WellFormed, IsPostingList}
 use Rattle.collection_model.specs.Spelling.{Files, head_bytes, docs_bytes, freqs_bytes, spelled}
 use Rattle.pef_io.specs.declared.fail.Slot.{Slot}
-use Rattle.pef_io.specs.DepotState.{DepotState, OnlyReads}
+use Rattle.pef_io.specs.DepotState.{DepotState, StartedOnce, NoneStartedTwice, OnlyReads}
 use Rattle.collection_reader.specs.declared.fault.Fault.{Fault}
 use Rattle.collection_reader.specs.declared.fault.CollError.{CollError}
-use Rattle.collection_reader.specs.declared.fault.CollError.TheVariants.{Broken, Read}
+use Rattle.collection_reader.specs.declared.fault.CollError.TheVariants.{Broken, Read, NoMemory}
 use Rattle.collection_reader.specs.declared.whole.Lists.{Lists as ListVectors}
 use Rattle.collection_reader.specs.FirstFault.{IsFront, IsLongestFront, head_fault, end_fault, IsFaultBehind, IsFirstFault}
 use Rattle.collection_reader.specs.Starting.{StartsInOrder}
@@ -20,8 +20,8 @@ use Rattle.collection_reader.specs.ReadLists.{HaveBeenRead, IsFaultBehindLists, 
 use Rattle.collection_reader.proofs.Fronts.{longest-from_blocked, longest-from_full, blocked-at_end}
 use Rattle.collection_reader.proofs.Breaks.{zero-not, blocked-by_fault}
 use Rattle.collection_reader.proofs.FirstFaults.{one-first_fault, spelled-no_fault, front-head, none-first, match_bool-cases}
-use Rattle.collection_reader.proofs.ListsRead.{calls-then, read_fault-then, no_fault-at_ok, not-ok, stay_started}
-use Rattle.pef_io.proofs.OnlyReads.{OnlyReads-trans}
+use Rattle.collection_reader.proofs.ListsRead.{calls-then, read_fault-then, no_fault-at_ok, no_refusal-at_ok, not-ok, stay_started}
+use Rattle.pef_io.proofs.OnlyReads.{OnlyReads-trans, NoneStartedTwice-then}
 use Rattle.collection_reader.proofs.Starts.{all-started}
 
 -- the files of a well-formed collection have no first fault, and files with one are of none
@@ -35,8 +35,8 @@ not-both format small files c fault good same broken =
 pub refused : (format : FormatNumbers) → format.most_documents < 2 ^ 32 → (old new : DepotState) (base : List ℕ) (answer : Result Collection CollError) (e : CollError) → answer ≡ Err e
     → (IsTrue old.tells → (fault : Fault) → e ≡ Broken fault → IsFirstFault format (files_at old base) (Some fault))
     → ((slot : Slot) → e ≡ Read slot → IsReadFault old new slot)
-    → OnlyReadsCollection old new answer → StartsInOrder old new e → ReadsCollection format old new base answer
-refused format small old new base answer e is first_fault read_fault calls order = record {
+    → OnlyReadsCollection old new answer → StartsInOrder old new e → NoneStartedTwice old new → ReadsCollection format old new base answer
+refused format small old new base answer e is first_fault read_fault calls order twice = record {
   well_formed = not-ok (WellFormed format) answer e is;
   spelled_so = λ told. not-ok (λ c. files_at old base ≡ spelled c) answer e is;
   no_fault = λ told c good same fault h. not-both format small (files_at old base) c fault good same (first_fault told fault cc);
@@ -46,12 +46,16 @@ refused format small old new base answer e is first_fault read_fault calls order
   count_rises_only_there = calls.count_rises_only_there;
   reads = calls.reads;
   in_order = subst (λ r. IfErr r (StartsInOrder old new)) (sym is) order;
+  started_once = subst (λ r. OnOk r (StartedOnce IsCollectionSlot old new)) (sym is) tt;
+  none_twice = twice;
+  refusals_rise_only_there = calls.refusals_rise_only_there;
 }
 
-same-calls : {A B : Type 0} (old new : DepotState) (result : Result A CollError) (answer : Result B CollError) → ((slot : Slot) → result ≡ Err (Read slot) → answer ≡ Err (Read slot)) → OnlyReadsCollection old new result → OnlyReadsCollection old new answer
-same-calls old new result answer same calls = record {
+same-calls : {A B : Type 0} (old new : DepotState) (result : Result A CollError) (answer : Result B CollError) → ((slot : Slot) → result ≡ Err (Read slot) → answer ≡ Err (Read slot)) → (result ≡ Err NoMemory → answer ≡ Err NoMemory) → OnlyReadsCollection old new result → OnlyReadsCollection old new answer
+same-calls old new result answer same want calls = record {
   count_rises_only_there = λ slot. elim (calls.count_rises_only_there slot) [ inl h ↦ inl (same slot h) | inr e ↦ inr e ];
   reads = calls.reads;
+  refusals_rise_only_there = elim calls.refusals_rise_only_there [ inl h ↦ inl (want h) | inr e ↦ inr e ];
 }
 
 some-first : (o : Option Fault) (P : Type 0) (fault : Fault) → o ≡ Some fault → MatchOption o P (λ broken. Some fault ≡ Some broken)
@@ -64,8 +68,9 @@ start-refused format small old new base result e answer starts is answered =
     refused format small old new base answer e answered
     (λ told fault h. some-first (head_fault format (files_at old base).docs) _ fault (starts.first_fault told fault cc))
     (λ slot h. starts.read_only_where_it_rose slot cc)
-    (same-calls old new result answer (λ slot h. cc) starts.depot)
+    (same-calls old new result answer (λ slot h. cc) (λ h. cc) starts.depot)
     (subst (λ r. IfErr r (StartsInOrder old new)) is starts.in_order)
+    starts.none_twice
 
 -- the front of the files that some lists behind the head are
 front-read : (format : FormatNumbers) (old start : DepotState) (base : List ℕ) (first : Reading) (lists : List (List Posting)) (docs freqs : List ℕ) → StartsReading format old start base (Ok first) → IsTrue old.tells
@@ -112,8 +117,9 @@ lists-refused format small old start new base first now result e answer starts r
     let found = subst (λ f. IsFaultBehindLists f first.documents (rests first start) fault) starts.limits (reads.first_fault (starts.depot.reads.tells ∙ told) fault cc) in
     next-faulty format small (files_at old base) first.documents found.lists found.docs_rest found.freqs_rest fault (front-read format old start base first found.lists found.docs_rest found.freqs_rest starts told found.within found.each found.docs found.freqs) found.next)
     (λ slot h. read_fault-then old start new slot (no_fault slot) (reads.read_only_where_it_rose slot cc))
-    (calls-then old start new result answer no_fault starts.depot.reads reads.depot (λ slot h. cc))
-    (all-started old new e (stay_started start new starts.started reads.depot.reads))
+    (calls-then old start new result answer no_fault (no_refusal-at_ok old start (Ok first) first refl starts.depot) starts.depot.reads reads.depot (λ slot h. cc) (λ h. cc))
+    (all-started old new e (record { started = stay_started start new starts.started reads.depot.reads; once = λ slot is. reads.starts slot ∙ starts.started_once slot is }))
+    (NoneStartedTwice-then old start new starts.none_twice reads.starts)
 
 -- what is left once all lists are read
 record AllListsRead (format : FormatNumbers) (old start between : DepotState) (base : List ℕ) (now : Reading) (lists : List (List Posting)) : Type 0 where
@@ -125,7 +131,10 @@ record AllListsRead (format : FormatNumbers) (old start between : DepotState) (b
   front : IsTrue old.tells → IsFront format (files_at old base) now.documents lists [] (rests now between).freqs
   sizes : IsTrue old.tells → (files_at old base).sizes ≡ (rests now between).sizes
   no_fault : (slot : Slot) → between.faults slot ≡ old.faults slot
+  no_refusal : between.refusals ≡ old.refusals
   reads : OnlyReads IsCollectionSlot old between
+  once : StartedOnce IsCollectionSlot old between
+  twice : NoneStartedTwice old between
 
 all-lists : (format : FormatNumbers) (old start between : DepotState) (base : List ℕ) (first now : Reading) (lists : List (List Posting)) → StartsReading format old start base (Ok first) → HaveBeenRead first now start between lists
     → (IsTrue start.tells → (rests now between).docs ≡ []) → AllListsRead format old start between base now lists
@@ -143,7 +152,10 @@ all-lists format old start between base first now lists starts given ended =
           subst (λ n. IsFront format (files_at old base) n lists [] (rests now between).freqs) (sym given.documents) (front-read format old start base first lists [] (rests now between).freqs starts told given.within each is_docs (given.freqs_rest told'));
       sizes = λ told. starts.sizes_rest told ∙ sym (given.sizes_rest (starts.depot.reads.tells ∙ told));
       no_fault = λ slot. given.no_fault slot ∙ no_fault-at_ok old start (Ok first) first refl starts.depot slot;
+      no_refusal = given.no_refusal ∙ no_refusal-at_ok old start (Ok first) first refl starts.depot;
       reads = OnlyReads-trans starts.depot.reads given.reads;
+      once = λ slot is. given.starts slot ∙ starts.started_once slot is;
+      twice = NoneStartedTwice-then old start between starts.none_twice given.starts;
     }
 
 -- where the sizes are refused
@@ -159,8 +171,9 @@ sizes-refused format small old start between new base first now last lists sizes
     sym ((λ i. end_fault now.documents (sym read.counted i) (rests now between).freqs (read.sizes told i)) ∙ found) in
     fault-behind format small (files_at old base) now.documents lists [] (rests now between).freqs fault (longest-from_blocked format small (files_at old base) now.documents lists [] (rests now between).freqs front (blocked-at_end format now.documents (rests now between).freqs)) behind)
     (λ slot h. read_fault-then old between new slot (read.no_fault slot) (reads.read_only_where_it_rose read.refusal slot cc))
-    (calls-then old between new result answer read.no_fault read.reads reads.depot (λ slot h. cc))
-    (all-started old new e (stay_started between new (stay_started start between starts.started before.reads) reads.depot.reads))
+    (calls-then old between new result answer read.no_fault read.no_refusal read.reads reads.depot (λ slot h. cc) (λ h. cc))
+    (all-started old new e (record { started = stay_started between new (stay_started start between starts.started before.reads) reads.depot.reads; once = λ slot is. reads.starts slot ∙ read.once slot is }))
+    (NoneStartedTwice-then old between new read.twice reads.starts)
 
 -- where all is read
 pub all-read : (format : FormatNumbers) → format.most_documents < 2 ^ 32 → (old start between new : DepotState) (base : List ℕ) (first now last : Reading) (lists : List (List Posting)) (n : ℕ) (sizes : List ℕ) (c : Collection)
@@ -181,7 +194,7 @@ all-read format small old start between new base first now last lists n sizes c 
     λ i. record { docs = docs i; freqs = freqs i; sizes = in_sizes i } in
     let good_c : WellFormed format c = subst (WellFormed format) (sym same) good in
     let spelled_c : IsTrue old.tells → files_at old base ≡ spelled c = λ told. spelling told ∙ ap spelled (sym same) in
-    let calls = calls-then old between new (Ok tt) (Ok c) read.no_fault read.reads reads.depot (λ slot h. absurd cc) in
+    let calls = calls-then old between new (Ok tt) (Ok c) read.no_fault read.no_refusal read.reads reads.depot (λ slot h. absurd cc) (λ h. absurd cc) in
     record {
       well_formed = good_c;
       spelled_so = spelled_c;
@@ -192,4 +205,7 @@ all-read format small old start between new base first now last lists n sizes c 
       count_rises_only_there = calls.count_rises_only_there;
       reads = calls.reads;
       in_order = tt;
+      started_once = λ slot is. reads.starts slot ∙ read.once slot is;
+      none_twice = NoneStartedTwice-then old between new read.twice reads.starts;
+      refusals_rise_only_there = calls.refusals_rise_only_there;
     }

@@ -15,7 +15,7 @@ use Rattle.collection_reader.specs.ReadLists.{ReadsLists}
 use Rattle.collection_reader.specs.InTurn.{HasRead, HasReadAll, ReadsInTurn}
 use Rattle.collection_reader.proofs.ListsRead.{nothing-read, read-more, read-end, answered-list, stay_started, no_fault-at_ok, list-refused}
 use Rattle.collection_reader.proofs.CollectionRead.{refused, start-refused, lists-refused, sizes-refused, all-read}
-use Rattle.pef_io.proofs.OnlyReads.{OnlyReads-trans}
+use Rattle.pef_io.proofs.OnlyReads.{OnlyReads-trans, NoneStartedTwice-then}
 
 started-reading : (format : FormatNumbers) (base : List ℕ) (old new : DepotState) (r : Reading) → StartsReading format old new base (Ok r) → HasRead format base old new r [] Lists
 started-reading format base old new r starts = record {
@@ -37,7 +37,7 @@ list-read format base old between new now next lists docs freqs has reads =
       start = has.start;
       first = has.first;
       starts = has.starts;
-      read = read-more has.first now next has.start between new lists docs freqs has.read gives reads.format reads.documents refusal (no_fault-at_ok between new (Ok true) true refl reads.depot) reads.depot.reads;
+      read = read-more (Ok true) true has.first now next has.start between new lists docs freqs has.read gives reads.format reads.documents refusal refl reads.depot reads.starts;
       format_is = reads.format ∙ has.format_is;
       started = stay_started between new has.started reads.depot.reads;
       phase_is = gives.phase ∙ has.phase_is;
@@ -53,7 +53,7 @@ last-read format base old between new now next lists docs freqs has reads =
         start = has.start;
         first = has.first;
         starts = has.starts;
-        read = read-end has.first now next has.start between new lists has.read ends reads.format reads.documents refusal (no_fault-at_ok between new (Ok false) false refl reads.depot) reads.depot.reads;
+        read = read-end (Ok false) false has.first now next has.start between new lists has.read ends reads.format reads.documents refusal refl reads.depot reads.starts;
         format_is = reads.format ∙ has.format_is;
         started = stay_started between new has.started reads.depot.reads;
         phase_is = ends.phase ∙ ap after_lists has.phase_is;
@@ -94,8 +94,10 @@ stopped-reading format small base old between now lists phase has =
     (record {
       count_rises_only_there = λ slot. inr (has.read.no_fault slot ∙ no_fault-at_ok old has.start (Ok has.first) has.first refl has.starts.depot slot);
       reads = OnlyReads-trans has.starts.depot.reads has.read.reads;
+      refusals_rise_only_there = inl refl;
     })
-    (inl has.started)
+    (inl (record { started = has.started; once = λ slot is. has.read.starts slot ∙ has.starts.started_once slot is }))
+    (NoneStartedTwice-then old has.start between has.starts.none_twice has.read.starts)
 
 pub reads-in_turn : (format : FormatNumbers) → format.most_documents < 2 ^ 32 → ReadsInTurn format
 reads-in_turn format small = record {

@@ -1,5 +1,5 @@
 -- Lemmas on the lists that were read so far: at the first, after one more, at the last, and at a refusal.
-use Rattle.std.proofs.Common.{◌≡◌, refl, sym, ap, ◌∙◌, subst, ℕ, List, [], ◌∷◌, ◌++◌, inl, inr, length, Bool, true, None, Result, Ok, Err, IfOk, Vec, arith, append_assoc}
+use Rattle.std.proofs.Common.{◌≡◌, refl, sym, ap, ◌∙◌, subst, ℕ, List, [], ◌∷◌, ◌++◌, inl, inr, length, Bool, true, false, None, Result, Ok, Err, IfOk, Vec, arith, append_assoc}
 use Rattle.std.specs.declared.alloc.Global.{Global}
 use Rattle.std.proofs.lemmas.Result.{IfOk-at_ok}
 use Rattle.std.proofs.lemmas.List.{append-nil, length_push}
@@ -11,15 +11,15 @@ use Rattle.collection_model.specs.Spelling.{docs_bytes, freqs_bytes}
 use Rattle.collection_model.proofs.Lists.{docs-of_postings, freqs-of_postings}
 use Rattle.pef_io.specs.declared.fail.Slot.{Slot}
 use Rattle.pef_io.specs.Calls.{Rose}
-use Rattle.pef_io.specs.DepotState.{DepotState, OnlyReads}
+use Rattle.pef_io.specs.DepotState.{DepotState, SameStarts, OnlyReads}
 use Rattle.collection_reader.specs.declared.fault.CollError.{CollError}
-use Rattle.collection_reader.specs.declared.fault.CollError.TheVariants.{Read}
+use Rattle.collection_reader.specs.declared.fault.CollError.TheVariants.{Read, NoMemory}
 use Rattle.collection_reader.specs.declared.phase.Phase.TheVariants.{Lists, Ended}
 use Rattle.collection_reader.specs.declared.whole.Lists.{Lists as ListVectors}
 use Rattle.collection_reader.specs.Held.{lists_held, AreAligned}
 use Rattle.collection_reader.specs.Starting.{AreStarted}
 use Rattle.collection_reader.specs.ReadCollection.{IsCollectionSlot}
-use Rattle.collection_reader.specs.Reading.{Reading, rests, IsReadFault, IsNextFault, OnlyReadsCollection, ReadsList, GivesList, EndsLists}
+use Rattle.collection_reader.specs.Reading.{Reading, rests, after_lists, IsReadFault, IsNextFault, OnlyReadsCollection, ReadsList, GivesList, EndsLists}
 use Rattle.collection_reader.specs.ReadLists.{AtFirstList, HaveBeenRead, ReadsLists}
 use Rattle.pef_io.proofs.OnlyReads.{OnlyReads-trans, OnlyReads-same}
 
@@ -67,6 +67,8 @@ nothing-read first before at_first = record {
   sizes_rest = λ told. refl;
   no_fault = λ slot. refl;
   reads = OnlyReads-same before;
+  starts = λ slot. refl;
+  no_refusal = refl;
 }
 
 pub none-read : (first : Reading) (before : DepotState) (docs freqs : List (Vec ℕ Global)) → AreStarted before → AtFirstList first → docs ≡ [] → freqs ≡ [] → AreReadSoFar first first before before docs freqs
@@ -90,14 +92,17 @@ stay_started before after started reads = record {
 pub no_fault-at_ok : {A : Type 0} (before after : DepotState) (result : Result A CollError) (x : A) → result ≡ Ok x → OnlyReadsCollection before after result → (slot : Slot) → after.faults slot ≡ before.faults slot
 no_fault-at_ok before after result x is calls slot = elim (calls.count_rises_only_there slot) [ inl h ↦ absurd cc | inr same ↦ same ]
 
+pub no_refusal-at_ok : {A : Type 0} (before after : DepotState) (result : Result A CollError) (x : A) → result ≡ Ok x → OnlyReadsCollection before after result → after.refusals ≡ before.refusals
+no_refusal-at_ok before after result x is calls = elim calls.refusals_rise_only_there [ inl h ↦ absurd cc | inr same ↦ same ]
+
 -- a list that stands behind others in the same bytes
 bytes-behind : (all front list rest middle : List ℕ) → all ≡ front ++ middle → middle ≡ list ++ rest → all ≡ front ++ list ++ rest
 bytes-behind all front list rest middle is behind = is ∙ ap (λ m. front ++ m) behind ∙ sym (append_assoc front list rest)
 
-pub read-more : (first now new : Reading) (before between after : DepotState) (lists : List (List Posting)) (docs freqs : List ℕ) → HaveBeenRead first now before between lists
-    → GivesList now new between after docs freqs → new.format ≡ now.format → new.documents ≡ now.documents → new.refusal ≡ None → ((slot : Slot) → after.faults slot ≡ between.faults slot) → OnlyReads IsCollectionSlot between after
+pub read-more : {A : Type 0} (result : Result A CollError) (x : A) (first now new : Reading) (before between after : DepotState) (lists : List (List Posting)) (docs freqs : List ℕ) → HaveBeenRead first now before between lists
+    → GivesList now new between after docs freqs → new.format ≡ now.format → new.documents ≡ now.documents → new.refusal ≡ None → result ≡ Ok x → OnlyReadsCollection between after result → SameStarts between after
     → HaveBeenRead first new before after (lists ++ postings_of docs freqs ∷ [])
-read-more first now new before between after lists docs freqs read gives format documents refusal no_fault reads = record {
+read-more result x first now new before between after lists docs freqs read gives format documents refusal is calls starts = record {
   format = format ∙ read.format;
   documents = documents ∙ read.documents;
   refusal = refusal;
@@ -107,8 +112,10 @@ read-more first now new before between after lists docs freqs read gives format 
   docs_rest = λ told. bytes-behind _ (docs_bytes lists) (number_sequence docs) _ _ (read.docs_rest told) (gives.docs_rest (read.reads.tells ∙ told)) ∙ ap (λ b. b ++ (rests new after).docs) (sym (docs_bytes-push lists docs freqs gives.same_length));
   freqs_rest = λ told. bytes-behind _ (freqs_bytes lists) (number_sequence freqs) _ _ (read.freqs_rest told) (gives.freqs_rest (read.reads.tells ∙ told)) ∙ ap (λ b. b ++ (rests new after).freqs) (sym (freqs_bytes-push lists docs freqs gives.same_length));
   sizes_rest = λ told. gives.sizes_rest (read.reads.tells ∙ told) ∙ read.sizes_rest told;
-  no_fault = λ slot. no_fault slot ∙ read.no_fault slot;
-  reads = OnlyReads-trans read.reads reads;
+  no_fault = λ slot. no_fault-at_ok between after result x is calls slot ∙ read.no_fault slot;
+  reads = OnlyReads-trans read.reads calls.reads;
+  starts = λ slot. starts slot ∙ read.starts slot;
+  no_refusal = no_refusal-at_ok between after result x is calls ∙ read.no_refusal;
 }
 
 pub answered-list : (now new : Reading) (between after : DepotState) (docs freqs : List ℕ) (result : Result Bool CollError) (b : Bool) → result ≡ Ok b → ReadsList now new between after docs freqs result → new.refusal ≡ None
@@ -121,7 +128,7 @@ pub one-more : (first now new : Reading) (before between after : DepotState) (do
 one-more first now new before between after docs freqs docs' freqs' d f result so_far reads is pushed_d pushed_f =
     let gives = reads.list is in
     let refusal = answered-list now new between after d.items f.items result true is reads in
-    let read = read-more first now new before between after (lists_held docs freqs) d.items f.items so_far.read gives reads.format reads.documents refusal (no_fault-at_ok between after result true is reads.depot) reads.depot.reads in
+    let read = read-more result true first now new before between after (lists_held docs freqs) d.items f.items so_far.read gives reads.format reads.documents refusal is reads.depot reads.starts in
     let pushed : AreReadSoFar first new before after (docs ++ d ∷ []) (freqs ++ f ∷ []) = record {
       aligned = aligned_push docs freqs d f so_far.aligned gives.same_length;
       phase = gives.phase ∙ so_far.phase;
@@ -131,10 +138,10 @@ one-more first now new before between after docs freqs docs' freqs' d f result s
     subst (λ x. AreReadSoFar first new before after x freqs') (sym pushed_d) (subst (λ y. AreReadSoFar first new before after (docs ++ d ∷ []) y) (sym pushed_f) pushed)
 
 -- where there is no more list
-pub read-end : (first now new : Reading) (before between after : DepotState) (lists : List (List Posting)) → HaveBeenRead first now before between lists
-    → EndsLists now new between after → new.format ≡ now.format → new.documents ≡ now.documents → new.refusal ≡ None → ((slot : Slot) → after.faults slot ≡ between.faults slot) → OnlyReads IsCollectionSlot between after
+pub read-end : {A : Type 0} (result : Result A CollError) (x : A) (first now new : Reading) (before between after : DepotState) (lists : List (List Posting)) → HaveBeenRead first now before between lists
+    → EndsLists now new between after → new.format ≡ now.format → new.documents ≡ now.documents → new.refusal ≡ None → result ≡ Ok x → OnlyReadsCollection between after result → SameStarts between after
     → HaveBeenRead first new before after lists
-read-end first now new before between after lists read ends format documents refusal no_fault reads = record {
+read-end result x first now new before between after lists read ends format documents refusal is calls starts = record {
   format = format ∙ read.format;
   documents = documents ∙ read.documents;
   refusal = refusal;
@@ -144,16 +151,19 @@ read-end first now new before between after lists read ends format documents ref
   docs_rest = λ told. read.docs_rest told ∙ ap (λ r. docs_bytes lists ++ r.docs) (sym (ends.same_rests (read.reads.tells ∙ told)));
   freqs_rest = λ told. read.freqs_rest told ∙ ap (λ r. freqs_bytes lists ++ r.freqs) (sym (ends.same_rests (read.reads.tells ∙ told)));
   sizes_rest = λ told. ap (λ r. r.sizes) (ends.same_rests (read.reads.tells ∙ told)) ∙ read.sizes_rest told;
-  no_fault = λ slot. no_fault slot ∙ read.no_fault slot;
-  reads = OnlyReads-trans read.reads reads;
+  no_fault = λ slot. no_fault-at_ok between after result x is calls slot ∙ read.no_fault slot;
+  reads = OnlyReads-trans read.reads calls.reads;
+  starts = λ slot. starts slot ∙ read.starts slot;
+  no_refusal = no_refusal-at_ok between after result x is calls ∙ read.no_refusal;
 }
 
 -- the counts of all calls, where the last one gave what is answered
-pub calls-then : {A B : Type 0} (before between after : DepotState) (result : Result A CollError) (answer : Result B CollError) → ((slot : Slot) → between.faults slot ≡ before.faults slot) → OnlyReads IsCollectionSlot before between → OnlyReadsCollection between after result
-    → ((slot : Slot) → result ≡ Err (Read slot) → answer ≡ Err (Read slot)) → OnlyReadsCollection before after answer
-calls-then before between after result answer no_fault reads calls same = record {
+pub calls-then : {A B : Type 0} (before between after : DepotState) (result : Result A CollError) (answer : Result B CollError) → ((slot : Slot) → between.faults slot ≡ before.faults slot) → between.refusals ≡ before.refusals → OnlyReads IsCollectionSlot before between
+    → OnlyReadsCollection between after result → ((slot : Slot) → result ≡ Err (Read slot) → answer ≡ Err (Read slot)) → (result ≡ Err NoMemory → answer ≡ Err NoMemory) → OnlyReadsCollection before after answer
+calls-then before between after result answer no_fault no_refusal reads calls same want = record {
   count_rises_only_there = λ slot. elim (calls.count_rises_only_there slot) [ inl h ↦ inl (same slot h) | inr e ↦ inr (e ∙ no_fault slot) ];
   reads = OnlyReads-trans reads calls.reads;
+  refusals_rise_only_there = elim calls.refusals_rise_only_there [ inl h ↦ inl (want h) | inr e ↦ inr (e ∙ no_refusal) ];
 }
 
 pub read_fault-then : (before between after : DepotState) (slot : Slot) → between.faults slot ≡ before.faults slot → IsReadFault between after slot → IsReadFault before after slot
@@ -185,5 +195,24 @@ list-refused first now new before between after lists d f result e answer read r
         (subst (λ t. IsNextFault now.format now.documents t (rests now between) fault) read.counted found));
   };
   read_only_where_it_rose = λ slot h. read_fault-then before between after slot (read.no_fault slot) (reads.read_only_where_it_rose read.refusal slot cc);
-  depot = calls-then before between after result answer read.no_fault read.reads reads.depot (λ slot h. cc);
+  depot = calls-then before between after result answer read.no_fault read.no_refusal read.reads reads.depot (λ slot h. cc) (λ h. cc);
+  starts = λ slot. reads.starts slot ∙ read.starts slot;
 }
+
+-- the answer where there is no more list
+pub lists-ended : (first now new : Reading) (before between after : DepotState) (v : ListVectors) (d f : List ℕ) (result : Result Bool CollError)
+    → AreReadSoFar first now before between v.docs.items v.freqs.items → ReadsList now new between after d f result → result ≡ Ok false → ReadsLists first new before after (Ok v)
+lists-ended first now new before between after v d f result so_far reads is =
+    let ends = reads.ended is in
+    let refusal = answered-list now new between after d f result false is reads in
+    let read = read-end result false first now new before between after (lists_held v.docs.items v.freqs.items) so_far.read ends reads.format reads.documents refusal is reads.depot reads.starts in
+    record {
+      aligned = so_far.aligned;
+      given = read;
+      ended = λ told. let told' = so_far.read.reads.tells ∙ told in ap (λ r. r.docs) (ends.same_rests told') ∙ ends.at_end told';
+      phase = ends.phase ∙ ap after_lists so_far.phase;
+      first_fault = λ told fault h. absurd cc;
+      read_only_where_it_rose = λ slot h. absurd cc;
+      depot = record { count_rises_only_there = λ slot. inr (read.no_fault slot); reads = read.reads; refusals_rise_only_there = inr read.no_refusal };
+      starts = read.starts;
+    }

@@ -1,11 +1,11 @@
-use Rattle.std.proofs.Common.{◌≡◌, ◌∙◌, arith, inl, inr, Result, Ok, Err}
+use Rattle.std.proofs.Common.{◌≡◌, refl, ◌∙◌, arith, inl, inr, Result, Ok, Err}
 use Rattle.pef_io.specs.declared.fail.Slot.{Slot}
 use Rattle.pef_io.specs.DepotState.{DepotState}
 use Rattle.pef_io.proofs.OnlyReads.{OnlyReads-trans, OnlyReads-wider}
 use Rattle.collection_reader.specs.declared.fault.CollError.{CollError}
 use Rattle.collection_reader.specs.declared.fault.CollError.TheVariants.{Broken, Read, NoMemory}
 use Rattle.collection_reader.specs.declared.fault.Fault.{Fault}
-use Rattle.collection_reader.specs.OneFile.{ReadsFrom}
+use Rattle.collection_reader.specs.OneFile.{StartsFrom, ReadsFrom}
 
 ok-not-err : {A : Type 0} (x : A) (e : CollError) → let r : Result A CollError = Ok x in r ≡ Err e → ⊥
 ok-not-err x e h = cc
@@ -19,9 +19,15 @@ no_memory-not-read slot h = cc
 same-read : {A B : Type 0} (e : CollError) (slot : Slot) → (let r : Result A CollError = Err e in r ≡ Err (Read slot)) → let s : Result B CollError = Err e in s ≡ Err (Read slot)
 same-read e slot h = cc
 
+same-want : {A B : Type 0} (e : CollError) → (let r : Result A CollError = Err e in r ≡ Err NoMemory) → let s : Result B CollError = Err e in s ≡ Err NoMemory
+same-want e h = cc
+
 -- what an answer that is no refusal says of the counts
 pub counts-at_ok : {A : Type 0} {touched : Slot → Type 0} {a b : DepotState} {x : A} → ReadsFrom touched a b (Ok x) → (slot : Slot) → b.faults slot ≡ a.faults slot
 counts-at_ok {x = x} p slot = elim (p.count_rises_only_there slot) [ inl h ↦ absurd (ok-not-err x _ h) | inr h ↦ h ]
+
+pub refusals-at_ok : {A : Type 0} {touched : Slot → Type 0} {a b : DepotState} {x : A} → ReadsFrom touched a b (Ok x) → b.refusals ≡ a.refusals
+refusals-at_ok {x = x} p = elim p.refusals_rise_only_there [ inl h ↦ absurd (ok-not-err x _ h) | inr h ↦ h ]
 
 -- another answer after the same reads
 pub answers-ok : {A B : Type 0} {touched : Slot → Type 0} {a b : DepotState} {x : A} (y : B) → ReadsFrom touched a b (Ok x) → ReadsFrom touched a b (Ok y)
@@ -29,6 +35,8 @@ answers-ok {touched = touched} {a = a} {b = b} {x = x} y p = record {
   only = p.only;
   count_rises_only_there = λ slot. inr (counts-at_ok p slot);
   read_only_where_it_rose = λ slot h. absurd (ok-not-err y _ h);
+  refusals_rise_only_there = inr (refusals-at_ok p);
+  starts = p.starts;
 }
 
 pub answers-broken : {A B : Type 0} {touched : Slot → Type 0} {a b : DepotState} {x : A} (fault : Fault) → ReadsFrom touched a b (Ok x) → let r : Result B CollError = Err (Broken fault) in ReadsFrom touched a b r
@@ -36,6 +44,8 @@ answers-broken {B = B} fault p = record {
   only = p.only;
   count_rises_only_there = λ slot. inr (counts-at_ok p slot);
   read_only_where_it_rose = λ slot h. absurd (broken-not-read {A = B} fault slot h);
+  refusals_rise_only_there = inr (refusals-at_ok p);
+  starts = p.starts;
 }
 
 pub answers-no_memory : {A B : Type 0} {touched : Slot → Type 0} {a b : DepotState} {x : A} → ReadsFrom touched a b (Ok x) → let r : Result B CollError = Err NoMemory in ReadsFrom touched a b r
@@ -43,6 +53,8 @@ answers-no_memory {B = B} p = record {
   only = p.only;
   count_rises_only_there = λ slot. inr (counts-at_ok p slot);
   read_only_where_it_rose = λ slot h. absurd (no_memory-not-read {A = B} slot h);
+  refusals_rise_only_there = inl refl;
+  starts = p.starts;
 }
 
 -- the same refusal of another answer
@@ -51,6 +63,8 @@ answers-err {A = A} {B = B} e p = record {
   only = p.only;
   count_rises_only_there = λ slot. elim (p.count_rises_only_there slot) [ inl h ↦ inl (same-read {A = A} {B = B} e slot h) | inr h ↦ inr h ];
   read_only_where_it_rose = λ slot h. p.read_only_where_it_rose slot (same-read {A = B} {B = A} e slot h);
+  refusals_rise_only_there = elim p.refusals_rise_only_there [ inl h ↦ inl (same-want {A = A} {B = B} e h) | inr h ↦ inr h ];
+  starts = p.starts;
 }
 
 -- a call after one that did not refuse
@@ -62,6 +76,8 @@ reads-then {a = a} {b = b} {c = c} p q = record {
     (q.read_only_where_it_rose slot h).0,
     elim (q.read_only_where_it_rose slot h).1 [ inl l ↦ inl (omega (arith, counts-at_ok p slot, l)) | inr e ↦ inr e ],
   );
+  refusals_rise_only_there = elim q.refusals_rise_only_there [ inl h ↦ inl h | inr h ↦ inr (h ∙ refusals-at_ok p) ];
+  starts = λ slot. q.starts slot ∙ p.starts slot;
 }
 
 -- the same reads among more slots
@@ -70,4 +86,50 @@ reads-wider w p = record {
   only = OnlyReads-wider w p.only;
   count_rises_only_there = p.count_rises_only_there;
   read_only_where_it_rose = λ slot h. (w slot (p.read_only_where_it_rose slot h).0, (p.read_only_where_it_rose slot h).1);
+  refusals_rise_only_there = p.refusals_rise_only_there;
+  starts = p.starts;
+}
+
+-- ---- the same of starts
+
+-- reads are starts or reads
+pub as-starts : {A : Type 0} {touched : Slot → Type 0} {a b : DepotState} {r : Result A CollError} → ReadsFrom touched a b r → StartsFrom touched a b r
+as-starts p = record {
+  only = p.only;
+  count_rises_only_there = p.count_rises_only_there;
+  read_only_where_it_rose = p.read_only_where_it_rose;
+  refusals_rise_only_there = p.refusals_rise_only_there;
+}
+
+start-counts-at_ok : {A : Type 0} {touched : Slot → Type 0} {a b : DepotState} {x : A} → StartsFrom touched a b (Ok x) → (slot : Slot) → b.faults slot ≡ a.faults slot
+start-counts-at_ok {x = x} p slot = elim (p.count_rises_only_there slot) [ inl h ↦ absurd (ok-not-err x _ h) | inr h ↦ h ]
+
+start-refusals-at_ok : {A : Type 0} {touched : Slot → Type 0} {a b : DepotState} {x : A} → StartsFrom touched a b (Ok x) → b.refusals ≡ a.refusals
+start-refusals-at_ok {x = x} p = elim p.refusals_rise_only_there [ inl h ↦ absurd (ok-not-err x _ h) | inr h ↦ h ]
+
+pub starts-err : {A B : Type 0} {touched : Slot → Type 0} {a b : DepotState} (e : CollError) → (let r : Result A CollError = Err e in StartsFrom touched a b r) → let s : Result B CollError = Err e in StartsFrom touched a b s
+starts-err {A = A} {B = B} e p = record {
+  only = p.only;
+  count_rises_only_there = λ slot. elim (p.count_rises_only_there slot) [ inl h ↦ inl (same-read {A = A} {B = B} e slot h) | inr h ↦ inr h ];
+  read_only_where_it_rose = λ slot h. p.read_only_where_it_rose slot (same-read {A = B} {B = A} e slot h);
+  refusals_rise_only_there = elim p.refusals_rise_only_there [ inl h ↦ inl (same-want {A = A} {B = B} e h) | inr h ↦ inr h ];
+}
+
+pub starts-then : {A B : Type 0} {touched : Slot → Type 0} {a b c : DepotState} {x : A} {r : Result B CollError} → StartsFrom touched a b (Ok x) → StartsFrom touched b c r → StartsFrom touched a c r
+starts-then {a = a} {b = b} {c = c} p q = record {
+  only = OnlyReads-trans p.only q.only;
+  count_rises_only_there = λ slot. elim (q.count_rises_only_there slot) [ inl h ↦ inl h | inr h ↦ inr (h ∙ start-counts-at_ok p slot) ];
+  read_only_where_it_rose = λ slot h. (
+    (q.read_only_where_it_rose slot h).0,
+    elim (q.read_only_where_it_rose slot h).1 [ inl l ↦ inl (omega (arith, start-counts-at_ok p slot, l)) | inr e ↦ inr e ],
+  );
+  refusals_rise_only_there = elim q.refusals_rise_only_there [ inl h ↦ inl h | inr h ↦ inr (h ∙ start-refusals-at_ok p) ];
+}
+
+pub starts-wider : {A : Type 0} {touched more : Slot → Type 0} {a b : DepotState} {r : Result A CollError} → ((slot : Slot) → touched slot → more slot) → StartsFrom touched a b r → StartsFrom more a b r
+starts-wider w p = record {
+  only = OnlyReads-wider w p.only;
+  count_rises_only_there = p.count_rises_only_there;
+  read_only_where_it_rose = λ slot h. (w slot (p.read_only_where_it_rose slot h).0, (p.read_only_where_it_rose slot h).1);
+  refusals_rise_only_there = p.refusals_rise_only_there;
 }

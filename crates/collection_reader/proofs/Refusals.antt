@@ -19,10 +19,11 @@ list_refused r tried a b ds fs ds_after fs_after e none tries no_docs no_freqs =
   first_fault = λ t kept fault h. tries.first_fault t fault h;
   read_only_where_it_rose = λ kept slot h. tries.depot.read_only_where_it_rose slot h;
   refusal = record { kept = λ kept h. absurd (none kept h); first = refl; answer = tt };
-  depot = record { count_rises_only_there = tries.depot.count_rises_only_there; reads = tries.depot.only };
+  depot = record { count_rises_only_there = tries.depot.count_rises_only_there; reads = tries.depot.only; refusals_rise_only_there = tries.depot.refusals_rise_only_there };
   unchanged = tries.unchanged;
   fault_term = λ kept fault h. tries.fault_term fault h;
   slots = tries.slots;
+  starts = tries.depot.starts;
 }
 
 pub end_refused : (r tried : Reading) (a b : DepotState) (ss ss_after : List ℕ) (e : CollError) → ((kept : CollError) → r.refusal ≡ Some kept → ⊥)
@@ -35,8 +36,9 @@ end_refused r tried a b ss ss_after e none tries no_sizes = record {
   first_fault = λ t kept fault h. tries.first_fault t fault h;
   read_only_where_it_rose = λ kept slot h. tries.depot.read_only_where_it_rose slot h;
   refusal = record { kept = λ kept h. absurd (none kept h); first = refl; answer = tt };
-  depot = record { count_rises_only_there = tries.depot.count_rises_only_there; reads = tries.depot.only };
+  depot = record { count_rises_only_there = tries.depot.count_rises_only_there; reads = tries.depot.only; refusals_rise_only_there = tries.depot.refusals_rise_only_there };
   unchanged = (tries.phase, tries.lists);
   fault_term = λ kept fault h. tries.fault_term fault h;
   slots = tries.slots;
+  starts = tries.depot.starts;
 }

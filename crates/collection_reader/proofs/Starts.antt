@@ -1,33 +1,33 @@
 -- How the three files of a collection are started, and the head is read.
-use Rattle.std.proofs.Common.{◌≡◌, refl, ◌∙◌, sym, ap, subst, ℕ, ◌<◌, ◌≤◌, ◌++◌, arith, inl, inr, IsTrue, List, [], Ok, Err, Result}
+use Rattle.std.proofs.Common.{◌≡◌, refl, ◌∙◌, sym, ap, subst, ℕ, ◌<◌, ◌≤◌, ◌⊎◌, ◌++◌, arith, inl, inr, IsTrue, List, [], Ok, Err, Result}
 use Rattle.std.specs.Prelude.{unwrap_or, codes}
 use Rattle.pef_io.specs.declared.fail.Slot.{Slot}
-use Rattle.pef_io.specs.declared.fail.Slot.TheVariants.{Docs, Freqs, Sizes, Index}
-use Rattle.pef_io.specs.DepotState.{DepotState, OnlyReads}
+use Rattle.pef_io.specs.declared.fail.Slot.TheVariants.{Docs, Freqs, Sizes, Index, Side, Map}
+use Rattle.pef_io.specs.DepotState.{DepotState, StartedOnce, NoneStartedTwice, OnlyReads}
+use Rattle.pef_io.specs.Calls.{one_more}
 use Rattle.collection_reader.specs.declared.fault.Fault.{Fault}
 use Rattle.collection_reader.specs.declared.fault.CollError.{CollError}
 use Rattle.collection_reader.specs.declared.fault.CollError.TheVariants.{Broken, Read, NoMemory}
-use Rattle.collection_reader.specs.Starting.{AreStarted, turn, StopsAt, StartsInOrder}
-use Rattle.collection_reader.specs.ReadCollection.{IsCollectionSlot}
+use Rattle.collection_reader.specs.Starting.{IsCollectionSlot, WereStarted, turn, StopsAt, StartsInOrder}
 use Rattle.collection_reader.specs.Reading.{Reading, IsListSlot, IsEndSlot, StartsReading}
 use Rattle.collection_reader.specs.FirstFault.{head_fault}
 use Rattle.collection_model.specs.FormatNumbers.{FormatNumbers}
-use Rattle.collection_reader.specs.OneFile.{ReadsFrom}
+use Rattle.collection_reader.specs.OneFile.{StartsFrom}
 use Rattle.collection_reader.specs.OneSequence.{ReadsHead}
 use Rattle.collection_reader.specs.OneReader.{StartsFile, StartsFiles}
 use Rattle.collection_reader.proofs.SameAnswer.{same-fault}
-use Rattle.pef_io.proofs.OnlyReads.{OnlyReads-trans, OnlyReads-wider}
-use Rattle.collection_reader.proofs.ReadsFrom.{reads-then, reads-wider, answers-err}
+use Rattle.pef_io.proofs.OnlyReads.{OnlyReads-trans, OnlyReads-wider, NoneStartedTwice-same, NoneStartedTwice-then, NoneStartedTwice-start}
+use Rattle.collection_reader.proofs.ReadsFrom.{as-starts, starts-then, starts-wider, starts-err}
 
 -- the slots of a collection, and that they differ
 pub docs-is : (slot : Slot) → slot ≡ Docs → IsCollectionSlot slot
-docs-is slot is other = cc
+docs-is slot is = inl is
 
 pub freqs-is : (slot : Slot) → slot ≡ Freqs → IsCollectionSlot slot
-freqs-is slot is other = cc
+freqs-is slot is = inr (inl is)
 
 pub sizes-is : (slot : Slot) → slot ≡ Sizes → IsCollectionSlot slot
-sizes-is slot is other = cc
+sizes-is slot is = inr (inr is)
 
 pub docs-not_freqs : Docs ≡ Freqs → ⊥
 docs-not_freqs e = cc
@@ -60,42 +60,58 @@ pub sizes-last : (slot : Slot) → slot ≡ Sizes → IsEndSlot slot
 sizes-last slot is = inr is
 
 -- a refusal with all three started
-pub all-started : (old new : DepotState) (e : CollError) → AreStarted new → StartsInOrder old new e
+pub all-started : (old new : DepotState) (e : CollError) → WereStarted old new → StartsInOrder old new e
 all-started old new (Broken fault) started = started
 all-started old new (Read slot) started = inl started
 all-started old new NoMemory started = inl started
 
+read-not_want : (s : Slot) → (let r : Result (Unit {0}) CollError = Err (Read s) in r ≡ Err NoMemory) → ⊥
+read-not_want s h = cc
+
 -- the refusal of a start where the slots before are started, and those behind are as they were
 stopped : (old new : DepotState) (slot : Slot) (e : CollError) → ((fault : Fault) → (let r : Result (Unit {0}) CollError = Err e in r ≡ Err (Broken fault)) → ⊥)
-    → ((s : Slot) → (let r : Result (Unit {0}) CollError = Err e in r ≡ Err (Read s)) → s ≡ slot) → StopsAt old new slot → StartsInOrder old new e
-stopped old new slot (Broken fault) no_fault named stops = absurd (no_fault fault refl)
-stopped old new slot (Read s) no_fault named stops = inr (subst (λ x. StopsAt old new x) (sym (named s refl)) stops)
-stopped old new slot NoMemory no_fault named stops = inr (slot, stops)
+    → ((s : Slot) → (let r : Result (Unit {0}) CollError = Err e in r ≡ Err (Read s)) → s ≡ slot) → StopsAt old new slot
+    → (let r : Result (Unit {0}) CollError = Err e in (r ≡ Err NoMemory) ⊎ (new.starts slot ≡ one_more (old.starts slot))) → StartsInOrder old new e
+stopped old new slot (Broken fault) no_fault named stops once = absurd (no_fault fault refl)
+stopped old new slot (Read s) no_fault named stops once =
+    inr (subst (λ x. StopsAt old new x × (new.starts x ≡ one_more (old.starts x))) (sym (named s refl)) (stops, elim once [ inl h ↦ absurd (read-not_want s h) | inr o ↦ o ]))
+stopped old new slot NoMemory no_fault named stops once = inr (slot, stops)
 
 not-in_turn : (slot other : Slot) → turn slot < turn other → other ≡ slot → ⊥
 not-in_turn slot other lt e = omega (arith, lt, ap turn e)
 
-none-before : (new : DepotState) (slot : Slot) → turn slot < 0 → IsTrue (new.started slot)
-none-before new slot lt = absurd (omega (arith, lt))
+-- what is known of the slots before
+none-before : (P : Slot → Type 0) (slot : Slot) → turn slot < 0 → P slot
+none-before P slot lt = absurd (omega (arith, lt))
 
-docs-before : (new : DepotState) (slot : Slot) → IsTrue (new.started Docs) → turn slot < 1 → IsTrue (new.started slot)
-docs-before new Docs docs lt = docs
-docs-before new Freqs docs lt = absurd (omega (arith, lt))
-docs-before new Sizes docs lt = absurd (omega (arith, lt))
-docs-before new Index docs lt = absurd (omega (arith, lt))
+docs-before : (P : Slot → Type 0) (slot : Slot) → P Docs → turn slot < 1 → P slot
+docs-before P Docs docs lt = docs
+docs-before P Freqs docs lt = absurd (omega (arith, lt))
+docs-before P Sizes docs lt = absurd (omega (arith, lt))
+docs-before P Index docs lt = absurd (omega (arith, lt))
+docs-before P Side docs lt = absurd (omega (arith, lt))
+docs-before P Map docs lt = absurd (omega (arith, lt))
 
-two-before : (new : DepotState) (slot : Slot) → IsTrue (new.started Docs) → IsTrue (new.started Freqs) → turn slot < 2 → IsTrue (new.started slot)
-two-before new Docs docs freqs lt = docs
-two-before new Freqs docs freqs lt = freqs
-two-before new Sizes docs freqs lt = absurd (omega (arith, lt))
-two-before new Index docs freqs lt = absurd (omega (arith, lt))
+two-before : (P : Slot → Type 0) (slot : Slot) → P Docs → P Freqs → turn slot < 2 → P slot
+two-before P Docs docs freqs lt = docs
+two-before P Freqs docs freqs lt = freqs
+two-before P Sizes docs freqs lt = absurd (omega (arith, lt))
+two-before P Index docs freqs lt = absurd (omega (arith, lt))
+two-before P Side docs freqs lt = absurd (omega (arith, lt))
+two-before P Map docs freqs lt = absurd (omega (arith, lt))
+
+-- what is known of a slot before this one
+abbrev WasStarted : DepotState → DepotState → Slot → Type 0
+WasStarted old new slot = IsTrue (new.started slot) × (new.starts slot ≡ one_more (old.starts slot))
 
 -- calls on this slot and those before it leave those behind it as they were
-stops-at : {a b : DepotState} (slot : Slot) → ((earlier : Slot) → turn earlier < turn slot → IsTrue (b.started earlier)) → OnlyReads (λ s. turn s ≤ turn slot) a b → StopsAt a b slot
+stops-at : {a b : DepotState} (slot : Slot) → ((earlier : Slot) → turn earlier < turn slot → WasStarted a b earlier) → OnlyReads (λ s. turn s ≤ turn slot) a b → StopsAt a b slot
 stops-at slot before reads = record {
-  before = before;
+  before = λ earlier lt. (before earlier lt).0;
   behind = λ later lt. reads.other_slots later (λ le. omega (arith, lt, le));
   counts_behind = λ later lt. reads.other_counts later (λ le. omega (arith, lt, le));
+  once_before = λ earlier lt. (before earlier lt).1;
+  starts_behind = λ later lt. reads.other_starts later (λ le. omega (arith, lt, le));
 }
 
 in-turn : (slot last : Slot) → turn slot ≤ turn last → (s : Slot) → s ≡ slot → turn s ≤ turn last
@@ -103,8 +119,8 @@ in-turn slot last le s e = omega (arith, le, ap turn e)
 
 -- the answer is a failed call, after calls that did not fail
 start_refused : (base : List ℕ) (a b : DepotState) (e : CollError) → ((fault : Fault) → (let r : Result (Unit {0}) CollError = Err e in r ≡ Err (Broken fault)) → ⊥)
-    → (let r : Result (Unit {0}) CollError = Err e in ReadsFrom IsCollectionSlot a b r) → StartsInOrder a b e → StartsFiles base a b (Err e)
-start_refused base a b e no_fault reads order = record {
+    → (let r : Result (Unit {0}) CollError = Err e in StartsFrom IsCollectionSlot a b r) → StartsInOrder a b e → NoneStartedTwice a b → StartsFiles base a b (Err e)
+start_refused base a b e no_fault reads order twice = record {
   started = tt;
   docs = λ t. tt;
   freqs = λ t. tt;
@@ -112,20 +128,57 @@ start_refused base a b e no_fault reads order = record {
   no_fault = no_fault;
   depot = reads;
   in_order = order;
+  started_once = tt;
+  none_twice = twice;
 }
 
+-- one file after another, none of them twice
+docs-twice : (docs : List ℕ) (a b : DepotState) (r : Result (Unit {0}) CollError) → StartsFile Docs docs a b r → NoneStartedTwice a b
+docs-twice docs a b r one = NoneStartedTwice-start a a b Docs (NoneStartedTwice-same a) refl one.depot.only one.not_twice
+
+freqs-twice : (docs freqs : List ℕ) (a b c : DepotState) (r : Result (Unit {0}) CollError) → StartsFile Docs docs a b (Ok tt) → StartsFile Freqs freqs b c r → NoneStartedTwice a c
+freqs-twice docs freqs a b c r one two = NoneStartedTwice-start a b c Freqs (docs-twice docs a b (Ok tt) one) (one.depot.only.other_starts Freqs freqs-not_docs) two.depot.only two.not_twice
+
+sizes-twice : (docs freqs sizes : List ℕ) (a b c d : DepotState) (r : Result (Unit {0}) CollError) → StartsFile Docs docs a b (Ok tt) → StartsFile Freqs freqs b c (Ok tt) → StartsFile Sizes sizes c d r → NoneStartedTwice a d
+sizes-twice docs freqs sizes a b c d r one two three =
+    NoneStartedTwice-start a c d Sizes (freqs-twice docs freqs a b c (Ok tt) one two) (two.depot.only.other_starts Sizes sizes-not_freqs ∙ one.depot.only.other_starts Sizes sizes-not_docs) three.depot.only three.not_twice
+
+-- a file that was started is started once
+once-at_ok : (slot : Slot) (name : List ℕ) (a b : DepotState) → StartsFile slot name a b (Ok tt) → b.starts slot ≡ one_more (a.starts slot)
+once-at_ok slot name a b one = elim one.started_once [ inl h ↦ absurd (ok-not_want h) | inr o ↦ o ]
+  where
+    ok-not_want : (let r : Result (Unit {0}) CollError = Ok tt in r ≡ Err NoMemory) → ⊥
+    ok-not_want h = cc
+
+-- as long as the slots behind it are started
+docs-once : (docs freqs : List ℕ) (a b c : DepotState) (r : Result (Unit {0}) CollError) → StartsFile Docs docs a b (Ok tt) → StartsFile Freqs freqs b c r → WasStarted a c Docs
+docs-once docs freqs a b c r one two = (two.depot.only.stay_started Docs one.started, two.depot.only.other_starts Docs docs-not_freqs ∙ once-at_ok Docs docs a b one)
+
+docs-still_once : (sizes : List ℕ) (a c d : DepotState) (r : Result (Unit {0}) CollError) → WasStarted a c Docs → StartsFile Sizes sizes c d r → WasStarted a d Docs
+docs-still_once sizes a c d r before three = (three.depot.only.stay_started Docs before.0, three.depot.only.other_starts Docs docs-not_sizes ∙ before.1)
+
+freqs-once : (docs freqs sizes : List ℕ) (a b c d : DepotState) (r : Result (Unit {0}) CollError) → StartsFile Docs docs a b (Ok tt) → StartsFile Freqs freqs b c (Ok tt) → StartsFile Sizes sizes c d r → WasStarted a d Freqs
+freqs-once docs freqs sizes a b c d r one two three = (
+  three.depot.only.stay_started Freqs two.started,
+  three.depot.only.other_starts Freqs freqs-not_sizes ∙ once-at_ok Freqs freqs b c two ∙ ap one_more (one.depot.only.other_starts Freqs freqs-not_docs),
+)
+
+-- a refusal names its slot, which was started once
 pub docs_refused : (base docs : List ℕ) (a b : DepotState) (e : CollError) → StartsFile Docs docs a b (Err e) → StartsFiles base a b (Err e)
 docs_refused base docs a b e one =
-    start_refused base a b e one.no_fault (reads-wider docs-is one.depot)
+    start_refused base a b e one.no_fault (starts-wider docs-is one.depot)
     (stopped a b Docs e one.no_fault (λ s h. (one.depot.read_only_where_it_rose s h).0)
-    (stops-at Docs (none-before b) (OnlyReads-wider (in-turn Docs Docs (omega arith)) one.depot.only)))
+    (stops-at Docs (none-before (WasStarted a b)) (OnlyReads-wider (in-turn Docs Docs (omega arith)) one.depot.only)) one.started_once)
+    (docs-twice docs a b (Err e) one)
 
 pub freqs_refused : (base docs freqs : List ℕ) (a b c : DepotState) (e : CollError) → StartsFile Docs docs a b (Ok tt) → StartsFile Freqs freqs b c (Err e) → StartsFiles base a c (Err e)
 freqs_refused base docs freqs a b c e one two =
-    start_refused base a c e two.no_fault (reads-then (reads-wider docs-is one.depot) (reads-wider freqs-is two.depot))
+    start_refused base a c e two.no_fault (starts-then (starts-wider docs-is one.depot) (starts-wider freqs-is two.depot))
     (stopped a c Freqs e two.no_fault (λ s h. (two.depot.read_only_where_it_rose s h).0)
-    (stops-at Freqs (λ s. docs-before c s (two.depot.only.stay_started Docs one.started))
-    (OnlyReads-trans (OnlyReads-wider (in-turn Docs Freqs (omega arith)) one.depot.only) (OnlyReads-wider (in-turn Freqs Freqs (omega arith)) two.depot.only))))
+    (stops-at Freqs (λ s. docs-before (WasStarted a c) s (docs-once docs freqs a b c (Err e) one two))
+    (OnlyReads-trans (OnlyReads-wider (in-turn Docs Freqs (omega arith)) one.depot.only) (OnlyReads-wider (in-turn Freqs Freqs (omega arith)) two.depot.only)))
+    (elim two.started_once [ inl h ↦ inl h | inr o ↦ inr (o ∙ ap one_more (one.depot.only.other_starts Freqs freqs-not_docs)) ]))
+    (freqs-twice docs freqs a b c (Err e) one two)
 
 -- the last file is started behind the other two
 pub all_started : (base : List ℕ) (a b c d : DepotState) (r : Result (Unit {0}) CollError) → StartsFile Docs (base ++ codes ".docs") a b (Ok tt) → StartsFile Freqs (base ++ codes ".freqs") b c (Ok tt)
@@ -134,14 +187,24 @@ all_started base a b c d (Err e) one two three =
     let p = one.depot.only in
     let q = two.depot.only in
     let s = three.depot.only in
-    start_refused base a d e three.no_fault (reads-then (reads-then (reads-wider docs-is one.depot) (reads-wider freqs-is two.depot)) (reads-wider sizes-is three.depot))
+    let docs = docs-still_once (base ++ codes ".sizes") a c d (Err e) (docs-once (base ++ codes ".docs") (base ++ codes ".freqs") a b c (Ok tt) one two) three in
+    let freqs = freqs-once (base ++ codes ".docs") (base ++ codes ".freqs") (base ++ codes ".sizes") a b c d (Err e) one two three in
+    start_refused base a d e three.no_fault (starts-then (starts-then (starts-wider docs-is one.depot) (starts-wider freqs-is two.depot)) (starts-wider sizes-is three.depot))
     (stopped a d Sizes e three.no_fault (λ s h. (three.depot.read_only_where_it_rose s h).0)
-    (stops-at Sizes (λ slot. two-before d slot (s.stay_started Docs (q.stay_started Docs one.started)) (s.stay_started Freqs two.started))
-    (OnlyReads-trans (OnlyReads-trans (OnlyReads-wider (in-turn Docs Sizes (omega arith)) p) (OnlyReads-wider (in-turn Freqs Sizes (omega arith)) q)) (OnlyReads-wider (in-turn Sizes Sizes (omega arith)) s))))
+    (stops-at Sizes (λ slot. two-before (WasStarted a d) slot docs freqs)
+    (OnlyReads-trans (OnlyReads-trans (OnlyReads-wider (in-turn Docs Sizes (omega arith)) p) (OnlyReads-wider (in-turn Freqs Sizes (omega arith)) q)) (OnlyReads-wider (in-turn Sizes Sizes (omega arith)) s)))
+    (elim three.started_once [ inl h ↦ inl h | inr o ↦ inr (o ∙ ap one_more (q.other_starts Sizes sizes-not_freqs ∙ p.other_starts Sizes sizes-not_docs)) ]))
+    (sizes-twice (base ++ codes ".docs") (base ++ codes ".freqs") (base ++ codes ".sizes") a b c d (Err e) one two three)
 all_started base a b c d (Ok x) one two three =
     let p = one.depot.only in
     let q = two.depot.only in
     let s = three.depot.only in
+    let docs_name = base ++ codes ".docs" in
+    let freqs_name = base ++ codes ".freqs" in
+    let sizes_name = base ++ codes ".sizes" in
+    let docs_once = docs-still_once sizes_name a c d (Ok x) (docs-once docs_name freqs_name a b c (Ok tt) one two) three in
+    let freqs_once = freqs-once docs_name freqs_name sizes_name a b c d (Ok x) one two three in
+    let sizes_once = once-at_ok Sizes sizes_name c d three ∙ ap one_more (q.other_starts Sizes sizes-not_freqs ∙ p.other_starts Sizes sizes-not_docs) in
     record {
       started = record {
         docs = s.stay_started Docs (q.stay_started Docs one.started);
@@ -161,9 +224,16 @@ all_started base a b c d (Ok x) one two three =
           let v = q.tells ∙ u in
           three.whole_file v ∙ ap (λ f. unwrap_or f []) (q.files u (base ++ codes ".sizes") ∙ p.files t (base ++ codes ".sizes"));
       no_fault = three.no_fault;
-      depot = reads-then (reads-then (reads-wider docs-is one.depot) (reads-wider freqs-is two.depot)) (reads-wider sizes-is three.depot);
+      depot = starts-then (starts-then (starts-wider docs-is one.depot) (starts-wider freqs-is two.depot)) (starts-wider sizes-is three.depot);
       in_order = tt;
+      started_once = λ slot is. all-once a d docs_once.1 freqs_once.1 sizes_once slot is;
+      none_twice = sizes-twice docs_name freqs_name sizes_name a b c d (Ok x) one two three;
     }
+  where
+    all-once : (a d : DepotState) → d.starts Docs ≡ one_more (a.starts Docs) → d.starts Freqs ≡ one_more (a.starts Freqs) → d.starts Sizes ≡ one_more (a.starts Sizes) → StartedOnce IsCollectionSlot a d
+    all-once a d docs freqs sizes slot (inl is) = ap d.starts is ∙ docs ∙ ap (λ s. one_more (a.starts s)) (sym is)
+    all-once a d docs freqs sizes slot (inr (inl is)) = ap d.starts is ∙ freqs ∙ ap (λ s. one_more (a.starts s)) (sym is)
+    all-once a d docs freqs sizes slot (inr (inr is)) = ap d.starts is ∙ sizes ∙ ap (λ s. one_more (a.starts s)) (sym is)
 
 -- a refusal before or in the head
 pub reading_refused : (format : FormatNumbers) (base : List ℕ) (a b : DepotState) (e : CollError) → StartsFiles base a b (Err e) → StartsReading format a b base (Err e)
@@ -177,15 +247,17 @@ reading_refused format base a b e starts = record {
   freqs_rest = λ t. tt;
   sizes_rest = λ t. tt;
   first_fault = λ t fault h. absurd (starts.no_fault fault (same-fault {A = Reading} {B = Unit {0}} e fault h));
-  read_only_where_it_rose = λ slot h. (answers-err {A = Unit {0}} {B = Reading} e starts.depot).read_only_where_it_rose slot h;
-  depot = record { count_rises_only_there = (answers-err {A = Unit {0}} {B = Reading} e starts.depot).count_rises_only_there; reads = starts.depot.only };
+  read_only_where_it_rose = λ slot h. (starts-err {A = Unit {0}} {B = Reading} e starts.depot).read_only_where_it_rose slot h;
+  depot = record { count_rises_only_there = (starts-err {A = Unit {0}} {B = Reading} e starts.depot).count_rises_only_there; reads = starts.depot.only; refusals_rise_only_there = (starts-err {A = Unit {0}} {B = Reading} e starts.depot).refusals_rise_only_there };
   in_order = starts.in_order;
   fault_term = λ fault h. absurd (starts.no_fault fault (same-fault {A = Reading} {B = Unit {0}} e fault h));
+  started_once = tt;
+  none_twice = starts.none_twice;
 }
 
 pub head_refused : (format : FormatNumbers) (base held : List ℕ) (a b c : DepotState) (e : CollError) → StartsFiles base a b (Ok tt) → ReadsHead format [] held b c (Err e) → StartsReading format a c base (Err e)
 head_refused format base held a b c e starts head =
-    let reads = reads-then starts.depot (reads-wider docs-is (answers-err {A = ℕ} {B = Reading} e head.depot)) in
+    let reads = starts-then starts.depot (starts-wider docs-is (starts-err {A = ℕ} {B = Reading} e (as-starts head.depot))) in
     record {
       started = tt;
       limits = tt;
@@ -197,11 +269,16 @@ head_refused format base held a b c e starts head =
       sizes_rest = λ t. tt;
       first_fault = λ t fault h. ap (λ bytes. head_fault format bytes) (sym (starts.docs t)) ∙ head.first_fault (starts.depot.only.tells ∙ t) fault (same-fault {A = Reading} {B = ℕ} e fault h);
       read_only_where_it_rose = reads.read_only_where_it_rose;
-      depot = record { count_rises_only_there = reads.count_rises_only_there; reads = reads.only };
+      depot = record { count_rises_only_there = reads.count_rises_only_there; reads = reads.only; refusals_rise_only_there = reads.refusals_rise_only_there };
       in_order = all-started a c e (record {
-        docs = head.depot.only.stay_started Docs starts.started.docs;
-        freqs = head.depot.only.stay_started Freqs starts.started.freqs;
-        sizes = head.depot.only.stay_started Sizes starts.started.sizes;
+        started = record {
+          docs = head.depot.only.stay_started Docs starts.started.docs;
+          freqs = head.depot.only.stay_started Freqs starts.started.freqs;
+          sizes = head.depot.only.stay_started Sizes starts.started.sizes;
+        };
+        once = λ slot is. head.depot.starts slot ∙ starts.started_once slot is;
       });
       fault_term = λ fault h. head.fault_term fault (same-fault {A = Reading} {B = ℕ} e fault h);
+      started_once = tt;
+      none_twice = NoneStartedTwice-then a b c starts.none_twice head.depot.starts;
     }

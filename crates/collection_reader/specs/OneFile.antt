@@ -4,7 +4,7 @@ use Rattle.pef_io.specs.declared.fail.IoFail.{IoFail}
 use Rattle.pef_io.specs.declared.fail.IoFail.TheVariants.{Failed, NoMemory}
 use Rattle.pef_io.specs.declared.fail.Slot.{Slot}
 use Rattle.pef_io.specs.Calls.{Rose}
-use Rattle.pef_io.specs.DepotState.{DepotState, OnlyReads}
+use Rattle.pef_io.specs.DepotState.{DepotState, SameStarts, OnlyReads}
 use Rattle.collection_reader.specs.declared.fault.Rule.TheVariants.{C1}
 use Rattle.collection_reader.specs.declared.fault.Fault.{Fault}
 use Rattle.collection_reader.specs.declared.fault.CollError.{CollError}
@@ -25,11 +25,20 @@ abbrev pub call_error : Slot → IoFail → CollError
 call_error slot Failed = Read slot
 call_error slot NoMemory = reading.NoMemory
 
--- Only these slots are read. A read fault comes only where that slot's count rose, and a count rises only there.
+-- Only these slots are started or read. A read fault comes only where that slot's count rose, and a count rises only there; that of refusals rises only at want of memory.
+pub record StartsFrom {A : Type 0} (touched : Slot → Type 0) (old new : DepotState) (result : Result A CollError) : Type 0 where
+  pub only : OnlyReads touched old new
+  pub count_rises_only_there : (slot : Slot) → (result ≡ Err (Read slot)) ⊎ (new.faults slot ≡ old.faults slot)
+  pub read_only_where_it_rose : (slot : Slot) → result ≡ Err (Read slot) → touched slot × Rose (old.faults slot) (new.faults slot)
+  pub refusals_rise_only_there : (result ≡ Err reading.NoMemory) ⊎ (new.refusals ≡ old.refusals)
+
+-- The same, where none is started.
 pub record ReadsFrom {A : Type 0} (touched : Slot → Type 0) (old new : DepotState) (result : Result A CollError) : Type 0 where
   pub only : OnlyReads touched old new
   pub count_rises_only_there : (slot : Slot) → (result ≡ Err (Read slot)) ⊎ (new.faults slot ≡ old.faults slot)
   pub read_only_where_it_rose : (slot : Slot) → result ≡ Err (Read slot) → touched slot × Rose (old.faults slot) (new.faults slot)
+  pub refusals_rise_only_there : (result ≡ Err reading.NoMemory) ⊎ (new.refusals ≡ old.refusals)
+  pub starts : SameStarts old new
 
 -- Whether a byte is left. What is left stays as it is.
 pub record LooksAhead (slot : Slot) (held held_after : List ℕ) (old new : DepotState) (result : Result Bool CollError) : Type 0 where

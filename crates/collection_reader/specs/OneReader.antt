@@ -1,23 +1,26 @@
-use Rattle.std.specs.Prelude.{◌≡◌, ℕ, Bool, true, false, IsTrue, List, [], length, Result, Ok, Err, IfErr, OnOk, OnErr, Some}
+use Rattle.std.specs.Prelude.{◌≡◌, ℕ, ◌≤◌, ◌⊎◌, Bool, true, false, IsTrue, List, [], length, Result, Ok, Err, IfErr, OnOk, OnErr, Some}
 use Rattle.collection_model.specs.Bytes.{number_sequence}
 use Rattle.pef_io.specs.declared.fail.Slot.{Slot}
 use Rattle.pef_io.specs.declared.fail.Slot.TheVariants.{Docs, Freqs, Sizes}
-use Rattle.pef_io.specs.DepotState.{DepotState, OnlyReads, bytes_under}
+use Rattle.pef_io.specs.Calls.{one_more}
+use Rattle.pef_io.specs.DepotState.{DepotState, SameStarts, StartedOnce, NoneStartedTwice, OnlyReads, bytes_under}
 use Rattle.collection_reader.specs.declared.fault.Fault.{Fault}
 use Rattle.collection_reader.specs.declared.fault.CollError.{CollError}
-use Rattle.collection_reader.specs.declared.fault.CollError.TheVariants.{Broken}
+use Rattle.collection_reader.specs.declared.fault.CollError.TheVariants.{Broken, NoMemory}
 use Rattle.collection_reader.specs.FirstFault.{end_fault}
-use Rattle.collection_reader.specs.Starting.{AreStarted, StartsInOrder}
-use Rattle.collection_reader.specs.ReadCollection.{files_at, IsCollectionSlot}
+use Rattle.collection_reader.specs.Starting.{IsCollectionSlot, AreStarted, StartsInOrder}
+use Rattle.collection_reader.specs.ReadCollection.{files_at}
 use Rattle.collection_reader.specs.Reading.{Reading, rests, IsListSlot, IsEndSlot, IsNextFault, GivesList, EndsLists}
-use Rattle.collection_reader.specs.OneFile.{ReadsFrom}
+use Rattle.collection_reader.specs.OneFile.{StartsFrom, ReadsFrom}
 
 -- One file is started under this name.
 pub record StartsFile (slot : Slot) (name : List ℕ) (old new : DepotState) (result : Result (Unit {0}) CollError) : Type 0 where
   pub started : OnOk result (IsTrue (new.started slot))
   pub whole_file : IsTrue old.tells → OnOk result (new.left slot ≡ bytes_under old name)
   pub no_fault : (fault : Fault) → result ≡ Err (Broken fault) → ⊥
-  pub depot : ReadsFrom (λ s. s ≡ slot) old new result
+  pub depot : StartsFrom (λ s. s ≡ slot) old new result
+  pub started_once : (result ≡ Err NoMemory) ⊎ (new.starts slot ≡ one_more (old.starts slot))
+  pub not_twice : new.starts slot ≤ one_more (old.starts slot)
 
 -- The three files of a collection are started.
 pub record StartsFiles (base : List ℕ) (old new : DepotState) (result : Result (Unit {0}) CollError) : Type 0 where
@@ -26,8 +29,10 @@ pub record StartsFiles (base : List ℕ) (old new : DepotState) (result : Result
   pub freqs : IsTrue old.tells → OnOk result (new.left Freqs ≡ (files_at old base).freqs)
   pub sizes : IsTrue old.tells → OnOk result (new.left Sizes ≡ (files_at old base).sizes)
   pub no_fault : (fault : Fault) → result ≡ Err (Broken fault) → ⊥
-  pub depot : ReadsFrom IsCollectionSlot old new result
+  pub depot : StartsFrom IsCollectionSlot old new result
   pub in_order : IfErr result (StartsInOrder old new)
+  pub started_once : OnOk result (StartedOnce IsCollectionSlot old new)
+  pub none_twice : NoneStartedTwice old new
 
 -- The next list is tried, by a reader that keeps no refusal yet.
 pub record TriesList (old new : Reading) (before after : DepotState) (docs freqs : List ℕ) (result : Result Bool CollError) : Type 0 where

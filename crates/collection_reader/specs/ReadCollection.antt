@@ -1,24 +1,20 @@
-use Rattle.std.specs.Prelude.{◌≡◌, ◌≢◌, ◌⊎◌, ℕ, List, ◌++◌, IsTrue, codes, Some, Result, Ok, Err, IfOk, IfErr}
+use Rattle.std.specs.Prelude.{◌≡◌, ◌≢◌, ◌⊎◌, ℕ, List, ◌++◌, IsTrue, codes, Some, Result, Ok, Err, IfOk, IfErr, OnOk}
 use Rattle.collection_model.specs.FormatNumbers.{FormatNumbers}
 use Rattle.collection_model.specs.Collection.{Collection, WellFormed}
 use Rattle.collection_model.specs.Spelling.{Files, spelled}
 use Rattle.pef_io.specs.declared.fail.Slot.{Slot}
-use Rattle.pef_io.specs.declared.fail.Slot.TheVariants.{Index}
 use Rattle.pef_io.specs.Calls.{Rose}
-use Rattle.pef_io.specs.DepotState.{DepotState, OnlyReads, bytes_under}
+use Rattle.pef_io.specs.DepotState.{DepotState, StartedOnce, NoneStartedTwice, OnlyReads, bytes_under}
 use Rattle.collection_reader.specs.declared.fault.Fault.{Fault}
 use Rattle.collection_reader.specs.declared.fault.CollError.{CollError}
-use Rattle.collection_reader.specs.declared.fault.CollError.TheVariants.{Broken, Read}
+use Rattle.collection_reader.specs.declared.fault.CollError.TheVariants.{Broken, Read, NoMemory}
 use Rattle.collection_reader.specs.FirstFault.{IsFirstFault}
 use Rattle.collection_reader.specs.Starting.{StartsInOrder}
+pub use Rattle.collection_reader.specs.Starting.{IsCollectionSlot}
 
 -- the bytes of the three files of a collection in a depot
 abbrev pub files_at : DepotState → List ℕ → Files
 files_at depot base = record { docs = bytes_under depot (base ++ codes ".docs"); freqs = bytes_under depot (base ++ codes ".freqs"); sizes = bytes_under depot (base ++ codes ".sizes") }
-
--- the three slots from which a collection is read
-abbrev pub IsCollectionSlot : Slot → Type 0
-IsCollectionSlot slot = slot ≢ Index
 
 -- What reading a collection with the limits of a format gives. Its answer is the collection that the files spell, or their first fault, or a failed call.
 pub record ReadsCollection (format : FormatNumbers) (old new : DepotState) (base : List ℕ) (result : Result Collection CollError) : Type 0 where
@@ -31,3 +27,6 @@ pub record ReadsCollection (format : FormatNumbers) (old new : DepotState) (base
   pub count_rises_only_there : (slot : Slot) → (result ≡ Err (Read slot)) ⊎ (new.faults slot ≡ old.faults slot)
   pub reads : OnlyReads IsCollectionSlot old new
   pub in_order : IfErr result (StartsInOrder old new)
+  pub started_once : OnOk result (StartedOnce IsCollectionSlot old new)
+  pub none_twice : NoneStartedTwice old new
+  pub refusals_rise_only_there : (result ≡ Err NoMemory) ⊎ (new.refusals ≡ old.refusals)

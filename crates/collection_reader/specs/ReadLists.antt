@@ -4,7 +4,7 @@ use Rattle.collection_model.specs.FormatNumbers.{FormatNumbers, most_terms}
 use Rattle.collection_model.specs.Collection.{Posting, IsPostingList}
 use Rattle.collection_model.specs.Spelling.{Files, docs_bytes, freqs_bytes}
 use Rattle.pef_io.specs.declared.fail.Slot.{Slot}
-use Rattle.pef_io.specs.DepotState.{DepotState, OnlyReads}
+use Rattle.pef_io.specs.DepotState.{DepotState, SameStarts, OnlyReads}
 use Rattle.collection_reader.specs.declared.fault.Fault.{Fault}
 use Rattle.collection_reader.specs.declared.fault.CollError.{CollError}
 use Rattle.collection_reader.specs.declared.fault.CollError.TheVariants.{Broken, Read}
@@ -33,6 +33,8 @@ pub record HaveBeenRead (first now : Reading) (before after : DepotState) (lists
   pub sizes_rest : IsTrue before.tells → (rests now after).sizes ≡ (rests first before).sizes
   pub no_fault : (slot : Slot) → after.faults slot ≡ before.faults slot
   pub reads : OnlyReads IsCollectionSlot before after
+  pub starts : SameStarts before after
+  pub no_refusal : after.refusals ≡ before.refusals
 
 -- The fault is in the list behind some well-formed ones.
 pub record IsFaultBehindLists (format : FormatNumbers) (n : ℕ) (files : Files) (fault : Fault) : Type 0 where
@@ -54,3 +56,4 @@ pub record ReadsLists (first now : Reading) (before after : DepotState) (result 
   pub first_fault : IsTrue before.tells → (fault : Fault) → result ≡ Err (Broken fault) → IsFaultBehindLists first.format first.documents (rests first before) fault
   pub read_only_where_it_rose : (slot : Slot) → result ≡ Err (Read slot) → IsReadFault before after slot
   pub depot : OnlyReadsCollection before after result
+  pub starts : SameStarts before after

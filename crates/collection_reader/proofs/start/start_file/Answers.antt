@@ -1,0 +1,12 @@
+use Rattle.std.proofs.Common.{rules, arith, inr}
+use Rattle.collection_reader.proofs.start.start_file.Goals as goal
+
+pub returns : goal.returns
+returns g c = record {
+  started = tt;
+  whole_file = λ t. tt;
+  no_fault = search rules;
+  depot = search rules;
+  started_once = inr c.start.ensures.start_count;
+  not_twice = omega (arith, c.start.ensures.start_count);
+}
