@@ -1,9 +1,9 @@
 -- Lemmas on top lists.
 use Rattle.std.proofs.Common.{inl, inr, ◌≡◌, refl, sym, ap, ◌∙◌, subst, ℕ, zero, suc, ◌+◌, ◌-◌, ◌<◌, ◌≤◌, ◌^◌, true, false, min, List, [], ◌∷◌, ◌++◌, map, take, reverse, length, get_or, arith}
-use Rattle.std.specs.Prelude.{Contains, AllPairs}
+use Rattle.std.specs.Prelude.{Contains, AllPairs, ◌↔◌}
 use Rattle.std.specs.List.{All, list_any}
 use Rattle.std.proofs.lemmas.Bool.{cases_lt, false_from_ne_true}
-use Rattle.std.proofs.lemmas.List.{length-map, length-reverse, reverse-append}
+use Rattle.std.proofs.lemmas.List.{get_or_default, length-map, length-reverse, reverse-append}
 use Rattle.std.proofs.lemmas.List.Elements.{All-contains, All-nil}
 use Rattle.std.proofs.lemmas.List.Sorted.{IsPermutation-reverse, IsPermutation-sym, Contains-permutation}
 use Rattle.collection_model.specs.Collection.{Posting}
@@ -212,14 +212,59 @@ offered-passed first at s bar scores old now within is low (inr full) so_far =
       }
     ]
 
--- behind the places that were reached no list has a document
-pub offered-all : (first reached : ℕ) (scores : List ℕ) (old now : Ranking) → reached ≤ length scores → ((k : ℕ) → reached ≤ k → k < length scores → get_or scores k 0 ≡ 0) → IsOffered first reached scores old now
-    → (lists : List (List Posting)) (weights : List ℕ) → AreScored lists weights first scores → IsBest old.k lists weights (in_any first lists) old.held → IsBest old.k lists weights (in_any (first + length scores) lists) now.held
-offered-all first reached scores old now within behind so_far lists weights are best =
-    let none : (e : ℕ) → first + reached ≤ e → e < first + length scores → list_any (has_doc e) lists ≡ false = λ e from lt.
-    let k : ℕ = e - first in
-    let is : first + k ≡ e = omega arith in
-    let zero = behind k (omega arith) (omega arith) in
-    subst (λ (d : ℕ). list_any (has_doc d) lists ≡ false) is
-    (false_from_ne_true (list_any (has_doc (first + k)) lists) (λ has. let above = (are.found k (omega arith)).1 has in absurd (omega arith))) in
-    subst (λ (docs : List ℕ). IsBest old.k lists weights docs now.held) (sym (filter-skip (λ d. list_any (has_doc d) lists) (first + reached) (first + length scores) (omega arith) none)) (so_far.best lists weights are best)
+-- no list has a document whose score is 0
+pub offered-skip : (first at to : ℕ) (scores : List ℕ) (old now : Ranking) → at ≤ to → to ≤ length scores → ((k : ℕ) → at ≤ k → k < to → get_or scores k 0 ≡ 0) → IsOffered first at scores old now → IsOffered first to scores old now
+offered-skip first at to scores old now le within none_there so_far = record {
+  k = so_far.k;
+  n = so_far.n;
+  above = λ i x inside. let h = so_far.above i x inside in omega arith;
+  best = λ lists weights are best.
+      let none : (e : ℕ) → first + at ≤ e → e < first + to → list_any (has_doc e) lists ≡ false = λ e from lt.
+      let k : ℕ = e - first in
+      let is : first + k ≡ e = omega arith in
+      let nothing = none_there k (omega arith) (omega arith) in
+      subst (λ (d : ℕ). list_any (has_doc d) lists ≡ false) is
+      (false_from_ne_true (list_any (has_doc (first + k)) lists) (λ has. let above = (are.found k (omega arith)).1 has in absurd (omega arith))) in
+      subst (λ (docs : List ℕ). IsBest old.k lists weights docs now.held) (sym (filter-skip (λ d. list_any (has_doc d) lists) (first + at) (first + to) (omega arith) none)) (so_far.best lists weights are best);
+  bound = so_far.bound;
+}
+
+-- some of the scores of a window, from a place on
+pub record IsPiece (from n : ℕ) (scores piece : List ℕ) : Type 0 where
+  pub count : length piece ≡ n
+  pub within : from + n ≤ length scores
+  pub same : (k : ℕ) → k < n → get_or piece k 0 ≡ get_or scores (from + k) 0
+
+pub scored-piece : (lists : List (List Posting)) (weights : List ℕ) (first base from n : ℕ) (scores piece : List ℕ) → base ≡ first + from → IsPiece from n scores piece → AreScored lists weights first scores → AreScored lists weights base piece
+scored-piece lists weights first base from n scores piece start is are =
+    let count = is.count in
+    let within = is.within in
+    record {
+      scored = λ k inside.
+          let doc : first + (from + k) ≡ base + k = omega arith in
+          is.same k (omega arith) ∙ are.scored (from + k) (omega arith) ∙ ap (score lists weights) doc;
+      found = λ k inside.
+          let doc : first + (from + k) ≡ base + k = omega arith in
+          subst (λ (d : ℕ). (0 < get_or piece k 0) ↔ (list_any (has_doc d) lists ≡ true)) doc
+          (subst (λ (s : ℕ). (0 < s) ↔ (list_any (has_doc (first + (from + k))) lists ≡ true)) (sym (is.same k (omega arith))) (are.found (from + k) (omega arith)));
+    }
+
+-- those of a word were offered
+pub offered-word : (first base at to : ℕ) (scores piece : List ℕ) (old now new : Ranking) → base ≡ first + at → at + 64 ≡ to → IsPiece at 64 scores piece → new.k ≡ now.k → new.n ≡ now.n → All (λ (e : Pair). e.0 < base + 64) new.held
+    → ((lists : List (List Posting)) (weights : List ℕ) → AreScored lists weights base piece → IsBest now.k lists weights (in_any base lists) now.held → IsBest now.k lists weights (in_any (base + 64) lists) new.held)
+    → (All (λ s. s < 2 ^ 58) piece → All (λ (e : Pair). e.1 < 2 ^ 58) now.held → All (λ (e : Pair). e.1 < 2 ^ 58) new.held) → IsOffered first at scores old now → IsOffered first to scores old new
+offered-word first base at to scores piece old now new start end is k n above best bound so_far =
+    let next : base + 64 ≡ first + to = omega arith in
+    let within = is.within in
+    let count = is.count in
+    record {
+      k = k ∙ so_far.k;
+      n = n ∙ so_far.n;
+      above = subst (λ (d : ℕ). All (λ (e : Pair). e.0 < d) new.held) next above;
+      best = λ lists weights are held.
+          let before = so_far.best lists weights are held in
+          let here : IsBest now.k lists weights (in_any base lists) now.held = subst (λ (d : ℕ). IsBest now.k lists weights (in_any d lists) now.held) (sym start) (subst (λ (m : ℕ). IsBest m lists weights (in_any (first + at) lists) now.held) (sym so_far.k) before) in
+          let after = best lists weights (scored-piece lists weights first base at 64 scores piece start is are) here in
+          subst (λ (d : ℕ). IsBest old.k lists weights (in_any d lists) new.held) next (subst (λ (m : ℕ). IsBest m lists weights (in_any (base + 64) lists) new.held) so_far.k after);
+      bound = λ small held. bound (λ i d inside. subst (λ (s : ℕ). s < 2 ^ 58) (sym (get_or_default piece i d 0 inside ∙ is.same i (omega arith))) (small (at + i) 0 (omega arith))) (so_far.bound small held);
+    }

@@ -7,7 +7,7 @@ ghost use Rattle.scan_plans.specs.Matches.{AreBelow, in_all, in_any};
 ghost use Rattle.scan_plans.specs.Window.{AreMarked, IsMarkedWord, is_marked};
 
 use crate::scan::{least_doc, next_shared};
-use crate::window::{Block, doc_in, mark_lists, new_marks};
+use crate::window::{Block, MARKED_WORDS, mark_lists, new_marks};
 use cursor_api::DocCursor;
 use no_memory::NoMemory;
 use std::alloc::Global;
@@ -48,7 +48,7 @@ pub fn or_docs<C: DocCursor>(alloc: Global, cursors: &mut [C]) -> Result<Vec<u32
     ensures { (n : ℕ) → AreBelow n (map C.list cursors.old) → IfOk result (λ r. r.items ≡ in_any n (map C.list cursors.old)) }
 {
     let mut docs = Vec::new(alloc);
-    let mut buffer = new_marks(alloc)?;
+    let mut buffer = new_marks(alloc, MARKED_WORDS)?;
     let marks = buffer.as_mut_slice();
     let mut block = Block::new();
     while let Some(first) = least_doc(cursors) {

@@ -1,14 +1,15 @@
-ghost use Rattle.std.specs.Prelude.{◌≡◌, ℕ, ◌+◌, ◌≤◌, ◌<◌, ◌^◌, List, map, length, slice_index, sum, IfOk};
+ghost use Rattle.std.specs.Prelude.{◌≡◌, ℕ, ◌+◌, ◌*◌, ◌≤◌, ◌<◌, ◌^◌, false, List, map, length, slice_index, sum, IfOk};
+ghost use Rattle.std.specs.Int.{bit_at};
 ghost use Rattle.std.specs.List.{All};
 ghost use Rattle.collection_model.specs.Collection.{Posting};
 ghost use Rattle.scan_plans.specs.Matches.{AreBelow, in_any};
 ghost use Rattle.scan_plans.specs.IsTop.{IsTop};
 ghost use Rattle.scan_plans.specs.Best.{IsBest, IsBar};
-ghost use Rattle.scan_plans.specs.Window.{AreScored};
+ghost use Rattle.scan_plans.specs.Window.{AreScored, is_marked};
 
 use crate::TopK;
 use crate::scan::least_doc;
-use crate::window::{Block, add_lists, doc_in, new_scores};
+use crate::window::{Block, add_lists, new_marks, new_scores, scored_words};
 use cursor_api::DocCursor;
 use no_memory::NoMemory;
 use std::alloc::Global;
@@ -36,21 +37,26 @@ pub fn top_exhaustive<C: DocCursor>(
         return Ok(Vec::new(alloc));
     }
     let mut top = TopK::new(alloc, k, n)?;
-    let mut buffer = new_scores(alloc)?;
-    let scores = buffer.as_mut_slice();
+    let words = scored_words(n);
+    let mut score_buffer = new_scores(alloc, words)?;
+    let mut mark_buffer = new_marks(alloc, words)?;
+    let scores = score_buffer.as_mut_slice();
+    let marks = mark_buffer.as_mut_slice();
     let mut block = Block::new();
     while let Some(first) = least_doc(cursors) {
-        let reached = add_lists(cursors, weights, first, scores, &mut block);
-        offer_scored(&mut top, first, reached, scores);
+        let reached = add_lists(cursors, weights, first, scores, marks, &mut block);
+        offer_marked(&mut top, first, reached, marks, scores);
     }
     top.into_list()
 }
 
-// Offers the documents of a window from `first` on that any list has: those whose score is above 0, as far as they can enter. So
-// many of its places were reached; their scores are taken back.
-fn offer_scored(top: &mut TopK, first: u32, reached: usize, scores: &mut [u64])
+// Offers the marked documents of a window from `first` on, as far as they can enter, and takes their marks and scores back. So many of
+// its places were reached, and where nothing is marked the score is 0.
+fn offer_marked(top: &mut TopK, first: u32, reached: usize, marks: &mut [u64], scores: &mut [u64])
+    requires same { length scores.old ≡ 64 * length marks.old }
     requires within { reached ≤ length scores.old }
-    requires behind { (k : ℕ) → reached ≤ k → k < length scores.old → slice_index scores.old k ≡ 0 }
+    requires marked { (k : ℕ) → k < length scores.old → is_marked marks.old k ≡ false → slice_index scores.old k ≡ 0 }
+    requires behind { (k : ℕ) → reached ≤ k → k < length scores.old → is_marked marks.old k ≡ false }
     requires narrow { top.old.n < 2 ^ 32 }
     requires in_range { (k : ℕ) → k < length scores.old → 0 < slice_index scores.old k → first + k < top.old.n }
     requires above { All (λ e. e.0 < first) top.old.held }
@@ -59,17 +65,45 @@ fn offer_scored(top: &mut TopK, first: u32, reached: usize, scores: &mut [u64])
     ensures best { (lists : List (List Posting)) (weights : List ℕ) → AreScored lists weights first scores.old → IsBest top.old.k lists weights (in_any first lists) top.old.held → IsBest top.old.k lists weights (in_any (first + length scores.old) lists) top.new.held }
     ensures bound { All (λ s. s < 2 ^ 58) scores.old → All (λ e. e.1 < 2 ^ 58) top.old.held → All (λ e. e.1 < 2 ^ 58) top.new.held }
     ensures count { length scores.new ≡ length scores.old }
+    ensures marks_count { length marks.new ≡ length marks.old }
+    ensures clear { All (λ s. s ≡ 0) scores.new }
+    ensures none { All (λ w. w ≡ 0) marks.new }
+{
+    for i in 0..reached.div_ceil(64) {
+        let base = u64::from(first) + 64 * i as u64;
+        offer_word(top, base, marks[i], &mut scores[64 * i..64 * i + 64]);
+        marks[i] = 0;
+    }
+}
+
+// Offers the documents that the bits of a word mark, of which the lowest stands for document `base` and each for the one after, as far
+// as they can enter, and takes their scores back. Where nothing is marked the score is 0.
+fn offer_word(top: &mut TopK, base: u64, word: u64, scores: &mut [u64])
+    requires whole { length scores.old ≡ 64 }
+    requires marked { (k : ℕ) → k < 64 → bit_at word k ≡ 0 → slice_index scores.old k ≡ 0 }
+    requires narrow { top.old.n < 2 ^ 32 }
+    requires in_range { (k : ℕ) → k < 64 → 0 < slice_index scores.old k → base + k < top.old.n }
+    requires above { All (λ e. e.0 < base) top.old.held }
+    ensures k { top.new.k ≡ top.old.k }
+    ensures n { top.new.n ≡ top.old.n }
+    ensures above { All (λ e. e.0 < base + 64) top.new.held }
+    ensures best { (lists : List (List Posting)) (weights : List ℕ) → AreScored lists weights base scores.old → IsBest top.old.k lists weights (in_any base lists) top.old.held → IsBest top.old.k lists weights (in_any (base + 64) lists) top.new.held }
+    ensures bound { All (λ s. s < 2 ^ 58) scores.old → All (λ e. e.1 < 2 ^ 58) top.old.held → All (λ e. e.1 < 2 ^ 58) top.new.held }
+    ensures count { length scores.new ≡ 64 }
     ensures clear { All (λ s. s ≡ 0) scores.new }
 {
     let mut bar = bar_of(top);
-    for at in 0..reached {
+    let mut rest = word;
+    while rest != 0 {
+        let at = rest.trailing_zeros() as usize;
         let score = scores[at];
         scores[at] = 0;
         if score > bar {
-            let doc = doc_in(first, at);
-            top.offer(doc, score);
+            top.offer((base + at as u64) as u32, score);
             bar = bar_of(top);
         }
+        // The lowest 1 is taken back.
+        rest &= !(1 << at);
     }
 }
 

@@ -10,11 +10,11 @@ use cursor_api::DocCursor;
 use no_memory::NoMemory;
 use std::alloc::Global;
 
-// How many documents a window has that are scored: their scores take 64 KiB.
-const SPAN: usize = 8192;
+// How many words mark the documents of a window that are scored, where there are so many: their scores take 64 KiB.
+const SCORED_WORDS: usize = 128;
 
-// How many words a window has whose documents are marked: it has 65,536 documents.
-const WORDS: usize = 1024;
+/// How many words mark the documents of a window of which no scores are wanted: it has 65,536 documents.
+pub(crate) const MARKED_WORDS: usize = 1024;
 
 // How many postings are read at once.
 const BLOCK: usize = 128;
@@ -35,29 +35,29 @@ impl Block {
     }
 }
 
-/// Room for the scores of a window's documents, all 0.
-pub(crate) fn new_scores(alloc: Global) -> Result<Vec<u64>, NoMemory>
-    ensures some { IfOk result (λ scores. 0 < length scores.items) }
+/// How many words mark the documents of a window that is scored: as many as `n` documents need, and no more than 128.
+pub(crate) fn scored_words(n: u32) -> usize
+    ensures some { 1 ≤ result }
+    ensures small { result ≤ 128 }
+{
+    (n as usize).div_ceil(64).max(1).min(SCORED_WORDS)
+}
+
+/// Room for the scores of a window's documents, 64 for each word that marks them, all 0.
+pub(crate) fn new_scores(alloc: Global, words: usize) -> Result<Vec<u64>, NoMemory>
+    requires small { words ≤ 128 }
+    ensures count { IfOk result (λ scores. length scores.items ≡ 64 * words) }
     ensures clear { IfOk result (λ scores. All (λ s. s ≡ 0) scores.items) }
 {
-    Ok(vec![in alloc; 0; SPAN]?)
+    Ok(vec![in alloc; 0; 64 * words]?)
 }
 
 /// Room for the marks of a window's documents, a bit for each, none set.
-pub(crate) fn new_marks(alloc: Global) -> Result<Vec<u64>, NoMemory>
-    ensures some { IfOk result (λ marks. 0 < length marks.items) }
-    ensures small { IfOk result (λ marks. length marks.items ≤ 1024) }
+pub(crate) fn new_marks(alloc: Global, words: usize) -> Result<Vec<u64>, NoMemory>
+    ensures count { IfOk result (λ marks. length marks.items ≡ words) }
     ensures clear { IfOk result (λ marks. All (λ w. w ≡ 0) marks.items) }
 {
-    Ok(vec![in alloc; 0; WORDS]?)
-}
-
-/// The document at a place of a window from `first` on.
-pub(crate) fn doc_in(first: u32, at: usize) -> u32
-    requires { first + at < 2 ^ 32 }
-    ensures { result ≡ first + at }
-{
-    first + at as u32
+    Ok(vec![in alloc; 0; words]?)
 }
 
 // Whether a cursor stands at a document below an end.
@@ -71,74 +71,103 @@ fn stands_below<C: DocCursor>(cursor: &C, end: u64) -> bool
     }
 }
 
-// Adds the frequencies of some postings, times their list's weight, to the scores of their documents in a window from `first` on.
-fn add_postings(docs: &[u64], freqs: &[u64], weight: u32, first: u32, scores: &mut [u64])
+// Adds the frequencies of some postings, times their list's weight, to the scores of their documents in a window from `first` on, and
+// marks these.
+fn add_postings(
+    docs: &[u64],
+    freqs: &[u64],
+    weight: u32,
+    first: u32,
+    scores: &mut [u64],
+    marks: &mut [u64],
+)
     requires each { length docs.now ≤ length freqs.now }
     requires rising { IsStrictlyIncreasing docs.now }
     requires inside { AreInside first (length scores.old) docs.now }
+    requires same { length scores.old ≡ 64 * length marks.old }
     requires room { (j : ℕ) → j < length docs.now → slice_index scores.old (slice_index docs.now j - first) + weight * slice_index freqs.now j < 2 ^ 64 }
     ensures count { length scores.new ≡ length scores.old }
+    ensures marks_count { length marks.new ≡ length marks.old }
     ensures given { AreGiven ◌+◌ first docs.now (λ j. weight * slice_index freqs.now j) 0 (length docs.now) (slice_index scores.old) (slice_index scores.new) }
+    ensures marked { AreGiven ◌||◌ first docs.now (λ _. true) 0 (length docs.now) (is_marked marks.old) (is_marked marks.new) }
 {
     for j in 0..docs.len() {
-        scores[(docs[j] - u64::from(first)) as usize] += u64::from(weight) * freqs[j];
+        let at = (docs[j] - u64::from(first)) as usize;
+        scores[at] += u64::from(weight) * freqs[j];
+        marks[at / 64] |= 1 << (at % 64);
     }
 }
 
-// Adds what a list gives the documents of a window from `first` on, its weight times their frequencies, and moves its cursor behind
-// the window, block by block. It tells how many of the window's places it reached.
+// Adds what a list gives the documents of a window from `first` on, its weight times their frequencies, marks them, and moves its
+// cursor behind the window, block by block. It tells how many of the window's places it reached.
 fn add_list<C: DocCursor>(
     cursor: &mut C,
     weight: u32,
     first: u32,
     scores: &mut [u64],
+    marks: &mut [u64],
     block: &mut Block,
 ) -> usize
     requires stand { StandsFrom first (C.list cursor.old) (C.place cursor.old) }
+    requires same { length scores.old ≡ 64 * length marks.old }
     requires room { All (λ s. s + weight * 4294967295 < 2 ^ 64) scores.old }
     ensures list { C.list cursor.new ≡ C.list cursor.old }
     ensures stand { StandsFrom (first + length scores.old) (C.list cursor.new) (C.place cursor.new) }
     ensures count { length scores.new ≡ length scores.old }
+    ensures marks_count { length marks.new ≡ length marks.old }
     ensures scores { (k : ℕ) → k < length scores.old → slice_index scores.new k ≡ slice_index scores.old k + weight * freq_of_doc (first + k) (C.list cursor.old) }
+    ensures marks { (k : ℕ) → k < length scores.old → is_marked marks.new k ≡ (is_marked marks.old k || has_doc (first + k) (C.list cursor.old)) }
     ensures bound { (k : ℕ) → k < length scores.old → slice_index scores.new k ≤ slice_index scores.old k + weight * 4294967295 }
     ensures within { result ≤ length scores.old }
-    ensures behind { (k : ℕ) → result ≤ k → k < length scores.old → slice_index scores.new k ≡ slice_index scores.old k }
+    ensures behind { (k : ℕ) → result ≤ k → k < length scores.old → is_marked marks.new k ≡ is_marked marks.old k }
 {
     let end = u64::from(first) + scores.len() as u64;
     let mut reached = 0;
     while stands_below(cursor, end) {
         let count = cursor.postings_below(end, &mut block.docs, &mut block.freqs);
-        add_postings(&block.docs[..count], &block.freqs, weight, first, scores);
+        add_postings(
+            &block.docs[..count],
+            &block.freqs,
+            weight,
+            first,
+            scores,
+            marks,
+        );
         reached = (block.docs[count - 1] - u64::from(first)) as usize + 1;
     }
     reached
 }
 
-/// Scores the documents of a window from `first` on, and moves the cursors behind it. A score is below 2^58. It tells how many of
-/// the window's places were reached: from there on every score is 0.
+/// Scores and marks the documents of a window from `first` on that any of the lists has, and moves the cursors behind it. A score is
+/// below 2^58. It tells how many of the window's places were reached: from there on none is marked.
 pub(crate) fn add_lists<C: DocCursor>(
     cursors: &mut [C],
     weights: &[u32],
     first: u32,
     scores: &mut [u64],
+    marks: &mut [u64],
     block: &mut Block,
 ) -> usize
     requires stand { All (λ c. StandsFrom first (C.list c) (C.place c)) cursors.old }
     requires each { length weights.now ≡ length cursors.old }
     requires some { All (λ w. 1 ≤ w) weights.now }
     requires light { sum weights.now < 2 ^ 26 }
+    requires same { length scores.old ≡ 64 * length marks.old }
     requires clear { All (λ s. s ≡ 0) scores.old }
+    requires none { All (λ w. w ≡ 0) marks.old }
     ensures lists { map C.list cursors.new ≡ map C.list cursors.old }
     ensures stand { All (λ c. StandsFrom (first + length scores.old) (C.list c) (C.place c)) cursors.new }
     ensures count { length scores.new ≡ length scores.old }
+    ensures marks_count { length marks.new ≡ length marks.old }
     ensures scores { AreScored (map C.list cursors.old) weights.now first scores.new }
+    ensures marks { AreMarked (map C.list cursors.old) first marks.new }
     ensures bound { All (λ s. s < 2 ^ 58) scores.new }
     ensures within { result ≤ length scores.old }
-    ensures behind { (k : ℕ) → result ≤ k → k < length scores.old → slice_index scores.new k ≡ 0 }
+    ensures behind { (k : ℕ) → result ≤ k → k < length scores.old → is_marked marks.new k ≡ false }
 {
     let mut reached = 0;
     for i in 0..cursors.len() {
-        reached = add_list(&mut cursors[i], weights[i], first, scores, block).max(reached);
+        reached = add_list(&mut cursors[i], weights[i], first, scores, marks, block).max(reached);
     }
     reached
 }

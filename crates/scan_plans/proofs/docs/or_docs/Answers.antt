@@ -14,8 +14,8 @@ loop-first-init g c = record {
   lists = refl;
   stand = starts-stand g.C.DocCursor.list g.C.DocCursor.place c.args.cursors.now c.requires.at_start;
   docs = c.new-docs.ensures.items;
-  some = let same = ap length c.as_mut_slice-marks.ensures.value in let some = c.in_ok-buffer.ensures.some in omega arith;
-  small = let same = ap length c.as_mut_slice-marks.ensures.value in let small = c.in_ok-buffer.ensures.small in omega arith;
+  some = let same = ap length c.as_mut_slice-marks.ensures.value in let count = c.in_ok-buffer.ensures.count in omega arith;
+  small = let same = ap length c.as_mut_slice-marks.ensures.value in let count = c.in_ok-buffer.ensures.count in omega arith;
   clear = subst (All (λ w. w ≡ 0)) (sym c.as_mut_slice-marks.ensures.value) c.in_ok-buffer.ensures.clear;
 }
 

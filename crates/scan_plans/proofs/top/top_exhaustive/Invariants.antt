@@ -1,4 +1,4 @@
-use Rattle.std.proofs.Common.{◌≡◌, ℕ, ◌-◌, ◌<◌, ◌^◌, map, length}
+use Rattle.std.proofs.Common.{◌≡◌, ℕ, ◌-◌, ◌*◌, ◌<◌, ◌^◌, map, length}
 use Rattle.std.specs.List.{All, sum_by}
 use Rattle.scan_plans.specs.Best.{IsBest}
 use Rattle.scan_plans.specs.Matches.{in_any}
@@ -10,8 +10,10 @@ invariant-loop-first g l = record {
   low : ℕ;
   lists : map g.C.DocCursor.list l.cursors ≡ map g.C.DocCursor.list l.initial.cursors;
   stand : All (λ c. StandsFrom low (g.C.DocCursor.list c) (g.C.DocCursor.place c)) l.cursors;
-  some : 0 < length l.scores;
+  some : 0 < length l.marks;
+  same : length l.scores ≡ 64 * length l.marks;
   clear : All (λ s. s ≡ 0) l.scores;
+  none : All (λ w. w ≡ 0) l.marks;
   k : l.top.k ≡ l.fn.k;
   n : l.top.n ≡ l.fn.n;
   best : IsBest l.fn.k (map g.C.DocCursor.list l.initial.cursors) l.weights (in_any low (map g.C.DocCursor.list l.initial.cursors)) l.top.held;

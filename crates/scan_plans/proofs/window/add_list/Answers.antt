@@ -1,11 +1,11 @@
-use Rattle.std.proofs.Common.{◌≡◌, refl, sym, ap, ◌∙◌, subst, ℕ, ◌+◌, ◌*◌, ◌<◌, ◌≤◌, List, length, get_or, slice_index, arith}
+use Rattle.std.proofs.Common.{◌≡◌, refl, sym, ap, ◌∙◌, subst, ℕ, ◌+◌, ◌*◌, ◌<◌, ◌≤◌, ◌||◌, true, false, List, length, get_or, slice_index, arith}
 use Rattle.collection_model.specs.Collection.{Posting, docs_of, freqs_of}
 use Rattle.cursor_api.specs.NextGeq.{IsCursorAt}
-use Rattle.scan_plans.specs.Matches.{freq_of_doc}
+use Rattle.scan_plans.specs.Matches.{has_doc, freq_of_doc}
 use Rattle.scan_plans.specs.Scan.{StandsFrom}
-use Rattle.scan_plans.specs.Window.{AreGiven}
+use Rattle.scan_plans.specs.Window.{AreGiven, is_marked}
 use Rattle.scan_plans.proofs.Postings.{has-no-freq}
-use Rattle.scan_plans.proofs.Given.{plus-none, doc-there, most-freq, given-none, given-whole, given-behind, block-some, step-given, step-below, step-within, step-room, next-is, end-is}
+use Rattle.scan_plans.proofs.Given.{plus-none, or-none, doc-there, most-freq, given-none, given-whole, given-behind, block-some, step-given, step-below, step-within, step-room, next-is, end-is}
 use Rattle.scan_plans.proofs.window.add_list.Goals as goal
 
 -- what the scores of a window were given once the cursor is behind it
@@ -23,6 +23,8 @@ loop-reached-init g c = record {
   from = omega arith;
   count = refl;
   given = given-none ◌+◌ c.args.first (docs_of (g.C.DocCursor.list c.args.cursor.now)) (λ i. c.args.weight * slice_index (freqs_of (g.C.DocCursor.list c.args.cursor.now)) i) (g.C.DocCursor.place c.args.cursor.now) (slice_index c.args.scores.now);
+  marks_count = refl;
+  marked = given-none ◌||◌ c.args.first (docs_of (g.C.DocCursor.list c.args.cursor.now)) (λ _. true) (g.C.DocCursor.place c.args.cursor.now) (is_marked c.args.marks.now);
   within = omega arith;
   below = λ i from lt. absurd (omega arith);
 }
@@ -68,6 +70,10 @@ loop-reached-preserved g c =
       given = subst (λ (to : ℕ). AreGiven ◌+◌ c.args.first (docs_of list) (λ i. c.args.weight * slice_index (freqs_of list) i) (g.C.DocCursor.place c.args.cursor.now) to (slice_index c.args.scores.now) (slice_index c.add_postings.new.scores)) (sym moved)
           (step-given list good.well_formed c.args.first place (length c.args.scores.now) above block count next ◌+◌ (λ i. c.args.weight * slice_index (freqs_of list) i) (λ j. c.args.weight * slice_index c.postings_below-count.new.freqs j) (g.C.DocCursor.place c.args.cursor.now) (slice_index c.args.scores.now) (slice_index c.loop-reached.scores) (slice_index c.add_postings.new.scores) start c.requires.stand.left
           (λ j lt. ap (λ (f : ℕ). c.args.weight * f) (c.postings_below-count.ensures.freqs j lt ∙ ap (λ (l : List Posting). get_or (freqs_of l) (place + j) 0) so_far.list)) so_far.given c.add_postings.ensures.given);
+      marks_count = c.add_postings.ensures.marks_count ∙ so_far.marks_count;
+      marked = subst (λ (to : ℕ). AreGiven ◌||◌ c.args.first (docs_of list) (λ _. true) (g.C.DocCursor.place c.args.cursor.now) to (is_marked c.args.marks.now) (is_marked c.add_postings.new.marks)) (sym moved)
+          (step-given list good.well_formed c.args.first place (length c.args.scores.now) above block count next ◌||◌ (λ _. true) (λ _. true) (g.C.DocCursor.place c.args.cursor.now) (is_marked c.args.marks.now) (is_marked c.loop-reached.marks) (is_marked c.add_postings.new.marks) start c.requires.stand.left
+          (λ j lt. refl) so_far.marked c.add_postings.ensures.marked);
       within = (let w = step-within list good.well_formed c.args.first place (length c.args.scores.now) above block count next some in omega arith);
       below = λ i f lt. (let b = step-below list good.well_formed c.args.first place (length c.args.scores.now) above block count next some i (omega arith) in omega arith);
     }
@@ -98,8 +104,18 @@ returns-clause-bound g c = λ k inside.
     let most = most-freq list c.args.weight (c.args.first + k) end.0.well_formed in
     omega arith
 
+pub returns-clause-marks : goal.returns-clause-marks
+returns-clause-marks g c =
+    let so_far = c.loop-reached.invariant in
+    let list : List Posting = g.C.DocCursor.list c.args.cursor.now in
+    let place : ℕ = g.C.DocCursor.place c.loop-reached.cursor in
+    let from : ℕ = g.C.DocCursor.place c.args.cursor.now in
+    let n : ℕ = length c.args.scores.now in
+    let end = end-is list (g.C.DocCursor.list c.loop-reached.cursor) c.args.first c.from.result n from place c.loop-reached.reached so_far.list c.from.ensures (g.met.C.DocCursor.well_formed c.loop-reached.cursor) c.requires.stand so_far.within so_far.below (c.loop-reached-test.ensures.behind refl) in
+    given-whole ◌||◌ c.args.first false or-none list (λ _. true) (λ d. has_doc d list) from place n (is_marked c.args.marks.now) (is_marked c.loop-reached.marks) end.0.within c.requires.stand end.1
+    (λ i inside. (doc-there list i end.0.well_formed inside).has) (λ d nowhere. nowhere) so_far.marked
+
 pub returns-clause-behind : goal.returns-clause-behind
 returns-clause-behind g c = λ k reached inside.
     let so_far = c.loop-reached.invariant in
-    let list : List Posting = g.C.DocCursor.list c.args.cursor.now in
-    given-behind ◌+◌ c.args.first (docs_of list) (λ i. c.args.weight * slice_index (freqs_of list) i) (g.C.DocCursor.place c.args.cursor.now) (g.C.DocCursor.place c.loop-reached.cursor) c.loop-reached.reached (slice_index c.args.scores.now) (slice_index c.loop-reached.scores) so_far.below so_far.given k reached
+    given-behind ◌||◌ c.args.first (docs_of (g.C.DocCursor.list c.args.cursor.now)) (λ _. true) (g.C.DocCursor.place c.args.cursor.now) (g.C.DocCursor.place c.loop-reached.cursor) c.loop-reached.reached (is_marked c.args.marks.now) (is_marked c.loop-reached.marks) so_far.below so_far.marked k reached

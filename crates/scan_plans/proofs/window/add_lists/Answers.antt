@@ -1,15 +1,17 @@
 use Rattle.std.proofs.Common.{◌≡◌, refl, sym, ap, ◌∙◌, subst, ℕ, ◌+◌, ◌<◌, true, List, length, get_or, map, max, arith}
 use Rattle.std.specs.Prelude.{◌↔◌}
 use Rattle.std.specs.List.{list_any}
-use Rattle.std.proofs.lemmas.List.{get_or_default, length-map}
+use Rattle.std.proofs.lemmas.List.{get_or_default, length-map, take_all}
 use Rattle.std.proofs.lemmas.List.Elements.{AllWithin-more_set}
 use Rattle.std.proofs.lemmas.List.Sums.{sum_by_more, sum_by-take-le}
 use Rattle.collection_model.specs.Collection.{Posting}
 use Rattle.scan_plans.specs.Matches.{has_doc, score}
 use Rattle.scan_plans.specs.Scan.{StandsFrom}
+use Rattle.scan_plans.specs.Window.{is_marked}
 use Rattle.scan_plans.proofs.Found.{score-found}
 use Rattle.scan_plans.proofs.Steps.{lists-set, rest-set, score-whole, all-rising}
-use Rattle.scan_plans.proofs.Windows.{scores-step}
+use Rattle.scan_plans.proofs.Windows.{any-step, scores-step}
+use Rattle.scan_plans.proofs.Marks.{unmarked}
 use Rattle.scan_plans.proofs.window.add_lists.Goals as goal
 
 pub loop-i-init : goal.loop-i-init
@@ -20,8 +22,10 @@ loop-i-init g c = record {
   count = refl;
   scored = λ k within. c.requires.clear k 0 within;
   bound = λ k within. let none = c.requires.clear k 0 within in omega arith;
+  marks_count = refl;
+  marked = λ k within. let same = c.requires.same in unmarked c.args.marks.now c.requires.none k (omega arith);
   within = omega arith;
-  behind = λ k from within. c.requires.clear k 0 within;
+  behind = λ k from within. let same = c.requires.same in unmarked c.args.marks.now c.requires.none k (omega arith);
 }
 
 pub add_list-requires-clause-stand : goal.add_list-requires-clause-stand
@@ -71,6 +75,9 @@ loop-i-preserved g c =
       count = c.add_list.ensures.count ∙ so_far.count;
       scored = scores-step g.C.DocCursor.list g.C.DocCursor.place c.args.first i (length c.args.scores.now) cs c.args.cursors.now weights c.loop-i.scores c.add_list.new.scores item so_far.lists within weighed so_far.scored
           (λ k inside. c.add_list.ensures.scores k (omega arith));
+      marks_count = c.add_list.ensures.marks_count ∙ so_far.marks_count;
+      marked = λ k inside. any-step g.C.DocCursor.list (c.args.first + k) i cs (map g.C.DocCursor.list c.args.cursors.now) item (is_marked c.loop-i.marks k) (is_marked c.add_list.new.marks k) so_far.lists within (so_far.marked k inside)
+          (c.add_list.ensures.marks k (omega arith));
       bound = λ k inside. let before = so_far.bound k inside in let more = c.add_list.ensures.bound k (omega arith) in omega arith;
       within = omega arith;
       behind = λ k from inside. c.add_list.ensures.behind k (omega arith) (omega arith) ∙ so_far.behind k (omega arith) inside;
@@ -94,6 +101,17 @@ returns-clause-scores g c =
       found = λ k within. subst (λ (s : ℕ). (0 < s) ↔ (list_any (has_doc (c.args.first + k)) lists ≡ true)) (sym (scored k within))
           (score-found lists weights (c.args.first + k) (omega arith) c.requires.some (all-rising g.C.DocCursor.list g.C.DocCursor.place g.met.C.DocCursor.well_formed c.args.cursors.now));
     }
+
+pub returns-clause-marks : goal.returns-clause-marks
+returns-clause-marks g c = λ k within.
+    let so_far = c.loop-i.invariant in
+    let lists : List (List Posting) = map g.C.DocCursor.list c.args.cursors.now in
+    let count = so_far.marks_count in
+    let whole = c.requires.same in
+    let mapped = length-map c.args.cursors.now g.C.DocCursor.list in
+    let now-mapped = length-map c.loop-i.cursors g.C.DocCursor.list in
+    let same = ap length so_far.lists in
+    so_far.marked k (omega arith) ∙ ap (list_any (has_doc (c.args.first + k))) (take_all c.loop-i.i lists (omega arith))
 
 pub returns-clause-bound : goal.returns-clause-bound
 returns-clause-bound g c = λ k d within.

@@ -1,6 +1,8 @@
-use Rattle.std.proofs.Common.{◌≡◌, ℕ, ◌+◌, ◌*◌, ◌<◌, ◌≤◌, length, map, take, slice_index}
-use Rattle.std.specs.List.{AllWithin, sum_by, sum, zip}
+use Rattle.std.proofs.Common.{◌≡◌, ℕ, ◌+◌, ◌*◌, ◌<◌, ◌≤◌, false, length, map, take, slice_index}
+use Rattle.std.specs.List.{AllWithin, list_any, sum_by, sum, zip}
+use Rattle.scan_plans.specs.Matches.{has_doc}
 use Rattle.scan_plans.specs.Scan.{StandsFrom}
+use Rattle.scan_plans.specs.Window.{is_marked}
 use Rattle.scan_plans.proofs.Steps.{share}
 use Rattle.scan_plans.proofs.window.add_lists.Given as goal
 
@@ -12,6 +14,8 @@ invariant-loop-i g l = record {
   count : length l.scores ≡ length l.initial.scores;
   scored : (k : ℕ) → k < length l.initial.scores → slice_index l.scores k ≡ sum_by (share (l.first + k)) (take l.i (zip (map g.C.DocCursor.list l.initial.cursors) l.weights));
   bound : (k : ℕ) → k < length l.initial.scores → slice_index l.scores k ≤ sum (take l.i l.weights) * 4294967295;
+  marks_count : length l.marks ≡ length l.initial.marks;
+  marked : (k : ℕ) → k < length l.initial.scores → is_marked l.marks k ≡ list_any (has_doc (l.first + k)) (take l.i (map g.C.DocCursor.list l.initial.cursors));
   within : l.reached ≤ length l.initial.scores;
-  behind : (k : ℕ) → l.reached ≤ k → k < length l.initial.scores → slice_index l.scores k ≡ 0;
+  behind : (k : ℕ) → l.reached ≤ k → k < length l.initial.scores → is_marked l.marks k ≡ false;
 }

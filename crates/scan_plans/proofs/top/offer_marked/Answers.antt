@@ -1,0 +1,84 @@
+use Rattle.std.proofs.Common.{◌≡◌, refl, sym, ◌∙◌, subst, ℕ, ◌+◌, ◌-◌, ◌*◌, ◌<◌, ◌≤◌, false, List, length, get_or, take, drop, arith}
+use Rattle.std.proofs.lemmas.List.{length-take-le, length-drop, get_or-take, get_or-drop}
+use Rattle.scan_plans.specs.Ranking.{Ranking}
+use Rattle.scan_plans.specs.Window.{is_marked}
+use Rattle.scan_plans.proofs.Bests.{IsOffered, IsPiece, offered-none, offered-skip, offered-word}
+use Rattle.scan_plans.proofs.Marks.{word-unmarked}
+use Rattle.scan_plans.proofs.Windows.{IsCleared, cleared-none, cleared-more, cleared-piece, cleared-all}
+use Rattle.scan_plans.proofs.top.offer_marked.Goals as goal
+
+pub loop-i-init : goal.loop-i-init
+loop-i-init c = record {
+  offered = offered-none c.args.first c.args.scores.now c.args.top.now c.requires.above;
+  cleared = cleared-none 0 c.args.scores.now;
+  unmarked = cleared-none 0 c.args.marks.now;
+  fits = λ k. let fits = c.type_inv.marks k in omega arith;
+}
+
+-- the scores of a word are those that the window began with
+word-piece : (at n : ℕ) (old now : List ℕ) → n ≡ 64 → at + 64 ≤ length old → IsCleared 0 at old now → IsPiece at 64 old (take n (drop at now))
+word-piece at n old now word within cleared =
+    let count = cleared.count in
+    let long : length (take n (drop at now)) ≡ n = length-take-le n (drop at now) (omega (arith, length-drop at now)) in
+    record {
+      count = long ∙ word;
+      within = within;
+      same = λ k lt. get_or-take n (drop at now) k 0 (omega arith) ∙ get_or-drop at now k 0 ∙ cleared.rest (at + k) (omega arith);
+    }
+
+pub loop-i-preserved : goal.loop-i-preserved
+loop-i-preserved c =
+    let so_far = c.loop-i.invariant in
+    let i : ℕ = c.loop-i.i in
+    let first : ℕ = c.args.first in
+    let scores : List ℕ = c.args.scores.now in
+    let within = c.requires.within in
+    let same = c.requires.same in
+    let ceil = c.div_ceil-i-end.ensures in
+    let inside : i < length c.args.marks.now = omega arith in
+    let start = c.from.ensures in
+    let base : c.from.result + 64 * i ≡ first + 64 * i = omega arith in
+    let is = c.offer_word.ensures in
+    let n : ℕ = 64 * i + 64 - 64 * i in
+    let word : n ≡ 64 = omega arith in
+    record {
+      offered = offered-word first (c.from.result + 64 * i) (64 * i) (64 * (i + 1)) scores (take n (drop (64 * i) c.loop-i.scores)) c.args.top.now c.loop-i.top c.offer_word.new.top base (omega arith)
+          (word-piece (64 * i) n scores c.loop-i.scores word (omega arith) so_far.cleared) is.k is.n is.above is.best is.bound so_far.offered;
+      cleared = cleared-piece 0 scores (64 * i) n (64 * (i + 1)) c.loop-i.scores c.offer_word.new.scores (omega arith) (omega arith) (is.count ∙ sym word) (λ k lt. is.clear k 0 (let count = is.count in omega arith)) so_far.cleared;
+      unmarked = cleared-more 0 c.args.marks.now i c.loop-i.marks inside so_far.unmarked;
+      fits = so_far.fits;
+    }
+
+-- a score behind the places that were reached
+none-behind : (reached from : ℕ) (marks scores : List ℕ) → reached ≤ from → ((k : ℕ) → k < length scores → is_marked marks k ≡ false → get_or scores k 0 ≡ 0) → ((k : ℕ) → reached ≤ k → k < length scores → is_marked marks k ≡ false) → (k : ℕ) → from ≤ k → k < length scores → get_or scores k 0 ≡ 0
+none-behind reached from marks scores le marked behind k after inside = marked k inside (behind k (omega arith) inside)
+
+pub returns-clause-best : goal.returns-clause-best
+returns-clause-best c =
+    let scores : List ℕ = c.args.scores.now in
+    let at : ℕ = 64 * c.loop-i.i in
+    let within = c.requires.within in
+    let same = c.requires.same in
+    let ceil = c.div_ceil-i-end.ensures in
+    (offered-skip c.args.first at (length scores) scores c.args.top.now c.loop-i.top (omega arith) (omega arith) (none-behind c.args.reached at c.args.marks.now scores (omega arith) c.requires.marked c.requires.behind) c.loop-i.invariant.offered).best
+
+pub returns-clause-clear : goal.returns-clause-clear
+returns-clause-clear c =
+    let scores : List ℕ = c.args.scores.now in
+    let at : ℕ = 64 * c.loop-i.i in
+    let within = c.requires.within in
+    let same = c.requires.same in
+    let ceil = c.div_ceil-i-end.ensures in
+    cleared-all 0 scores at c.loop-i.scores (none-behind c.args.reached at c.args.marks.now scores (omega arith) c.requires.marked c.requires.behind) c.loop-i.invariant.cleared
+
+pub returns-clause-none : goal.returns-clause-none
+returns-clause-none c =
+    let i : ℕ = c.loop-i.i in
+    let within = c.requires.within in
+    let same = c.requires.same in
+    let ceil = c.div_ceil-i-end.ensures in
+    cleared-all 0 c.args.marks.now i c.loop-i.marks
+    (λ k from inside.
+    let fits = c.loop-i.invariant.fits k in
+    word-unmarked c.args.marks.now k (omega arith) (λ j lt. c.requires.behind (64 * k + j) (omega arith) (omega arith)))
+    c.loop-i.invariant.unmarked
