@@ -13,3 +13,4 @@ mod Probes
 mod Takes
 mod AtAWord
 mod Blocks
+mod Steps

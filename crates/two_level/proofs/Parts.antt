@@ -2,12 +2,12 @@ use Rattle.std.proofs.Common.{◌≡◌, ℕ, zero, suc, ◌+◌, ◌-◌, ◌*�
 use Rattle.std.specs.List.{slice_range}
 use Rattle.std.proofs.lemmas.List.{length-take-le, length-drop, length-map, get_or-take, get_or-drop, get_or-map}
 use Rattle.std.proofs.lemmas.List.FromFn.{get_or-map-range_with_len}
-use Rattle.collection_model.specs.FormatNumbers.{FormatNumbers, entry_words}
+use Rattle.collection_model.specs.FormatNumbers.{FormatNumbers, entry_words, part_charge}
 use Rattle.bit_words.specs.Bits.{bits_of}
 use Rattle.bit_words.specs.Laws.{BitsOfAppended, BitsOfWords}
 use Rattle.part_cost.specs.Formats.{HasRoom}
-use Rattle.part_cost.specs.Span.{past, universe, relative_values, payload_of_part}
-use Rattle.part_cost.specs.Partition.{cost_from}
+use Rattle.part_cost.specs.Span.{past, universe, relative_values, payload_of_part, cost_of_part}
+use Rattle.part_cost.specs.Partition.{cost_from, partition_cost}
 use Rattle.part_cost.specs.Stored.{HoldsPart, IsFirstAtLeast}
 use Rattle.part_codec.specs.PartBits.{part_bits}
 use Rattle.two_level.specs.SequenceWords.{sequence_words, BeginsSequence}
@@ -17,7 +17,7 @@ use Rattle.two_level.specs.SequenceParts.{StatesPart, Restores, HoldsValues, Lie
 use Rattle.two_level.specs.declared.held.HeldPart.{HeldPart}
 use Rattle.two_level.specs.Laws.{DirectoryStates}
 use Rattle.two_level.specs.declared.part.Part.{Part}
-use Rattle.part_cost.proofs.Partitions.{ends-within}
+use Rattle.part_cost.proofs.Partitions.{ends-within, charges}
 use Rattle.two_level.proofs.Lengths.{PartLaws, AreValues, length-sequence}
 use Rattle.two_level.proofs.Stated.{EntryIs, StandsFrom, past-part, past-bounded, entry-is, stands-next, payload-all, holds-part, values-of, stands-whole}
 use Rattle.std.proofs.lemmas.Bool.{eq-eqb}
@@ -119,6 +119,19 @@ used-is format room laws appended filled m bound parts used xs ends words fits b
     let same : payload_before format words 0 parts ≡ cost_from (payload_of_part xs) 0 ends = omega (arith, total, ap (payload_before format words 0) count) in
     omega (arith, length-sequence format laws xs a ends whole.parts, same, ap (λ n. entry_words format * n) s.parts_count)
 
+-- what its parts cost
+pub cost-is : (format : FormatNumbers) (room : HasRoom format) → PartLaws → BitsOfAppended → BitsOfWords → (m bound parts used : ℕ) (xs ends words : List ℕ) → bound ≤ format.most_sum
+    → BeginsSequence format m bound parts xs ends words used
+    → partition_cost (cost_of_part (part_charge format) xs) ends ≡ first_bit format 0 parts + payload_before format words 0 parts
+cost-is format room laws appended filled m bound parts used xs ends words fits b =
+    let s = b.sequence in
+    let a : AreValues format xs = values-of format room m bound parts xs ends (take used words) fits s in
+    let whole = stands-whole format laws appended filled m bound parts used xs ends words fits b in
+    let total : payload_before format words 0 (0 + length ends) ≡ 0 + cost_from (payload_of_part xs) 0 ends = payload-all format laws words xs a (first_bit format 0 parts) 0 0 ends whole in
+    let count : 0 + length ends ≡ parts = omega (arith, s.parts_count) in
+    let same : payload_before format words 0 parts ≡ cost_from (payload_of_part xs) 0 ends = omega (arith, total, ap (payload_before format words 0) count) in
+    omega (arith, charges format xs 0 ends, same, ap (λ n. entry_words format * n) s.parts_count)
+
 -- what a part of the sequence is
 pub part-of : (format : FormatNumbers) (words : List ℕ) (parts q : ℕ) → q < parts → StatesPart format words (sequence_stated format words parts).values parts q → (part : Part) → part.from ≡ end_before format words 0 q
     → part.to ≡ stated_end format words 0 q → part.last ≡ stated_last format words 0 q → part.u ≡ stated_universe format words 0 q → IsPartOf (sequence_stated format words parts) q part
@@ -217,6 +230,7 @@ directory-states format room laws appended filled words parts m b =
       room = pass.room;
       end = end-whole format words parts m bound pass v.ends (some-parts m v.ends s.partition) s.parts_count ∙ sym s.count;
       used = words-in-format format words parts ∙ used-is format room laws appended filled m bound parts used v.values v.ends words begun.2 begun.3;
+      cost = cost-is format room laws appended filled m bound parts used v.values v.ends words begun.2 begun.3;
       part = states-part format room laws appended filled m bound parts used v.values v.ends words begun.2 begun.3;
     }
 

@@ -1,10 +1,11 @@
 use Rattle.std.specs.Prelude.{◌≡◌, ℕ, suc, ◌+◌, ◌-◌, ◌*◌, ◌^◌, ◌≤◌, ◌<◌, List, length, slice_index, Option, Some, None}
 use Rattle.std.specs.List.{All}
 use Rattle.std.specs.List.Sorted.{IsStrictlyIncreasing}
-use Rattle.collection_model.specs.FormatNumbers.{FormatNumbers, entry_words}
+use Rattle.collection_model.specs.FormatNumbers.{FormatNumbers, entry_words, part_charge}
 use Rattle.bit_words.specs.Bits.{bits_of}
 use Rattle.part_cost.specs.Payload.{widest_low}
-use Rattle.part_cost.specs.Span.{past, relative_values}
+use Rattle.part_cost.specs.Span.{past, relative_values, cost_of_part}
+use Rattle.part_cost.specs.Partition.{partition_cost}
 use Rattle.part_cost.specs.Stored.{HoldsPart}
 use Rattle.part_codec.specs.PartBits.{part_bits}
 use Rattle.part_codec.specs.PartView.{Holds, universe_of, count_of}
@@ -38,6 +39,7 @@ pub record StatesParts (format : FormatNumbers) (words : List ℕ) (parts : ℕ)
   pub room : entry_words format * parts ≤ length words
   pub end : end_before format words 0 parts ≡ length v.values
   pub used : words_used v ≡ word_behind format words 0 parts
+  pub cost : partition_cost (cost_of_part (part_charge format) v.values) v.ends ≡ first_bit format 0 parts + payload_before format words 0 parts
   pub part : (q : ℕ) → q < parts → StatesPart format words v.values parts q
 
 -- The view of a part that is held has the relative values of these values from its start up to its end.

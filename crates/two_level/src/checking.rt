@@ -17,17 +17,18 @@ pub struct SeqFault {
     pub part: u32,
 }
 
-// Looks for the first check that breaks.
+// Looks for the first check that breaks, and answers how many words the sequence takes.
 pub(crate) fn check_words(
     words: &[u64],
     parts: u32,
     m: u32,
     bound: u64,
     format: Format,
-) -> Result<(), SeqFault>
+) -> Result<u64, SeqFault>
     requires words { length words.now < 2 ^ 57 }
     requires bound { bound ≤ (numbers_of format).most_sum }
-    ensures ok { OnOk result (PassChecks (numbers_of format) words.now parts m bound) }
+    ensures ok { IfOk result (λ used. PassChecks (numbers_of format) words.now parts m bound) }
+    ensures used { IfOk result (λ used. used ≡ word_behind (numbers_of format) words.now 0 parts) }
     ensures first { IfErr result (λ f. IsSequenceFault (numbers_of format) words.now parts m bound f.check f.part) }
 {
     let directory = directory_words(parts, format);
@@ -38,7 +39,8 @@ pub(crate) fn check_words(
         });
     }
     let payload = check_directory(words, parts, m, bound, format)?;
-    if (words.len() as u64) < directory + payload.div_ceil(64) {
+    let used = directory + payload.div_ceil(64);
+    if (words.len() as u64) < used {
         return Err(SeqFault {
             check: Check::K7,
             part: parts,
@@ -46,7 +48,7 @@ pub(crate) fn check_words(
     }
     check_parts(words, parts, format)?;
     check_padding(words, parts, payload, format)?;
-    Ok(())
+    Ok(used)
 }
 
 /// Whether m values can have so many parts: from 1 to m, and none where there is no value.

@@ -1,9 +1,10 @@
-ghost use Rattle.std.specs.Prelude.{◌≡◌, ℕ, ◌≤◌, ◌<◌, ◌+◌, ◌-◌, ◌*◌, ◌^◌, length};
+ghost use Rattle.std.specs.Prelude.{◌≡◌, ℕ, ◌≤◌, ◌<◌, ◌+◌, ◌-◌, ◌*◌, ◌^◌, length, slice_index};
 ghost use Rattle.collection_model.specs.FormatNumbers.{entry_words};
 ghost use Rattle.part_cost.specs.Formats.{numbers_of};
 ghost use Rattle.part_cost.specs.Payload.{widest_low};
+ghost use Rattle.part_cost.specs.Span.{past};
 ghost use Rattle.two_level.specs.SequenceFault.{stated_last, stated_end, stated_universe, stated_count, end_before, past_before, payload_before, first_bit};
-ghost use Rattle.two_level.specs.SequenceView.{BeginWith, sequence_stated, words_used, IsPartOf};
+ghost use Rattle.two_level.specs.SequenceView.{BeginWith, sequence_stated, IsPartOf};
 
 use crate::entry::{directory_bits, entry_at};
 use crate::laws::directory_states_its_parts;
@@ -63,19 +64,19 @@ pub(crate) fn stated_part<'a>(
     )
 }
 
-// How many words the sequence takes with which the words begin: those up to the end of its last part.
-pub(crate) fn words_taken(words: &[u64], parts: u32, format: Format) -> u64
+// How many bits the sequence takes with which the words begin: those up to the end of its last part.
+pub(crate) fn bits_taken(words: &[u64], parts: u32, format: Format) -> u64
     requires words { length words.now < 2 ^ 57 }
     requires begun { (m : ℕ) × BeginWith words.now parts m (sequence_stated (numbers_of format) words.now parts) }
     requires few { length (sequence_stated (numbers_of format) words.now parts).values < 2 ^ 32 }
-    ensures { result ≡ words_used (sequence_stated (numbers_of format) words.now parts) }
+    ensures { result ≡ first_bit (numbers_of format) 0 parts + payload_before (numbers_of format) words.now 0 parts }
 {
     directory_states_its_parts();
     if parts == 0 {
         0
     } else {
         let (_, last) = stated_part(words, parts, parts - 1, format);
-        (last.place + payload_bits(last.u, last.m)).div_ceil(64)
+        last.place + payload_bits(last.u, last.m)
     }
 }
 
@@ -89,6 +90,16 @@ pub(crate) fn part_at(words: &[u64], parts: u32, part: u32, format: Format) -> P
 {
     directory_states_its_parts();
     stated_part(words, parts, part, format).0
+}
+
+// The last value of a part of the sequence with which the words begin.
+pub(crate) fn last_of_part(words: &[u64], parts: u32, part: u32, format: Format) -> u64
+    requires begun { (m : ℕ) × BeginWith words.now parts m (sequence_stated (numbers_of format) words.now parts) }
+    requires within { part < parts }
+    ensures { let v = sequence_stated (numbers_of format) words.now parts in result + 1 ≡ past v.values (slice_index v.ends part) }
+{
+    directory_states_its_parts();
+    entry_at(words, part, format).last
 }
 
 // The part in which a place lies.

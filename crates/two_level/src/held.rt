@@ -1,5 +1,7 @@
 ghost use Rattle.std.specs.Prelude.{◌≡◌, ℕ, ◌≤◌, ◌<◌, ◌+◌, ◌^◌, IsTrue, ◌↔◌, List, length, slice_index, take};
 ghost use Rattle.collection_model.specs.NextBelow.{AreNextBelow};
+ghost use Rattle.std.specs.List.Sorted.{IsStrictlyIncreasing};
+ghost use Rattle.part_cost.specs.Span.{past};
 ghost use Rattle.part_cost.specs.Stored.{IsFirstAtLeast};
 ghost use Rattle.part_codec.specs.PartView.{Holds, universe_of, count_of};
 ghost use Rattle.part_cost.specs.Formats.{numbers_of};
@@ -104,6 +106,20 @@ impl<'a> HeldPart<'a> {
         ensures { (xs : List ℕ) → HoldsValues self.now xs → result ≡ slice_index xs place }
     {
         number_in_part(&self.view, (place - self.part.from) as u64) + self.past
+    }
+
+    // One past the value before a place in the part.
+    pub(crate) fn past_before(&self, place: u32) -> u64
+        requires values { (xs : List ℕ) × HoldsValues self.now xs × IsStrictlyIncreasing xs }
+        requires after { self.now.part.from ≤ place }
+        requires before { place < self.now.part.to }
+        ensures { (xs : List ℕ) → HoldsValues self.now xs → IsStrictlyIncreasing xs → result ≡ past xs place }
+    {
+        if place == self.part.from {
+            self.past
+        } else {
+            self.value(place - 1) + 1
+        }
     }
 
     // The first value of the part.

@@ -11,6 +11,7 @@ mod galloping;
 mod held;
 mod laws;
 mod part;
+mod stepping;
 #[cfg(test)]
 mod tests;
 mod view;
@@ -25,5 +26,5 @@ pub use laws::{
     sequence_takes_its_cost, words_state_their_sequence,
 };
 pub use part::Part;
-pub use view::SeqView;
+pub use view::{Checked, SeqView};
 pub use write::write_seq;

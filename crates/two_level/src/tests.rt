@@ -357,6 +357,7 @@ fn has_parts(
         assert!(rt; past <= last && last < bound);
         let u = last + 1 - past;
         assert_eq!(rt; view.part(i as u32), Part { from, to, last, u });
+        assert_eq!(rt; view.last_of_part(i as u32), last);
         from = to;
         past = last + 1;
     }
@@ -682,4 +683,46 @@ fn gallops_to_the_part_that_reaches(rt: HostRuntime) -> Result<(), Fail> {
         assert!(rt; asked <= most, "{asked} for {x} from {from}");
     }
     Ok(())
+}
+
+// Whether values in parts have such a greatest step from one place up to another, and cost so much.
+fn has_step(
+    rt: &impl Abort,
+    alloc: Global,
+    values: &[u64],
+    ends: &[u64],
+    span: (u32, u32),
+    want: (u64, u64),
+)
+    requires rising { IsStrictlyIncreasing values.now }
+    requires below { All (λ x. x < (numbers_of Format.One).most_sum) values.now }
+    requires few { length values.now ≤ (numbers_of Format.One).most_documents }
+    requires partition { IsPartition (length values.now) ends.now }
+{
+    let mut words = Vec::new(alloc);
+    write_seq(alloc, values, ends, Format::One, &mut words).expect(rt, "memory");
+    assert!(rt; words.len() < 1 << 28 && ends.len() < 1 << 28);
+    let (parts, m) = (ends.len() as u32, values.len() as u32);
+    let bound = Format::One.most_sum();
+    let checked = SeqView::check_counting(&words, parts, m, bound, Format::One).expect(
+        rt, "sequence",
+    );
+    let view = checked.view;
+    let (from, to) = span;
+    assert!(rt; from <= to && to <= m);
+    assert_eq!(rt; checked.used, words.len() as u64);
+    assert_eq!(rt; (view.greatest_step(from, to), view.cost()), want);
+}
+
+// 0, 2 in one part and in two, which cost 131 and 258 bits; 0 to 3, all places taken, which costs an entry; the same behind 4, so that
+// the first step is 5; and one step of 6 between parts of all ones.
+#[test]
+fn finds_the_greatest_step(rt: HostRuntime) {
+    let alloc = rt.alloc();
+    has_step(&rt, alloc, &[0, 2], &[2], (0, 2), (2, 131));
+    has_step(&rt, alloc, &[0, 2], &[2], (0, 1), (1, 131));
+    has_step(&rt, alloc, &[0, 2], &[1, 2], (0, 2), (2, 258));
+    has_step(&rt, alloc, &[0, 1, 2, 3], &[4], (0, 4), (1, 128));
+    has_step(&rt, alloc, &[0, 1, 2, 3], &[2, 4], (1, 3), (1, 256));
+    has_step(&rt, alloc, &[0, 1, 2, 3], &[2, 4], (2, 2), (0, 256));
 }

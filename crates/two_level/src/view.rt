@@ -1,17 +1,23 @@
-ghost use Rattle.std.specs.Prelude.{◌≡◌, ℕ, ◌≤◌, ◌<◌, ◌^◌, List, length, slice_index, IfOk, IfErr};
+ghost use Rattle.std.specs.Prelude.{◌≡◌, ℕ, ◌≤◌, ◌<◌, ◌+◌, ◌^◌, List, length, slice_index, IfOk, IfErr};
+ghost use Rattle.collection_model.specs.FormatNumbers.{part_charge};
 ghost use Rattle.part_cost.specs.Formats.{numbers_of};
+ghost use Rattle.part_cost.specs.Span.{past, cost_of_part};
+ghost use Rattle.part_cost.specs.Partition.{partition_cost};
 ghost use Rattle.two_level.specs.SequenceWords.{BeginsSequence};
 ghost use Rattle.two_level.specs.SequenceFault.{IsSequenceFault};
 ghost use Rattle.two_level.specs.SequenceView.{SequenceView, BeginWith, words_used, IsPartOf};
+ghost use Rattle.two_level.specs.Steps.{greatest_step};
 
 use crate::checking::{SeqFault, check_words};
 use crate::cursor::SeqCursor;
-use crate::finding::{part_at, words_taken};
+use crate::finding::{bits_taken, last_of_part, part_at};
 use crate::held::value_at;
 use crate::laws::{
-    checks_accept_a_sequence, checks_refuse_no_sequence, words_state_their_sequence,
+    checks_accept_a_sequence, checks_refuse_no_sequence, directory_states_its_parts,
+    words_state_their_sequence,
 };
 use crate::part::Part;
+use crate::stepping::step_between;
 use part_cost::Format;
 use std::marker::Model;
 
@@ -22,6 +28,13 @@ pub struct SeqView<'a> {
     parts: u32,
     m: u32,
     format: Format,
+}
+
+/// A sequence whose words were checked, and how many they are.
+#[derive(Drop)]
+pub struct Checked<'a> {
+    pub view: SeqView<'a>,
+    pub used: u64,
 }
 
 impl<'a> Model for SeqView<'a> {
@@ -55,15 +68,43 @@ impl<'a> SeqView<'a> {
         ensures none { IfErr result (λ f. (xs ends : List ℕ) (used : ℕ) → ¬ BeginsSequence (numbers_of format) m bound parts xs ends words.entry.now used) }
         ensures first { IfErr result (λ f. IsSequenceFault (numbers_of format) words.entry.now parts m bound f.check f.part) }
     {
+        match SeqView::check_counting(words, parts, m, bound, format) {
+            Ok(checked) => Ok(checked.view),
+            Err(fault) => Err(fault),
+        }
+    }
+
+    /// The same sequence, and how many words it takes, which are counted as they are checked.
+    pub fn check_counting(
+        words: &'a [u64],
+        parts: u32,
+        m: u32,
+        bound: u64,
+        format: Format,
+    ) -> Result<Checked<'a>, SeqFault>
+        requires words { length words.now < 2 ^ 57 }
+        requires bound { bound ≤ (numbers_of format).most_sum }
+        ensures format { IfOk result (λ c. c.view.format ≡ numbers_of format) }
+        ensures ok { IfOk result (λ c. (used : ℕ) × BeginsSequence (numbers_of format) m bound parts c.view.values c.view.ends words.entry.now used) }
+        ensures used { IfOk result (λ c. c.used ≡ words_used c.view) }
+        ensures count { IfOk result (λ c. length c.view.values ≡ m) }
+        ensures parts { IfOk result (λ c. length c.view.ends ≡ parts) }
+        ensures none { IfErr result (λ f. (xs ends : List ℕ) (used : ℕ) → ¬ BeginsSequence (numbers_of format) m bound parts xs ends words.entry.now used) }
+        ensures first { IfErr result (λ f. IsSequenceFault (numbers_of format) words.entry.now parts m bound f.check f.part) }
+    {
         checks_accept_a_sequence();
         checks_refuse_no_sequence();
         words_state_their_sequence();
-        check_words(words, parts, m, bound, format)?;
-        Ok(SeqView {
-            words,
-            parts,
-            m,
-            format,
+        directory_states_its_parts();
+        let used = check_words(words, parts, m, bound, format)?;
+        Ok(Checked {
+            view: SeqView {
+                words,
+                parts,
+                m,
+                format,
+            },
+            used,
         })
     }
 
@@ -88,7 +129,16 @@ impl<'a> SeqView<'a> {
     pub fn used(&self) -> u64
         ensures { result ≡ words_used self.now }
     {
-        words_taken(self.words, self.parts, self.format)
+        directory_states_its_parts();
+        bits_taken(self.words, self.parts, self.format).div_ceil(64)
+    }
+
+    /// What the parts cost, in bits. It looks at the last entry alone.
+    pub fn cost(&self) -> u64
+        ensures { result ≡ partition_cost (cost_of_part (part_charge self.now.format) self.now.values) self.now.ends }
+    {
+        directory_states_its_parts();
+        bits_taken(self.words, self.parts, self.format)
     }
 
     /// How many values there are.
@@ -119,6 +169,28 @@ impl<'a> SeqView<'a> {
         ensures { IsPartOf self.now i result }
     {
         part_at(self.words, self.parts, i, self.format)
+    }
+
+    /// The last value of part i. It looks at one entry.
+    pub fn last_of_part(&self, i: u32) -> u64
+        requires within { i < length self.now.ends }
+        ensures { result + 1 ≡ past self.now.values (slice_index self.now.ends i) }
+    {
+        last_of_part(self.words, self.parts, i, self.format)
+    }
+
+    /// How far a value from one place up to another lies past the value before it, at most; the first value counts from -1. It
+    /// reads the values of those places alone, and none in parts of which all places are taken.
+    pub fn greatest_step(&self, from: u32, to: u32) -> u64
+        requires order { from ≤ to }
+        requires within { to ≤ length self.now.values }
+        ensures { result ≡ greatest_step self.now.values from to }
+    {
+        if from < to {
+            step_between(self.words, self.parts, from, to, self.format)
+        } else {
+            0
+        }
     }
 
     /// A cursor at the start of the sequence.

@@ -1,8 +1,8 @@
-use Rattle.std.proofs.Common.{◌≡◌, ℕ, ◌+◌, ◌*◌, ◌<◌, ◌≤◌, true, false, List, length, Result, Ok, Err, inl, inr, refl, subst, rules}
+use Rattle.std.proofs.Common.{◌≡◌, ℕ, ◌+◌, ◌*◌, ◌<◌, ◌≤◌, true, false, List, length, Result, Ok, Err, inl, inr, refl, rules}
 use Rattle.std.specs.Prelude.{◌||◌, not, nat_lt}
 use Rattle.std.specs.Result.{IfErr}
 use Rattle.std.proofs.lemmas.Bool.{both_ways, le-ltb}
-use Rattle.std.proofs.lemmas.Result.{IfErr-weaker}
+use Rattle.std.proofs.lemmas.Result.{IfErr-at_err}
 use Rattle.collection_model.specs.FormatNumbers.{FormatNumbers, entry_words}
 use Rattle.part_cost.specs.Formats.{numbers_of}
 use Rattle.bit_words.specs.Bits.{bits_of, HasNoOne}
@@ -46,18 +46,26 @@ check_parts-requires-clause-entries c = (c.args.m, c.args.bound, c.requires.boun
 
 pub returns-in_err-check_parts-clause-first : goal.returns-in_err-check_parts-clause-first
 returns-in_err-check_parts-clause-first c =
-    let same : c.check_parts.result ≡ c.from_residual-in_err-check_parts.result = first_of (search rules, cc) in
-    let fault : SeqFault → Type 0 = λ f. IsSequenceFault (numbers_of c.args.format) c.args.words.now c.args.parts c.args.m c.args.bound f.check f.part in
-    subst (λ r. IfErr r fault) same
-    (IfErr-weaker c.check_parts.result (λ f. PartsStep (numbers_of c.args.format) c.args.words.now c.args.parts f.check f.part) fault
-    (λ f. behind-entries (numbers_of c.args.format) c.args.words.now c.args.parts c.args.m c.args.bound f.check f.part (search rules) (search rules) c.in_ok-payload.ensures.entries (search rules))
-    (part-breaks (numbers_of c.args.format) c.args.words.now c.args.parts c.check_parts.result c.check_parts.ensures.check c.check_parts.ensures.part c.check_parts.ensures.breaks c.check_parts.ensures.first))
+    let format = numbers_of c.args.format in
+    let words = c.args.words.now in
+    let e : SeqFault = c.in_err-check_parts.field-0.0 in
+    let step : PartsStep format words c.args.parts e.check e.part =
+    IfErr-at_err (λ f. PartsStep format words c.args.parts f.check f.part) (first_of (search rules, cc))
+    (part-breaks format words c.args.parts c.check_parts.result c.check_parts.ensures.check c.check_parts.ensures.part c.check_parts.ensures.breaks c.check_parts.ensures.first) in
+    let is : c.from_residual-in_err-check_parts.result ≡ Err e = first_of (search rules, cc) in
+    let fault : IsSequenceFault format words c.args.parts c.args.m c.args.bound e.check e.part =
+    behind-entries format words c.args.parts c.args.m c.args.bound e.check e.part (search rules) (search rules) c.in_ok-payload.ensures.entries (search rules) step in
+    rw is fault
 
 pub returns-in_err-check_padding-clause-first : goal.returns-in_err-check_padding-clause-first
 returns-in_err-check_padding-clause-first c =
-    let same : c.check_padding.result ≡ c.from_residual-in_err-check_padding.result = first_of (search rules, cc) in
-    let fault : SeqFault → Type 0 = λ f. IsSequenceFault (numbers_of c.args.format) c.args.words.now c.args.parts c.args.m c.args.bound f.check f.part in
-    subst (λ r. IfErr r fault) same
-    (IfErr-weaker c.check_padding.result (λ f. PartsStep (numbers_of c.args.format) c.args.words.now c.args.parts f.check f.part) fault
-    (λ f. behind-entries (numbers_of c.args.format) c.args.words.now c.args.parts c.args.m c.args.bound f.check f.part (search rules) (search rules) c.in_ok-payload.ensures.entries (search rules))
-    (padding-breaks (numbers_of c.args.format) c.args.words.now c.args.parts c.check_padding.result c.in_ok-check_parts.ensures.ok c.check_padding.ensures.check c.check_padding.ensures.part c.check_padding.ensures.breaks))
+    let format = numbers_of c.args.format in
+    let words = c.args.words.now in
+    let e : SeqFault = c.in_err-check_padding.field-0.0 in
+    let step : PartsStep format words c.args.parts e.check e.part =
+    IfErr-at_err (λ f. PartsStep format words c.args.parts f.check f.part) (first_of (search rules, cc))
+    (padding-breaks format words c.args.parts c.check_padding.result c.in_ok-check_parts.ensures.ok c.check_padding.ensures.check c.check_padding.ensures.part c.check_padding.ensures.breaks) in
+    let is : c.from_residual-in_err-check_padding.result ≡ Err e = first_of (search rules, cc) in
+    let fault : IsSequenceFault format words c.args.parts c.args.m c.args.bound e.check e.part =
+    behind-entries format words c.args.parts c.args.m c.args.bound e.check e.part (search rules) (search rules) c.in_ok-payload.ensures.entries (search rules) step in
+    rw is fault

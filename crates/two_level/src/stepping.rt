@@ -1,0 +1,140 @@
+ghost use Rattle.std.specs.Prelude.{◌≡◌, ℕ, ◌≤◌, ◌<◌, ◌+◌, ◌^◌, List, length, slice_index};
+ghost use Rattle.std.specs.List.Sorted.{IsStrictlyIncreasing};
+ghost use Rattle.collection_model.specs.Collection.{greatest};
+ghost use Rattle.collection_model.specs.Sequences.{steps_from};
+ghost use Rattle.part_cost.specs.Formats.{numbers_of};
+ghost use Rattle.part_cost.specs.Payload.{widest_low};
+ghost use Rattle.part_cost.specs.Span.{past};
+ghost use Rattle.two_level.specs.SequenceFault.{stated_end, end_before, stated_universe};
+ghost use Rattle.two_level.specs.SequenceView.{BeginWith, sequence_stated};
+ghost use Rattle.two_level.specs.SequenceParts.{HoldsValues};
+ghost use Rattle.two_level.specs.Steps.{greatest_step};
+
+use crate::finding::{part_of_place, stated_part};
+use crate::held::{HeldPart, hold};
+use crate::laws::directory_states_its_parts;
+use crate::part::Part;
+use part_cost::Format;
+
+// How many values are read at a time.
+const BLOCK: usize = 64;
+
+// The greatest step of some values, the first from one past a value before them.
+fn step_of(values: &[u64], first: u64) -> u64
+    requires small { (k : ℕ) → k < length values.now → slice_index values.now k < 2 ^ widest_low }
+    ensures { result ≡ greatest (steps_from first values.now) }
+{
+    let mut past = first;
+    let mut most = 0;
+    for value in values {
+        let next = *value + 1;
+        most = next.saturating_sub(past).max(most);
+        past = next;
+    }
+    most
+}
+
+// The greatest step of the next values of a part that is held, as many as have room, by one past the value before them; and the
+// last of them.
+fn step_of_block(
+    held: &HeldPart,
+    place: u32,
+    value: u64,
+    before: u64,
+    block: &mut [u64],
+) -> (u64, u64)
+    requires values { (xs : List ℕ) × HoldsValues held.now xs × (value ≡ slice_index xs place) }
+    requires after { held.now.part.from ≤ place }
+    requires some { 0 < length block.old }
+    requires within { place + length block.old ≤ held.now.part.to }
+    ensures step { (xs : List ℕ) → HoldsValues held.now xs → before ≡ past xs place → result.0 ≡ greatest_step xs place (place + length block.old) }
+    ensures last { (xs : List ℕ) → HoldsValues held.now xs → result.1 + 1 ≡ past xs (place + length block.old) }
+    ensures small { result.1 < 2 ^ widest_low }
+    ensures room { length block.new ≡ length block.old }
+{
+    held.values_below(place, value, u64::MAX, block);
+    (step_of(block, before), block[block.len() - 1])
+}
+
+// The greatest step from one place up to another of a part that is held, value by value.
+fn step_of_values(held: &HeldPart, from: u32, to: u32) -> u64
+    requires values { (xs : List ℕ) × HoldsValues held.now xs × IsStrictlyIncreasing xs }
+    requires after { held.now.part.from ≤ from }
+    requires some { from < to }
+    requires within { to ≤ held.now.part.to }
+    ensures { (xs : List ℕ) → HoldsValues held.now xs → IsStrictlyIncreasing xs → result ≡ greatest_step xs from to }
+{
+    let mut block = [0; BLOCK];
+    let mut past = held.past_before(from);
+    let mut value = held.value(from);
+    let mut place = from;
+    let mut most = 0;
+    'read: while place < to {
+        let room = BLOCK.min((to - place) as usize);
+        let (step, last) = step_of_block(held, place, value, past, &mut block[..room]);
+        most = step.max(most);
+        past = last + 1;
+        place += room as u32;
+        if place < to {
+            value = held.value_after(place - 1, last);
+        }
+    }
+    most
+}
+
+// The greatest step from one place up to another within a part of the sequence with which the words begin. Where all places of
+// the part are taken each step is 1, and one number alone lies as far as the universe: such a part is not read.
+fn step_in_part(
+    words: &[u64],
+    parts: u32,
+    index: u32,
+    part: Part,
+    from: u32,
+    to: u32,
+    format: Format,
+) -> u64
+    requires words { length words.now < 2 ^ 57 }
+    requires begun { (m : ℕ) × BeginWith words.now parts m (sequence_stated (numbers_of format) words.now parts) }
+    requires few { length (sequence_stated (numbers_of format) words.now parts).values < 2 ^ 32 }
+    requires within { index < parts }
+    requires starts { part.from ≡ end_before (numbers_of format) words.now 0 index }
+    requires ends { part.to ≡ stated_end (numbers_of format) words.now 0 index }
+    requires universe { part.u ≡ stated_universe (numbers_of format) words.now 0 index }
+    requires after { part.from ≤ from }
+    requires some { from < to }
+    requires before { to ≤ part.to }
+    ensures { result ≡ greatest_step (sequence_stated (numbers_of format) words.now parts).values from to }
+{
+    directory_states_its_parts();
+    let count = (part.to - part.from) as u64;
+    if part.u == count {
+        1
+    } else if count == 1 {
+        part.u
+    } else {
+        step_of_values(&hold(words, parts, index, format), from, to)
+    }
+}
+
+// The greatest step from one place up to another of the sequence with which the words begin.
+pub(crate) fn step_between(words: &[u64], parts: u32, from: u32, to: u32, format: Format) -> u64
+    requires words { length words.now < 2 ^ 57 }
+    requires begun { (m : ℕ) × BeginWith words.now parts m (sequence_stated (numbers_of format) words.now parts) }
+    requires few { length (sequence_stated (numbers_of format) words.now parts).values < 2 ^ 32 }
+    requires some { from < to }
+    requires within { to ≤ length (sequence_stated (numbers_of format) words.now parts).values }
+    ensures { result ≡ greatest_step (sequence_stated (numbers_of format) words.now parts).values from to }
+{
+    directory_states_its_parts();
+    let mut index = part_of_place(words, parts, from, format);
+    let mut place = from;
+    let mut most = 0;
+    'parts: while place < to {
+        let (part, _) = stated_part(words, parts, index, format);
+        let end = part.to.min(to);
+        most = step_in_part(words, parts, index, part, place, end, format).max(most);
+        place = end;
+        index += 1;
+    }
+    most
+}
