@@ -1,0 +1,5 @@
+mod Rows
+mod Shifts
+mod Joins
+mod Blocks
+mod Follow
