@@ -9,7 +9,7 @@ use Rattle.std.proofs.lemmas.List.FromFn.{length-map-range_with_len, get_or-map-
 use Rattle.std.proofs.Math.Nat.{mod-eq_of_lt}
 use Rattle.bit_words.specs.Bits.{field_bits, field_at, ones_between, IsFirstOne, HasNoOne}
 use Rattle.bit_words.proofs.Value.{EachBit, bits-take, bits-drop}
-use Rattle.bit_words.proofs.Ranges.{bit-below}
+use Rattle.bit_words.proofs.Ranges.{bit-below, field-one, ones_between-more}
 use Rattle.bit_words.proofs.Pieces.{StandAt, stands-first, stands-second, stands-both, stands-within, field-fits, length-fields, fields-stand, stands-fields}
 use Rattle.part_cost.proofs.Numbers.{rises, sampled-within}
 use Rattle.part_cost.specs.Payload.{digits, bitmap_spacing, bitmap_payload}
@@ -346,3 +346,16 @@ count-more bits place q j count more is run =
     ap (λ n. n + more) is ∙ ap (λ n. ones_between bits place (place + q * j) + n) run
     ∙ sym (ones-more bits place (q * j) q)
     ∙ ap (λ n. ones_between bits place (place + n)) (let e : q * j + q ≡ q * (j + 1) = omega arith in e)
+
+-- a range that has no one counts none
+absent-by : (bits : List ℕ) (from n : ℕ) → from + n ≤ length bits → HasNoOne bits from (from + n) → ones_between bits from (from + n) ≡ 0
+absent-by bits from zero fit none = ap (λ n. sum (take n (drop from bits))) (let e : from + 0 - from ≡ 0 = omega arith in e)
+absent-by bits from (suc n) fit none =
+    ap (ones_between bits from) (let e : from + suc n ≡ from + n + 1 = omega arith in e)
+    ∙ ones_between-more bits from (from + n) (omega arith) (omega arith)
+    ∙ omega (arith, absent-by bits from n (omega arith) (λ q h g. none q h (omega arith)), field-one bits (from + n), none (from + n) (omega arith) (omega arith))
+
+pub ones-absent : (bits : List ℕ) (from to : ℕ) → from ≤ to → to ≤ length bits → HasNoOne bits from to → ones_between bits from to ≡ 0
+ones-absent bits from to h fit none =
+    let end : from + (to - from) ≡ to = omega arith in
+    ap (ones_between bits from) (sym end) ∙ absent-by bits from (to - from) (omega arith) (λ q a b. none q a (omega arith))

@@ -1,6 +1,7 @@
-use Rattle.std.proofs.Common.{◌≡◌, ℕ, ◌+◌, ◌-◌, ◌<◌, ◌≤◌, List, length, get_or, sym, ap, ◌∙◌, subst, arith}
+use Rattle.std.proofs.Common.{◌≡◌, ℕ, ◌+◌, ◌-◌, ◌*◌, ◌/◌, ◌<◌, ◌≤◌, List, length, get_or, refl, sym, ap, ◌∙◌, subst, arith}
+use Rattle.std.proofs.Math.Nat.{div-mul-le_self, mul-le-mul_right}
 use Rattle.std.proofs.lemmas.List.Elements.{All-append}
-use Rattle.bit_words.specs.Bits.{AreBits, bits_of, ones_between, IsFirstOne, HasNoOne}
+use Rattle.bit_words.specs.Bits.{AreBits, bits_of, ones_between, IsFirstOne, IsNthOne, HasNoOne}
 use Rattle.bit_words.proofs.Value.{bits-bits_of, length-bits_of}
 use Rattle.bit_words.proofs.AllBits.{bits-fields}
 use Rattle.part_cost.proofs.Numbers.{rises}
@@ -14,7 +15,7 @@ use Rattle.ranked_bitmap.specs.MapView.{Holds, IsWithin}
 use Rattle.ranked_bitmap.specs.Laws.{PartIsBits}
 use Rattle.ranked_bitmap.proofs.Marks.{bits-marks}
 use Rattle.ranked_bitmap.proofs.OneList.{view-read, read-view}
-use Rattle.ranked_bitmap.proofs.Reading.{counts, samples-are, part-is, below-universe, first-number, some-number, count-next, count-number, next-is, here-is, read-checked, counted-all, last-set, samples-read}
+use Rattle.ranked_bitmap.proofs.Reading.{counts, samples-are, part-is, below-universe, first-number, some-number, ones-on, ones-absent, count-next, count-number, next-is, here-is, read-checked, counted-all, last-set, samples-read}
 
 -- what is held lies within the words
 pub within-held : (q : ℕ) (v : MapView q) (ys : List ℕ) → Holds q v ys → IsWithin q v
@@ -36,6 +37,62 @@ number-found q v ys h least p lt first =
 pub number-there : (q : ℕ) (v : MapView q) (ys : List ℕ) → Holds q v ys → (least : ℕ) → least < v.part.u
     → HasNoOne (bits_of v.part.bits.words.now) (v.part.place + least) (v.part.place + v.part.u) → ⊥
 number-there q v ys h least lt none = some-number (bits_of v.part.bits.words.now) v.part.place v.part.u v.part.m q ys (view-read q v ys h) least lt none
+
+-- the number whose one is found by how many come before it from a place on
+pub number-numbered : (q : ℕ) (v : MapView q) (ys : List ℕ) → Holds q v ys → (k at below p : ℕ) → at < v.part.u → below ≡ ones_between (bits_of v.part.bits.words.now) v.part.place (v.part.place + at)
+    → below ≤ k → IsNthOne (bits_of v.part.bits.words.now) (v.part.place + at) (v.part.place + v.part.u) (k - below) p → p - v.part.place ≡ get_or ys k 0
+number-numbered q v ys h k at below p lt rank few nth =
+    let bits : List ℕ = bits_of v.part.bits.words.now in
+    let n : ℕ = p - v.part.place in
+    let place : v.part.place + n ≡ p = omega (arith, nth.at_or_after) in
+    let within : n < v.part.u = omega (arith, nth.before_end, place) in
+    let first : IsFirstOne bits (v.part.place + n) (v.part.place + v.part.u) p = record {
+      at_or_after = omega (arith, place);
+      before_end = nth.before_end;
+      one = nth.one;
+      first = λ r after before. absurd (omega (arith, place));
+    } in
+    let more : k - below ≡ ones_between bits (v.part.place + at) (v.part.place + n) = sym (ap (ones_between bits (v.part.place + at)) place ∙ nth.before) in
+    let count : ones_between bits v.part.place (v.part.place + n) ≡ k =
+    sym (ones-on bits v.part.place at n below (k - below) (omega (arith, nth.at_or_after)) rank more) ∙ omega arith in
+    number-found q v ys h n p within first ∙ ap (λ i. get_or ys i 0) count
+
+-- and there is one
+pub numbered-there : (q : ℕ) (v : MapView q) (ys : List ℕ) → Holds q v ys → (k at below : ℕ) → at < v.part.u → below ≡ ones_between (bits_of v.part.bits.words.now) v.part.place (v.part.place + at)
+    → below ≤ k → k < v.part.m → ones_between (bits_of v.part.bits.words.now) (v.part.place + at) (v.part.place + v.part.u) ≤ k - below → ⊥
+numbered-there q v ys h k at below lt rank few within none =
+    let bits : List ℕ = bits_of v.part.bits.words.now in
+    omega (
+      arith,
+      none,
+      ones-on bits v.part.place at v.part.u below (ones_between bits (v.part.place + at) (v.part.place + v.part.u)) (omega arith) rank refl,
+      counted-all bits v.part.place v.part.u v.part.m q ys (bits-bits_of v.part.bits.words.now) (view-read q v ys h),
+    )
+
+-- the start of a run lies within the part
+pub run-within : (q run u : ℕ) → 1 ≤ u → run ≤ (u - 1) / q → q * run < u
+run-within q run u some h = omega (arith, mul-le-mul_right q h, div-mul-le_self (u - 1) q)
+
+-- a place lies before the start of the next run but one
+pub run-behind : (q n : ℕ) → 1 ≤ q → n ≤ q * (n / q + 2)
+run-behind q n some = omega (arith, some)
+
+-- no more numbers lie below the end of a gap than below its start
+pub gap-count : (q : ℕ) (v : MapView q) (ys : List ℕ) → Holds q v ys → (least end : ℕ) → least ≤ end → end ≤ v.part.u
+    → HasNoOne (bits_of v.part.bits.words.now) (v.part.place + least) (v.part.place + end)
+    → ones_between (bits_of v.part.bits.words.now) v.part.place (v.part.place + least) ≡ ones_between (bits_of v.part.bits.words.now) v.part.place (v.part.place + end)
+gap-count q v ys h least end up fit none =
+    let bits : List ℕ = bits_of v.part.bits.words.now in
+    let read = view-read q v ys h in
+    let absent : 0 ≡ ones_between bits (v.part.place + least) (v.part.place + end) = sym (ones-absent bits (v.part.place + least) (v.part.place + end) (omega arith) (omega (arith, read.room)) none) in
+    let same = ones-on bits v.part.place least end (ones_between bits v.part.place (v.part.place + least)) 0 up refl absent in
+    omega (arith, same)
+
+-- so many numbers lie below a place, and there are more
+pub more-numbers : (q : ℕ) (v : MapView q) (ys : List ℕ) → Holds q v ys → (at : ℕ) → at < v.part.u → ones_between (bits_of v.part.bits.words.now) v.part.place (v.part.place + at) < v.part.m
+more-numbers q v ys h at lt =
+    let next = next-is (bits_of v.part.bits.words.now) v.part.place v.part.u v.part.m q ys (bits-bits_of v.part.bits.words.now) (view-read q v ys h) 0 at lt (omega arith) in
+    omega (arith, next.within, h.values.count)
 
 pub number-below : (q : ℕ) (v : MapView q) (ys : List ℕ) → Holds q v ys → (k : ℕ) → k < v.part.m → get_or ys k 0 < v.part.u
 number-below q v ys h k lt = below-universe v.part.u v.part.m ys h.values k lt

@@ -241,6 +241,12 @@ fn reads_what_was_written(rt: HostRuntime) -> Result<(), Fail> {
         (513, 512, (0, 0), 1 | 1 << 1),
         (1025, 512, (0, 0), 1 | 1 << 1 | 2 << 3),
         (1025, 1, (0, 1024), 1),
+        (
+            1900,
+            1,
+            (10, 1890),
+            0x3ff << 34 | 10 << 44 | 10 << 49 | 10 << 54,
+        ),
     ] {
         assert!(rt; step > 0);
         let values = multiples(rt.alloc(), u, step, gap).expect(&rt, "memory");
