@@ -1,5 +1,5 @@
 -- Lemmas on one step from pivot to pivot.
-use Rattle.std.proofs.Common.{◌≡◌, refl, sym, ap, inl, inr, subst, ℕ, ◌+◌, ◌*◌, ◌<◌, ◌≤◌, List, ◌∷◌, ◌++◌, map, take, drop, length, Option, Some, None, arith}
+use Rattle.std.proofs.Common.{◌≡◌, refl, sym, ap, ◌∙◌, inl, inr, subst, ℕ, ◌+◌, ◌*◌, ◌<◌, ◌≤◌, List, ◌∷◌, ◌++◌, map, take, drop, length, Option, Some, None, arith}
 use Rattle.std.specs.List.{All}
 use Rattle.std.specs.Option.{IfSome}
 use Rattle.std.proofs.lemmas.List.{length-map, drop_at}
@@ -7,7 +7,7 @@ use Rattle.std.proofs.lemmas.List.Elements.{All-drop}
 use Rattle.std.proofs.lemmas.List.Folds.{list_any_none}
 use Rattle.std.proofs.lemmas.List.Sums.{sum_by-append}
 use Rattle.collection_model.specs.Collection.{Posting, greatest_freq}
-use Rattle.scan_plans.specs.Matches.{AreBelow, has_doc}
+use Rattle.scan_plans.specs.Matches.{AreBelow, has_doc, score}
 use Rattle.scan_plans.specs.IsTop.{IsTop}
 use Rattle.scan_plans.specs.Ranking.{IsFirstK, IsLeastScore}
 use Rattle.scan_plans.specs.Scan.{HasPassed}
@@ -15,9 +15,9 @@ use Rattle.scan_plans.specs.Skips.{TopAfterOffer, TopAfterSkips, TopIsBelow, Has
 use Rattle.topk_pruning.specs.declared.term.Term.{Term}
 use Rattle.topk_pruning.specs.declared.order.Standing.{Standing}
 use Rattle.topk_pruning.specs.Terms.{list_of, share, score_in, AreTerms, AreAllTerms, IsFirstDoc}
-use Rattle.topk_pruning.specs.Order.{terms_at, IsFalling, StandsAt, IsOrder, IsPivot, IsNext}
+use Rattle.topk_pruning.specs.Order.{terms_at, IsFalling, StandsAt, IsOrder, IsPivot, IsNext, PassesOver}
 use Rattle.topk_pruning.proofs.Moves.{later-passed}
-use Rattle.topk_pruning.proofs.Scores.{score-none}
+use Rattle.topk_pruning.proofs.Scores.{score-none, score-is}
 use Rattle.topk_pruning.proofs.Tops.{IsStep, next-step, last-step, essential-spared, follows-offered}
 use Rattle.topk_pruning.proofs.Orders.{all-of, all-again, are-again, spared-order, pivot-first, no-pivot, order-later}
 
@@ -70,6 +70,17 @@ pivot-end skips n lists weights terms k from order o held all are is full least 
     (spared-order lists terms from k pivot.count order held is (essential-spared ts o pivot.count k held pivot.essential full least)) le top
     (subst (λ (count : ℕ). IsFirstDoc lists (take (length is.ended + count) every) from None) (sym none) (no-pivot lists terms from order is))
 
+-- documents that are passed over leave the top list as it is
+passed-over : TopAfterSkips → (lists : List (List Posting)) (weights : List ℕ) (terms : List Term) (n k from doc next : ℕ) (order : List Standing) (held : List (ℕ × ℕ)) → (is : IsOrder lists terms from order) → AreAllTerms lists weights terms → from ≤ doc
+    → PassesOver lists order n k doc held next → IsTop doc lists weights k held → IsTop next lists weights k held
+passed-over skips lists weights terms n k from doc next order held is all after passes top =
+    let every : List Term = all-of lists terms from order is in
+    let later = passes.later in
+    skips doc next lists weights k held (omega arith)
+    (λ d from_doc before.
+    let same : score lists weights d ≡ score_in lists d (terms_at order) = score-is lists weights every d (all-again lists weights terms from order is all) ∙ sym (standing-score lists terms from d order is (omega arith)) in
+    inr (passes.full, λ i e within. let h = passes.beaten d from_doc before i e within in omega arith)) top
+
 -- what is known at a pivot, and what holds after it
 pub record IsRound {X : Type 0} (list : X → List Posting) (place : X → ℕ) (n : ℕ) (lists : List (List Posting)) (weights : List ℕ) (k from doc : ℕ) (cs : List X) (order : List Standing) (held : List (ℕ × ℕ)) : Type 0 where
   pub terms : AreTerms (map list cs) (terms_at order)
@@ -77,8 +88,8 @@ pub record IsRound {X : Type 0} (list : X → List Posting) (place : X → ℕ) 
   pub stand : All (StandsAt (map list cs) doc) order
   pub in_range : doc < n
   pub above : All (λ e. e.0 < doc) held
-  pub later : (new : List (ℕ × ℕ)) (next : ℕ) → IsNext (map list cs) order k doc held new next → (from < next) × (doc ≤ next) × (next ≤ n)
-  pub top : (new : List (ℕ × ℕ)) (next : ℕ) → IsNext (map list cs) order k doc held new next → IsTop next lists weights k new
+  pub later : (new : List (ℕ × ℕ)) (next : ℕ) → IsNext (map list cs) order n k doc held new next → (from < next) × (doc ≤ next) × (next ≤ n)
+  pub top : (new : List (ℕ × ℕ)) (next : ℕ) → IsNext (map list cs) order n k doc held new next → IsTop next lists weights k new
 
 module _ {X : Type 0} (list : X → List Posting) (place : X → ℕ) where
   pub round-of : TopAfterOffer → TopAfterSkips → TopIsBelow → HasOnlyBelow → (n : ℕ) (lists : List (List Posting)) (weights : List ℕ) (terms : List Term) (k from doc : ℕ) (cs : List X) (order : List Standing) (o : Option ℕ) (held : List (ℕ × ℕ)) → AreBelow n lists → AreAllTerms lists weights terms → AreTerms lists terms
@@ -96,12 +107,16 @@ module _ {X : Type 0} (list : X → List Posting) (place : X → ℕ) where
         above = step.above;
         later = λ new next goes. elim goes as (λ _. (from < next) × (doc ≤ next) × (next ≤ n)) [
           | inl waits ↦ (let at = waits.0 in let one = waits.2 in let low = caught one.0 one.1 one.2 in let read = ap (λ (s : Standing). s.doc) one.3 in let lt = one.4 in (omega arith, omega arith, omega arith))
-          | inr scored ↦ (let at = scored.0 in (omega arith, omega arith, omega arith))
+          | inr (inl scored) ↦ (let at = scored.0 in (omega arith, omega arith, omega arith))
+          | inr (inr passed) ↦ (let far = passed.1.later in let near = passed.1.in_range in (omega arith, omega arith, omega arith))
         ];
         top = λ new next goes. elim goes as (λ _. IsTop next lists weights k new) [
           | inl waits ↦ subst (λ (d : ℕ). IsTop d lists weights k new) (sym waits.0) (subst (λ (h : List (ℕ × ℕ)). IsTop doc lists weights k h) (sym waits.1) step.top)
-          | inr scored ↦ (let first = subst (λ (ls : List (List Posting)). IsFirstK k ((doc, score_in ls doc (terms_at order)) ∷ held) new) same scored.1 in
+          | inr (inl scored) ↦ (let first = subst (λ (ls : List (List Posting)). IsFirstK k ((doc, score_in ls doc (terms_at order)) ∷ held) new) same scored.1 in
               subst (λ (d : ℕ). IsTop d lists weights k new) (sym scored.0)
               (follows-offered offered lists (all-of lists terms from order is) k doc (score_in lists doc (terms_at order)) held new (standing-score lists terms from doc order is after) first weights (all-again lists weights terms from order is all) step.has step.top))
+          | inr (inr passed) ↦ (let passes = subst (λ (ls : List (List Posting)). PassesOver ls order n k doc held next) same passed.1 in
+              subst (λ (h : List (ℕ × ℕ)). IsTop next lists weights k h) (sym passed.0)
+              (passed-over skips lists weights terms n k from doc next order held is all after passes step.top))
         ];
       }
