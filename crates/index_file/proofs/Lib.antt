@@ -21,3 +21,4 @@ mod OneFault
 mod Both
 mod Sums
 mod Measured
+mod Blocks

@@ -22,11 +22,10 @@ use Rattle.index_file.specs.declared.measures.Measure.{Measure}
 use Rattle.index_file.specs.declared.measures.Measure.TheVariants.{PartsOf, Payload}
 use Rattle.index_file.specs.FileWords.{CutList, ListParts, with_parts, doc_words, freq_words, lists_words, Spells}
 use Rattle.index_file.specs.FirstBroken.{stated_documents, stated_terms}
-use Rattle.index_file.specs.IndexView.{same_kind, kinds_from, kinds_of_list}
+use Rattle.index_file.specs.IndexView.{same_kind, kinds_from, kinds_of_list, docs_view, freqs_view}
 use Rattle.index_file.specs.ListAt.{HasFrame, StandsAt, StandFrom, word_after}
 use Rattle.index_file.specs.Measures.{measure_at, measure_of_part, measure_of_list, IsMeasured}
 use Rattle.index_file.specs.Laws.{SequenceLaws}
-use Rattle.index_file.proofs.Standing.{docs_view, freqs_view}
 use Rattle.index_file.proofs.Fronts.{stand-from, front-pieces, length-lists}
 use Rattle.index_file.proofs.StatedIndex.{opened}
 use Rattle.index_file.proofs.Reading.{OpenedList, opened-stand}

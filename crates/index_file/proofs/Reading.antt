@@ -5,25 +5,33 @@ use Rattle.std.proofs.lemmas.List.Elements.{All-weaker}
 use Rattle.collection_model.specs.FormatNumbers.{FormatNumbers}
 use Rattle.collection_model.specs.Collection.{Collection, docs_of, greatest_freq, list_of, IsPostingList}
 use Rattle.collection_model.specs.Sequences.{doc_sequence, freq_sequence, postings_in}
+use Rattle.part_cost.specs.declared.formats.Format.{Format}
 use Rattle.part_cost.specs.Formats.{numbers_of, HasRoom}
+use Rattle.two_level.specs.Laws.{WordsState}
 use Rattle.cursor_api.specs.NextGeq.{IsCursorList}
 use Rattle.two_level.specs.SequenceView.{SequenceView, BeginWith, words_used}
-use Rattle.index_file.specs.FileWords.{CutList, ListParts, with_parts, doc_words, Spells}
+use Rattle.index_file.specs.FileWords.{CutList, ListParts, with_parts, doc_words, Spells, IsIndex}
 use Rattle.index_file.specs.FirstBroken.{stated_documents, stated_terms, stated_sizes, term_word, stated_length, stated_doc_parts, stated_freq_parts, stated_greatest}
-use Rattle.index_file.specs.IndexView.{IndexView, index_stated, docs_stated, freqs_stated}
+use Rattle.index_file.specs.IndexView.{IndexView, index_stated, docs_stated, freqs_stated, docs_view, freqs_view}
 use Rattle.index_file.specs.ListAt.{HasFrame, StandsAt, StandFrom, word_after}
 use Rattle.index_file.proofs.OneList.{begins-at}
 use Rattle.index_file.specs.Laws.{SequenceLaws}
-use Rattle.index_file.proofs.Standing.{counts, docs_view, freqs_view, docs-at, freqs-at}
+use Rattle.index_file.proofs.Standing.{counts, docs-at, freqs-at}
 use Rattle.index_file.proofs.Fronts.{stand-from, front-pieces}
 use Rattle.index_file.proofs.FilePieces.{half_of}
-use Rattle.index_file.proofs.CutLists.{lists_in}
-use Rattle.index_file.proofs.StatedIndex.{opened, size-stated}
+use Rattle.index_file.proofs.CutLists.{lists_in, parts_in}
+use Rattle.index_file.proofs.StatedIndex.{opened, size-stated, stated-is}
 
 -- the words of an index spell what they state
 pub spells-view : (words : List ℕ) (i : IndexView) → Spells (numbers_of (index_stated words).format) words (index_stated words).collection (index_stated words).parts → index_stated words ≡ i
     → Spells (numbers_of i.format) words i.collection i.parts
 spells-view words i h e = subst (λ x. Spells (numbers_of x.format) words x.collection x.parts) e h
+
+-- an index spells what its words state
+pub spells-stated : ((v : Format) → SequenceLaws (numbers_of v)) → ((v : Format) → WordsState (numbers_of v)) → (words : List ℕ) → IsIndex words
+    → Spells (numbers_of (index_stated words).format) words (index_stated words).collection (index_stated words).parts
+spells-stated laws state words (v, i) =
+    subst (λ x. Spells (numbers_of x.format) words x.collection x.parts) (sym (stated-is v (laws v) (state v) words i.0 i.1 i.2)) i.2
 
 pub has-frame : (format : FormatNumbers) (words : List ℕ) (c : Collection) (parts : List ListParts) → Spells format words c parts → HasFrame format words
 has-frame format words c parts h = (opened format words c parts h).laid.frame
@@ -48,12 +56,12 @@ size-odd format words c parts h d lt e = ap (λ r. half_of (r == 0) (slice_index
 
 -- a list among those that stand
 stand-at : (format : FormatNumbers) (words : List ℕ) (t p : ℕ) (cs : List CutList) → StandFrom format words t p cs → (i : ℕ) → i < length cs
-    → (c : CutList) × (q : ℕ) × StandsAt format words (t + i) q c × (get_or (lists_in cs) i [] ≡ c.list)
+    → (c : CutList) × (q : ℕ) × StandsAt format words (t + i) q c × (get_or (lists_in cs) i [] ≡ c.list) × ((none : ListParts) → get_or (parts_in cs) i none ≡ c.parts)
 stand-at format words t p [] h i lt = absurd (omega (arith, lt))
-stand-at format words t p (c ∷ cs) h zero lt = (c, p, subst (λ k. StandsAt format words k p c) (let e : t ≡ t + 0 = omega arith in e) h.0, refl)
+stand-at format words t p (c ∷ cs) h zero lt = (c, p, subst (λ k. StandsAt format words k p c) (let e : t ≡ t + 0 = omega arith in e) h.0, refl, λ none. refl)
 stand-at format words t p (c ∷ cs) h (suc i) lt =
     let r = stand-at format words (t + 1) (word_after format p c) cs h.1 i (omega (arith, lt)) in
-    (r.0, r.1, subst (λ k. StandsAt format words k r.1 r.0) (let e : t + 1 + i ≡ t + suc i = omega arith in e) r.2, r.3)
+    (r.0, r.1, subst (λ k. StandsAt format words k r.1 r.0) (let e : t + 1 + i ≡ t + suc i = omega arith in e) r.2, r.3, r.4)
 
 -- a list of an index, in its words
 pub record OpenedList (format : FormatNumbers) (words : List ℕ) (t : ℕ) (x : CutList) : Type 0 where
@@ -98,6 +106,21 @@ opened-list format room laws words c parts h t lt =
     let p : ℕ = s.1 in
     let at : StandsAt format words t s.1 s.0 = subst (λ k. StandsAt format words k s.1 s.0) (let e : 0 + t ≡ t = omega arith in e) s.2 in
     (x, opened-stand format room laws words t p x frame at, ap (λ l. get_or l t []) (sym o.lists) ∙ s.3)
+
+-- the same list, with its parts
+pub opened-cut : (format : FormatNumbers) (room : HasRoom format) → SequenceLaws format → (words : List ℕ) (c : Collection) (parts : List ListParts) (none : ListParts) → Spells format words c parts → (t : ℕ) → t < stated_terms words
+    → OpenedList format words t (record { list = list_of c t; parts = get_or parts t none })
+opened-cut format room laws words c parts none h t lt =
+    let o = opened format words c parts h in
+    let cs : List CutList = with_parts c.lists parts in
+    let frame = o.laid.frame in
+    let within : t < length cs = omega (arith, lt, o.laid.terms) in
+    let s = stand-at format words 0 2 cs (stand-from format words 0 2 cs (front-pieces format words cs o.front)) t within in
+    let at : StandsAt format words t s.1 s.0 = subst (λ k. StandsAt format words k s.1 s.0) (let e : 0 + t ≡ t = omega arith in e) s.2 in
+    let list : s.0.list ≡ list_of c t = sym s.3 ∙ ap (λ l. get_or l t []) o.lists in
+    let its_parts : s.0.parts ≡ get_or parts t none = sym (s.4 none) ∙ ap (λ l. get_or l t none) o.parts_are in
+    subst (λ l. OpenedList format words t (record { list = l; parts = get_or parts t none })) list
+    (subst (λ p. OpenedList format words t (record { list = s.0.list; parts = p })) its_parts (opened-stand format room laws words t s.1 s.0 frame at))
 
 -- the sequences that words state of a list of an index are its own
 pub docs-read : (format : FormatNumbers) → SequenceLaws format → (words : List ℕ) (t : ℕ) (x : CutList) → OpenedList format words t x → docs_stated format words t ≡ docs_view format x

@@ -19,6 +19,7 @@ use Rattle.two_level.specs.SequenceView.{SequenceView, words_used}
 use Rattle.two_level.specs.SequenceFault.{parts_fit, word_behind}
 use Rattle.index_file.specs.declared.fault.OpenFault.{OpenFault}
 use Rattle.index_file.specs.FileWords.{CutList, doc_words, freq_words}
+use Rattle.index_file.specs.IndexView.{docs_view, freqs_view}
 use Rattle.index_file.specs.Laws.{SequenceLaws}
 use Rattle.index_file.specs.FirstBroken.{stated_documents, stated_sizes, term_word, stated_length, stated_doc_parts, stated_freq_parts, stated_greatest, cannot_begin, IsFreqsFault, IsTermFault}
 use Rattle.index_file.specs.ListAt.{HasFrame, IsSequenceAt, StandsAt}
@@ -26,13 +27,6 @@ use Rattle.index_file.proofs.OneList.{sequence-is, begins-at}
 use Rattle.two_level.proofs.Choices.{unmatch}
 use Rattle.index_file.proofs.Agree.{later-of}
 use Rattle.index_file.proofs.TermFaults.{IsAt, InDocs, InFreqs, PassButGreatest}
-
--- the two sequences of a list in its parts
-abbrev pub docs_view : FormatNumbers → CutList → SequenceView
-docs_view format c = record { format = format; values = doc_sequence c.list; ends = c.parts.doc_ends }
-
-abbrev pub freqs_view : FormatNumbers → CutList → SequenceView
-freqs_view format c = record { format = format; values = freq_sequence c.list; ends = c.parts.freq_ends }
 
 -- the counts of a list that stands are those that the words state
 pub record Counts (words : List ℕ) (t : ℕ) (c : CutList) : Type 0 where

@@ -18,12 +18,12 @@ use Rattle.two_level.specs.SequenceView.{words_used, sequence_stated}
 use Rattle.index_file.specs.declared.fault.OpenFault.{OpenFault}
 use Rattle.index_file.specs.FileWords.{CutList, ListParts, with_parts, doc_words, lists_words, sizes_words, ArePartitions, Spells, IsIndexIn}
 use Rattle.index_file.specs.FirstBroken.{stated_documents, stated_terms, stated_sizes, directory_word, stated_length, stated_doc_parts, stated_freq_parts, IsFileFront, IsTermFault, IsClosingFault, IsFirstBrokenIn}
-use Rattle.index_file.specs.IndexView.{size_stated, docs_stated, freqs_stated, collection_stated, parts_stated, index_stated}
+use Rattle.index_file.specs.IndexView.{size_stated, docs_stated, freqs_stated, collection_stated, parts_stated, index_stated, docs_view, freqs_view}
 use Rattle.index_file.specs.ListAt.{HasFrame, StandsAt, StandFrom, word_after}
 use Rattle.index_file.proofs.OneList.{begins-at}
 use Rattle.two_level.proofs.Choices.{unmatch}
 use Rattle.index_file.specs.Laws.{SequenceLaws}
-use Rattle.index_file.proofs.Standing.{docs_view, freqs_view, docs-at, freqs-at}
+use Rattle.index_file.proofs.Standing.{docs-at, freqs-at}
 use Rattle.index_file.proofs.Fronts.{HasDocParts, HasFreqParts, stand-from, front-pieces, stand-same}
 use Rattle.index_file.proofs.Lengths.{sizes-length}
 use Rattle.index_file.proofs.FilePieces.{Laid, half_of, sizes-back, sizes-filled, laid-of}

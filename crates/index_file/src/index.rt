@@ -1,6 +1,7 @@
-ghost use Rattle.std.specs.Prelude.{◌≡◌, ℕ, ◌≤◌, ◌<◌, ◌^◌, List, length, sum, slice_index, IfOk, IfErr};
-ghost use Rattle.collection_model.specs.Collection.{Collection, WellFormed, list_of};
+ghost use Rattle.std.specs.Prelude.{◌≡◌, ℕ, ◌≤◌, ◌<◌, ◌-◌, ◌^◌, List, length, sum, slice_index, take, drop, IfOk, IfErr};
+ghost use Rattle.collection_model.specs.Collection.{Collection, WellFormed, list_of, docs_of, greatest_freq};
 ghost use Rattle.part_cost.specs.Formats.{numbers_of};
+ghost use Rattle.two_level.specs.SequenceView.{start_of_part};
 ghost use Rattle.index_file.specs.FileWords.{ListParts, ArePartitions, Spells, IsIndexIn, IsIndex};
 ghost use Rattle.index_file.specs.FirstBroken.{stated_terms, IsFirstBroken};
 ghost use Rattle.index_file.specs.IndexView as of;
@@ -11,9 +12,9 @@ use crate::frame::{format_of, frame_of};
 use crate::laws::sequence_laws;
 use crate::measures::{Measure, of_index};
 use crate::totals::{all_postings, all_sizes, size_at};
-use crate::views::list_views;
+use crate::views::{ListViews, list_views};
 use cursor_api::DocCursor;
-use part_cost::{Format, Kind};
+use part_cost::{Format, Kind, Which};
 use postings::PostingCursor;
 use std::marker::Model;
 
@@ -43,10 +44,22 @@ impl<'a> Index<'a> {
         ensures ok { IfOk result (λ index. Spells (numbers_of index.format) words.entry.now index.collection index.parts) }
         ensures no_index { IfErr result (λ f. ¬ IsIndex words.entry.now) }
         ensures first { IfErr result (λ f. IsFirstBroken words.entry.now f) }
+        ensures stated { IfOk result (λ index. index ≡ of.index_stated words.entry.now) }
     {
         sequence_laws();
         check_file(words)?;
         Ok(Index { words })
+    }
+
+    /// The same index of words that `view` accepts, without looking whether it does.
+    pub fn known(words: &'a [u64]) -> Index<'a>
+        requires words { length words.now < 2 ^ 57 }
+        requires index { IsIndex words.now }
+        ensures spells { Spells (numbers_of result.format) words.entry.now result.collection result.parts }
+        ensures stated { result ≡ of.index_stated words.entry.now }
+    {
+        sequence_laws();
+        Index { words }
     }
 
     /// What every index is: its collection is well formed in its format, and the sequences of its lists are cut into partitions.
@@ -119,6 +132,62 @@ impl<'a> Index<'a> {
         ensures { result ≡ of.payload_bits self.now }
     {
         of_index(Measure::Payload, self.words, self.format())
+    }
+
+    /// What the parts of a sequence of list t cost as it stands in the file, in bits. It looks at one entry.
+    pub fn seq_cost(&self, t: u32, which: Which) -> u64
+        requires within { t < length self.now.collection.lists }
+        ensures { result ≡ of.sequence_cost self.now t which }
+    {
+        let list = self.list(t);
+        match which {
+            Which::Docs => list.docs.cost(),
+            Which::Freqs => list.freqs.cost(),
+        }
+    }
+
+    /// How many parts the documents of list t have.
+    pub fn blocks(&self, t: u32) -> u32
+        requires within { t < length self.now.collection.lists }
+        ensures { result ≡ length (of.doc_ends_of self.now t) }
+    {
+        self.list(t).docs.parts()
+    }
+
+    /// The last document of part q of the documents of list t, and the greatest frequency in that part. It reads each frequency of
+    /// the part that does not lie in a part of frequencies that are all 1.
+    pub fn block(&self, t: u32, q: u32) -> (u32, u32)
+        requires within { t < length self.now.collection.lists }
+        requires part { q < length (of.doc_ends_of self.now t) }
+        ensures last { result.0 ≡ slice_index (docs_of (list_of self.now.collection t)) (slice_index (of.doc_ends_of self.now t) q - 1) }
+        ensures greatest { let ends = of.doc_ends_of self.now t in
+            result.1 ≡ greatest_freq (take (slice_index ends q - start_of_part ends q) (drop (start_of_part ends q) (list_of self.now.collection t))) }
+    {
+        self.stands_for_a_collection();
+        let list = self.list(t);
+        let part = list.docs.part(q);
+        let greatest = list.freqs.greatest_step(part.from, part.to);
+        (part.last as u32, greatest as u32)
+    }
+
+    /// The last document of part q of the documents of list t. It looks at one entry.
+    pub fn block_last(&self, t: u32, q: u32) -> u32
+        requires within { t < length self.now.collection.lists }
+        requires part { q < length (of.doc_ends_of self.now t) }
+        ensures { result ≡ slice_index (docs_of (list_of self.now.collection t)) (slice_index (of.doc_ends_of self.now t) q - 1) }
+    {
+        self.stands_for_a_collection();
+        self.list(t).docs.last_of_part(q) as u32
+    }
+
+    // The two sequences of list t.
+    fn list(&self, t: u32) -> ListViews<'a>
+        requires within { t < length self.now.collection.lists }
+        ensures docs { result.docs ≡ of.docs_view (numbers_of self.now.format) (of.cut_list_at self.now t) }
+        ensures freqs { result.freqs ≡ of.freqs_view (numbers_of self.now.format) (of.cut_list_at self.now t) }
+    {
+        sequence_laws();
+        list_views(self.words, t, self.format())
     }
 
     /// A cursor at the start of list t.

@@ -131,7 +131,7 @@ fn check_sums(words: &[u64], t: u32, p: u64, format: Format) -> Result<u64, Open
         format.most_sum(),
         format,
     ) {
-        Ok(sums) if greatest_step(&sums) == greatest => Ok(p + sums.used()),
+        Ok(sums) if greatest_step(&sums.view) == greatest => Ok(p + sums.used),
         Ok(_) => Err(OpenFault {
             check: Check::K10,
             term: t,
@@ -173,7 +173,7 @@ pub(crate) fn check_list(words: &[u64], t: u32, p: u64, format: Format) -> Resul
         frame.documents,
         format,
     ) {
-        Ok(docs) => check_sums(words, t, p + docs.used(), format),
+        Ok(docs) => check_sums(words, t, p + docs.used, format),
         Err(fault) => Err(fault_in(t, 0, fault)),
     }
 }

@@ -1,17 +1,15 @@
-ghost use Rattle.std.specs.Prelude.{◌≡◌, ◌≤◌, ◌<◌, ◌+◌, ◌-◌, ◌*◌, ◌^◌, length, drop, IfOk, IfErr, true};
-ghost use Rattle.std.specs.List.{All};
+ghost use Rattle.std.specs.Prelude.{◌≡◌, ◌≤◌, ◌<◌, ◌+◌, ◌*◌, ◌^◌, length, drop, IfOk, IfErr, true};
 ghost use Rattle.collection_model.specs.FormatNumbers.{entry_words};
 ghost use Rattle.collection_model.specs.Collection.{greatest};
 ghost use Rattle.collection_model.specs.Sequences.{steps_from};
 ghost use Rattle.part_cost.specs.Formats.{numbers_of};
-ghost use Rattle.part_cost.specs.Payload.{widest_low};
-ghost use Rattle.two_level.specs.SequenceView.{SequenceView, BeginWith};
+ghost use Rattle.two_level.specs.SequenceView.{SequenceView, BeginWith, words_used};
 ghost use Rattle.two_level.specs.SequenceFault.{parts_fit};
 ghost use Rattle.two_level.specs.AtAWord.{IsFaultAt};
 ghost use Rattle.index_file.specs.ListAt.{IsSequenceAt};
 
 use part_cost::Format;
-use two_level::{SeqFault, SeqView, checks_stand_at_a_word};
+use two_level::{Checked, SeqFault, SeqView, checks_stand_at_a_word};
 
 // Where a sequence is to stand, from one word up to another.
 #[derive(Clone, Copy)]
@@ -20,7 +18,7 @@ pub(crate) struct Span {
     pub(crate) to: u64,
 }
 
-// The sequence of m values below the bound in so many parts at a word.
+// The sequence of m values below the bound in so many parts at a word, and how many words it takes.
 pub(crate) fn sequence_at<'a>(
     words: &'a [u64],
     span: Span,
@@ -28,18 +26,19 @@ pub(crate) fn sequence_at<'a>(
     m: u32,
     bound: u64,
     format: Format,
-) -> Result<SeqView<'a>, SeqFault>
+) -> Result<Checked<'a>, SeqFault>
     requires words { length words.now < 2 ^ 57 }
     requires bound { bound ≤ (numbers_of format).most_sum }
     requires within { span.to ≤ length words.now }
     requires fit { parts_fit m parts ≡ true }
     requires room { span.from + entry_words (numbers_of format) * parts ≤ span.to }
-    ensures format { IfOk result (λ v. v.format ≡ numbers_of format) }
-    ensures ok { IfOk result (λ v. IsSequenceAt words.entry.now span.from span.to parts m bound v) }
+    ensures format { IfOk result (λ c. c.view.format ≡ numbers_of format) }
+    ensures ok { IfOk result (λ c. IsSequenceAt words.entry.now span.from span.to parts m bound c.view) }
+    ensures used { IfOk result (λ c. c.used ≡ words_used c.view) }
     ensures first { IfErr result (λ f. IsFaultAt (numbers_of format) words.entry.now span.to span.from parts m bound f.check f.part) }
 {
     checks_stand_at_a_word();
-    SeqView::check(
+    SeqView::check_counting(
         &words[span.from as usize..span.to as usize],
         parts,
         m,
@@ -64,25 +63,9 @@ pub(crate) fn known_at<'a>(
     SeqView::known(&words[p as usize..], parts, m, format)
 }
 
-// How many values are read at a time.
-const BLOCK: usize = 64;
-
 // The greatest step of a sequence.
 pub(crate) fn greatest_step(sums: &SeqView) -> u64
-    requires below { All (λ s. s < 2 ^ widest_low) sums.now.values }
     ensures { result ≡ greatest (steps_from 0 sums.now.values) }
 {
-    let mut cursor = sums.cursor();
-    let mut block = [0; BLOCK];
-    let mut past = 0;
-    let mut most = 0;
-    'read: while cursor.place() < sums.len() {
-        let count = cursor.values_below(u64::MAX, &mut block);
-        for j in 0..count {
-            let next = block[j] + 1;
-            most = next.saturating_sub(past).max(most);
-            past = next;
-        }
-    }
-    most
+    sums.greatest_step(0, sums.len())
 }

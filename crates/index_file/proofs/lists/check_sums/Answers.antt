@@ -14,8 +14,8 @@ returns-in-Ok-2-clause-first c =
     let test : (not (term_word c.args.words.now c.args.t 1 == c.args.p) || nat_lt (stated_sizes c.args.words.now) (c.args.p + entry_words (numbers_of c.args.format) * stated_freq_parts c.args.words.now c.args.t)) ≡ false =
     freqs-test (numbers_of c.args.format) words c.args.t c.args.p list.sums list.sum_parts frame.sizes c.sums_cannot_begin.result false c.list_entry-list.ensures.sums c.list_entry-list.ensures.sum_parts c.frame_of-frame.ensures.sizes
     c.sums_cannot_begin.ensures c.if-sums_cannot_begin.false in
-    greatest-breaks (numbers_of c.args.format) (c.one_sequence.ensures c.args.format) words c.args.t c.args.p c.in-Ok.sums c.in-Ok.ensures.format (omega (arith, c.requires.frame.whole)) test
-    (sequence-as words c.args.p frame.sizes list.sum_parts list.len c.most_sum.result (stated_sizes words) (stated_freq_parts words c.args.t) (stated_length words c.args.t) c.in-Ok.sums.format.most_sum c.in-Ok.sums
+    greatest-breaks (numbers_of c.args.format) (c.one_sequence.ensures c.args.format) words c.args.t c.args.p c.in-Ok.sums.view c.in-Ok.ensures.format (omega (arith, c.requires.frame.whole)) test
+    (sequence-as words c.args.p frame.sizes list.sum_parts list.len c.most_sum.result (stated_sizes words) (stated_freq_parts words c.args.t) (stated_length words c.args.t) c.in-Ok.sums.view.format.most_sum c.in-Ok.sums.view
     c.frame_of-frame.ensures.sizes c.list_entry-list.ensures.sum_parts c.list_entry-list.ensures.len (c.most_sum.ensures ∙ ap (λ x. x.most_sum) (sym c.in-Ok.ensures.format)) c.in-Ok.ensures.ok)
     (λ e. c.if-greatest_step-greatest.false (c.greatest_step.ensures ∙ e ∙ sym c.list_entry-list.ensures.greatest ∙ sym c.from-greatest.ensures))
 

@@ -2,7 +2,7 @@ use Rattle.std.proofs.Common.{refl, sym, ◌∙◌, arith}
 use Rattle.part_cost.specs.Formats.{numbers_of}
 use Rattle.part_cost.proofs.Rooms.{formats-have-room}
 use Rattle.index_file.specs.FirstBroken.{term_word, stated_length, stated_doc_parts, stated_freq_parts}
-use Rattle.index_file.proofs.Standing.{docs_view, freqs_view}
+use Rattle.index_file.specs.IndexView.{docs_view, freqs_view}
 use Rattle.index_file.proofs.Reading.{opened-list, has-frame, begin-as, docs-read, freqs-read}
 use Rattle.index_file.proofs.views.list_views.Goals as goal
 

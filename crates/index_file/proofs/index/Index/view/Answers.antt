@@ -1,23 +1,14 @@
-use Rattle.std.proofs.Common.{ℕ, List, sym, subst, rules}
+use Rattle.std.proofs.Common.{rules}
 use Rattle.std.proofs.lemmas.Result.{IfErr-weaker}
-use Rattle.part_cost.specs.declared.formats.Format.{Format}
 use Rattle.part_cost.specs.Formats.{numbers_of}
 use Rattle.part_cost.proofs.Rooms.{formats-have-room}
-use Rattle.two_level.specs.Laws.{WordsState}
-use Rattle.index_file.specs.FileWords.{Spells, IsIndex}
+use Rattle.index_file.specs.FileWords.{IsIndex}
 use Rattle.index_file.specs.FirstBroken.{IsFirstBroken}
-use Rattle.index_file.specs.IndexView.{index_stated}
-use Rattle.index_file.specs.Laws.{SequenceLaws}
-use Rattle.index_file.proofs.StatedIndex.{stated-is}
+use Rattle.index_file.proofs.Reading.{spells-stated}
 use Rattle.index_file.proofs.FirstFaults.{from-err}
 use Rattle.index_file.proofs.OneFault.{one-broken-check-in}
 use Rattle.index_file.proofs.Both.{one-broken-check}
 use Rattle.index_file.proofs.index.Index.view.Goals as goal
-
-spells-stated : ((v : Format) → SequenceLaws (numbers_of v)) → ((v : Format) → WordsState (numbers_of v)) → (words : List ℕ) → IsIndex words
-    → Spells (numbers_of (index_stated words).format) words (index_stated words).collection (index_stated words).parts
-spells-stated laws state words (v, i) =
-    subst (λ x. Spells (numbers_of x.format) words x.collection x.parts) (sym (stated-is v (laws v) (state v) words i.0 i.1 i.2)) i.2
 
 pub returns-in_err-check_file-clause-no_index : goal.returns-in_err-check_file-clause-no_index
 returns-in_err-check_file-clause-no_index c =
