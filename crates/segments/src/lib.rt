@@ -8,3 +8,6 @@ mod pushed;
 
 pub use cursor::JoinedCursor;
 pub use pushed::{SegRule, Segments};
+
+#[cfg(test)]
+mod tests;
