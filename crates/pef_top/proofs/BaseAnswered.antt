@@ -7,6 +7,7 @@ use Rattle.part_cost.specs.Formats.{numbers_of}
 use Rattle.pef_io.specs.SourceState.{SourceState}
 use Rattle.pef_io.specs.SinkState.{SinkState}
 use Rattle.pef_io.specs.DepotState.{DepotState}
+use Rattle.pef_io.specs.declared.fail.Slot.TheVariants.{Index}
 use Rattle.index_file.specs.FileWords.{IsIndex, Spells}
 use Rattle.index_file.specs.IndexView.{IndexView}
 use Rattle.index_file.specs.Laws.{OneIndex}
@@ -15,15 +16,15 @@ use Rattle.command_steps.specs.declared.text.RunFault.{RunFault}
 use Rattle.command_steps.specs.BuildWords.{BuildsWords, words_built}
 use Rattle.command_steps.specs.AnswerText.{AnswersText}
 use Rattle.pef_top.specs.declared.stop.Stop.{Stop}
-use Rattle.command_steps.specs.declared.plan.Plan.{Plan}
-use Rattle.pef_top.specs.Command.{Answer}
-use Rattle.pef_top.specs.Outside.{Outside, outside}
-use Rattle.pef_top.specs.Outcome.{Outcome, Done, FileFault, IndexWriteFault, InputTooLarge}
+use Rattle.command_line.specs.declared.plan.Plan.{Plan}
+use Rattle.command_line.specs.Command.{Answer}
+use Rattle.pef_top.specs.Outside.{Outside, outside, OfFile, OfWriting}
+use Rattle.pef_top.specs.Outcome.{Outcome, Done, InputTooLarge}
 use Rattle.pef_top.specs.Answer.{IsAnswerable, IsBuiltFrom, answer_format}
 use Rattle.pef_top.specs.AnsweredText.{AnswersInput, longest_text}
 use Rattle.pef_top.specs.Private.Leaves.{Leaves}
 use Rattle.pef_top.specs.Private.Stops.{outcome_of, stop_of_building}
-use Rattle.pef_top.proofs.Counted.{stays}
+use Rattle.pef_top.proofs.Counted.{stays, all_end}
 use Rattle.pef_top.proofs.WordsBuilt.{unbuilt, unbuilt_ends, unbuilt_refuses, unbuilt_faults, unbuilt_complete, Cut, cut_of, unbroken, same_counts}
 use Rattle.pef_top.proofs.TextAnswered.{text_outcome, not_broken, not_file, not_writing, behind_building, answers_input, must_answer, input_ends, out_ends}
 
@@ -84,12 +85,12 @@ is_answered one base plan d d' i i' o o' e e' s s' words w index spells r a = re
     answers = must_answer (IsAnswerable base d) index.collection old new r a;
     depot = w.reads;
   };
-  faults = record {
-    slots = λ slot. stays (FileFault slot) (text_outcome r) _ _ (not_file r slot) (same_counts answer_format base d d' s s' words w slot);
-    writing = stays IndexWriteFault (text_outcome r) _ _ (not_writing r) w.reads.writing_count;
+  faults = all_end _ _ _ (record {
+    slots = λ slot. stays (OfFile slot) (text_outcome r) _ _ (not_file r slot) (same_counts answer_format base d d' s s' words w slot);
+    writing = stays OfWriting (text_outcome r) _ _ (not_writing r) w.reads.writing_count;
     input = input_ends index.collection old new r a;
     out = out_ends index.collection old new r a;
-  };
+  });
   depot_tells = w.reads.tells;
   input_tells = a.input_tells;
   out_tells = a.out_tells;

@@ -1,28 +1,64 @@
 -- How a run ends by a fault, and by none.
 use Rattle.std.proofs.Common.{◌≡◌, ℕ, ◌≤◌, ◌<◌, arith, ap, List, ◌++◌, length, inl, inr}
-use Rattle.std.specs.Prelude.{◌≢◌, ◌⊎◌, false, IsTrue}
+use Rattle.std.specs.Prelude.{◌≢◌, ◌⊎◌, false, IsTrue, Option, Some, None}
 use Rattle.std.proofs.lemmas.List.{length-append}
 use Rattle.pef_io.specs.declared.fail.Slot.{Slot}
 use Rattle.pef_io.specs.declared.fail.Slot.TheVariants.{Docs, Freqs, Sizes, Index}
 use Rattle.pef_io.specs.Calls.{Rose}
-use Rattle.pef_top.specs.Outcome.{Outcome}
-use Rattle.pef_top.specs.Ends.{EndsByFault, OrNoMemory, OrTooLarge}
+use Rattle.pef_top.specs.Outside.{Outside, Count, OfFile, OfWriting, OfInput, OfOut, failed}
+use Rattle.pef_top.specs.Outcome.{Outcome, Done, Usage, BrokenCollection, BrokenIndex, FileFault, InputFault, WriteFault, OutFault, NoMemory, TooLarge, InputTooLarge, fault_of}
+use Rattle.pef_top.specs.Ends.{EndsByFault, FirstFaultEnds, OrNoMemory, OrTooLarge}
 
--- a count that stays, where the run does not end by that fault
-pub stays : (fault outcome : Outcome) (before now : ℕ) → outcome ≢ fault → now ≡ before → EndsByFault fault outcome before now
-stays fault outcome before now other same = record {
+-- of which count a fault is, where that is known
+abbrev pub Of : Option Count → Count → Type 0
+Of fault count = fault ≡ Some count
+
+-- a count that stays, where the run does not end by its fault
+pub stays : (count : Count) (outcome : Outcome) (before now : ℕ) → ¬ Of (fault_of outcome) count → now ≡ before → EndsByFault count outcome before now
+stays count outcome before now other same = record {
   only_where_it_rose = λ is. absurd (other is);
   changes_only_there = inr same;
   never_falls = omega (arith, same);
 }
 
--- a count that rose, where the run ends by that fault
-pub rises : (fault outcome : Outcome) (before now : ℕ) → outcome ≡ fault → Rose before now → before ≤ now → EndsByFault fault outcome before now
-rises fault outcome before now is rose le = record {
+-- a count that rose, where the run ends by its fault
+pub rises : (count : Count) (outcome : Outcome) (before now : ℕ) → Of (fault_of outcome) count → Rose before now → before ≤ now → EndsByFault count outcome before now
+rises count outcome before now is rose le = record {
   only_where_it_rose = λ h. rose;
   changes_only_there = inl is;
   never_falls = le;
 }
+
+-- the counts one by one
+pub record EachEnds (old new : Outside) (outcome : Outcome) : Type 0 where
+  pub slots : (slot : Slot) → EndsByFault (OfFile slot) outcome (old.depot.faults slot) (new.depot.faults slot)
+  pub writing : EndsByFault OfWriting outcome old.depot.writing_faults new.depot.writing_faults
+  pub input : EndsByFault OfInput outcome old.input.faults new.input.faults
+  pub out : EndsByFault OfOut outcome old.out.faults new.out.faults
+
+-- are all counts
+pub all_end : (old new : Outside) (outcome : Outcome) → EachEnds old new outcome → FirstFaultEnds old new outcome
+all_end old new outcome each = record { counts = go }
+  where
+    go : (count : Count) → EndsByFault count outcome (failed count old) (failed count new)
+    go (OfFile slot) = each.slots slot
+    go OfWriting = each.writing
+    go OfInput = each.input
+    go OfOut = each.out
+
+-- the fault of a file is that of its slot
+pub is_file_fault : (outcome : Outcome) (slot : Slot) → Of (fault_of outcome) (OfFile slot) → outcome ≡ FileFault slot
+is_file_fault Done slot h = let s : Of None (OfFile slot) = h in cc
+is_file_fault Usage slot h = let s : Of None (OfFile slot) = h in cc
+is_file_fault (BrokenCollection fault) slot h = let s : Of None (OfFile slot) = h in cc
+is_file_fault (BrokenIndex fault) slot h = let s : Of None (OfFile slot) = h in cc
+is_file_fault (FileFault other) slot h = let s : Of (Some (OfFile other)) (OfFile slot) = h in cc
+is_file_fault InputFault slot h = let s : Of (Some OfInput) (OfFile slot) = h in cc
+is_file_fault (WriteFault other) slot h = let s : Of (Some OfWriting) (OfFile slot) = h in cc
+is_file_fault OutFault slot h = let s : Of (Some OfOut) (OfFile slot) = h in cc
+is_file_fault NoMemory slot h = let s : Of None (OfFile slot) = h in cc
+is_file_fault (TooLarge other) slot h = let s : Of None (OfFile slot) = h in cc
+is_file_fault InputTooLarge slot h = let s : Of None (OfFile slot) = h in cc
 
 -- one of two, where it is not the first
 pub second : {A B : Type 0} → (A ⊎ B) → ¬ A → B

@@ -6,6 +6,7 @@ use Rattle.std.proofs.Math.Seq.{take-append-add}
 use Rattle.std.proofs.lemmas.List.{take_more, take-append-drop, take-append-le, map-append, append-nil, length-append}
 use Rattle.std.proofs.lemmas.List.Folds.{concat-append}
 use Rattle.pef_io.specs.declared.fail.IoFail.{IoFail}
+use Rattle.pef_io.specs.declared.fail.Slot.{Slot}
 use Rattle.pef_io.specs.Calls.{Rose}
 use Rattle.pef_io.specs.SinkState.{SinkState}
 use Rattle.pef_io.specs.Helpers.{AppendsFront, WritesAll}
@@ -122,6 +123,17 @@ pieces_end old mid new ps i d r f lt v w e =
     let P : Result (Unit {0}) IoFail → Type 0 = λ r. WritesAll old new (joined (take i ps) ++ (get_or ps i d).now) r in
     let Q : List ℕ → Type 0 = λ xs. WritesAll old new xs (Err f) in
     subst Q (sym (joined_round ps i d lt)) (writes_front old new _ _ f (subst P e (writes_then old mid new _ _ r v w)))
+
+-- three pieces in a row
+three_pieces : (a b c : List ℕ) → concat (a ∷ b ∷ c ∷ []) ≡ a ++ b ++ c
+three_pieces a b c = simp (append_assoc, append-nil)
+
+-- the pieces of the line of a file
+pub file_written : (old new : SinkState) (what : List ℕ) (file : Slot) (slot : List ℕ) (r : Result (Unit {0}) IoFail) → slot ≡ slot_text file →
+    WritesAll old new (concat (what ∷ slot ∷ codes "\n" ∷ [])) r → WritesAll old new (what ++ slot_text file ++ codes "\n") r
+file_written old new what file slot r e w =
+    let P : List ℕ → Type 0 = λ xs. WritesAll old new xs r in
+    subst P (three_pieces what slot (codes "\n") ∙ ap (λ xs. what ++ xs ++ codes "\n") e) w
 
 -- nine pieces in a row
 nine_pieces : (a b c d e f g h i : List ℕ) → concat (a ∷ b ∷ c ∷ d ∷ e ∷ f ∷ g ∷ h ∷ i ∷ []) ≡ a ++ b ++ c ++ d ++ e ++ f ++ g ++ h ++ i

@@ -17,7 +17,7 @@ use Rattle.command_steps.specs.declared.writing.WriteIndexError.TheVariants as w
 use Rattle.command_steps.specs.BuildWords.{BuildsWords, words_built}
 use Rattle.command_steps.specs.WriteIndex.{WritesWords}
 use Rattle.pef_top.specs.declared.stop.Stop.{Stop}
-use Rattle.pef_top.specs.Command.{Build}
+use Rattle.command_line.specs.Command.{Build}
 use Rattle.pef_top.specs.Outside.{Outside, outside}
 use Rattle.pef_top.specs.Outcome.{Outcome, Done}
 use Rattle.pef_top.specs.Built.{BuildsWordsThen}

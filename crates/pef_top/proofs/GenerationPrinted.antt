@@ -8,6 +8,7 @@ use Rattle.part_cost.specs.Formats.{numbers_of}
 use Rattle.pef_io.specs.SourceState.{SourceState}
 use Rattle.pef_io.specs.SinkState.{SinkState}
 use Rattle.pef_io.specs.DepotState.{DepotState}
+use Rattle.pef_io.specs.declared.fail.Slot.TheVariants.{Index}
 use Rattle.index_file.specs.FileWords.{ListParts, IsIndex, Spells, file_words}
 use Rattle.index_file.specs.Builder.{most_words}
 use Rattle.index_file.specs.IndexView.{IndexView, word_count}
@@ -21,15 +22,15 @@ use Rattle.command_steps.specs.declared.printing.PrintError.TheVariants as print
 use Rattle.command_steps.specs.PrintLine.{PrintsLine}
 use Rattle.command_steps.specs.PrintText.{MakesAndPrints}
 use Rattle.pef_top.specs.declared.stop.Stop.{Stop}
-use Rattle.pef_top.specs.Command.{Generate}
-use Rattle.pef_top.specs.Outside.{Outside, outside}
-use Rattle.pef_top.specs.Outcome.{Outcome, Done, FileFault, InputFault, IndexWriteFault, OutFault, NoMemory}
+use Rattle.command_line.specs.Command.{Generate}
+use Rattle.pef_top.specs.Outside.{Outside, outside, OfFile, OfWriting, OfInput, OfOut}
+use Rattle.pef_top.specs.Outcome.{Outcome, Done, NoMemory}
 use Rattle.pef_top.specs.Built.{BuildsWordsThen}
 use Rattle.pef_top.specs.PrintedText.{PrintsText}
 use Rattle.pef_top.specs.Generate.{IsGeneration, generate_format}
 use Rattle.pef_top.specs.Private.Leaves.{Leaves}
 use Rattle.pef_top.specs.Private.Stops.{outcome_of, stop_of_making}
-use Rattle.pef_top.proofs.Counted.{stays, or_larger}
+use Rattle.pef_top.proofs.Counted.{stays, or_larger, all_end}
 use Rattle.pef_top.proofs.WordsMade.{unmade_words, unmade_faults}
 use Rattle.pef_top.proofs.TextPrinted.{Printed, print_outcome, not_file, not_writing, not_input, prints, complete, out_ends}
 
@@ -51,7 +52,7 @@ module _ (seed n t : ℕ) (d : DepotState) (i : SourceState) (s s' : ℕ) where
   not_generated o e e' (making.TooLarge k) too_large =
       let w = too_large k refl in
       record {
-        performs = record { ends = (c, w.parts, w.cut, subst (λ m. most_words < m) w.count w.too_many); complete = λ none. inr (inl refl) };
+        performs = record { ends = (refl, (c, w.parts, w.cut, subst (λ m. most_words < m) w.count w.too_many)); complete = λ none. inr (inl refl) };
         faults = unmade_faults (making.TooLarge k) (old o e) (new o e') (λ slot. refl) refl refl refl;
         depot_tells = refl;
         input_tells = refl;
@@ -95,12 +96,12 @@ module _ (seed n t : ℕ) (d : DepotState) (i : SourceState) (s s' : ℕ) where
         ends = printed_ends o o' e e' r (prints (IsGeneration c (old o e) (new o' e')) text (is_generation o o' e e' text told) (old o e) (new o' e') r p);
         complete = λ none. or_larger Done _ (complete text (old o e) (new o' e') r p none);
       };
-      faults = record {
-        slots = λ slot. stays (FileFault slot) (print_outcome r) _ _ (not_file r slot) refl;
-        writing = stays IndexWriteFault (print_outcome r) _ _ (not_writing r) refl;
-        input = stays InputFault (print_outcome r) _ _ (not_input r) refl;
+      faults = all_end _ _ _ (record {
+        slots = λ slot. stays (OfFile slot) (print_outcome r) _ _ (not_file r slot) refl;
+        writing = stays OfWriting (print_outcome r) _ _ (not_writing r) refl;
+        input = stays OfInput (print_outcome r) _ _ (not_input r) refl;
         out = out_ends text (old o e) (new o' e') r p;
-      };
+      });
       depot_tells = refl;
       input_tells = refl;
       out_tells = p.tells;
@@ -110,12 +111,12 @@ module _ (seed n t : ℕ) (d : DepotState) (i : SourceState) (s s' : ℕ) where
     unmade : (o o' e e' : SinkState) → o' ≡ o → Leaves (Some (Generate seed n t)) (old o e) (new o' e') NoMemory
     unmade o o' e e' same = record {
       performs = record { ends = inl same; complete = λ none. inr (inr refl) };
-      faults = record {
-        slots = λ slot. stays (FileFault slot) NoMemory _ _ (λ h. cc) refl;
-        writing = stays IndexWriteFault NoMemory _ _ (λ h. cc) refl;
-        input = stays InputFault NoMemory _ _ (λ h. cc) refl;
-        out = stays OutFault NoMemory _ _ (λ h. cc) (ap (λ o. o.faults) same);
-      };
+      faults = all_end _ _ _ (record {
+        slots = λ slot. stays (OfFile slot) NoMemory _ _ (λ h. cc) refl;
+        writing = stays OfWriting NoMemory _ _ (λ h. cc) refl;
+        input = stays OfInput NoMemory _ _ (λ h. cc) refl;
+        out = stays OfOut NoMemory _ _ (λ h. cc) (ap (λ o. o.faults) same);
+      });
       depot_tells = refl;
       input_tells = refl;
       out_tells = ap (λ o. o.tells) same;

@@ -7,6 +7,7 @@ use Rattle.part_cost.specs.Formats.{numbers_of}
 use Rattle.pef_io.specs.SourceState.{SourceState}
 use Rattle.pef_io.specs.SinkState.{SinkState}
 use Rattle.pef_io.specs.DepotState.{DepotState}
+use Rattle.pef_io.specs.declared.fail.Slot.TheVariants.{Index}
 use Rattle.index_file.specs.declared.fault.OpenFault.{OpenFault}
 use Rattle.index_file.specs.FileWords.{IsIndex, Spells}
 use Rattle.index_file.specs.FirstBroken.{IsFirstBroken}
@@ -18,76 +19,41 @@ use Rattle.command_steps.specs.AnswerText.{AnswersText}
 use Rattle.command_steps.specs.LoadIndex.{LoadsWords, words_loaded}
 use Rattle.pef_top.specs.declared.stop.Stop.{Stop}
 use Rattle.pef_top.specs.declared.stop.Stop.TheVariants as stop
-use Rattle.command_steps.specs.declared.plan.Plan.{Plan}
-use Rattle.pef_top.specs.Command.{Query}
-use Rattle.pef_top.specs.Outside.{Outside, outside}
-use Rattle.pef_top.specs.Outcome.{Outcome, Done, BrokenIndex, FileFault, InputFault, IndexWriteFault, OutFault, InputTooLarge}
+use Rattle.command_line.specs.declared.plan.Plan.{Plan}
+use Rattle.command_line.specs.Command.{Query}
+use Rattle.pef_top.specs.Outside.{Outside, outside, OfFile, OfWriting, OfInput, OfOut}
+use Rattle.pef_top.specs.Outcome.{Outcome, Done, BrokenIndex, InputTooLarge}
 use Rattle.pef_top.specs.FoundIndex.{FindsIndexOf}
 use Rattle.pef_top.specs.AnsweredText.{AnswersInput, longest_text}
 use Rattle.pef_top.specs.Private.Leaves.{Leaves}
 use Rattle.pef_top.specs.Private.Stops.{outcome_of, stop_of_loading}
-use Rattle.pef_top.proofs.Counted.{stays, or_larger}
+use Rattle.pef_top.proofs.Counted.{stays, or_larger, all_end}
 use Rattle.pef_top.proofs.TextAnswered.{text_outcome, not_no_index, not_too_large, not_file, not_writing, behind_reading, answers_input, must_answer, input_ends, out_ends}
-use Rattle.pef_top.proofs.IndexLoaded.{unloaded, unloaded_writing, unloaded_input, unloaded_out, ends_unloaded, refuses_unloaded, complete_unloaded, slots_unloaded, loaded_counts, lent_loaded, breaks, refuses_broken, refuses_none, found_index, index_words}
+use Rattle.pef_top.proofs.IndexLoaded.{loaded_counts, lent_loaded, refuses_none, found_index}
+use Rattle.pef_top.proofs.IndexRefused.{IsRefused}
 
-module _ (name : List ℕ) (d d' : DepotState) (i : SourceState) (o e e' : SinkState) (n : ℕ) where
-  abbrev old : Outside
-  old = outside d i o e n
-
-  abbrev new : Outside
-  new = outside d' i o e' n
-
-  -- no words were loaded, and nothing was called on the input or out
-  pub not_loaded : (plan : Plan) (error : LoadIndexError) → LoadsWords name d d' (Err error) → Leaves (Some (Query name plan)) old new (unloaded error)
-  not_loaded plan error w = record {
-    performs = record {
-      ends = ends_unloaded name d d' i o e e' n (AnswersInput (FindsIndexOf name d) old new) (inl (record { input = refl; out = refl })) error w;
-      refuses = refuses_unloaded name d d' i o e e' n error w;
-      answers = record {
-        complete = λ t c found none len. or_larger Done _ (complete_unloaded name d d' i o e e' n Done error w t.depot c found none);
-        limited = λ t c found none len. or_larger InputTooLarge _ (complete_unloaded name d d' i o e e' n InputTooLarge error w t.depot c found none);
-      };
-      depot = w.reads;
-      costs = refl;
+-- its index was refused, and nothing was called on the input or out
+pub query_stops : (name : List ℕ) (plan : Plan) (d d' : DepotState) (i : SourceState) (o e e' : SinkState) (n : ℕ) (outcome : Outcome)
+    → IsRefused name d d' i o e e' n outcome → Leaves (Some (Query name plan)) (outside d i o e n) (outside d' i o e' n) outcome
+query_stops name plan d d' i o e e' n outcome w = record {
+  performs = record {
+    ends = w.ends (AnswersInput (FindsIndexOf name d) (outside d i o e n) (outside d' i o e' n)) (inl (record { input = refl; out = refl }));
+    refuses = w.refuses;
+    answers = record {
+      complete = λ t c found none len. or_larger Done _ (w.complete Done t.depot c found none);
+      limited = λ t c found none len. or_larger InputTooLarge _ (w.complete InputTooLarge t.depot c found none);
     };
-    faults = record {
-      slots = slots_unloaded name d d' i o e e' n error w;
-      writing = stays IndexWriteFault (unloaded error) _ _ (unloaded_writing error) w.reads.writing_count;
-      input = stays InputFault (unloaded error) _ _ (unloaded_input error) refl;
-      out = stays OutFault (unloaded error) _ _ (unloaded_out error) refl;
-    };
-    depot_tells = w.reads.tells;
-    input_tells = refl;
-    out_tells = refl;
-  }
+    depot = w.reads;
+    costs = refl;
+  };
+  faults = w.faults;
+  depot_tells = w.reads.tells;
+  input_tells = refl;
+  out_tells = refl;
+}
 
 module _ (words_read : WordsAreRead) (one : OneBrokenCheck) (name : List ℕ) (d d' : DepotState) (words : List ℕ) (w : LoadsWords name d d' (Ok words)) where
-  -- they are no index, and their first broken check is the file's
-  pub not_opened : (plan : Plan) (i : SourceState) (o e e' : SinkState) (n : ℕ) (fault : OpenFault) → ¬ IsIndex words → IsFirstBroken words fault
-      → Leaves (Some (Query name plan)) (outside d i o e n) (outside d' i o e' n) (BrokenIndex fault)
-  not_opened plan i o e e' n fault denied first = record {
-    performs = record {
-      ends = λ t. breaks words_read one name d d' words w fault first t;
-      refuses = refuses_broken words_read one name d d' words w i o e n fault denied first;
-      answers = record {
-        complete = λ t c found none len. absurd (denied (index_words words_read name d words c t.depot (w.words t.depot) found));
-        limited = λ t c found none len. absurd (denied (index_words words_read name d words c t.depot (w.words t.depot) found));
-      };
-      depot = w.reads;
-      costs = refl;
-    };
-    faults = record {
-      slots = λ slot. stays (FileFault slot) (BrokenIndex fault) _ _ (λ h. cc) (loaded_counts name d d' words w slot);
-      writing = stays IndexWriteFault (BrokenIndex fault) _ _ (λ h. cc) w.reads.writing_count;
-      input = stays InputFault (BrokenIndex fault) _ _ (λ h. cc) refl;
-      out = stays OutFault (BrokenIndex fault) _ _ (λ h. cc) refl;
-    };
-    depot_tells = w.reads.tells;
-    input_tells = refl;
-    out_tells = refl;
-  }
-
-  -- and the text was answered from it, or a part of the text
+  -- they are an index, and the text was answered from it, or a part of the text
   pub is_answered : (plan : Plan) (i i' : SourceState) (o o' e e' : SinkState) (n : ℕ) (index : IndexView) → Spells (numbers_of index.format) words index.collection index.parts
       → (r : Result (Unit {0}) RunFault) → AnswersText index.collection longest_text i i' o o' r
       → Leaves (Some (Query name plan)) (outside d i o e n) (outside d' i' o' e' n) (text_outcome r)
@@ -99,12 +65,12 @@ module _ (words_read : WordsAreRead) (one : OneBrokenCheck) (name : List ℕ) (d
       depot = w.reads;
       costs = refl;
     };
-    faults = record {
-      slots = λ slot. stays (FileFault slot) (text_outcome r) _ _ (not_file r slot) (loaded_counts name d d' words w slot);
-      writing = stays IndexWriteFault (text_outcome r) _ _ (not_writing r) w.reads.writing_count;
+    faults = all_end _ _ _ (record {
+      slots = λ slot. stays (OfFile slot) (text_outcome r) _ _ (not_file r slot) (loaded_counts name d d' words w slot);
+      writing = stays OfWriting (text_outcome r) _ _ (not_writing r) w.reads.writing_count;
       input = input_ends index.collection before after r a;
       out = out_ends index.collection before after r a;
-    };
+    });
     depot_tells = w.reads.tells;
     input_tells = a.input_tells;
     out_tells = a.out_tells;
@@ -118,29 +84,9 @@ module _ (words_read : WordsAreRead) (one : OneBrokenCheck) (name : List ℕ) (d
 
 -- ---- the same of what `query` gives
 
--- its words were not loaded
-pub query_refused : (name : List ℕ) (plan : Plan) (d d' : DepotState) (i : SourceState) (o e e' : SinkState) (n : ℕ)
-    (loaded : Result (Vec ℕ Global) LoadIndexError) (error : LoadIndexError) (r : Result (Unit {0}) Stop)
-    → LoadsWords name d d' (words_loaded loaded) → loaded ≡ Err error → r ≡ Err (stop_of_loading error)
-    → Leaves (Some (Query name plan)) (outside d i o e n) (outside d' i o e' n) (outcome_of r)
-query_refused name plan d d' i o e e' n loaded error r w was is =
-    let W : Result (Vec ℕ Global) LoadIndexError → Type 0 = λ x. LoadsWords name d d' (words_loaded x) in
-    let P : Result (Unit {0}) Stop → Type 0 = λ x. Leaves (Some (Query name plan)) (outside d i o e n) (outside d' i o e' n) (outcome_of x) in
-    subst P (sym is) (not_loaded name d d' i o e e' n plan error (subst W was w))
-
 pub lent_are_few : (name : List ℕ) (d d' : DepotState) (loaded : Result (Vec ℕ Global) LoadIndexError) (words : Vec ℕ Global) (lent : List ℕ)
     → LoadsWords name d d' (words_loaded loaded) → loaded ≡ Ok words → lent ≡ words.items → length lent < 2 ^ 57
 lent_are_few name d d' loaded words lent w was lends = omega (arith, (lent_loaded name d d' loaded words lent w was lends).within)
-
--- they are no index
-pub query_unopened : WordsAreRead → OneBrokenCheck → (name : List ℕ) (plan : Plan) (d d' : DepotState) (i : SourceState) (o e e' : SinkState) (n : ℕ)
-    (loaded : Result (Vec ℕ Global) LoadIndexError) (words : Vec ℕ Global) (lent : List ℕ) (fault : OpenFault) (r : Result (Unit {0}) Stop)
-    → LoadsWords name d d' (words_loaded loaded) → loaded ≡ Ok words → lent ≡ words.items
-    → ¬ IsIndex lent → IsFirstBroken lent fault → r ≡ Err (stop.Index fault)
-    → Leaves (Some (Query name plan)) (outside d i o e n) (outside d' i o e' n) (outcome_of r)
-query_unopened read one name plan d d' i o e e' n loaded words lent fault r w was lends denied first is =
-    let P : Result (Unit {0}) Stop → Type 0 = λ x. Leaves (Some (Query name plan)) (outside d i o e n) (outside d' i o e' n) (outcome_of x) in
-    subst P (sym is) (not_opened read one name d d' lent (lent_loaded name d d' loaded words lent w was lends) plan i o e e' n fault denied first)
 
 -- the text was answered from them, or a part of it
 pub query_ended : WordsAreRead → OneBrokenCheck → (name : List ℕ) (plan : Plan) (d d' : DepotState) (i i' : SourceState) (o o' e e' : SinkState) (n : ℕ)

@@ -1,6 +1,6 @@
 -- The words of a file that `query` and `inspect` load, and what is found under its name.
 use Rattle.std.proofs.Common.{◌≡◌, ℕ, zero, suc, ◌*◌, ◌≤◌, arith, refl, sym, ◌∙◌, ap, subst, List, length, inl, inr}
-use Rattle.std.specs.Prelude.{◌≢◌, ◌%◌, ◌==◌, not, true, false, IsTrue, MatchBool, Result, Ok, Err, Vec}
+use Rattle.std.specs.Prelude.{Some, None, ◌≢◌, ◌%◌, ◌==◌, not, true, false, IsTrue, MatchBool, Result, Ok, Err, Vec}
 use Rattle.std.specs.declared.alloc.Global.{Global}
 use Rattle.std.proofs.Math.Dec.{eqb-suc-zero}
 use Rattle.collection_model.specs.Collection.{Collection}
@@ -21,13 +21,13 @@ use Rattle.command_model.proofs.WordBytes.{word_bytes-length}
 use Rattle.command_steps.specs.declared.loading.LoadIndexError.{LoadIndexError}
 use Rattle.command_steps.specs.declared.loading.LoadIndexError.TheVariants as loading
 use Rattle.command_steps.specs.LoadIndex.{LoadsWords, ragged_fault, words_loaded}
-use Rattle.pef_top.specs.Outside.{Outside, NoCallFailed, outside}
-use Rattle.pef_top.specs.Outcome.{Outcome, BrokenIndex, FileFault, InputFault, IndexWriteFault, OutFault, NoMemory, IndexTooLarge}
+use Rattle.pef_top.specs.Outside.{Outside, NoCallFailed, outside, OfFile, OfWriting, OfInput, OfOut}
+use Rattle.pef_top.specs.Outcome.{Outcome, BrokenIndex, FileFault, NoMemory, TooLarge, fault_of}
 use Rattle.pef_top.specs.Ends.{EndsByFault, OrNoMemory}
 use Rattle.pef_top.specs.FoundIndex.{FindsIndex, FindsIndexOf, IsFirstBrokenOfFile, HasBroken}
 use Rattle.pef_top.specs.ReadingIndex.{ReadsIndexThen, RefusesBrokenIndex}
 use Rattle.pef_top.specs.Private.Stops.{outcome_of_stop, stop_of_loading}
-use Rattle.pef_top.proofs.Counted.{stays, second, by_slot, not_both_lengths}
+use Rattle.pef_top.proofs.Counted.{stays, second, by_slot, not_both_lengths, Of}
 
 -- ---- bytes and words
 
@@ -104,35 +104,35 @@ refused e = Err e
 same_error : (e f : LoadIndexError) → refused e ≡ refused f → e ≡ f
 same_error e f h = cc
 
-is_read : (e : LoadIndexError) (slot : Slot) → unloaded e ≡ FileFault slot → e ≡ loading.Read
-is_read (loading.Broken f) slot h = let s : BrokenIndex f ≡ FileFault slot = h in cc
+is_read : (e : LoadIndexError) (slot : Slot) → Of (fault_of (unloaded e)) (OfFile slot) → e ≡ loading.Read
+is_read (loading.Broken f) slot h = let s : Of None (OfFile slot) = h in cc
 is_read loading.Read slot h = refl
-is_read loading.TooLarge slot h = let s : IndexTooLarge ≡ FileFault slot = h in cc
-is_read loading.NoMemory slot h = let s : NoMemory ≡ FileFault slot = h in cc
+is_read loading.TooLarge slot h = let s : Of None (OfFile slot) = h in cc
+is_read loading.NoMemory slot h = let s : Of None (OfFile slot) = h in cc
 
-is_index_slot : (e : LoadIndexError) (slot : Slot) → unloaded e ≡ FileFault slot → slot ≡ Index
-is_index_slot (loading.Broken f) slot h = let s : BrokenIndex f ≡ FileFault slot = h in cc
-is_index_slot loading.Read slot h = let s : FileFault Index ≡ FileFault slot = h in cc
-is_index_slot loading.TooLarge slot h = let s : IndexTooLarge ≡ FileFault slot = h in cc
-is_index_slot loading.NoMemory slot h = let s : NoMemory ≡ FileFault slot = h in cc
+is_index_slot : (e : LoadIndexError) (slot : Slot) → Of (fault_of (unloaded e)) (OfFile slot) → slot ≡ Index
+is_index_slot (loading.Broken f) slot h = let s : Of None (OfFile slot) = h in cc
+is_index_slot loading.Read slot h = let s : Of (Some (OfFile Index)) (OfFile slot) = h in cc
+is_index_slot loading.TooLarge slot h = let s : Of None (OfFile slot) = h in cc
+is_index_slot loading.NoMemory slot h = let s : Of None (OfFile slot) = h in cc
 
-pub unloaded_writing : (e : LoadIndexError) → unloaded e ≢ IndexWriteFault
-unloaded_writing (loading.Broken f) h = let s : BrokenIndex f ≡ IndexWriteFault = h in cc
-unloaded_writing loading.Read h = let s : FileFault Index ≡ IndexWriteFault = h in cc
-unloaded_writing loading.TooLarge h = let s : IndexTooLarge ≡ IndexWriteFault = h in cc
-unloaded_writing loading.NoMemory h = let s : NoMemory ≡ IndexWriteFault = h in cc
+pub unloaded_writing : (e : LoadIndexError) → ¬ Of (fault_of (unloaded e)) OfWriting
+unloaded_writing (loading.Broken f) h = let s : Of None OfWriting = h in cc
+unloaded_writing loading.Read h = let s : Of (Some (OfFile Index)) OfWriting = h in cc
+unloaded_writing loading.TooLarge h = let s : Of None OfWriting = h in cc
+unloaded_writing loading.NoMemory h = let s : Of None OfWriting = h in cc
 
-pub unloaded_input : (e : LoadIndexError) → unloaded e ≢ InputFault
-unloaded_input (loading.Broken f) h = let s : BrokenIndex f ≡ InputFault = h in cc
-unloaded_input loading.Read h = let s : FileFault Index ≡ InputFault = h in cc
-unloaded_input loading.TooLarge h = let s : IndexTooLarge ≡ InputFault = h in cc
-unloaded_input loading.NoMemory h = let s : NoMemory ≡ InputFault = h in cc
+pub unloaded_input : (e : LoadIndexError) → ¬ Of (fault_of (unloaded e)) OfInput
+unloaded_input (loading.Broken f) h = let s : Of None OfInput = h in cc
+unloaded_input loading.Read h = let s : Of (Some (OfFile Index)) OfInput = h in cc
+unloaded_input loading.TooLarge h = let s : Of None OfInput = h in cc
+unloaded_input loading.NoMemory h = let s : Of None OfInput = h in cc
 
-pub unloaded_out : (e : LoadIndexError) → unloaded e ≢ OutFault
-unloaded_out (loading.Broken f) h = let s : BrokenIndex f ≡ OutFault = h in cc
-unloaded_out loading.Read h = let s : FileFault Index ≡ OutFault = h in cc
-unloaded_out loading.TooLarge h = let s : IndexTooLarge ≡ OutFault = h in cc
-unloaded_out loading.NoMemory h = let s : NoMemory ≡ OutFault = h in cc
+pub unloaded_out : (e : LoadIndexError) → ¬ Of (fault_of (unloaded e)) OfOut
+unloaded_out (loading.Broken f) h = let s : Of None OfOut = h in cc
+unloaded_out loading.Read h = let s : Of (Some (OfFile Index)) OfOut = h in cc
+unloaded_out loading.TooLarge h = let s : Of None OfOut = h in cc
+unloaded_out loading.NoMemory h = let s : Of None OfOut = h in cc
 
 module _ (name : List ℕ) (d d' : DepotState) (i : SourceState) (o e e' : SinkState) (n : ℕ) where
   abbrev old : Outside
@@ -145,51 +145,51 @@ module _ (name : List ℕ) (d d' : DepotState) (i : SourceState) (o e e' : SinkS
   ends_unloaded Then then (loading.Broken fault) w =
       λ t. let r = w.ragged t fault refl in record { within = r.0; first = ragged_breaks (bytes_under d name) fault r.1 (w.first_check fault refl) }
   ends_unloaded Then then loading.Read w = refl
-  ends_unloaded Then then loading.TooLarge w = λ t. w.too_large t refl
+  ends_unloaded Then then loading.TooLarge w = (refl, λ t. w.too_large t refl)
   ends_unloaded Then then loading.NoMemory w = then
 
   pub refuses_unloaded : (error : LoadIndexError) → LoadsWords name d d' (Err error) → RefusesBrokenIndex name old (unloaded error)
   refuses_unloaded (loading.Broken f) w = record {
     broken = λ t fault h. inl (ap BrokenIndex (w.first_check f refl ∙ sym (ragged_broken (bytes_under d name) fault (w.ragged t f refl).1 h.first)));
     longer = λ t h. absurd (not_both_lengths _ _ (w.ragged t f refl).0 h);
-    sound = λ t c found. (λ h. let s : BrokenIndex f ≡ IndexTooLarge = h in cc, λ fault h. (w.ragged t f refl).1 (index_is_even name d c t found));
+    sound = λ t c found. (λ h. let s : BrokenIndex f ≡ TooLarge Index = h in cc, λ fault h. (w.ragged t f refl).1 (index_is_even name d c t found));
   }
   refuses_unloaded loading.Read w = record {
     broken = λ t fault h. inr (inl refl);
     longer = λ t h. inr (inl refl);
-    sound = λ t c found. (λ h. let s : FileFault Index ≡ IndexTooLarge = h in cc, λ fault h. let s : FileFault Index ≡ BrokenIndex fault = h in cc);
+    sound = λ t c found. (λ h. let s : FileFault Index ≡ TooLarge Index = h in cc, λ fault h. let s : FileFault Index ≡ BrokenIndex fault = h in cc);
   }
   refuses_unloaded loading.TooLarge w = record {
     broken = λ t fault h. absurd (not_both_lengths _ _ h.within (w.too_large t refl));
     longer = λ t h. inl refl;
     sound = λ t c found. (
       λ h. not_both_lengths _ _ (index_is_short name d c t found) (w.too_large t refl),
-      λ fault h. let s : IndexTooLarge ≡ BrokenIndex fault = h in cc,
+      λ fault h. let s : (TooLarge Index) ≡ BrokenIndex fault = h in cc,
     );
   }
   refuses_unloaded loading.NoMemory w = record {
     broken = λ t fault h. inr (inr refl);
     longer = λ t h. inr (inr refl);
-    sound = λ t c found. (λ h. let s : NoMemory ≡ IndexTooLarge = h in cc, λ fault h. let s : NoMemory ≡ BrokenIndex fault = h in cc);
+    sound = λ t c found. (λ h. let s : NoMemory ≡ TooLarge Index = h in cc, λ fault h. let s : NoMemory ≡ BrokenIndex fault = h in cc);
   }
 
   pub complete_unloaded : (this : Outcome) (error : LoadIndexError) → LoadsWords name d d' (Err error) → IsTrue d.tells → (c : Collection) → FindsIndexOf name d c
       → NoCallFailed old new → OrNoMemory this (unloaded error)
   complete_unloaded this (loading.Broken f) w t c found none = absurd ((w.ragged t f refl).1 (index_is_even name d c t found))
-  complete_unloaded this loading.Read w t c found none = absurd (none.slots Index (w.read_only_where_it_rose refl))
+  complete_unloaded this loading.Read w t c found none = absurd (none (OfFile Index) (w.read_only_where_it_rose refl))
   complete_unloaded this loading.TooLarge w t c found none = absurd (not_both_lengths _ _ (index_is_short name d c t found) (w.too_large t refl))
   complete_unloaded this loading.NoMemory w t c found none = inr refl
 
   pub slots_unloaded : (error : LoadIndexError) → LoadsWords name d d' (Err error)
-      → (slot : Slot) → EndsByFault (FileFault slot) (unloaded error) (d.faults slot) (d'.faults slot)
+      → (slot : Slot) → EndsByFault (OfFile slot) (unloaded error) (d.faults slot) (d'.faults slot)
   slots_unloaded error w =
-      by_slot (λ slot. EndsByFault (FileFault slot) (unloaded error) (d.faults slot) (d'.faults slot))
+      by_slot (λ slot. EndsByFault (OfFile slot) (unloaded error) (d.faults slot) (d'.faults slot))
       (record {
         only_where_it_rose = λ h. w.read_only_where_it_rose (ap refused (is_read error Index h));
-        changes_only_there = elim w.count_rises_only_there [ inl is ↦ inl (ap unloaded (same_error error loading.Read is)) | inr same ↦ inr same ];
+        changes_only_there = elim w.count_rises_only_there [ inl is ↦ inl (ap (λ e. fault_of (unloaded e)) (same_error error loading.Read is)) | inr same ↦ inr same ];
         never_falls = w.reads.never_fall Index;
       })
-      (λ slot other. stays (FileFault slot) (unloaded error) _ _ (λ h. other (is_index_slot error slot h)) (w.reads.other_counts slot other))
+      (λ slot other. stays (OfFile slot) (unloaded error) _ _ (λ h. other (is_index_slot error slot h)) (w.reads.other_counts slot other))
 
 -- ---- words that are loaded
 
@@ -245,7 +245,7 @@ module _ (words_read : WordsAreRead) (one : OneBrokenCheck) (name : List ℕ) (d
 
   -- so that a run that goes on refuses nothing
   pub refuses_none : (i : SourceState) (o e : SinkState) (n : ℕ) (index : IndexView) → Spells (numbers_of index.format) words index.collection index.parts
-      → (outcome : Outcome) → outcome ≢ IndexTooLarge → ((fault : OpenFault) → outcome ≢ BrokenIndex fault) → RefusesBrokenIndex name (outside d i o e n) outcome
+      → (outcome : Outcome) → outcome ≢ TooLarge Index → ((fault : OpenFault) → outcome ≢ BrokenIndex fault) → RefusesBrokenIndex name (outside d i o e n) outcome
   refuses_none i o e n index spells outcome not_too_large not_broken = record {
     broken = λ t fault h. absurd (unbroken index spells t fault h);
     longer = λ t h. absurd (not_both_lengths _ _ (short (bytes_under d name) words (w.words t) w.within) h);

@@ -7,7 +7,8 @@ use Rattle.collection_model.specs.Collection.{Collection}
 use Rattle.part_cost.specs.Formats.{numbers_of}
 use Rattle.pef_io.specs.SourceState.{SourceState}
 use Rattle.pef_io.specs.SinkState.{SinkState}
-use Rattle.pef_io.specs.DepotState.{DepotState}
+use Rattle.pef_io.specs.DepotState.{DepotState, OnlyReads}
+use Rattle.pef_io.specs.declared.fail.Slot.TheVariants.{Index}
 use Rattle.index_file.specs.declared.fault.OpenFault.{OpenFault}
 use Rattle.index_file.specs.FileWords.{IsIndex, ListParts, Spells}
 use Rattle.index_file.specs.FirstBroken.{IsFirstBroken}
@@ -27,9 +28,9 @@ use Rattle.command_steps.specs.MadeWords.{AreWordsOf, WouldBeTooMany}
 use Rattle.command_steps.specs.WriteIndex.{WritesWords}
 use Rattle.pef_top.specs.declared.stop.Stop.{Stop}
 use Rattle.pef_top.specs.declared.stop.Stop.TheVariants as stop
-use Rattle.pef_top.specs.Command.{Migrate}
-use Rattle.pef_top.specs.Outside.{Outside, outside}
-use Rattle.pef_top.specs.Outcome.{Outcome, Done, Usage, BrokenCollection, BrokenIndex, FileFault, InputFault, IndexWriteFault, OutFault, NoMemory, IndexTooLarge, InputTooLarge}
+use Rattle.command_line.specs.Command.{Migrate}
+use Rattle.pef_top.specs.Outside.{Outside, outside, OfFile, OfWriting, OfInput, OfOut}
+use Rattle.pef_top.specs.Outcome.{Outcome, Done, Usage, BrokenCollection, BrokenIndex, FileFault, InputFault, WriteFault, OutFault, NoMemory, TooLarge, InputTooLarge}
 use Rattle.pef_top.specs.FoundIndex.{FindsIndexOf}
 use Rattle.pef_top.specs.Built.{AreBuilt, BuildsWordsThen}
 use Rattle.pef_top.specs.ReadingIndex.{ReadsIndexThen}
@@ -37,8 +38,9 @@ use Rattle.pef_top.specs.WrittenIndex.{WritesIndex, WritesOnlyAccepted}
 use Rattle.pef_top.specs.Migrate.{ReadsOldThen, migrate_format}
 use Rattle.pef_top.specs.Private.Leaves.{Leaves}
 use Rattle.pef_top.specs.Private.Stops.{outcome_of, stop_of_loading, stop_of_making}
-use Rattle.pef_top.proofs.Counted.{stays, or_larger}
-use Rattle.pef_top.proofs.IndexLoaded.{unloaded, unloaded_writing, unloaded_input, unloaded_out, ends_unloaded, refuses_unloaded, complete_unloaded, slots_unloaded, loaded_counts, lent_loaded, breaks, refuses_broken, refuses_none, found_index, index_words}
+use Rattle.pef_top.proofs.Counted.{stays, or_larger, all_end}
+use Rattle.pef_top.proofs.IndexLoaded.{loaded_counts, lent_loaded, refuses_none, found_index}
+use Rattle.pef_top.proofs.IndexRefused.{IsRefused}
 use Rattle.pef_top.proofs.WordsMade.{unmade_words, unmade_faults}
 use Rattle.pef_top.proofs.WordsWritten.{written_outcome, not_no_index, not_too_large, left}
 
@@ -50,10 +52,10 @@ at_reading name old Then (BrokenCollection fault) h = h
 at_reading name old Then (BrokenIndex fault) h = h
 at_reading name old Then (FileFault slot) h = h
 at_reading name old Then InputFault h = h
-at_reading name old Then IndexWriteFault h = h
+at_reading name old Then (WriteFault slot) h = h
 at_reading name old Then OutFault h = h
 at_reading name old Then NoMemory h = h
-at_reading name old Then IndexTooLarge h = inl h
+at_reading name old Then (TooLarge slot) h = inl h
 at_reading name old Then InputTooLarge h = h
 
 -- or at the writing behind it
@@ -63,68 +65,34 @@ behind_reading name old Then (Ok u) then = then
 behind_reading name old Then (Err writing.Write) then = then
 behind_reading name old Then (Err writing.NoMemory) then = then
 
-not_done : (e : LoadIndexError) → unloaded e ≢ Done
-not_done (loading.Broken fault) h = let s : BrokenIndex fault ≡ Done = h in cc
-not_done loading.Read h = let s : ◌≡◌ {A = Outcome} (unloaded loading.Read) Done = h in cc
-not_done loading.TooLarge h = let s : IndexTooLarge ≡ Done = h in cc
-not_done loading.NoMemory h = let s : NoMemory ≡ Done = h in cc
-
 module _ (from to : List ℕ) (d d1 : DepotState) (i : SourceState) (o e e' : SinkState) (s : ℕ) where
   -- what is done behind the reading
   abbrev Then : Outside → Outcome → Type 0
   Then new = BuildsWordsThen migrate_format (FindsIndexOf from d) (outside d i o e s) new (WritesIndex migrate_format (FindsIndexOf from d) to (outside d i o e s) new)
 
   -- where only the old index is read, nothing is written
-  only_read : (new : SinkState) (s' : ℕ) (words : Result (List ℕ) LoadIndexError) (outcome : Outcome) → LoadsWords from d d1 words
+  only_read : (new : SinkState) (s' : ℕ) (outcome : Outcome) → OnlyReads IsIndexSlot d d1
       → WritesOnlyAccepted IsIndexSlot ((c : Collection) × FindsIndexOf from d c) (outside d i o e s) (outside d1 i o new s') outcome
-  only_read new s' words outcome w =
-      record { refused = λ h. w.reads; unaccepted = λ h. w.reads; stay_started = w.reads.stay_started; other_slots = w.reads.other_slots; create_count = inr w.reads.create_count; finish_count = inr w.reads.finish_count }
+  only_read new s' outcome reads =
+      record { refused = λ h. reads; unaccepted = λ h. reads; stay_started = reads.stay_started; other_slots = reads.other_slots; create_count = inr reads.create_count; finish_count = inr reads.finish_count }
 
-  -- no words were loaded
-  not_loaded : (error : LoadIndexError) → LoadsWords from d d1 (Err error) → Leaves (Some (Migrate from to)) (outside d i o e s) (outside d1 i o e' s) (unloaded error)
-  not_loaded error w = record {
+  -- the old index was refused
+  pub migrate_stops : (outcome : Outcome) → IsRefused from d d1 i o e e' s outcome → Leaves (Some (Migrate from to)) (outside d i o e s) (outside d1 i o e' s) outcome
+  migrate_stops outcome w = record {
     performs = record {
-      ends = at_reading from (outside d i o e s) (Then (outside d1 i o e' s)) (unloaded error)
-          (ends_unloaded from d d1 i o e e' s (Then (outside d1 i o e' s)) (inl (record { files = w.reads.files; writing = w.reads.writing })) error w);
-      opens = λ is. absurd (not_done error is);
-      refuses = inr (refuses_unloaded from d d1 i o e e' s error w);
-      complete = λ t c found none. or_larger Done _ (complete_unloaded from d d1 i o e e' s Done error w t c found none);
-      depot = only_read e' s (Err error) (unloaded error) w;
+      ends = at_reading from (outside d i o e s) (Then (outside d1 i o e' s)) outcome (w.ends (Then (outside d1 i o e' s)) (inl (record { files = w.reads.files; writing = w.reads.writing })));
+      opens = λ is. absurd (w.not_done is);
+      refuses = inr w.refuses;
+      complete = λ t c found none. or_larger Done _ (w.complete Done t c found none);
+      depot = only_read e' s outcome w.reads;
     };
-    faults = record {
-      slots = slots_unloaded from d d1 i o e e' s error w;
-      writing = stays IndexWriteFault (unloaded error) _ _ (unloaded_writing error) w.reads.writing_count;
-      input = stays InputFault (unloaded error) _ _ (unloaded_input error) refl;
-      out = stays OutFault (unloaded error) _ _ (unloaded_out error) refl;
-    };
+    faults = w.faults;
     depot_tells = w.reads.tells;
     input_tells = refl;
     out_tells = refl;
   }
 
   module _ (words_read : WordsAreRead) (one : OneBrokenCheck) (words : List ℕ) (w : LoadsWords from d d1 (Ok words)) where
-    -- they are no index, and their first broken check is the file's
-    not_opened : (fault : OpenFault) → ¬ IsIndex words → IsFirstBroken words fault
-        → Leaves (Some (Migrate from to)) (outside d i o e s) (outside d1 i o e' s) (BrokenIndex fault)
-    not_opened fault denied first = record {
-      performs = record {
-        ends = λ t. breaks words_read one from d d1 words w fault first t;
-        opens = λ is. let bad : BrokenIndex fault ≡ Done = is in cc;
-        refuses = inr (refuses_broken words_read one from d d1 words w i o e s fault denied first);
-        complete = λ t c found none. absurd (denied (index_words words_read from d words c t (w.words t) found));
-        depot = only_read e' s (Ok words) (BrokenIndex fault) w;
-      };
-      faults = record {
-        slots = λ slot. stays (FileFault slot) (BrokenIndex fault) _ _ (λ h. cc) (loaded_counts from d d1 words w slot);
-        writing = stays IndexWriteFault (BrokenIndex fault) _ _ (λ h. cc) w.reads.writing_count;
-        input = stays InputFault (BrokenIndex fault) _ _ (λ h. cc) refl;
-        out = stays OutFault (BrokenIndex fault) _ _ (λ h. cc) refl;
-      };
-      depot_tells = w.reads.tells;
-      input_tells = refl;
-      out_tells = refl;
-    }
-
     -- they are an index
     module _ (index : IndexView) (spells : Spells (numbers_of index.format) words index.collection index.parts) (s' : ℕ) where
       -- what was cut is its collection
@@ -139,11 +107,11 @@ module _ (from to : List ℕ) (d d1 : DepotState) (i : SourceState) (o e e' : Si
           let many = too_large n refl in
           record {
             performs = record {
-              ends = inr (index.collection, many.parts, cut_of_found many.parts many.cut, subst (λ k. most_words < k) many.count many.too_many);
-              opens = λ is. let bad : IndexTooLarge ≡ Done = is in cc;
+              ends = inr (refl, (index.collection, many.parts, cut_of_found many.parts many.cut, subst (λ k. most_words < k) many.count many.too_many));
+              opens = λ is. let bad : (TooLarge Index) ≡ Done = is in cc;
               refuses = inl ((index.collection, found_index words_read one from d d1 words w index spells), refl);
               complete = λ t c found none. inr (inl refl);
-              depot = only_read e' s' (Ok words) IndexTooLarge w;
+              depot = only_read e' s' (TooLarge Index) w.reads;
             };
             faults = unmade_faults (making.TooLarge n) (outside d i o e s) (outside d1 i o e' s') (loaded_counts from d d1 words w) w.reads.writing_count refl refl;
             depot_tells = w.reads.tells;
@@ -156,7 +124,7 @@ module _ (from to : List ℕ) (d d1 : DepotState) (i : SourceState) (o e e' : Si
           opens = λ is. let bad : NoMemory ≡ Done = is in cc;
           refuses = inr (refuses_none words_read one from d d1 words w i o e s index spells NoMemory (λ h. cc) (λ fault h. cc));
           complete = λ t c found none. inr (inr refl);
-          depot = only_read e' s' (Ok words) NoMemory w;
+          depot = only_read e' s' NoMemory w.reads;
         };
         faults = unmade_faults making.NoMemory (outside d i o e s) (outside d1 i o e' s') (loaded_counts from d d1 words w) w.reads.writing_count refl refl;
         depot_tells = w.reads.tells;
@@ -191,26 +159,6 @@ module _ (from to : List ℕ) (d d1 : DepotState) (i : SourceState) (o e e' : Si
           }
 
 -- ---- the same of what `migrate` gives
-
--- its words were not loaded
-pub migrate_refused : (from to : List ℕ) (d d1 : DepotState) (i : SourceState) (o e e' : SinkState) (s : ℕ)
-    (loaded : Result (Vec ℕ Global) LoadIndexError) (error : LoadIndexError) (r : Result (Unit {0}) Stop)
-    → LoadsWords from d d1 (words_loaded loaded) → loaded ≡ Err error → r ≡ Err (stop_of_loading error)
-    → Leaves (Some (Migrate from to)) (outside d i o e s) (outside d1 i o e' s) (outcome_of r)
-migrate_refused from to d d1 i o e e' s loaded error r w was is =
-    let W : Result (Vec ℕ Global) LoadIndexError → Type 0 = λ x. LoadsWords from d d1 (words_loaded x) in
-    let P : Result (Unit {0}) Stop → Type 0 = λ x. Leaves (Some (Migrate from to)) (outside d i o e s) (outside d1 i o e' s) (outcome_of x) in
-    subst P (sym is) (not_loaded from to d d1 i o e e' s error (subst W was w))
-
--- they are no index
-pub migrate_unopened : WordsAreRead → OneBrokenCheck → (from to : List ℕ) (d d1 : DepotState) (i : SourceState) (o e e' : SinkState) (s : ℕ)
-    (loaded : Result (Vec ℕ Global) LoadIndexError) (words : Vec ℕ Global) (lent : List ℕ) (fault : OpenFault) (r : Result (Unit {0}) Stop)
-    → LoadsWords from d d1 (words_loaded loaded) → loaded ≡ Ok words → lent ≡ words.items
-    → ¬ IsIndex lent → IsFirstBroken lent fault → r ≡ Err (stop.Index fault)
-    → Leaves (Some (Migrate from to)) (outside d i o e s) (outside d1 i o e' s) (outcome_of r)
-migrate_unopened read one from to d d1 i o e e' s loaded words lent fault r w was lends denied first is =
-    let P : Result (Unit {0}) Stop → Type 0 = λ x. Leaves (Some (Migrate from to)) (outside d i o e s) (outside d1 i o e' s) (outcome_of x) in
-    subst P (sym is) (not_opened from to d d1 i o e e' s read one lent (lent_loaded from d d1 loaded words lent w was lends) fault denied first)
 
 -- no words were made of the index
 pub migrate_unmade : WordsAreRead → OneBrokenCheck → (from to : List ℕ) (d d1 : DepotState) (i : SourceState) (o e e' : SinkState) (s s' : ℕ)

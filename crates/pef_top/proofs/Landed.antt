@@ -12,11 +12,12 @@ use Rattle.collection_reader.specs.FirstFault.{IsFirstFault}
 use Rattle.collection_reader.specs.ReadCollection.{files_at}
 use Rattle.collection_reader.specs.Laws.{OneFirstFault, SpelledHasNoFault}
 use Rattle.pef_io.specs.DepotState.{DepotState}
+use Rattle.pef_top.proofs.Counted.{is_file_fault}
 use Rattle.pef_top.specs.declared.status.Status.{Status}
-use Rattle.pef_top.specs.Command.{Command}
+use Rattle.command_line.specs.Command.{Command}
 use Rattle.pef_top.specs.Ends.{Ends}
 use Rattle.pef_top.specs.Uncalled.{Objects, LeavesUncalled, IsSilent}
-use Rattle.pef_top.specs.Outside.{Outside, Told, IsUnanswered}
+use Rattle.pef_top.specs.Outside.{Outside, Told, IsUnanswered, OfFile, failed}
 use Rattle.pef_top.specs.Outcome.{Outcome, Done, NoMemory, BrokenCollection, FileFault, is_refusal}
 use Rattle.command_model.specs.Found.{HasFault}
 use Rattle.pef_top.specs.Answer.{Answers, IsAnswerable, IsBuiltFrom, answer_format}
@@ -48,8 +49,8 @@ pub file_fault : {D I O : Type 0} (old new : Outside) (outcome : Outcome) (resul
     → Ends old new outcome result → LeavesUncalled command accepted outcome before after
     → (slot : Slot) → old.depot.faults slot < new.depot.faults slot → (outcome ≡ FileFault slot) × IsSilent before after
 file_fault old new outcome result command accepted before after ends leaves slot rose =
-    elim ((ends.faults.slots slot).changes_only_there) [
-      | inl is ↦ (is, leaves.refused (subst (λ x. IsTrue (is_refusal x)) (sym is) refl))
+    elim ((ends.faults.counts (OfFile slot)).changes_only_there) [
+      | inl of ↦ let is : outcome ≡ FileFault slot = is_file_fault outcome slot of in (is, leaves.refused (subst (λ x. IsTrue (is_refusal x)) (sym is) refl))
       | inr same ↦ elim (changed old new slot rose same) [ ]
     ]
   where

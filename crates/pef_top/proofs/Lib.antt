@@ -1,6 +1,4 @@
 mod ErrPieces
-mod Joined
-mod Plain
 mod Counted
 mod WordsBuilt
 mod WordsMade
@@ -15,14 +13,11 @@ mod GenerationPrinted
 mod IndexMigrated
 mod RunEnds
 mod Rows
-mod Excluded
+mod Tabled
 mod Without
 mod Refused
 mod Landed
-mod PlainWalk
-mod Taken
-mod WordsRead
-mod TextsRead
 mod Stopped
 mod IndexLoaded
+mod IndexRefused
 mod Headline

@@ -1,10 +1,11 @@
 use Rattle.std.proofs.Common.{refl, sym, subst, inr, arith, Option, None}
 use Rattle.std.specs.Prelude.{◌≡◌, false}
+use Rattle.pef_top.proofs.Counted.{all_end}
 use Rattle.pef_top.specs.declared.status.Status.TheVariants as status
 use Rattle.pef_top.specs.Outside.{Outside}
 use Rattle.pef_top.specs.Outcome.{Outcome, Usage}
 use Rattle.pef_top.specs.Ends.{Ends}
-use Rattle.pef_top.specs.Command.{Command}
+use Rattle.command_line.specs.Command.{Command}
 use Rattle.pef_top.specs.Commands.{Performs}
 use Rattle.pef_top.specs.Uncalled.{Objects, LeavesUncalled}
 
@@ -12,12 +13,12 @@ ends : (o : Outside) → o.err.tells ≡ false → Ends o o Usage status.Usage
 ends o silent = record {
   status = refl;
   line = λ h t. cc;
-  faults = record {
+  faults = all_end _ _ _ (record {
     slots = λ slot. record { only_where_it_rose = λ h. cc; changes_only_there = inr refl; never_falls = omega arith };
     writing = record { only_where_it_rose = λ h. cc; changes_only_there = inr refl; never_falls = omega arith };
     input = record { only_where_it_rose = λ h. cc; changes_only_there = inr refl; never_falls = omega arith };
     out = record { only_where_it_rose = λ h. cc; changes_only_there = inr refl; never_falls = omega arith };
-  };
+  });
   telling = record { depot = refl; input = refl; out = refl; err = refl };
 }
 

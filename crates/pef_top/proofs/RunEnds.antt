@@ -4,29 +4,30 @@ use Rattle.std.specs.Prelude.{◌≢◌, not, IsTrue, Result, Ok, Err, IsOk, Opt
 use Rattle.pef_io.specs.SourceState.{SourceState}
 use Rattle.pef_io.specs.SinkState.{SinkState}
 use Rattle.pef_io.specs.DepotState.{DepotState}
+use Rattle.pef_io.specs.declared.fail.Slot.TheVariants.{Index}
 use Rattle.pef_top.specs.declared.status.Status.{Status}
 use Rattle.pef_top.specs.declared.stop.Stop.{Stop}
 use Rattle.pef_top.specs.declared.stop.Stop.TheVariants as stop
-use Rattle.pef_top.specs.Command.{Command}
-use Rattle.pef_top.specs.Outside.{Outside, GotText, outside}
-use Rattle.pef_top.specs.Outcome.{Outcome, Done, Usage, BrokenCollection, BrokenIndex, FileFault, InputFault, IndexWriteFault, OutFault, NoMemory, IndexTooLarge, InputTooLarge, status_of, line_of}
+use Rattle.command_line.specs.Command.{Command}
+use Rattle.pef_top.specs.Outside.{Outside, GotText, outside, OfFile, OfWriting, OfInput, OfOut}
+use Rattle.pef_top.specs.Outcome.{Outcome, Done, Usage, BrokenCollection, BrokenIndex, FileFault, InputFault, WriteFault, OutFault, NoMemory, TooLarge, InputTooLarge, status_of, line_of}
 use Rattle.pef_top.specs.Ends.{Ends}
 use Rattle.pef_top.specs.Commands.{IsUsage, Performs}
 use Rattle.pef_top.specs.Uncalled.{LeavesUncalled, calls_depot, reads_input, prints, objects}
 use Rattle.pef_top.specs.Private.Leaves.{Leaves, Reports}
 use Rattle.pef_top.specs.Private.Stops.{outcome_of, outcome_of_stop}
-use Rattle.pef_top.proofs.Counted.{stays}
+use Rattle.pef_top.proofs.Counted.{stays, all_end}
 
 -- words that are no command
 pub no_command : (d : DepotState) (i : SourceState) (o e e' : SinkState) (s : ℕ) → Leaves None (outside d i o e s) (outside d i o e' s) Usage
 no_command d i o e e' s = record {
   performs = record { usage = refl; costs = refl };
-  faults = record {
-    slots = λ slot. stays (FileFault slot) Usage _ _ (λ h. cc) refl;
-    writing = stays IndexWriteFault Usage _ _ (λ h. cc) refl;
-    input = stays InputFault Usage _ _ (λ h. cc) refl;
-    out = stays OutFault Usage _ _ (λ h. cc) refl;
-  };
+  faults = all_end _ _ _ (record {
+    slots = λ slot. stays (OfFile slot) Usage _ _ (λ h. cc) refl;
+    writing = stays OfWriting Usage _ _ (λ h. cc) refl;
+    input = stays OfInput Usage _ _ (λ h. cc) refl;
+    out = stays OfOut Usage _ _ (λ h. cc) refl;
+  });
   depot_tells = refl;
   input_tells = refl;
   out_tells = refl;
@@ -39,10 +40,10 @@ not_done (stop.Collection fault) h = let e : BrokenCollection fault ≡ Done = h
 not_done (stop.Index fault) h = let e : BrokenIndex fault ≡ Done = h in cc
 not_done (stop.File slot) h = let e : FileFault slot ≡ Done = h in cc
 not_done stop.Input h = let e : InputFault ≡ Done = h in cc
-not_done stop.IndexWrite h = let e : IndexWriteFault ≡ Done = h in cc
+not_done (stop.Write slot) h = let e : WriteFault slot ≡ Done = h in cc
 not_done stop.Out h = let e : OutFault ≡ Done = h in cc
 not_done stop.NoMemory h = let e : NoMemory ≡ Done = h in cc
-not_done stop.LargeIndex h = let e : IndexTooLarge ≡ Done = h in cc
+not_done (stop.Large slot) h = let e : TooLarge slot ≡ Done = h in cc
 not_done stop.LongInput h = let e : InputTooLarge ≡ Done = h in cc
 
 pub is_ok : (ending : Result (Unit {0}) Stop) → outcome_of ending ≡ Done → IsOk ending

@@ -1,24 +1,25 @@
 -- What a run leaves that answers a text from a collection that it found.
 use Rattle.std.proofs.Common.{◌≡◌, ℕ, refl, List, inl, inr}
-use Rattle.std.specs.Prelude.{◌≢◌, IsTrue, Result, Ok, Err}
+use Rattle.std.specs.Prelude.{Some, None, ◌≢◌, IsTrue, Result, Ok, Err}
 use Rattle.collection_model.specs.Collection.{Collection}
 use Rattle.part_cost.specs.declared.formats.Format.{Format}
 use Rattle.part_cost.specs.Formats.{numbers_of}
 use Rattle.pef_io.specs.declared.fail.Slot.{Slot}
+use Rattle.pef_io.specs.declared.fail.Slot.TheVariants.{Index}
 use Rattle.collection_reader.specs.declared.fault.Fault.{Fault}
 use Rattle.index_file.specs.declared.fault.OpenFault.{OpenFault}
 use Rattle.command_steps.specs.declared.text.RunFault.{RunFault}
 use Rattle.command_steps.specs.declared.text.RunFault.TheVariants as answering
 use Rattle.command_steps.specs.AnswerText.{AnswersText}
-use Rattle.pef_top.specs.Outside.{Outside}
-use Rattle.pef_top.specs.Outcome.{Outcome, Done, BrokenCollection, BrokenIndex, FileFault, InputFault, IndexWriteFault, OutFault, NoMemory, IndexTooLarge, InputTooLarge, is_refusal}
+use Rattle.pef_top.specs.Outside.{Outside, OfFile, OfWriting, OfInput, OfOut}
+use Rattle.pef_top.specs.Outcome.{Outcome, Done, BrokenCollection, BrokenIndex, InputFault, OutFault, NoMemory, TooLarge, InputTooLarge, is_refusal, fault_of}
 use Rattle.pef_top.specs.Ends.{EndsByFault}
 use Rattle.pef_top.specs.Built.{BuildsWordsThen}
 use Rattle.pef_top.specs.ReadingCollection.{ReadsCollectionThen}
 use Rattle.pef_top.specs.ReadingIndex.{ReadsIndexThen}
 use Rattle.pef_top.specs.AnsweredText.{AnswersInput, MustAnswer, longest_text}
 use Rattle.pef_top.specs.Private.Stops.{outcome_of_stop, stop_of_answering}
-use Rattle.pef_top.proofs.Counted.{stays, rises, second, not_true, not_both_lengths, longer_than}
+use Rattle.pef_top.proofs.Counted.{stays, rises, second, not_true, not_both_lengths, longer_than, Of}
 
 abbrev Answer : Type 0
 Answer = Result (Unit {0}) RunFault
@@ -43,26 +44,26 @@ not_no_index (Err answering.Write) fault h = let s : OutFault ≡ BrokenIndex fa
 not_no_index (Err answering.TooLarge) fault h = let s : InputTooLarge ≡ BrokenIndex fault = h in cc
 not_no_index (Err answering.NoMemory) fault h = let s : NoMemory ≡ BrokenIndex fault = h in cc
 
-pub not_too_large : (r : Answer) → text_outcome r ≢ IndexTooLarge
-not_too_large (Ok u) h = let s : Done ≡ IndexTooLarge = h in cc
-not_too_large (Err answering.Read) h = let s : InputFault ≡ IndexTooLarge = h in cc
-not_too_large (Err answering.Write) h = let s : OutFault ≡ IndexTooLarge = h in cc
-not_too_large (Err answering.TooLarge) h = let s : InputTooLarge ≡ IndexTooLarge = h in cc
-not_too_large (Err answering.NoMemory) h = let s : NoMemory ≡ IndexTooLarge = h in cc
+pub not_too_large : (r : Answer) → text_outcome r ≢ TooLarge Index
+not_too_large (Ok u) h = let s : Done ≡ TooLarge Index = h in cc
+not_too_large (Err answering.Read) h = let s : InputFault ≡ TooLarge Index = h in cc
+not_too_large (Err answering.Write) h = let s : OutFault ≡ TooLarge Index = h in cc
+not_too_large (Err answering.TooLarge) h = let s : InputTooLarge ≡ TooLarge Index = h in cc
+not_too_large (Err answering.NoMemory) h = let s : NoMemory ≡ TooLarge Index = h in cc
 
-pub not_file : (r : Answer) (slot : Slot) → text_outcome r ≢ FileFault slot
-not_file (Ok u) slot h = let s : Done ≡ FileFault slot = h in cc
-not_file (Err answering.Read) slot h = let s : InputFault ≡ FileFault slot = h in cc
-not_file (Err answering.Write) slot h = let s : OutFault ≡ FileFault slot = h in cc
-not_file (Err answering.TooLarge) slot h = let s : InputTooLarge ≡ FileFault slot = h in cc
-not_file (Err answering.NoMemory) slot h = let s : NoMemory ≡ FileFault slot = h in cc
+pub not_file : (r : Answer) (slot : Slot) → ¬ Of (fault_of (text_outcome r)) (OfFile slot)
+not_file (Ok u) slot h = let s : Of None (OfFile slot) = h in cc
+not_file (Err answering.Read) slot h = let s : Of (Some OfInput) (OfFile slot) = h in cc
+not_file (Err answering.Write) slot h = let s : Of (Some OfOut) (OfFile slot) = h in cc
+not_file (Err answering.TooLarge) slot h = let s : Of None (OfFile slot) = h in cc
+not_file (Err answering.NoMemory) slot h = let s : Of None (OfFile slot) = h in cc
 
-pub not_writing : (r : Answer) → text_outcome r ≢ IndexWriteFault
-not_writing (Ok u) h = let s : Done ≡ IndexWriteFault = h in cc
-not_writing (Err answering.Read) h = let s : InputFault ≡ IndexWriteFault = h in cc
-not_writing (Err answering.Write) h = let s : OutFault ≡ IndexWriteFault = h in cc
-not_writing (Err answering.TooLarge) h = let s : InputTooLarge ≡ IndexWriteFault = h in cc
-not_writing (Err answering.NoMemory) h = let s : NoMemory ≡ IndexWriteFault = h in cc
+pub not_writing : (r : Answer) → ¬ Of (fault_of (text_outcome r)) OfWriting
+not_writing (Ok u) h = let s : Of None OfWriting = h in cc
+not_writing (Err answering.Read) h = let s : Of (Some OfInput) OfWriting = h in cc
+not_writing (Err answering.Write) h = let s : Of (Some OfOut) OfWriting = h in cc
+not_writing (Err answering.TooLarge) h = let s : Of None OfWriting = h in cc
+not_writing (Err answering.NoMemory) h = let s : Of None OfWriting = h in cc
 
 pub not_refusal : (r : Answer) → IsTrue (is_refusal (text_outcome r)) → ⊥
 not_refusal (Ok u) h = not_true h
@@ -110,12 +111,12 @@ must_answer Is c old new (Ok u) a = record {
   limited = λ t x is none len. absurd (not_both_lengths _ _ (a.to_end t.input).1 len);
 }
 must_answer Is c old new (Err answering.Read) a = record {
-  complete = λ t x is none len. absurd (none.input (a.read_only_where_it_rose refl));
-  limited = λ t x is none len. absurd (none.input (a.read_only_where_it_rose refl));
+  complete = λ t x is none len. absurd (none OfInput (a.read_only_where_it_rose refl));
+  limited = λ t x is none len. absurd (none OfInput (a.read_only_where_it_rose refl));
 }
 must_answer Is c old new (Err answering.Write) a = record {
-  complete = λ t x is none len. absurd (none.out (a.write_only_where_it_rose refl));
-  limited = λ t x is none len. absurd (none.out (a.write_only_where_it_rose refl));
+  complete = λ t x is none len. absurd (none OfOut (a.write_only_where_it_rose refl));
+  limited = λ t x is none len. absurd (none OfOut (a.write_only_where_it_rose refl));
 }
 must_answer Is c old new (Err answering.TooLarge) a = record {
   complete = λ t x is none len. absurd (not_both_lengths _ _ len (longer_than old.input.left new.input.left longest_text (a.longer t.input refl)));
@@ -131,23 +132,23 @@ abbrev Fails : Answer → RunFault → Type 0
 Fails r e = ◌≡◌ {A = Answer} r (Err e)
 
 pub input_ends : (c : Collection) (old new : Outside) (r : Answer) → AnswersText c longest_text old.input new.input old.out new.out r
-    → EndsByFault InputFault (text_outcome r) old.input.faults new.input.faults
-input_ends c old new (Ok u) a = stays InputFault Done _ _ (λ h. cc) (second a.input_count (λ h. let b : Fails (Ok u) answering.Read = h in cc))
-input_ends c old new (Err answering.Read) a = rises InputFault InputFault _ _ refl (a.read_only_where_it_rose refl) a.counts_never_fall.0
+    → EndsByFault OfInput (text_outcome r) old.input.faults new.input.faults
+input_ends c old new (Ok u) a = stays OfInput Done _ _ (λ h. cc) (second a.input_count (λ h. let b : Fails (Ok u) answering.Read = h in cc))
+input_ends c old new (Err answering.Read) a = rises OfInput InputFault _ _ refl (a.read_only_where_it_rose refl) a.counts_never_fall.0
 input_ends c old new (Err answering.Write) a =
-    stays InputFault OutFault _ _ (λ h. cc) (second a.input_count (λ h. let b : Fails (Err answering.Write) answering.Read = h in cc))
+    stays OfInput OutFault _ _ (λ h. cc) (second a.input_count (λ h. let b : Fails (Err answering.Write) answering.Read = h in cc))
 input_ends c old new (Err answering.TooLarge) a =
-    stays InputFault InputTooLarge _ _ (λ h. cc) (second a.input_count (λ h. let b : Fails (Err answering.TooLarge) answering.Read = h in cc))
+    stays OfInput InputTooLarge _ _ (λ h. cc) (second a.input_count (λ h. let b : Fails (Err answering.TooLarge) answering.Read = h in cc))
 input_ends c old new (Err answering.NoMemory) a =
-    stays InputFault NoMemory _ _ (λ h. cc) (second a.input_count (λ h. let b : Fails (Err answering.NoMemory) answering.Read = h in cc))
+    stays OfInput NoMemory _ _ (λ h. cc) (second a.input_count (λ h. let b : Fails (Err answering.NoMemory) answering.Read = h in cc))
 
 pub out_ends : (c : Collection) (old new : Outside) (r : Answer) → AnswersText c longest_text old.input new.input old.out new.out r
-    → EndsByFault OutFault (text_outcome r) old.out.faults new.out.faults
-out_ends c old new (Ok u) a = stays OutFault Done _ _ (λ h. cc) (second a.out_count (λ h. let b : Fails (Ok u) answering.Write = h in cc))
+    → EndsByFault OfOut (text_outcome r) old.out.faults new.out.faults
+out_ends c old new (Ok u) a = stays OfOut Done _ _ (λ h. cc) (second a.out_count (λ h. let b : Fails (Ok u) answering.Write = h in cc))
 out_ends c old new (Err answering.Read) a =
-    stays OutFault InputFault _ _ (λ h. cc) (second a.out_count (λ h. let b : Fails (Err answering.Read) answering.Write = h in cc))
-out_ends c old new (Err answering.Write) a = rises OutFault OutFault _ _ refl (a.write_only_where_it_rose refl) a.counts_never_fall.1
+    stays OfOut InputFault _ _ (λ h. cc) (second a.out_count (λ h. let b : Fails (Err answering.Read) answering.Write = h in cc))
+out_ends c old new (Err answering.Write) a = rises OfOut OutFault _ _ refl (a.write_only_where_it_rose refl) a.counts_never_fall.1
 out_ends c old new (Err answering.TooLarge) a =
-    stays OutFault InputTooLarge _ _ (λ h. cc) (second a.out_count (λ h. let b : Fails (Err answering.TooLarge) answering.Write = h in cc))
+    stays OfOut InputTooLarge _ _ (λ h. cc) (second a.out_count (λ h. let b : Fails (Err answering.TooLarge) answering.Write = h in cc))
 out_ends c old new (Err answering.NoMemory) a =
-    stays OutFault NoMemory _ _ (λ h. cc) (second a.out_count (λ h. let b : Fails (Err answering.NoMemory) answering.Write = h in cc))
+    stays OfOut NoMemory _ _ (λ h. cc) (second a.out_count (λ h. let b : Fails (Err answering.NoMemory) answering.Write = h in cc))

@@ -1,17 +1,18 @@
 -- What a run leaves that prints a text.
 use Rattle.std.proofs.Common.{◌≡◌, ℕ, refl, List, inl, inr}
-use Rattle.std.specs.Prelude.{◌≢◌, IsTrue, Result, Ok, Err}
+use Rattle.std.specs.Prelude.{Some, None, ◌≢◌, IsTrue, Result, Ok, Err}
 use Rattle.pef_io.specs.declared.fail.Slot.{Slot}
+use Rattle.pef_io.specs.declared.fail.Slot.TheVariants.{Index}
 use Rattle.index_file.specs.declared.fault.OpenFault.{OpenFault}
 use Rattle.command_steps.specs.declared.printing.PrintError.{PrintError}
 use Rattle.command_steps.specs.declared.printing.PrintError.TheVariants as printing
 use Rattle.command_steps.specs.PrintLine.{PrintsLine}
-use Rattle.pef_top.specs.Outside.{Outside, NoCallFailed}
-use Rattle.pef_top.specs.Outcome.{Outcome, Done, BrokenIndex, FileFault, InputFault, IndexWriteFault, OutFault, NoMemory, IndexTooLarge, is_refusal}
+use Rattle.pef_top.specs.Outside.{Outside, NoCallFailed, OfFile, OfWriting, OfInput, OfOut}
+use Rattle.pef_top.specs.Outcome.{Outcome, Done, BrokenIndex, OutFault, NoMemory, TooLarge, is_refusal, fault_of}
 use Rattle.pef_top.specs.Ends.{EndsByFault, OrNoMemory}
 use Rattle.pef_top.specs.PrintedText.{PrintsText}
 use Rattle.pef_top.specs.Private.Stops.{outcome_of_stop, stop_of_printing}
-use Rattle.pef_top.proofs.Counted.{stays, rises, second, not_true}
+use Rattle.pef_top.proofs.Counted.{stays, rises, second, not_true, Of}
 
 abbrev pub Printed : Type 0
 Printed = Result (Unit {0}) PrintError
@@ -27,25 +28,25 @@ not_no_index (Ok u) fault h = let s : Done ≡ BrokenIndex fault = h in cc
 not_no_index (Err printing.Write) fault h = let s : OutFault ≡ BrokenIndex fault = h in cc
 not_no_index (Err printing.NoMemory) fault h = let s : NoMemory ≡ BrokenIndex fault = h in cc
 
-pub not_too_large : (r : Printed) → print_outcome r ≢ IndexTooLarge
-not_too_large (Ok u) h = let s : Done ≡ IndexTooLarge = h in cc
-not_too_large (Err printing.Write) h = let s : OutFault ≡ IndexTooLarge = h in cc
-not_too_large (Err printing.NoMemory) h = let s : NoMemory ≡ IndexTooLarge = h in cc
+pub not_too_large : (r : Printed) → print_outcome r ≢ TooLarge Index
+not_too_large (Ok u) h = let s : Done ≡ TooLarge Index = h in cc
+not_too_large (Err printing.Write) h = let s : OutFault ≡ TooLarge Index = h in cc
+not_too_large (Err printing.NoMemory) h = let s : NoMemory ≡ TooLarge Index = h in cc
 
-pub not_file : (r : Printed) (slot : Slot) → print_outcome r ≢ FileFault slot
-not_file (Ok u) slot h = let s : Done ≡ FileFault slot = h in cc
-not_file (Err printing.Write) slot h = let s : OutFault ≡ FileFault slot = h in cc
-not_file (Err printing.NoMemory) slot h = let s : NoMemory ≡ FileFault slot = h in cc
+pub not_file : (r : Printed) (slot : Slot) → ¬ Of (fault_of (print_outcome r)) (OfFile slot)
+not_file (Ok u) slot h = let s : Of None (OfFile slot) = h in cc
+not_file (Err printing.Write) slot h = let s : Of (Some OfOut) (OfFile slot) = h in cc
+not_file (Err printing.NoMemory) slot h = let s : Of None (OfFile slot) = h in cc
 
-pub not_writing : (r : Printed) → print_outcome r ≢ IndexWriteFault
-not_writing (Ok u) h = let s : Done ≡ IndexWriteFault = h in cc
-not_writing (Err printing.Write) h = let s : OutFault ≡ IndexWriteFault = h in cc
-not_writing (Err printing.NoMemory) h = let s : NoMemory ≡ IndexWriteFault = h in cc
+pub not_writing : (r : Printed) → ¬ Of (fault_of (print_outcome r)) OfWriting
+not_writing (Ok u) h = let s : Of None OfWriting = h in cc
+not_writing (Err printing.Write) h = let s : Of (Some OfOut) OfWriting = h in cc
+not_writing (Err printing.NoMemory) h = let s : Of None OfWriting = h in cc
 
-pub not_input : (r : Printed) → print_outcome r ≢ InputFault
-not_input (Ok u) h = let s : Done ≡ InputFault = h in cc
-not_input (Err printing.Write) h = let s : OutFault ≡ InputFault = h in cc
-not_input (Err printing.NoMemory) h = let s : NoMemory ≡ InputFault = h in cc
+pub not_input : (r : Printed) → ¬ Of (fault_of (print_outcome r)) OfInput
+not_input (Ok u) h = let s : Of None OfInput = h in cc
+not_input (Err printing.Write) h = let s : Of (Some OfOut) OfInput = h in cc
+not_input (Err printing.NoMemory) h = let s : Of None OfInput = h in cc
 
 pub no_print_refuses : (r : Printed) → IsTrue (is_refusal (print_outcome r)) → ⊥
 no_print_refuses (Ok u) h = not_true h
@@ -60,13 +61,13 @@ prints Is line is old new (Err printing.NoMemory) p = inr (line, is, λ t. p.fro
 
 pub complete : (line : List ℕ) (old new : Outside) (r : Printed) → PrintsLine line old.out new.out r → NoCallFailed old new → OrNoMemory Done (print_outcome r)
 complete line old new (Ok u) p none = inl refl
-complete line old new (Err printing.Write) p none = absurd (none.out (p.write_only_where_it_rose refl))
+complete line old new (Err printing.Write) p none = absurd (none OfOut (p.write_only_where_it_rose refl))
 complete line old new (Err printing.NoMemory) p none = inr refl
 
 -- the count of out
-pub out_ends : (line : List ℕ) (old new : Outside) (r : Printed) → PrintsLine line old.out new.out r → EndsByFault OutFault (print_outcome r) old.out.faults new.out.faults
+pub out_ends : (line : List ℕ) (old new : Outside) (r : Printed) → PrintsLine line old.out new.out r → EndsByFault OfOut (print_outcome r) old.out.faults new.out.faults
 out_ends line old new (Ok u) p =
-    stays OutFault Done _ _ (λ h. cc) (second p.count_rises_only_there (λ h. let b : ◌≡◌ {A = Printed} (Ok u) (Err printing.Write) = h in cc))
-out_ends line old new (Err printing.Write) p = rises OutFault OutFault _ _ refl (p.write_only_where_it_rose refl) p.counts_never_fall.0
+    stays OfOut Done _ _ (λ h. cc) (second p.count_rises_only_there (λ h. let b : ◌≡◌ {A = Printed} (Ok u) (Err printing.Write) = h in cc))
+out_ends line old new (Err printing.Write) p = rises OfOut OutFault _ _ refl (p.write_only_where_it_rose refl) p.counts_never_fall.0
 out_ends line old new (Err printing.NoMemory) p =
-    stays OutFault NoMemory _ _ (λ h. cc) (second p.count_rises_only_there (λ h. let b : ◌≡◌ {A = Printed} (Err printing.NoMemory) (Err printing.Write) = h in cc))
+    stays OfOut NoMemory _ _ (λ h. cc) (second p.count_rises_only_there (λ h. let b : ◌≡◌ {A = Printed} (Err printing.NoMemory) (Err printing.Write) = h in cc))

@@ -4,12 +4,13 @@ use Rattle.pef_io.specs.SourceState.{SourceState}
 use Rattle.pef_io.specs.SinkState.{SinkState}
 use Rattle.pef_io.specs.DepotState.{DepotState}
 use Rattle.pef_io.proofs.OnlyReads.{OnlyReads-same}
+use Rattle.pef_top.proofs.Counted.{all_end}
 use Rattle.pef_top.specs.declared.status.Status.TheVariants as status
 use Rattle.pef_top.specs.Outside.{outside, GotText}
 use Rattle.pef_top.specs.ErrLines.{memory_line}
 use Rattle.pef_top.specs.Outcome.{NoMemory}
 use Rattle.pef_top.specs.Ends.{Ends}
-use Rattle.pef_top.specs.Command.{Command, Build, Query, Answer, Inspect, Generate, Migrate}
+use Rattle.command_line.specs.Command.{Command, Build, Query, Answer, Inspect, Generate, Migrate}
 use Rattle.pef_top.specs.Commands.{Performs}
 
 -- a run that is refused memory ends so
@@ -18,12 +19,12 @@ pub ends : (d : DepotState) (i : SourceState) (o e e' : SinkState) (s : ℕ) →
 ends d i o e e' s got tells = record {
   status = refl;
   line = λ h. got;
-  faults = record {
+  faults = all_end _ _ _ (record {
     slots = λ slot. record { only_where_it_rose = λ h. cc; changes_only_there = inr refl; never_falls = omega arith };
     writing = record { only_where_it_rose = λ h. cc; changes_only_there = inr refl; never_falls = omega arith };
     input = record { only_where_it_rose = λ h. cc; changes_only_there = inr refl; never_falls = omega arith };
     out = record { only_where_it_rose = λ h. cc; changes_only_there = inr refl; never_falls = omega arith };
-  };
+  });
   telling = record { depot = refl; input = refl; out = refl; err = tells };
 }
 

@@ -1,10 +1,11 @@
 -- What a run leaves that builds words: where they are not built, and what is known where they are.
 use Rattle.std.proofs.Common.{◌≡◌, ℕ, ◌≤◌, ◌<◌, refl, ap, subst, List, length, inl, inr}
-use Rattle.std.specs.Prelude.{◌≢◌, IsTrue, Result, Ok, Err}
+use Rattle.std.specs.Prelude.{Some, None, ◌≢◌, IsTrue, Result, Ok, Err}
 use Rattle.collection_model.specs.Collection.{Collection}
 use Rattle.part_cost.specs.declared.formats.Format.{Format}
 use Rattle.part_cost.specs.Formats.{numbers_of}
 use Rattle.pef_io.specs.declared.fail.Slot.{Slot}
+use Rattle.pef_io.specs.declared.fail.Slot.TheVariants.{Index}
 use Rattle.pef_io.specs.DepotState.{DepotState}
 use Rattle.collection_reader.specs.declared.fault.Fault.{Fault}
 use Rattle.index_file.specs.FileWords.{ListParts, file_words}
@@ -13,13 +14,13 @@ use Rattle.command_model.specs.Found.{FindsCollection, HasFault}
 use Rattle.command_steps.specs.declared.build.BuildError.{BuildError}
 use Rattle.command_steps.specs.declared.build.BuildError.TheVariants as building
 use Rattle.command_steps.specs.BuildWords.{BuildsWords}
-use Rattle.pef_top.specs.Outside.{Outside, NoCallFailed}
-use Rattle.pef_top.specs.Outcome.{Outcome, Done, BrokenCollection, FileFault, InputFault, IndexWriteFault, OutFault, NoMemory, IndexTooLarge}
+use Rattle.pef_top.specs.Outside.{Outside, NoCallFailed, OfFile, OfWriting, OfInput, OfOut, failed}
+use Rattle.pef_top.specs.Outcome.{Outcome, Done, BrokenCollection, FileFault, NoMemory, TooLarge, fault_of}
 use Rattle.pef_top.specs.Ends.{EndsByFault, FirstFaultEnds, OrTooLarge}
 use Rattle.pef_top.specs.Built.{AreBuilt, BuildsWordsThen}
 use Rattle.pef_top.specs.ReadingCollection.{ReadsCollectionThen, RefusesBrokenCollection}
 use Rattle.pef_top.specs.Private.Stops.{outcome_of_stop, stop_of_building}
-use Rattle.pef_top.proofs.Counted.{stays, second, none_of}
+use Rattle.pef_top.proofs.Counted.{stays, second, none_of, Of, all_end}
 
 -- how a run ends whose words are not built
 abbrev pub unbuilt : BuildError → Outcome
@@ -34,37 +35,37 @@ same_error e f h = cc
 is_broken : (e : BuildError) (fault : Fault) → unbuilt e ≡ BrokenCollection fault → e ≡ building.Broken fault
 is_broken (building.Broken f) fault h = let s : BrokenCollection f ≡ BrokenCollection fault = h in cc
 is_broken (building.Read slot) fault h = let s : FileFault slot ≡ BrokenCollection fault = h in cc
-is_broken (building.TooLarge n) fault h = let s : IndexTooLarge ≡ BrokenCollection fault = h in cc
+is_broken (building.TooLarge n) fault h = let s : (TooLarge Index) ≡ BrokenCollection fault = h in cc
 is_broken building.NoMemory fault h = let s : NoMemory ≡ BrokenCollection fault = h in cc
 
-is_read : (e : BuildError) (slot : Slot) → unbuilt e ≡ FileFault slot → e ≡ building.Read slot
-is_read (building.Broken f) slot h = let s : BrokenCollection f ≡ FileFault slot = h in cc
-is_read (building.Read other) slot h = let s : FileFault other ≡ FileFault slot = h in cc
-is_read (building.TooLarge n) slot h = let s : IndexTooLarge ≡ FileFault slot = h in cc
-is_read building.NoMemory slot h = let s : NoMemory ≡ FileFault slot = h in cc
+is_read : (e : BuildError) (slot : Slot) → Of (fault_of (unbuilt e)) (OfFile slot) → e ≡ building.Read slot
+is_read (building.Broken f) slot h = let s : Of None (OfFile slot) = h in cc
+is_read (building.Read other) slot h = let s : Of (Some (OfFile other)) (OfFile slot) = h in cc
+is_read (building.TooLarge n) slot h = let s : Of None (OfFile slot) = h in cc
+is_read building.NoMemory slot h = let s : Of None (OfFile slot) = h in cc
 
-not_writing : (e : BuildError) → unbuilt e ≢ IndexWriteFault
-not_writing (building.Broken f) h = let s : BrokenCollection f ≡ IndexWriteFault = h in cc
-not_writing (building.Read slot) h = let s : FileFault slot ≡ IndexWriteFault = h in cc
-not_writing (building.TooLarge n) h = let s : IndexTooLarge ≡ IndexWriteFault = h in cc
-not_writing building.NoMemory h = let s : NoMemory ≡ IndexWriteFault = h in cc
+not_writing : (e : BuildError) → ¬ Of (fault_of (unbuilt e)) OfWriting
+not_writing (building.Broken f) h = let s : Of None OfWriting = h in cc
+not_writing (building.Read slot) h = let s : Of (Some (OfFile slot)) OfWriting = h in cc
+not_writing (building.TooLarge n) h = let s : Of None OfWriting = h in cc
+not_writing building.NoMemory h = let s : Of None OfWriting = h in cc
 
-not_input : (e : BuildError) → unbuilt e ≢ InputFault
-not_input (building.Broken f) h = let s : BrokenCollection f ≡ InputFault = h in cc
-not_input (building.Read slot) h = let s : FileFault slot ≡ InputFault = h in cc
-not_input (building.TooLarge n) h = let s : IndexTooLarge ≡ InputFault = h in cc
-not_input building.NoMemory h = let s : NoMemory ≡ InputFault = h in cc
+not_input : (e : BuildError) → ¬ Of (fault_of (unbuilt e)) OfInput
+not_input (building.Broken f) h = let s : Of None OfInput = h in cc
+not_input (building.Read slot) h = let s : Of (Some (OfFile slot)) OfInput = h in cc
+not_input (building.TooLarge n) h = let s : Of None OfInput = h in cc
+not_input building.NoMemory h = let s : Of None OfInput = h in cc
 
-not_out : (e : BuildError) → unbuilt e ≢ OutFault
-not_out (building.Broken f) h = let s : BrokenCollection f ≡ OutFault = h in cc
-not_out (building.Read slot) h = let s : FileFault slot ≡ OutFault = h in cc
-not_out (building.TooLarge n) h = let s : IndexTooLarge ≡ OutFault = h in cc
-not_out building.NoMemory h = let s : NoMemory ≡ OutFault = h in cc
+not_out : (e : BuildError) → ¬ Of (fault_of (unbuilt e)) OfOut
+not_out (building.Broken f) h = let s : Of None OfOut = h in cc
+not_out (building.Read slot) h = let s : Of (Some (OfFile slot)) OfOut = h in cc
+not_out (building.TooLarge n) h = let s : Of None OfOut = h in cc
+not_out building.NoMemory h = let s : Of None OfOut = h in cc
 
 pub not_done : (e : BuildError) → unbuilt e ≢ Done
 not_done (building.Broken fault) h = let s : BrokenCollection fault ≡ Done = h in cc
 not_done (building.Read slot) h = let s : FileFault slot ≡ Done = h in cc
-not_done (building.TooLarge n) h = let s : IndexTooLarge ≡ Done = h in cc
+not_done (building.TooLarge n) h = let s : (TooLarge Index) ≡ Done = h in cc
 not_done building.NoMemory h = let s : NoMemory ≡ Done = h in cc
 
 -- The words of the collection under a base were not built.
@@ -80,23 +81,23 @@ module _ (format : Format) (base : List ℕ) (old new : Outside) (e : BuildError
     sound = λ t c found fault is. w.no_fault t c found fault (ap refused (is_broken e fault is));
   }
 
-  slot_ends : (slot : Slot) → EndsByFault (FileFault slot) (unbuilt e) (old.depot.faults slot) (new.depot.faults slot)
+  slot_ends : (slot : Slot) → EndsByFault (OfFile slot) (unbuilt e) (old.depot.faults slot) (new.depot.faults slot)
   slot_ends slot = record {
     only_where_it_rose = λ is. (w.read_only_where_it_rose slot (ap refused (is_read e slot is))).1;
     changes_only_there = elim (w.count_rises_only_there slot) [
-      | inl is ↦ inl (ap unbuilt (same_error e (building.Read slot) is))
+      | inl is ↦ inl (ap (λ x. fault_of (unbuilt x)) (same_error e (building.Read slot) is))
       | inr same ↦ inr same
     ];
     never_falls = w.reads.never_fall slot;
   }
 
   pub unbuilt_faults : new.input ≡ old.input → new.out ≡ old.out → FirstFaultEnds old new (unbuilt e)
-  unbuilt_faults input out = record {
+  unbuilt_faults input out = all_end _ _ _ (record {
     slots = slot_ends;
-    writing = stays IndexWriteFault (unbuilt e) _ _ (not_writing e) w.reads.writing_count;
-    input = stays InputFault (unbuilt e) _ _ (not_input e) (ap (λ s. s.faults) input);
-    out = stays OutFault (unbuilt e) _ _ (not_out e) (ap (λ s. s.faults) out);
-  }
+    writing = stays OfWriting (unbuilt e) _ _ (not_writing e) w.reads.writing_count;
+    input = stays OfInput (unbuilt e) _ _ (not_input e) (ap (λ s. s.faults) input);
+    out = stays OfOut (unbuilt e) _ _ (not_out e) (ap (λ s. s.faults) out);
+  })
 
 -- what it ends as, where more would come
 pub unbuilt_ends : (format : Format) (base : List ℕ) (old new : Outside) (e : BuildError) (Then : Outcome → Type 0) → Then NoMemory
@@ -106,7 +107,7 @@ unbuilt_ends format base old new (building.Broken fault) Then none w = λ t. w.f
 unbuilt_ends format base old new (building.Read slot) Then none w = (w.read_only_where_it_rose slot refl).0
 unbuilt_ends format base old new (building.TooLarge n) Then none w =
     let found = w.too_large n refl in
-    let it = found.1 in (it.0, it.1, it.2, subst (λ k. most_words < k) it.3 found.0)
+    let it = found.1 in (refl, (it.0, it.1, it.2, subst (λ k. most_words < k) it.3 found.0))
 unbuilt_ends format base old new building.NoMemory Then none w = none
 
 -- where a collection stands under the base and no call failed, there were too many words, or memory was refused
@@ -114,7 +115,7 @@ pub unbuilt_complete : (format : Format) (base : List ℕ) (old new : Outside) (
     → BuildsWords format base old.depot new.depot old.costs new.costs (Err e)
     → IsTrue old.depot.tells → (c : Collection) → FindsCollection (numbers_of format) base old.depot c → NoCallFailed old new → OrTooLarge this (unbuilt e)
 unbuilt_complete format base old new (building.Broken fault) this w t c found none = absurd (w.no_fault t c found fault refl)
-unbuilt_complete format base old new (building.Read slot) this w t c found none = absurd (none.slots slot (w.read_only_where_it_rose slot refl).1)
+unbuilt_complete format base old new (building.Read slot) this w t c found none = absurd (none (OfFile slot) (w.read_only_where_it_rose slot refl).1)
 unbuilt_complete format base old new (building.TooLarge n) this w t c found none = inr (inl refl)
 unbuilt_complete format base old new building.NoMemory this w t c found none = inr (inr refl)
 

@@ -1,13 +1,14 @@
 -- How a run ends that did not make its words.
 use Rattle.std.proofs.Common.{◌≡◌}
 use Rattle.pef_io.specs.declared.fail.Slot.{Slot}
+use Rattle.pef_io.specs.declared.fail.Slot.TheVariants.{Index}
 use Rattle.command_steps.specs.declared.made.MakeError.{MakeError}
 use Rattle.command_steps.specs.declared.made.MakeError.TheVariants as making
-use Rattle.pef_top.specs.Outside.{Outside}
-use Rattle.pef_top.specs.Outcome.{Outcome, FileFault, InputFault, IndexWriteFault, OutFault, NoMemory, IndexTooLarge}
+use Rattle.pef_top.specs.Outside.{Outside, OfFile, OfWriting, OfInput, OfOut}
+use Rattle.pef_top.specs.Outcome.{Outcome, NoMemory, TooLarge}
 use Rattle.pef_top.specs.Ends.{FirstFaultEnds}
 use Rattle.pef_top.specs.Private.Stops.{outcome_of_stop, stop_of_making}
-use Rattle.pef_top.proofs.Counted.{stays}
+use Rattle.pef_top.proofs.Counted.{stays, all_end}
 
 abbrev pub unmade_words : MakeError → Outcome
 unmade_words e = outcome_of_stop (stop_of_making e)
@@ -16,15 +17,15 @@ unmade_words e = outcome_of_stop (stop_of_making e)
 pub unmade_faults : (error : MakeError) (old new : Outside) → ((slot : Slot) → new.depot.faults slot ≡ old.depot.faults slot)
     → new.depot.writing_faults ≡ old.depot.writing_faults → new.input.faults ≡ old.input.faults → new.out.faults ≡ old.out.faults
     → FirstFaultEnds old new (unmade_words error)
-unmade_faults (making.TooLarge k) old new slots writing input out = record {
-  slots = λ slot. stays (FileFault slot) IndexTooLarge _ _ (λ h. cc) (slots slot);
-  writing = stays IndexWriteFault IndexTooLarge _ _ (λ h. cc) writing;
-  input = stays InputFault IndexTooLarge _ _ (λ h. cc) input;
-  out = stays OutFault IndexTooLarge _ _ (λ h. cc) out;
-}
-unmade_faults making.NoMemory old new slots writing input out = record {
-  slots = λ slot. stays (FileFault slot) NoMemory _ _ (λ h. cc) (slots slot);
-  writing = stays IndexWriteFault NoMemory _ _ (λ h. cc) writing;
-  input = stays InputFault NoMemory _ _ (λ h. cc) input;
-  out = stays OutFault NoMemory _ _ (λ h. cc) out;
-}
+unmade_faults (making.TooLarge k) old new slots writing input out = all_end _ _ _ (record {
+  slots = λ slot. stays (OfFile slot) (TooLarge Index) _ _ (λ h. cc) (slots slot);
+  writing = stays OfWriting (TooLarge Index) _ _ (λ h. cc) writing;
+  input = stays OfInput (TooLarge Index) _ _ (λ h. cc) input;
+  out = stays OfOut (TooLarge Index) _ _ (λ h. cc) out;
+})
+unmade_faults making.NoMemory old new slots writing input out = all_end _ _ _ (record {
+  slots = λ slot. stays (OfFile slot) NoMemory _ _ (λ h. cc) (slots slot);
+  writing = stays OfWriting NoMemory _ _ (λ h. cc) writing;
+  input = stays OfInput NoMemory _ _ (λ h. cc) input;
+  out = stays OfOut NoMemory _ _ (λ h. cc) out;
+})

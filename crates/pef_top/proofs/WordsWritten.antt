@@ -1,12 +1,13 @@
 -- What a run leaves that wrote the words of a collection, or stopped at that.
 use Rattle.std.proofs.Common.{◌≡◌, ℕ, ◌≤◌, ◌<◌, ◌^◌, arith, refl, sym, ◌∙◌, ap, subst, List, [], inl, inr, ◌⊎◌}
-use Rattle.std.specs.Prelude.{◌≢◌, IsTrue, Result, Ok, Err, unwrap_or}
+use Rattle.std.specs.Prelude.{Some, None, ◌≢◌, IsTrue, Result, Ok, Err, unwrap_or}
 use Rattle.std.specs.List.{All}
 use Rattle.collection_model.specs.Bytes.{word_bytes}
 use Rattle.collection_model.specs.Collection.{Collection, WellFormed}
 use Rattle.part_cost.specs.declared.formats.Format.{Format}
 use Rattle.part_cost.specs.Formats.{numbers_of}
 use Rattle.pef_io.specs.declared.fail.Slot.{Slot}
+use Rattle.pef_io.specs.declared.fail.Slot.TheVariants.{Index}
 use Rattle.pef_io.specs.Calls.{Rose}
 use Rattle.pef_io.specs.SourceState.{SourceState}
 use Rattle.pef_io.specs.SinkState.{SinkState}
@@ -19,14 +20,14 @@ use Rattle.command_model.specs.Written.{IsWritten, IsUnwritten, IsWrittenInPart,
 use Rattle.command_steps.specs.declared.writing.WriteIndexError.{WriteIndexError}
 use Rattle.command_steps.specs.declared.writing.WriteIndexError.TheVariants as writing
 use Rattle.command_steps.specs.WriteIndex.{WritesWords}
-use Rattle.pef_top.specs.Outside.{Outside, NoCallFailed, outside}
-use Rattle.pef_top.specs.Outcome.{Outcome, Done, BrokenCollection, BrokenIndex, FileFault, InputFault, IndexWriteFault, OutFault, NoMemory, IndexTooLarge, is_refusal}
+use Rattle.pef_top.specs.Outside.{Outside, NoCallFailed, outside, OfFile, OfWriting, OfInput, OfOut}
+use Rattle.pef_top.specs.Outcome.{Outcome, Done, BrokenCollection, BrokenIndex, WriteFault, NoMemory, TooLarge, is_refusal, fault_of}
 use Rattle.pef_top.specs.Ends.{EndsByFault, FirstFaultEnds, OrTooLarge}
 use Rattle.pef_top.specs.FoundIndex.{FindsIndex}
 use Rattle.pef_top.specs.Built.{AreBuilt, BuildsWordsThen}
 use Rattle.pef_top.specs.WrittenIndex.{OnBuiltBytes, IsLeftInPart, WritesIndex, WritesOnlyAccepted}
 use Rattle.pef_top.specs.Private.Stops.{outcome_of_stop, stop_of_writing}
-use Rattle.pef_top.proofs.Counted.{stays, rises, second, not_true}
+use Rattle.pef_top.proofs.Counted.{stays, rises, second, not_true, Of, all_end}
 
 -- how a run ends that wrote its words or stopped at that
 abbrev pub written_outcome : Result (Unit {0}) WriteIndexError → Outcome
@@ -35,23 +36,23 @@ written_outcome (Err e) = outcome_of_stop (stop_of_writing e)
 
 pub not_broken : (r : Result (Unit {0}) WriteIndexError) (fault : Fault) → written_outcome r ≢ BrokenCollection fault
 not_broken (Ok u) fault h = let s : Done ≡ BrokenCollection fault = h in cc
-not_broken (Err writing.Write) fault h = let s : IndexWriteFault ≡ BrokenCollection fault = h in cc
+not_broken (Err writing.Write) fault h = let s : (WriteFault Index) ≡ BrokenCollection fault = h in cc
 not_broken (Err writing.NoMemory) fault h = let s : NoMemory ≡ BrokenCollection fault = h in cc
 
-pub not_file : (r : Result (Unit {0}) WriteIndexError) (slot : Slot) → written_outcome r ≢ FileFault slot
-not_file (Ok u) slot h = let s : Done ≡ FileFault slot = h in cc
-not_file (Err writing.Write) slot h = let s : IndexWriteFault ≡ FileFault slot = h in cc
-not_file (Err writing.NoMemory) slot h = let s : NoMemory ≡ FileFault slot = h in cc
+pub not_file : (r : Result (Unit {0}) WriteIndexError) (slot : Slot) → ¬ Of (fault_of (written_outcome r)) (OfFile slot)
+not_file (Ok u) slot h = let s : Of None (OfFile slot) = h in cc
+not_file (Err writing.Write) slot h = let s : Of (Some OfWriting) (OfFile slot) = h in cc
+not_file (Err writing.NoMemory) slot h = let s : Of None (OfFile slot) = h in cc
 
-pub not_input : (r : Result (Unit {0}) WriteIndexError) → written_outcome r ≢ InputFault
-not_input (Ok u) h = let s : Done ≡ InputFault = h in cc
-not_input (Err writing.Write) h = let s : IndexWriteFault ≡ InputFault = h in cc
-not_input (Err writing.NoMemory) h = let s : NoMemory ≡ InputFault = h in cc
+pub not_input : (r : Result (Unit {0}) WriteIndexError) → ¬ Of (fault_of (written_outcome r)) OfInput
+not_input (Ok u) h = let s : Of None OfInput = h in cc
+not_input (Err writing.Write) h = let s : Of (Some OfWriting) OfInput = h in cc
+not_input (Err writing.NoMemory) h = let s : Of None OfInput = h in cc
 
-pub not_out : (r : Result (Unit {0}) WriteIndexError) → written_outcome r ≢ OutFault
-not_out (Ok u) h = let s : Done ≡ OutFault = h in cc
-not_out (Err writing.Write) h = let s : IndexWriteFault ≡ OutFault = h in cc
-not_out (Err writing.NoMemory) h = let s : NoMemory ≡ OutFault = h in cc
+pub not_out : (r : Result (Unit {0}) WriteIndexError) → ¬ Of (fault_of (written_outcome r)) OfOut
+not_out (Ok u) h = let s : Of None OfOut = h in cc
+not_out (Err writing.Write) h = let s : Of (Some OfWriting) OfOut = h in cc
+not_out (Err writing.NoMemory) h = let s : Of None OfOut = h in cc
 
 pub not_refusal : (r : Result (Unit {0}) WriteIndexError) → IsTrue (is_refusal (written_outcome r)) → ⊥
 not_refusal (Ok u) h = not_true h
@@ -60,13 +61,13 @@ not_refusal (Err writing.NoMemory) h = not_true h
 
 pub not_no_index : (r : Result (Unit {0}) WriteIndexError) (fault : OpenFault) → written_outcome r ≢ BrokenIndex fault
 not_no_index (Ok u) fault h = let s : Done ≡ BrokenIndex fault = h in cc
-not_no_index (Err writing.Write) fault h = let s : IndexWriteFault ≡ BrokenIndex fault = h in cc
+not_no_index (Err writing.Write) fault h = let s : (WriteFault Index) ≡ BrokenIndex fault = h in cc
 not_no_index (Err writing.NoMemory) fault h = let s : NoMemory ≡ BrokenIndex fault = h in cc
 
-pub not_too_large : (r : Result (Unit {0}) WriteIndexError) → written_outcome r ≢ IndexTooLarge
-not_too_large (Ok u) h = let s : Done ≡ IndexTooLarge = h in cc
-not_too_large (Err writing.Write) h = let s : IndexWriteFault ≡ IndexTooLarge = h in cc
-not_too_large (Err writing.NoMemory) h = let s : NoMemory ≡ IndexTooLarge = h in cc
+pub not_too_large : (r : Result (Unit {0}) WriteIndexError) → written_outcome r ≢ TooLarge Index
+not_too_large (Ok u) h = let s : Done ≡ TooLarge Index = h in cc
+not_too_large (Err writing.Write) h = let s : (WriteFault Index) ≡ TooLarge Index = h in cc
+not_too_large (Err writing.NoMemory) h = let s : NoMemory ≡ TooLarge Index = h in cc
 
 -- What such a run leaves.
 pub record IsLeft (format : Format) (Is : Collection → Type 0) (touched : Slot → Type 0) (accepted : Type 0) (index : List ℕ) (old new : Outside)
@@ -126,9 +127,11 @@ module _ (format : Format) (Is : Collection → Type 0) (touched : Slot → Type
 
   writes : (r : Result (Unit {0}) WriteIndexError) → WritesWords words index d1 d2 r → WritesIndex format Is index old new (written_outcome r)
   writes (Ok u) v = on_built (IsWritten index d d2) (written_from (word_bytes words) v.written)
-  writes (Err writing.Write) v =
-      on_built (λ bytes. IsLeftInPart index d d2 bytes × IsLeftByFault index d d2 bytes)
-      (left_from (word_bytes words) v.refused v.begun, fault_from (word_bytes words) (v.failed refl))
+  writes (Err writing.Write) v = (
+    refl,
+    on_built (λ bytes. IsLeftInPart index d d2 bytes × IsLeftByFault index d d2 bytes)
+        (left_from (word_bytes words) v.refused v.begun, fault_from (word_bytes words) (v.failed refl)),
+  )
   writes (Err writing.NoMemory) v = inr (on_built (IsLeftInPart index d d2) (left_from (word_bytes words) v.refused v.begun))
 
   builds_and_writes : (r : Result (Unit {0}) WriteIndexError) → WritesWords words index d1 d2 r
@@ -148,7 +151,7 @@ module _ (format : Format) (Is : Collection → Type 0) (touched : Slot → Type
         within = built.within;
         bytes = λ t. subst P are (record { fit = fit; bytes_are = ap (λ file. unwrap_or file []) (v.written.file (sym v.writes.tells ∙ t)) });
       }
-  found_written fit good (Err writing.Write) v is = let bad : IndexWriteFault ≡ Done = is in cc
+  found_written fit good (Err writing.Write) v is = let bad : (WriteFault Index) ≡ Done = is in cc
   found_written fit good (Err writing.NoMemory) v is = let bad : NoMemory ≡ Done = is in cc
 
   same_writing : d1.writing_faults ≡ d.writing_faults
@@ -156,36 +159,36 @@ module _ (format : Format) (Is : Collection → Type 0) (touched : Slot → Type
 
   -- the count of what is written
   writing_ends : (r : Result (Unit {0}) WriteIndexError) → WritesWords words index d1 d2 r
-      → EndsByFault IndexWriteFault (written_outcome r) d.writing_faults d2.writing_faults
+      → EndsByFault OfWriting (written_outcome r) d.writing_faults d2.writing_faults
   writing_ends (Ok u) v =
-      stays IndexWriteFault Done _ _ (λ h. cc) (second v.count_rises_only_there (λ h. let b : ◌≡◌ {A = Result (Unit {0}) WriteIndexError} (Ok u) (Err writing.Write) = h in cc) ∙ same_writing)
+      stays OfWriting Done _ _ (λ h. cc) (second v.count_rises_only_there (λ h. let b : ◌≡◌ {A = Result (Unit {0}) WriteIndexError} (Ok u) (Err writing.Write) = h in cc) ∙ same_writing)
   writing_ends (Err writing.Write) v =
       let P : ℕ → Type 0 = λ n. Rose n d2.writing_faults in
       let Q : ℕ → Type 0 = λ n. n ≤ d2.writing_faults in
-      rises IndexWriteFault IndexWriteFault _ _ refl (subst P same_writing (v.write_only_where_it_rose refl)) (subst Q same_writing v.writes.never_falls)
+      rises OfWriting (WriteFault Index) _ _ refl (subst P same_writing (v.write_only_where_it_rose refl)) (subst Q same_writing v.writes.never_falls)
   writing_ends (Err writing.NoMemory) v =
-      stays IndexWriteFault NoMemory _ _ (λ h. cc) (second v.count_rises_only_there (λ h. let b : ◌≡◌ {A = Result (Unit {0}) WriteIndexError} (Err writing.NoMemory) (Err writing.Write) = h in cc) ∙ same_writing)
+      stays OfWriting NoMemory _ _ (λ h. cc) (second v.count_rises_only_there (λ h. let b : ◌≡◌ {A = Result (Unit {0}) WriteIndexError} (Err writing.NoMemory) (Err writing.Write) = h in cc) ∙ same_writing)
 
   -- all counts, where those of the slots stood at the reading's end as before
   faults_end : ((slot : Slot) → d1.faults slot ≡ d.faults slot) → (r : Result (Unit {0}) WriteIndexError) → WritesWords words index d1 d2 r
       → FirstFaultEnds old new (written_outcome r)
-  faults_end counts r v = record {
-    slots = λ slot. stays (FileFault slot) (written_outcome r) _ _ (not_file r slot) (v.writes.slot_counts slot ∙ counts slot);
+  faults_end counts r v = all_end _ _ _ (record {
+    slots = λ slot. stays (OfFile slot) (written_outcome r) _ _ (not_file r slot) (v.writes.slot_counts slot ∙ counts slot);
     writing = writing_ends r v;
-    input = stays InputFault (written_outcome r) _ _ (not_input r) refl;
-    out = stays OutFault (written_outcome r) _ _ (not_out r) refl;
-  }
+    input = stays OfInput (written_outcome r) _ _ (not_input r) refl;
+    out = stays OfOut (written_outcome r) _ _ (not_out r) refl;
+  })
 
   complete : (r : Result (Unit {0}) WriteIndexError) → WritesWords words index d1 d2 r → NoCallFailed old new → OrTooLarge Done (written_outcome r)
   complete (Ok u) v none = inl refl
   complete (Err writing.Write) v none =
       let P : ℕ → Type 0 = λ n. Rose n d2.writing_faults in
-      absurd (none.writing (subst P same_writing (v.write_only_where_it_rose refl)))
+      absurd (none OfWriting (subst P same_writing (v.write_only_where_it_rose refl)))
   complete (Err writing.NoMemory) v none = inr (inr refl)
 
   -- a count that stood as before at the reading's end
   or_same : (r : Result (Unit {0}) WriteIndexError) (now before : ℕ) {first : ℕ} → (r ≡ Err writing.Write) ⊎ (now ≡ before) → before ≡ first
-      → (written_outcome r ≡ IndexWriteFault) ⊎ (now ≡ first)
+      → (written_outcome r ≡ WriteFault Index) ⊎ (now ≡ first)
   or_same r now before (inl is) same = inl (ap written_outcome is)
   or_same r now before (inr stands) same = inr (stands ∙ same)
 

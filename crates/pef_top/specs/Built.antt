@@ -1,12 +1,13 @@
-use Rattle.std.specs.Prelude.{ℕ, ◌≤◌, ◌<◌, List, length}
+use Rattle.std.specs.Prelude.{◌≡◌, ℕ, ◌≤◌, ◌<◌, List, length}
 use Rattle.collection_model.specs.Collection.{Collection}
 use Rattle.part_cost.specs.declared.formats.Format.{Format}
 use Rattle.part_cost.specs.Formats.{numbers_of}
+use Rattle.pef_io.specs.declared.fail.Slot.TheVariants.{Index}
 use Rattle.index_file.specs.FileWords.{ListParts, file_words}
 use Rattle.index_file.specs.Builder.{most_words}
 use Rattle.command_model.specs.Built.{AreCut}
 use Rattle.pef_top.specs.Outside.{Outside}
-use Rattle.pef_top.specs.Outcome.{Outcome, IndexTooLarge}
+use Rattle.pef_top.specs.Outcome.{Outcome, TooLarge}
 
 -- The words of a collection of this property were built, and they are not too many.
 pub record AreBuilt (format : Format) (Is : Collection → Type 0) (before after : ℕ) (c : Collection) (parts : List ListParts) : Type 0 where
@@ -20,5 +21,5 @@ AreTooMany format Is before after =
 
 -- A run builds the words of a collection of this property. It ends as they are too many, or goes on, and ends so.
 abbrev pub BuildsWordsThen : Format → (Collection → Type 0) → Outside → Outside → (Outcome → Type 0) → Outcome → Type 0
-BuildsWordsThen format Is old new Then IndexTooLarge = AreTooMany format Is old.costs new.costs
+BuildsWordsThen format Is old new Then (TooLarge slot) = (slot ≡ Index) × AreTooMany format Is old.costs new.costs
 BuildsWordsThen format Is old new Then outcome = Then outcome

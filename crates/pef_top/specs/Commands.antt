@@ -2,7 +2,7 @@ use Rattle.std.specs.Prelude.{◌≡◌, Option, Some, None}
 use Rattle.pef_io.specs.SinkState.{SinkState}
 use Rattle.pef_top.specs.declared.status.Status.{Status}
 use Rattle.pef_top.specs.declared.status.Status.TheVariants as status
-use Rattle.pef_top.specs.Command.{Command, Build, Query, Answer, Inspect, Generate, Migrate}
+use Rattle.command_line.specs.Command.{Command, Build, Query, Answer, Inspect, Generate, Migrate}
 use Rattle.pef_top.specs.ErrLines.{usage_line}
 use Rattle.pef_top.specs.Outside.{Outside, GotText}
 use Rattle.pef_top.specs.Outcome.{Outcome, Usage}

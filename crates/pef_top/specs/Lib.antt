@@ -1,5 +1,4 @@
 pub mod StatusNumber
-pub mod Command
 pub mod ErrLines
 pub mod Outside
 pub mod Outcome
@@ -19,6 +18,7 @@ pub mod Generate
 pub mod Migrate
 pub mod Commands
 pub mod Uncalled
+pub mod MayEnd
 pub mod Runs
 pub mod Laws
 pub mod Private

@@ -4,10 +4,11 @@ use Rattle.part_cost.specs.declared.formats.Format.{Format}
 use Rattle.part_cost.specs.declared.formats.Format.TheVariants.{Two}
 use Rattle.part_cost.specs.Formats.{numbers_of}
 use Rattle.pef_io.specs.DepotState.{DepotState}
+use Rattle.pef_io.specs.declared.fail.Slot.TheVariants.{Index}
 use Rattle.index_file.specs.FileWords.{ListParts}
 use Rattle.command_model.specs.Found.{IsIndexSlot}
 use Rattle.pef_top.specs.Outside.{Outside, NoCallFailed}
-use Rattle.pef_top.specs.Outcome.{Outcome, Done, IndexTooLarge}
+use Rattle.pef_top.specs.Outcome.{Outcome, Done, TooLarge}
 use Rattle.pef_top.specs.Ends.{OrTooLarge}
 use Rattle.pef_top.specs.FoundIndex.{FindsIndex, FindsIndexOf}
 use Rattle.pef_top.specs.Built.{BuildsWordsThen}
@@ -24,7 +25,7 @@ FindsMigrated name depot c = (parts : List ListParts) × FindsIndex (numbers_of 
 
 -- A run reads the index under the name, and what it then does may end as too large as well.
 abbrev pub ReadsOldThen : List ℕ → Outside → (Outcome → Type 0) → Outcome → Type 0
-ReadsOldThen name old Then IndexTooLarge = (IsTrue old.depot.tells → IsTooLong name old) ⊎ Then IndexTooLarge
+ReadsOldThen name old Then (TooLarge slot) = (IsIndexSlot slot × (IsTrue old.depot.tells → IsTooLong name old)) ⊎ Then (TooLarge slot)
 ReadsOldThen name old Then outcome = ReadsIndexThen name old Then outcome
 
 -- `migrate OLD NEW` reads an index of either format, builds the words of its collection in the second and writes them under the other
@@ -35,6 +36,6 @@ pub record Migrates (from to : List ℕ) (old new : Outside) (outcome : Outcome)
       (WritesIndex migrate_format (FindsIndexOf from old.depot) to old new)) outcome
   pub opens : outcome ≡ Done → (c : Collection) × FindsIndexOf from old.depot c × FindsMigrated to new.depot c
   -- The file is refused exactly where it is no index or too long, but that an index may be refused as its new words would be too many.
-  pub refuses : (((c : Collection) × FindsIndexOf from old.depot c) × (outcome ≡ IndexTooLarge)) ⊎ RefusesBrokenIndex from old outcome
+  pub refuses : (((c : Collection) × FindsIndexOf from old.depot c) × (outcome ≡ TooLarge Index)) ⊎ RefusesBrokenIndex from old outcome
   pub complete : IsTrue old.depot.tells → (c : Collection) → FindsIndexOf from old.depot c → NoCallFailed old new → OrTooLarge Done outcome
   pub depot : WritesOnlyAccepted IsIndexSlot ((c : Collection) × FindsIndexOf from old.depot c) old new outcome

@@ -31,12 +31,24 @@ pub record KeepsTelling (old new : Outside) : Type 0 where
   pub out : new.out.tells ≡ old.out.tells
   pub err : new.err.tells ≡ old.err.tells
 
+-- the calls that are counted where they fail: the starts and reads of a file, the creates, writes and finishes of files, the reads of
+-- the input, and the writes on out
+pub data Count : Type 0 where
+  OfFile : (slot : Slot) → Count
+  OfWriting : Count
+  OfInput : Count
+  OfOut : Count
+
+-- how many of them failed
+abbrev pub failed : Count → Outside → ℕ
+failed (OfFile slot) o = o.depot.faults slot
+failed OfWriting o = o.depot.writing_faults
+failed OfInput o = o.input.faults
+failed OfOut o = o.out.faults
+
 -- No call on the depot, the input or out failed.
-pub record NoCallFailed (old new : Outside) : Type 0 where
-  pub slots : (slot : Slot) → ¬ Rose (old.depot.faults slot) (new.depot.faults slot)
-  pub writing : ¬ Rose old.depot.writing_faults new.depot.writing_faults
-  pub input : ¬ Rose old.input.faults new.input.faults
-  pub out : ¬ Rose old.out.faults new.out.faults
+abbrev pub NoCallFailed : Outside → Outside → Type 0
+NoCallFailed old new = (count : Count) → ¬ Rose (failed count old) (failed count new)
 
 -- The input and out are as they were: no byte was read, and none was written.
 pub record IsUnanswered (old new : Outside) : Type 0 where

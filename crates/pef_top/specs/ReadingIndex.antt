@@ -5,7 +5,7 @@ use Rattle.pef_io.specs.DepotState.{bytes_under}
 use Rattle.index_file.specs.declared.fault.OpenFault.{OpenFault}
 use Rattle.command_model.specs.Found.{IsIndexSlot, most_bytes}
 use Rattle.pef_top.specs.Outside.{Outside}
-use Rattle.pef_top.specs.Outcome.{Outcome, BrokenIndex, FileFault, IndexTooLarge, NoMemory}
+use Rattle.pef_top.specs.Outcome.{Outcome, BrokenIndex, FileFault, TooLarge, NoMemory}
 use Rattle.pef_top.specs.FoundIndex.{FindsIndexOf, HasBroken}
 
 -- The file under the name has more bytes than the limit.
@@ -16,7 +16,7 @@ IsTooLong name old = most_bytes < length (bytes_under old.depot name)
 abbrev pub ReadsIndexThen : List ℕ → Outside → (Outcome → Type 0) → Outcome → Type 0
 ReadsIndexThen name old Then (BrokenIndex fault) = IsTrue old.depot.tells → HasBroken name old.depot fault
 ReadsIndexThen name old Then (FileFault slot) = IsIndexSlot slot
-ReadsIndexThen name old Then IndexTooLarge = IsTrue old.depot.tells → IsTooLong name old
+ReadsIndexThen name old Then (TooLarge slot) = IsIndexSlot slot × (IsTrue old.depot.tells → IsTooLong name old)
 ReadsIndexThen name old Then outcome = Then outcome
 
 -- A file is refused as no index, or as too large, exactly where it is; a failed call or want of memory may come before.
@@ -24,6 +24,6 @@ pub record RefusesBrokenIndex (name : List ℕ) (old : Outside) (outcome : Outco
   pub broken : IsTrue old.depot.tells → (fault : OpenFault) → HasBroken name old.depot fault →
       (outcome ≡ BrokenIndex fault) ⊎ (outcome ≡ FileFault Index) ⊎ (outcome ≡ NoMemory)
   pub longer : IsTrue old.depot.tells → IsTooLong name old →
-      (outcome ≡ IndexTooLarge) ⊎ (outcome ≡ FileFault Index) ⊎ (outcome ≡ NoMemory)
+      (outcome ≡ TooLarge Index) ⊎ (outcome ≡ FileFault Index) ⊎ (outcome ≡ NoMemory)
   pub sound : IsTrue old.depot.tells → (c : Collection) → FindsIndexOf name old.depot c →
-      (outcome ≢ IndexTooLarge) × ((fault : OpenFault) → outcome ≢ BrokenIndex fault)
+      (outcome ≢ TooLarge Index) × ((fault : OpenFault) → outcome ≢ BrokenIndex fault)

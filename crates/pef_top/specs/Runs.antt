@@ -1,6 +1,6 @@
 use Rattle.std.specs.Prelude.{◌≡◌, Option, None}
 use Rattle.pef_top.specs.declared.status.Status.{Status}
-use Rattle.pef_top.specs.Command.{Command}
+use Rattle.command_line.specs.Command.{Command}
 use Rattle.pef_top.specs.Outside.{Outside}
 use Rattle.pef_top.specs.Outcome.{Outcome, Done}
 use Rattle.pef_top.specs.Ends.{Ends}

@@ -4,11 +4,12 @@ use Rattle.collection_model.specs.Collection.{Collection}
 use Rattle.part_cost.specs.declared.formats.Format.{Format}
 use Rattle.part_cost.specs.Formats.{numbers_of}
 use Rattle.pef_io.specs.declared.fail.Slot.{Slot}
+use Rattle.pef_io.specs.declared.fail.Slot.TheVariants.{Index}
 use Rattle.pef_io.specs.DepotState.{DepotState, OnlyReads}
 use Rattle.index_file.specs.FileWords.{ListParts, file_words}
 use Rattle.command_model.specs.Written.{IsWritten, IsUnwritten, IsWrittenInPart, IsBeingWritten, IsLeftByFault}
 use Rattle.pef_top.specs.Outside.{Outside}
-use Rattle.pef_top.specs.Outcome.{Outcome, Done, IndexWriteFault, NoMemory, is_refusal}
+use Rattle.pef_top.specs.Outcome.{Outcome, Done, WriteFault, NoMemory, is_refusal}
 use Rattle.pef_top.specs.Built.{AreBuilt}
 
 -- The words of a collection of this property were built, and P holds of their bytes.
@@ -23,8 +24,8 @@ IsLeftInPart name old new bytes = IsUnwritten old new ⊎ (IsBeingWritten name o
 -- A run writes the words of a collection of this property under the name, and ends so. Want of memory may come before they are built.
 abbrev pub WritesIndex : Format → (Collection → Type 0) → List ℕ → Outside → Outside → Outcome → Type 0
 WritesIndex format Is name old new Done = OnBuiltBytes format Is old new (IsWritten name old.depot new.depot)
-WritesIndex format Is name old new IndexWriteFault =
-    OnBuiltBytes format Is old new (λ bytes. IsLeftInPart name old.depot new.depot bytes × IsLeftByFault name old.depot new.depot bytes)
+WritesIndex format Is name old new (WriteFault slot) = (slot ≡ Index)
+    × OnBuiltBytes format Is old new (λ bytes. IsLeftInPart name old.depot new.depot bytes × IsLeftByFault name old.depot new.depot bytes)
 WritesIndex format Is name old new NoMemory =
     IsUnwritten old.depot new.depot ⊎ OnBuiltBytes format Is old new (IsLeftInPart name old.depot new.depot)
 WritesIndex format Is name old new outcome = ⊥
@@ -37,5 +38,5 @@ pub record WritesOnlyAccepted (touched : Slot → Type 0) (accepted : Type 0) (o
   pub stay_started : (slot : Slot) → IsTrue (old.depot.started slot) → IsTrue (new.depot.started slot)
   pub other_slots : (slot : Slot) → ¬ touched slot →
       (new.depot.started slot ≡ old.depot.started slot) × (IsTrue old.depot.tells → new.depot.left slot ≡ old.depot.left slot)
-  pub create_count : (outcome ≡ IndexWriteFault) ⊎ (new.depot.create_faults ≡ old.depot.create_faults)
-  pub finish_count : (outcome ≡ IndexWriteFault) ⊎ (new.depot.finish_faults ≡ old.depot.finish_faults)
+  pub create_count : (outcome ≡ WriteFault Index) ⊎ (new.depot.create_faults ≡ old.depot.create_faults)
+  pub finish_count : (outcome ≡ WriteFault Index) ⊎ (new.depot.finish_faults ≡ old.depot.finish_faults)

@@ -4,7 +4,7 @@ ghost use Rattle.part_cost.specs.Formats.{numbers_of};
 ghost use Rattle.pef_io.specs.SinkState.{SinkState};
 ghost use Rattle.index_file.specs.FileWords.{IsIndex, Spells};
 ghost use Rattle.pef_top.specs.Answer.{IsAnswerable};
-ghost use Rattle.pef_top.specs.Command as words;
+ghost use Rattle.command_line.specs.Command as words;
 ghost use Rattle.pef_top.specs.Outside.{outside};
 ghost use Rattle.pef_top.specs.Outcome.{is_refusal};
 ghost use Rattle.pef_top.specs.Private.Leaves.{Leaves};

@@ -1,6 +1,6 @@
 ghost use Rattle.std.specs.Prelude.{◌≡◌};
 ghost use Rattle.pef_io.specs.Helpers.{WritesAll};
-ghost use Rattle.pef_top.specs.ErrLines.{check_text, fault_line, file_line, index_line, rule_text, slot_text};
+ghost use Rattle.pef_top.specs.ErrLines.{check_text, fault_line, index_line, rule_text, slot_text};
 ghost use Rattle.pef_top.specs.Outcome.{line_of};
 ghost use Rattle.pef_top.specs.Private.ErrPieces.{joined};
 ghost use Rattle.pef_top.specs.Private.Stops.{outcome_of_stop};
@@ -26,10 +26,10 @@ pub(crate) fn write_line<E: Sink>(err: &mut E, stop: Stop) -> Result<(), IoFail>
         Stop::Index(fault) => write_index_fault(err, fault),
         Stop::File(slot) => write_pieces(err, &[b"read fault: ", slot_name(slot), b"\n"]),
         Stop::Input => write_all_own(err, b"read fault: input\n"),
-        Stop::IndexWrite => write_all_own(err, b"write fault: index\n"),
+        Stop::Write(slot) => write_pieces(err, &[b"write fault: ", slot_name(slot), b"\n"]),
         Stop::Out => write_all_own(err, b"write fault: out\n"),
         Stop::NoMemory => write_all_own(err, b"no memory\n"),
-        Stop::LargeIndex => write_all_own(err, b"too large: index\n"),
+        Stop::Large(slot) => write_pieces(err, &[b"too large: ", slot_name(slot), b"\n"]),
         Stop::LongInput => write_all_own(err, b"too large: input\n"),
     }
 }

@@ -2,7 +2,7 @@ ghost use Rattle.std.specs.Prelude.{◌≡◌, IsTrue, Some};
 ghost use Rattle.pef_io.specs.DepotState.{DepotState};
 ghost use Rattle.pef_io.specs.SourceState.{SourceState};
 ghost use Rattle.pef_io.specs.SinkState.{SinkState};
-ghost use Rattle.pef_top.specs.Command as words;
+ghost use Rattle.command_line.specs.Command as words;
 ghost use Rattle.pef_top.specs.Outside.{outside};
 ghost use Rattle.pef_top.specs.Outcome.{is_refusal};
 ghost use Rattle.pef_top.specs.Private.Leaves.{Leaves};

@@ -1,3 +1,4 @@
+ghost use Rattle.pef_top.specs.MayEnd.{EndsByTheTable};
 ghost use Rattle.pef_top.specs.Laws.{BuiltFilesAnswer, MigratedFilesAnswer};
 
 use index_file::{one_index, words_and_bytes_undo_each_other};
@@ -17,3 +18,8 @@ pub fn migrated_files_answer()
     one_index();
     words_and_bytes_undo_each_other();
 }
+
+/// Each command ends only as the table of its outcomes says.
+pub fn commands_end_by_the_table()
+    ensures { EndsByTheTable }
+{}

@@ -3,7 +3,6 @@
 
 mod answer;
 mod build;
-mod command_line;
 mod err_lines;
 mod generate;
 mod inspect;
@@ -13,9 +12,8 @@ mod query;
 mod status;
 mod stop;
 mod top;
-mod words;
 
 pub use command_steps::{BuildError, Plan, RunFault, answer_text, build_words, plan_top};
-pub use laws::{built_files_answer, migrated_files_answer};
+pub use laws::{built_files_answer, commands_end_by_the_table, migrated_files_answer};
 pub use status::Status;
 pub use top::{run, run_uncounted};

@@ -1,7 +1,7 @@
 ghost use Rattle.std.specs.Prelude.{◌≡◌, ℕ, IsTrue, Some};
 ghost use Rattle.collection_model.specs.Collection.{Collection};
 ghost use Rattle.pef_io.specs.SinkState.{SinkState};
-ghost use Rattle.pef_top.specs.Command as words;
+ghost use Rattle.command_line.specs.Command as words;
 ghost use Rattle.pef_top.specs.FoundIndex.{FindsIndexOf};
 ghost use Rattle.pef_top.specs.Outside.{outside};
 ghost use Rattle.pef_top.specs.Outcome.{is_refusal};

@@ -3,8 +3,8 @@ ghost use Rattle.pef_top.specs.Outcome.{status_of};
 ghost use Rattle.pef_top.specs.Private.Stops.{outcome_of_stop};
 
 use crate::status::Status;
-use clap::error::ErrorKind;
 use collection_reader::Fault;
+use command_line::WordsError;
 use command_steps::{BuildError, LoadIndexError, MakeError, PrintError, RunFault, WriteIndexError};
 use index_file::OpenFault;
 use pef_io::Slot;
@@ -22,14 +22,14 @@ pub(crate) enum Stop {
     File(Slot),
     /// A read of the input failed.
     Input,
-    /// A create, a write or a finish of the index failed.
-    IndexWrite,
+    /// A create, a write or a finish of this file failed.
+    Write(Slot),
     /// A write on out failed.
     Out,
     /// Memory was refused.
     NoMemory,
-    /// The index would have, or has, more than 2^37 words.
-    LargeIndex,
+    /// This file would be, or is, larger than its limit: an index has at most 2^37 words.
+    Large(Slot),
     /// The query text is longer than the limit.
     LongInput,
 }
@@ -44,22 +44,22 @@ impl Stop {
             Stop::Collection(_) => Status::Collection,
             Stop::Index(_) => Status::Index,
             Stop::File(_) | Stop::Input => Status::Read,
-            Stop::IndexWrite | Stop::Out => Status::Write,
+            Stop::Write(_) | Stop::Out => Status::Write,
             Stop::NoMemory => Status::NoMemory,
-            Stop::LargeIndex | Stop::LongInput => Status::TooLarge,
+            Stop::Large(_) | Stop::LongInput => Status::TooLarge,
         }
     }
 }
 
-impl From<clap::Error> for Stop {
-    ghost use Rattle.pef_top.specs.Private.Stops.{stop_of_matching};
+impl From<WordsError> for Stop {
+    ghost use Rattle.pef_top.specs.Private.Stops.{stop_of_words};
 
-    ghost from_gives = { λ e stop. stop ≡ stop_of_matching e };
+    ghost from_gives = { λ e stop. stop ≡ stop_of_words e };
 
-    fn from(e: clap::Error) -> Stop {
-        match e.kind() {
-            ErrorKind::OutOfMemory => Stop::NoMemory,
-            _ => Stop::Usage,
+    fn from(e: WordsError) -> Stop {
+        match e {
+            WordsError::Usage => Stop::Usage,
+            WordsError::NoMemory => Stop::NoMemory,
         }
     }
 }
@@ -73,7 +73,7 @@ impl From<BuildError> for Stop {
         match e {
             BuildError::Broken(fault) => Stop::Collection(fault),
             BuildError::Read(slot) => Stop::File(slot),
-            BuildError::TooLarge(_) => Stop::LargeIndex,
+            BuildError::TooLarge(_) => Stop::Large(Slot::Index),
             BuildError::NoMemory => Stop::NoMemory,
         }
     }
@@ -86,7 +86,7 @@ impl From<MakeError> for Stop {
 
     fn from(e: MakeError) -> Stop {
         match e {
-            MakeError::TooLarge(_) => Stop::LargeIndex,
+            MakeError::TooLarge(_) => Stop::Large(Slot::Index),
             MakeError::NoMemory => Stop::NoMemory,
         }
     }
@@ -101,7 +101,7 @@ impl From<LoadIndexError> for Stop {
         match e {
             LoadIndexError::Broken(fault) => Stop::Index(fault),
             LoadIndexError::Read => Stop::File(Slot::Index),
-            LoadIndexError::TooLarge => Stop::LargeIndex,
+            LoadIndexError::TooLarge => Stop::Large(Slot::Index),
             LoadIndexError::NoMemory => Stop::NoMemory,
         }
     }
@@ -124,7 +124,7 @@ impl From<WriteIndexError> for Stop {
 
     fn from(e: WriteIndexError) -> Stop {
         match e {
-            WriteIndexError::Write => Stop::IndexWrite,
+            WriteIndexError::Write => Stop::Write(Slot::Index),
             WriteIndexError::NoMemory => Stop::NoMemory,
         }
     }

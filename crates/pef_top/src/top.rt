@@ -1,6 +1,6 @@
 ghost use Rattle.std.specs.Prelude.{◌≡◌, ℕ, ◌<◌, IsOk};
 ghost use Rattle.pef_io.specs.SinkState.{SinkState};
-ghost use Rattle.pef_top.specs.Command.{command_of, texts};
+ghost use Rattle.command_line.specs.Command.{command_of, texts};
 ghost use Rattle.pef_top.specs.Outside.{outside};
 ghost use Rattle.pef_top.specs.Uncalled.{objects, Accepts, LeavesUncalled};
 ghost use Rattle.pef_top.specs.Runs.{Runs};
@@ -9,7 +9,6 @@ ghost use Rattle.pef_top.specs.Private.Stops.{outcome_of};
 
 use crate::answer::answer;
 use crate::build::build;
-use crate::command_line::parse_words;
 use crate::err_lines::write_line;
 use crate::generate::generate;
 use crate::inspect::inspect;
@@ -17,7 +16,7 @@ use crate::migrate::migrate;
 use crate::query::query;
 use crate::status::Status;
 use crate::stop::Stop;
-use crate::words::Command;
+use command_line::{Command, parse_words};
 use pef_io::{Depot, Sink, Source};
 use std::alloc::Global;
 use std::marker::Brand;

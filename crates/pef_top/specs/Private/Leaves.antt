@@ -1,7 +1,7 @@
 use Rattle.std.specs.Prelude.{◌≡◌, ◌≢◌, Option}
 use Rattle.pef_io.specs.SinkState.{SinkState}
 use Rattle.pef_top.specs.declared.status.Status.{Status}
-use Rattle.pef_top.specs.Command.{Command}
+use Rattle.command_line.specs.Command.{Command}
 use Rattle.pef_top.specs.Outside.{Outside, GotText}
 use Rattle.pef_top.specs.Outcome.{Outcome, Done, status_of, line_of}
 use Rattle.pef_top.specs.Ends.{FirstFaultEnds}

@@ -1,8 +1,6 @@
-use Rattle.std.specs.Prelude.{Result, Ok, Err, Option, Some, None}
-use Rattle.clap.specs.Words.{kind_of}
-use Rattle.clap.specs.declared.error.Error.{Error}
-use Rattle.clap.specs.declared.error.kind.ErrorKind.{ErrorKind}
-use Rattle.clap.specs.declared.error.kind.ErrorKind.TheVariants.{OutOfMemory}
+use Rattle.std.specs.Prelude.{Result, Ok, Err}
+use Rattle.command_line.specs.declared.error.WordsError.{WordsError}
+use Rattle.command_line.specs.declared.error.WordsError.TheVariants as words
 use Rattle.pef_io.specs.declared.fail.Slot.TheVariants.{Index}
 use Rattle.command_steps.specs.declared.build.BuildError.{BuildError}
 use Rattle.command_steps.specs.declared.build.BuildError.TheVariants as building
@@ -18,45 +16,35 @@ use Rattle.command_steps.specs.declared.text.RunFault.{RunFault}
 use Rattle.command_steps.specs.declared.text.RunFault.TheVariants as answering
 use Rattle.pef_top.specs.declared.stop.Stop.{Stop}
 use Rattle.pef_top.specs.declared.stop.Stop.TheVariants as stop
-use Rattle.pef_top.specs.Command.{Command}
-use Rattle.pef_top.specs.Outcome.{Outcome, Done, Usage, BrokenCollection, BrokenIndex, FileFault, InputFault, IndexWriteFault, OutFault, NoMemory, IndexTooLarge, InputTooLarge}
+use Rattle.pef_top.specs.Outcome.{Outcome, Done, Usage, BrokenCollection, BrokenIndex, FileFault, InputFault, WriteFault, OutFault, NoMemory, TooLarge, InputTooLarge}
 
--- where a run stops that did not come to its command: words that are none are usage, and for others memory was refused
-abbrev pub stop_of_words : Option Command → Stop
-stop_of_words None = stop.Usage
-stop_of_words (Some command) = stop.NoMemory
-
--- where a run stops whose words were refused by an error of this kind
-abbrev pub stop_of_kind : ErrorKind → Stop
-stop_of_kind OutOfMemory = stop.NoMemory
-stop_of_kind kind = stop.Usage
-
--- where a run stops whose words were refused
-abbrev pub stop_of_matching : Error → Stop
-stop_of_matching e = stop_of_kind (kind_of e)
+-- where a run stops whose words gave no command
+abbrev pub stop_of_words : WordsError → Stop
+stop_of_words words.Usage = stop.Usage
+stop_of_words words.NoMemory = stop.NoMemory
 
 -- where a run stops that could not build its words
 abbrev pub stop_of_building : BuildError → Stop
 stop_of_building (building.Broken fault) = stop.Collection fault
 stop_of_building (building.Read slot) = stop.File slot
-stop_of_building (building.TooLarge count) = stop.LargeIndex
+stop_of_building (building.TooLarge count) = stop.Large Index
 stop_of_building building.NoMemory = stop.NoMemory
 
 -- where a run stops that could not make its words
 abbrev pub stop_of_making : MakeError → Stop
-stop_of_making (making.TooLarge count) = stop.LargeIndex
+stop_of_making (making.TooLarge count) = stop.Large Index
 stop_of_making making.NoMemory = stop.NoMemory
 
 -- where a run stops that could not load its words
 abbrev pub stop_of_loading : LoadIndexError → Stop
 stop_of_loading (loading.Broken fault) = stop.Index fault
 stop_of_loading loading.Read = stop.File Index
-stop_of_loading loading.TooLarge = stop.LargeIndex
+stop_of_loading loading.TooLarge = stop.Large Index
 stop_of_loading loading.NoMemory = stop.NoMemory
 
 -- where a run stops that could not write its words
 abbrev pub stop_of_writing : WriteIndexError → Stop
-stop_of_writing writing.Write = stop.IndexWrite
+stop_of_writing writing.Write = stop.Write Index
 stop_of_writing writing.NoMemory = stop.NoMemory
 
 -- where a run stops that could not answer its text
@@ -78,10 +66,10 @@ outcome_of_stop (stop.Collection fault) = BrokenCollection fault
 outcome_of_stop (stop.Index fault) = BrokenIndex fault
 outcome_of_stop (stop.File slot) = FileFault slot
 outcome_of_stop stop.Input = InputFault
-outcome_of_stop stop.IndexWrite = IndexWriteFault
+outcome_of_stop (stop.Write slot) = WriteFault slot
 outcome_of_stop stop.Out = OutFault
 outcome_of_stop stop.NoMemory = NoMemory
-outcome_of_stop stop.LargeIndex = IndexTooLarge
+outcome_of_stop (stop.Large slot) = TooLarge slot
 outcome_of_stop stop.LongInput = InputTooLarge
 
 -- how a run ended that was carried out or stopped

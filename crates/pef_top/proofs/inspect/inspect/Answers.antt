@@ -3,20 +3,23 @@ use Rattle.std.proofs.lemmas.Result.{err_from_is_err_and}
 use Rattle.pef_top.specs.Private.Stops.{outcome_of}
 use Rattle.pef_top.proofs.IndexAnswered.{lent_are_found}
 use Rattle.pef_top.proofs.TextPrinted.{print_outcome}
-use Rattle.pef_top.proofs.SummaryPrinted.{inspect_refused, inspect_unopened, inspect_ended}
+use Rattle.pef_top.proofs.SummaryPrinted.{inspect_stops, inspect_ended}
+use Rattle.pef_top.proofs.IndexRefused.{refused_unloaded, refused_unopened}
 use Rattle.pef_top.proofs.inspect.inspect.Goals as goal
 
 pub returns-in_err-words-clause-leaves : goal.returns-in_err-words-clause-leaves
 returns-in_err-words-clause-leaves g c = λ i e e' n.
     let p = err_from_is_err_and c.from_residual.result c.from_residual.ensures.1 in
-    inspect_refused c.args.index.now _ _ i _ e e' n c.load_index.result _ c.from_residual.result c.load_index.ensures c.in_err-words.was (p.1 ∙ ap Err p.2)
+    inspect_stops c.args.index.now _ _ i _ e e' n _
+    (refused_unloaded c.args.index.now _ _ i _ e e' n c.load_index.result c.load_index.ensures c.from_residual.result _ c.in_err-words.was (p.1 ∙ ap Err p.2))
 
 pub returns-in_err-index-clause-leaves : goal.returns-in_err-index-clause-leaves
 returns-in_err-index-clause-leaves g c = λ i e e' n.
     let p = err_from_is_err_and c.from_residual-in_err-index.result c.from_residual-in_err-index.ensures.1 in
-    inspect_unopened c.words_and_bytes_undo_each_other.ensures.read c.one_broken_check.ensures c.args.index.now _ _ i _ e e' n
-    c.load_index.result c.in_ok-words.words c.deref.result.now _ c.from_residual-in_err-index.result c.load_index.ensures c.in_ok-words.was c.deref.ensures.value
-    c.in_err-index.ensures.no_index c.in_err-index.ensures.first (p.1 ∙ ap Err p.2)
+    inspect_stops c.args.index.now _ _ i _ e e' n _
+    (refused_unopened c.args.index.now _ _ i _ e e' n c.load_index.result c.load_index.ensures c.from_residual-in_err-index.result
+    c.words_and_bytes_undo_each_other.ensures.read c.one_broken_check.ensures c.in_ok-words.words c.deref.result.now _ c.in_ok-words.was c.deref.ensures.value
+    c.in_err-index.ensures.no_index c.in_err-index.ensures.first (p.1 ∙ ap Err p.2))
 
 pub returns-in_err-print_summary-clause-leaves : goal.returns-in_err-print_summary-clause-leaves
 returns-in_err-print_summary-clause-leaves g c = λ i e e' n.

@@ -3,20 +3,23 @@ use Rattle.std.specs.List.{All}
 use Rattle.std.proofs.lemmas.Result.{err_from_is_err_and}
 use Rattle.pef_top.specs.Private.Stops.{outcome_of}
 use Rattle.pef_top.proofs.WordsWritten.{written_outcome}
-use Rattle.pef_top.proofs.IndexMigrated.{migrate_refused, migrate_unopened, migrate_unmade, migrate_ended}
+use Rattle.pef_top.proofs.IndexMigrated.{migrate_stops, migrate_unmade, migrate_ended}
+use Rattle.pef_top.proofs.IndexRefused.{refused_unloaded, refused_unopened}
 use Rattle.pef_top.proofs.migrate.migrate.Goals as goal
 
 pub returns-in_err-words : goal.returns-in_err-words
 returns-in_err-words g c = λ i o e e'.
     let p = err_from_is_err_and c.from_residual.result c.from_residual.ensures.1 in
-    migrate_refused c.args.from.now c.args.to.now _ _ i o e e' _ c.load_index.result _ c.from_residual.result c.load_index.ensures c.in_err-words.was (p.1 ∙ ap Err p.2)
+    migrate_stops c.args.from.now c.args.to.now _ _ i o e e' _ _
+    (refused_unloaded c.args.from.now _ _ i o e e' _ c.load_index.result c.load_index.ensures c.from_residual.result _ c.in_err-words.was (p.1 ∙ ap Err p.2))
 
 pub returns-in_err-index : goal.returns-in_err-index
 returns-in_err-index g c = λ i o e e'.
     let p = err_from_is_err_and c.from_residual-in_err-index.result c.from_residual-in_err-index.ensures.1 in
-    migrate_unopened c.words_and_bytes_undo_each_other.ensures.read c.one_broken_check.ensures c.args.from.now c.args.to.now _ _ i o e e' _
-    c.load_index.result c.in_ok-words.words c.deref.result.now _ c.from_residual-in_err-index.result c.load_index.ensures c.in_ok-words.was c.deref.ensures.value
-    c.in_err-index.ensures.no_index c.in_err-index.ensures.first (p.1 ∙ ap Err p.2)
+    migrate_stops c.args.from.now c.args.to.now _ _ i o e e' _ _
+    (refused_unopened c.args.from.now _ _ i o e e' _ c.load_index.result c.load_index.ensures c.from_residual-in_err-index.result
+    c.words_and_bytes_undo_each_other.ensures.read c.one_broken_check.ensures c.in_ok-words.words c.deref.result.now _ c.in_ok-words.was c.deref.ensures.value
+    c.in_err-index.ensures.no_index c.in_err-index.ensures.first (p.1 ∙ ap Err p.2))
 
 pub returns-in_err-migrated : goal.returns-in_err-migrated
 returns-in_err-migrated g c = λ i o e e'.

@@ -1,11 +1,11 @@
 use Rattle.std.proofs.Common.{rules, ◌≡◌, sym, ◌∙◌, ap, subst}
 use Rattle.std.specs.Prelude.{Option, Some, Result, Err}
 use Rattle.pef_top.specs.declared.stop.Stop.{Stop}
-use Rattle.pef_top.specs.Command.{Command, command_of, texts}
+use Rattle.command_line.specs.Command.{Command, command_of, texts}
 use Rattle.pef_top.specs.Outside.{outside}
-use Rattle.pef_top.specs.Private.Asked.{asked}
+use Rattle.command_line.specs.Asked.{asked}
 use Rattle.pef_top.specs.Private.Leaves.{Leaves}
-use Rattle.pef_top.specs.Private.Stops.{outcome_of}
+use Rattle.pef_top.specs.Private.Stops.{outcome_of, stop_of_words}
 use Rattle.pef_top.proofs.Stopped.{stopped}
 use Rattle.pef_top.proofs.top.perform.Goals as goal
 
@@ -15,9 +15,9 @@ returns-in_err-command-clause-leaves g c = λ e e'.
     let P : Result (Unit {0}) Stop → Type 0 = λ result. Leaves command
     (outside (g.D.Depot.state c.args.depot.now) (g.I.Source.state c.args.input.now) (g.O.Sink.state c.args.out.now) e c.args.steps.now)
     (outside (g.D.Depot.state c.args.depot.now) (g.I.Source.state c.args.input.now) (g.O.Sink.state c.args.out.now) e' c.args.steps.now) (outcome_of result) in
-    let is : c.from_residual.result ≡ Err c.in_err-command.field-0.0 = search rules in
+    let is : c.from_residual.result ≡ Err (stop_of_words c.in_err-command.field-0.0) = search rules in
     subst P (sym is) (stopped command c.in_err-command.field-0.0 (g.D.Depot.state c.args.depot.now) (g.I.Source.state c.args.input.now) (g.O.Sink.state c.args.out.now)
-    e e' c.args.steps.now c.in_err-command.ensures.stop)
+    e e' c.args.steps.now c.in_err-command.ensures.error)
 
 pub returns-in-Build-clause-leaves : goal.returns-in-Build-clause-leaves
 returns-in-Build-clause-leaves g c = λ e e'.

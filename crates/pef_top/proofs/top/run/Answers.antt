@@ -1,4 +1,4 @@
-use Rattle.pef_top.specs.Command.{command_of, texts}
+use Rattle.command_line.specs.Command.{command_of, texts}
 use Rattle.pef_top.specs.Uncalled.{Accepts}
 use Rattle.pef_top.specs.Private.Stops.{outcome_of}
 use Rattle.pef_top.proofs.RunEnds.{run_ends, usage_reported, usage_uncalled, is_ok}

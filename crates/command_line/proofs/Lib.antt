@@ -1,0 +1,7 @@
+mod Joined
+mod Plain
+mod PlainWalk
+mod Taken
+mod WordsRead
+mod TextsRead
+mod Rows

@@ -1,0 +1,12 @@
+use Rattle.command_line.specs.declared.words.Command as words
+use Rattle.command_line.specs.declared.words.Command.TheVariants as word
+use Rattle.command_line.specs.Command.{Command, Build, Query, Answer, Inspect, Generate, Migrate}
+
+-- what a command of the words asks for, with its texts as their bytes
+abbrev pub asked : words.Command → Command
+asked (word.Build base index format) = Build base.now index.now format
+asked (word.Query index plan) = Query index.now plan
+asked (word.Answer base plan) = Answer base.now plan
+asked (word.Inspect index) = Inspect index.now
+asked (word.Generate seed documents terms) = Generate seed documents terms
+asked (word.Migrate from to) = Migrate from.now to.now

@@ -1,0 +1,112 @@
+use Rattle.std.specs.Prelude.{ℕ, Bool, false, not, ◌&&◌, ◌||◌, ◌==◌, ◌++◌, bytes_eq, codes, if◌then◌else◌, List, [], ◌∷◌, map, Option, Some, None, String, string_bytes}
+use Rattle.std.specs.declared.alloc.Global.{Global}
+use Rattle.part_cost.specs.declared.formats.Format.{Format}
+use Rattle.part_cost.specs.declared.formats.Format.TheVariants.{One, Two}
+use Rattle.query_text.specs.Numbers.{number_of}
+use Rattle.command_line.specs.declared.plan.Plan.{Plan}
+use Rattle.command_line.specs.declared.plan.Plan.TheVariants.{Exhaustive, Wand, MaxScore}
+
+-- what the words of the command line ask for
+pub data Command : Type 0 where
+  Build : (base index : List ℕ) (format : Format) → Command
+  Query : (index : List ℕ) (plan : Plan) → Command
+  Answer : (base : List ℕ) (plan : Plan) → Command
+  Inspect : (index : List ℕ) → Command
+  Generate : (seed n t : ℕ) → Command
+  Migrate : (from to : List ℕ) → Command
+
+-- words as their bytes
+abbrev pub texts : List (String Global) → List (List ℕ)
+texts words = map string_bytes words
+
+-- whether a word begins with a minus sign
+abbrev pub begins_with_minus : List ℕ → Bool
+begins_with_minus [] = false
+begins_with_minus (b ∷ bs) = b == 45
+
+-- whether a word can be a text of a command: it is not empty, is not `help`, and begins with no minus sign
+abbrev pub is_text : List ℕ → Bool
+is_text word = not (bytes_eq word []) && not (bytes_eq word (codes "help")) && not (begins_with_minus word)
+
+-- whether an index under this name would take the place of a file of the collection
+abbrev pub is_file_of : List ℕ → List ℕ → Bool
+is_file_of base name = bytes_eq name (base ++ codes ".docs") || bytes_eq name (base ++ codes ".freqs") || bytes_eq name (base ++ codes ".sizes")
+
+-- the format of this name
+abbrev pub format_of : List ℕ → Option Format
+format_of name = if bytes_eq name (codes "1") then Some One else if bytes_eq name (codes "2") then Some Two else None
+
+-- the plan of this name
+abbrev pub plan_of : List ℕ → Option Plan
+plan_of name =
+    if bytes_eq name (codes "exhaustive") then Some Exhaustive
+    else if bytes_eq name (codes "wand") then Some Wand
+    else if bytes_eq name (codes "maxscore") then Some MaxScore
+    else None
+
+-- a base and an index that is none of its files, with a format, where there is one
+abbrev pub build_in : List ℕ → List ℕ → Option Format → Option Command
+build_in base index None = None
+build_in base index (Some format) = if is_text base && is_text index && not (is_file_of base index) then Some (Build base index format) else None
+
+-- what an option of this name says where it is all that the words are, with a value that it has a meaning for; the default where there are no words
+abbrev pub option_in : {A : Type 0} → List ℕ → (List ℕ → Option A) → A → List (List ℕ) → Option A
+option_in name meaning default [] = Some default
+option_in name meaning default (option ∷ []) = None
+option_in name meaning default (option ∷ value ∷ []) = if bytes_eq option name then meaning value else None
+option_in name meaning default (option ∷ value ∷ word ∷ words) = None
+
+-- a base and an index, and then the option with a format, or nothing
+abbrev pub build_command : List (List ℕ) → Option Command
+build_command [] = None
+build_command (base ∷ []) = None
+build_command (base ∷ index ∷ words) = build_in base index (option_in (codes "--format") format_of Two words)
+
+-- a text with a plan, where there is one
+abbrev pub answered_by : (List ℕ → Plan → Command) → List ℕ → Option Plan → Option Command
+answered_by make text None = None
+answered_by make text (Some plan) = if is_text text then Some (make text plan) else None
+
+-- a text, and then the option with a plan, or nothing
+abbrev pub answering_command : (List ℕ → Plan → Command) → List (List ℕ) → Option Command
+answering_command make [] = None
+answering_command make (text ∷ words) = answered_by make text (option_in (codes "--plan") plan_of Exhaustive words)
+
+-- one text
+abbrev pub text_command : (List ℕ → Command) → List (List ℕ) → Option Command
+text_command make [] = None
+text_command make (text ∷ []) = if is_text text then Some (make text) else None
+text_command make (text ∷ word ∷ words) = None
+
+-- a seed, a number of documents and a number of lists, where each is a number
+abbrev pub generate_of : Option ℕ → Option ℕ → Option ℕ → Option Command
+generate_of (Some seed) (Some n) (Some t) = Some (Generate seed n t)
+generate_of seed n t = None
+
+-- three numbers, spelled as in query lines
+abbrev pub generate_command : List (List ℕ) → Option Command
+generate_command [] = None
+generate_command (seed ∷ []) = None
+generate_command (seed ∷ n ∷ []) = None
+generate_command (seed ∷ n ∷ t ∷ []) = generate_of (number_of seed) (number_of n) (number_of t)
+generate_command (seed ∷ n ∷ t ∷ word ∷ words) = None
+
+-- two texts, of which the second is not the first
+abbrev pub migrate_command : List (List ℕ) → Option Command
+migrate_command [] = None
+migrate_command (from ∷ []) = None
+migrate_command (from ∷ to ∷ []) = if is_text from && is_text to && not (bytes_eq from to) then Some (Migrate from to) else None
+migrate_command (from ∷ to ∷ word ∷ words) = None
+
+-- the command of the words, the program's name first; none where they are refused as usage
+abbrev pub command_of : List (List ℕ) → Option Command
+command_of [] = None
+command_of (name ∷ []) = None
+command_of (name ∷ verb ∷ args) =
+    if bytes_eq verb (codes "build") then build_command args
+    else if bytes_eq verb (codes "query") then answering_command Query args
+    else if bytes_eq verb (codes "answer") then answering_command Answer args
+    else if bytes_eq verb (codes "inspect") then text_command Inspect args
+    else if bytes_eq verb (codes "generate") then generate_command args
+    else if bytes_eq verb (codes "migrate") then migrate_command args
+    else None

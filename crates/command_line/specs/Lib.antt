@@ -1,0 +1,4 @@
+pub mod Command
+pub mod Asked
+pub mod WordsErrors
+pub mod Private

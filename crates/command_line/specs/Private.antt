@@ -1,0 +1,2 @@
+-- What contracts of private functions cite, and `parse_words` does not.
+pub mod CommandLine

@@ -1,0 +1,241 @@
+ghost use Rattle.std.specs.Prelude.{◌≡◌, codes, false, IfErr, IfOk, Some, option_and_then, option_map};
+ghost use Rattle.clap.specs.Words.{app_of, first_of, found_of, rows_of, rule_of, subcommand_rows_of};
+ghost use Rattle.clap.specs.declared.builder.command.Command.TheViews.{out-Command};
+ghost use Rattle.command_line.specs.Command.{command_of, plan_of, texts};
+ghost use Rattle.command_line.specs.Asked.{asked};
+ghost use Rattle.command_line.specs.Private.CommandLine.{program_app, generate_app, generate_with, migrate_app, migrate_with, number_in, build_app, query_app, answer_app, inspect_app, answering_app, asked_in, asked_of, plan_option, build_with, query_with, answer_with, AreRead, FailsForMemory};
+ghost use Rattle.command_line.specs.WordsErrors.{error_of_words};
+
+use crate::error::WordsError;
+use crate::plan::Plan;
+use crate::words::{Command, is_command, parse_format, parse_number, parse_plan};
+use clap::{Arg, ArgMatches};
+use std::alloc::{AllocError, Global};
+
+/// The command of the words, the program's name first. Words that are none are usage, and for them no memory is taken; of words that
+/// are one there is none only where memory is refused.
+pub fn parse_words<'a>(alloc: Global, words: &'a [String]) -> Result<Command<'a>, WordsError>
+    ensures command { IfOk result (λ command. Some (asked command) ≡ command_of (texts words.entry.now)) }
+    ensures error { IfErr result (λ error. error ≡ error_of_words (command_of (texts words.entry.now))) }
+{
+    if !is_command(words) {
+        return Err(WordsError::Usage);
+    }
+    let matches = match_words(alloc, words)?;
+    read_command(&matches).ok_or(WordsError::Usage)
+}
+
+/// The matches of the words. Of words that are a command there are none only where memory is refused.
+fn match_words<'a>(alloc: Global, words: &'a [String]) -> Result<ArgMatches<'a>, clap::Error>
+    ensures matches { IfOk result (AreRead (texts words.entry.now)) }
+    ensures error { IfErr result (FailsForMemory (texts words.entry.now)) }
+{
+    program(alloc)?.try_get_matches_from(words)
+}
+
+/// What the matches of the words ask for.
+fn read_command<'a>(matches: &ArgMatches<'a>) -> Option<Command<'a>>
+    ensures { option_map asked result ≡ asked_in (subcommand_rows_of matches.now) }
+{
+    let (verb, texts) = matches.subcommand()?;
+    read_subcommand(verb, texts)
+}
+
+/// What a subcommand asks for with these texts.
+fn read_subcommand<'a>(verb: &str, texts: &ArgMatches<'a>) -> Option<Command<'a>>
+    ensures { option_map asked result ≡ asked_of verb.now (rows_of (found_of texts.now)) }
+{
+    if verb == "build" {
+        read_build(texts)
+    } else if verb == "query" {
+        read_query(texts)
+    } else if verb == "answer" {
+        read_answer(texts)
+    } else if verb == "inspect" {
+        let index = text_of(texts, "index")?;
+        Some(Command::Inspect { index })
+    } else if verb == "generate" {
+        read_generate(texts)
+    } else if verb == "migrate" {
+        read_migrate(texts)
+    } else {
+        None
+    }
+}
+
+/// What `build` asks for with these texts.
+fn read_build<'a>(texts: &ArgMatches<'a>) -> Option<Command<'a>>
+    ensures { option_map asked result ≡ build_with (rows_of (found_of texts.now)) }
+{
+    let base = text_of(texts, "base")?;
+    let index = text_of(texts, "index")?;
+    let format = parse_format(text_of(texts, "format")?)?;
+    Some(Command::Build {
+        base,
+        index,
+        format,
+    })
+}
+
+/// What `query` asks for with these texts.
+fn read_query<'a>(texts: &ArgMatches<'a>) -> Option<Command<'a>>
+    ensures { option_map asked result ≡ query_with (rows_of (found_of texts.now)) }
+{
+    let index = text_of(texts, "index")?;
+    let plan = read_plan(texts)?;
+    Some(Command::Query { index, plan })
+}
+
+/// What `answer` asks for with these texts.
+fn read_answer<'a>(texts: &ArgMatches<'a>) -> Option<Command<'a>>
+    ensures { option_map asked result ≡ answer_with (rows_of (found_of texts.now)) }
+{
+    let base = text_of(texts, "base")?;
+    let plan = read_plan(texts)?;
+    Some(Command::Answer { base, plan })
+}
+
+/// What `generate` asks for with these texts.
+fn read_generate<'a>(texts: &ArgMatches<'a>) -> Option<Command<'a>>
+    ensures { option_map asked result ≡ generate_with (rows_of (found_of texts.now)) }
+{
+    let seed = read_number(texts, "seed")?;
+    let documents = read_number(texts, "documents")?;
+    let terms = read_number(texts, "terms")?;
+    Some(Command::Generate {
+        seed,
+        documents,
+        terms,
+    })
+}
+
+/// What `migrate` asks for with these texts.
+fn read_migrate<'a>(texts: &ArgMatches<'a>) -> Option<Command<'a>>
+    ensures { option_map asked result ≡ migrate_with (rows_of (found_of texts.now)) }
+{
+    let from = text_of(texts, "from")?;
+    let to = text_of(texts, "to")?;
+    Some(Command::Migrate { from, to })
+}
+
+/// The number of this name among these texts.
+fn read_number(texts: &ArgMatches<'_>, id: &str) -> Option<u32>
+    ensures { result ≡ number_in (rows_of (found_of texts.now)) id.now }
+{
+    parse_number(text_of(texts, id)?)
+}
+
+/// The plan that these texts name.
+fn read_plan(texts: &ArgMatches<'_>) -> Option<Plan>
+    ensures { result ≡ option_and_then plan_of (first_of (codes "plan") (rows_of (found_of texts.now))) }
+{
+    parse_plan(text_of(texts, "plan")?)
+}
+
+/// The text of the argument of this name.
+fn text_of<'a>(texts: &ArgMatches<'a>, id: &str) -> Option<&'a str>
+    ensures { option_map (λ text. text.now) result ≡ first_of id.now (rows_of (found_of texts.now)) }
+{
+    texts.get_str(id)
+}
+
+/// The command line of the program: one level of subcommands, whose arguments are texts.
+fn program<'a>(alloc: Global) -> Result<clap::Command<'a>, AllocError>
+    ensures { IfOk result (λ command. app_of command ≡ program_app) }
+{
+    let (inspect, generate, migrate) = (inspect(alloc)?, generate(alloc)?, migrate(alloc)?);
+    answering(alloc)?
+        .subcommand(inspect)?
+        .subcommand(generate)?
+        .subcommand(migrate)
+}
+
+/// The same without `inspect`, `generate` and `migrate`.
+fn answering<'a>(alloc: Global) -> Result<clap::Command<'a>, AllocError>
+    ensures { IfOk result (λ command. app_of command ≡ answering_app) }
+{
+    let (build, query, answer) = (build(alloc)?, query(alloc)?, answer(alloc)?);
+    clap::Command::new(alloc, "pefidx")
+        .subcommand(build)?
+        .subcommand(query)?
+        .subcommand(answer)
+}
+
+/// `build BASE INDEX [--format FORMAT]`
+fn build<'a>(alloc: Global) -> Result<clap::Command<'a>, AllocError>
+    ensures app { IfOk result (λ command. app_of command ≡ build_app) }
+    ensures local { IfOk result (λ command. (out-Command command).has_globals ≡ false) }
+{
+    let base = Arg::new(alloc, "base").required(true);
+    let index = Arg::new(alloc, "index").required(true);
+    let format = Arg::new(alloc, "format").long("format").default_value("2");
+    clap::Command::new(alloc, "build")
+        .arg(base)?
+        .arg(index)?
+        .arg(format)
+}
+
+/// `query INDEX [--plan PLAN]`
+fn query<'a>(alloc: Global) -> Result<clap::Command<'a>, AllocError>
+    ensures app { IfOk result (λ command. app_of command ≡ query_app) }
+    ensures local { IfOk result (λ command. (out-Command command).has_globals ≡ false) }
+{
+    let index = Arg::new(alloc, "index").required(true);
+    clap::Command::new(alloc, "query")
+        .arg(index)?
+        .arg(plan(alloc))
+}
+
+/// `answer BASE [--plan PLAN]`
+fn answer<'a>(alloc: Global) -> Result<clap::Command<'a>, AllocError>
+    ensures app { IfOk result (λ command. app_of command ≡ answer_app) }
+    ensures local { IfOk result (λ command. (out-Command command).has_globals ≡ false) }
+{
+    let base = Arg::new(alloc, "base").required(true);
+    clap::Command::new(alloc, "answer")
+        .arg(base)?
+        .arg(plan(alloc))
+}
+
+/// `--plan PLAN`
+fn plan<'a>(alloc: Global) -> Arg<'a>
+    ensures rule { rule_of result ≡ plan_option }
+    ensures local { result.global ≡ false }
+{
+    Arg::new(alloc, "plan")
+        .long("plan")
+        .default_value("exhaustive")
+}
+
+/// `inspect INDEX`
+fn inspect<'a>(alloc: Global) -> Result<clap::Command<'a>, AllocError>
+    ensures app { IfOk result (λ command. app_of command ≡ inspect_app) }
+    ensures local { IfOk result (λ command. (out-Command command).has_globals ≡ false) }
+{
+    let index = Arg::new(alloc, "index").required(true);
+    clap::Command::new(alloc, "inspect").arg(index)
+}
+
+/// `generate SEED N T`
+fn generate<'a>(alloc: Global) -> Result<clap::Command<'a>, AllocError>
+    ensures app { IfOk result (λ command. app_of command ≡ generate_app) }
+    ensures local { IfOk result (λ command. (out-Command command).has_globals ≡ false) }
+{
+    let seed = Arg::new(alloc, "seed").required(true);
+    let documents = Arg::new(alloc, "documents").required(true);
+    let terms = Arg::new(alloc, "terms").required(true);
+    clap::Command::new(alloc, "generate")
+        .arg(seed)?
+        .arg(documents)?
+        .arg(terms)
+}
+
+/// `migrate OLD NEW`
+fn migrate<'a>(alloc: Global) -> Result<clap::Command<'a>, AllocError>
+    ensures app { IfOk result (λ command. app_of command ≡ migrate_app) }
+    ensures local { IfOk result (λ command. (out-Command command).has_globals ≡ false) }
+{
+    let from = Arg::new(alloc, "from").required(true);
+    let to = Arg::new(alloc, "to").required(true);
+    clap::Command::new(alloc, "migrate").arg(from)?.arg(to)
+}

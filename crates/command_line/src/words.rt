@@ -1,0 +1,230 @@
+ghost use Rattle.std.specs.Prelude.{◌≡◌, ◌&&◌, not, ℕ, List, ◌∷◌, ◌++◌, bytes_eq, codes, is_some};
+ghost use Rattle.query_text.specs.Numbers.{number_of};
+ghost use Rattle.command_line.specs.declared.plan.Plan as plan;
+ghost use Rattle.command_line.specs.declared.plan.Plan.TheVariants as plans;
+ghost use Rattle.part_cost.specs.declared.formats.Format.TheVariants as formats;
+ghost use Rattle.command_line.specs.Command as asked;
+ghost use Rattle.command_line.specs.Command.{answering_command, build_command, command_of, format_of, generate_command, is_file_of, is_text, migrate_command, option_in, plan_of, text_command, texts};
+
+use crate::plan::Plan;
+use part_cost::Format;
+use query_text::number;
+
+/// What the words of the command line ask for.
+#[derive(Clone, Copy, Debug, PartialEq, Eq)]
+pub enum Command<'a> {
+    Build {
+        base: &'a str,
+        index: &'a str,
+        format: Format,
+    },
+    Query {
+        index: &'a str,
+        plan: Plan,
+    },
+    Answer {
+        base: &'a str,
+        plan: Plan,
+    },
+    Inspect {
+        index: &'a str,
+    },
+    Generate {
+        seed: u32,
+        documents: u32,
+        terms: u32,
+    },
+    Migrate {
+        from: &'a str,
+        to: &'a str,
+    },
+}
+
+/// Whether the words are a command, the program's name first. The others are refused as usage.
+pub(crate) fn is_command(words: &[String]) -> bool
+    ensures { result ≡ is_some (command_of (texts words.now)) }
+{
+    match words {
+        [_name, verb, args @ ..] => asks(verb.as_str(), args),
+        _ => false,
+    }
+}
+
+/// Whether a verb and the words behind it are a command.
+fn asks(verb: &str, args: &[String]) -> bool
+    ensures { (name : List ℕ) → result ≡ is_some (command_of (name ∷ verb.now ∷ texts args.now)) }
+{
+    if verb == "build" {
+        is_build(args)
+    } else if verb == "query" || verb == "answer" {
+        is_answering(args)
+    } else if verb == "inspect" {
+        is_text_alone(args)
+    } else if verb == "generate" {
+        is_generate(args)
+    } else if verb == "migrate" {
+        is_migrate(args)
+    } else {
+        false
+    }
+}
+
+/// Whether words are a base and an index that is none of its files, and then the option with a format, or nothing.
+fn is_build(args: &[String]) -> bool
+    ensures { result ≡ is_some (build_command (texts args.now)) }
+{
+    match args {
+        [base, index, rest @ ..] => {
+            can_be_built(base.as_str(), index.as_str()) && names_format(rest)
+        }
+        _ => false,
+    }
+}
+
+/// Whether two words are a base and an index that is none of its files.
+fn can_be_built(base: &str, index: &str) -> bool
+    ensures { result ≡ (is_text base.now && is_text index.now && not (is_file_of base.now index.now)) }
+{
+    can_be_text(base) && can_be_text(index) && !is_file_of(base, index)
+}
+
+/// Whether words are the option with a format, or nothing.
+fn names_format(words: &[String]) -> bool
+    ensures { result ≡ is_some (option_in (codes "--format") format_of formats.Two (texts words.now)) }
+{
+    match words {
+        [] => true,
+        [option, value] => option.as_str() == "--format" && parse_format(value.as_str()).is_some(),
+        _ => false,
+    }
+}
+
+/// Whether words are a text, and then the option with a plan, or nothing.
+fn is_answering(args: &[String]) -> bool
+    ensures { (make : List ℕ → plan.Plan → asked.Command) → result ≡ is_some (answering_command make (texts args.now)) }
+{
+    match args {
+        [text, rest @ ..] => can_be_text(text.as_str()) && names_plan(rest),
+        _ => false,
+    }
+}
+
+/// Whether words are the option with a plan, or nothing.
+fn names_plan(words: &[String]) -> bool
+    ensures { result ≡ is_some (option_in (codes "--plan") plan_of plans.Exhaustive (texts words.now)) }
+{
+    match words {
+        [] => true,
+        [option, value] => option.as_str() == "--plan" && parse_plan(value.as_str()).is_some(),
+        _ => false,
+    }
+}
+
+/// Whether words are one text.
+fn is_text_alone(args: &[String]) -> bool
+    ensures { (make : List ℕ → asked.Command) → result ≡ is_some (text_command make (texts args.now)) }
+{
+    match args {
+        [text] => can_be_text(text.as_str()),
+        _ => false,
+    }
+}
+
+/// Whether words are three numbers.
+fn is_generate(args: &[String]) -> bool
+    ensures { result ≡ is_some (generate_command (texts args.now)) }
+{
+    match args {
+        [seed, documents, terms] => {
+            is_number(seed.as_str()) && is_number(documents.as_str()) && is_number(terms.as_str())
+        }
+        _ => false,
+    }
+}
+
+/// Whether words are two texts, of which the second is not the first.
+fn is_migrate(args: &[String]) -> bool
+    ensures { result ≡ is_some (migrate_command (texts args.now)) }
+{
+    match args {
+        [from, to] => are_other_texts(from.as_str(), to.as_str()),
+        _ => false,
+    }
+}
+
+/// Whether two words are texts, of which the second is not the first.
+fn are_other_texts(from: &str, to: &str) -> bool
+    ensures { result ≡ (is_text from.now && is_text to.now && not (bytes_eq from.now to.now)) }
+{
+    can_be_text(from) && can_be_text(to) && from != to
+}
+
+/// Whether a word is a number.
+fn is_number(word: &str) -> bool
+    ensures { result ≡ is_some (number_of word.now) }
+{
+    parse_number(word).is_some()
+}
+
+/// The number that a word is: decimal digits alone, with any leading zeros.
+pub(crate) fn parse_number(word: &str) -> Option<u32>
+    ensures { result ≡ number_of word.now }
+{
+    number(word.as_bytes())
+}
+
+/// The plan of this name.
+pub(crate) fn parse_plan(name: &str) -> Option<Plan>
+    ensures { result ≡ plan_of name.now }
+{
+    if name == "exhaustive" {
+        Some(Plan::Exhaustive)
+    } else if name == "wand" {
+        Some(Plan::Wand)
+    } else if name == "maxscore" {
+        Some(Plan::MaxScore)
+    } else {
+        None
+    }
+}
+
+/// The format of this name.
+pub(crate) fn parse_format(name: &str) -> Option<Format>
+    ensures { result ≡ format_of name.now }
+{
+    if name == "1" {
+        Some(Format::One)
+    } else if name == "2" {
+        Some(Format::Two)
+    } else {
+        None
+    }
+}
+
+/// Whether an index under this name would take the place of a file of the collection.
+fn is_file_of(base: &str, name: &str) -> bool
+    ensures { result ≡ is_file_of base.now name.now }
+{
+    let (base, name) = (base.as_bytes(), name.as_bytes());
+    is_joined(name, base, b".docs")
+        || is_joined(name, base, b".freqs")
+        || is_joined(name, base, b".sizes")
+}
+
+/// Whether a name is a text and then an ending.
+fn is_joined(name: &[u8], text: &[u8], ending: &[u8]) -> bool
+    ensures { result ≡ bytes_eq name.now (text.now ++ ending.now) }
+{
+    if name.len() < text.len() {
+        return false;
+    }
+    let (front, back) = name.split_at(text.len());
+    front == text && back == ending
+}
+
+/// Whether a word can be a text of a command: it is not empty, is not `help`, and begins with no minus sign.
+fn can_be_text(word: &str) -> bool
+    ensures { result ≡ is_text word.now }
+{
+    !word.is_empty() && word != "help" && !word.starts_with('-')
+}

@@ -1,0 +1,94 @@
+-- What a run leaves that does not come to its index: the words are not loaded, or they are no index.
+use Rattle.std.proofs.Common.{◌≡◌, ℕ, refl, sym, subst, List}
+use Rattle.std.specs.Prelude.{◌≢◌, IsTrue, Result, Err, Ok, Vec}
+use Rattle.std.specs.declared.alloc.Global.{Global}
+use Rattle.collection_model.specs.Collection.{Collection}
+use Rattle.pef_io.specs.SourceState.{SourceState}
+use Rattle.pef_io.specs.SinkState.{SinkState}
+use Rattle.pef_io.specs.DepotState.{DepotState, OnlyReads}
+use Rattle.pef_io.specs.declared.fail.Slot.TheVariants.{Index}
+use Rattle.index_file.specs.declared.fault.OpenFault.{OpenFault}
+use Rattle.index_file.specs.FileWords.{IsIndex}
+use Rattle.index_file.specs.FirstBroken.{IsFirstBroken}
+use Rattle.index_file.specs.Laws.{WordsAreRead, OneBrokenCheck}
+use Rattle.command_model.specs.Found.{IsIndexSlot}
+use Rattle.command_steps.specs.declared.loading.LoadIndexError.{LoadIndexError}
+use Rattle.command_steps.specs.declared.loading.LoadIndexError.TheVariants as loading
+use Rattle.command_steps.specs.LoadIndex.{LoadsWords, words_loaded}
+use Rattle.pef_top.specs.declared.stop.Stop.{Stop}
+use Rattle.pef_top.specs.declared.stop.Stop.TheVariants as stop
+use Rattle.pef_top.specs.Outside.{outside, NoCallFailed, OfFile, OfWriting, OfInput, OfOut}
+use Rattle.pef_top.specs.Outcome.{Outcome, Done, BrokenIndex, FileFault, NoMemory, TooLarge}
+use Rattle.pef_top.specs.Ends.{FirstFaultEnds, OrNoMemory}
+use Rattle.pef_top.specs.FoundIndex.{FindsIndexOf}
+use Rattle.pef_top.specs.ReadingIndex.{ReadsIndexThen, RefusesBrokenIndex}
+use Rattle.pef_top.specs.Private.Stops.{outcome_of, stop_of_loading}
+use Rattle.pef_top.proofs.Counted.{stays, all_end}
+use Rattle.pef_top.proofs.IndexLoaded.{unloaded, unloaded_writing, unloaded_input, unloaded_out, ends_unloaded, refuses_unloaded, complete_unloaded, slots_unloaded, loaded_counts, lent_loaded, breaks, refuses_broken, index_words}
+
+-- What such a run leaves, whatever it would have done with the index.
+pub record IsRefused (name : List ℕ) (d d' : DepotState) (i : SourceState) (o e e' : SinkState) (n : ℕ) (outcome : Outcome) : Type 1 where
+  pub ends : (Then : Outcome → Type 0) → Then NoMemory → ReadsIndexThen name (outside d i o e n) Then outcome
+  pub refuses : RefusesBrokenIndex name (outside d i o e n) outcome
+  pub complete : (this : Outcome) → IsTrue d.tells → (c : Collection) → FindsIndexOf name d c → NoCallFailed (outside d i o e n) (outside d' i o e' n) → OrNoMemory this outcome
+  pub not_done : outcome ≢ Done
+  pub reads : OnlyReads IsIndexSlot d d'
+  pub faults : FirstFaultEnds (outside d i o e n) (outside d' i o e' n) outcome
+
+never_done : (error : LoadIndexError) → unloaded error ≢ Done
+never_done (loading.Broken fault) h = let s : BrokenIndex fault ≡ Done = h in cc
+never_done loading.Read h = let s : FileFault Index ≡ Done = h in cc
+never_done loading.TooLarge h = let s : TooLarge Index ≡ Done = h in cc
+never_done loading.NoMemory h = let s : NoMemory ≡ Done = h in cc
+
+module _ (name : List ℕ) (d d' : DepotState) (i : SourceState) (o e e' : SinkState) (n : ℕ) where
+  abbrev Refused : Outcome → Type 1
+  Refused outcome = IsRefused name d d' i o e e' n outcome
+
+  -- no words were loaded
+  not_loaded : (error : LoadIndexError) → LoadsWords name d d' (Err error) → Refused (unloaded error)
+  not_loaded error w = record {
+    ends = λ Then then. ends_unloaded name d d' i o e e' n Then then error w;
+    refuses = refuses_unloaded name d d' i o e e' n error w;
+    complete = λ this t c found none. complete_unloaded name d d' i o e e' n this error w t c found none;
+    not_done = never_done error;
+    reads = w.reads;
+    faults = all_end _ _ _ (record {
+      slots = slots_unloaded name d d' i o e e' n error w;
+      writing = stays OfWriting (unloaded error) _ _ (unloaded_writing error) w.reads.writing_count;
+      input = stays OfInput (unloaded error) _ _ (unloaded_input error) refl;
+      out = stays OfOut (unloaded error) _ _ (unloaded_out error) refl;
+    });
+  }
+
+  -- they are no index, and their first broken check is the file's
+  not_opened : WordsAreRead → OneBrokenCheck → (words : List ℕ) → LoadsWords name d d' (Ok words) → (fault : OpenFault) → ¬ IsIndex words → IsFirstBroken words fault
+      → Refused (BrokenIndex fault)
+  not_opened read one words w fault denied first = record {
+    ends = λ Then then t. breaks read one name d d' words w fault first t;
+    refuses = refuses_broken read one name d d' words w i o e n fault denied first;
+    complete = λ this t c found none. absurd (denied (index_words read name d words c t (w.words t) found));
+    not_done = λ h. let s : BrokenIndex fault ≡ Done = h in cc;
+    reads = w.reads;
+    faults = all_end _ _ _ (record {
+      slots = λ slot. stays (OfFile slot) (BrokenIndex fault) _ _ (λ h. cc) (loaded_counts name d d' words w slot);
+      writing = stays OfWriting (BrokenIndex fault) _ _ (λ h. cc) w.reads.writing_count;
+      input = stays OfInput (BrokenIndex fault) _ _ (λ h. cc) refl;
+      out = stays OfOut (BrokenIndex fault) _ _ (λ h. cc) refl;
+    });
+  }
+
+  -- ---- the same of what is given
+
+  module _ (loaded : Result (Vec ℕ Global) LoadIndexError) (w : LoadsWords name d d' (words_loaded loaded)) (r : Result (Unit {0}) Stop) where
+    pub refused_unloaded : (error : LoadIndexError) → loaded ≡ Err error → r ≡ Err (stop_of_loading error) → Refused (outcome_of r)
+    refused_unloaded error was is =
+        let W : Result (Vec ℕ Global) LoadIndexError → Type 0 = λ x. LoadsWords name d d' (words_loaded x) in
+        let P : Result (Unit {0}) Stop → Type 1 = λ x. Refused (outcome_of x) in
+        subst P (sym is) (not_loaded error (subst W was w))
+
+    pub refused_unopened : WordsAreRead → OneBrokenCheck → (words : Vec ℕ Global) (lent : List ℕ) (fault : OpenFault) → loaded ≡ Ok words → lent ≡ words.items
+        → ¬ IsIndex lent → IsFirstBroken lent fault → r ≡ Err (stop.Index fault) → Refused (outcome_of r)
+    refused_unopened read one words lent fault was lends denied first is =
+        let P : Result (Unit {0}) Stop → Type 1 = λ x. Refused (outcome_of x) in
+        subst P (sym is) (not_opened read one lent (lent_loaded name d d' loaded words lent w was lends) fault denied first)
