@@ -1,7 +1,7 @@
 use Rattle.std.specs.Prelude.{◌≡◌, ℕ, ◌≤◌, ◌<◌, ◌⊎◌, false, IsTrue, List, take, Some}
 use Rattle.pef_io.specs.declared.fail.Slot.{Slot}
 use Rattle.pef_io.specs.Calls.{Rose}
-use Rattle.pef_io.specs.DepotState.{DepotState, SameFiles, SameFilesBut, SameSlots, SameWriting}
+use Rattle.pef_io.specs.DepotState.{DepotState, SameFiles, SameFilesBut, SameSlots, SameStarts, SameWriting}
 
 -- The file has these bytes, all others are as before, and none is left created.
 pub record IsWritten (name : List ℕ) (old new : DepotState) (bytes : List ℕ) : Type 0 where
@@ -39,3 +39,5 @@ pub record OnlyWrites (name : List ℕ) (old new : DepotState) : Type 0 where
   pub never_falls : old.writing_faults ≤ new.writing_faults
   pub creates_never_fall : old.create_faults ≤ new.create_faults
   pub finishes_never_fall : old.finish_faults ≤ new.finish_faults
+  pub starts : SameStarts old new
+  pub refusals_never_fall : old.refusals ≤ new.refusals

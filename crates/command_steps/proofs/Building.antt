@@ -15,12 +15,12 @@ use Rattle.part_cost.specs.Formats.{numbers_of}
 use Rattle.part_cost.specs.Partition.{IsPartition}
 use Rattle.cost_windows.specs.WindowBounds.{window_bounds}
 use Rattle.pef_io.specs.declared.fail.Slot.{Slot}
-use Rattle.pef_io.specs.DepotState.{DepotState}
+use Rattle.pef_io.specs.DepotState.{DepotState, StartedOnce}
 use Rattle.collection_reader.specs.declared.fault.Fault.{Fault}
 use Rattle.collection_reader.specs.declared.fault.CollError.{CollError}
 use Rattle.collection_reader.specs.declared.fault.CollError.TheVariants as reading
 use Rattle.collection_reader.specs.Laws.{OneFirstFault}
-use Rattle.collection_reader.specs.ReadCollection.{files_at, ReadsCollection}
+use Rattle.collection_reader.specs.ReadCollection.{files_at, IsCollectionSlot, ReadsCollection}
 use Rattle.collection_reader.specs.Reading.{Reading, StartsReading, ReadsList, ReadsSizes}
 use Rattle.collection_reader.specs.InTurn.{HasReadAll, ReadsInTurn}
 use Rattle.index_file.specs.declared.builder.FinishError.{FinishError}
@@ -169,6 +169,12 @@ broken-ends format one base old new (reading.Broken f) reads told fault broken =
 broken-ends format one base old new (reading.Read slot) reads told fault broken = inr (inl (slot, refl))
 broken-ends format one base old new reading.NoMemory reads told fault broken = inr (inr refl)
 
+-- the three files were started once, where neither a call nor memory was refused
+build-once : (format : FormatNumbers) (base : List ℕ) (old new : DepotState) (e : CollError) → ReadsCollection format old new base (Err e) → ((slot : Slot) → build_error e ≢ Read slot) → build_error e ≢ NoMemory → StartedOnce IsCollectionSlot old new
+build-once format base old new (reading.Broken fault) reads not_read not_wanted = reads.in_order.once
+build-once format base old new (reading.Read slot) reads not_read not_wanted = absurd (not_read slot refl)
+build-once format base old new reading.NoMemory reads not_read not_wanted = absurd (not_wanted refl)
+
 pub build-refused : (format : Format) → OneFirstFault (numbers_of format) → (base : List ℕ) (old new : DepotState) (before after : ℕ) (e : CollError) (result : Result (Vec ℕ Global) BuildError)
     → ReadsCollection (numbers_of format) old new base (Err e) → result ≡ Err (build_error e) → BuildsWords format base old new before after (words_built result)
 build-refused format one base old new before after e result reads is =
@@ -184,6 +190,9 @@ build-refused format one base old new before after e result reads is =
       read_only_where_it_rose = λ slot h. let at : build_error e ≡ Read slot = cc in reads.read_only_where_it_rose slot (ap Err (same-slot e slot at));
       count_rises_only_there = λ slot. elim (reads.count_rises_only_there slot) [ inl h ↦ let at : e ≡ reading.Read slot = cc in inl (ap (λ x. Err (build_error x)) at) | inr same ↦ inr same ];
       reads = reads.reads;
+      started_once = λ not_read not_wanted. build-once (numbers_of format) base old new e reads (λ slot h. not_read slot (ap Err h)) (λ h. not_wanted (ap Err h));
+      none_twice = reads.none_twice;
+      refusals_rise_only_there = elim reads.refusals_rise_only_there [ inl h ↦ let at : e ≡ reading.NoMemory = cc in inl (ap (λ x. Err (build_error x)) at) | inr same ↦ inr same ];
     })
 
 -- the refusals of a step
@@ -307,6 +316,9 @@ answered format base old now before after c parts result reads cut words large n
   read_only_where_it_rose = λ slot h. absurd (not_read slot h);
   count_rises_only_there = λ slot. elim (reads.count_rises_only_there slot) [ inl h ↦ absurd cc | inr same ↦ inr same ];
   reads = reads.reads;
+  started_once = λ not_read not_wanted. reads.started_once;
+  none_twice = reads.none_twice;
+  refusals_rise_only_there = elim reads.refusals_rise_only_there [ inl h ↦ absurd cc | inr same ↦ inr same ];
 }
   where
     words-of : (r : Result (List ℕ) BuildError) → IfOk r (λ words. (length words ≤ most_words) × (words ≡ file_words (numbers_of format) c parts))

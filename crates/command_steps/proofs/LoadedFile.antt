@@ -1,6 +1,6 @@
 -- How the bytes of an index file are loaded, and how they are read as words.
 use Rattle.std.proofs.Common.{◌≡◌, ◌≢◌, refl, sym, ap, ◌∙◌, subst, ℕ, ◌%◌, ◌^◌, ◌<◌, ◌≤◌, List, length, inl, inr, IsTrue, Result, Ok, Err, arith}
-use Rattle.std.specs.Prelude.{◌⊎◌}
+use Rattle.std.specs.Prelude.{◌⊎◌, IsErrOf}
 use Rattle.std.specs.List.{All}
 use Rattle.collection_model.specs.Bytes.{word_bytes}
 use Rattle.pef_io.specs.declared.fail.IoFail.{IoFail}
@@ -8,13 +8,13 @@ use Rattle.pef_io.specs.declared.fail.IoFail.TheVariants as call
 use Rattle.pef_io.specs.declared.fail.Slot.TheVariants.{Index}
 use Rattle.pef_io.specs.declared.load.LoadError.{LoadError}
 use Rattle.pef_io.specs.declared.load.LoadError.TheVariants as file
-use Rattle.pef_io.specs.Calls.{Rose}
-use Rattle.pef_io.specs.DepotState.{DepotState, Starts, bytes_under}
+use Rattle.pef_io.specs.Calls.{Rose, one_more}
+use Rattle.pef_io.specs.DepotState.{DepotState, StartedOnce, Starts, bytes_under}
 use Rattle.pef_io.proofs.OnlyReads.{OnlyReads-start, OnlyReads-trans}
 use Rattle.pef_io.specs.Loads.{Loads}
 use Rattle.index_file.specs.declared.bytes.WordsError.{WordsError}
 use Rattle.index_file.specs.declared.bytes.WordsError.TheVariants as spelled
-use Rattle.command_model.specs.Found.{most_bytes}
+use Rattle.command_model.specs.Found.{IsIndexSlot, most_bytes}
 use Rattle.command_model.proofs.WordBytes.{word_bytes-length}
 use Rattle.command_steps.specs.declared.loading.LoadIndexError.{LoadIndexError}
 use Rattle.command_steps.specs.declared.loading.LoadIndexError.TheVariants.{Broken, Read, TooLarge, NoMemory}
@@ -26,6 +26,18 @@ count-stays : {P : Type 0} {a b c : ℕ} → P ⊎ (c ≡ b) → (P → ⊥) →
 count-stays (inl p) never e = absurd (never p)
 count-stays (inr h) never e = h ∙ e
 
+-- the slot of the index was started once
+once-index : (old mid new : DepotState) → mid.starts Index ≡ one_more (old.starts Index) → new.starts Index ≡ mid.starts Index → StartedOnce IsIndexSlot old new
+once-index old mid new once same slot is = ap new.starts is ∙ same ∙ once ∙ ap (λ s. one_more (old.starts s)) (sym is)
+
+-- memory that was not refused
+not-wanted : {A : Type 0} (r : Result A IoFail) {before now : ℕ} → (IsErrOf r call.NoMemory → ⊥) → IsErrOf r call.NoMemory ⊎ (now ≡ before) → now ≡ before
+not-wanted r never (inl h) = absurd (never h)
+not-wanted r never (inr same) = same
+
+started-well : (let r : Result (Unit {0}) IoFail = Ok tt in IsErrOf r call.NoMemory) → ⊥
+started-well h = cc
+
 -- the start is refused
 pub start-refused : (name : List ℕ) (old new : DepotState) (fail : IoFail) → Starts old new Index name (Err fail) → LoadsFile name old new (Err (start_error fail))
 start-refused name old new call.Failed s = record {
@@ -36,6 +48,8 @@ start-refused name old new call.Failed s = record {
   read_only_where_it_rose = λ is. s.counts.this.failed_only_where_it_rose refl;
   count_rises_only_there = inl refl;
   reads = OnlyReads-start old new Index name (Err call.Failed) s;
+  started_once = once-index old new new s.start_count refl;
+  refusals_rise_only_there = inr (not-wanted {A = Unit {0}} (Err call.Failed) (λ h. cc) s.counts.refusals.rises_only_there);
 }
 start-refused name old new call.NoMemory s = record {
   within = tt;
@@ -45,6 +59,8 @@ start-refused name old new call.NoMemory s = record {
   read_only_where_it_rose = λ is. cc;
   count_rises_only_there = inr (s.counts.this.same_at_no_memory refl);
   reads = OnlyReads-start old new Index name (Err call.NoMemory) s;
+  started_once = once-index old new new s.start_count refl;
+  refusals_rise_only_there = inl refl;
 }
 
 -- the file is loaded
@@ -57,6 +73,8 @@ file-loaded name old mid new limit bytes most s l = record {
   read_only_where_it_rose = λ is. cc;
   count_rises_only_there = inr (count-stays l.count_rises_only_there (λ h. cc) (s.counts.this.same_at_ok refl));
   reads = OnlyReads-trans (OnlyReads-start old mid Index name (Ok tt) s) l.reads;
+  started_once = once-index old mid new s.start_count (l.starts Index);
+  refusals_rise_only_there = inr (count-stays l.refusals_rise_only_there (λ h. cc) (not-wanted {A = Unit {0}} (Ok tt) started-well s.counts.refusals.rises_only_there));
 }
 
 -- the file is not loaded
@@ -69,6 +87,8 @@ file-refused name old mid new limit file.Read most s l = record {
   read_only_where_it_rose = λ is. let P : ℕ → Type 0 = λ n. Rose n (new.faults Index) in subst P (s.counts.this.same_at_ok refl) (l.read_only_where_it_rose refl);
   count_rises_only_there = inl refl;
   reads = OnlyReads-trans (OnlyReads-start old mid Index name (Ok tt) s) l.reads;
+  started_once = once-index old mid new s.start_count (l.starts Index);
+  refusals_rise_only_there = inr (count-stays l.refusals_rise_only_there (λ h. cc) (not-wanted {A = Unit {0}} (Ok tt) started-well s.counts.refusals.rises_only_there));
 }
 file-refused name old mid new limit file.TooLarge most s l = record {
   within = tt;
@@ -81,6 +101,8 @@ file-refused name old mid new limit file.TooLarge most s l = record {
   read_only_where_it_rose = λ is. cc;
   count_rises_only_there = inr (count-stays l.count_rises_only_there (λ h. cc) (s.counts.this.same_at_ok refl));
   reads = OnlyReads-trans (OnlyReads-start old mid Index name (Ok tt) s) l.reads;
+  started_once = once-index old mid new s.start_count (l.starts Index);
+  refusals_rise_only_there = inr (count-stays l.refusals_rise_only_there (λ h. cc) (not-wanted {A = Unit {0}} (Ok tt) started-well s.counts.refusals.rises_only_there));
 }
 file-refused name old mid new limit file.NoMemory most s l = record {
   within = tt;
@@ -90,6 +112,8 @@ file-refused name old mid new limit file.NoMemory most s l = record {
   read_only_where_it_rose = λ is. cc;
   count_rises_only_there = inr (count-stays l.count_rises_only_there (λ h. cc) (s.counts.this.same_at_ok refl));
   reads = OnlyReads-trans (OnlyReads-start old mid Index name (Ok tt) s) l.reads;
+  started_once = once-index old mid new s.start_count (l.starts Index);
+  refusals_rise_only_there = inl refl;
 }
 
 -- the words of the bytes that were loaded
@@ -107,6 +131,8 @@ words-read name old new bytes lent words l same are whole fit = record {
   read_only_where_it_rose = λ is. cc;
   count_rises_only_there = inr (count-stays l.count_rises_only_there (λ h. cc) refl);
   reads = l.reads;
+  started_once = l.started_once;
+  refusals_rise_only_there = inr (count-stays l.refusals_rise_only_there (λ h. cc) refl);
 }
 
 -- bytes that are no words, or whose words find no memory
@@ -124,6 +150,8 @@ words-refused name old new bytes lent spelled.Ragged l same ragged = record {
   read_only_where_it_rose = λ is. cc;
   count_rises_only_there = inr (count-stays l.count_rises_only_there (λ h. cc) refl);
   reads = l.reads;
+  started_once = l.started_once;
+  refusals_rise_only_there = inr (count-stays l.refusals_rise_only_there (λ h. cc) refl);
 }
 words-refused name old new bytes lent spelled.NoMemory l same ragged = record {
   within = tt;
@@ -137,6 +165,8 @@ words-refused name old new bytes lent spelled.NoMemory l same ragged = record {
   read_only_where_it_rose = λ is. cc;
   count_rises_only_there = inr (count-stays l.count_rises_only_there (λ h. cc) refl);
   reads = l.reads;
+  started_once = l.started_once;
+  refusals_rise_only_there = inl refl;
 }
 
 -- a refusal of the file's bytes is one of its words
@@ -153,6 +183,8 @@ loading-refused name old new e l = record {
   read_only_where_it_rose = l.read_only_where_it_rose;
   count_rises_only_there = l.count_rises_only_there;
   reads = l.reads;
+  started_once = l.started_once;
+  refusals_rise_only_there = l.refusals_rise_only_there;
 }
   where
     ended : (e : LoadIndexError) → LoadsFile name old new (Err e) → IsTrue old.tells → length (bytes_under old name) ≤ most_bytes

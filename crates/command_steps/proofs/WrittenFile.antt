@@ -1,6 +1,6 @@
 -- How words are written piece by piece to a file that is created and finished.
 use Rattle.std.proofs.Common.{◌≡◌, refl, sym, ap, ◌∙◌, subst, ℕ, ◌+◌, ◌<◌, List, [], ◌++◌, length, take, inl, inr, ◌⊎◌, IsTrue, Option, Some, Result, Ok, Err, arith, append_assoc, append-nil}
-use Rattle.std.specs.Prelude.{unwrap_or}
+use Rattle.std.specs.Prelude.{unwrap_or, IsErrOf}
 use Rattle.std.proofs.Math.Seq.{take-append-add}
 use Rattle.std.proofs.lemmas.List.{length-append, take-append-le, take_all}
 use Rattle.std.proofs.lemmas.List.Concat.{flat_map-append}
@@ -17,6 +17,13 @@ use Rattle.command_steps.specs.WriteFile.{write_error}
 
 -- ---- pieces
 
+-- memory that was not refused
+done-well : (let r : Result (Unit {0}) IoFail = Ok tt in IsErrOf r call.NoMemory) → ⊥
+done-well h = cc
+
+pub no-refusal : (a b : DepotState) → CountsWriting {A = Unit {0}} a b (Ok tt) → b.refusals ≡ a.refusals
+no-refusal a b p = elim p.refusals.rises_only_there [ inl h ↦ absurd (done-well h) | inr same ↦ same ]
+
 -- the count of a call after one that did not fail
 counts-then : (a b c : DepotState) (r : Result (Unit {0}) IoFail) → CountsWriting {A = Unit {0}} a b (Ok tt) → CountsWriting b c r → CountsWriting a c r
 counts-then a b c r p q = record {
@@ -27,6 +34,12 @@ counts-then a b c r p q = record {
     same_at_no_memory = λ is. q.this.same_at_no_memory is ∙ p.this.same_at_ok refl;
   };
   others = λ slot. q.others slot ∙ p.others slot;
+  starts = λ slot. q.starts slot ∙ p.starts slot;
+  refusals = record {
+    never_falls = omega (arith, p.refusals.never_falls, q.refusals.never_falls);
+    no_memory_only_where_it_rose = λ is. let P : ℕ → Type 0 = λ n. Rose n c.refusals in subst P (no-refusal a b p) (q.refusals.no_memory_only_where_it_rose is);
+    rises_only_there = elim q.refusals.rises_only_there [ inl h ↦ inl h | inr same ↦ inr (same ∙ no-refusal a b p) ];
+  };
 }
 
 -- nothing is written yet
@@ -47,6 +60,8 @@ none-written s = record {
       same_at_no_memory = λ is. cc;
     };
     others = λ slot. refl;
+    starts = λ slot. refl;
+    refusals = record { never_falls = omega arith; no_memory_only_where_it_rose = λ is. absurd (done-well is); rises_only_there = inr refl };
   };
   create_count = refl;
   finish_count = refl;
@@ -156,6 +171,8 @@ created-only name a b r c = record {
   never_falls = c.counts.this.never_falls;
   creates_never_fall = c.create_count.never_falls;
   finishes_never_fall = omega (arith, c.finish_count);
+  starts = c.counts.starts;
+  refusals_never_fall = c.counts.refusals.never_falls;
 }
 
 written-only : (name bytes : List ℕ) (a b c : DepotState) (r : Result (Unit {0}) IoFail) → Creates a b name (Ok tt) → WritesAllToFile b c bytes r → OnlyWrites name a c
@@ -167,6 +184,8 @@ written-only name bytes a b c r k w = record {
   never_falls = omega (arith, k.counts.this.never_falls, w.counts.this.never_falls);
   creates_never_fall = omega (arith, k.create_count.never_falls, w.create_count);
   finishes_never_fall = omega (arith, k.finish_count, w.finish_count);
+  starts = λ slot. w.counts.starts slot ∙ k.counts.starts slot;
+  refusals_never_fall = omega (arith, k.counts.refusals.never_falls, w.counts.refusals.never_falls);
 }
 
 -- the created file is the one that is being written
@@ -185,6 +204,8 @@ finished-only name a b c r o f = record {
   never_falls = omega (arith, o.never_falls, f.counts.this.never_falls);
   creates_never_fall = omega (arith, o.creates_never_fall, f.create_count);
   finishes_never_fall = omega (arith, o.finishes_never_fall, f.finish_count.never_falls);
+  starts = λ slot. f.counts.starts slot ∙ o.starts slot;
+  refusals_never_fall = omega (arith, o.refusals_never_fall, f.counts.refusals.never_falls);
 }
 
 -- the created file is there, and empty
@@ -210,6 +231,9 @@ front-file name bytes a b c e k w t =
 
 -- ---- the answer
 
+failed-not_wanted : (let r : Result (Unit {0}) IoFail = Err call.Failed in IsErrOf r call.NoMemory) → ⊥
+failed-not_wanted h = cc
+
 -- a refusal is one of the writing
 refusal : (words name : List ℕ) (a b : DepotState) (fail : IoFail) → CountsWriting {A = Unit {0}} a b (Err fail) → IsWrittenInPart name a b (word_bytes words) → IsUnwritten a b ⊎ IsBeingWritten name a b → OnlyWrites name a b
     → (fail ≡ call.Failed → IsLeftByFault name a b (word_bytes words)) → (fail ≡ call.NoMemory → (b.create_faults ≡ a.create_faults) × (b.finish_faults ≡ a.finish_faults))
@@ -224,6 +248,8 @@ refusal words name a b call.Failed k part begun only left same = record {
   failed = λ is. left refl;
   create_count = inl refl;
   finish_count = inl refl;
+  no_memory = λ is. cc;
+  refusals_rise_only_there = elim k.refusals.rises_only_there [ inl h ↦ absurd (failed-not_wanted h) | inr e ↦ inr e ];
 }
 refusal words name a b call.NoMemory k part begun only left same = record {
   written = tt;
@@ -235,6 +261,8 @@ refusal words name a b call.NoMemory k part begun only left same = record {
   failed = λ is. cc;
   create_count = inr (same refl).0;
   finish_count = inr (same refl).1;
+  no_memory = λ is. inr (k.refusals.no_memory_only_where_it_rose refl);
+  refusals_rise_only_there = inl refl;
 }
 
 -- what a refusal is of that has begun the file, where it left all of the bytes if it was the finish
@@ -262,10 +290,14 @@ room-refused words name a = record {
     never_falls = omega arith;
     creates_never_fall = omega arith;
     finishes_never_fall = omega arith;
+    starts = λ slot. refl;
+    refusals_never_fall = omega arith;
   };
   failed = λ is. cc;
   create_count = inr refl;
   finish_count = inr refl;
+  no_memory = λ is. inl (record { files = λ t n. refl; writing = (refl, λ t. refl) });
+  refusals_rise_only_there = inl refl;
 }
 
 pub create-refused : (words name : List ℕ) (a b : DepotState) (fail : IoFail) → Creates a b name (Err fail) → WritesWords words name a b (Err (write_error fail))
@@ -326,4 +358,6 @@ all-written words name a b c d k w f =
       failed = λ is. cc;
       create_count = inr (f.create_count ∙ w.create_count ∙ k.create_count.same_at_ok refl);
       finish_count = inr (f.finish_count.same_at_ok refl ∙ w.finish_count ∙ k.finish_count);
+      no_memory = λ is. cc;
+      refusals_rise_only_there = inr (no-refusal c d f.counts ∙ no-refusal b c w.counts ∙ no-refusal a b k.counts);
     }

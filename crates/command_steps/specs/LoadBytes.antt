@@ -6,7 +6,7 @@ use Rattle.pef_io.specs.declared.fail.Slot.TheVariants.{Index}
 use Rattle.pef_io.specs.declared.load.LoadError.{LoadError}
 use Rattle.pef_io.specs.declared.load.LoadError.TheVariants as file
 use Rattle.pef_io.specs.Calls.{Rose}
-use Rattle.pef_io.specs.DepotState.{DepotState, OnlyReads, bytes_under}
+use Rattle.pef_io.specs.DepotState.{DepotState, StartedOnce, OnlyReads, bytes_under}
 use Rattle.index_file.specs.declared.bytes.WordsError.{WordsError}
 use Rattle.index_file.specs.declared.bytes.WordsError.TheVariants as spelled
 use Rattle.index_file.specs.declared.fault.OpenFault.{OpenFault}
@@ -45,3 +45,5 @@ pub record LoadsFile (name : List ℕ) (old new : DepotState) (result : Result (
   pub read_only_where_it_rose : result ≡ Err Read → Rose (old.faults Index) (new.faults Index)
   pub count_rises_only_there : (result ≡ Err Read) ⊎ (new.faults Index ≡ old.faults Index)
   pub reads : OnlyReads IsIndexSlot old new
+  pub started_once : StartedOnce IsIndexSlot old new
+  pub refusals_rise_only_there : (result ≡ Err NoMemory) ⊎ (new.refusals ≡ old.refusals)

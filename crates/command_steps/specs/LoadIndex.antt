@@ -3,7 +3,7 @@ use Rattle.std.specs.List.{All}
 use Rattle.std.specs.declared.alloc.Global.{Global}
 use Rattle.pef_io.specs.declared.fail.Slot.TheVariants.{Index}
 use Rattle.pef_io.specs.Calls.{Rose}
-use Rattle.pef_io.specs.DepotState.{DepotState, OnlyReads, bytes_under}
+use Rattle.pef_io.specs.DepotState.{DepotState, StartedOnce, OnlyReads, bytes_under}
 use Rattle.two_level.specs.declared.check.Check.TheVariants.{K1}
 use Rattle.index_file.specs.declared.fault.OpenFault.{OpenFault}
 use Rattle.index_file.specs.Builder.{most_words}
@@ -41,3 +41,6 @@ pub record LoadsWords (name : List ℕ) (old new : DepotState) (result : Result 
   pub count_rises_only_there : (result ≡ Err Read) ⊎ (new.faults Index ≡ old.faults Index)
   -- The slot of the index is started and read, and nothing else is called.
   pub reads : OnlyReads IsIndexSlot old new
+  -- It is started exactly once, whatever comes of it, and the first memory that the depot is refused ends the loading.
+  pub started_once : StartedOnce IsIndexSlot old new
+  pub refusals_rise_only_there : (result ≡ Err NoMemory) ⊎ (new.refusals ≡ old.refusals)

@@ -4,7 +4,7 @@ use Rattle.pef_io.specs.Calls.{Rose}
 use Rattle.pef_io.specs.DepotState.{DepotState}
 use Rattle.command_model.specs.Written.{IsWritten, IsUnwritten, IsWrittenInPart, IsBeingWritten, IsLeftByFault, OnlyWrites}
 use Rattle.command_steps.specs.declared.writing.WriteIndexError.{WriteIndexError}
-use Rattle.command_steps.specs.declared.writing.WriteIndexError.TheVariants.{Write}
+use Rattle.command_steps.specs.declared.writing.WriteIndexError.TheVariants.{Write, NoMemory}
 
 -- What writing words as the file under a name gives.
 pub record WritesWords (words name : List ℕ) (old new : DepotState) (result : Result (Unit {0}) WriteIndexError) : Type 0 where
@@ -21,3 +21,6 @@ pub record WritesWords (words name : List ℕ) (old new : DepotState) (result : 
   pub failed : result ≡ Err Write → IsLeftByFault name old new (word_bytes words)
   pub create_count : (result ≡ Err Write) ⊎ (new.create_faults ≡ old.create_faults)
   pub finish_count : (result ≡ Err Write) ⊎ (new.finish_faults ≡ old.finish_faults)
+  -- Once the file is created only the depot takes memory, and the first memory that it is refused ends the writing.
+  pub no_memory : result ≡ Err NoMemory → IsUnwritten old new ⊎ Rose old.refusals new.refusals
+  pub refusals_rise_only_there : (result ≡ Err NoMemory) ⊎ (new.refusals ≡ old.refusals)
