@@ -6,6 +6,7 @@ mod Scanning
 pub mod OneList
 mod Views
 mod Passing
+mod Numbered
 mod Checking
 mod Lookups
 mod Writing

@@ -20,7 +20,7 @@ past-count l ys zero = omega arith
 past-count l ys (suc k) = omega arith
 
 -- a place without a one is passed
-past-zero : (bits : List ℕ) (place u m l q : ℕ) (ys : List ℕ) → IsRead bits place u m l q ys → (k p : ℕ) → IsPast place m l ys k p → get_or bits p 0 ≡ 0
+pub past-zero : (bits : List ℕ) (place u m l q : ℕ) (ys : List ℕ) → IsRead bits place u m l q ys → (k p : ℕ) → IsPast place m l ys k p → get_or bits p 0 ≡ 0
     → IsPast place m l ys k (p + 1)
 past-zero bits place u m l q ys h k p here unset = record {
   few = here.few;
@@ -130,7 +130,7 @@ ones-passed q v ys h k at end here fit within =
     (past-more (bits_of ws) v.part.place v.part.u v.part.m v.low q ys (bits-bits_of ws) read (omega (arith, read.room)) k at (end - at) here (omega arith))
 
 -- so the first one from there on, up to that end, is that of the next number,
-first-next : (q : ℕ) (v : EfView q) (ys : List ℕ) → Holds q v ys → (k at p : ℕ) → IsPast v.part.place v.part.m v.low ys k at
+pub first-next : (q : ℕ) (v : EfView q) (ys : List ℕ) → Holds q v ys → (k at p : ℕ) → IsPast v.part.place v.part.m v.low ys k at
     → IsFirstOne (bits_of v.part.bits.words.now) at (v.part.place + low_fields_at v.part.u v.part.m v.low) p → (k < v.part.m) × (p ≡ v.part.place + high_place v.low k (get_or ys k 0))
 first-next q v ys h k at p here first =
     let bits : List ℕ = bits_of v.part.bits.words.now in

@@ -2,7 +2,8 @@ use Rattle.std.proofs.Common.{◌≡◌, ◌+◌, ◌∙◌, ap, arith, inl, inr
 use Rattle.std.proofs.lemmas.Bool.{cases_lt}
 use Rattle.elias_fano.specs.EfPlaces.{IsPast}
 use Rattle.elias_fano.proofs.Lookups.{number-got, place-below}
-use Rattle.elias_fano.proofs.Passing.{one-next, past-number}
+use Rattle.elias_fano.proofs.Passing.{past-number}
+use Rattle.elias_fano.proofs.Numbered.{one-near}
 use Rattle.elias_fano.proofs.Views.{within-held}
 use Rattle.elias_fano.proofs.EfView.step_near.Goals as goal
 
@@ -13,7 +14,7 @@ number-found-requires g c =
     let ys = c.requires.held.0 in
     let h = c.requires.held.1 in
     let i = c.loop-near.invariant in
-    let next = one-next g.row.Q v ys h k i.bits i.end (i.past ys h) c.in-Some.ensures.first in
+    let next = one-near g.row.Q v ys h k i.bits i.end (i.past ys h) c.in-Some.ensures.first in
     let below = place-below g.row.Q v ys k h next.0 in
     (omega arith, (within-held g.row.Q v ys h, (next.0, (omega (arith, next.1), omega (arith, next.1)))))
 
@@ -24,7 +25,7 @@ loop-near-preserved g c =
     let i = c.loop-near.invariant in
     let zs = c.requires.held.0 in
     let held = c.requires.held.1 in
-    let next = one-next g.row.Q v zs held k i.bits i.end (i.past zs held) c.in-Some.ensures.first in
+    let next = one-near g.row.Q v zs held k i.bits i.end (i.past zs held) c.in-Some.ensures.first in
     record {
       within = next.0;
       below = λ ys h j after before.
@@ -35,12 +36,12 @@ loop-near-preserved g c =
                 omega (arith, ap (λ n. slice_index ys n) here, i.number ys h)
           ];
       number = λ ys h.
-          let one = one-next g.row.Q v ys h k i.bits i.end (i.past ys h) c.in-Some.ensures.first in
+          let one = one-near g.row.Q v ys h k i.bits i.end (i.past ys h) c.in-Some.ensures.first in
           number-got g.row.Q v ys k c.in-Some.one c.number-found.result h one.0 one.1 c.number-found.ensures.value;
       bits = c.in-Some.ensures.bits ∙ i.bits;
-      end = c.in-Some.ensures.end ∙ i.end;
+      end = omega (arith, c.in-Some.ensures.end, i.end);
       past = λ ys h.
-          let one = one-next g.row.Q v ys h k i.bits i.end (i.past ys h) c.in-Some.ensures.first in
+          let one = one-near g.row.Q v ys h k i.bits i.end (i.past ys h) c.in-Some.ensures.first in
           subst (λ n. IsPast v.part.place v.part.m v.low ys (k + 1) n) (sym c.in-Some.ensures.behind)
           (past-number v.part.place v.part.m v.low ys h.values.rising h.values.count k c.in-Some.one one.0 one.1);
     }

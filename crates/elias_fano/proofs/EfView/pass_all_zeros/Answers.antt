@@ -1,0 +1,55 @@
+use Rattle.std.proofs.Common.{ℕ, ◌+◌, ◌-◌, ◌*◌, ◌^◌, ◌≤◌, subst, arith}
+use Rattle.std.proofs.lemmas.Option.{MatchOption-at_some}
+use Rattle.bit_words.specs.Bits.{bits_of, ones_between, IsNthZero}
+use Rattle.bit_words.proofs.Outcomes.{some-from}
+use Rattle.elias_fano.specs.EfPlaces.{low_fields_at}
+use Rattle.elias_fano.proofs.Views.{within-held}
+use Rattle.elias_fano.proofs.Passing.{not-all-below}
+use Rattle.elias_fano.proofs.Numbered.{IsPastZeros, zero-passed, zero-there, place-inside}
+use Rattle.elias_fano.proofs.EfView.pass_all_zeros.Goals as goal
+
+pub low_fields-requires : goal.low_fields-requires
+low_fields-requires g c = (omega arith, within-held g.row.Q c.args.self.now c.requires.held.0 c.requires.held.1)
+
+pub nth_zero-requires-clause-range : goal.nth_zero-requires-clause-range
+nth_zero-requires-clause-range g c = omega (arith, c.low_fields.ensures, within-held g.row.Q c.args.self.now c.requires.held.0 c.requires.held.1)
+
+pub unwrap-zero-requires : goal.unwrap-zero-requires
+unwrap-zero-requires g c =
+    let v = c.args.self.now in
+    let ys = c.requires.held.0 in
+    let h = c.requires.held.1 in
+    let a = c.args in
+    let bits = bits_of v.part.bits.words.now in
+    let n : ℕ = a.high - (a.place - v.part.place - a.passed) - 1 in
+    some-from c.nth_zero.result (c.low_fields.result ≤ a.place + ones_between bits a.place c.low_fields.result + n) c.nth_zero.ensures.none
+    (λ none.
+    let there : v.part.place + low_fields_at v.part.u v.part.m v.low ≤ a.place + ones_between bits a.place (v.part.place + low_fields_at v.part.u v.part.m v.low) + n =
+    subst (λ e. e ≤ a.place + ones_between bits a.place e + n) c.low_fields.ensures none in
+    zero-there g.row.Q v ys h a.passed a.place a.high (c.requires.past ys h) c.requires.few (place-inside g.row.Q v ys h a.passed a.place a.high (c.requires.past ys h) c.requires.few c.requires.reached) c.requires.reached there)
+
+pub returns-clause-within : goal.returns-clause-within
+returns-clause-within g c =
+    let v = c.args.self.now in
+    let ys = c.requires.held.0 in
+    let h = c.requires.held.1 in
+    let passed : IsPastZeros g.row.Q v ys c.args.high (c.unwrap-zero.result + 1 - v.part.place - c.args.high) (c.unwrap-zero.result + 1) =
+    zero-passed g.row.Q v ys h c.args.passed c.args.place c.low_fields.result c.args.high c.unwrap-zero.result (c.requires.past ys h) c.requires.few (omega (arith, c.low_fields.ensures))
+    (MatchOption-at_some _ (λ p. IsNthZero (bits_of v.part.bits.words.now) c.args.place c.low_fields.result (c.args.high - (c.args.place - v.part.place - c.args.passed) - 1) p) c.unwrap-zero.result c.unwrap-zero.ensures c.nth_zero.ensures.some) in
+    not-all-below v.part.u v.part.m ys h.values c.args.from (c.unwrap-zero.result + 1 - v.part.place - c.args.high) (c.args.high * 2 ^ v.low) c.requires.within passed.past.few c.requires.reached (passed.below c.args.from)
+
+pub returns-clause-past : goal.returns-clause-past
+returns-clause-past g c = λ ys h.
+    let v = c.args.self.now in
+    let passed : IsPastZeros g.row.Q v ys c.args.high (c.unwrap-zero.result + 1 - v.part.place - c.args.high) (c.unwrap-zero.result + 1) =
+    zero-passed g.row.Q v ys h c.args.passed c.args.place c.low_fields.result c.args.high c.unwrap-zero.result (c.requires.past ys h) c.requires.few (omega (arith, c.low_fields.ensures))
+    (MatchOption-at_some _ (λ p. IsNthZero (bits_of v.part.bits.words.now) c.args.place c.low_fields.result (c.args.high - (c.args.place - v.part.place - c.args.passed) - 1) p) c.unwrap-zero.result c.unwrap-zero.ensures c.nth_zero.ensures.some) in
+    passed.past
+
+pub returns-clause-below : goal.returns-clause-below
+returns-clause-below g c = λ ys h.
+    let v = c.args.self.now in
+    let passed : IsPastZeros g.row.Q v ys c.args.high (c.unwrap-zero.result + 1 - v.part.place - c.args.high) (c.unwrap-zero.result + 1) =
+    zero-passed g.row.Q v ys h c.args.passed c.args.place c.low_fields.result c.args.high c.unwrap-zero.result (c.requires.past ys h) c.requires.few (omega (arith, c.low_fields.ensures))
+    (MatchOption-at_some _ (λ p. IsNthZero (bits_of v.part.bits.words.now) c.args.place c.low_fields.result (c.args.high - (c.args.place - v.part.place - c.args.passed) - 1) p) c.unwrap-zero.result c.unwrap-zero.ensures c.nth_zero.ensures.some) in
+    passed.below c.args.from
