@@ -7,7 +7,7 @@ ghost use Rattle.index_file.specs.Builder.{most_words};
 use super::*;
 use crate::frame::{Frame, numbers_break};
 use cursor_api::DocCursor;
-use part_cost::{Format, Kind};
+use part_cost::{Format, Kind, Which};
 use std::alloc::Global;
 use std::marker::Brand;
 use std::process::Abort;
@@ -528,4 +528,29 @@ fn measures_parts(rt: HostRuntime) {
         }
         assert_eq!(rt; index.payload_bits(), bits);
     }
+}
+
+// What the two sequences of list 0 cost, and the last document and the greatest frequency of each part of its documents.
+fn has_blocks(rt: &impl Abort, words: &[u64], costs: (u64, u64), blocks: &[(u32, u32)]) {
+    assert!(rt; words.len() <= 20 && blocks.len() <= 2);
+    let index = Index::view(words).expect(rt, "an index");
+    assert!(rt; index.terms() == 1);
+    assert_eq!(rt; Index::known(words).terms(), 1);
+    assert_eq!(rt; index.seq_cost(0, Which::Docs), costs.0);
+    assert_eq!(rt; index.seq_cost(0, Which::Freqs), costs.1);
+    let count = index.blocks(0);
+    assert_eq!(rt; count as usize, blocks.len());
+    for q in 0..count {
+        let (last, greatest) = blocks[q as usize];
+        assert_eq!(rt; index.block(0, q), (last, greatest));
+        assert_eq!(rt; index.block_last(0, q), last);
+    }
+}
+
+// A part costs 128 bits in the first format and 192 in the second, and its payload; the frequencies 1 and 5 stand in one part.
+#[test]
+fn parts_are_blocks(rt: HostRuntime) {
+    has_blocks(&rt, ONE_LIST, (131, 134), &[(2, 5)]);
+    has_blocks(&rt, ONE_LIST_OF_TWO, (195, 198), &[(2, 5)]);
+    has_blocks(&rt, IN_TWO_PARTS, (258, 134), &[(0, 1), (2, 5)]);
 }
