@@ -1,0 +1,8 @@
+mod Members
+mod Arranged
+mod Images
+mod Matched
+mod OneList
+mod Vectors
+mod Applied
+mod Rows

@@ -1,0 +1,5 @@
+pub mod NewIds
+pub mod Image
+pub mod Laws
+pub mod Vectors
+pub mod Spelling
