@@ -3,3 +3,4 @@ mod Shifts
 mod Joins
 mod Blocks
 mod Follow
+mod JoinedLists
