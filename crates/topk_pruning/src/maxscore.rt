@@ -6,10 +6,10 @@ ghost use Rattle.scan_plans.specs.Scan.{HasPassed};
 ghost use Rattle.topk_pruning.specs.Terms.{AreTerms, IsFirstDoc, AreSpared, IsEssential, Follows, beats, bounds, score_in};
 
 use crate::probe::{doc_from, is_above, probe};
-use crate::term::{Term, terms_by_bound, total_bound};
+use crate::term::{MOST_LISTS, Term, terms_by_bound, total_bound};
 use cursor_api::DocCursor;
 use no_memory::NoMemory;
-use scan_plans::{TopK, cursors_tell, top_list_grows};
+use scan_plans::{TopK, cursors_tell, top_exhaustive, top_list_grows};
 use std::alloc::Global;
 
 /// The first k of the documents that are in any of the lists, by score falling and then document rising, each with its score, as
@@ -18,7 +18,7 @@ use std::alloc::Global;
 ///
 /// It is MaxScore: while the lists of the lowest bounds together cannot beat the least score held, candidates come from the others alone,
 /// and a candidate is given up as soon as the bounds of the lists that are left cannot lift it above that score. A bound is the weight times the
-/// greatest frequency.
+/// greatest frequency. Of more than 16 lists every document is scored.
 pub fn top_maxscore<C: DocCursor>(
     alloc: Global,
     cursors: &mut [C],
@@ -37,6 +37,9 @@ pub fn top_maxscore<C: DocCursor>(
 {
     if k == 0 {
         return Ok(Vec::new(alloc));
+    }
+    if cursors.len() > MOST_LISTS {
+        return top_exhaustive(alloc, cursors, weights, k, n);
     }
     top_list_grows();
     let terms = terms_by_bound(alloc, cursors, weights)?;

@@ -1,4 +1,5 @@
 use super::*;
+use crate::wand::Greatest;
 use cursor_api::PlainCursor;
 
 // Five documents; a list has the documents 1 and 4, another 1, 2 and 4.
@@ -13,6 +14,11 @@ fn two_lists(rt: HostRuntime) {
     assert_eq!(rt; top.as_slice(), [(4, 4), (1, 3)].as_slice());
     let mut cursors = starts;
     let top = top_wand(rt.alloc(), &mut cursors, &[1, 1], 2, 5).expect(&rt, "memory");
+    assert_eq!(rt; top.as_slice(), [(4, 4), (1, 3)].as_slice());
+    let mut cursors = starts;
+    let top = top_wand_under(rt.alloc(), &mut cursors, &[1, 1], 2, 5, &Greatest).expect(
+        &rt, "memory",
+    );
     assert_eq!(rt; top.as_slice(), [(4, 4), (1, 3)].as_slice());
     for (weights, k, wanted) in [
         ([2, 1], 3, [(4, 7), (1, 5), (2, 3)].as_slice()),
