@@ -1,7 +1,7 @@
 mod Rows
 mod Runs
 mod Decimals
-mod DigitCount
+mod Written
 mod TermSets
 mod WeightSums
 mod WeightsSeen

@@ -1,5 +1,6 @@
 // The texts of replies, each with its newline.
-ghost use Rattle.std.specs.Prelude.{◌≡◌, ◌+◌, ◌<◌, ◌≤◌, ◌++◌, length, decimal, IfOk, OnOk};
+ghost use Rattle.std.specs.Prelude.{◌≡◌, ◌+◌, ◌*◌, ◌≤◌, ◌∷◌, ◌++◌, [], length, drop, decimal, IfOk};
+ghost use Rattle.query_text.specs.Lines.{newline};
 ghost use Rattle.query_text.specs.Texts.{next_text, list_text, top_text, bad_text};
 
 use crate::query::Bad;
@@ -7,25 +8,40 @@ use itoa::write_digits;
 use no_memory::NoMemory;
 use std::alloc::Global;
 
-// How many decimal digits a number has.
-fn digit_count(number: u64) -> usize
-    ensures count { result ≡ length (decimal number) }
-    ensures most { result ≤ 20 }
+// The most bytes that a document takes in a reply: a space and ten digits.
+const LISTED: usize = 11;
+
+// With its score: a colon and twenty digits more.
+const SCORED: usize = 32;
+
+// The most bytes of a count and a newline.
+const COUNTED: usize = 21;
+
+// A text whose end is the newline, with room before it for a count and so many documents, each in at most so many bytes.
+fn reply_room(alloc: Global, count: usize, each: usize) -> Result<Vec<u8>, NoMemory>
+    ensures size { IfOk result (λ text. length text.items ≡ count * each + 21) }
+    ensures end { IfOk result (λ text. drop (count * each + 20) text.items ≡ newline ∷ []) }
 {
-    match number.checked_ilog10() {
-        None => 1,
-        Some(power) => power as usize + 1,
-    }
+    let Some(documents) = count.checked_mul(each) else {
+        return Err(NoMemory);
+    };
+    let Some(room) = documents.checked_add(COUNTED) else {
+        return Err(NoMemory);
+    };
+    Ok(vec![in alloc; b'\n'; room]?)
 }
 
-// Appends a number's decimal digits, written where they stay.
-fn push_decimal(text: &mut Vec<u8>, number: u64) -> Result<(), NoMemory>
-    ensures { OnOk result (text.new.items ≡ text.old.items ++ decimal number) }
+// Writes a byte and then a number's decimal digits, which end at a place, and gives where they begin.
+fn write_after(byte: u8, number: u64, text: &mut [u8], end: usize) -> usize
+    requires room { length (decimal number) + 1 ≤ end }
+    requires within { end ≤ length text.old }
+    ensures start { result + length (decimal number) + 1 ≡ end }
+    ensures written { drop result text.new ≡ byte ∷ decimal number ++ drop end text.old }
+    ensures count { length text.new ≡ length text.old }
 {
-    let end = text.len() + digit_count(number);
-    text.resize(end, b'0')?;
-    write_digits(number, text, end);
-    Ok(())
+    let first = write_digits(number, text, end);
+    text[first - 1] = byte;
+    first - 1
 }
 
 /// The reply to `next`: the first posting as its document and its frequency, or `end` where there is none.
@@ -35,42 +51,46 @@ pub fn next_reply(alloc: Global, posting: Option<(u32, u32)>) -> Result<Vec<u8>,
     let Some((doc, freq)) = posting else {
         return Ok(Vec::from_slice(alloc, b"end\n")?);
     };
-    let mut text = Vec::new(alloc);
-    push_decimal(&mut text, u64::from(doc))?;
-    text.push(b' ')?;
-    push_decimal(&mut text, u64::from(freq))?;
-    text.push(b'\n')?;
-    Ok(text)
+    let mut room = reply_room(alloc, 1, SCORED)?;
+    let text = room.as_mut_slice();
+    let end = text.len() - 1;
+    let middle = write_after(b' ', u64::from(freq), text, end);
+    let start = write_digits(u64::from(doc), text, middle);
+    Ok(Vec::from_slice(alloc, &text[start..])?)
 }
 
-/// The reply to `and` and `or`: how many documents, and each.
+/// The reply to `and` and `or`: how many documents, and each. It is written from its end on.
 pub fn list_reply(alloc: Global, docs: &[u32]) -> Result<Vec<u8>, NoMemory>
     ensures { IfOk result (λ text. text.items ≡ list_text docs.now) }
 {
-    let mut text = Vec::new(alloc);
-    push_decimal(&mut text, docs.len() as u64)?;
-    for doc in docs {
-        text.push(b' ')?;
-        push_decimal(&mut text, u64::from(*doc))?;
+    let mut room = reply_room(alloc, docs.len(), LISTED)?;
+    let text = room.as_mut_slice();
+    let mut at = text.len() - 1;
+    let mut left = docs.len();
+    while left > 0 {
+        left -= 1;
+        at = write_after(b' ', u64::from(docs[left]), text, at);
     }
-    text.push(b'\n')?;
-    Ok(text)
+    let start = write_digits(docs.len() as u64, text, at);
+    Ok(Vec::from_slice(alloc, &text[start..])?)
 }
 
-/// The reply to `top`: how many documents, and each with its score.
+/// The reply to `top`: how many documents, and each with its score. It is written from its end on.
 pub fn top_reply(alloc: Global, top: &[(u32, u64)]) -> Result<Vec<u8>, NoMemory>
     ensures { IfOk result (λ text. text.items ≡ top_text top.now) }
 {
-    let mut text = Vec::new(alloc);
-    push_decimal(&mut text, top.len() as u64)?;
-    for (doc, score) in top {
-        text.push(b' ')?;
-        push_decimal(&mut text, u64::from(*doc))?;
-        text.push(b':')?;
-        push_decimal(&mut text, *score)?;
+    let mut room = reply_room(alloc, top.len(), SCORED)?;
+    let text = room.as_mut_slice();
+    let mut at = text.len() - 1;
+    let mut left = top.len();
+    while left > 0 {
+        left -= 1;
+        let (doc, score) = top[left];
+        let middle = write_after(b':', score, text, at);
+        at = write_after(b' ', u64::from(doc), text, middle);
     }
-    text.push(b'\n')?;
-    Ok(text)
+    let start = write_digits(top.len() as u64, text, at);
+    Ok(Vec::from_slice(alloc, &text[start..])?)
 }
 
 /// The reply to a line that breaks a rule.

@@ -1,0 +1,13 @@
+-- Lemmas on texts that are written from their end on.
+use Rattle.std.proofs.Common.{◌≡◌, refl, sym, ap, ◌∙◌, ℕ, ◌+◌, ◌<◌, List, ◌∷◌, ◌++◌, length, get_or, drop, append_assoc, add-one, drop-cons}
+use Rattle.std.specs.List.{flat_map}
+use Rattle.std.proofs.lemmas.List.Concat.{flat_map-cons}
+
+-- one element more, before those that were written
+pub written-more : {A : Type 0} (f : A → List ℕ) (xs : List A) (d : A) (i left : ℕ) (new rest tail : List ℕ) → i + 1 ≡ left → i < length xs → new ≡ f (get_or xs i d) ++ rest → rest ≡ flat_map f (drop left xs) ++ tail → new ≡ flat_map f (drop i xs) ++ tail
+written-more {A} f xs d i left new rest tail next within is so_far =
+    let x : A = get_or xs i d in
+    let later : drop (i + 1) xs ≡ drop left xs = ap (λ (n : ℕ). drop n xs) next in
+    let split : drop i xs ≡ x ∷ drop (i + 1) xs = rw (add-one, drop-cons xs i d) refl in
+    let whole : flat_map f (drop i xs) ≡ f x ++ flat_map f (drop left xs) = ap (flat_map f) (split ∙ ap (λ (l : List A). x ∷ l) later) ∙ flat_map-cons f x (drop left xs) in
+    is ∙ ap (λ (r : List ℕ). f x ++ r) so_far ∙ sym (append_assoc (f x) (flat_map f (drop left xs)) tail) ∙ ap (λ (l : List ℕ). l ++ tail) (sym whole)
