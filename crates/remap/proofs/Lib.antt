@@ -6,3 +6,4 @@ mod OneList
 mod Vectors
 mod Applied
 mod Rows
+mod Small

@@ -5,6 +5,8 @@ mod image;
 mod laws;
 mod permutation;
 mod spelling;
+#[cfg(test)]
+mod tests;
 
 pub use image::apply;
 pub use laws::{image_is_well_formed, matches_are_images, one_image, scores_stay, undone_image};

@@ -1,0 +1,86 @@
+ghost use Rattle.std.specs.Prelude.{◌≡◌, [], ◌∷◌, length, IfOk};
+ghost use Rattle.collection_model.specs.Collection.{WellFormed};
+ghost use Rattle.collection_model.specs.FormatNumbers.{format_two};
+
+use crate::{Permutation, apply, image_is_well_formed, spell_docs, spell_freqs, spell_sizes};
+use collection_reader::{Collection, read_collection};
+use no_memory::NoMemory;
+use part_cost::Format;
+use pef_io::SteadyDepot;
+use std::alloc::{AllocError, Global};
+use std::test::Fail;
+
+/// The bytes of three files: of documents, of frequencies and of sizes.
+type Files = (Vec<u8>, Vec<u8>, Vec<u8>);
+
+/// The bytes of these numbers.
+fn bytes(alloc: Global, numbers: &[u32]) -> Result<Vec<u8>, AllocError> {
+    let mut all = Vec::new(alloc);
+    for n in numbers {
+        all.extend_from_slice(&n.to_le_bytes())?;
+    }
+    Ok(all)
+}
+
+/// Three documents of sizes 4, 0 and 7, and two lists: document 0 once and document 2 five times, and document 1
+/// three times and document 2 four times.
+fn depot(alloc: Global) -> Result<SteadyDepot, Fail> {
+    let mut files = Vec::new(alloc);
+    for (name, numbers) in [
+        ("small.docs", [1, 3, 2, 0, 2, 2, 1, 2].as_slice()),
+        ("small.freqs", &[2, 1, 5, 2, 3, 4]),
+        ("small.sizes", &[3, 4, 0, 7]),
+    ] {
+        files.push((String::from_str(alloc, name)?, bytes(alloc, numbers)?))?;
+    }
+    Ok(SteadyDepot::new(alloc, files, 8_192)?)
+}
+
+/// The order in which documents 0, 1 and 2 have the new ids 2, 0 and 1.
+fn order(alloc: Global) -> Result<Permutation, AllocError>
+    ensures { IfOk result (λ order. order ≡ 2 ∷ 0 ∷ 1 ∷ []) }
+{
+    Ok(Permutation::new([2, 0, 1].to_vec(alloc)?))
+}
+
+/// The files of the image of a collection.
+fn image_files(
+    alloc: Global,
+    collection: &Collection,
+    order: &Permutation,
+) -> Result<Files, NoMemory>
+    requires well_formed { WellFormed format_two collection.now }
+    requires each { length order.now ≡ collection.now.documents }
+{
+    let image = apply(alloc, collection, order)?;
+    order.gives_new_ids();
+    image_is_well_formed();
+    let docs = spell_docs(alloc, &image)?;
+    let freqs = spell_freqs(alloc, &image)?;
+    let sizes = spell_sizes(alloc, &image)?;
+    Ok((docs, freqs, sizes))
+}
+
+#[test]
+fn small_collections_are_moved(rt: HostRuntime) -> Result<(), Fail> {
+    let alloc = rt.alloc();
+    let collection = read_collection(alloc, "small", &mut depot(alloc)?, Format::Two)?;
+    assert_eq!(rt; collection.documents, 3);
+    let (docs, freqs, sizes) = image_files(alloc, &collection, &order(alloc)?)?;
+    assert_eq!(rt; docs, bytes(alloc, &[1, 3, 2, 1, 2, 2, 0, 1])?);
+    assert_eq!(rt; freqs, bytes(alloc, &[2, 5, 1, 2, 3, 4])?);
+    assert_eq!(rt; sizes, bytes(alloc, &[3, 0, 7, 4])?);
+    Ok(())
+}
+
+#[test]
+fn orders_are_undone(rt: HostRuntime) -> Result<(), Fail> {
+    let alloc = rt.alloc();
+    let order = order(alloc)?;
+    let back = order.inverse(alloc)?;
+    for (d, id) in [(0, 2), (1, 0), (2, 1)] {
+        assert_eq!(rt; order.new_id(d), id);
+        assert_eq!(rt; back.new_id(id), d);
+    }
+    Ok(())
+}
