@@ -3,7 +3,7 @@ use Rattle.collection_model.specs.Bytes.{number_sequence}
 use Rattle.pef_io.specs.declared.fail.Slot.{Slot}
 use Rattle.pef_io.specs.declared.fail.Slot.TheVariants.{Docs, Freqs, Sizes}
 use Rattle.pef_io.specs.Calls.{one_more}
-use Rattle.pef_io.specs.DepotState.{DepotState, SameStarts, StartedOnce, NoneStartedTwice, OnlyReads, bytes_under}
+use Rattle.pef_io.specs.DepotState.{DepotState, StartedOnce, NoneStartedTwice, OnlyReads, bytes_under}
 use Rattle.collection_reader.specs.declared.fault.Fault.{Fault}
 use Rattle.collection_reader.specs.declared.fault.CollError.{CollError}
 use Rattle.collection_reader.specs.declared.fault.CollError.TheVariants.{Broken, NoMemory}

@@ -11,5 +11,7 @@ pub mod Files
 pub mod DepotCalls
 pub mod SteadyDepot
 pub mod MemDepot
+pub mod Replaced
+pub mod Created
 pub mod Standard
 pub mod InMemory

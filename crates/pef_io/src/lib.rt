@@ -5,12 +5,17 @@ mod calls;
 mod fail;
 mod failing;
 mod failing_depot;
+#[cfg(test)]
+mod file_tests;
 mod files;
 mod helpers;
 mod load;
+mod names;
 mod opened;
 mod per_slot;
+mod replaced;
 mod standard;
+mod started;
 mod steady;
 mod steady_depot;
 #[cfg(test)]

@@ -7,11 +7,15 @@ ghost use Rattle.pef_io.specs.Standard.{IsUntouched};
 ghost use Rattle.pef_io.specs.PerSlot.{at_slot};
 
 use crate::fail::{IoFail, Slot};
+use crate::names::found_at;
 use crate::per_slot::PerSlot;
+use crate::replaced::{Replacement, size_limit};
+use crate::started::{FileId, Started};
 use crate::traits::{Depot, Sink, Source};
-use std::fs;
-use std::io::{Read, Write};
+use std::fs::OpenFile;
+use std::io::{ErrorKind, Read, Write};
 use std::rt::Files;
+use std::{fs, io};
 
 /// A reader of the system, as standard input. Any error of a read is a fault, also an interruption.
 #[derive(Drop)]
@@ -75,7 +79,7 @@ impl<W: Write> Sink for StdSink<W> {
 }
 
 /// Writes and flushes the front of a piece, at least one byte of one that has any.
-fn write_some<W: Write>(writer: &mut W, piece: &[u8]) -> Option<usize>
+pub(crate) fn write_some<W: Write>(writer: &mut W, piece: &[u8]) -> Option<usize>
     ensures within { IfSome result (λ n. n ≤ length piece.now) }
     ensures not_nothing { 0 < length piece.now → IfSome result (λ n. 0 < n) }
     ensures taken { IfSome result (λ n. Appends (W.contents writer.old) (W.contents writer.new) (take n piece.now)) }
@@ -88,22 +92,80 @@ fn write_some<W: Write>(writer: &mut W, piece: &[u8]) -> Option<usize>
     Some(n)
 }
 
-/// The files of the system. A name that has no file is a fault of `start`.
+/// What is created and not finished.
 #[derive(Drop)]
-pub struct StdDepot<R: Files> {
+enum Created<R: Files> {
+    /// A device, a pipe or the like, which is written where it is.
+    InPlace(R::File),
+    /// A file that takes the place of the one of its name when it is finished.
+    Beside(Replacement<R>),
+}
+
+impl<R: Files + AllocGlobal> Created<R> {
+    ghost use Rattle.pef_io.specs.Created.{file_of};
+
+    /// Creates what stands under the name, unless it leads to a file that was started.
+    fn begin(rt: &R, started: &Started, name: &str) -> io::Result<Created<R>> {
+        let found = found_at(rt, name)?;
+        match &found {
+            Some(found) if started.has(FileId::of(found)) => Err(ErrorKind::ResourceBusy.into()),
+            Some(found) if !found.is_file() => {
+                let file = fs::create(rt, name)?;
+                Ok(Created::InPlace(file.try_clone()?))
+            }
+            _ => Ok(Created::Beside(Replacement::begin(rt, name, found.as_ref(), size_limit())?)),
+        }
+    }
+
+    fn write(&mut self, piece: &[u8]) -> Option<usize>
+        ensures within { IfSome result (λ n. n ≤ length piece.now) }
+        ensures not_nothing { 0 < length piece.now → IfSome result (λ n. 0 < n) }
+        ensures taken { IfSome result (λ n. Appends (⟦<R::File as Write>⟧.contents (file_of self.old)) (⟦<R::File as Write>⟧.contents (file_of self.new)) (take n piece.now)) }
+    {
+        match self {
+            Created::InPlace(file) => write_some(file, piece),
+            Created::Beside(replacement) => replacement.write(piece),
+        }
+    }
+
+    fn finish(&self, rt: &R) -> io::Result<()> {
+        match self {
+            Created::InPlace(_) => Ok(()),
+            Created::Beside(replacement) => replacement.finish(rt),
+        }
+    }
+
+    fn discard(self, rt: &R) {
+        if let Created::Beside(replacement) = self {
+            replacement.discard(rt);
+        }
+    }
+}
+
+/// The files of the system. A name that has no file is a fault of `start`.
+///
+/// A file that is created replaces the one of its name whole when it is finished, and not before: until
+/// then it is written beside it, under a name of its own, and is removed again where the depot is dropped
+/// first. A symbolic link is followed, and stays. A device or a pipe is written where it is. A name that
+/// leads to a file that was started is a fault of `create`.
+pub struct StdDepot<R: Files + AllocGlobal> {
     rt: R,
     opened: PerSlot<Option<R::File>>,
-    created: Option<R::File>,
+    known: Started,
+    created: Option<Created<R>>,
     starts: PerSlot<u64>,
     faults: PerSlot<u64>,
     writing_faults: u64,
     create_faults: u64,
+    finish_faults: u64,
+    refusals: u64,
 }
 
-impl<R: Files> StdDepot<R> {
+impl<R: Files + AllocGlobal> StdDepot<R> {
     pub fn new(rt: R) -> StdDepot<R>
         ensures { IsUntouched (⟦<StdDepot<R> as Depot>⟧.state result) }
     {
+        let known = Started::new(rt.alloc());
         StdDepot {
             rt,
             opened: PerSlot {
@@ -114,26 +176,72 @@ impl<R: Files> StdDepot<R> {
                 side: None,
                 map: None,
             },
+            known,
             created: None,
             starts: PerSlot::all(0),
             faults: PerSlot::all(0),
             writing_faults: 0,
             create_faults: 0,
+            finish_faults: 0,
+            refusals: 0,
         }
     }
 }
 
-impl<R: Files> Depot for StdDepot<R> {
-    ghost state = { λ d. record { tells = false; file = λ _. None; left = λ _. []; name = []; started = λ slot. is_some (at_slot d.opened slot); created = is_some d.created; faults = λ slot. at_slot d.faults slot; writing_faults = d.writing_faults; create_faults = d.create_faults; finish_faults = 0; starts = λ slot. at_slot d.starts slot; refusals = 0 } };
+impl<R: Files + AllocGlobal + Drop> Drop for StdDepot<R> {
+    fn drop(self) {
+        let StdDepot {
+            rt,
+            opened: _,
+            known: _,
+            created,
+            starts: _,
+            faults: _,
+            writing_faults: _,
+            create_faults: _,
+            finish_faults: _,
+            refusals: _,
+        } = self;
+        discard(&rt, created);
+    }
+}
+
+/// Removes what is created and not finished.
+fn discard<R: Files + AllocGlobal>(rt: &R, created: Option<Created<R>>) {
+    if let Some(created) = created {
+        created.discard(rt);
+    }
+}
+
+/// Opens the file of this name, and notes which it is. Its descriptor is none of the three of the standard
+/// streams, one of which may have been closed when the program started.
+fn open_file<R: Files>(rt: &R, known: &mut Started, name: &str) -> io::Result<R::File> {
+    let file = fs::open(rt, name)?.try_clone()?;
+    known.add(FileId::of(&file.metadata()?))?;
+    Ok(file)
+}
+
+impl<R: Files + AllocGlobal> Depot for StdDepot<R> {
+    ghost use Rattle.pef_io.specs.Created.{file_of};
+
+    ghost state = { λ d. record { tells = false; file = λ _. None; left = λ _. []; name = []; started = λ slot. is_some (at_slot d.opened slot); created = is_some d.created; faults = λ slot. at_slot d.faults slot; writing_faults = d.writing_faults; create_faults = d.create_faults; finish_faults = d.finish_faults; starts = λ slot. at_slot d.starts slot; refusals = d.refusals } };
 
     fn start(&mut self, slot: Slot, name: &str) -> Result<(), IoFail> {
         self.starts.raise(slot);
-        if let Ok(file) = fs::open(&self.rt, name) {
-            *self.opened.get_mut(slot) = Some(file);
-            return Ok(());
+        match open_file(&self.rt, &mut self.known, name) {
+            Ok(file) => {
+                *self.opened.get_mut(slot) = Some(file);
+                Ok(())
+            }
+            Err(e) if e.kind() == ErrorKind::OutOfMemory => {
+                self.refusals = self.refusals.saturating_add(1);
+                Err(IoFail::NoMemory)
+            }
+            Err(_) => {
+                self.faults.raise(slot);
+                Err(IoFail::Failed)
+            }
         }
-        self.faults.raise(slot);
-        Err(IoFail::Failed)
     }
 
     fn read(&mut self, slot: Slot, buf: &mut [u8]) -> Result<usize, IoFail>
@@ -152,24 +260,33 @@ impl<R: Files> Depot for StdDepot<R> {
     }
 
     fn create(&mut self, name: &str) -> Result<(), IoFail> {
-        if let Ok(file) = fs::create(&self.rt, name) {
-            self.created = Some(file);
-            return Ok(());
+        match Created::begin(&self.rt, &self.known, name) {
+            Ok(created) => {
+                let before = self.created.replace(created);
+                discard(&self.rt, before);
+                Ok(())
+            }
+            Err(e) if e.kind() == ErrorKind::OutOfMemory => {
+                self.refusals = self.refusals.saturating_add(1);
+                Err(IoFail::NoMemory)
+            }
+            Err(_) => {
+                self.writing_faults = self.writing_faults.saturating_add(1);
+                self.create_faults = self.create_faults.saturating_add(1);
+                Err(IoFail::Failed)
+            }
         }
-        self.writing_faults = self.writing_faults.saturating_add(1);
-        self.create_faults = self.create_faults.saturating_add(1);
-        Err(IoFail::Failed)
     }
 
     fn write(&mut self, piece: &[u8]) -> Result<usize, IoFail>
         requires { IsTrue (⟦<StdDepot<R> as Depot>⟧.state self.old).created }
         ensures writes { WritesFile (⟦<StdDepot<R> as Depot>⟧.state self.old) (⟦<StdDepot<R> as Depot>⟧.state self.new) piece.now result }
-        ensures taken { IfOk result (λ n. Appends (option_and_then ⟦<R::File as Write>⟧.contents self.old.created) (option_and_then ⟦<R::File as Write>⟧.contents self.new.created) (take n piece.now)) }
+        ensures taken { IfOk result (λ n. Appends (option_and_then (λ c. ⟦<R::File as Write>⟧.contents (file_of c)) self.old.created) (option_and_then (λ c. ⟦<R::File as Write>⟧.contents (file_of c)) self.new.created) (take n piece.now)) }
     {
-        let Some(file) = &mut self.created else {
+        let Some(created) = &mut self.created else {
             unreachable!()
         };
-        if let Some(n) = write_some(file, piece) {
+        if let Some(n) = created.write(piece) {
             return Ok(n);
         }
         self.writing_faults = self.writing_faults.saturating_add(1);
@@ -177,7 +294,15 @@ impl<R: Files> Depot for StdDepot<R> {
     }
 
     fn finish(&mut self) -> Result<(), IoFail> {
-        self.created = None;
-        Ok(())
+        let Some(created) = &self.created else {
+            unreachable!()
+        };
+        if created.finish(&self.rt).is_ok() {
+            self.created = None;
+            return Ok(());
+        }
+        self.writing_faults = self.writing_faults.saturating_add(1);
+        self.finish_faults = self.finish_faults.saturating_add(1);
+        Err(IoFail::Failed)
     }
 }

@@ -67,7 +67,7 @@ fn read_twice<D: Depot>(depot: &mut D, name: &str, buf: &mut [u8; 8]) -> Result<
 }
 
 /// Writes a file of this name.
-fn put<D: Depot>(depot: &mut D, name: &str, text: &[u8]) -> Result<(), IoFail> {
+pub(crate) fn put<D: Depot>(depot: &mut D, name: &str, text: &[u8]) -> Result<(), IoFail> {
     depot.create(name)?;
     depot_write_all(depot, text)?;
     depot.finish()
