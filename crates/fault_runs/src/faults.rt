@@ -22,6 +22,8 @@ fn name_of(alloc: Global, fault: Fault) -> Option<String> {
         Slot::Freqs => "freqs",
         Slot::Sizes => "sizes",
         Slot::Index => "index",
+        Slot::Side => "side",
+        Slot::Map => "map",
     };
     format!(in alloc; "{rule:?} {file} term {term} place {place}").ok()
 }

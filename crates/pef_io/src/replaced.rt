@@ -1,4 +1,4 @@
-ghost use Rattle.std.specs.Prelude.{◌≡◌, ◌+◌, ◌≤◌, ◌<◌, Some, IfSome, IfNone, IfOk, length, take};
+ghost use Rattle.std.specs.Prelude.{◌≡◌, ◌≤◌, ◌<◌, Some, IfSome, IfNone, IfOk, length, take};
 ghost use Rattle.std.specs.Io.KnownBytes.{Appends};
 ghost use Rattle.std.specs.Path.{path_buf_bytes, path_file_name, path_with_file_name};
 ghost use Rattle.pef_io.specs.Replaced.{temporary_name, IsTemporaryOf};
@@ -29,20 +29,12 @@ pub(crate) struct Replacement<R: Files> {
     file: R::File,
     temporary: PathBuf,
     target: PathBuf,
-    room: u64,
 }
 
 impl<R: Files + AllocGlobal> Replacement<R> {
-    /// Opens a new file, of at most `room` bytes, beside the one to which the name leads, of which
-    /// `found` is known.
-    pub(crate) fn begin(
-        rt: &R,
-        name: &str,
-        found: Option<&Metadata>,
-        room: u64,
-    ) -> io::Result<Replacement<R>>
+    /// Opens a new file beside the one to which the name leads, of which `found` is known.
+    pub(crate) fn begin(rt: &R, name: &str, found: Option<&Metadata>) -> io::Result<Replacement<R>>
         ensures beside { IfOk result (λ r. IsTemporaryOf (path_buf_bytes r.target) (path_buf_bytes r.temporary)) }
-        ensures empty { IfOk result (λ r. r.room ≡ room) }
     {
         let target = behind_links(rt, name)?;
         let mode = match found {
@@ -55,7 +47,6 @@ impl<R: Files + AllocGlobal> Replacement<R> {
                 file,
                 temporary,
                 target,
-                room,
             }),
             Err(e) => {
                 let _ = fs::remove_file(rt, temporary.as_path());
@@ -64,21 +55,13 @@ impl<R: Files + AllocGlobal> Replacement<R> {
         }
     }
 
-    /// Writes the front of a piece, at least one byte of one that has any, where there is room.
+    /// Writes the front of a piece, at least one byte of one that has any.
     pub(crate) fn write(&mut self, piece: &[u8]) -> Option<usize>
         ensures within { IfSome result (λ n. n ≤ length piece.now) }
         ensures not_nothing { 0 < length piece.now → IfSome result (λ n. 0 < n) }
-        ensures room { IfSome result (λ n. self.old.room ≡ n + self.new.room) }
         ensures taken { IfSome result (λ n. Appends (⟦<R::File as Write>⟧.contents self.old.file) (⟦<R::File as Write>⟧.contents self.new.file) (take n piece.now)) }
     {
-        let most = usize::try_from(self.room).unwrap_or(usize::MAX);
-        let front = &piece[..piece.len().min(most)];
-        if front.is_empty() && !piece.is_empty() {
-            return None;
-        }
-        let n = write_some(&mut self.file, front)?;
-        self.room -= n as u64;
-        Some(n)
+        write_some(&mut self.file, piece)
     }
 
     /// Makes what was written durable, and puts it in the place of the target.
@@ -163,19 +146,4 @@ fn temporary_of(alloc: Global, target: &PathBuf, number: u32) -> Result<Option<P
 /// Makes the names in the target's folder durable.
 fn sync_folder<R: Files>(rt: &R, target: &PathBuf) -> io::Result<()> {
     fs::open(rt, folder_of(target.as_path()))?.sync_all()
-}
-
-/// The number of the limit of file size among the limits of Linux.
-const RLIMIT_FSIZE: i32 = 1;
-
-/// How many bytes the system lets a file have: a write behind them would end the process by a signal.
-pub(crate) fn size_limit() -> u64 {
-    let mut limit = libc::types::rlimit {
-        rlim_cur: u64::MAX,
-        rlim_max: u64::MAX,
-    };
-    if libc::getrlimit(RLIMIT_FSIZE, &mut limit) < 0 {
-        return u64::MAX;
-    }
-    limit.rlim_cur
 }

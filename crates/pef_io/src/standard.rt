@@ -9,7 +9,7 @@ ghost use Rattle.pef_io.specs.PerSlot.{at_slot};
 use crate::fail::{IoFail, Slot};
 use crate::names::found_at;
 use crate::per_slot::PerSlot;
-use crate::replaced::{Replacement, size_limit};
+use crate::replaced::Replacement;
 use crate::started::{FileId, Started};
 use crate::traits::{Depot, Sink, Source};
 use std::fs::OpenFile;
@@ -113,7 +113,7 @@ impl<R: Files + AllocGlobal> Created<R> {
                 let file = fs::create(rt, name)?;
                 Ok(Created::InPlace(file.try_clone()?))
             }
-            _ => Ok(Created::Beside(Replacement::begin(rt, name, found.as_ref(), size_limit())?)),
+            _ => Ok(Created::Beside(Replacement::begin(rt, name, found.as_ref())?)),
         }
     }
 

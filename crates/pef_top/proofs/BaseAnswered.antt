@@ -7,7 +7,6 @@ use Rattle.part_cost.specs.Formats.{numbers_of}
 use Rattle.pef_io.specs.SourceState.{SourceState}
 use Rattle.pef_io.specs.SinkState.{SinkState}
 use Rattle.pef_io.specs.DepotState.{DepotState}
-use Rattle.pef_io.specs.declared.fail.Slot.TheVariants.{Index}
 use Rattle.index_file.specs.FileWords.{IsIndex, Spells}
 use Rattle.index_file.specs.IndexView.{IndexView}
 use Rattle.index_file.specs.Laws.{OneIndex}
@@ -25,7 +24,7 @@ use Rattle.pef_top.specs.AnsweredText.{AnswersInput, longest_text}
 use Rattle.pef_top.specs.Private.Leaves.{Leaves}
 use Rattle.pef_top.specs.Private.Stops.{outcome_of, stop_of_building}
 use Rattle.pef_top.proofs.Counted.{stays, all_end}
-use Rattle.pef_top.proofs.WordsBuilt.{unbuilt, unbuilt_ends, unbuilt_refuses, unbuilt_faults, unbuilt_complete, Cut, cut_of, unbroken, same_counts}
+use Rattle.pef_top.proofs.WordsBuilt.{unbuilt, unbuilt_ends, unbuilt_refuses, unbuilt_faults, unbuilt_starts, unbuilt_complete, Cut, cut_of, unbroken, same_counts, starts}
 use Rattle.pef_top.proofs.TextAnswered.{text_outcome, not_broken, not_file, not_writing, behind_building, answers_input, must_answer, input_ends, out_ends}
 
 -- the words were not built, and nothing was called on the input or out
@@ -43,6 +42,7 @@ not_answered base plan d d' i o e e' s s' error w = record {
     depot = w.reads;
   };
   faults = unbuilt_faults answer_format base old new error w refl refl;
+  starts = unbuilt_starts answer_format base old new error w;
   depot_tells = w.reads.tells;
   input_tells = refl;
   out_tells = refl;
@@ -91,6 +91,7 @@ is_answered one base plan d d' i i' o o' e e' s s' words w index spells r a = re
     input = input_ends index.collection old new r a;
     out = out_ends index.collection old new r a;
   });
+  starts = starts answer_format base d d' s s' words w (text_outcome r);
   depot_tells = w.reads.tells;
   input_tells = a.input_tells;
   out_tells = a.out_tells;

@@ -3,7 +3,7 @@ use Rattle.std.proofs.Common.{◌≡◌, ℕ, ◌≤◌, ◌<◌, arith, ap, Lis
 use Rattle.std.specs.Prelude.{◌≢◌, ◌⊎◌, false, IsTrue, Option, Some, None}
 use Rattle.std.proofs.lemmas.List.{length-append}
 use Rattle.pef_io.specs.declared.fail.Slot.{Slot}
-use Rattle.pef_io.specs.declared.fail.Slot.TheVariants.{Docs, Freqs, Sizes, Index}
+use Rattle.pef_io.specs.declared.fail.Slot.TheVariants.{Docs, Freqs, Sizes, Index, Side, Map}
 use Rattle.pef_io.specs.Calls.{Rose}
 use Rattle.pef_top.specs.Outside.{Outside, Count, OfFile, OfWriting, OfInput, OfOut, failed}
 use Rattle.pef_top.specs.Outcome.{Outcome, Done, Usage, BrokenCollection, BrokenIndex, FileFault, InputFault, WriteFault, OutFault, NoMemory, TooLarge, InputTooLarge, fault_of}
@@ -80,6 +80,8 @@ by_slot P index others Docs = others Docs (λ h. cc)
 by_slot P index others Freqs = others Freqs (λ h. cc)
 by_slot P index others Sizes = others Sizes (λ h. cc)
 by_slot P index others Index = index
+by_slot P index others Side = others Side (λ h. cc)
+by_slot P index others Map = others Map (λ h. cc)
 
 pub not_both_lengths : (a b : ℕ) → a ≤ b → b < a → ⊥
 not_both_lengths a b le lt = omega (arith, le, lt)

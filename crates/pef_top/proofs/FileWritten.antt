@@ -1,5 +1,5 @@
 -- What `build` leaves.
-use Rattle.std.proofs.Common.{◌≡◌, ℕ, ◌<◌, ◌^◌, refl, sym, ◌∙◌, subst, List, inl, inr}
+use Rattle.std.proofs.Common.{◌≡◌, ℕ, ◌<◌, ◌^◌, refl, sym, ◌∙◌, ap, subst, List, inl, inr}
 use Rattle.std.specs.Prelude.{Result, Ok, Err, Some, Vec}
 use Rattle.std.specs.List.{All}
 use Rattle.std.specs.declared.alloc.Global.{Global}
@@ -25,7 +25,8 @@ use Rattle.pef_top.specs.ReadingCollection.{ReadsCollectionThen}
 use Rattle.pef_top.specs.WrittenIndex.{WritesIndex}
 use Rattle.pef_top.specs.Private.Leaves.{Leaves}
 use Rattle.pef_top.specs.Private.Stops.{outcome_of, stop_of_building}
-use Rattle.pef_top.proofs.WordsBuilt.{unbuilt, not_done, unbuilt_ends, unbuilt_refuses, unbuilt_faults, unbuilt_complete, cut_of, unbroken, same_counts}
+use Rattle.pef_top.proofs.Started.{written_starts}
+use Rattle.pef_top.proofs.WordsBuilt.{unbuilt, not_done, unbuilt_ends, unbuilt_refuses, unbuilt_faults, unbuilt_starts, unbuilt_complete, cut_of, unbroken, same_counts, starts}
 use Rattle.pef_top.proofs.WordsWritten.{written_outcome, not_broken, left}
 
 -- the words were not built
@@ -41,6 +42,7 @@ not_built format base index d d' i o e e' s s' error w = record {
     depot = record { refused = λ h. w.reads; unaccepted = λ h. w.reads; stay_started = w.reads.stay_started; other_slots = w.reads.other_slots; create_count = inr w.reads.create_count; finish_count = inr w.reads.finish_count };
   };
   faults = unbuilt_faults format base old new error w refl refl;
+  starts = unbuilt_starts format base old new error w;
   depot_tells = w.reads.tells;
   input_tells = refl;
   out_tells = refl;
@@ -87,6 +89,7 @@ module _ (format : Format) (base index : List ℕ) (d d1 d2 : DepotState) (i : S
           depot = all.depot;
         };
         faults = all.faults;
+        starts = written_starts IsCollectionSlot words index d d1 d2 r (written_outcome r) (starts format base d d1 s s' words w (written_outcome r)) v (ap written_outcome);
         depot_tells = v.writes.tells ∙ w.reads.tells;
         input_tells = refl;
         out_tells = refl;

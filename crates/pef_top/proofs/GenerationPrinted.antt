@@ -8,7 +8,6 @@ use Rattle.part_cost.specs.Formats.{numbers_of}
 use Rattle.pef_io.specs.SourceState.{SourceState}
 use Rattle.pef_io.specs.SinkState.{SinkState}
 use Rattle.pef_io.specs.DepotState.{DepotState}
-use Rattle.pef_io.specs.declared.fail.Slot.TheVariants.{Index}
 use Rattle.index_file.specs.FileWords.{ListParts, IsIndex, Spells, file_words}
 use Rattle.index_file.specs.Builder.{most_words}
 use Rattle.index_file.specs.IndexView.{IndexView, word_count}
@@ -31,6 +30,7 @@ use Rattle.pef_top.specs.Generate.{IsGeneration, generate_format}
 use Rattle.pef_top.specs.Private.Leaves.{Leaves}
 use Rattle.pef_top.specs.Private.Stops.{outcome_of, stop_of_making}
 use Rattle.pef_top.proofs.Counted.{stays, or_larger, all_end}
+use Rattle.pef_top.proofs.Started.{uncalled}
 use Rattle.pef_top.proofs.WordsMade.{unmade_words, unmade_faults}
 use Rattle.pef_top.proofs.TextPrinted.{Printed, print_outcome, not_file, not_writing, not_input, prints, complete, out_ends}
 
@@ -54,6 +54,7 @@ module _ (seed n t : ℕ) (d : DepotState) (i : SourceState) (s s' : ℕ) where
       record {
         performs = record { ends = (refl, (c, w.parts, w.cut, subst (λ m. most_words < m) w.count w.too_many)); complete = λ none. inr (inl refl) };
         faults = unmade_faults (making.TooLarge k) (old o e) (new o e') (λ slot. refl) refl refl refl;
+        starts = uncalled (λ slot. ⊥) _ d (inr (λ slot is. is));
         depot_tells = refl;
         input_tells = refl;
         out_tells = refl;
@@ -61,6 +62,7 @@ module _ (seed n t : ℕ) (d : DepotState) (i : SourceState) (s s' : ℕ) where
   not_generated o e e' making.NoMemory too_large = record {
     performs = record { ends = inl refl; complete = λ none. inr (inr refl) };
     faults = unmade_faults making.NoMemory (old o e) (new o e') (λ slot. refl) refl refl refl;
+    starts = uncalled (λ slot. ⊥) _ d (inr (λ slot is. is));
     depot_tells = refl;
     input_tells = refl;
     out_tells = refl;
@@ -102,6 +104,7 @@ module _ (seed n t : ℕ) (d : DepotState) (i : SourceState) (s s' : ℕ) where
         input = stays OfInput (print_outcome r) _ _ (not_input r) refl;
         out = out_ends text (old o e) (new o' e') r p;
       });
+      starts = uncalled (λ slot. ⊥) _ d (inr (λ slot is. is));
       depot_tells = refl;
       input_tells = refl;
       out_tells = p.tells;
@@ -117,6 +120,7 @@ module _ (seed n t : ℕ) (d : DepotState) (i : SourceState) (s s' : ℕ) where
         input = stays OfInput NoMemory _ _ (λ h. cc) refl;
         out = stays OfOut NoMemory _ _ (λ h. cc) (ap (λ o. o.faults) same);
       });
+      starts = uncalled (λ slot. ⊥) _ d (inr (λ slot is. is));
       depot_tells = refl;
       input_tells = refl;
       out_tells = ap (λ o. o.tells) same;

@@ -1,16 +1,13 @@
 -- What `query` leaves.
 use Rattle.std.proofs.Common.{◌≡◌, ℕ, ◌<◌, ◌^◌, arith, refl, sym, subst, List, length, inl}
-use Rattle.std.specs.Prelude.{Result, Ok, Err, Some, Vec}
+use Rattle.std.specs.Prelude.{Result, Ok, Some, Vec}
 use Rattle.std.specs.declared.alloc.Global.{Global}
 use Rattle.collection_model.specs.Collection.{Collection}
 use Rattle.part_cost.specs.Formats.{numbers_of}
 use Rattle.pef_io.specs.SourceState.{SourceState}
 use Rattle.pef_io.specs.SinkState.{SinkState}
 use Rattle.pef_io.specs.DepotState.{DepotState}
-use Rattle.pef_io.specs.declared.fail.Slot.TheVariants.{Index}
-use Rattle.index_file.specs.declared.fault.OpenFault.{OpenFault}
-use Rattle.index_file.specs.FileWords.{IsIndex, Spells}
-use Rattle.index_file.specs.FirstBroken.{IsFirstBroken}
+use Rattle.index_file.specs.FileWords.{Spells}
 use Rattle.index_file.specs.IndexView.{IndexView}
 use Rattle.index_file.specs.Laws.{WordsAreRead, OneBrokenCheck}
 use Rattle.command_steps.specs.declared.loading.LoadIndexError.{LoadIndexError}
@@ -18,18 +15,17 @@ use Rattle.command_steps.specs.declared.text.RunFault.{RunFault}
 use Rattle.command_steps.specs.AnswerText.{AnswersText}
 use Rattle.command_steps.specs.LoadIndex.{LoadsWords, words_loaded}
 use Rattle.pef_top.specs.declared.stop.Stop.{Stop}
-use Rattle.pef_top.specs.declared.stop.Stop.TheVariants as stop
 use Rattle.command_line.specs.declared.plan.Plan.{Plan}
 use Rattle.command_line.specs.Command.{Query}
-use Rattle.pef_top.specs.Outside.{Outside, outside, OfFile, OfWriting, OfInput, OfOut}
-use Rattle.pef_top.specs.Outcome.{Outcome, Done, BrokenIndex, InputTooLarge}
+use Rattle.pef_top.specs.Outside.{Outside, outside, OfFile, OfWriting}
+use Rattle.pef_top.specs.Outcome.{Outcome, Done, InputTooLarge}
 use Rattle.pef_top.specs.FoundIndex.{FindsIndexOf}
 use Rattle.pef_top.specs.AnsweredText.{AnswersInput, longest_text}
 use Rattle.pef_top.specs.Private.Leaves.{Leaves}
-use Rattle.pef_top.specs.Private.Stops.{outcome_of, stop_of_loading}
+use Rattle.pef_top.specs.Private.Stops.{outcome_of}
 use Rattle.pef_top.proofs.Counted.{stays, or_larger, all_end}
 use Rattle.pef_top.proofs.TextAnswered.{text_outcome, not_no_index, not_too_large, not_file, not_writing, behind_reading, answers_input, must_answer, input_ends, out_ends}
-use Rattle.pef_top.proofs.IndexLoaded.{loaded_counts, lent_loaded, refuses_none, found_index}
+use Rattle.pef_top.proofs.IndexLoaded.{starts, loaded_counts, lent_loaded, refuses_none, found_index}
 use Rattle.pef_top.proofs.IndexRefused.{IsRefused}
 
 -- its index was refused, and nothing was called on the input or out
@@ -47,6 +43,7 @@ query_stops name plan d d' i o e e' n outcome w = record {
     costs = refl;
   };
   faults = w.faults;
+  starts = w.starts;
   depot_tells = w.reads.tells;
   input_tells = refl;
   out_tells = refl;
@@ -71,6 +68,7 @@ module _ (words_read : WordsAreRead) (one : OneBrokenCheck) (name : List ℕ) (d
       input = input_ends index.collection before after r a;
       out = out_ends index.collection before after r a;
     });
+    starts = starts name d d' words w (text_outcome r);
     depot_tells = w.reads.tells;
     input_tells = a.input_tells;
     out_tells = a.out_tells;

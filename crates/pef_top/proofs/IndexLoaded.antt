@@ -16,7 +16,7 @@ use Rattle.index_file.specs.FirstBroken.{IsFirstBroken}
 use Rattle.index_file.specs.IndexView.{IndexView}
 use Rattle.index_file.specs.Builder.{most_words}
 use Rattle.index_file.specs.Laws.{WordsAreRead, OneBrokenCheck}
-use Rattle.command_model.specs.Found.{AreOfWords, most_bytes}
+use Rattle.command_model.specs.Found.{AreOfWords, IsIndexSlot, most_bytes}
 use Rattle.command_model.proofs.WordBytes.{word_bytes-length}
 use Rattle.command_steps.specs.declared.loading.LoadIndexError.{LoadIndexError}
 use Rattle.command_steps.specs.declared.loading.LoadIndexError.TheVariants as loading
@@ -27,6 +27,8 @@ use Rattle.pef_top.specs.Ends.{EndsByFault, OrNoMemory}
 use Rattle.pef_top.specs.FoundIndex.{FindsIndex, FindsIndexOf, IsFirstBrokenOfFile, HasBroken}
 use Rattle.pef_top.specs.ReadingIndex.{ReadsIndexThen, RefusesBrokenIndex}
 use Rattle.pef_top.specs.Private.Stops.{outcome_of_stop, stop_of_loading}
+use Rattle.pef_top.specs.Starts.{StartsOnly}
+use Rattle.pef_top.proofs.Started.{loaded_starts}
 use Rattle.pef_top.proofs.Counted.{stays, second, by_slot, not_both_lengths, Of}
 
 -- ---- bytes and words
@@ -191,7 +193,14 @@ module _ (name : List ℕ) (d d' : DepotState) (i : SourceState) (o e e' : SinkS
       })
       (λ slot other. stays (OfFile slot) (unloaded error) _ _ (λ h. other (is_index_slot error slot h)) (w.reads.other_counts slot other))
 
+  pub unloaded_starts : (error : LoadIndexError) → LoadsWords name d d' (Err error) → StartsOnly IsIndexSlot (unloaded error) d d'
+  unloaded_starts error w = loaded_starts name d d' (refused error) (unloaded error) w (λ is. ap unloaded (same_error error loading.NoMemory is))
+
 -- ---- words that are loaded
+
+pub starts : (name : List ℕ) (d d' : DepotState) (words : List ℕ) → LoadsWords name d d' (Ok words) → (outcome : Outcome) → StartsOnly IsIndexSlot outcome d d'
+starts name d d' words w outcome =
+    loaded_starts name d d' (Ok words) outcome w (λ is. let s : ◌≡◌ {A = Result (List ℕ) LoadIndexError} (Ok words) (Err loading.NoMemory) = is in cc)
 
 pub loaded_counts : (name : List ℕ) (d d' : DepotState) (words : List ℕ) → LoadsWords name d d' (Ok words) → (slot : Slot) → d'.faults slot ≡ d.faults slot
 loaded_counts name d d' words w =

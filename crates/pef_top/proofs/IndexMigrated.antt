@@ -1,6 +1,6 @@
 -- What `migrate` leaves.
 use Rattle.std.proofs.Common.{◌≡◌, ℕ, ◌≤◌, ◌<◌, ◌^◌, refl, sym, ◌∙◌, ap, subst, List, length, inl, inr}
-use Rattle.std.specs.Prelude.{◌≢◌, Result, Ok, Err, Some, Vec}
+use Rattle.std.specs.Prelude.{Result, Ok, Err, Some, Vec}
 use Rattle.std.specs.List.{All}
 use Rattle.std.specs.declared.alloc.Global.{Global}
 use Rattle.collection_model.specs.Collection.{Collection}
@@ -9,16 +9,13 @@ use Rattle.pef_io.specs.SourceState.{SourceState}
 use Rattle.pef_io.specs.SinkState.{SinkState}
 use Rattle.pef_io.specs.DepotState.{DepotState, OnlyReads}
 use Rattle.pef_io.specs.declared.fail.Slot.TheVariants.{Index}
-use Rattle.index_file.specs.declared.fault.OpenFault.{OpenFault}
-use Rattle.index_file.specs.FileWords.{IsIndex, ListParts, Spells}
-use Rattle.index_file.specs.FirstBroken.{IsFirstBroken}
+use Rattle.index_file.specs.FileWords.{ListParts, Spells}
 use Rattle.index_file.specs.Builder.{most_words}
 use Rattle.index_file.specs.IndexView.{IndexView}
 use Rattle.index_file.specs.Laws.{WordsAreRead, OneBrokenCheck}
 use Rattle.command_model.specs.Found.{IsIndexSlot}
 use Rattle.command_model.specs.Built.{AreCut}
 use Rattle.command_steps.specs.declared.loading.LoadIndexError.{LoadIndexError}
-use Rattle.command_steps.specs.declared.loading.LoadIndexError.TheVariants as loading
 use Rattle.command_steps.specs.declared.made.MakeError.{MakeError}
 use Rattle.command_steps.specs.declared.made.MakeError.TheVariants as making
 use Rattle.command_steps.specs.declared.writing.WriteIndexError.{WriteIndexError}
@@ -27,9 +24,8 @@ use Rattle.command_steps.specs.LoadIndex.{LoadsWords, words_loaded}
 use Rattle.command_steps.specs.MadeWords.{AreWordsOf, WouldBeTooMany}
 use Rattle.command_steps.specs.WriteIndex.{WritesWords}
 use Rattle.pef_top.specs.declared.stop.Stop.{Stop}
-use Rattle.pef_top.specs.declared.stop.Stop.TheVariants as stop
 use Rattle.command_line.specs.Command.{Migrate}
-use Rattle.pef_top.specs.Outside.{Outside, outside, OfFile, OfWriting, OfInput, OfOut}
+use Rattle.pef_top.specs.Outside.{Outside, outside}
 use Rattle.pef_top.specs.Outcome.{Outcome, Done, Usage, BrokenCollection, BrokenIndex, FileFault, InputFault, WriteFault, OutFault, NoMemory, TooLarge, InputTooLarge}
 use Rattle.pef_top.specs.FoundIndex.{FindsIndexOf}
 use Rattle.pef_top.specs.Built.{AreBuilt, BuildsWordsThen}
@@ -37,10 +33,11 @@ use Rattle.pef_top.specs.ReadingIndex.{ReadsIndexThen}
 use Rattle.pef_top.specs.WrittenIndex.{WritesIndex, WritesOnlyAccepted}
 use Rattle.pef_top.specs.Migrate.{ReadsOldThen, migrate_format}
 use Rattle.pef_top.specs.Private.Leaves.{Leaves}
-use Rattle.pef_top.specs.Private.Stops.{outcome_of, stop_of_loading, stop_of_making}
-use Rattle.pef_top.proofs.Counted.{stays, or_larger, all_end}
-use Rattle.pef_top.proofs.IndexLoaded.{loaded_counts, lent_loaded, refuses_none, found_index}
+use Rattle.pef_top.specs.Private.Stops.{outcome_of, stop_of_making}
+use Rattle.pef_top.proofs.Counted.{or_larger}
+use Rattle.pef_top.proofs.IndexLoaded.{starts, loaded_counts, lent_loaded, refuses_none, found_index}
 use Rattle.pef_top.proofs.IndexRefused.{IsRefused}
+use Rattle.pef_top.proofs.Started.{written_starts}
 use Rattle.pef_top.proofs.WordsMade.{unmade_words, unmade_faults}
 use Rattle.pef_top.proofs.WordsWritten.{written_outcome, not_no_index, not_too_large, left}
 
@@ -87,6 +84,7 @@ module _ (from to : List ℕ) (d d1 : DepotState) (i : SourceState) (o e e' : Si
       depot = only_read e' s outcome w.reads;
     };
     faults = w.faults;
+    starts = w.starts;
     depot_tells = w.reads.tells;
     input_tells = refl;
     out_tells = refl;
@@ -114,6 +112,7 @@ module _ (from to : List ℕ) (d d1 : DepotState) (i : SourceState) (o e e' : Si
               depot = only_read e' s' (TooLarge Index) w.reads;
             };
             faults = unmade_faults (making.TooLarge n) (outside d i o e s) (outside d1 i o e' s') (loaded_counts from d d1 words w) w.reads.writing_count refl refl;
+            starts = starts from d d1 words w (TooLarge Index);
             depot_tells = w.reads.tells;
             input_tells = refl;
             out_tells = refl;
@@ -127,6 +126,7 @@ module _ (from to : List ℕ) (d d1 : DepotState) (i : SourceState) (o e e' : Si
           depot = only_read e' s' NoMemory w.reads;
         };
         faults = unmade_faults making.NoMemory (outside d i o e s) (outside d1 i o e' s') (loaded_counts from d d1 words w) w.reads.writing_count refl refl;
+        starts = starts from d d1 words w NoMemory;
         depot_tells = w.reads.tells;
         input_tells = refl;
         out_tells = refl;
@@ -153,6 +153,7 @@ module _ (from to : List ℕ) (d d1 : DepotState) (i : SourceState) (o e e' : Si
               depot = all.depot;
             };
             faults = all.faults;
+            starts = written_starts IsIndexSlot made to d d1 d2 r (written_outcome r) (starts from d d1 words w (written_outcome r)) v (ap written_outcome);
             depot_tells = v.writes.tells ∙ w.reads.tells;
             input_tells = refl;
             out_tells = refl;

@@ -22,9 +22,10 @@ use Rattle.pef_top.specs.Outcome.{Outcome, Done, BrokenIndex, FileFault, NoMemor
 use Rattle.pef_top.specs.Ends.{FirstFaultEnds, OrNoMemory}
 use Rattle.pef_top.specs.FoundIndex.{FindsIndexOf}
 use Rattle.pef_top.specs.ReadingIndex.{ReadsIndexThen, RefusesBrokenIndex}
+use Rattle.pef_top.specs.Starts.{StartsOnly}
 use Rattle.pef_top.specs.Private.Stops.{outcome_of, stop_of_loading}
 use Rattle.pef_top.proofs.Counted.{stays, all_end}
-use Rattle.pef_top.proofs.IndexLoaded.{unloaded, unloaded_writing, unloaded_input, unloaded_out, ends_unloaded, refuses_unloaded, complete_unloaded, slots_unloaded, loaded_counts, lent_loaded, breaks, refuses_broken, index_words}
+use Rattle.pef_top.proofs.IndexLoaded.{unloaded, unloaded_writing, unloaded_input, unloaded_out, ends_unloaded, refuses_unloaded, complete_unloaded, slots_unloaded, unloaded_starts, starts, loaded_counts, lent_loaded, breaks, refuses_broken, index_words}
 
 -- What such a run leaves, whatever it would have done with the index.
 pub record IsRefused (name : List ℕ) (d d' : DepotState) (i : SourceState) (o e e' : SinkState) (n : ℕ) (outcome : Outcome) : Type 1 where
@@ -33,6 +34,7 @@ pub record IsRefused (name : List ℕ) (d d' : DepotState) (i : SourceState) (o 
   pub complete : (this : Outcome) → IsTrue d.tells → (c : Collection) → FindsIndexOf name d c → NoCallFailed (outside d i o e n) (outside d' i o e' n) → OrNoMemory this outcome
   pub not_done : outcome ≢ Done
   pub reads : OnlyReads IsIndexSlot d d'
+  pub starts : StartsOnly IsIndexSlot outcome d d'
   pub faults : FirstFaultEnds (outside d i o e n) (outside d' i o e' n) outcome
 
 never_done : (error : LoadIndexError) → unloaded error ≢ Done
@@ -53,6 +55,7 @@ module _ (name : List ℕ) (d d' : DepotState) (i : SourceState) (o e e' : SinkS
     complete = λ this t c found none. complete_unloaded name d d' i o e e' n this error w t c found none;
     not_done = never_done error;
     reads = w.reads;
+    starts = unloaded_starts name d d' i o e e' n error w;
     faults = all_end _ _ _ (record {
       slots = slots_unloaded name d d' i o e e' n error w;
       writing = stays OfWriting (unloaded error) _ _ (unloaded_writing error) w.reads.writing_count;
@@ -70,6 +73,7 @@ module _ (name : List ℕ) (d d' : DepotState) (i : SourceState) (o e e' : SinkS
     complete = λ this t c found none. absurd (denied (index_words read name d words c t (w.words t) found));
     not_done = λ h. let s : BrokenIndex fault ≡ Done = h in cc;
     reads = w.reads;
+    starts = starts name d d' words w (BrokenIndex fault);
     faults = all_end _ _ _ (record {
       slots = λ slot. stays (OfFile slot) (BrokenIndex fault) _ _ (λ h. cc) (loaded_counts name d d' words w slot);
       writing = stays OfWriting (BrokenIndex fault) _ _ (λ h. cc) w.reads.writing_count;

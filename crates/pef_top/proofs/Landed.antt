@@ -17,7 +17,7 @@ use Rattle.pef_top.specs.declared.status.Status.{Status}
 use Rattle.command_line.specs.Command.{Command}
 use Rattle.pef_top.specs.Ends.{Ends}
 use Rattle.pef_top.specs.Uncalled.{Objects, LeavesUncalled, IsSilent}
-use Rattle.pef_top.specs.Outside.{Outside, Told, IsUnanswered, OfFile, failed}
+use Rattle.pef_top.specs.Outside.{Outside, Told, IsUnanswered, OfFile}
 use Rattle.pef_top.specs.Outcome.{Outcome, Done, NoMemory, BrokenCollection, FileFault, is_refusal}
 use Rattle.command_model.specs.Found.{HasFault}
 use Rattle.pef_top.specs.Answer.{Answers, IsAnswerable, IsBuiltFrom, answer_format}

@@ -1,5 +1,6 @@
 mod ErrPieces
 mod Counted
+mod Started
 mod WordsBuilt
 mod WordsMade
 mod WordsWritten

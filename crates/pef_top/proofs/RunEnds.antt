@@ -1,10 +1,9 @@
 -- What a run leaves, from what its command left and what was reported.
-use Rattle.std.proofs.Common.{◌≡◌, refl, sym, ◌∙◌, ap, subst, ℕ}
+use Rattle.std.proofs.Common.{inr, ◌≡◌, refl, sym, ◌∙◌, ap, subst, ℕ}
 use Rattle.std.specs.Prelude.{◌≢◌, not, IsTrue, Result, Ok, Err, IsOk, Option, None}
 use Rattle.pef_io.specs.SourceState.{SourceState}
 use Rattle.pef_io.specs.SinkState.{SinkState}
 use Rattle.pef_io.specs.DepotState.{DepotState}
-use Rattle.pef_io.specs.declared.fail.Slot.TheVariants.{Index}
 use Rattle.pef_top.specs.declared.status.Status.{Status}
 use Rattle.pef_top.specs.declared.stop.Stop.{Stop}
 use Rattle.pef_top.specs.declared.stop.Stop.TheVariants as stop
@@ -16,6 +15,7 @@ use Rattle.pef_top.specs.Commands.{IsUsage, Performs}
 use Rattle.pef_top.specs.Uncalled.{LeavesUncalled, calls_depot, reads_input, prints, objects}
 use Rattle.pef_top.specs.Private.Leaves.{Leaves, Reports}
 use Rattle.pef_top.specs.Private.Stops.{outcome_of, outcome_of_stop}
+use Rattle.pef_top.proofs.Started.{uncalled}
 use Rattle.pef_top.proofs.Counted.{stays, all_end}
 
 -- words that are no command
@@ -28,6 +28,7 @@ no_command d i o e e' s = record {
     input = stays OfInput Usage _ _ (λ h. cc) refl;
     out = stays OfOut Usage _ _ (λ h. cc) refl;
   });
+  starts = uncalled (λ slot. ⊥) Usage d (inr (λ slot is. is));
   depot_tells = refl;
   input_tells = refl;
   out_tells = refl;

@@ -1,10 +1,9 @@
 -- What a run leaves that did not come to its command.
-use Rattle.std.proofs.Common.{◌≡◌, refl, ℕ}
+use Rattle.std.proofs.Common.{inl, ◌≡◌, refl, ℕ}
 use Rattle.std.specs.Prelude.{Option, Some, None}
 use Rattle.pef_io.specs.SourceState.{SourceState}
 use Rattle.pef_io.specs.SinkState.{SinkState}
 use Rattle.pef_io.specs.DepotState.{DepotState}
-use Rattle.pef_io.specs.declared.fail.Slot.TheVariants.{Index}
 use Rattle.command_line.specs.Command.{Command}
 use Rattle.pef_top.specs.Outside.{outside, OfFile, OfWriting, OfInput, OfOut}
 use Rattle.pef_top.specs.Outcome.{NoMemory}
@@ -12,6 +11,8 @@ use Rattle.pef_top.specs.Private.Leaves.{Leaves}
 use Rattle.command_line.specs.declared.error.WordsError.{WordsError}
 use Rattle.command_line.specs.WordsErrors.{error_of_words}
 use Rattle.pef_top.specs.Private.Stops.{outcome_of_stop, stop_of_words}
+use Rattle.pef_top.specs.Starts.{ReadsFrom}
+use Rattle.pef_top.proofs.Started.{uncalled}
 use Rattle.pef_top.proofs.Counted.{stays, all_end}
 use Rattle.pef_top.proofs.RunEnds.{no_command}
 use Rattle.pef_top.proofs.Without.{performs}
@@ -25,6 +26,7 @@ no_memory command d i o e e' s = record {
     input = stays OfInput NoMemory _ _ (λ h. cc) refl;
     out = stays OfOut NoMemory _ _ (λ h. cc) refl;
   });
+  starts = uncalled (ReadsFrom (Some command)) NoMemory d (inl refl);
   depot_tells = refl;
   input_tells = refl;
   out_tells = refl;

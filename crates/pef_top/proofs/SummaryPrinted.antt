@@ -6,10 +6,7 @@ use Rattle.part_cost.specs.Formats.{numbers_of}
 use Rattle.pef_io.specs.SourceState.{SourceState}
 use Rattle.pef_io.specs.SinkState.{SinkState}
 use Rattle.pef_io.specs.DepotState.{DepotState}
-use Rattle.pef_io.specs.declared.fail.Slot.TheVariants.{Index}
-use Rattle.index_file.specs.declared.fault.OpenFault.{OpenFault}
-use Rattle.index_file.specs.FileWords.{IsIndex, Spells}
-use Rattle.index_file.specs.FirstBroken.{IsFirstBroken}
+use Rattle.index_file.specs.FileWords.{Spells}
 use Rattle.index_file.specs.IndexView.{IndexView}
 use Rattle.index_file.specs.Laws.{WordsAreRead, OneBrokenCheck}
 use Rattle.command_model.specs.SummaryLine.{summary_line}
@@ -18,18 +15,17 @@ use Rattle.command_steps.specs.declared.printing.PrintError.TheVariants as print
 use Rattle.command_steps.specs.LoadIndex.{LoadsWords, words_loaded}
 use Rattle.command_steps.specs.PrintLine.{PrintsLine}
 use Rattle.pef_top.specs.declared.stop.Stop.{Stop}
-use Rattle.pef_top.specs.declared.stop.Stop.TheVariants as stop
 use Rattle.command_line.specs.Command.{Inspect}
-use Rattle.pef_top.specs.Outside.{Outside, outside, OfFile, OfWriting, OfInput, OfOut}
-use Rattle.pef_top.specs.Outcome.{Outcome, Done, BrokenIndex}
+use Rattle.pef_top.specs.Outside.{Outside, outside, OfFile, OfWriting, OfInput}
+use Rattle.pef_top.specs.Outcome.{Outcome, Done}
 use Rattle.pef_top.specs.ReadingIndex.{ReadsIndexThen}
 use Rattle.pef_top.specs.PrintedText.{PrintsText}
 use Rattle.pef_top.specs.Inspect.{IsInspection}
 use Rattle.pef_top.specs.Private.Leaves.{Leaves}
-use Rattle.pef_top.specs.Private.Stops.{outcome_of, stop_of_loading}
+use Rattle.pef_top.specs.Private.Stops.{outcome_of}
 use Rattle.pef_top.proofs.Counted.{stays, all_end}
 use Rattle.pef_top.proofs.TextPrinted.{Printed, print_outcome, not_no_index, not_too_large, not_file, not_writing, not_input, prints, complete, out_ends}
-use Rattle.pef_top.proofs.IndexLoaded.{loaded_counts, lent_loaded, refuses_none, found_parts}
+use Rattle.pef_top.proofs.IndexLoaded.{starts, loaded_counts, lent_loaded, refuses_none, found_parts}
 use Rattle.pef_top.proofs.IndexRefused.{IsRefused}
 
 -- what comes behind the reading of an index
@@ -50,6 +46,7 @@ inspect_stops name d d' i o e e' n outcome w = record {
     costs = refl;
   };
   faults = w.faults;
+  starts = w.starts;
   depot_tells = w.reads.tells;
   input_tells = refl;
   out_tells = refl;
@@ -73,6 +70,7 @@ module _ (words_read : WordsAreRead) (one : OneBrokenCheck) (name : List ℕ) (d
       input = stays OfInput (print_outcome r) _ _ (not_input r) refl;
       out = out_ends (summary_line index) before after r p;
     });
+    starts = starts name d d' words w (print_outcome r);
     depot_tells = w.reads.tells;
     input_tells = refl;
     out_tells = p.tells;

@@ -1,5 +1,5 @@
 -- A command ends as the table of outcomes says.
-use Rattle.std.proofs.Common.{◌≡◌, refl, inl, inr}
+use Rattle.std.proofs.Common.{refl, inl, inr}
 use Rattle.std.specs.Prelude.{Some}
 use Rattle.pef_io.specs.declared.fail.Slot.TheVariants.{Docs}
 use Rattle.collection_reader.specs.ReadCollection.{IsCollectionSlot}
@@ -10,7 +10,7 @@ use Rattle.pef_top.specs.Commands.{Performs}
 use Rattle.pef_top.specs.MayEnd.{MayEnd}
 
 docs : IsCollectionSlot Docs
-docs h = cc
+docs = inl refl
 
 pub may_end : (command : Command) (old new : Outside) (outcome : Outcome) → Performs (Some command) old new outcome → MayEnd command outcome
 may_end (Build base index format) old new Done h = tt

@@ -8,18 +8,21 @@ use Rattle.pef_io.specs.declared.fail.Slot.{Slot}
 use Rattle.pef_io.specs.declared.fail.Slot.TheVariants.{Index}
 use Rattle.pef_io.specs.DepotState.{DepotState}
 use Rattle.collection_reader.specs.declared.fault.Fault.{Fault}
+use Rattle.collection_reader.specs.ReadCollection.{IsCollectionSlot}
 use Rattle.index_file.specs.FileWords.{ListParts, file_words}
 use Rattle.index_file.specs.Builder.{most_words}
 use Rattle.command_model.specs.Found.{FindsCollection, HasFault}
 use Rattle.command_steps.specs.declared.build.BuildError.{BuildError}
 use Rattle.command_steps.specs.declared.build.BuildError.TheVariants as building
 use Rattle.command_steps.specs.BuildWords.{BuildsWords}
-use Rattle.pef_top.specs.Outside.{Outside, NoCallFailed, OfFile, OfWriting, OfInput, OfOut, failed}
+use Rattle.pef_top.specs.Outside.{Outside, NoCallFailed, OfFile, OfWriting, OfInput, OfOut}
 use Rattle.pef_top.specs.Outcome.{Outcome, Done, BrokenCollection, FileFault, NoMemory, TooLarge, fault_of}
 use Rattle.pef_top.specs.Ends.{EndsByFault, FirstFaultEnds, OrTooLarge}
 use Rattle.pef_top.specs.Built.{AreBuilt, BuildsWordsThen}
 use Rattle.pef_top.specs.ReadingCollection.{ReadsCollectionThen, RefusesBrokenCollection}
 use Rattle.pef_top.specs.Private.Stops.{outcome_of_stop, stop_of_building}
+use Rattle.pef_top.specs.Starts.{StartsOnly}
+use Rattle.pef_top.proofs.Started.{built_starts}
 use Rattle.pef_top.proofs.Counted.{stays, second, none_of, Of, all_end}
 
 -- how a run ends whose words are not built
@@ -99,6 +102,11 @@ module _ (format : Format) (base : List ℕ) (old new : Outside) (e : BuildError
     out = stays OfOut (unbuilt e) _ _ (not_out e) (ap (λ s. s.faults) out);
   })
 
+  pub unbuilt_starts : StartsOnly IsCollectionSlot (unbuilt e) old.depot new.depot
+  unbuilt_starts =
+      built_starts format base old.depot new.depot old.costs new.costs (refused e) (unbuilt e) w
+      (λ slot is. ap unbuilt (same_error e (building.Read slot) is)) (λ is. ap unbuilt (same_error e building.NoMemory is))
+
 -- what it ends as, where more would come
 pub unbuilt_ends : (format : Format) (base : List ℕ) (old new : Outside) (e : BuildError) (Then : Outcome → Type 0) → Then NoMemory
     → BuildsWords format base old.depot new.depot old.costs new.costs (Err e)
@@ -142,3 +150,7 @@ module _ (format : Format) (base : List ℕ) (d d' : DepotState) (s s' : ℕ) (w
   -- each count is as it was
   pub same_counts : (slot : Slot) → d'.faults slot ≡ d.faults slot
   same_counts slot = second (w.count_rises_only_there slot) (not_refused (building.Read slot))
+
+  -- each file was started once
+  pub starts : (outcome : Outcome) → StartsOnly IsCollectionSlot outcome d d'
+  starts outcome = built_starts format base d d' s s' (Ok words) outcome w (λ slot is. absurd (not_refused (building.Read slot) is)) (λ is. absurd (not_refused building.NoMemory is))

@@ -122,6 +122,10 @@ module _ (format : Format) (Is : Collection → Type 0) (touched : Slot → Type
         finish = λ rose t. h.finish (omega (arith, rose, reads.finish_count)) (told t);
       }
 
+  rose_from : Rose d1.refusals d2.refusals → Rose d.refusals d2.refusals
+  rose_from (inl lt) = inl (omega (arith, lt, reads.refusals_never_fall))
+  rose_from (inr last) = inr last
+
   on_built : (P : List ℕ → Type 0) → P (word_bytes words) → OnBuiltBytes format Is old new P
   on_built P p = let Q : List ℕ → Type 0 = λ ws. P (word_bytes ws) in (c, parts, built, subst Q are p)
 
@@ -132,7 +136,10 @@ module _ (format : Format) (Is : Collection → Type 0) (touched : Slot → Type
     on_built (λ bytes. IsLeftInPart index d d2 bytes × IsLeftByFault index d d2 bytes)
         (left_from (word_bytes words) v.refused v.begun, fault_from (word_bytes words) (v.failed refl)),
   )
-  writes (Err writing.NoMemory) v = inr (on_built (IsLeftInPart index d d2) (left_from (word_bytes words) v.refused v.begun))
+  writes (Err writing.NoMemory) v = elim (v.no_memory refl) [
+    | inl none ↦ inl (unwritten_from none)
+    | inr rose ↦ inr (rose_from rose, on_built (IsLeftInPart index d d2) (left_from (word_bytes words) v.refused v.begun))
+  ]
 
   builds_and_writes : (r : Result (Unit {0}) WriteIndexError) → WritesWords words index d1 d2 r
       → BuildsWordsThen format Is old new (WritesIndex format Is index old new) (written_outcome r)

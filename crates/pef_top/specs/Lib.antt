@@ -18,6 +18,7 @@ pub mod Generate
 pub mod Migrate
 pub mod Commands
 pub mod Uncalled
+pub mod Starts
 pub mod MayEnd
 pub mod Runs
 pub mod Laws

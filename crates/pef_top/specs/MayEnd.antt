@@ -1,22 +1,11 @@
 use Rattle.std.specs.Prelude.{◌≡◌, ⊤, Bool, true, false, IsTrue, Some}
-use Rattle.pef_io.specs.declared.fail.Slot.{Slot}
 use Rattle.pef_io.specs.declared.fail.Slot.TheVariants.{Docs, Index}
-use Rattle.collection_reader.specs.ReadCollection.{IsCollectionSlot}
-use Rattle.command_model.specs.Found.{IsIndexSlot}
-use Rattle.command_line.specs.Command.{Command, Build, Query, Answer, Inspect, Generate, Migrate}
+use Rattle.command_line.specs.Command.{Command, Build, Migrate}
 use Rattle.pef_top.specs.Outside.{Outside}
 use Rattle.pef_top.specs.Outcome.{Outcome, Done, Usage, BrokenCollection, BrokenIndex, FileFault, InputFault, WriteFault, OutFault, NoMemory, TooLarge, InputTooLarge}
 use Rattle.pef_top.specs.Commands.{Performs}
+use Rattle.pef_top.specs.Starts.{ReadsFrom}
 use Rattle.pef_top.specs.Uncalled.{reads_input, prints}
-
--- the slots from which a command reads
-abbrev pub ReadsFrom : Command → Slot → Type 0
-ReadsFrom (Build base index format) slot = IsCollectionSlot slot
-ReadsFrom (Query index plan) slot = IsIndexSlot slot
-ReadsFrom (Answer base plan) slot = IsCollectionSlot slot
-ReadsFrom (Inspect index) slot = IsIndexSlot slot
-ReadsFrom (Generate seed n t) slot = ⊥
-ReadsFrom (Migrate from to) slot = IsIndexSlot slot
 
 -- whether it writes an index
 abbrev pub writes_index : Command → Bool
@@ -28,9 +17,9 @@ writes_index command = false
 abbrev pub MayEnd : Command → Outcome → Type 0
 MayEnd command Done = ⊤
 MayEnd command Usage = ⊥
-MayEnd command (BrokenCollection fault) = ReadsFrom command Docs
-MayEnd command (BrokenIndex fault) = ReadsFrom command Index
-MayEnd command (FileFault slot) = ReadsFrom command slot
+MayEnd command (BrokenCollection fault) = ReadsFrom (Some command) Docs
+MayEnd command (BrokenIndex fault) = ReadsFrom (Some command) Index
+MayEnd command (FileFault slot) = ReadsFrom (Some command) slot
 MayEnd command InputFault = IsTrue (reads_input (Some command))
 MayEnd command (WriteFault slot) = (slot ≡ Index) × IsTrue (writes_index command)
 MayEnd command OutFault = IsTrue (prints (Some command))

@@ -5,6 +5,7 @@ use Rattle.part_cost.specs.declared.formats.Format.{Format}
 use Rattle.part_cost.specs.Formats.{numbers_of}
 use Rattle.pef_io.specs.declared.fail.Slot.{Slot}
 use Rattle.pef_io.specs.declared.fail.Slot.TheVariants.{Index}
+use Rattle.pef_io.specs.Calls.{Rose}
 use Rattle.pef_io.specs.DepotState.{DepotState, OnlyReads}
 use Rattle.index_file.specs.FileWords.{ListParts, file_words}
 use Rattle.command_model.specs.Written.{IsWritten, IsUnwritten, IsWrittenInPart, IsBeingWritten, IsLeftByFault}
@@ -21,13 +22,14 @@ OnBuiltBytes format Is old new P =
 abbrev pub IsLeftInPart : List ℕ → DepotState → DepotState → List ℕ → Type 0
 IsLeftInPart name old new bytes = IsUnwritten old new ⊎ (IsBeingWritten name old new × IsWrittenInPart name old new bytes)
 
--- A run writes the words of a collection of this property under the name, and ends so. Want of memory may come before they are built.
+-- A run writes the words of a collection of this property under the name, and ends so. Want of memory may come before they are built, and behind the create only of the depot.
 abbrev pub WritesIndex : Format → (Collection → Type 0) → List ℕ → Outside → Outside → Outcome → Type 0
 WritesIndex format Is name old new Done = OnBuiltBytes format Is old new (IsWritten name old.depot new.depot)
 WritesIndex format Is name old new (WriteFault slot) = (slot ≡ Index)
     × OnBuiltBytes format Is old new (λ bytes. IsLeftInPart name old.depot new.depot bytes × IsLeftByFault name old.depot new.depot bytes)
 WritesIndex format Is name old new NoMemory =
-    IsUnwritten old.depot new.depot ⊎ OnBuiltBytes format Is old new (IsLeftInPart name old.depot new.depot)
+    IsUnwritten old.depot new.depot
+    ⊎ (Rose old.depot.refusals new.depot.refusals × OnBuiltBytes format Is old new (IsLeftInPart name old.depot new.depot))
 WritesIndex format Is name old new outcome = ⊥
 
 -- Only these slots are started and read; files are changed, and names created, only where a collection is accepted and the run is not refused;

@@ -113,6 +113,8 @@ fn slot_name(slot: Slot) -> &'static [u8]
         Slot::Freqs => b"freqs",
         Slot::Sizes => b"sizes",
         Slot::Index => b"index",
+        Slot::Side => b"side",
+        Slot::Map => b"map",
     }
 }
 

@@ -17,6 +17,7 @@ returns g c =
         outcome,
         run_ends command _ _ outcome _ left c.report.ensures.ending,
         left.performs,
+        left.starts,
         c.perform-ending.ensures.uncalled,
         λ done. c.report.ensures.done (is_ok c.perform-ending.result done),
       );
