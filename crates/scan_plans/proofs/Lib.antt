@@ -12,3 +12,5 @@ mod Given
 mod Marks
 mod Found
 mod Skipping
+mod Candidates
+mod Shared

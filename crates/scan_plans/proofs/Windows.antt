@@ -2,7 +2,7 @@
 use Rattle.std.proofs.Common.{◌≡◌, refl, sym, ap, inl, inr, ◌∙◌, subst, ℕ, ◌+◌, ◌-◌, ◌*◌, ◌<◌, ◌≤◌, ◌≢◌, ◌||◌, Bool, List, [], ◌++◌, length, get_or, set, take, drop, map, arith}
 use Rattle.std.specs.List.{All, list_any, sum_by, zip}
 use Rattle.std.proofs.lemmas.Bool.{cases_lt}
-use Rattle.std.proofs.lemmas.List.{get_or_default, length-map, length-set, length-append, length-take-le, length-drop, get_or-map, get_or-set_same, get_or-set_other, get_or_append_left, get_or-append_right, get_or-take, get_or-drop}
+use Rattle.std.proofs.lemmas.List.{get_or_default, length-map, length-set, length-take-le, length-drop, get_or-map, get_or-set_same, get_or-set_other, get_or_append_left, get_or-append_right, get_or-take, get_or-drop}
 use Rattle.std.proofs.lemmas.List.Folds.{list_any_more}
 use borrow.Rule.Slice.PartMut.{put_mid, same_len_mid}
 use Rattle.collection_model.specs.Collection.{Posting}

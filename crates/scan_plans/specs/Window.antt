@@ -1,4 +1,4 @@
-use Rattle.std.specs.Prelude.{◌≡◌, ◌≢◌, ℕ, ◌+◌, ◌-◌, ◌*◌, ◌/◌, ◌%◌, ◌<◌, ◌≤◌, ◌↔◌, ◌==◌, Bool, true, List, length, slice_index}
+use Rattle.std.specs.Prelude.{◌≡◌, ◌≢◌, ℕ, ◌+◌, ◌-◌, ◌*◌, ◌/◌, ◌%◌, ◌<◌, ◌≤◌, ◌↔◌, ◌==◌, Bool, true, false, List, length, slice_index}
 use Rattle.std.specs.Int.{bit_at}
 use Rattle.std.specs.List.{All, list_any}
 use Rattle.collection_model.specs.Collection.{Posting}
@@ -29,3 +29,24 @@ AreInside first count docs = All (λ d. (first ≤ d) × (d < first + count)) do
 pub record AreGiven {V : Type 0} (add : V → V → V) (first : ℕ) (docs : List ℕ) (give : ℕ → V) (from to : ℕ) (old now : ℕ → V) : Type 0 where
   pub given : (i : ℕ) → from ≤ i → i < to → now (slice_index docs i - first) ≡ add (old (slice_index docs i - first)) (give i)
   pub others : (k : ℕ) → ((i : ℕ) → from ≤ i → i < to → slice_index docs i ≢ first + k) → now k ≡ old k
+
+-- the first place of a window that is marked and has at least so much of a score
+pub record IsFirstCandidate (least : ℕ) (scores marks : List ℕ) (place score : ℕ) : Type 0 where
+  pub within : place < length scores
+  pub marked : is_marked marks place ≡ true
+  pub scored : slice_index scores place ≡ score
+  pub enough : least ≤ score
+  pub others : (k : ℕ) → k < place → is_marked marks k ≡ true → slice_index scores k < least
+
+-- no marked place of a window has so much
+abbrev pub NoneIsCandidate : ℕ → List ℕ → List ℕ → Type 0
+NoneIsCandidate least scores marks = (k : ℕ) → k < length scores → is_marked marks k ≡ true → slice_index scores k < least
+
+-- The places of a window before one are taken back: none is marked, and each has the score 0. From there on all is as it was.
+pub record AreTakenBack (place : ℕ) (scores marks now_scores now_marks : List ℕ) : Type 0 where
+  pub count : length now_scores ≡ length scores
+  pub marks_count : length now_marks ≡ length marks
+  pub unmarked : (k : ℕ) → k < place → k < 64 * length marks → is_marked now_marks k ≡ false
+  pub clear : (k : ℕ) → k < place → k < length scores → slice_index now_scores k ≡ 0
+  pub marked : (k : ℕ) → place ≤ k → k < 64 * length marks → is_marked now_marks k ≡ is_marked marks k
+  pub scored : (k : ℕ) → place ≤ k → k < length scores → slice_index now_scores k ≡ slice_index scores k

@@ -1,4 +1,4 @@
-ghost use Rattle.std.specs.Prelude.{◌≡◌, ℕ, ◌+◌, ◌*◌, ◌^◌, ◌≤◌, ◌<◌, true, false, List, map, length, IfOk, OnOk};
+ghost use Rattle.std.specs.Prelude.{◌≡◌, ℕ, ◌+◌, ◌*◌, ◌^◌, ◌≤◌, ◌<◌, true, false, List, ◌∷◌, map, length, IfOk, OnOk};
 ghost use Rattle.std.specs.Int.{bit_at};
 ghost use Rattle.std.specs.List.{All};
 ghost use Rattle.std.specs.List.Sorted.{IsPermutation, IsNonDecreasingBy};
@@ -6,28 +6,48 @@ ghost use Rattle.collection_model.specs.Collection.{Posting};
 ghost use Rattle.scan_plans.specs.Matches.{AreBelow, in_all, in_any};
 ghost use Rattle.scan_plans.specs.Window.{AreMarked, IsMarkedWord, is_marked};
 
-use crate::scan::{least_doc, next_shared};
+use crate::scan::{catch_up, least_doc};
 use crate::window::{Block, MARKED_WORDS, mark_lists, new_marks};
-use cursor_api::DocCursor;
+use cursor_api::{DocCursor, next_geq_is_first};
 use no_memory::NoMemory;
 use std::alloc::Global;
 
-/// The documents that are in all the lists, rising; none where there is no list. It goes from the shortest list, whose documents
+/// The documents that are in all the lists, rising; none where there is no list. It goes along the shortest list, whose documents
 /// the others are asked for by `next_geq`, and leaves the cursors in the order of their lists' lengths.
 pub fn and_docs<C: DocCursor>(alloc: Global, cursors: &mut [C]) -> Result<Vec<u32>, NoMemory>
     requires few { length cursors.old ≤ 1024 }
     requires at_start { All (λ c. C.place c ≡ 0) cursors.old }
     ensures { (n : ℕ) → AreBelow n (map C.list cursors.old) → IfOk result (λ r. r.items ≡ in_all n (map C.list cursors.old)) }
 {
-    let mut docs = Vec::new(alloc);
-    if cursors.is_empty() {
-        return Ok(docs);
-    }
     shortest_first(cursors);
-    let mut from = 0;
-    while let Some(doc) = next_shared(cursors, from) {
-        docs.push(doc)?;
-        from = doc + 1;
+    match cursors.split_first_mut() {
+        Some((shortest, others)) => shared_docs(alloc, shortest, others),
+        None => Ok(Vec::new(alloc)),
+    }
+}
+
+// The documents that a list and all the others have, rising, from the starts of the lists on.
+fn shared_docs<C: DocCursor>(
+    alloc: Global,
+    shortest: &mut C,
+    others: &mut [C],
+) -> Result<Vec<u32>, NoMemory>
+    requires at_start { C.place shortest.old ≡ 0 }
+    requires others_at_start { All (λ c. C.place c ≡ 0) others.old }
+    ensures { (n : ℕ) → AreBelow n (C.list shortest.old ∷ map C.list others.old) → IfOk result (λ r. r.items ≡ in_all n (C.list shortest.old ∷ map C.list others.old)) }
+{
+    next_geq_is_first();
+    let mut docs = Vec::new(alloc);
+    while let Some(doc) = shortest.doc() {
+        let Some(next) = catch_up(others, doc) else {
+            return Ok(docs);
+        };
+        if next == doc {
+            docs.push(doc)?;
+            shortest.advance();
+        } else {
+            shortest.next_geq(next);
+        }
     }
     Ok(docs)
 }

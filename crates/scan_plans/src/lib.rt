@@ -14,6 +14,7 @@ pub use laws::top_list_is_one;
 pub use skips::{cursors_stand, cursors_tell, top_list_grows};
 pub use top::top_exhaustive;
 pub use top_k::TopK;
+pub use window::{Block, add_list, new_marks, new_scores, scored_words, take_candidate};
 
 #[cfg(test)]
 mod tests;

@@ -13,7 +13,7 @@ pub(crate) fn least_doc<C: DocCursor>(cursors: &[C]) -> Option<u32>
 
 // Moves the cursors to a document that no list has passed, until one stands after it: None where a list ends before it, else the
 // document at which the last of them stands.
-fn catch_up<C: DocCursor>(cursors: &mut [C], candidate: u32) -> Option<u32>
+pub(crate) fn catch_up<C: DocCursor>(cursors: &mut [C], candidate: u32) -> Option<u32>
     requires passed { All (λ c. HasPassed candidate (C.list c) (C.place c)) cursors.old }
     ensures lists { map C.list cursors.new ≡ map C.list cursors.old }
     ensures passed { All (λ c. HasPassed candidate (C.list c) (C.place c)) cursors.new }
@@ -30,23 +30,4 @@ fn catch_up<C: DocCursor>(cursors: &mut [C], candidate: u32) -> Option<u32>
         }
     }
     Some(candidate)
-}
-
-// The first document from `from` on that all the lists have, None where there is none. No list has passed `from`.
-pub(crate) fn next_shared<C: DocCursor>(cursors: &mut [C], from: u32) -> Option<u32>
-    requires passed { All (λ c. HasPassed from (C.list c) (C.place c)) cursors.old }
-    ensures lists { map C.list cursors.new ≡ map C.list cursors.old }
-    ensures passed { IfSome result (λ doc. All (λ c. HasPassed doc (C.list c) (C.place c)) cursors.new) }
-    ensures first { IfSome result (λ doc. (from ≤ doc) × ((d : ℕ) → from ≤ d → d < doc → in_each d (map C.list cursors.old) ≡ false)) }
-    ensures shared { IfSome result (λ doc. in_each doc (map C.list cursors.old) ≡ true) }
-    ensures ends { IfNone result ((d : ℕ) → from ≤ d → in_each d (map C.list cursors.old) ≡ false) }
-{
-    let mut candidate = from;
-    while let Some(doc) = catch_up(cursors, candidate) {
-        if doc == candidate {
-            return Some(doc);
-        }
-        candidate = doc;
-    }
-    None
 }

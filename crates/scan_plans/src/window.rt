@@ -1,10 +1,10 @@
-ghost use Rattle.std.specs.Prelude.{◌≡◌, ℕ, ◌+◌, ◌-◌, ◌*◌, ◌^◌, ◌≤◌, ◌<◌, ◌||◌, true, false, map, length, sum, slice_index, IfOk};
+ghost use Rattle.std.specs.Prelude.{◌≡◌, ℕ, ◌+◌, ◌-◌, ◌*◌, ◌^◌, ◌≤◌, ◌<◌, ◌||◌, true, false, map, length, sum, slice_index, IfOk, IfSome, IfNone};
 ghost use Rattle.std.specs.List.{All};
 ghost use Rattle.std.specs.List.Sorted.{IsStrictlyIncreasing};
 ghost use Rattle.collection_model.specs.Collection.{docs_of};
 ghost use Rattle.scan_plans.specs.Matches.{has_doc, freq_of_doc};
 ghost use Rattle.scan_plans.specs.Scan.{doc_at, StandsFrom};
-ghost use Rattle.scan_plans.specs.Window.{AreGiven, AreInside, AreScored, AreMarked, is_marked};
+ghost use Rattle.scan_plans.specs.Window.{AreGiven, AreInside, AreScored, AreMarked, IsFirstCandidate, NoneIsCandidate, AreTakenBack, is_marked};
 
 use cursor_api::DocCursor;
 use no_memory::NoMemory;
@@ -21,13 +21,14 @@ const BLOCK: usize = 128;
 
 /// Room for the postings that are read at once.
 #[derive(Drop)]
-pub(crate) struct Block {
+pub struct Block {
     docs: [u64; BLOCK],
     freqs: [u64; BLOCK],
 }
 
 impl Block {
-    pub(crate) fn new() -> Block {
+    /// Room for 128 postings.
+    pub fn new() -> Block {
         Block {
             docs: [0; BLOCK],
             freqs: [0; BLOCK],
@@ -36,7 +37,7 @@ impl Block {
 }
 
 /// How many words mark the documents of a window that is scored: as many as `n` documents need, and no more than 128.
-pub(crate) fn scored_words(n: u32) -> usize
+pub fn scored_words(n: u32) -> usize
     ensures some { 1 ≤ result }
     ensures small { result ≤ 128 }
 {
@@ -44,7 +45,7 @@ pub(crate) fn scored_words(n: u32) -> usize
 }
 
 /// Room for the scores of a window's documents, 64 for each word that marks them, all 0.
-pub(crate) fn new_scores(alloc: Global, words: usize) -> Result<Vec<u64>, NoMemory>
+pub fn new_scores(alloc: Global, words: usize) -> Result<Vec<u64>, NoMemory>
     requires small { words ≤ 128 }
     ensures count { IfOk result (λ scores. length scores.items ≡ 64 * words) }
     ensures clear { IfOk result (λ scores. All (λ s. s ≡ 0) scores.items) }
@@ -53,9 +54,10 @@ pub(crate) fn new_scores(alloc: Global, words: usize) -> Result<Vec<u64>, NoMemo
 }
 
 /// Room for the marks of a window's documents, a bit for each, none set.
-pub(crate) fn new_marks(alloc: Global, words: usize) -> Result<Vec<u64>, NoMemory>
+pub fn new_marks(alloc: Global, words: usize) -> Result<Vec<u64>, NoMemory>
     ensures count { IfOk result (λ marks. length marks.items ≡ words) }
     ensures clear { IfOk result (λ marks. All (λ w. w ≡ 0) marks.items) }
+    ensures none { IfOk result (λ marks. (k : ℕ) → k < 64 * words → is_marked marks.items k ≡ false) }
 {
     Ok(vec![in alloc; 0; words]?)
 }
@@ -84,7 +86,7 @@ fn add_postings(
     requires each { length docs.now ≤ length freqs.now }
     requires rising { IsStrictlyIncreasing docs.now }
     requires inside { AreInside first (length scores.old) docs.now }
-    requires same { length scores.old ≡ 64 * length marks.old }
+    requires wide { length scores.old ≤ 64 * length marks.old }
     requires room { (j : ℕ) → j < length docs.now → slice_index scores.old (slice_index docs.now j - first) + weight * slice_index freqs.now j < 2 ^ 64 }
     ensures count { length scores.new ≡ length scores.old }
     ensures marks_count { length marks.new ≡ length marks.old }
@@ -98,9 +100,9 @@ fn add_postings(
     }
 }
 
-// Adds what a list gives the documents of a window from `first` on, its weight times their frequencies, marks them, and moves its
-// cursor behind the window, block by block. It tells how many of the window's places it reached.
-fn add_list<C: DocCursor>(
+/// Adds what a list gives the documents of a window from `first` on, its weight times their frequencies, marks them, and moves its
+/// cursor behind the window, block by block. The window has as many documents as scores. It tells how many of its places it reached.
+pub fn add_list<C: DocCursor>(
     cursor: &mut C,
     weight: u32,
     first: u32,
@@ -109,7 +111,7 @@ fn add_list<C: DocCursor>(
     block: &mut Block,
 ) -> usize
     requires stand { StandsFrom first (C.list cursor.old) (C.place cursor.old) }
-    requires same { length scores.old ≡ 64 * length marks.old }
+    requires wide { length scores.old ≤ 64 * length marks.old }
     requires room { All (λ s. s + weight * 4294967295 < 2 ^ 64) scores.old }
     ensures list { C.list cursor.new ≡ C.list cursor.old }
     ensures stand { StandsFrom (first + length scores.old) (C.list cursor.new) (C.place cursor.new) }
@@ -119,7 +121,7 @@ fn add_list<C: DocCursor>(
     ensures marks { (k : ℕ) → k < length scores.old → is_marked marks.new k ≡ (is_marked marks.old k || has_doc (first + k) (C.list cursor.old)) }
     ensures bound { (k : ℕ) → k < length scores.old → slice_index scores.new k ≤ slice_index scores.old k + weight * 4294967295 }
     ensures within { result ≤ length scores.old }
-    ensures behind { (k : ℕ) → result ≤ k → k < length scores.old → is_marked marks.new k ≡ is_marked marks.old k }
+    ensures behind { (k : ℕ) → result ≤ k → is_marked marks.new k ≡ is_marked marks.old k }
 {
     let end = u64::from(first) + scores.len() as u64;
     let mut reached = 0;
@@ -170,6 +172,47 @@ pub(crate) fn add_lists<C: DocCursor>(
         reached = add_list(&mut cursors[i], weights[i], first, scores, marks, block).max(reached);
     }
     reached
+}
+
+/// Takes back the places of a window from `from` on, up to the first marked one whose score is at least `least`, and gives that place
+/// with its score; None where no other has so much, and then all are taken back. No place before `from` is marked, nor one from `reached` on.
+pub fn take_candidate(
+    from: usize,
+    reached: usize,
+    least: u64,
+    scores: &mut [u64],
+    marks: &mut [u64],
+) -> Option<(usize, u64)>
+    requires wide { length scores.old ≤ 64 * length marks.old }
+    requires within { reached ≤ length scores.old }
+    requires start { from ≤ length scores.old }
+    requires taken { (k : ℕ) → k < from → is_marked marks.old k ≡ false }
+    requires behind { (k : ℕ) → reached ≤ k → k < 64 * length marks.old → is_marked marks.old k ≡ false }
+    requires marked { (k : ℕ) → k < length scores.old → is_marked marks.old k ≡ false → slice_index scores.old k ≡ 0 }
+    ensures some { IfSome result (λ e. IsFirstCandidate least scores.old marks.old e.0 e.1) }
+    ensures taken { IfSome result (λ e. AreTakenBack (e.0 + 1) scores.old marks.old scores.new marks.new) }
+    ensures none { IfNone result (NoneIsCandidate least scores.old marks.old) }
+    ensures all_taken { IfNone result (AreTakenBack (length scores.old) scores.old marks.old scores.new marks.new) }
+{
+    let words = reached.div_ceil(64);
+    let mut i = from / 64;
+    while i < words {
+        let word = marks[i];
+        if word == 0 {
+            i += 1;
+        } else {
+            let one = word.trailing_zeros() as usize;
+            let at = 64 * i + one;
+            let score = scores[at];
+            // The lowest 1 is taken back.
+            marks[i] = word & !(1 << one);
+            scores[at] = 0;
+            if score >= least {
+                return Some((at, score));
+            }
+        }
+    }
+    None
 }
 
 // Marks some documents of a window from `first` on.

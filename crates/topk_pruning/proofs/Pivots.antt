@@ -18,7 +18,7 @@ use Rattle.topk_pruning.specs.Terms.{list_of, share, score_in, AreTerms, AreAllT
 use Rattle.topk_pruning.specs.Order.{terms_at, IsFalling, StandsAt, IsOrder, IsPivot, IsNext, PassesOver}
 use Rattle.topk_pruning.proofs.Moves.{later-passed}
 use Rattle.topk_pruning.proofs.Scores.{score-none, score-is}
-use Rattle.topk_pruning.proofs.Tops.{IsStep, next-step, last-step, essential-spared, follows-offered}
+use Rattle.topk_pruning.proofs.Tops.{IsStep, next-step, last-step, essential-spared, offered-top}
 use Rattle.topk_pruning.proofs.Orders.{all-of, all-again, are-again, spared-order, pivot-first, no-pivot, order-later}
 
 -- those that stand are some of the terms
@@ -114,7 +114,7 @@ module _ {X : Type 0} (list : X → List Posting) (place : X → ℕ) where
           | inl waits ↦ subst (λ (d : ℕ). IsTop d lists weights k new) (sym waits.0) (subst (λ (h : List (ℕ × ℕ)). IsTop doc lists weights k h) (sym waits.1) step.top)
           | inr (inl scored) ↦ (let first = subst (λ (ls : List (List Posting)). IsFirstK k ((doc, score_in ls doc (terms_at order)) ∷ held) new) same scored.1 in
               subst (λ (d : ℕ). IsTop d lists weights k new) (sym scored.0)
-              (follows-offered offered lists (all-of lists terms from order is) k doc (score_in lists doc (terms_at order)) held new (standing-score lists terms from doc order is after) first weights (all-again lists weights terms from order is all) step.has step.top))
+              (offered-top offered lists (all-of lists terms from order is) k doc (score_in lists doc (terms_at order)) held new (standing-score lists terms from doc order is after) first weights (all-again lists weights terms from order is all) step.has step.top))
           | inr (inr passed) ↦ (let passes = subst (λ (ls : List (List Posting)). PassesOver ls order n k doc held next) same passed.1 in
               subst (λ (h : List (ℕ × ℕ)). IsTop next lists weights k h) (sym passed.0)
               (passed-over skips lists weights terms n k from doc next order held is all after passes step.top))

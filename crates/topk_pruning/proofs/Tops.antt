@@ -1,5 +1,5 @@
 -- Lemmas on a top list that is made with skips.
-use Rattle.std.proofs.Common.{◌≡◌, sym, ap, inl, inr, ◌∙◌, subst, ◌⊎◌, ℕ, ◌+◌, ◌*◌, ◌<◌, ◌≤◌, ◌^◌, Bool, true, false, List, [], ◌∷◌, ◌++◌, map, take, drop, length, get_or, Option, Some, None, arith}
+use Rattle.std.proofs.Common.{◌≡◌, sym, ap, inl, inr, ◌∙◌, subst, ◌⊎◌, ℕ, ◌+◌, ◌*◌, ◌<◌, ◌≤◌, ◌^◌, Bool, true, List, [], ◌∷◌, ◌++◌, map, take, drop, length, get_or, Option, Some, None, arith}
 use Rattle.std.specs.Prelude.{◌||◌}
 use Rattle.std.specs.List.{All, list_any, range_with_len}
 use Rattle.std.specs.Option.{IfSome}
@@ -11,10 +11,10 @@ use Rattle.collection_model.specs.Collection.{Posting, greatest_freq}
 use Rattle.scan_plans.specs.Matches.{AreBelow, has_doc}
 use Rattle.scan_plans.specs.IsTop.{IsTop}
 use Rattle.scan_plans.specs.Ranking.{IsFirstK, IsLeastScore}
-use Rattle.scan_plans.specs.Skips.{CannotEnter, TopAfterOffer, TopAfterSkips, TopIsBelow, HasOnlyBelow}
+use Rattle.scan_plans.specs.Skips.{TopAfterOffer, TopAfterSkips, TopIsBelow, HasOnlyBelow}
 use Rattle.topk_pruning.specs.declared.term.Term.{Term}
-use Rattle.topk_pruning.specs.Terms.{term_of, list_of, score_in, in_lists, bounds, beats, AreTerms, AreAllTerms, IsFirstDoc, AreSpared, IsEssential, Follows}
-use Rattle.topk_pruning.proofs.Scores.{any-is, score-is, shares-within, not-beaten, beaten-cannot, spared-cannot}
+use Rattle.topk_pruning.specs.Terms.{term_of, list_of, score_in, in_lists, bounds, AreTerms, AreAllTerms, IsFirstDoc, AreSpared, IsEssential}
+use Rattle.topk_pruning.proofs.Scores.{any-is, score-is, shares-within, not-beaten, spared-cannot}
 
 -- ---- one more term
 same-term : (a b : Term) → a.list ≡ b.list → a.weight ≡ b.weight → a.bound ≡ b.bound → a ≡ b
@@ -27,17 +27,13 @@ terms-more lists weights i t terms new list weight bound so_far adds =
     adds ∙ ap (λ (ts : List Term). ts ++ t ∷ []) so_far ∙ ap (λ (t : Term). map (term_of lists weights) (range_with_len 0 i) ++ t ∷ []) same
     ∙ sym (map-range_with_len_more (term_of lists weights) 0 i i (omega arith))
 
--- ---- one document
-pub follows-offered : TopAfterOffer → (lists : List (List Posting)) (terms : List Term) (k doc s : ℕ) (held new : List (ℕ × ℕ)) → s ≡ score_in lists doc terms → IsFirstK k ((doc, s) ∷ held) new → Follows lists terms k doc held new
-follows-offered law lists terms k doc s held new is first = λ weights all has top.
+-- ---- one document that is offered
+pub offered-top : TopAfterOffer → (lists : List (List Posting)) (terms : List Term) (k doc s : ℕ) (held new : List (ℕ × ℕ)) → s ≡ score_in lists doc terms → IsFirstK k ((doc, s) ∷ held) new → (weights : List ℕ) → AreAllTerms lists weights terms → in_lists lists doc terms ≡ true → IsTop doc lists weights k held → IsTop (doc + 1) lists weights k new
+offered-top law lists terms k doc s held new is first weights all has top =
     law doc lists weights k held new top (any-is lists weights terms doc all ∙ has)
     (subst (λ (s : ℕ). IsFirstK k ((doc, s) ∷ held) new) (is ∙ sym (score-is lists weights terms doc all)) first)
 
-pub follows-skipped : TopAfterSkips → (lists : List (List Posting)) (terms : List Term) (k doc : ℕ) (o : Option ℕ) (held : List (ℕ × ℕ)) → IfSome o (λ s. length held ≡ k) → IfSome o (IsLeastScore held) → beats o (score_in lists doc terms) ≡ false → Follows lists terms k doc held held
-follows-skipped law lists terms k doc o held full least is = λ weights all has top.
-    law doc (doc + 1) lists weights k held (omega arith)
-    (λ d from lt. let same : doc ≡ d = omega arith in subst (CannotEnter lists weights k held) same (beaten-cannot lists weights terms k doc o held all full least is)) top
-
+-- ---- how many are essential
 pub essential-spared : (terms : List Term) (o : Option ℕ) (count k : ℕ) (held : List (ℕ × ℕ)) → IsEssential terms o count → IfSome o (λ s. length held ≡ k) → IfSome o (IsLeastScore held) → AreSpared k held terms count
 essential-spared terms o count k held are full least = record {
   within = are.within;
@@ -48,7 +44,7 @@ essential-spared terms o count k held are full least = record {
 }
 
 -- ---- one step
-any-of_take : {X : Type 0} (p : X → Bool) (i : ℕ) (xs : List X) → list_any p (take i xs) ≡ true → list_any p xs ≡ true
+pub any-of_take : {X : Type 0} (p : X → Bool) (i : ℕ) (xs : List X) → list_any p (take i xs) ≡ true → list_any p xs ≡ true
 any-of_take p i xs is = ap (list_any p) (sym (take-append-drop i xs)) ∙ list_any-append p (take i xs) (drop i xs) ∙ ap (λ (b : Bool). b || list_any p (drop i xs)) is
 
 -- the next candidate: documents before it are skipped
@@ -95,11 +91,6 @@ module _ {X : Type 0} (list : X → List Posting) where
 pub first-same : (now lists : List (List Posting)) (slice terms : List Term) (essential from : ℕ) (o : Option ℕ) → now ≡ lists → slice ≡ terms → IsFirstDoc now (take essential slice) from o → IsFirstDoc lists (take essential terms) from o
 first-same now lists slice terms essential from o same slices first =
     subst (λ (ls : List (List Posting)). IsFirstDoc ls (take essential terms) from o) same (subst (λ (ts : List Term). IsFirstDoc now (take essential ts) from o) slices first)
-
-pub follows-same : (now lists : List (List Posting)) (slice terms : List Term) (j k doc : ℕ) (held new : List (ℕ × ℕ)) → now ≡ lists → slice ≡ terms → j ≡ k → Follows now slice j doc held new → Follows lists terms k doc held new
-follows-same now lists slice terms j k doc held new same slices ks follows =
-    subst (λ (ls : List (List Posting)). Follows ls terms k doc held new) same
-    (subst (λ (ts : List Term). Follows now ts k doc held new) slices (subst (λ (k : ℕ). Follows now slice k doc held new) ks follows))
 
 pub spared-same : (slice terms : List Term) (j k essential : ℕ) (held : List (ℕ × ℕ)) → slice ≡ terms → j ≡ k → AreSpared j held slice essential → AreSpared k held terms essential
 spared-same slice terms j k essential held slices ks spared = subst (λ (ts : List Term). AreSpared k held ts essential) slices (subst (λ (k : ℕ). AreSpared k held slice essential) ks spared)

@@ -1,10 +1,12 @@
 -- The terms of a query, and what they add to scores.
-use Rattle.std.specs.Prelude.{◌≡◌, ℕ, ◌+◌, ◌*◌, ◌<◌, ◌≤◌, ◌^◌, ◌⊎◌, nat_lt, List, [], map, length, drop, Option, Some, None, Bool, true, false, slice_index, slice_index_or, IfSome}
+use Rattle.std.specs.Prelude.{◌≡◌, ℕ, ◌*◌, ◌<◌, ◌≤◌, ◌^◌, ◌⊎◌, ◌≢◌, nat_lt, List, [], ◌∷◌, map, length, drop, Option, Some, None, Bool, true, false, slice_index, slice_index_or, IfSome, AllPairs}
 use Rattle.std.specs.List.{All, sum_by, list_any, range_with_len}
 use Rattle.std.specs.List.Sorted.{IsPermutation}
 use Rattle.collection_model.specs.Collection.{Posting, greatest_freq}
 use Rattle.scan_plans.specs.Matches.{has_doc, freq_of_doc, score}
 use Rattle.scan_plans.specs.IsTop.{IsTop}
+use Rattle.scan_plans.specs.Ranking.{IsFirstK}
+use Rattle.scan_plans.specs.Scan.{HasPassed}
 use Rattle.topk_pruning.specs.declared.term.Term.{Term}
 
 -- the term of a list: its place among the lists, its weight, and the most that it adds to a score
@@ -67,6 +69,22 @@ pub record IsEssential (terms : List Term) (threshold : Option ℕ) (count : ℕ
   pub spared : (count ≡ length terms) ⊎ (beats threshold (bounds (drop count terms)) ≡ false)
   pub needed : (i : ℕ) → i < count → beats threshold (bounds (drop i terms)) ≡ true
 
--- what is held after a document is the top list up to it, where what was held is the top list of those before it
-abbrev pub Follows : List (List Posting) → List Term → ℕ → ℕ → List (ℕ × ℕ) → List (ℕ × ℕ) → Type 0
-Follows lists terms k doc held new = (weights : List ℕ) → AreAllTerms lists weights terms → in_lists lists doc terms ≡ true → IsTop doc lists weights k held → IsTop (doc + 1) lists weights k new
+-- terms of different lists
+abbrev pub AreApart : List Term → Type 0
+AreApart terms = AllPairs (λ a b. a.list ≢ b.list) terms
+
+-- the cursors of some terms have passed no document from one on
+pub record AreBefore {X : Type 0} (list : X → List Posting) (place : X → ℕ) (d : ℕ) (terms : List Term) (cursors : List X) : Type 0 where
+  pub passed : All (λ t. (c : X) → HasPassed d (list (slice_index_or cursors t.list c)) (place (slice_index_or cursors t.list c))) terms
+
+-- the cursors of lists that none of some terms has are as they were
+pub record AreKept {X : Type 0} (terms : List Term) (old new : List X) : Type 0 where
+  pub same : (i : ℕ) → All (λ t. t.list ≢ i) terms → (c : X) → slice_index_or new i c ≡ slice_index_or old i c
+
+-- a document is offered with its score, or k are held and none of them has a lower score
+abbrev pub Considers : ℕ → ℕ → ℕ → List (ℕ × ℕ) → List (ℕ × ℕ) → Type 0
+Considers k doc score held new = IsFirstK k ((doc, score) ∷ held) new ⊎ ((new ≡ held) × (length held ≡ k) × All (λ e. score ≤ e.1) held)
+
+-- what is held is the top list up to a document, where what was held is that of the documents before an earlier one
+abbrev pub FollowsTo : List (List Posting) → List Term → ℕ → ℕ → ℕ → List (ℕ × ℕ) → List (ℕ × ℕ) → Type 0
+FollowsTo lists terms k from to held new = (weights : List ℕ) → AreAllTerms lists weights terms → IsTop from lists weights k held → IsTop to lists weights k new

@@ -1,24 +1,33 @@
-ghost use Rattle.std.specs.Prelude.{◌≡◌, ◌≤◌, ◌<◌, ◌^◌, ◌++◌, true, false, map, length, sum, min, option_to_list, IfOk, IfSome, IfNone};
+ghost use Rattle.std.specs.Prelude.{◌≡◌, ◌+◌, ◌≤◌, ◌<◌, ◌^◌, ◌++◌, true, map, length, sum, min, option_to_list, IfOk};
 ghost use Rattle.std.specs.List.{All, reduce};
 ghost use Rattle.scan_plans.specs.Matches.{AreBelow};
 ghost use Rattle.scan_plans.specs.IsTop.{IsTop};
 ghost use Rattle.scan_plans.specs.Scan.{HasPassed};
-ghost use Rattle.topk_pruning.specs.Terms.{AreTerms, IsFirstDoc, AreSpared, IsEssential, Follows, beats, bounds, score_in};
+ghost use Rattle.topk_pruning.specs.Terms.{AreSpared, IsFirstDoc, IsEssential, bounds};
 
-use crate::probe::{doc_from, is_above, probe};
-use crate::term::{MOST_LISTS, Term, terms_by_bound, total_bound};
+use crate::candidates::score_window;
+use crate::probe::{doc_from, is_above};
+use crate::term::{Term, terms_by_bound, total_bound};
 use cursor_api::DocCursor;
 use no_memory::NoMemory;
-use scan_plans::{TopK, cursors_tell, top_exhaustive, top_list_grows};
+use scan_plans::{Block, TopK, cursors_tell, new_marks, new_scores, scored_words, top_list_grows};
 use std::alloc::Global;
+
+// How many documents the first window has. Each later one has four times as many, as far as there is room for their scores: a query whose
+// best documents come early ends early.
+const FIRST_WIDTH: usize = 8;
+
+// How many lists are asked for a candidate, at most. Those of the highest bounds beyond are essential, so that no posting costs more than
+// so many questions.
+const MOST_ASKED: usize = 8;
 
 /// The first k of the documents that are in any of the lists, by score falling and then document rising, each with its score, as
 /// `top_exhaustive` gives them. `n` is the number of documents. The weights are those of the cursors' lists, in the same order; a
 /// score stays below 2^58.
 ///
 /// It is MaxScore: while the lists of the lowest bounds together cannot beat the least score held, candidates come from the others alone,
-/// and a candidate is given up as soon as the bounds of the lists that are left cannot lift it above that score. A bound is the weight times the
-/// greatest frequency. Of more than 16 lists every document is scored.
+/// the essential ones, which are scored window by window of documents. The lists of low bounds are asked for a candidate only as long as
+/// the bounds of those that are left can lift its score above the least held. A bound is the weight times the greatest frequency.
 pub fn top_maxscore<C: DocCursor>(
     alloc: Global,
     cursors: &mut [C],
@@ -38,17 +47,32 @@ pub fn top_maxscore<C: DocCursor>(
     if k == 0 {
         return Ok(Vec::new(alloc));
     }
-    if cursors.len() > MOST_LISTS {
-        return top_exhaustive(alloc, cursors, weights, k, n);
-    }
     top_list_grows();
     let terms = terms_by_bound(alloc, cursors, weights)?;
     let mut top = TopK::new(alloc, k, n)?;
+    let words = scored_words(n);
+    let mut score_buffer = new_scores(alloc, words)?;
+    let mut mark_buffer = new_marks(alloc, words)?;
+    let scores = score_buffer.as_mut_slice();
+    let marks = mark_buffer.as_mut_slice();
+    let mut block = Block::new();
     let mut essential = terms.len();
+    let mut width = FIRST_WIDTH;
     let mut from = 0;
-    while let Some(doc) = next_candidate(cursors, &terms[..essential], from) {
-        essential = consider(cursors, &terms, doc, essential, &mut top);
-        from = doc + 1;
+    while let Some(first) = next_candidate(cursors, &terms[..essential], from) {
+        score_window(
+            cursors,
+            &terms,
+            essential,
+            first,
+            &mut scores[..width],
+            marks,
+            &mut block,
+            &mut top,
+        );
+        essential = essential_now(&terms, &top);
+        from = window_end(first, width, n);
+        width = (4 * width).min(scores.len());
     }
     top.into_list()
 }
@@ -80,66 +104,20 @@ fn earlier(a: Option<u32>, b: Option<u32>) -> Option<u32>
     }
 }
 
-// Offers a document that a list has, where its score can be held, and gives how many terms are essential from then on.
-fn consider<C: DocCursor>(
-    cursors: &mut [C],
-    terms: &[Term],
-    doc: u32,
-    essential: usize,
-    top: &mut TopK,
-) -> usize
-    requires terms { AreTerms (map C.list cursors.old) terms.now }
-    requires passed { All (λ c. HasPassed doc (C.list c) (C.place c)) cursors.old }
-    requires in_range { doc < top.old.n }
-    requires above { All (λ e. e.0 < doc) top.old.held }
-    requires essential { AreSpared top.old.k top.old.held terms.now essential }
-    ensures lists { map C.list cursors.new ≡ map C.list cursors.old }
-    ensures passed { All (λ c. HasPassed doc (C.list c) (C.place c)) cursors.new }
-    ensures k { top.new.k ≡ top.old.k }
-    ensures n { top.new.n ≡ top.old.n }
-    ensures essential { AreSpared top.new.k top.new.held terms.now result }
-    ensures held { Follows (map C.list cursors.old) terms.now top.old.k doc top.old.held top.new.held }
+// The document behind a window of so many from `first` on, and no more than n.
+fn window_end(first: u32, width: usize, n: u32) -> u32
+    ensures { result ≡ min (first + width) n }
 {
-    top_list_grows();
-    match score_above(cursors, terms, doc, top.threshold()) {
-        Some(score) => {
-            top.offer(doc, score);
-            essential_terms(terms, top.threshold())
-        }
-        None => essential,
-    }
+    (first as usize).saturating_add(width).min(n as usize) as u32
 }
 
-// The score of a document where it beats the least score held, else None. The lists are probed from the highest bound down, and no
-// further than until the bounds that are left cannot lift the score above it. No cursor has passed a document from this one on.
-fn score_above<C: DocCursor>(
-    cursors: &mut [C],
-    terms: &[Term],
-    doc: u32,
-    threshold: Option<u64>,
-) -> Option<u64>
-    requires terms { AreTerms (map C.list cursors.old) terms.now }
-    requires passed { All (λ c. HasPassed doc (C.list c) (C.place c)) cursors.old }
-    ensures lists { map C.list cursors.new ≡ map C.list cursors.old }
-    ensures passed { All (λ c. HasPassed doc (C.list c) (C.place c)) cursors.new }
-    ensures value { IfSome result (λ score. score ≡ score_in (map C.list cursors.old) doc terms.now) }
-    ensures above { IfSome result (λ score. beats threshold score ≡ true) }
-    ensures dropped { IfNone result (beats threshold (score_in (map C.list cursors.old) doc terms.now) ≡ false) }
+// How many terms are essential with what is held. All are while fewer than k are held.
+fn essential_now(terms: &[Term], top: &TopK) -> usize
+    requires light { bounds terms.now < 2 ^ 58 }
+    ensures { AreSpared top.now.k top.now.held terms.now result }
 {
-    let mut score = 0;
-    let mut left = total_bound(terms);
-    for term in terms {
-        if !is_above(score + left, threshold) {
-            return None;
-        }
-        left -= term.bound;
-        score += probe(&mut cursors[term.list], term.weight, doc);
-    }
-    if is_above(score, threshold) {
-        Some(score)
-    } else {
-        None
-    }
+    let count = essential_terms(terms, top.threshold());
+    count.max(terms.len().saturating_sub(MOST_ASKED))
 }
 
 // How many terms are essential: the bounds of the others together do not beat the least score held, and those of one more would.

@@ -1,45 +1,31 @@
-use Rattle.std.proofs.Common.{◌≡◌, sym, ◌∙◌, ◌<◌, List, length, map, arith}
+use Rattle.std.proofs.Common.{◌≡◌, sym, ap, ◌∙◌, subst, ◌<◌, List, ◌∷◌, map, arith}
 use Rattle.std.specs.List.{All}
-use Rattle.std.proofs.lemmas.List.{length-map}
+use Rattle.std.specs.List.Sorted.{IsPermutation}
+use Rattle.std.proofs.lemmas.List.Elements.{All-head, All-tail}
 use Rattle.std.proofs.lemmas.List.Sorted.{IsPermutation-map, All-permutation, length_permutation}
+use Rattle.std.proofs.lemmas.Result.{IfOk-weaker}
 use Rattle.collection_model.specs.Collection.{Posting, docs_of}
+use Rattle.scan_plans.specs.Matches.{in_all}
 use Rattle.scan_plans.proofs.Reordered.{in_all-same}
-use Rattle.scan_plans.proofs.Steps.{and-step, and-end, not-zero, each-bound, all-below, starts-passed, later-passed}
 use Rattle.scan_plans.proofs.docs.and_docs.Goals as goal
 
-pub loop-doc-init : goal.loop-doc-init
-loop-doc-init g c =
-    let cursors = c.shortest_first.new.cursors in
-    let lists : List (List Posting) = map g.C.DocCursor.list cursors in
-    record {
-      lists = λ i. lists;
-      passed = starts-passed g.C.DocCursor.list g.C.DocCursor.place cursors (All-permutation (λ x. g.C.DocCursor.place x ≡ 0) c.args.cursors.now cursors c.shortest_first.ensures.same c.requires.at_start);
-      docs = c.new-docs.ensures.items;
-    }
+pub shared_docs-requires-clause-at_start : goal.shared_docs-requires-clause-at_start
+shared_docs-requires-clause-at_start g c =
+    let all = All-permutation (λ x. g.C.DocCursor.place x ≡ 0) c.args.cursors.now c.shortest_first.new.cursors c.shortest_first.ensures.same c.requires.at_start in
+    All-head (λ x. g.C.DocCursor.place x ≡ 0) c.in-Some.shortest.now c.in-Some.others.now (subst (All (λ x. g.C.DocCursor.place x ≡ 0)) c.in-Some.ensures.cases.0 all)
 
-pub overflow_add-from : goal.overflow_add-from
-overflow_add-from g c =
-    let some : 0 < length c.args.cursors.now = not-zero _ (sym c.is_empty.ensures ∙ c.if-is_empty.false) in
-    let sorted = length_permutation c.args.cursors.now c.shortest_first.new.cursors c.shortest_first.ensures.same in
-    let l = length-map c.loop-doc.cursors g.C.DocCursor.list in
-    let same = c.loop-doc.auto.cursors in
-    let bound : c.in-Some.doc < 4294967295 = each-bound 4294967295 (map g.C.DocCursor.list c.loop-doc.cursors) c.in-Some.doc (omega arith) (all-below g.C.DocCursor.list g.C.DocCursor.place g.met.C.DocCursor.well_formed c.loop-doc.cursors) c.in-Some.ensures.shared in
-    omega arith
+pub shared_docs-requires-clause-others_at_start : goal.shared_docs-requires-clause-others_at_start
+shared_docs-requires-clause-others_at_start g c =
+    let all = All-permutation (λ x. g.C.DocCursor.place x ≡ 0) c.args.cursors.now c.shortest_first.new.cursors c.shortest_first.ensures.same c.requires.at_start in
+    All-tail (λ x. g.C.DocCursor.place x ≡ 0) c.in-Some.shortest.now c.in-Some.others.now (subst (All (λ x. g.C.DocCursor.place x ≡ 0)) c.in-Some.ensures.cases.0 all)
 
-pub loop-doc-preserved : goal.loop-doc-preserved
-loop-doc-preserved g c = record {
-  lists = c.next_shared.ensures.lists ∙ c.loop-doc.invariant.lists;
-  passed = later-passed g.C.DocCursor.list g.C.DocCursor.place c.next_shared.new.cursors c.in-Some.doc _ (omega arith) c.in-Some.ensures.passed;
-  docs = and-step _ (map g.C.DocCursor.list c.loop-doc.cursors) c.loop-doc.docs.items _ c.loop-doc.from c.in-Some.doc c.loop-doc.invariant.lists c.in_ok-push.ensures.items c.loop-doc.invariant.docs c.in-Some.ensures.first.0 c.in-Some.ensures.first.1 c.in-Some.ensures.shared;
-}
-
-pub returns : goal.returns
-returns g c = λ n below.
-    let given : List (List Posting) = map g.C.DocCursor.list c.args.cursors.now in
-    let sorted : List (List Posting) = map g.C.DocCursor.list c.shortest_first.new.cursors in
-    let order = IsPermutation-map g.C.DocCursor.list c.args.cursors.now c.shortest_first.new.cursors c.shortest_first.ensures.same in
-    let some : 0 < length c.args.cursors.now = not-zero _ (sym c.is_empty.ensures ∙ c.if-is_empty.false) in
-    let count = length-map c.args.cursors.now g.C.DocCursor.list in
-    let sorted-count = length_permutation given sorted order in
-    and-end sorted (map g.C.DocCursor.list c.loop-doc.cursors) c.loop-doc.docs.items c.loop-doc.from n c.loop-doc.invariant.lists (omega arith) c.loop-doc.invariant.docs c.in_default.ensures.ends (All-permutation (λ list. All (λ d. d < n) (docs_of list)) given sorted order below)
-    ∙ sym (in_all-same n given sorted order (omega arith))
+pub returns-in-Some : goal.returns-in-Some
+returns-in-Some g c = λ n below.
+    let list = g.C.DocCursor.list in
+    let given : List (List Posting) = map list c.args.cursors.now in
+    let sorted : List (List Posting) = list c.in-Some.shortest.now ∷ map list c.in-Some.others.now in
+    let split : map list c.shortest_first.new.cursors ≡ sorted = ap (map list) c.in-Some.ensures.cases.0 in
+    let order = subst (IsPermutation given) split (IsPermutation-map list c.args.cursors.now c.shortest_first.new.cursors c.shortest_first.ensures.same) in
+    let count = length_permutation given sorted order in
+    let same = in_all-same n given sorted order (omega arith) in
+    IfOk-weaker c.shared_docs.result (λ r. r.items ≡ in_all n sorted) (λ r. r.items ≡ in_all n given) (λ r is. is ∙ sym same) (c.shared_docs.ensures n (All-permutation (λ list. All (λ d. d < n) (docs_of list)) given sorted order below))

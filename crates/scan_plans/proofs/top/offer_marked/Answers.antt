@@ -1,8 +1,7 @@
-use Rattle.std.proofs.Common.{◌≡◌, refl, sym, ◌∙◌, subst, ℕ, ◌+◌, ◌-◌, ◌*◌, ◌<◌, ◌≤◌, false, List, length, get_or, take, drop, arith}
+use Rattle.std.proofs.Common.{◌≡◌, sym, ◌∙◌, ℕ, ◌+◌, ◌-◌, ◌*◌, ◌<◌, ◌≤◌, false, List, length, get_or, take, drop, arith}
 use Rattle.std.proofs.lemmas.List.{length-take-le, length-drop, get_or-take, get_or-drop}
-use Rattle.scan_plans.specs.Ranking.{Ranking}
 use Rattle.scan_plans.specs.Window.{is_marked}
-use Rattle.scan_plans.proofs.Bests.{IsOffered, IsPiece, offered-none, offered-skip, offered-word}
+use Rattle.scan_plans.proofs.Bests.{IsPiece, offered-none, offered-skip, offered-word}
 use Rattle.scan_plans.proofs.Marks.{word-unmarked}
 use Rattle.scan_plans.proofs.Windows.{IsCleared, cleared-none, cleared-more, cleared-piece, cleared-all}
 use Rattle.scan_plans.proofs.top.offer_marked.Goals as goal

@@ -1,12 +1,11 @@
-use Rattle.std.proofs.Common.{◌≡◌, sym, subst, ℕ, ◌+◌, ◌^◌, ◌<◌, ◌≤◌, List, ◌∷◌, length, get_or, arith, ap, ◌∙◌}
+use Rattle.std.proofs.Common.{◌≡◌, sym, subst, ℕ, ◌+◌, ◌^◌, ◌<◌, ◌≤◌, List, length, get_or, arith, ap, ◌∙◌}
 use Rattle.std.specs.Int.{bit_at}
-use Rattle.std.specs.List.{All}
 use Rattle.std.proofs.lemmas.Nat.Bits.{bit_at-zero}
 use Rattle.scan_plans.specs.Best.{IsBar}
-use Rattle.scan_plans.specs.Ranking.{Ranking, IsFirstK}
+use Rattle.scan_plans.specs.Ranking.{Ranking}
 use Rattle.scan_plans.proofs.Bests.{IsOffered, offered-none, offered-more, offered-passed, offered-skip}
 use Rattle.scan_plans.proofs.Marks.{IsRest, rest-all, rest-more, rest-less, lowest, lowest-from, lowest-one, none-between}
-use Rattle.scan_plans.proofs.Windows.{IsCleared, cleared-none, cleared-more, cleared-skip, cleared-all}
+use Rattle.scan_plans.proofs.Windows.{cleared-none, cleared-more, cleared-skip, cleared-all}
 use Rattle.scan_plans.proofs.top.offer_word.Goals as goal
 use Rattle.scan_plans.proofs.top.offer_word.Goals.{then-score-bar, else-score-bar}
 

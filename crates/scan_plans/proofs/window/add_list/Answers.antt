@@ -116,6 +116,6 @@ returns-clause-marks g c =
     (λ i inside. (doc-there list i end.0.well_formed inside).has) (λ d nowhere. nowhere) so_far.marked
 
 pub returns-clause-behind : goal.returns-clause-behind
-returns-clause-behind g c = λ k reached inside.
+returns-clause-behind g c = λ k reached.
     let so_far = c.loop-reached.invariant in
     given-behind ◌||◌ c.args.first (docs_of (g.C.DocCursor.list c.args.cursor.now)) (λ _. true) (g.C.DocCursor.place c.args.cursor.now) (g.C.DocCursor.place c.loop-reached.cursor) c.loop-reached.reached (is_marked c.args.marks.now) (is_marked c.loop-reached.marks) so_far.below so_far.marked k reached

@@ -80,7 +80,7 @@ loop-i-preserved g c =
           (c.add_list.ensures.marks k (omega arith));
       bound = λ k inside. let before = so_far.bound k inside in let more = c.add_list.ensures.bound k (omega arith) in omega arith;
       within = omega arith;
-      behind = λ k from inside. c.add_list.ensures.behind k (omega arith) (omega arith) ∙ so_far.behind k (omega arith) inside;
+      behind = λ k from inside. c.add_list.ensures.behind k (omega arith) ∙ so_far.behind k (omega arith) inside;
     }
 
 pub returns-clause-stand : goal.returns-clause-stand

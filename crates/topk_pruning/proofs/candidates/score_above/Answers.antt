@@ -9,19 +9,20 @@ use Rattle.topk_pruning.specs.declared.term.Term.{Term}
 use Rattle.topk_pruning.specs.Terms.{list_of, share, score_in, bounds, AreTerms}
 use Rattle.topk_pruning.proofs.Moves.{lists-set, list-read}
 use Rattle.topk_pruning.proofs.Scores.{share-within, shares-within, beats-lower}
-use Rattle.topk_pruning.proofs.maxscore.score_above.Goals as goal
+use Rattle.topk_pruning.proofs.Windows.{no_term, before-set}
+use Rattle.topk_pruning.proofs.candidates.score_above.Goals as goal
 
--- the score so far and the bounds left are within the bounds together
-fits-so_far : (lists : List (List Posting)) (terms : List Term) (doc i score left : ℕ) → AreTerms lists terms → score ≡ score_in lists doc (take i terms) → left ≡ bounds (drop i terms) → score + left ≤ bounds terms
-fits-so_far lists terms doc i score left are so_far rest =
+-- the score so far and the bounds left are within what is known and the bounds together
+fits-so_far : (lists : List (List Posting)) (terms : List Term) (doc i known score left : ℕ) → AreTerms lists terms → score ≡ known + score_in lists doc (take i terms) → left ≡ bounds (drop i terms) → score + left ≤ known + bounds terms
+fits-so_far lists terms doc i known score left are so_far rest =
     let Bounded : Term → Type 0 = λ t. t.bound ≡ t.weight * greatest_freq (list_of lists t) in
     let first = shares-within lists doc (take i terms) (All-take Bounded i terms are.bounded) in
     let whole = sum_by-take-drop (λ (t : Term). t.bound) terms i in
     omega arith
 
 -- and the whole score is within them
-score-within : (lists : List (List Posting)) (terms : List Term) (doc i score left : ℕ) → AreTerms lists terms → score ≡ score_in lists doc (take i terms) → left ≡ bounds (drop i terms) → score_in lists doc terms ≤ score + left
-score-within lists terms doc i score left are so_far rest =
+score-within : (lists : List (List Posting)) (terms : List Term) (doc i known score left : ℕ) → AreTerms lists terms → score ≡ known + score_in lists doc (take i terms) → left ≡ bounds (drop i terms) → known + score_in lists doc terms ≤ score + left
+score-within lists terms doc i known score left are so_far rest =
     let Bounded : Term → Type 0 = λ t. t.bound ≡ t.weight * greatest_freq (list_of lists t) in
     let last = shares-within lists doc (drop i terms) (All-drop Bounded i terms are.bounded) in
     let whole = sum_by-take-drop (share lists doc) terms i in
@@ -29,60 +30,60 @@ score-within lists terms doc i score left are so_far rest =
 
 pub overflow_add-score : goal.overflow_add-score
 overflow_add-score g c =
-    omega (arith, c.requires.terms.light, fits-so_far (map g.C.DocCursor.list c.args.cursors.now) c.args.terms.now c.args.doc c.loop-term.term-index c.loop-term.score c.loop-term.left c.requires.terms c.loop-term.invariant.so_far c.loop-term.invariant.left)
+    omega (arith, c.requires.light, c.requires.bound, fits-so_far (map g.C.DocCursor.list c.args.cursors.now) c.args.others.now c.args.doc c.loop-term.term-index c.args.known c.loop-term.score c.loop-term.left c.requires.terms c.loop-term.invariant.so_far c.loop-term.invariant.left)
 
 -- it is given up: the bounds left cannot lift it
 pub returns-then-not-is_above-clause-dropped : goal.returns-then-not-is_above-clause-dropped
 returns-then-not-is_above-clause-dropped g c =
     let lists : List (List Posting) = map g.C.DocCursor.list c.args.cursors.now in
-    beats-lower c.args.threshold (score_in lists c.args.doc c.args.terms.now) (c.loop-term.score + c.loop-term.left)
-    (score-within lists c.args.terms.now c.args.doc c.loop-term.term-index c.loop-term.score c.loop-term.left c.requires.terms c.loop-term.invariant.so_far c.loop-term.invariant.left)
+    beats-lower c.args.threshold (c.args.known + score_in lists c.args.doc c.args.others.now) (c.loop-term.score + c.loop-term.left)
+    (score-within lists c.args.others.now c.args.doc c.loop-term.term-index c.args.known c.loop-term.score c.loop-term.left c.requires.terms c.loop-term.invariant.so_far c.loop-term.invariant.left)
     (sym c.is_above.ensures ∙ search (c.if-not-is_above.true, rules, tests))
 
 pub overflow_add-score-in-loop-term : goal.overflow_add-score-in-loop-term
 overflow_add-score-in-loop-term g c =
-    let place = g.C.DocCursor.place in
     let list = g.C.DocCursor.list in
+    let place = g.C.DocCursor.place in
     let lists : List (List Posting) = map list c.args.cursors.now in
-    let terms : List Term = c.args.terms.now in
+    let terms : List Term = c.args.others.now in
     let cs = c.loop-term.cursors in
     let i : ℕ = c.loop-term.term-index in
-    let none : Term = record { list = 0; weight = 0; bound = 0 } in
-    let t : Term = get_or terms i none in
+    let t : Term = get_or terms i no_term in
+    let d = c.index-cursors-term.result in
     let l = length-map cs list in
     let m = length-map c.args.cursors.now list in
     let same_count = ap length c.loop-term.invariant.lists in
-    let inside = c.requires.terms.within i none c.loop-term-test.true in
+    let inside = c.requires.terms.within i no_term c.loop-term-test.true in
     let within : t.list < length cs = omega arith in
-    let value : c.probe-score.result ≡ share lists c.args.doc t = c.probe-score.ensures.value ∙ ap (λ (l : List Posting). t.weight * freq_of_doc c.args.doc l) (list-read list place cs lists t.list c.index-cursors-term.result c.loop-term.invariant.lists within) in
-    let le = share-within lists c.args.doc t (c.requires.terms.bounded i none c.loop-term-test.true) in
-    let less = sum_by-drop_more (λ (t : Term). t.bound) terms i none c.loop-term-test.true in
-    let fits = fits-so_far lists terms c.args.doc i c.loop-term.score c.loop-term.left c.requires.terms c.loop-term.invariant.so_far c.loop-term.invariant.left in
-    omega (arith, c.requires.terms.light, fits, less, le, value, c.loop-term.invariant.left)
+    let value : c.probe-score.result ≡ share lists c.args.doc t = c.probe-score.ensures.value ∙ ap (λ (l : List Posting). t.weight * freq_of_doc c.args.doc l) (list-read list place cs lists t.list d c.loop-term.invariant.lists within) in
+    let le = share-within lists c.args.doc t (c.requires.terms.bounded i no_term c.loop-term-test.true) in
+    let less = sum_by-drop_more (λ (t : Term). t.bound) terms i no_term c.loop-term-test.true in
+    let fits = fits-so_far lists terms c.args.doc i c.args.known c.loop-term.score c.loop-term.left c.requires.terms c.loop-term.invariant.so_far c.loop-term.invariant.left in
+    omega (arith, c.requires.light, c.requires.bound, fits, less, le, value, c.loop-term.invariant.left)
 
 pub loop-term-preserved : goal.loop-term-preserved
 loop-term-preserved g c =
     let list = g.C.DocCursor.list in
     let place = g.C.DocCursor.place in
     let lists : List (List Posting) = map list c.args.cursors.now in
-    let terms : List Term = c.args.terms.now in
+    let terms : List Term = c.args.others.now in
     let cs = c.loop-term.cursors in
     let i : ℕ = c.loop-term.term-index in
-    let none : Term = record { list = 0; weight = 0; bound = 0 } in
-    let t : Term = get_or terms i none in
+    let t : Term = get_or terms i no_term in
     let d = c.index-cursors-term.result in
-    let new = c.probe-score.new.cursor in
     let l = length-map cs list in
     let m = length-map c.args.cursors.now list in
     let same_count = ap length c.loop-term.invariant.lists in
-    let inside = c.requires.terms.within i none c.loop-term-test.true in
+    let inside = c.requires.terms.within i no_term c.loop-term-test.true in
     let within : t.list < length cs = omega arith in
     let value : c.probe-score.result ≡ share lists c.args.doc t = c.probe-score.ensures.value ∙ ap (λ (l : List Posting). t.weight * freq_of_doc c.args.doc l) (list-read list place cs lists t.list d c.loop-term.invariant.lists within) in
-    let more = sum_by_more (share lists c.args.doc) terms i none c.loop-term-test.true in
-    let less = sum_by-drop_more (λ (t : Term). t.bound) terms i none c.loop-term-test.true in
+    let new = c.probe-score.new.cursor in
+    let more = sum_by_more (share lists c.args.doc) terms i no_term c.loop-term-test.true in
+    let less = sum_by-drop_more (λ (t : Term). t.bound) terms i no_term c.loop-term-test.true in
     record {
       lists = lists-set list place cs t.list new d within c.probe-score.ensures.list ∙ c.loop-term.invariant.lists;
-      passed = All-set (λ x. HasPassed c.args.doc (list x) (place x)) cs t.list new (record { passed = c.probe-score.ensures.stand.passed }) c.loop-term.invariant.passed;
+      before = before-set list place c.args.doc terms cs t.list new within (record { passed = c.probe-score.ensures.stand.passed }) c.loop-term.invariant.before;
+      passed = λ e le all. All-set (λ x. HasPassed e (list x) (place x)) cs t.list new (record { passed = λ j lt. let h = c.probe-score.ensures.stand.passed j lt in omega arith }) (c.loop-term.invariant.passed e le all);
       so_far = omega (arith, value, more, c.loop-term.invariant.so_far);
       left = omega (arith, less, c.loop-term.invariant.left);
     }

@@ -1,0 +1,332 @@
+-- Lemmas on windows of documents that are scored, and on the cursors of the terms that are asked.
+use Rattle.std.proofs.Common.{◌≡◌, ◌≢◌, refl, sym, ap, inl, inr, ◌⊎◌, ◌∙◌, subst, ℕ, ◌+◌, ◌-◌, ◌*◌, ◌<◌, ◌≤◌, ◌^◌, Bool, true, false, eqb, min, List, [], ◌∷◌, ◌++◌, map, take, drop, set, length, get_or, Option, Some, None, arith}
+use Rattle.std.specs.List.{All, IsDistinct, list_any, range_with_len, sum}
+use Rattle.std.specs.List.Sorted.{IsPermutation}
+use Rattle.std.specs.Option.{IfSome, IfNone}
+use Rattle.std.proofs.lemmas.Bool.{cases_lt, cases_eq, cases_Bool, eqb-false, eq-eqb, ne_eqb, false≢true, le-ltb}
+use Rattle.std.proofs.lemmas.List.{get_or_default, get_or-map, get_or-take, get_or-drop, get_or-set_same, get_or-set_other, length-take, length-drop, length-map, take_all}
+use Rattle.std.proofs.lemmas.List.Elements.{All-contains, All-append, All-cons, All-take, All-drop, All-map}
+use Rattle.std.proofs.lemmas.List.FromFn.{length-range_with_len, get_or-range_with_len, length-map-range_with_len, get_or-map-range_with_len}
+use Rattle.std.proofs.lemmas.List.Folds.{Any-from_list_any, list_any_at}
+use Rattle.std.proofs.lemmas.List.Sorted.{All-permutation}
+use Rattle.std.proofs.lemmas.List.Sums.{get_or-le-sum_by, sum_by-take-drop}
+use Rattle.std.proofs.lemmas.Map.Keys.{IsDistinct-IsPermutation, IsDistinct-from_apart, apart_from_distinct}
+use Rattle.collection_model.specs.Collection.{Posting, greatest_freq, docs_of}
+use Rattle.cursor_api.specs.NextGeq.{IsCursorAt}
+use Rattle.scan_plans.specs.Matches.{AreBelow, has_doc}
+use Rattle.scan_plans.specs.IsTop.{IsTop}
+use Rattle.scan_plans.specs.Ranking.{IsFirstK, IsLeastScore}
+use Rattle.scan_plans.specs.Scan.{HasPassed}
+use Rattle.scan_plans.specs.Skips.{CannotEnter, TopAfterOffer, TopAfterSkips}
+use Rattle.scan_plans.specs.Window.{is_marked, IsFirstCandidate, NoneIsCandidate, AreTakenBack}
+use Rattle.topk_pruning.specs.declared.term.Term.{Term}
+use Rattle.topk_pruning.specs.Terms.{term_of, terms_of, list_of, share, score_in, in_lists, bounds, beats, AreApart, AreBefore, AreKept, AreTerms, AreAllTerms, AreSpared, Considers, FollowsTo}
+use Rattle.topk_pruning.proofs.Scores.{score-is, score-none, shares-within, beaten-cannot, spared-cannot}
+
+abbrev pub no_term : Term
+no_term = record { list = 0; weight = 0; bound = 0 }
+
+-- ---- the terms of a query
+eqb-turned : (m n : ℕ) → eqb m n ≡ eqb n m
+eqb-turned m n = elim (cases_eq m n) as (λ _. eqb m n ≡ eqb n m) [
+  | inl same ↦ eq-eqb m n same ∙ sym (eq-eqb n m (sym same))
+  | inr other ↦ ne_eqb m n other ∙ sym (ne_eqb n m (λ e. other (sym e)))
+]
+
+pub terms-apart : (lists : List (List Posting)) (weights : List ℕ) (terms : List Term) → IsPermutation (terms_of lists weights) terms → AreApart terms
+terms-apart lists weights terms moved =
+    let same : Term → Term → Bool = λ a b. eqb a.list b.list in
+    let n : ℕ = length lists in
+    let first : IsDistinct same (terms_of lists weights) = IsDistinct-from_apart same (terms_of lists weights) (λ i j d lt within.
+    let l = length-map-range_with_len (term_of lists weights) 0 n in
+    let a = ap (λ (t : Term). t.list) (get_or-map-range_with_len (term_of lists weights) 0 n i i d (omega arith) (omega arith)) in
+    let b = ap (λ (t : Term). t.list) (get_or-map-range_with_len (term_of lists weights) 0 n j j d (omega arith) (omega arith)) in
+    ne_eqb _ _ (λ e. absurd (omega arith))) in
+    let now : IsDistinct same terms = IsDistinct-IsPermutation same (λ a b. eqb-turned a.list b.list) (terms_of lists weights) terms moved first in
+    λ i j d lt within. eqb-false _ _ (apart_from_distinct same terms i j d now lt within)
+
+pub terms-small : (lists : List (List Posting)) (weights : List ℕ) (terms : List Term) → length weights ≡ length lists → sum weights < 2 ^ 26 → IsPermutation (terms_of lists weights) terms → All (λ t. t.weight < 2 ^ 26) terms
+terms-small lists weights terms each light moved =
+    let Small : Term → Type 0 = λ t. t.weight < 2 ^ 26 in
+    let n : ℕ = length lists in
+    All-permutation Small (terms_of lists weights) terms moved (All-map Small (term_of lists weights) (range_with_len 0 n) (λ k d within.
+    let l = length-range_with_len 0 n in
+    let at = get_or-range_with_len 0 n k d (omega arith) in
+    let le = get_or-le-sum_by (λ (w : ℕ). w) weights (get_or (range_with_len 0 n) k d) 0 (omega arith) in
+    omega arith))
+
+-- ---- some of the terms
+pub are-take : (lists : List (List Posting)) (terms : List Term) (i : ℕ) → AreTerms lists terms → AreTerms lists (take i terms)
+are-take lists terms i are =
+    let whole = sum_by-take-drop (λ (t : Term). t.bound) terms i in
+    let light = are.light in
+    record {
+      within = All-take (λ (t : Term). t.list < length lists) i terms are.within;
+      bounded = All-take (λ (t : Term). t.bound ≡ t.weight * greatest_freq (list_of lists t)) i terms are.bounded;
+      light = omega arith;
+    }
+
+pub are-drop : (lists : List (List Posting)) (terms : List Term) (i : ℕ) → AreTerms lists terms → AreTerms lists (drop i terms)
+are-drop lists terms i are =
+    let whole = sum_by-take-drop (λ (t : Term). t.bound) terms i in
+    let light = are.light in
+    record {
+      within = All-drop (λ (t : Term). t.list < length lists) i terms are.within;
+      bounded = All-drop (λ (t : Term). t.bound ≡ t.weight * greatest_freq (list_of lists t)) i terms are.bounded;
+      light = omega arith;
+    }
+
+pub apart-take : (terms : List Term) (n : ℕ) → AreApart terms → AreApart (take n terms)
+apart-take terms n apart i j d lt within =
+    let l = length-take n terms in
+    let h = apart i j d lt (omega arith) in
+    let a = ap (λ (t : Term). t.list) (get_or-take n terms i d (omega arith)) in
+    let b = ap (λ (t : Term). t.list) (get_or-take n terms j d (omega arith)) in
+    λ e. h (sym a ∙ e ∙ b)
+
+-- those behind some
+pub behind-is : (terms : List Term) (n : ℕ) → take (length terms - n) (drop n terms) ≡ drop n terms
+behind-is terms n = take_all (length terms - n) (drop n terms) (omega (arith, length-drop n terms))
+
+-- ---- the cursors of some terms
+module _ {X : Type 0} (list : X → List Posting) (place : X → ℕ) where
+  pub before-read : (d : ℕ) (terms : List Term) (cs : List X) (k : ℕ) (t : Term) (c : X) → k < length terms → AreBefore list place d terms cs → HasPassed d (list (get_or cs (get_or terms k t).list c)) (place (get_or cs (get_or terms k t).list c))
+  before-read d terms cs k t c within before = before.passed k t within c
+
+  -- a cursor that moves to a document
+  pub before-set : (d : ℕ) (terms : List Term) (cs : List X) (i : ℕ) (new : X) → i < length cs → HasPassed d (list new) (place new) → AreBefore list place d terms cs → AreBefore list place d terms (set cs i new)
+  before-set d terms cs i new within here before = record {
+    passed = λ k t inside c.
+        let at : ℕ = (get_or terms k t).list in
+        let P : X → Type 0 = λ x. HasPassed d (list x) (place x) in
+        elim (cases_eq at i) as (λ _. P (get_or (set cs i new) at c)) [
+          | inl same ↦ subst P (sym (ap (λ (j : ℕ). get_or (set cs i new) j c) same ∙ get_or-set_same cs i new c within)) here
+          | inr other ↦ subst P (sym (get_or-set_other cs i at new c other)) (before.passed k t inside c)
+        ];
+  }
+
+  pub before-later : (d e : ℕ) (terms : List Term) (cs : List X) → d ≤ e → AreBefore list place d terms cs → AreBefore list place e terms cs
+  before-later d e terms cs le before = record { passed = λ k t inside c. record { passed = λ j lt. let h = (before.passed k t inside c).passed j lt in omega arith } }
+
+  -- the cursors of other terms are as they were
+  pub before-kept : (d n : ℕ) (terms : List Term) (old now : List X) → All (λ t. t.list < length old) terms → AreApart terms → AreKept (take n terms) old now → All (λ x. HasPassed d (list x) (place x)) old → AreBefore list place d (drop n terms) now
+  before-kept d n terms old now within apart kept all = record {
+    passed = λ k t inside c.
+        let l = length-drop n terms in
+        let P : X → Type 0 = λ x. HasPassed d (list x) (place x) in
+        let at : ℕ = (get_or terms (n + k) t).list in
+        let read : (get_or (drop n terms) k t).list ≡ at = ap (λ (t : Term). t.list) (get_or-drop n terms k t) in
+        let same : get_or now at c ≡ get_or old at c = kept.same at (λ i e short.
+        let m = length-take n terms in
+        let a = ap (λ (t : Term). t.list) (get_or-take n terms i e (omega arith)) in
+        let b = ap (λ (t : Term). t.list) (get_or_default terms (n + k) t e (omega arith)) in
+        let h = apart i (n + k) e (omega arith) (omega arith) in
+        λ is. h (sym a ∙ is ∙ b)) c in
+        subst (λ (j : ℕ). P (get_or now j c)) (sym read) (subst P (sym same) (all at c (within (n + k) t (omega arith))));
+  }
+
+-- the cursor of a term that comes later is as it was
+pub kept-read : {X : Type 0} (terms : List Term) (old now : List X) (i : ℕ) (t : Term) (c : X) → i < length terms → AreApart terms → AreKept (take i terms) old now → get_or now (get_or terms i t).list c ≡ get_or old (get_or terms i t).list c
+kept-read terms old now i t c within apart kept = kept.same (get_or terms i t).list (λ k e short.
+    let m = length-take i terms in
+    let a = ap (λ (t : Term). t.list) (get_or-take i terms k e (omega arith)) in
+    let b = ap (λ (t : Term). t.list) (get_or_default terms i t e within) in
+    let h = apart k i e (omega arith) within in
+    λ is. h (sym a ∙ is ∙ b)) c
+
+pub kept-none : {X : Type 0} (terms : List Term) (old : List X) → AreKept (take 0 terms) old old
+kept-none terms old = record { same = λ i all c. refl }
+
+pub kept-more : {X : Type 0} (terms : List Term) (old now : List X) (i : ℕ) (t : Term) (new : X) → i < length terms → AreKept (take i terms) old now → AreKept (take (i + 1) terms) old (set now (get_or terms i t).list new)
+kept-more terms old now i t new within kept = record {
+  same = λ j all c.
+      let m = length-take (i + 1) terms in
+      let last : (get_or terms i t).list ≢ j = (let h = all i t (omega arith) in let a = ap (λ (t : Term). t.list) (get_or-take (i + 1) terms i t (omega arith)) in λ e. h (a ∙ e)) in
+      let first : All (λ (t : Term). t.list ≢ j) (take i terms) = λ k e short.
+      let l = length-take i terms in
+      let h = all k e (omega arith) in
+      let a = ap (λ (t : Term). t.list) (get_or-take (i + 1) terms k e (omega arith)) in
+      let b = ap (λ (t : Term). t.list) (get_or-take i terms k e (omega arith)) in
+      λ is. h (a ∙ sym b ∙ is) in
+      get_or-set_other now (get_or terms i t).list j new c (λ e. last (sym e)) ∙ kept.same j first c;
+}
+
+-- ---- what is held
+-- what all k that were held reach, all that are held reach
+pub reached-kept : (k doc score b : ℕ) (o : Option ℕ) (held new : List (ℕ × ℕ)) → IfNone o (length held < k) → IfSome o (IsLeastScore held) → beats o score ≡ true → IsFirstK k ((doc, score) ∷ held) new → length held ≡ k → All (λ e. b ≤ e.1) held → (length new ≡ k) × All (λ e. b ≤ e.1) new
+reached-kept k doc score b None held new short least above first full all = absurd (omega arith)
+reached-kept k doc score b (Some s) held new short least above first full all =
+    let P : ℕ × ℕ → Type 0 = λ e. b ≤ e.1 in
+    let one = least.one_has_it in
+    let at = all one.0 one.1 one.2 in
+    let is = ap (λ (e : ℕ × ℕ). e.1) one.3 in
+    let score_of = one.4 in
+    let beaten : s < score = elim (cases_lt s score) as (λ _. s < score) [ inl lt ↦ lt | inr ge ↦ absurd (false≢true (sym (le-ltb s score ge) ∙ above)) ] in
+    let each : All P ((doc, score) ∷ held) = All-cons P (doc, score) held (omega arith) all in
+    let count = first.count in
+    (omega arith, λ i d within. All-contains P ((doc, score) ∷ held) (get_or new i d) each (first.of_them i d within))
+
+pub spared-kept : (terms : List Term) (k essential : ℕ) (held new : List (ℕ × ℕ)) → ((b : ℕ) → length held ≡ k → All (λ e. b ≤ e.1) held → (length new ≡ k) × All (λ e. b ≤ e.1) new) → AreSpared k held terms essential → AreSpared k new terms essential
+spared-kept terms k essential held new kept so_far = record {
+  within = so_far.within;
+  spared = elim so_far.spared as (λ _. (essential ≡ length terms) ⊎ ((length new ≡ k) × All (λ e. bounds (drop essential terms) ≤ e.1) new)) [
+    | inl whole ↦ inl whole
+    | inr full ↦ inr (kept (bounds (drop essential terms)) full.0 full.1)
+  ];
+}
+
+-- more terms are essential than need be
+pub spared-more : (terms : List Term) (k few many : ℕ) (held : List (ℕ × ℕ)) → few ≤ many → many ≤ length terms → bounds (drop many terms) ≤ bounds (drop few terms) → AreSpared k held terms few → AreSpared k held terms many
+spared-more terms k few many held le within less so_far = record {
+  within = within;
+  spared = elim so_far.spared as (λ _. (many ≡ length terms) ⊎ ((length held ≡ k) × All (λ e. bounds (drop many terms) ≤ e.1) held)) [
+    | inl whole ↦ inl (omega arith)
+    | inr full ↦ inr (full.0, λ i e inside. let h = full.1 i e inside in omega arith)
+  ];
+}
+
+-- ---- a score that the bounds left cannot lift
+pub unlifted : (o : Option ℕ) (low score left whole : ℕ) → IfNone o (low ≡ 0) → IfSome o (λ least. low ≡ min (least + 1) 18446744073709551615 - left) → score < low → whole ≤ score + left → beats o whole ≡ false
+unlifted None low score left whole none some lt le = absurd (omega arith)
+unlifted (Some least) low score left whole none some lt le = le-ltb least whole (omega arith)
+
+-- ---- the documents of a window
+module _ (lists : List (List Posting)) (terms : List Term) (essential first : ℕ) (are : AreTerms lists terms) (scores marks : List ℕ)
+    (scored : (k : ℕ) → k < length scores → get_or scores k 0 ≡ score_in lists (first + k) (take essential terms))
+    (marked : (k : ℕ) → k < length scores → is_marked marks k ≡ in_lists lists (first + k) (take essential terms)) where
+  -- where nothing is marked the score is 0
+  pub unmarked-none : (from : ℕ) (ns nm : List ℕ) → length scores ≤ 64 * length marks → AreTakenBack from scores marks ns nm → (k : ℕ) → k < length ns → is_marked nm k ≡ false → get_or ns k 0 ≡ 0
+  unmarked-none from ns nm wide taken k within is =
+      let count = taken.count in
+      elim (cases_lt k from) as (λ _. get_or ns k 0 ≡ 0) [
+        | inl before ↦ taken.clear k before (omega arith)
+        | inr after ↦ taken.scored k after (omega arith) ∙ scored k (omega arith) ∙ score-none lists (first + k) (take essential terms) (sym (marked k (omega arith)) ∙ sym (taken.marked k after (omega arith)) ∙ is)
+      ]
+
+  -- the whole score of a document is what is known, and what the others give
+  pub whole-score : (k : ℕ) → k < length scores → get_or scores k 0 + score_in lists (first + k) (drop essential terms) ≡ score_in lists (first + k) terms
+  whole-score k within =
+      let whole = sum_by-take-drop (share lists (first + k)) terms essential in
+      let known = scored k within in
+      omega arith
+
+  pub light-score : (k : ℕ) → k < length scores → get_or scores k 0 + bounds (drop essential terms) < 2 ^ 58
+  light-score k within =
+      let known = scored k within in
+      let le = shares-within lists (first + k) (take essential terms) (are-take lists terms essential are).bounded in
+      let whole = sum_by-take-drop (λ (t : Term). t.bound) terms essential in
+      let light = are.light in
+      omega arith
+
+  -- a marked document is one that a list has
+  pub marked-any : (k : ℕ) → k < length scores → is_marked marks k ≡ true → list_any (has_doc (first + k)) lists ≡ true
+  marked-any k within is =
+      let ts : List Term = take essential terms in
+      let some = Any-from_list_any (λ t. has_doc (first + k) (list_of lists t)) ts (sym (marked k within) ∙ is) in
+      let inside = (are-take lists terms essential are).within some.0 some.1 some.2 in
+      let same = ap (λ (t : Term). t.list) some.3 in
+      list_any_at (has_doc (first + k)) lists some.1.list [] (omega arith) some.4
+
+  -- a document that is not marked, or whose score is too low, cannot enter
+  pub passed-cannot : (weights : List ℕ) (k low : ℕ) (o : Option ℕ) (held : List (ℕ × ℕ)) → AreAllTerms lists weights terms → AreSpared k held terms essential → IfSome o (λ s. length held ≡ k) → IfSome o (IsLeastScore held) → IfNone o (low ≡ 0) → IfSome o (λ least. low ≡ min (least + 1) 18446744073709551615 - bounds (drop essential terms))
+      → (j : ℕ) → j < length scores → (is_marked marks j ≡ true → get_or scores j 0 < low) → CannotEnter lists weights k held (first + j)
+  passed-cannot weights k low o held all spared full least none some j within passed =
+      elim (cases_Bool (is_marked marks j)) as (λ _. CannotEnter lists weights k held (first + j)) [
+        | inl is ↦ (let others = shares-within lists (first + j) (drop essential terms) (are-drop lists terms essential are).bounded in
+            let whole = whole-score j within in
+            beaten-cannot lists weights terms k (first + j) o held all full least (unlifted o low (get_or scores j 0) (bounds (drop essential terms)) (score_in lists (first + j) terms) none some (passed is) (omega arith)))
+        | inr not ↦ spared-cannot lists weights terms k essential (first + j) held all are spared (sym (marked j within) ∙ not)
+      ]
+
+  -- documents that cannot enter are passed over
+  pub follows-passed : TopAfterSkips → (from to k low : ℕ) (o : Option ℕ) (old held : List (ℕ × ℕ)) → AreSpared k held terms essential → IfSome o (λ s. length held ≡ k) → IfSome o (IsLeastScore held) → IfNone o (low ≡ 0) → IfSome o (λ least. low ≡ min (least + 1) 18446744073709551615 - bounds (drop essential terms))
+      → first + from ≤ to → to ≤ first + length scores → ((j : ℕ) → from ≤ j → first + j < to → is_marked marks j ≡ true → get_or scores j 0 < low) → FollowsTo lists terms k first (first + from) old held → FollowsTo lists terms k first to old held
+  follows-passed skips from to k low o old held spared full least none some le end passed so_far weights all top =
+      skips (first + from) to lists weights k held le (λ d f lt.
+      let j : ℕ = d - first in
+      let at : first + j ≡ d = omega arith in
+      subst (CannotEnter lists weights k held) at (passed-cannot weights k low o held all spared full least none some j (omega arith) (passed j (omega arith) (omega arith)))) (so_far weights all top)
+
+  -- the candidate is considered
+  pub follows-considered : TopAfterOffer → TopAfterSkips → (place k : ℕ) (old held new : List (ℕ × ℕ)) → place < length scores → is_marked marks place ≡ true → Considers k (first + place) (get_or scores place 0 + score_in lists (first + place) (drop essential terms)) held new
+      → FollowsTo lists terms k first (first + place) old held → FollowsTo lists terms k first (first + (place + 1)) old new
+  follows-considered offers skips place k old held new within is considered so_far weights all top =
+      let doc : ℕ = first + place in
+      let next : doc + 1 ≡ first + (place + 1) = omega arith in
+      let score_of = whole-score place within ∙ sym (score-is lists weights terms doc all) in
+      let before = so_far weights all top in
+      subst (λ (n : ℕ). IsTop n lists weights k new) next (elim considered as (λ _. IsTop (doc + 1) lists weights k new) [
+        | inl offered ↦ offers doc lists weights k held new before (marked-any place within is) (subst (λ (s : ℕ). IsFirstK k ((doc, s) ∷ held) new) score_of offered)
+        | inr passed ↦ subst (IsTop (doc + 1) lists weights k) (sym passed.0)
+            (skips doc (doc + 1) lists weights k held (omega arith) (λ d f lt. let same : doc ≡ d = omega arith in subst (CannotEnter lists weights k held) same (inr (passed.1, λ i e inside. let h = passed.2 i e inside in omega arith))) before)
+      ])
+
+-- what is held after a document is considered are documents before the next
+pub considered-above : (k doc next score : ℕ) (held new : List (ℕ × ℕ)) → doc < next → Considers k doc score held new → All (λ e. e.0 < doc) held → All (λ e. e.0 < next) new
+considered-above k doc next score held new lt (inl offered) above =
+    let P : ℕ × ℕ → Type 0 = λ e. e.0 < next in
+    let each : All P ((doc, score) ∷ held) = All-cons P (doc, score) held lt (λ i e within. let h = above i e within in omega arith) in
+    λ i d within. All-contains P ((doc, score) ∷ held) (get_or new i d) each (offered.of_them i d within)
+considered-above k doc next score held new lt (inr passed) above = subst (All (λ (e : ℕ × ℕ). e.0 < next)) (sym passed.0) (λ i e within. let h = above i e within in omega arith)
+
+-- ---- the candidates of a window, one after another
+pub record IsNextCandidate (low from place score : ℕ) (scores marks : List ℕ) : Type 0 where
+  pub after : from ≤ place
+  pub within : place < length scores
+  pub marked : is_marked marks place ≡ true
+  pub scored : score ≡ get_or scores place 0
+  pub passed : (j : ℕ) → from ≤ j → j < place → is_marked marks j ≡ true → get_or scores j 0 < low
+
+module _ (scores marks ns nm : List ℕ) (from : ℕ) (wide : length scores ≤ 64 * length marks) (taken : AreTakenBack from scores marks ns nm) where
+  pub candidate-there : (low place score : ℕ) → IsFirstCandidate low ns nm place score → IsNextCandidate low from place score scores marks
+  candidate-there low place score is =
+      let count = taken.count in
+      let inside = is.within in
+      let after : from ≤ place = elim (cases_lt place from) as (λ _. from ≤ place) [
+        | inl before ↦ absurd (false≢true (sym (taken.unmarked place before (omega arith)) ∙ is.marked))
+        | inr ge ↦ ge
+      ] in
+      record {
+        after = after;
+        within = omega arith;
+        marked = sym (taken.marked place after (omega arith)) ∙ is.marked;
+        scored = sym is.scored ∙ taken.scored place after (omega arith);
+        passed = λ j f lt one. let read = taken.scored j f (omega arith) in let h = is.others j lt (taken.marked j f (omega arith) ∙ one) in omega arith;
+      }
+
+  pub none-there : (low : ℕ) → NoneIsCandidate low ns nm → (j : ℕ) → from ≤ j → j < length scores → is_marked marks j ≡ true → get_or scores j 0 < low
+  none-there low none j f lt one = let count = taken.count in let read = taken.scored j f lt in let h = none j (omega arith) (taken.marked j f (omega arith) ∙ one) in omega arith
+
+  -- what is taken back later
+  pub taken-later : (to : ℕ) (news newm : List ℕ) → from ≤ to → AreTakenBack to ns nm news newm → AreTakenBack to scores marks news newm
+  taken-later to news newm le more =
+      let count = taken.count in
+      let words = taken.marks_count in
+      record {
+        count = more.count ∙ count;
+        marks_count = more.marks_count ∙ words;
+        unmarked = λ k lt within. more.unmarked k lt (omega arith);
+        clear = λ k lt within. more.clear k lt (omega arith);
+        marked = λ k after within. more.marked k after (omega arith) ∙ taken.marked k (omega arith) within;
+        scored = λ k after within. more.scored k after (omega arith) ∙ taken.scored k (omega arith) within;
+      }
+
+-- ---- the end of a window
+-- no cursor has passed a document from an end on, where no list has one from n on
+pub passed-end : {X : Type 0} (list : X → List Posting) (place : X → ℕ) → ((x : X) → IsCursorAt (list x) (place x)) → (cs : List X) (lists : List (List Posting)) (end n : ℕ) → map list cs ≡ lists → AreBelow n lists → All (λ x. HasPassed end (list x) (place x)) cs → All (λ x. HasPassed (min end n) (list x) (place x)) cs
+passed-end list place good cs lists end n same below all i x within = record {
+  passed = λ k lt.
+      let c = get_or cs i x in
+      let l = length-map cs list in
+      let m = ap length same in
+      let docs = length-map (list c) (λ (p : Posting). p.doc) in
+      let inside = (good c).within in
+      let early = (all i x within).passed k lt in
+      let read : get_or lists i [] ≡ list c = ap (λ (ls : List (List Posting)). get_or ls i []) (sym same) ∙ get_or-map list cs i x [] within in
+      let late : get_or (docs_of (list c)) k 0 < n = subst (λ (l : List Posting). All (λ d. d < n) (docs_of l)) read (below i [] (omega arith)) k 0 (omega arith) in
+      omega arith;
+}
+
+-- a front that was used, and the rest
+pub clear-again : (width : ℕ) (front scores : List ℕ) → All (λ s. s ≡ 0) front → All (λ s. s ≡ 0) scores → All (λ s. s ≡ 0) (front ++ drop width scores)
+clear-again width front scores used rest = All-append (λ (s : ℕ). s ≡ 0) front (drop width scores) used (All-drop (λ (s : ℕ). s ≡ 0) width scores rest)

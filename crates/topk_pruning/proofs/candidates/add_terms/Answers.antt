@@ -1,0 +1,107 @@
+use Rattle.std.proofs.Common.{◌≡◌, refl, sym, ap, ◌∙◌, subst, ℕ, ◌+◌, ◌*◌, ◌<◌, ◌||◌, max, List, map, take, length, get_or, arith}
+use Rattle.std.specs.List.{list_any}
+use Rattle.std.proofs.lemmas.List.{length-map, get_or_default}
+use Rattle.std.proofs.lemmas.List.Elements.{All-set}
+use Rattle.std.proofs.lemmas.List.Folds.{list_any_more}
+use Rattle.std.proofs.lemmas.List.Sums.{sum_by_more, sum_by-take-le}
+use Rattle.collection_model.specs.Collection.{Posting}
+use Rattle.scan_plans.specs.Matches.{has_doc, freq_of_doc}
+use Rattle.scan_plans.specs.Scan.{HasPassed}
+use Rattle.topk_pruning.specs.declared.term.Term.{Term}
+use Rattle.topk_pruning.specs.Terms.{list_of, share}
+use Rattle.topk_pruning.proofs.Moves.{lists-set, list-read, later-passed}
+use Rattle.topk_pruning.proofs.Scores.{shares-within}
+use Rattle.topk_pruning.proofs.Windows.{no_term, kept-read, kept-none, kept-more, are-take}
+use Rattle.topk_pruning.proofs.candidates.add_terms.Goals as goal
+
+pub loop-term-init : goal.loop-term-init
+loop-term-init g c = record {
+  lists = refl;
+  passed = later-passed g.C.DocCursor.list g.C.DocCursor.place c.args.cursors.now c.args.first (c.args.first + length c.args.scores.now) (omega arith) c.requires.passed;
+  kept = kept-none c.args.terms.now c.args.cursors.now;
+  count = refl;
+  marks_count = refl;
+  scored = λ k within. c.requires.clear k 0 within;
+  marked = λ k within. let wide = c.requires.wide in c.requires.none k (omega arith);
+  within = omega arith;
+  behind = λ k from within. c.requires.none k within;
+}
+
+pub add_term-requires-clause-passed : goal.add_term-requires-clause-passed
+add_term-requires-clause-passed g c =
+    let list = g.C.DocCursor.list in
+    let place = g.C.DocCursor.place in
+    let lists : List (List Posting) = map list c.args.cursors.now in
+    let terms : List Term = c.args.terms.now in
+    let cs = c.loop-term.cursors in
+    let i : ℕ = c.loop-term.term-index in
+    let t : Term = get_or terms i no_term in
+    let d = c.index-cursors-term.result in
+    let l = length-map cs list in
+    let m = length-map c.args.cursors.now list in
+    let so_far = c.loop-term.invariant in
+    let same_count = ap length so_far.lists in
+    let inside = c.requires.terms.within i no_term c.loop-term-test.true in
+    let within : t.list < length cs = omega arith in
+    let same = kept-read terms c.args.cursors.now cs i no_term d c.loop-term-test.true c.requires.apart so_far.kept in
+    subst (λ x. HasPassed c.args.first (list x) (place x)) (sym same) (c.requires.passed t.list d (omega arith))
+
+pub add_term-requires-clause-room : goal.add_term-requires-clause-room
+add_term-requires-clause-room g c = λ k e inside_scores.
+    let lists : List (List Posting) = map g.C.DocCursor.list c.args.cursors.now in
+    let terms : List Term = c.args.terms.now in
+    let i : ℕ = c.loop-term.term-index in
+    let so_far = c.loop-term.invariant in
+    let count = so_far.count in
+    let read = get_or_default c.loop-term.scores k e 0 inside_scores in
+    let scored = so_far.scored k (omega arith) in
+    let le = shares-within lists (c.args.first + k) (take i terms) (are-take lists terms i c.requires.terms).bounded in
+    let whole = sum_by-take-le (λ (t : Term). t.bound) terms i in
+    let light = c.requires.terms.light in
+    let small = c.requires.small i no_term c.loop-term-test.true in
+    omega arith
+
+pub loop-term-preserved : goal.loop-term-preserved
+loop-term-preserved g c =
+    let list = g.C.DocCursor.list in
+    let place = g.C.DocCursor.place in
+    let lists : List (List Posting) = map list c.args.cursors.now in
+    let terms : List Term = c.args.terms.now in
+    let cs = c.loop-term.cursors in
+    let i : ℕ = c.loop-term.term-index in
+    let t : Term = get_or terms i no_term in
+    let d = c.index-cursors-term.result in
+    let l = length-map cs list in
+    let m = length-map c.args.cursors.now list in
+    let so_far = c.loop-term.invariant in
+    let same_count = ap length so_far.lists in
+    let inside = c.requires.terms.within i no_term c.loop-term-test.true in
+    let within : t.list < length cs = omega arith in
+    let new = c.add_term.new.cursor in
+    let first : ℕ = c.args.first in
+    let kept = c.add_term.ensures in
+    let count = so_far.count in
+    let end : ℕ = first + length c.args.scores.now in
+    let is : list (get_or cs t.list d) ≡ list_of lists t = list-read list place cs lists t.list d so_far.lists within in
+    let most : c.max-reached.result ≡ max c.add_term.result c.loop-term.reached = c.max-reached.ensures in
+    let high = kept.within in
+    let low = so_far.within in
+    record {
+      lists = lists-set list place cs t.list new d within kept.list ∙ so_far.lists;
+      passed = All-set (λ x. HasPassed end (list x) (place x)) cs t.list new (record { passed = λ j lt. let h = kept.stand.passed j lt in omega arith }) so_far.passed;
+      kept = kept-more terms c.args.cursors.now cs i no_term new c.loop-term-test.true so_far.kept;
+      count = kept.count ∙ count;
+      marks_count = kept.marks_count ∙ so_far.marks_count;
+      scored = λ k inside.
+          let more = sum_by_more (share lists (first + k)) terms i no_term c.loop-term-test.true in
+          let before = so_far.scored k inside in
+          let adds = kept.scores k (omega arith) in
+          let theirs = ap (λ (l : List Posting). t.weight * freq_of_doc (first + k) l) is in
+          omega arith;
+      marked = λ k inside.
+          kept.marks k (omega arith) ∙ ap (λ b. b || has_doc (first + k) (list (get_or cs t.list d))) (so_far.marked k inside)
+          ∙ ap (λ (l : List Posting). list_any (λ t. has_doc (first + k) (list_of lists t)) (take i terms) || has_doc (first + k) l) is
+          ∙ sym (list_any_more (λ t. has_doc (first + k) (list_of lists t)) terms i no_term c.loop-term-test.true);
+      within = omega arith;
+      behind = λ k from inside. kept.behind k (omega arith) ∙ so_far.behind k (omega arith) inside;
+    }

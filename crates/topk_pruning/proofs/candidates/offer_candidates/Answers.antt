@@ -1,0 +1,206 @@
+use Rattle.std.proofs.Common.{◌≡◌, refl, sym, ap, ◌∙◌, subst, inl, inr, ℕ, ◌+◌, ◌-◌, false, min, List, map, take, drop, length, get_or, arith}
+use Rattle.std.proofs.lemmas.Bool.{cases_lt}
+use Rattle.std.proofs.lemmas.List.{get_or_default}
+use Rattle.std.specs.Option.{IfSome}
+use Rattle.collection_model.specs.Collection.{Posting}
+use Rattle.scan_plans.specs.IsTop.{IsTop}
+use Rattle.scan_plans.specs.Window.{is_marked}
+use Rattle.topk_pruning.specs.declared.term.Term.{Term}
+use Rattle.topk_pruning.specs.Terms.{AreBefore, AreTerms, Considers, bounds, score_in}
+use Rattle.topk_pruning.proofs.Windows.{are-drop, behind-is, before-later, spared-kept, unmarked-none, light-score, marked-any, follows-passed, follows-considered, considered-above, candidate-there, none-there, taken-later}
+use Rattle.topk_pruning.proofs.candidates.offer_candidates.Goals as goal
+
+pub loop-place-init : goal.loop-place-init
+loop-place-init g c =
+    let start : c.args.first ≡ c.args.first + 0 = omega arith in
+    record {
+      lists = refl;
+      passed = c.requires.passed;
+      before = subst (λ (d : ℕ). AreBefore g.C.DocCursor.list g.C.DocCursor.place d (drop c.args.essential c.args.terms.now) c.args.cursors.now) start c.requires.before;
+      taken = record { count = refl; marks_count = refl; unmarked = λ k lt within. absurd (omega arith); clear = λ k lt within. absurd (omega arith); marked = λ k after within. refl; scored = λ k after within. refl };
+      within = omega arith;
+      in_range = (let in_range = c.requires.in_range in omega arith);
+      k = refl;
+      n = refl;
+      above = λ i e within. let h = c.requires.above i e within in omega arith;
+      spared = c.requires.essential;
+      held = λ weights all top. subst (λ (d : ℕ). IsTop d (map g.C.DocCursor.list c.args.cursors.now) weights c.args.top.now.k c.args.top.now.held) start top;
+    }
+
+pub total_bound-left-requires : goal.total_bound-left-requires
+total_bound-left-requires g c =
+    let light = (are-drop (map g.C.DocCursor.list c.args.cursors.now) c.args.terms.now c.args.essential c.requires.terms).light in
+    let same = ap bounds (behind-is c.args.terms.now c.args.essential) in
+    record { light = omega arith }
+
+pub take_candidate-requires-clause-marked : goal.take_candidate-requires-clause-marked
+take_candidate-requires-clause-marked g c =
+    unmarked-none (map g.C.DocCursor.list c.args.cursors.now) c.args.terms.now c.args.essential c.args.first c.requires.terms c.args.scores.now c.args.marks.now c.requires.scores c.requires.marks c.loop-place.from c.loop-place.scores c.loop-place.marks c.requires.wide c.loop-place.invariant.taken
+
+pub overflow_cast-doc : goal.overflow_cast-doc
+overflow_cast-doc g c =
+    let list = g.C.DocCursor.list in
+    let lists : List (List Posting) = map list c.args.cursors.now in
+    let terms : List Term = c.args.terms.now in
+    let so_far = c.loop-place.invariant in
+    let next = candidate-there c.args.scores.now c.args.marks.now c.loop-place.scores c.loop-place.marks c.loop-place.from c.requires.wide so_far.taken c.least_score.result c.in-Some.place c.in-Some.score c.in-Some.ensures.some in
+    let after = next.after in
+    let inside = next.within in
+    let start = c.from.ensures in
+    let doc : c.from.result + c.in-Some.place ≡ c.args.first + c.in-Some.place = omega arith in
+    let below = c.top_list_grows.ensures.in_range c.args.top.now.n lists (c.args.first + c.in-Some.place) c.requires.below (marked-any lists terms c.args.essential c.args.first c.requires.terms c.args.scores.now c.args.marks.now c.requires.scores c.requires.marks c.in-Some.place inside next.marked) in
+    let narrow = c.requires.narrow in
+    omega arith
+
+pub consider-requires-clause-terms : goal.consider-requires-clause-terms
+consider-requires-clause-terms g c =
+    let now : List (List Posting) = map g.C.DocCursor.list c.loop-place.cursors in
+    subst (AreTerms now) (sym (behind-is c.args.terms.now c.args.essential)) (subst (λ (ls : List (List Posting)). AreTerms ls (drop c.args.essential c.args.terms.now)) (sym c.loop-place.invariant.lists) (are-drop (map g.C.DocCursor.list c.args.cursors.now) c.args.terms.now c.args.essential c.requires.terms))
+
+pub consider-requires-clause-light : goal.consider-requires-clause-light
+consider-requires-clause-light g c =
+    let list = g.C.DocCursor.list in
+    let lists : List (List Posting) = map list c.args.cursors.now in
+    let terms : List Term = c.args.terms.now in
+    let so_far = c.loop-place.invariant in
+    let next = candidate-there c.args.scores.now c.args.marks.now c.loop-place.scores c.loop-place.marks c.loop-place.from c.requires.wide so_far.taken c.least_score.result c.in-Some.place c.in-Some.score c.in-Some.ensures.some in
+    let after = next.after in
+    let inside = next.within in
+    let start = c.from.ensures in
+    let doc : c.from.result + c.in-Some.place ≡ c.args.first + c.in-Some.place = omega arith in
+    let below = c.top_list_grows.ensures.in_range c.args.top.now.n lists (c.args.first + c.in-Some.place) c.requires.below (marked-any lists terms c.args.essential c.args.first c.requires.terms c.args.scores.now c.args.marks.now c.requires.scores c.requires.marks c.in-Some.place inside next.marked) in
+    let light = light-score lists terms c.args.essential c.args.first c.requires.terms c.args.scores.now c.args.marks.now c.requires.scores c.requires.marks c.in-Some.place inside in
+    let is = next.scored in
+    let left = c.total_bound-left.ensures in
+    let same = ap bounds (behind-is c.args.terms.now c.args.essential) in
+    omega arith
+
+pub consider-requires-clause-before : goal.consider-requires-clause-before
+consider-requires-clause-before g c =
+    let list = g.C.DocCursor.list in
+    let lists : List (List Posting) = map list c.args.cursors.now in
+    let terms : List Term = c.args.terms.now in
+    let so_far = c.loop-place.invariant in
+    let next = candidate-there c.args.scores.now c.args.marks.now c.loop-place.scores c.loop-place.marks c.loop-place.from c.requires.wide so_far.taken c.least_score.result c.in-Some.place c.in-Some.score c.in-Some.ensures.some in
+    let after = next.after in
+    let inside = next.within in
+    let start = c.from.ensures in
+    let doc : c.from.result + c.in-Some.place ≡ c.args.first + c.in-Some.place = omega arith in
+    let below = c.top_list_grows.ensures.in_range c.args.top.now.n lists (c.args.first + c.in-Some.place) c.requires.below (marked-any lists terms c.args.essential c.args.first c.requires.terms c.args.scores.now c.args.marks.now c.requires.scores c.requires.marks c.in-Some.place inside next.marked) in
+    let place = g.C.DocCursor.place in
+    subst (λ (ts : List Term). AreBefore list place (c.from.result + c.in-Some.place) ts c.loop-place.cursors) (sym (behind-is terms c.args.essential))
+    (before-later list place (c.args.first + c.loop-place.from) (c.from.result + c.in-Some.place) (drop c.args.essential terms) c.loop-place.cursors (omega arith) so_far.before)
+
+pub consider-requires-clause-above : goal.consider-requires-clause-above
+consider-requires-clause-above g c =
+    let list = g.C.DocCursor.list in
+    let lists : List (List Posting) = map list c.args.cursors.now in
+    let terms : List Term = c.args.terms.now in
+    let so_far = c.loop-place.invariant in
+    let next = candidate-there c.args.scores.now c.args.marks.now c.loop-place.scores c.loop-place.marks c.loop-place.from c.requires.wide so_far.taken c.least_score.result c.in-Some.place c.in-Some.score c.in-Some.ensures.some in
+    let after = next.after in
+    let inside = next.within in
+    let start = c.from.ensures in
+    let doc : c.from.result + c.in-Some.place ≡ c.args.first + c.in-Some.place = omega arith in
+    let below = c.top_list_grows.ensures.in_range c.args.top.now.n lists (c.args.first + c.in-Some.place) c.requires.below (marked-any lists terms c.args.essential c.args.first c.requires.terms c.args.scores.now c.args.marks.now c.requires.scores c.requires.marks c.in-Some.place inside next.marked) in
+    λ i e within. let h = so_far.above i e within in omega arith
+
+pub consider-requires-clause-in_range : goal.consider-requires-clause-in_range
+consider-requires-clause-in_range g c =
+    let list = g.C.DocCursor.list in
+    let lists : List (List Posting) = map list c.args.cursors.now in
+    let terms : List Term = c.args.terms.now in
+    let so_far = c.loop-place.invariant in
+    let next = candidate-there c.args.scores.now c.args.marks.now c.loop-place.scores c.loop-place.marks c.loop-place.from c.requires.wide so_far.taken c.least_score.result c.in-Some.place c.in-Some.score c.in-Some.ensures.some in
+    let after = next.after in
+    let inside = next.within in
+    let start = c.from.ensures in
+    let doc : c.from.result + c.in-Some.place ≡ c.args.first + c.in-Some.place = omega arith in
+    let below = c.top_list_grows.ensures.in_range c.args.top.now.n lists (c.args.first + c.in-Some.place) c.requires.below (marked-any lists terms c.args.essential c.args.first c.requires.terms c.args.scores.now c.args.marks.now c.requires.scores c.requires.marks c.in-Some.place inside next.marked) in
+    let n = so_far.n in
+    omega arith
+
+pub loop-place-preserved : goal.loop-place-preserved
+loop-place-preserved g c =
+    let list = g.C.DocCursor.list in
+    let lists : List (List Posting) = map list c.args.cursors.now in
+    let terms : List Term = c.args.terms.now in
+    let so_far = c.loop-place.invariant in
+    let next = candidate-there c.args.scores.now c.args.marks.now c.loop-place.scores c.loop-place.marks c.loop-place.from c.requires.wide so_far.taken c.least_score.result c.in-Some.place c.in-Some.score c.in-Some.ensures.some in
+    let after = next.after in
+    let inside = next.within in
+    let start = c.from.ensures in
+    let doc : c.from.result + c.in-Some.place ≡ c.args.first + c.in-Some.place = omega arith in
+    let below = c.top_list_grows.ensures.in_range c.args.top.now.n lists (c.args.first + c.in-Some.place) c.requires.below (marked-any lists terms c.args.essential c.args.first c.requires.terms c.args.scores.now c.args.marks.now c.requires.scores c.requires.marks c.in-Some.place inside next.marked) in
+    let place = g.C.DocCursor.place in
+    let at : ℕ = c.in-Some.place in
+    let others : List Term = drop c.args.essential terms in
+    let kept = c.consider.ensures in
+    let k = so_far.k in
+    let held : List (ℕ × ℕ) = c.loop-place.top.held in
+    let new : List (ℕ × ℕ) = c.consider.new.top.held in
+    let lent : take (length terms - c.args.essential) (drop c.args.essential terms) ≡ others = behind-is terms c.args.essential in
+    let left : c.total_bound-left.result ≡ bounds others = c.total_bound-left.ensures ∙ ap bounds lent in
+    let low : IfSome c.threshold.result (λ least. c.least_score.result ≡ min (least + 1) 18446744073709551615 - bounds others) = subst (λ (b : ℕ). IfSome c.threshold.result (λ least. c.least_score.result ≡ min (least + 1) 18446744073709551615 - b)) left c.least_score.ensures.some in
+    let full : IfSome c.threshold.result (λ s. length held ≡ c.args.top.now.k) = subst (λ (j : ℕ). IfSome c.threshold.result (λ s. length held ≡ j)) k c.threshold.ensures.full in
+    let here = follows-passed lists terms c.args.essential c.args.first c.requires.terms c.args.scores.now c.args.marks.now c.requires.scores c.requires.marks c.top_list_grows.ensures.skipped c.loop-place.from (c.args.first + at) c.args.top.now.k c.least_score.result c.threshold.result c.args.top.now.held held
+    so_far.spared full c.threshold.ensures.least c.least_score.ensures.none low (omega arith) (omega arith) (λ j f lt is. next.passed j f (omega arith) is) so_far.held in
+    let known : c.in-Some.score + score_in (map list c.loop-place.cursors) (c.from.result + at) (take (length terms - c.args.essential) (drop c.args.essential terms)) ≡ get_or c.args.scores.now at 0 + score_in lists (c.args.first + at) others =
+    (let a = next.scored in
+    let b = ap (λ (ls : List (List Posting)). score_in ls (c.from.result + at) (take (length terms - c.args.essential) (drop c.args.essential terms))) so_far.lists in
+    let e = ap (λ (ts : List Term). score_in lists (c.from.result + at) ts) lent in
+    let f = ap (λ (n : ℕ). score_in lists n others) doc in
+    omega arith) in
+    let considered : Considers c.args.top.now.k (c.args.first + at) (get_or c.args.scores.now at 0 + score_in lists (c.args.first + at) others) held new =
+    subst (λ (s : ℕ). Considers c.args.top.now.k (c.args.first + at) s held new) known
+    (subst (λ (d : ℕ). Considers c.args.top.now.k d (c.in-Some.score + score_in (map list c.loop-place.cursors) (c.from.result + at) (take (length terms - c.args.essential) (drop c.args.essential terms))) held new) doc
+    (subst (λ (j : ℕ). Considers j (c.from.result + at) (c.in-Some.score + score_in (map list c.loop-place.cursors) (c.from.result + at) (take (length terms - c.args.essential) (drop c.args.essential terms))) held new) k kept.held)) in
+    let later = taken-later c.args.scores.now c.args.marks.now c.loop-place.scores c.loop-place.marks c.loop-place.from c.requires.wide so_far.taken (at + 1) c.take_candidate.new.scores c.take_candidate.new.marks (omega arith) c.in-Some.ensures.taken in
+    record {
+      lists = kept.lists ∙ so_far.lists;
+      passed = kept.passed (c.args.first + length c.args.scores.now) (omega arith) so_far.passed;
+      before = before-later list place (c.from.result + at) (c.args.first + (at + 1)) others c.consider.new.cursors (omega arith) (subst (λ (ts : List Term). AreBefore list place (c.from.result + at) ts c.consider.new.cursors) lent kept.before);
+      taken = later;
+      within = omega arith;
+      in_range = omega arith;
+      k = kept.k ∙ k;
+      n = kept.n ∙ so_far.n;
+      above = (let top = c.top_list_grows.ensures in considered-above c.args.top.now.k (c.args.first + at) (c.args.first + (at + 1)) _ held new (omega arith) considered (λ i e within. let h = so_far.above i e within in omega arith));
+      spared = spared-kept terms c.args.top.now.k c.args.essential held new (λ b j all. let r = kept.kept b (j ∙ sym k) all in (r.0 ∙ k, r.1)) so_far.spared;
+      held = follows-considered lists terms c.args.essential c.args.first c.requires.terms c.args.scores.now c.args.marks.now c.requires.scores c.requires.marks c.top_list_grows.ensures.offered c.top_list_grows.ensures.skipped at c.args.top.now.k c.args.top.now.held held new inside next.marked considered here;
+    }
+
+pub returns-clause-clear : goal.returns-clause-clear
+returns-clause-clear g c = λ k d within.
+    let so_far = c.loop-place.invariant in
+    let all = c.in_default.ensures.all_taken in
+    let count = all.count in
+    get_or_default c.take_candidate.new.scores k d 0 within ∙ all.clear k (omega arith) (omega arith)
+
+pub returns-clause-none : goal.returns-clause-none
+returns-clause-none g c = λ k within.
+    let so_far = c.loop-place.invariant in
+    let all = c.in_default.ensures.all_taken in
+    let count = so_far.taken.count in
+    let words = so_far.taken.marks_count in
+    elim (cases_lt k (length c.loop-place.scores)) as (λ _. is_marked c.take_candidate.new.marks k ≡ false) [
+      | inl before ↦ all.unmarked k before (omega arith)
+      | inr after ↦ (let last = c.requires.within in let start = so_far.within in all.marked k after (omega arith) ∙ so_far.taken.marked k (omega arith) within ∙ c.requires.behind k (omega arith) within)
+    ]
+
+pub returns-clause-held : goal.returns-clause-held
+returns-clause-held g c =
+    let lists : List (List Posting) = map g.C.DocCursor.list c.args.cursors.now in
+    let terms : List Term = c.args.terms.now in
+    let so_far = c.loop-place.invariant in
+    let k = so_far.k in
+    let held : List (ℕ × ℕ) = c.loop-place.top.held in
+    let others : List Term = drop c.args.essential terms in
+    let left : c.total_bound-left.result ≡ bounds others = c.total_bound-left.ensures ∙ ap bounds (behind-is terms c.args.essential) in
+    let low : IfSome c.threshold.result (λ least. c.least_score.result ≡ min (least + 1) 18446744073709551615 - bounds others) = subst (λ (b : ℕ). IfSome c.threshold.result (λ least. c.least_score.result ≡ min (least + 1) 18446744073709551615 - b)) left c.least_score.ensures.some in
+    let full : IfSome c.threshold.result (λ s. length held ≡ c.args.top.now.k) = subst (λ (j : ℕ). IfSome c.threshold.result (λ s. length held ≡ j)) k c.threshold.ensures.full in
+    let within = so_far.within in
+    let in_range = so_far.in_range in
+    let none = none-there c.args.scores.now c.args.marks.now c.loop-place.scores c.loop-place.marks c.loop-place.from c.requires.wide so_far.taken c.least_score.result c.in_default.ensures.none in
+    follows-passed lists terms c.args.essential c.args.first c.requires.terms c.args.scores.now c.args.marks.now c.requires.scores c.requires.marks c.top_list_grows.ensures.skipped c.loop-place.from (min (c.args.first + length c.args.scores.now) c.args.top.now.n) c.args.top.now.k c.least_score.result c.threshold.result c.args.top.now.held held
+    so_far.spared full c.threshold.ensures.least c.least_score.ensures.none low (omega arith) (omega arith) (λ j f lt is. none j f (omega arith) is) so_far.held

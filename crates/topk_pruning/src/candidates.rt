@@ -1,0 +1,246 @@
+ghost use Rattle.std.specs.Prelude.{◌≡◌, ℕ, ◌+◌, ◌-◌, ◌*◌, ◌≤◌, ◌<◌, ◌^◌, ◌||◌, true, false, map, take, drop, length, min, slice_index, nat_le, IfSome, IfNone};
+ghost use Rattle.std.specs.List.{All};
+ghost use Rattle.scan_plans.specs.Matches.{AreBelow, has_doc, freq_of_doc};
+ghost use Rattle.scan_plans.specs.Scan.{HasPassed, StandsFrom};
+ghost use Rattle.scan_plans.specs.Window.{is_marked};
+ghost use Rattle.topk_pruning.specs.Terms.{AreApart, AreBefore, AreKept, AreSpared, AreTerms, Considers, FollowsTo, beats, bounds, in_lists, score_in};
+
+use crate::probe::{doc_from, is_above, probe};
+use crate::term::{Term, total_bound};
+use cursor_api::DocCursor;
+use scan_plans::{Block, TopK, add_list, take_candidate, top_list_grows};
+
+// Scores the documents of a window from `first` on that the lists of the essential terms have, and offers those that can be held. The
+// cursors are then behind the window, or before it where their lists were not asked.
+pub(crate) fn score_window<C: DocCursor>(
+    cursors: &mut [C],
+    terms: &[Term],
+    essential: usize,
+    first: u32,
+    scores: &mut [u64],
+    marks: &mut [u64],
+    block: &mut Block,
+    top: &mut TopK,
+)
+    requires terms { AreTerms (map C.list cursors.old) terms.now }
+    requires apart { AreApart terms.now }
+    requires small { All (λ t. t.weight < 2 ^ 26) terms.now }
+    requires passed { All (λ c. HasPassed first (C.list c) (C.place c)) cursors.old }
+    requires wide { length scores.old ≤ 64 * length marks.old }
+    requires clear { All (λ s. s ≡ 0) scores.old }
+    requires none { (k : ℕ) → k < 64 * length marks.old → is_marked marks.old k ≡ false }
+    requires below { AreBelow top.old.n (map C.list cursors.old) }
+    requires narrow { top.old.n < 2 ^ 32 }
+    requires in_range { first ≤ top.old.n }
+    requires above { All (λ e. e.0 < first) top.old.held }
+    requires essential { AreSpared top.old.k top.old.held terms.now essential }
+    ensures lists { map C.list cursors.new ≡ map C.list cursors.old }
+    ensures passed { All (λ c. HasPassed (first + length scores.old) (C.list c) (C.place c)) cursors.new }
+    ensures count { length scores.new ≡ length scores.old }
+    ensures marks_count { length marks.new ≡ length marks.old }
+    ensures clear { All (λ s. s ≡ 0) scores.new }
+    ensures none { (k : ℕ) → k < 64 * length marks.old → is_marked marks.new k ≡ false }
+    ensures k { top.new.k ≡ top.old.k }
+    ensures n { top.new.n ≡ top.old.n }
+    ensures held { FollowsTo (map C.list cursors.old) terms.now top.old.k first (min (first + length scores.old) top.old.n) top.old.held top.new.held }
+{
+    let reached = add_terms(cursors, &terms[..essential], first, scores, marks, block);
+    offer_candidates(
+        cursors, terms, essential, first, reached, scores, marks, top,
+    );
+}
+
+// Adds what the lists of some terms give the documents of a window from `first` on, marks these, and moves the cursors of the terms
+// behind the window. It tells how many of the window's places were reached.
+fn add_terms<C: DocCursor>(
+    cursors: &mut [C],
+    terms: &[Term],
+    first: u32,
+    scores: &mut [u64],
+    marks: &mut [u64],
+    block: &mut Block,
+) -> usize
+    requires terms { AreTerms (map C.list cursors.old) terms.now }
+    requires apart { AreApart terms.now }
+    requires small { All (λ t. t.weight < 2 ^ 26) terms.now }
+    requires passed { All (λ c. HasPassed first (C.list c) (C.place c)) cursors.old }
+    requires wide { length scores.old ≤ 64 * length marks.old }
+    requires clear { All (λ s. s ≡ 0) scores.old }
+    requires none { (k : ℕ) → k < 64 * length marks.old → is_marked marks.old k ≡ false }
+    ensures lists { map C.list cursors.new ≡ map C.list cursors.old }
+    ensures passed { All (λ c. HasPassed (first + length scores.old) (C.list c) (C.place c)) cursors.new }
+    ensures kept { AreKept terms.now cursors.old cursors.new }
+    ensures count { length scores.new ≡ length scores.old }
+    ensures marks_count { length marks.new ≡ length marks.old }
+    ensures scores { (k : ℕ) → k < length scores.old → slice_index scores.new k ≡ score_in (map C.list cursors.old) (first + k) terms.now }
+    ensures marks { (k : ℕ) → k < length scores.old → is_marked marks.new k ≡ in_lists (map C.list cursors.old) (first + k) terms.now }
+    ensures within { result ≤ length scores.old }
+    ensures behind { (k : ℕ) → result ≤ k → k < 64 * length marks.old → is_marked marks.new k ≡ false }
+{
+    let mut reached = 0;
+    for term in terms {
+        reached = add_term(
+            &mut cursors[term.list],
+            term.weight,
+            first,
+            scores,
+            marks,
+            block,
+        )
+        .max(reached);
+    }
+    reached
+}
+
+// Adds what a list gives the documents of a window from `first` on, as `add_list` does. The cursor has passed no document from `first` on.
+fn add_term<C: DocCursor>(
+    cursor: &mut C,
+    weight: u32,
+    first: u32,
+    scores: &mut [u64],
+    marks: &mut [u64],
+    block: &mut Block,
+) -> usize
+    requires passed { HasPassed first (C.list cursor.old) (C.place cursor.old) }
+    requires wide { length scores.old ≤ 64 * length marks.old }
+    requires room { All (λ s. s + weight * 4294967295 < 2 ^ 64) scores.old }
+    ensures list { C.list cursor.new ≡ C.list cursor.old }
+    ensures stand { StandsFrom (first + length scores.old) (C.list cursor.new) (C.place cursor.new) }
+    ensures count { length scores.new ≡ length scores.old }
+    ensures marks_count { length marks.new ≡ length marks.old }
+    ensures scores { (k : ℕ) → k < length scores.old → slice_index scores.new k ≡ slice_index scores.old k + weight * freq_of_doc (first + k) (C.list cursor.old) }
+    ensures marks { (k : ℕ) → k < length scores.old → is_marked marks.new k ≡ (is_marked marks.old k || has_doc (first + k) (C.list cursor.old)) }
+    ensures within { result ≤ length scores.old }
+    ensures behind { (k : ℕ) → result ≤ k → is_marked marks.new k ≡ is_marked marks.old k }
+{
+    let _ = doc_from(cursor, first);
+    add_list(cursor, weight, first, scores, marks, block)
+}
+
+// Offers the marked documents of a window from `first` on that can be held, with what the lists of the other terms add to their scores,
+// and takes all marks and scores back.
+fn offer_candidates<C: DocCursor>(
+    cursors: &mut [C],
+    terms: &[Term],
+    essential: usize,
+    first: u32,
+    reached: usize,
+    scores: &mut [u64],
+    marks: &mut [u64],
+    top: &mut TopK,
+)
+    requires terms { AreTerms (map C.list cursors.old) terms.now }
+    requires before { AreBefore C.list C.place first (drop essential terms.now) cursors.old }
+    requires passed { All (λ c. HasPassed (first + length scores.old) (C.list c) (C.place c)) cursors.old }
+    requires wide { length scores.old ≤ 64 * length marks.old }
+    requires scores { (k : ℕ) → k < length scores.old → slice_index scores.old k ≡ score_in (map C.list cursors.old) (first + k) (take essential terms.now) }
+    requires marks { (k : ℕ) → k < length scores.old → is_marked marks.old k ≡ in_lists (map C.list cursors.old) (first + k) (take essential terms.now) }
+    requires within { reached ≤ length scores.old }
+    requires behind { (k : ℕ) → reached ≤ k → k < 64 * length marks.old → is_marked marks.old k ≡ false }
+    requires below { AreBelow top.old.n (map C.list cursors.old) }
+    requires narrow { top.old.n < 2 ^ 32 }
+    requires in_range { first ≤ top.old.n }
+    requires above { All (λ e. e.0 < first) top.old.held }
+    requires essential { AreSpared top.old.k top.old.held terms.now essential }
+    ensures lists { map C.list cursors.new ≡ map C.list cursors.old }
+    ensures passed { All (λ c. HasPassed (first + length scores.old) (C.list c) (C.place c)) cursors.new }
+    ensures count { length scores.new ≡ length scores.old }
+    ensures marks_count { length marks.new ≡ length marks.old }
+    ensures clear { All (λ s. s ≡ 0) scores.new }
+    ensures none { (k : ℕ) → k < 64 * length marks.old → is_marked marks.new k ≡ false }
+    ensures k { top.new.k ≡ top.old.k }
+    ensures n { top.new.n ≡ top.old.n }
+    ensures held { FollowsTo (map C.list cursors.old) terms.now top.old.k first (min (first + length scores.old) top.old.n) top.old.held top.new.held }
+{
+    top_list_grows();
+    let others = &terms[essential..];
+    let left = total_bound(others);
+    let mut from = 0;
+    while let Some((place, score)) = take_candidate(
+        from,
+        reached,
+        least_score(top.threshold(), left),
+        scores,
+        marks,
+    ) {
+        let doc = (u64::from(first) + place as u64) as u32;
+        consider(cursors, others, left, doc, score, top);
+        from = place + 1;
+    }
+}
+
+// The least score that the bounds left can lift above the least score held.
+fn least_score(threshold: Option<u64>, left: u64) -> u64
+    ensures none { IfNone threshold (result ≡ 0) }
+    ensures some { IfSome threshold (λ least. result ≡ min (least + 1) 18446744073709551615 - left) }
+{
+    match threshold {
+        Some(least) => least.saturating_add(1).saturating_sub(left),
+        None => 0,
+    }
+}
+
+// Offers a document of which the score in some lists is known, where with the other lists it can be held. `left` is what these can add.
+fn consider<C: DocCursor>(
+    cursors: &mut [C],
+    others: &[Term],
+    left: u64,
+    doc: u32,
+    known: u64,
+    top: &mut TopK,
+)
+    requires terms { AreTerms (map C.list cursors.old) others.now }
+    requires left { left ≡ bounds others.now }
+    requires light { known + left < 2 ^ 58 }
+    requires before { AreBefore C.list C.place doc others.now cursors.old }
+    requires in_range { doc < top.old.n }
+    requires above { All (λ e. e.0 < doc) top.old.held }
+    ensures lists { map C.list cursors.new ≡ map C.list cursors.old }
+    ensures before { AreBefore C.list C.place doc others.now cursors.new }
+    ensures passed { (e : ℕ) → doc ≤ e → All (λ c. HasPassed e (C.list c) (C.place c)) cursors.old → All (λ c. HasPassed e (C.list c) (C.place c)) cursors.new }
+    ensures k { top.new.k ≡ top.old.k }
+    ensures n { top.new.n ≡ top.old.n }
+    ensures held { Considers top.old.k doc (known + score_in (map C.list cursors.old) doc others.now) top.old.held top.new.held }
+    ensures kept { (b : ℕ) → length top.old.held ≡ top.old.k → All (λ e. b ≤ e.1) top.old.held → (length top.new.held ≡ top.old.k) × All (λ e. b ≤ e.1) top.new.held }
+{
+    if let Some(score) = score_above(cursors, others, left, doc, known, top.threshold()) {
+        top.offer(doc, score);
+    }
+}
+
+// The score of a document where it beats the least score held, else None. Of it, what some lists give is known; the others are probed
+// from the highest bound down, and no further than until the bounds that are left cannot lift the score above the least held.
+fn score_above<C: DocCursor>(
+    cursors: &mut [C],
+    others: &[Term],
+    bound: u64,
+    doc: u32,
+    known: u64,
+    threshold: Option<u64>,
+) -> Option<u64>
+    requires terms { AreTerms (map C.list cursors.old) others.now }
+    requires bound { bound ≡ bounds others.now }
+    requires light { known + bound < 2 ^ 58 }
+    requires before { AreBefore C.list C.place doc others.now cursors.old }
+    ensures lists { map C.list cursors.new ≡ map C.list cursors.old }
+    ensures before { AreBefore C.list C.place doc others.now cursors.new }
+    ensures passed { (e : ℕ) → doc ≤ e → All (λ c. HasPassed e (C.list c) (C.place c)) cursors.old → All (λ c. HasPassed e (C.list c) (C.place c)) cursors.new }
+    ensures value { IfSome result (λ score. score ≡ known + score_in (map C.list cursors.old) doc others.now) }
+    ensures above { IfSome result (λ score. beats threshold score ≡ true) }
+    ensures dropped { IfNone result (beats threshold (known + score_in (map C.list cursors.old) doc others.now) ≡ false) }
+{
+    let mut score = known;
+    let mut left = bound;
+    for term in others {
+        if !is_above(score + left, threshold) {
+            return None;
+        }
+        left -= term.bound;
+        score += probe(&mut cursors[term.list], term.weight, doc);
+    }
+    if is_above(score, threshold) {
+        Some(score)
+    } else {
+        None
+    }
+}
