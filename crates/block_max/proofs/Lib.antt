@@ -1,0 +1,6 @@
+mod Behind
+mod Ceilings
+mod Finds
+mod SideChecks
+mod TestLists
+mod Words

@@ -1,0 +1,3 @@
+pub mod BlockLists
+pub mod Laws
+pub mod Props

@@ -1,0 +1,15 @@
+//! The lists of an opened index in blocks: the parts of their documents.
+#![tactic(auto)]
+
+mod laws;
+mod side;
+mod source;
+mod starts;
+
+pub use laws::side_files_are_short;
+pub use side::index_side_words;
+pub use source::IndexBlocks;
+pub use starts::block_starts;
+
+#[cfg(test)]
+mod tests;

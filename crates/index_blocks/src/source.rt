@@ -1,0 +1,62 @@
+ghost use Rattle.std.specs.Prelude.{◌≡◌};
+ghost use Rattle.std.specs.List.{All};
+ghost use Rattle.block_max.specs.Blocks.{IsBlockList};
+ghost use Rattle.index_blocks.specs.BlockLists.{block_starts, blocks_of_index};
+ghost use Rattle.index_blocks.specs.Props.{cut-prop};
+
+use block_max::BlockSource;
+use index_file::Index;
+use postings::cursors_stand_in_lists;
+
+/// The lists of an opened index, whose blocks are the parts of their documents.
+#[derive(Clone, Copy)]
+pub struct IndexBlocks<'i, 'a> {
+    index: &'i Index<'a>,
+    // How many blocks stand before each list, and how many there are.
+    starts: &'i [u64],
+    ghost cut: { All IsBlockList (blocks_of_index index.now) } by { cut-prop (blocks_of_index index.now) },
+    ghost counted: { starts.now ≡ block_starts (blocks_of_index index.now) },
+}
+
+impl<'i, 'a> IndexBlocks<'i, 'a> {
+    /// The lists of an index, with what `block_starts` gives of it.
+    pub fn new(index: &'i Index<'a>, starts: &'i [u64]) -> IndexBlocks<'i, 'a>
+        requires { starts.now ≡ block_starts (blocks_of_index index.now) }
+        ensures { ⟦<IndexBlocks<'i, 'a> as BlockSource>⟧.lists result ≡ blocks_of_index index.entry.now }
+    {
+        index.stands_for_a_collection();
+        cursors_stand_in_lists();
+        IndexBlocks { index, starts }
+    }
+}
+
+impl<'i, 'a> BlockSource for IndexBlocks<'i, 'a> {
+    ghost lists = { λ s. blocks_of_index s.index.now };
+
+    fn terms(&self) -> u32 {
+        self.index.stands_for_a_collection();
+        self.index.terms()
+    }
+
+    fn blocks(&self, t: u32) -> u32 {
+        self.index.stands_for_a_collection();
+        self.index.blocks(t)
+    }
+
+    fn last(&self, t: u32, q: u32) -> u32 {
+        self.index.stands_for_a_collection();
+        self.index.block_last(t, q)
+    }
+
+    fn greatest(&self, t: u32, q: u32) -> u32 {
+        self.index.stands_for_a_collection();
+        self.index.block(t, q).1
+    }
+
+    fn blocks_before(&self, t: u32) -> u64 {
+        self.index.stands_for_a_collection();
+        self.starts[t as usize]
+    }
+
+    ghost cut = { λ s. s.cut };
+}
