@@ -7,3 +7,11 @@ mod Vectors
 mod Applied
 mod Rows
 mod Small
+mod Ids
+mod MapNumbers
+mod MapReads
+mod MapFaultsFound
+mod MapBytes
+mod MapIds
+mod MapRead
+mod OneFault

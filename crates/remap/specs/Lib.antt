@@ -3,3 +3,7 @@ pub mod Image
 pub mod Laws
 pub mod Vectors
 pub mod Spelling
+pub mod MapFaults
+pub mod OneMap
+pub mod OneSequence
+pub mod ReadMap

@@ -2,7 +2,10 @@ ghost use Rattle.std.specs.Prelude.{◌≡◌, [], ◌∷◌, length, IfOk};
 ghost use Rattle.collection_model.specs.Collection.{WellFormed};
 ghost use Rattle.collection_model.specs.FormatNumbers.{format_two};
 
-use crate::{Permutation, apply, image_is_well_formed, spell_docs, spell_freqs, spell_sizes};
+use crate::{
+    MapError, MapFault, MapRule, Permutation, apply, image_is_well_formed, read_map, spell_docs,
+    spell_freqs, spell_sizes,
+};
 use collection_reader::{Collection, read_collection};
 use no_memory::NoMemory;
 use part_cost::Format;
@@ -81,6 +84,49 @@ fn orders_are_undone(rt: HostRuntime) -> Result<(), Fail> {
     for (d, id) in [(0, 2), (1, 0), (2, 1)] {
         assert_eq!(rt; order.new_id(d), id);
         assert_eq!(rt; back.new_id(id), d);
+    }
+    Ok(())
+}
+
+/// A depot of one file, of which a read gives at most five bytes.
+fn map_depot(alloc: Global, map: Vec<u8>) -> Result<SteadyDepot, Fail> {
+    let mut files = Vec::new(alloc);
+    files.push((String::from_str(alloc, "small.map")?, map))?;
+    Ok(SteadyDepot::new(alloc, files, 5)?)
+}
+
+/// What breaks in a map of these bytes, for three documents.
+fn map_fault(alloc: Global, map: Vec<u8>) -> Result<Option<MapFault>, Fail> {
+    match read_map(alloc, "small.map", 3, &mut map_depot(alloc, map)?) {
+        Err(MapError::Broken(fault)) => Ok(Some(fault)),
+        _ => Ok(None),
+    }
+}
+
+#[test]
+fn orders_are_read(rt: HostRuntime) -> Result<(), Fail> {
+    let alloc = rt.alloc();
+    let mut depot = map_depot(alloc, bytes(alloc, &[3, 2, 0, 1])?)?;
+    let order = read_map(alloc, "small.map", 3, &mut depot)?;
+    assert_eq!(rt; order.new_id(0), 2);
+    assert_eq!(rt; order.new_id(1), 0);
+    assert_eq!(rt; order.new_id(2), 1);
+    Ok(())
+}
+
+#[test]
+fn broken_maps_are_refused(rt: HostRuntime) -> Result<(), Fail> {
+    let alloc = rt.alloc();
+    for (numbers, length, rule, place) in [
+        ([3, 0, 0, 1, 0], 16, MapRule::M4, 1),
+        ([2, 2, 0, 1, 0], 16, MapRule::M2, 0),
+        ([3, 0, 1, 3, 0], 16, MapRule::M3, 2),
+        ([3, 2, 0, 1, 0], 14, MapRule::M1, 2),
+        ([3, 2, 0, 1, 0], 17, MapRule::M5, 3),
+    ] {
+        let mut map = bytes(alloc, &numbers)?;
+        map.truncate(length);
+        assert_eq!(rt; map_fault(alloc, map)?, Some(MapFault { rule, place }));
     }
     Ok(())
 }

@@ -1,0 +1,91 @@
+-- Lemmas on the bytes held of the map, and on the bytes and numbers that are taken from them.
+use Rattle.std.proofs.Common.{zero, refl, lit<, ◌≡◌, ◌∙◌, sym, ap, ℕ, suc, ◌+◌, ◌-◌, ◌<◌, ◌≤◌, ◌∷◌, ◌++◌, List, [], length, take, drop, get_or, arith, add-one, Ok, Err, Some, None, true, false, IsTrue, drop-cons}
+use Rattle.std.proofs.lemmas.List.{length-append, length-take}
+use Rattle.std.proofs.lemmas.Nat.{le_bytes_4}
+use Rattle.std.specs.Int.{from_le_bytes, w32}
+use Rattle.collection_model.specs.Bytes.{le32}
+use Rattle.pef_io.specs.declared.fail.IoFail.{IoFail}
+use Rattle.pef_io.specs.declared.fail.Slot.TheVariants.{Map}
+use Rattle.pef_io.specs.DepotState.{DepotState}
+use Rattle.remap.specs.OneMap.{LooksAhead, TakesByte, TakesNumber, ReadsOn, rest_of}
+use Rattle.remap.proofs.MapReads.{reads-ok, reads-err, reads-on}
+
+-- where a look ahead fails no byte is taken
+pub byte_refused : (held held_after : List ℕ) (old new : DepotState) (e : IoFail) → LooksAhead held held_after old new (Err e) → TakesByte held held_after old new (Err e)
+byte_refused held held_after old new e look = record {
+  fits = λ b h. absurd cc;
+  byte = λ t b h. absurd cc;
+  at_end = λ t h. absurd cc;
+  depot = reads-err e look.depot;
+}
+
+-- where there is no byte
+pub no_byte : (held held_after : List ℕ) (old new : DepotState) → LooksAhead held held_after old new (Ok false) → TakesByte held held_after old new (Ok None)
+no_byte held held_after old new look = record {
+  fits = λ b h. absurd cc;
+  byte = λ t b h. absurd cc;
+  at_end = λ t h. look.at_end t refl;
+  depot = reads-ok None look.depot;
+}
+
+-- the first byte of those held is taken
+pub byte_taken : (held mid held_after : List ℕ) (old new : DepotState) (b : ℕ) → b < 256 → LooksAhead held mid old new (Ok true) → mid ≡ b ∷ held_after → TakesByte held held_after old new (Ok (Some b))
+byte_taken held mid held_after old new b fits look e = record {
+  fits = λ c h. (let same : b ≡ c = cc in omega arith);
+  byte = λ t c h. (let same : b ≡ c = cc in sym (look.same_rest t) ∙ ap (λ h. h ++ new.left Map) e ∙ ap (λ (c : ℕ). c ∷ rest_of held_after new) same);
+  at_end = λ t h. absurd cc;
+  depot = reads-ok (Some b) look.depot;
+}
+
+-- the bytes held, the first of them apart
+pub first_held : (piece : List ℕ) (used end : ℕ) → used < end → end ≤ length piece → take (end - used) (drop used piece) ≡ get_or piece used 0 ∷ take (end - (used + 1)) (drop (used + 1) piece)
+first_held piece used end lt within =
+    let l : used < length piece = omega arith in
+    let e : end - used ≡ suc (end - suc used) = omega arith in
+    rw (add-one, drop-cons piece used 0) (ap (λ n. take n (get_or piece used 0 ∷ drop (suc used) piece)) e)
+
+-- where a byte is refused, after k bytes of a number, the number is refused
+pub number_refused : (first mid last : List ℕ) (a b c : DepotState) (k : ℕ) (e : IoFail) → ReadsOn a b (Ok k) → TakesByte mid last b c (Err e) → TakesNumber first last a c (Err e)
+number_refused first mid last a b c k e reads byte = record {
+  fits = λ n h. absurd cc;
+  number = λ t n h. absurd cc;
+  too_short = λ t h. absurd cc;
+  depot = reads-on reads (reads-err e byte.depot);
+}
+
+-- where there is no byte after k bytes of a number, there is no number
+pub no_number : (first mid last : List ℕ) (a b c : DepotState) (k : ℕ) (bytes : List ℕ) → k < 4
+    → (IsTrue a.tells → rest_of first a ≡ take k bytes ++ rest_of mid b) → ReadsOn a b (Ok k) → TakesByte mid last b c (Ok None) → TakesNumber first last a c (Ok None)
+no_number first mid last a b c k bytes lt rest reads byte = record {
+  fits = λ n h. absurd cc;
+  number = λ t n h. absurd cc;
+  too_short = λ t h.
+      let none = byte.at_end (reads.only.tells ∙ t) refl in
+      rw (rest t, none) (omega (arith, length-append (take k bytes) [], length-take k bytes));
+  depot = reads-on reads byte.depot;
+}
+
+first_of : (piece : List ℕ) (used next end b : ℕ) → next ≡ used + 1 → used < end → end ≤ length piece → b ≡ get_or piece used 0 → take (end - used) (drop used piece) ≡ b ∷ take (end - next) (drop next piece)
+first_of piece used next end b is lt within e = rw (is, e) (first_held piece used end lt within)
+
+small_four : (a b c d : ℕ) → a < 256 → b < 256 → c < 256 → d < 256 → (i : ℕ) → get_or (a ∷ b ∷ c ∷ d ∷ []) i 0 < 256
+small_four a b c d p q r s zero = p
+small_four a b c d p q r s (suc zero) = q
+small_four a b c d p q r s (suc (suc zero)) = r
+small_four a b c d p q r s (suc (suc (suc zero))) = s
+small_four a b c d p q r s (suc (suc (suc (suc i)))) = lit< tt
+
+-- the bytes held, the number of the first four apart
+pub number_held : (piece : List ℕ) (used end n a b c d : ℕ) → used + 4 ≤ end → end ≤ length piece
+    → a ≡ get_or piece used 0 → b ≡ get_or piece (used + 1) 0 → c ≡ get_or piece (used + 2) 0 → d ≡ get_or piece (used + 3) 0
+    → a < 256 → b < 256 → c < 256 → d < 256 → n ≡ from_le_bytes w32 (a ∷ b ∷ c ∷ d ∷ []) → take (end - used) (drop used piece) ≡ le32 n ++ take (end - (used + 4)) (drop (used + 4) piece)
+number_held piece used end n a b c d enough within ea eb ec ed fa fb fc fd is =
+    first_of piece used (used + 1) end a refl (omega arith) within ea
+    ∙ ap (λ r. a ∷ r) (
+    first_of piece (used + 1) (used + 2) end b (omega arith) (omega arith) within eb
+    ∙ ap (λ r. b ∷ r) (
+    first_of piece (used + 2) (used + 3) end c (omega arith) (omega arith) within ec
+    ∙ ap (λ r. c ∷ r) (first_of piece (used + 3) (used + 4) end d (omega arith) (omega arith) within ed)
+    )
+    )
+    ∙ ap (λ bytes. bytes ++ take (end - (used + 4)) (drop (used + 4) piece)) (sym (le_bytes_4 (a ∷ b ∷ c ∷ d ∷ []) n refl (small_four a b c d fa fb fc fd) is))

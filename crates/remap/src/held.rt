@@ -1,0 +1,107 @@
+ghost use Rattle.std.specs.Prelude.{◌≡◌, ◌≤◌, [], ◌++◌, length, IsTrue, IfOk};
+ghost use Rattle.collection_model.specs.Bytes.{le32};
+ghost use Rattle.pef_io.specs.declared.fail.Slot.TheVariants.{Map};
+ghost use Rattle.remap.specs.OneMap.{LooksAhead, TakesByte, TakesNumber};
+
+use pef_io::{Depot, IoFail, Slot};
+use std::alloc::{AllocError, Global};
+use std::marker::Model;
+
+/// The most bytes of the map that are read at once.
+const PIECE_BYTES: usize = 8_192;
+
+/// A piece of the map, of which the bytes from `used` to `end` are still to be used.
+#[derive(Drop)]
+pub(crate) struct Held {
+    piece: Vec<u8>,
+    used: usize,
+    end: usize,
+}
+
+impl Model for Held {
+    ghost use Rattle.std.specs.Prelude.{ℕ, ◌-◌, ◌≤◌, ◌<◌, List, take, drop, vec_len};
+
+    ghost Value = { List ℕ };
+
+    ghost view = { λ h. take (h.end - h.used) (drop h.used h.piece.items) };
+
+    ghost invariant = { λ h. (h.used ≤ h.end) × (h.end ≤ vec_len h.piece) × (0 < vec_len h.piece) };
+}
+
+impl Held {
+    /// Takes the room of one piece.
+    pub(crate) fn new(alloc: Global) -> Result<Held, AllocError>
+        ensures { IfOk result (λ held. held ≡ []) }
+    {
+        Ok(Held {
+            piece: vec![in alloc; 0; PIECE_BYTES]?,
+            used: 0,
+            end: 0,
+        })
+    }
+
+    /// Whether the map has a byte left. Reads a piece where none is held.
+    pub(crate) fn has_byte<D: Depot>(&mut self, depot: &mut D) -> Result<bool, IoFail>
+        requires { IsTrue ((D.state depot.old).started Map) }
+        ensures { LooksAhead self.old self.new (D.state depot.old) (D.state depot.new) result }
+    {
+        if self.used < self.end {
+            return Ok(true);
+        }
+        match depot.read(Slot::Map, self.piece.as_mut_slice()) {
+            Ok(count) => {
+                self.used = 0;
+                self.end = count;
+                Ok(count > 0)
+            }
+            Err(fail) => Err(fail),
+        }
+    }
+
+    /// The next byte of the map, where there is one.
+    fn byte<D: Depot>(&mut self, depot: &mut D) -> Result<Option<u8>, IoFail>
+        requires { IsTrue ((D.state depot.old).started Map) }
+        ensures { TakesByte self.old self.new (D.state depot.old) (D.state depot.new) result }
+    {
+        if !self.has_byte(depot)? {
+            return Ok(None);
+        }
+        let byte = self.piece[self.used];
+        self.used += 1;
+        Ok(Some(byte))
+    }
+
+    /// The next number of the map, where four bytes are left.
+    pub(crate) fn number<D: Depot>(&mut self, depot: &mut D) -> Result<Option<u32>, IoFail>
+        requires { IsTrue ((D.state depot.old).started Map) }
+        ensures { TakesNumber self.old self.new (D.state depot.old) (D.state depot.new) result }
+    {
+        if self.end - self.used >= 4 {
+            return Ok(Some(self.held_number()));
+        }
+        let mut bytes = [0; 4];
+        for byte in &mut bytes {
+            let Some(next) = self.byte(depot)? else {
+                return Ok(None);
+            };
+            *byte = next;
+        }
+        Ok(Some(u32::from_le_bytes(bytes)))
+    }
+
+    /// The number that the next four bytes held are.
+    fn held_number(&mut self) -> u32
+        requires { 4 ≤ length self.old }
+        ensures { self.old ≡ le32 result ++ self.new }
+    {
+        let at = self.used;
+        let bytes = [
+            self.piece[at],
+            self.piece[at + 1],
+            self.piece[at + 2],
+            self.piece[at + 3],
+        ];
+        self.used += 4;
+        u32::from_le_bytes(bytes)
+    }
+}
