@@ -1,0 +1,2 @@
+mod OneList
+mod Walked
