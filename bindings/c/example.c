@@ -1,0 +1,104 @@
+/* Builds the index of two lists, checks it, asks it, and shows how other words are refused. */
+#include <stdio.h>
+#include <stdlib.h>
+
+#include "pefidx.h"
+
+/* Three documents. Term 0 is twice in document 0 and once in document 2, and term 1 four times in document 2. */
+static const uint32_t lengths[] = {2, 1};
+static const uint32_t docs[] = {0, 2, 2};
+static const uint32_t freqs[] = {2, 1, 4};
+static const uint32_t sizes[] = {2, 0, 5};
+
+static int ended(const char *call, uint32_t status, uint32_t wanted)
+{
+    if (status == wanted) {
+        return 0;
+    }
+    fprintf(stderr, "%s ended with %u, not with %u\n", call, (unsigned)status, (unsigned)wanted);
+    return 1;
+}
+
+static int built(uint64_t *words, size_t room, size_t *count)
+{
+    pefidx_bad_posting bad;
+    return ended("pefidx_build", pefidx_build(lengths, 2, docs, 3, freqs, 3, sizes, 3, words, room, count, &bad), PEFIDX_DONE);
+}
+
+static int asked(const uint64_t *words, size_t count)
+{
+    const uint32_t terms[] = {0, 1}, weights[] = {1, 10};
+    pefidx_posting found, list[8];
+    pefidx_scored best[2];
+    uint32_t matches[3], size;
+    size_t given, number, i;
+
+    printf("%u documents, %u terms\n", (unsigned)pefidx_documents(words, count), (unsigned)pefidx_terms(words, count));
+    if (ended("pefidx_size_of", pefidx_size_of(words, count, 2, &size), PEFIDX_DONE)) {
+        return 1;
+    }
+    printf("document 2 has size %u\n", (unsigned)size);
+    if (ended("pefidx_next", pefidx_next(words, count, 0, 1, &found), PEFIDX_DONE)) {
+        return 1;
+    }
+    printf("term 0 from document 1 on: %u %u\n", (unsigned)found.doc, (unsigned)found.freq);
+    if (ended("pefidx_next", pefidx_next(words, count, 0, 3, &found), PEFIDX_END)) {
+        return 1;
+    }
+    if (ended("pefidx_postings", pefidx_postings(words, count, 0, 0, list, 8, &given), PEFIDX_DONE)) {
+        return 1;
+    }
+    printf("term 0:");
+    for (i = 0; i < given; i++) {
+        printf(" %u:%u", (unsigned)list[i].doc, (unsigned)list[i].freq);
+    }
+    if (ended("pefidx_and", pefidx_and(words, count, terms, 2, matches, 3, &number), PEFIDX_DONE)) {
+        return 1;
+    }
+    printf("\nboth: %zu, first %u\n", number, (unsigned)matches[0]);
+    if (ended("pefidx_or", pefidx_or(words, count, terms, 2, matches, 1, &number), PEFIDX_ROOM)) {
+        return 1;
+    }
+    printf("any: %zu, first %u\n", number, (unsigned)matches[0]);
+    if (ended("pefidx_top", pefidx_top(words, count, PEFIDX_MAXSCORE, terms, 2, weights, 2, 2, best, 2, &number), PEFIDX_DONE)) {
+        return 1;
+    }
+    for (i = 0; i < number; i++) {
+        printf("best: %u:%llu\n", (unsigned)best[i].doc, (unsigned long long)best[i].score);
+    }
+    return ended("pefidx_next", pefidx_next(words, count, 2, 0, &found), PEFIDX_NO_TERM);
+}
+
+/* Words of which one bit is changed, and the first few of them. */
+static int refused(uint64_t *words, size_t count)
+{
+    pefidx_fault fault;
+    int wrong;
+    words[0] ^= 1;
+    wrong = ended("pefidx_check", pefidx_check(words, count, &fault), PEFIDX_NO_INDEX);
+    printf("word 0 changed: check K%u\n", (unsigned)fault.check);
+    words[0] ^= 1;
+    wrong |= ended("pefidx_check", pefidx_check(words, 5, &fault), PEFIDX_NO_INDEX);
+    printf("5 words: check K%u\n", (unsigned)fault.check);
+    return wrong;
+}
+
+int main(void)
+{
+    size_t room = 64, count;
+    pefidx_fault fault;
+    int wrong;
+    uint64_t *words = malloc(room * sizeof *words);
+    if (!words) {
+        return 1;
+    }
+    wrong = built(words, room, &count);
+    if (!wrong) {
+        /* The rest of the room is given back, so that a look behind the words is seen. */
+        uint64_t *fitted = realloc(words, count * sizeof *words);
+        words = fitted ? fitted : words;
+        wrong = ended("pefidx_check", pefidx_check(words, count, &fault), PEFIDX_DONE) || asked(words, count) || refused(words, count);
+    }
+    free(words);
+    return wrong;
+}

@@ -1,0 +1,165 @@
+/* The posting store for programs in C: the words of an index are checked once, and every later call takes them and gives its
+ * answer in room that the caller lends. No call keeps anything for the next, and none writes anything but what its last parameters
+ * point to; so any number of threads may call over the same words at once.
+ *
+ * What every caller owes:
+ *
+ * - `words` points to `count` words of 64 bits in the order of the machine, which is to be little-endian, aligned to 8 bytes. They are
+ *   the bytes of an index file, which may be a map of the file, and stay as they are during a call.
+ * - Every call but pefidx_check and pefidx_build takes words that pefidx_check has accepted, and that are the same since. This is not
+ *   looked at again: over other words anything may happen. A file that is mapped must not be changed or cut by others meanwhile;
+ *   the program pefidx never does, since it replaces files whole.
+ * - No pointer is null, also where there are 0 items behind it, and what a call writes overlaps nothing else that it is given.
+ * - Calls that take memory, named below, take it by malloc and give it back before they return. They are not for signal handlers.
+ *
+ * What a caller gets: a status. Where it is none of PEFIDX_DONE and PEFIDX_ROOM, nothing was written, but what is named with the status.
+ */
+#ifndef PEFIDX_H
+#define PEFIDX_H
+
+#include <stddef.h>
+#include <stdint.h>
+
+#ifdef __cplusplus
+extern "C" {
+#endif
+
+/* How a call ended. */
+enum {
+    /* All was given. */
+    PEFIDX_DONE = 0,
+    /* The list has no posting from there on. */
+    PEFIDX_END = 1,
+    /* There is more than there is room for: the first were given, and the count is that of all. */
+    PEFIDX_ROOM = 2,
+    /* The words are no index: the fault is their first check that breaks. */
+    PEFIDX_NO_INDEX = 3,
+    /* The index has no such term: it is not below pefidx_terms. */
+    PEFIDX_NO_TERM = 4,
+    /* The index has no such document: it is not below pefidx_documents. */
+    PEFIDX_NO_DOCUMENT = 5,
+    /* More than PEFIDX_MOST_TERMS terms were asked together. */
+    PEFIDX_TOO_MANY_TERMS = 6,
+    /* Not one weight for each term, a weight of 0, or weights whose sum is 2^26 or more. */
+    PEFIDX_BAD_WEIGHTS = 7,
+    /* The number is no plan's. */
+    PEFIDX_NO_PLAN = 8,
+    /* Memory was refused. */
+    PEFIDX_NO_MEMORY = 9,
+    /* To check: 2^57 words or more. To build: there would be more than 2^37 words, and the count is how many. */
+    PEFIDX_TOO_LARGE = 10,
+    /* To build: 2^32 lists or more, or 2^32 documents or more. */
+    PEFIDX_TOO_MANY = 11,
+    /* To build: the lengths do not add up to the number of documents in the lists, or there is not one frequency for each. */
+    PEFIDX_NOT_WHOLE = 12,
+    /* To build: a posting cannot stand in its list, and is told. */
+    PEFIDX_BAD_POSTING = 13
+};
+
+/* The most terms that are asked together. */
+#define PEFIDX_MOST_TERMS 1024
+
+/* The plans of pefidx_top. No answer depends on the plan. */
+enum {
+    /* Every document that has a term is scored. */
+    PEFIDX_EXHAUSTIVE = 0,
+    PEFIDX_WAND = 1,
+    PEFIDX_MAXSCORE = 2
+};
+
+/* The first check that breaks: its number, 1 to 11 for K1 to K11; the term, counted from 0; and the part of its list, those of its
+ * documents first. The term is the number of terms where all lists are right, and both are 0 where no list is concerned. */
+typedef struct pefidx_fault {
+    uint32_t check;
+    uint32_t term;
+    uint64_t part;
+} pefidx_fault;
+
+/* A document, counted from 0, with how often a term occurs in it, at least 1. */
+typedef struct pefidx_posting {
+    uint32_t doc;
+    uint32_t freq;
+} pefidx_posting;
+
+/* A document with its score, below 2^58. */
+typedef struct pefidx_scored {
+    uint32_t doc;
+    uint64_t score;
+} pefidx_scored;
+
+/* A posting that cannot stand in its list: the term, and how many postings of its list stand before it. */
+typedef struct pefidx_bad_posting {
+    uint32_t term;
+    uint64_t place;
+} pefidx_bad_posting;
+
+/* Looks at every word, and tells whether the words are an index, of either format. It takes no memory, and its time grows with the number
+ * of words alone. Any words may be given.
+ *
+ * PEFIDX_DONE: they are one, and may be given to the calls below.
+ * PEFIDX_NO_INDEX: they are none, and *fault is the first check that breaks.
+ * PEFIDX_TOO_LARGE: there are 2^57 words or more. */
+uint32_t pefidx_check(const uint64_t *words, size_t count, pefidx_fault *fault);
+
+/* How many documents the index has. */
+uint32_t pefidx_documents(const uint64_t *words, size_t count);
+
+/* How many terms it has. */
+uint32_t pefidx_terms(const uint64_t *words, size_t count);
+
+/* PEFIDX_DONE: *size is the size of the document.
+ * PEFIDX_NO_DOCUMENT: exactly where doc is not below pefidx_documents. */
+uint32_t pefidx_size_of(const uint64_t *words, size_t count, uint32_t doc, uint32_t *size);
+
+/* PEFIDX_DONE: *found is the first posting of the term's list whose document is at least doc.
+ * PEFIDX_END: the list has none. PEFIDX_NO_TERM: exactly where term is not below pefidx_terms.
+ * It takes no memory. */
+uint32_t pefidx_next(const uint64_t *words, size_t count, uint32_t term, uint32_t doc, pefidx_posting *found);
+
+/* PEFIDX_DONE: the postings of the term's list whose documents are at least doc stand in `postings`, rising, as many as there are or
+ * there is room for, and *given is how many these are. Where *given is room, the next ones are asked from one more than the last document on.
+ * PEFIDX_NO_TERM: exactly where term is not below pefidx_terms.
+ * It takes no memory. */
+uint32_t pefidx_postings(const uint64_t *words, size_t count, uint32_t term, uint32_t doc, pefidx_posting *postings, size_t room, size_t *given);
+
+/* The documents that are in the lists of all the terms, rising; none where there are 0 terms. A term may stand more than once.
+ *
+ * PEFIDX_DONE: they all stand in `docs`, and *found is how many they are.
+ * PEFIDX_ROOM: *found is how many they are, which is more than room; the first `room` of them stand in `docs`.
+ * PEFIDX_TOO_MANY_TERMS, PEFIDX_NO_TERM: exactly then, and in this order. PEFIDX_NO_MEMORY: memory is taken for all of them. */
+uint32_t pefidx_and(const uint64_t *words, size_t count, const uint32_t *terms, size_t terms_count, uint32_t *docs, size_t room, size_t *found);
+
+/* The documents that are in the list of at least one of the terms, rising, each once; the rest as of pefidx_and. */
+uint32_t pefidx_or(const uint64_t *words, size_t count, const uint32_t *terms, size_t terms_count, uint32_t *docs, size_t room, size_t *found);
+
+/* The first k of the documents that pefidx_or gives, by score falling and then by document rising. The score of a document is the sum over
+ * the terms of the term's weight times its frequency in that document.
+ *
+ * PEFIDX_DONE: they all stand in `best`, and *found is how many they are: k, or fewer where there are fewer documents.
+ * PEFIDX_ROOM: *found is how many they are, which is more than room; the first `room` of them stand in `best`.
+ * PEFIDX_NO_PLAN, PEFIDX_TOO_MANY_TERMS, PEFIDX_NO_TERM, PEFIDX_BAD_WEIGHTS: exactly then, and in this order.
+ * PEFIDX_NO_MEMORY: memory is taken for them, for the terms, and for a window of scores. */
+uint32_t pefidx_top(const uint64_t *words, size_t count, uint32_t plan, const uint32_t *terms, size_t terms_count, const uint32_t *weights,
+    size_t weights_count, uint32_t k, pefidx_scored *best, size_t room, size_t *found);
+
+/* The words of the index file, in the second format, of some lists. lengths[t] is how many postings list t has; the documents of all lists
+ * stand one after the other in docs, and their frequencies in freqs. There is a document for each size. In a list documents rise, each is
+ * below the number of documents, and each frequency is at least 1; the frequencies of a list add up to at most 2^48.
+ *
+ * PEFIDX_DONE: the words stand in `words`, and *count is how many they are. They are an index of just these lists and sizes, and every
+ *   sequence of it is cut into parts that cost at most 103/100 of the cheapest allowed cut.
+ * PEFIDX_ROOM: *count is how many they are, which is more than room; the first `room` of them stand in `words`. It is then to be called
+ *   again with that room, and does its work again; with room for as many words as there are postings, with 16 for each list and 1 for each
+ *   document, it has not been seen.
+ * PEFIDX_TOO_MANY, PEFIDX_NOT_WHOLE: exactly then, and in this order.
+ * PEFIDX_BAD_POSTING: exactly where, but for these, a list is no posting list; *bad is the first posting that cannot stand in its list.
+ * PEFIDX_TOO_LARGE: the words would be more than 2^37; *count is how many.
+ * PEFIDX_NO_MEMORY: memory is taken for the words, and for a list while it is cut. */
+uint32_t pefidx_build(const uint32_t *lengths, size_t lengths_count, const uint32_t *docs, size_t docs_count, const uint32_t *freqs,
+    size_t freqs_count, const uint32_t *sizes, size_t sizes_count, uint64_t *words, size_t room, size_t *count, pefidx_bad_posting *bad);
+
+#ifdef __cplusplus
+}
+#endif
+
+#endif

@@ -1,0 +1,91 @@
+/* Times the calls over one index file: timing INDEX. Each line is nanoseconds of the processor a call. */
+#define _POSIX_C_SOURCE 200809L
+#include <fcntl.h>
+#include <stdio.h>
+#include <stdlib.h>
+#include <sys/mman.h>
+#include <sys/stat.h>
+#include <time.h>
+
+#include "../c/pefidx.h"
+
+static double now(void)
+{
+    struct timespec at;
+    clock_gettime(CLOCK_PROCESS_CPUTIME_ID, &at);
+    return (double)at.tv_sec * 1e9 + (double)at.tv_nsec;
+}
+
+static uint64_t state = 88172645463325252ull;
+
+static uint32_t drawn(uint32_t below)
+{
+    state ^= state << 13;
+    state ^= state >> 7;
+    state ^= state << 17;
+    return (uint32_t)((state >> 16) % below);
+}
+
+int main(int argc, char **argv)
+{
+    enum { NEXTS = 2000000, TOPS = 2000, ROOM = 1 << 16 };
+    static pefidx_posting list[ROOM];
+    static pefidx_scored best[10];
+    struct stat of;
+    pefidx_fault fault;
+    pefidx_posting found;
+    const uint64_t *words;
+    uint64_t seen = 0;
+    uint32_t documents, terms, plan;
+    size_t count, given;
+    double begun;
+    int i, file = argc == 2 ? open(argv[1], O_RDONLY) : -1;
+
+    if (file < 0 || fstat(file, &of) || of.st_size < 48) {
+        return 2;
+    }
+    words = mmap(NULL, (size_t)of.st_size, PROT_READ, MAP_SHARED, file, 0);
+    count = (size_t)of.st_size / 8;
+    if (words == MAP_FAILED) {
+        return 2;
+    }
+    begun = now();
+    if (pefidx_check(words, count, &fault) != PEFIDX_DONE) {
+        fprintf(stderr, "index K%u term %u part %llu\n", (unsigned)fault.check, (unsigned)fault.term, (unsigned long long)fault.part);
+        return 1;
+    }
+    printf("check %.0f, for each of %zu words %.2f\n", now() - begun, count, (now() - begun) / (double)count);
+    documents = pefidx_documents(words, count);
+    terms = pefidx_terms(words, count);
+
+    begun = now();
+    for (i = 0; i < NEXTS; i++) {
+        seen += pefidx_next(words, count, drawn(terms), drawn(documents), &found);
+    }
+    printf("next %.0f\n", (now() - begun) / NEXTS);
+
+    begun = now();
+    seen = 0;
+    for (uint32_t term = 0; term < terms && seen < 100000000; term++) {
+        uint32_t doc = 0;
+        do {
+            pefidx_postings(words, count, term, doc, list, ROOM, &given);
+            seen += given;
+            doc = given ? list[given - 1].doc + 1 : 0;
+        } while (given == ROOM);
+    }
+    printf("postings, for each of %llu %.2f\n", (unsigned long long)seen, (now() - begun) / (double)(seen ? seen : 1));
+
+    for (plan = PEFIDX_EXHAUSTIVE; plan <= PEFIDX_MAXSCORE; plan++) {
+        state = 88172645463325252ull;
+        begun = now();
+        for (i = 0; i < TOPS; i++) {
+            uint32_t asked[2] = {drawn(terms), drawn(terms)}, weights[2] = {1, 2};
+            if (pefidx_top(words, count, plan, asked, 2, weights, 2, 10, best, 10, &given) != PEFIDX_DONE) {
+                return 1;
+            }
+        }
+        printf("top 10 of two terms by plan %u %.0f\n", (unsigned)plan, (now() - begun) / TOPS);
+    }
+    return 0;
+}

@@ -1,0 +1,6 @@
+mod Putting
+mod CursorLists
+mod Refusals
+mod NextLists
+mod Adding
+mod Fronts

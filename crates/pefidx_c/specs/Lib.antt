@@ -1,0 +1,6 @@
+pub mod StatusNumber
+pub mod Faults
+pub mod Rooms
+pub mod Asked
+pub mod GivenLists
+pub mod BuiltWords

@@ -1,0 +1,159 @@
+ghost use Rattle.std.specs.Prelude.{◌≡◌, ◌≢◌, ℕ, ◌≤◌, ◌<◌, ◌^◌, List, length, map, sum, nat_lt, Some, None, IfOk};
+ghost use Rattle.std.specs.List.{All, list_all};
+ghost use Rattle.index_file.specs.FileWords.{IsIndex};
+ghost use Rattle.pefidx_c.specs.Asked.{collection_in, lists_of, refusal, are_weights, top_refusal};
+ghost use Rattle.pefidx_c.specs.Rooms.{pair_of, put_in, given_in};
+ghost use Rattle.pefidx_c.specs.StatusNumber.{number_of};
+ghost use Rattle.pefidx_c.specs.declared.status.Status.{Status as EndOf};
+ghost use Rattle.scan_plans.specs.IsTop.{IsTop};
+
+use crate::cursors::{cursors_of, refusal};
+use crate::room::given_in;
+use crate::status::Status;
+use index_file::Index;
+use no_memory::NoMemory;
+use scan_plans::top_exhaustive;
+use std::alloc::Global;
+use topk_pruning::{top_maxscore, top_wand};
+
+/// A document with its score.
+#[repr(C)]
+#[derive(Clone, Copy, Drop)]
+pub struct Scored {
+    pub doc: u32,
+    pub score: u64,
+}
+
+/// The number of the plan that scores every document, and of WAND; the other is MaxScore, of number 2.
+const EXHAUSTIVE: u32 = 0;
+
+const WAND: u32 = 1;
+
+const LAST_PLAN: u32 = 2;
+
+/// The first k of the documents that are in the list of any of these terms, by score falling and then document rising, each with its
+/// score: the sum over the terms of the weight times the frequency. The plan is 0, that scores every document, 1, WAND, or 2, MaxScore, and
+/// changes no answer. The first are given, as many as there is room for, and how many they are.
+#[unsafe(no_mangle)]
+pub extern "C" fn pefidx_top(
+    alloc: Global,
+    words: &[u64],
+    plan: u32,
+    terms: &[u32],
+    weights: &[u32],
+    k: u32,
+    best: &mut [Scored],
+    count: &mut usize,
+) -> u32
+    requires few { length words.now < 2 ^ 57 }
+    requires index { IsIndex words.now }
+    ensures refused { (status : EndOf) → top_refusal (collection_in words.now) plan terms.now weights.now ≡ Some status
+        → (result ≡ number_of status) × (best.new ≡ best.old) × (count.new ≡ count.old) }
+    ensures no_memory { result ≡ number_of Status.NoMemory → (best.new ≡ best.old) × (count.new ≡ count.old) }
+    ensures given { let c = collection_in words.now in
+        top_refusal c plan terms.now weights.now ≡ None → result ≢ number_of Status.NoMemory
+        → (r : List (ℕ × ℕ)) × IsTop c.documents (lists_of c terms.now) weights.now k r
+        × (result ≡ number_of (given_in (length best.old) (length r))) × (map pair_of best.new ≡ put_in (map pair_of best.old) r) × (count.new ≡ length r) }
+{
+    let index = Index::known(words);
+    if let Some(refused) = top_refusal(&index, plan, terms, weights) {
+        return refused.number();
+    }
+    match best_by(alloc, &index, plan, terms, weights, k) {
+        Ok(found) => give_best(found.as_slice(), best, count),
+        Err(_) => Status::NoMemory.number(),
+    }
+}
+
+/// How the question for the best documents is refused.
+fn top_refusal(index: &Index<'_>, plan: u32, terms: &[u32], weights: &[u32]) -> Option<Status>
+    ensures { result ≡ top_refusal index.now.collection plan terms.now weights.now }
+{
+    if plan > LAST_PLAN {
+        return Some(Status::NoPlan);
+    }
+    if let Some(refused) = refusal(index, terms) {
+        return Some(refused);
+    }
+    if !are_weights(terms.len(), weights) {
+        return Some(Status::BadWeights);
+    }
+    None
+}
+
+/// Whether these are the weights of so many terms.
+fn are_weights(count: usize, weights: &[u32]) -> bool
+    requires { count ≤ 1024 }
+    ensures { result ≡ are_weights count weights.now }
+{
+    if weights.len() != count {
+        return false;
+    }
+    if !all_above_zero(weights) {
+        return false;
+    }
+    total(weights) < 1 << 26
+}
+
+/// Whether no number is 0.
+fn all_above_zero(numbers: &[u32]) -> bool
+    ensures { result ≡ list_all (λ n. nat_lt 0 n) numbers.now }
+{
+    numbers.iter().all(|number| *number > 0)
+}
+
+/// The sum of some weights.
+fn total(weights: &[u32]) -> u64
+    requires { length weights.now ≤ 1024 }
+    ensures { result ≡ sum weights.now }
+{
+    let mut total = 0;
+    for weight in weights {
+        total += u64::from(*weight);
+    }
+    total
+}
+
+/// The first k documents by a plan.
+fn best_by(
+    alloc: Global,
+    index: &Index<'_>,
+    plan: u32,
+    terms: &[u32],
+    weights: &[u32],
+    k: u32,
+) -> Result<Vec<(u32, u64)>, NoMemory>
+    requires { top_refusal index.now.collection plan terms.now weights.now ≡ None }
+    ensures { IfOk result (λ r. IsTop index.now.collection.documents (lists_of index.now.collection terms.now) weights.now k r.items) }
+{
+    let mut list_cursors = cursors_of(alloc, index, terms)?;
+    let cursors = list_cursors.as_mut_slice();
+    let n = index.documents();
+    match plan {
+        EXHAUSTIVE => top_exhaustive(alloc, cursors, weights, k, n),
+        WAND => top_wand(alloc, cursors, weights, k, n),
+        _ => top_maxscore(alloc, cursors, weights, k, n),
+    }
+}
+
+/// Gives documents with their scores in a room, as many as it holds, with the count of all.
+fn give_best(found: &[(u32, u64)], room: &mut [Scored], count: &mut usize) -> u32
+    ensures status { result ≡ number_of (given_in (length room.old) (length found.now)) }
+    ensures room { map pair_of room.new ≡ put_in (map pair_of room.old) found.now }
+    ensures count { count.new ≡ length found.now }
+{
+    put_best(room, found);
+    *count = found.len();
+    given_in(room.len(), found.len()).number()
+}
+
+/// Puts documents with their scores in from the start of a room on, as many as it holds.
+fn put_best(room: &mut [Scored], found: &[(u32, u64)])
+    ensures { map pair_of room.new ≡ put_in (map pair_of room.old) found.now }
+{
+    let count = room.len().min(found.len());
+    for i in 0..count {
+        let (doc, score) = found[i];
+        room[i] = Scored { doc, score };
+    }
+}
