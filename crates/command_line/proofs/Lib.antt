@@ -1,4 +1,5 @@
 mod Joined
+mod TakenPlaces
 mod Plain
 mod PlainWalk
 mod Taken

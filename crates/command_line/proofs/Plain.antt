@@ -1,9 +1,9 @@
 -- The words as texts.
-use Rattle.std.proofs.Common.{◌≡◌, ℕ, ◌≤◌, arith, List, [], ◌∷◌, length, drop, ◌∙◌, ap, sym}
+use Rattle.std.proofs.Common.{◌≡◌, ℕ, ◌≤◌, ◌<◌, refl, arith, List, [], ◌∷◌, length, drop, ◌∙◌, ap, sym}
 use Rattle.std.proofs.Math.ListN.{get_or}
-use Rattle.std.specs.Prelude.{Bool, String, is_some, string_bytes}
+use Rattle.std.specs.Prelude.{Bool, false, String, is_some, string_bytes}
 use Rattle.std.specs.declared.alloc.Global.{Global}
-use Rattle.command_line.specs.Command.{command_of, texts}
+use Rattle.command_line.specs.Command.{command_of, remap_command, texts}
 
 -- a name, a verb, and what is behind them
 named : (words : List (String Global)) (a b : String Global) (v : List ℕ) → 2 ≤ length words
@@ -19,3 +19,23 @@ pub named_command : (words : List (String Global)) (a b : String Global) (v : Li
     → a ≡ get_or words 0 a → b ≡ get_or words 1 b → v ≡ string_bytes b → args ≡ texts (drop 2 words) → r ≡ is_some (command_of (texts words))
 named_command words a b v args r asked lo ea eb ev rest =
     asked ∙ ap (λ ws. is_some (command_of (string_bytes a ∷ v ∷ ws))) rest ∙ ap (λ ws. is_some (command_of ws)) (sym (named words a b v lo ea eb ev))
+
+-- fewer words are no command
+pub no_verb : (words : List (String Global)) → length words < 2 → false ≡ is_some (command_of (texts words))
+no_verb [] few = refl
+no_verb (name ∷ []) few = refl
+no_verb (name ∷ verb ∷ words) few = absurd (omega (arith, few))
+
+-- only three words are a base, a map and a new base
+pub fewer_than_three : (words : List (String Global)) → length words < 3 → false ≡ is_some (remap_command (texts words))
+fewer_than_three [] few = refl
+fewer_than_three (a ∷ []) few = refl
+fewer_than_three (a ∷ b ∷ []) few = refl
+fewer_than_three (a ∷ b ∷ c ∷ words) few = absurd (omega (arith, few))
+
+pub more_than_three : (words : List (String Global)) → 4 ≤ length words → false ≡ is_some (remap_command (texts words))
+more_than_three [] many = absurd (omega (arith, many))
+more_than_three (a ∷ []) many = absurd (omega (arith, many))
+more_than_three (a ∷ b ∷ []) many = absurd (omega (arith, many))
+more_than_three (a ∷ b ∷ c ∷ []) many = absurd (omega (arith, many))
+more_than_three (a ∷ b ∷ c ∷ d ∷ words) many = refl

@@ -2,7 +2,7 @@ use Rattle.std.proofs.Common.{◌≡◌, refl, [], ◌∷◌, Some, None}
 use Rattle.std.specs.Prelude.{codes}
 use Rattle.part_cost.specs.declared.formats.Format.TheVariants.{One, Two}
 use Rattle.command_line.specs.declared.plan.Plan.TheVariants.{Exhaustive, Wand, MaxScore}
-use Rattle.command_line.specs.Command.{command_of, Build, Query, Answer, Inspect, Generate, Migrate}
+use Rattle.command_line.specs.Command.{command_of, Build, Query, Answer, Inspect, Generate, Migrate, Audit, Blocks, Remap}
 
 name-alone : command_of (codes "pefidx" ∷ []) ≡ None
 name-alone = refl
@@ -79,6 +79,12 @@ generate-plus = refl
 generate-two-numbers : command_of (codes "pefidx" ∷ codes "generate" ∷ codes "1" ∷ codes "2" ∷ []) ≡ None
 generate-two-numbers = refl
 
+audit-x : command_of (codes "pefidx" ∷ codes "audit" ∷ codes "x" ∷ []) ≡ Some (Audit (codes "x"))
+audit-x = refl
+
+audit-two-texts : command_of (codes "pefidx" ∷ codes "audit" ∷ codes "x" ∷ codes "y" ∷ []) ≡ None
+audit-two-texts = refl
+
 migrate-other-name : command_of (codes "pefidx" ∷ codes "migrate" ∷ codes "x" ∷ codes "y" ∷ []) ≡ Some (Migrate (codes "x") (codes "y"))
 migrate-other-name = refl
 
@@ -90,6 +96,27 @@ migrate-one-text = refl
 
 migrate-in-a-format : command_of (codes "pefidx" ∷ codes "migrate" ∷ codes "x" ∷ codes "y" ∷ codes "--format" ∷ codes "2" ∷ []) ≡ None
 migrate-in-a-format = refl
+
+blocks-other-name : command_of (codes "pefidx" ∷ codes "blocks" ∷ codes "x" ∷ codes "y" ∷ []) ≡ Some (Blocks (codes "x") (codes "y"))
+blocks-other-name = refl
+
+blocks-same-name : command_of (codes "pefidx" ∷ codes "blocks" ∷ codes "x" ∷ codes "x" ∷ []) ≡ None
+blocks-same-name = refl
+
+remap-other-base : command_of (codes "pefidx" ∷ codes "remap" ∷ codes "x" ∷ codes "m" ∷ codes "y" ∷ []) ≡ Some (Remap (codes "x") (codes "m") (codes "y"))
+remap-other-base = refl
+
+remap-same-base : command_of (codes "pefidx" ∷ codes "remap" ∷ codes "x" ∷ codes "m" ∷ codes "x" ∷ []) ≡ None
+remap-same-base = refl
+
+remap-over-the-map : command_of (codes "pefidx" ∷ codes "remap" ∷ codes "x" ∷ codes "y.sizes" ∷ codes "y" ∷ []) ≡ None
+remap-over-the-map = refl
+
+remap-by-a-file : command_of (codes "pefidx" ∷ codes "remap" ∷ codes "x" ∷ codes "x.sizes" ∷ codes "y" ∷ []) ≡ Some (Remap (codes "x") (codes "x.sizes") (codes "y"))
+remap-by-a-file = refl
+
+remap-two-texts : command_of (codes "pefidx" ∷ codes "remap" ∷ codes "x" ∷ codes "m" ∷ []) ≡ None
+remap-two-texts = refl
 
 no-index : command_of (codes "pefidx" ∷ codes "build" ∷ codes "x" ∷ []) ≡ None
 no-index = refl

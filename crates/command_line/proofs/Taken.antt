@@ -11,8 +11,8 @@ use Rattle.part_cost.specs.declared.formats.Format.{Format}
 use Rattle.part_cost.specs.declared.formats.Format.TheVariants.{One, Two}
 use Rattle.command_line.specs.declared.plan.Plan.{Plan}
 use Rattle.command_line.specs.declared.plan.Plan.TheVariants.{Exhaustive, Wand, MaxScore}
-use Rattle.command_line.specs.Command.{Build, Query, Answer, Inspect, Migrate, generate_command}
-use Rattle.command_line.specs.Private.CommandLine.{program_app, build_app, query_app, answer_app, inspect_app, generate_app, migrate_app, asked_in, asked_of}
+use Rattle.command_line.specs.Command.{Build, Query, Answer, Inspect, Migrate, Audit, Blocks, Remap, generate_command}
+use Rattle.command_line.specs.Private.CommandLine.{program_app, build_app, query_app, answer_app, inspect_app, generate_app, migrate_app, audit_app, blocks_app, remap_app, asked_in, asked_of}
 use Rattle.command_line.proofs.PlainWalk.{at, walks, passes}
 
 pub simple : is_simple program_app ≡ true
@@ -120,6 +120,10 @@ module _ (name : Text) (x : ℕ) (xs : Text) (h : (x == 45) ≡ false) where
   unfolding clap_on_literals
   inspect_leads = word_leads (leaf inspect_app) 1 nothing_held x xs h refl []
 
+  audit_leads : Leads (leaf audit_app) start (texts []) (after (leaf audit_app)) []
+  unfolding clap_on_literals
+  audit_leads = word_leads (leaf audit_app) 1 nothing_held x xs h refl []
+
   pub query_taken : takes program_app (name ∷ codes "query" ∷ texts []) ≡ true
   unfolding clap_on_literals
   query_taken = ap (λ b. b && true) (query_level [])
@@ -167,6 +171,14 @@ module _ (name : Text) (x : ℕ) (xs : Text) (h : (x == 45) ≡ false) where
   pub inspect_asked : asked_in (subcommand_of program_app (name ∷ codes "inspect" ∷ texts [])) ≡ Some (Inspect (x ∷ xs))
   unfolding clap_on_literals
   inspect_asked = ap (asked_of (codes "inspect")) (rows (leaf inspect_app) (texts []) (after (leaf inspect_app)) [] inspect_leads)
+
+  pub audit_taken : takes program_app (name ∷ codes "audit" ∷ texts []) ≡ true
+  unfolding clap_on_literals
+  audit_taken = ap (λ b. b && true) (level (leaf audit_app) (texts []) (after (leaf audit_app)) [] audit_leads)
+
+  pub audit_asked : asked_in (subcommand_of program_app (name ∷ codes "audit" ∷ texts [])) ≡ Some (Audit (x ∷ xs))
+  unfolding clap_on_literals
+  audit_asked = ap (asked_of (codes "audit")) (rows (leaf audit_app) (texts []) (after (leaf audit_app)) [] audit_leads)
 
 -- ---- two texts, and a format
 
@@ -246,6 +258,41 @@ module _ (name : Text) (x y : ℕ) (xs ys : Text) (hx : (x == 45) ≡ false) (hy
   unfolding clap_on_literals
   migrate_asked = ap (asked_of (codes "migrate")) (rows migrate both_texts behind [] migrate_leads)
 
+-- ---- three texts
+
+abbrev remap : Shape
+remap = leaf remap_app
+
+-- what is held after the base, and after the map
+abbrev after_old : Text → Held
+after_old base = (after_word remap 1 nothing_held base).held
+
+abbrev after_map : Text → Text → Held
+after_map base map = (after_word remap 2 (after_old base) map).held
+
+module _ (name : Text) (x y z : ℕ) (xs ys zs : Text) (hx : (x == 45) ≡ false) (hy : (y == 45) ≡ false) (hz : (z == 45) ≡ false) where
+  abbrev three_texts : List Text
+  three_texts = (x ∷ xs) ∷ (y ∷ ys) ∷ (z ∷ zs) ∷ []
+
+  abbrev behind_new : Walk
+  behind_new = after_word remap 3 (after_map (x ∷ xs) (y ∷ ys)) (z ∷ zs)
+
+  remap_leads : Leads remap start three_texts behind_new []
+  unfolding clap_on_literals
+  remap_leads =
+      let base = word_leads remap 1 nothing_held x xs hx refl ((y ∷ ys) ∷ (z ∷ zs) ∷ []) in
+      let map = word_leads remap 2 (after_old (x ∷ xs)) y ys hy refl ((z ∷ zs) ∷ []) in
+      let to = word_leads remap 3 (after_map (x ∷ xs) (y ∷ ys)) z zs hz refl [] in
+      (base.0 ∙ map.0 ∙ to.0, base.1 ∙ map.1 ∙ to.1)
+
+  pub remap_taken : takes program_app (name ∷ codes "remap" ∷ three_texts) ≡ true
+  unfolding clap_on_literals
+  remap_taken = ap (λ b. b && true) (level remap three_texts behind_new [] remap_leads)
+
+  pub remap_asked : asked_in (subcommand_of program_app (name ∷ codes "remap" ∷ three_texts)) ≡ Some (Remap (x ∷ xs) (y ∷ ys) (z ∷ zs))
+  unfolding clap_on_literals
+  remap_asked = ap (asked_of (codes "remap")) (rows remap three_texts behind_new [] remap_leads)
+
 -- ---- three numbers
 
 abbrev generate : Shape
@@ -280,3 +327,30 @@ module _ (name : Text) (x y z : ℕ) (xs ys zs : Text) (hx : (x == 45) ≡ false
   pub generate_asked : asked_in (subcommand_of program_app (name ∷ codes "generate" ∷ three)) ≡ generate_command three
   unfolding clap_on_literals
   generate_asked = ap (asked_of (codes "generate")) (rows generate three last [] generate_leads)
+
+-- ---- an index and a side file
+
+abbrev blocks : Shape
+blocks = leaf blocks_app
+
+module _ (name : Text) (x y : ℕ) (xs ys : Text) (hx : (x == 45) ≡ false) (hy : (y == 45) ≡ false) where
+  abbrev blocks_texts : List Text
+  blocks_texts = (x ∷ xs) ∷ (y ∷ ys) ∷ []
+
+  abbrev blocks_end : Walk
+  blocks_end = after_word blocks 2 (after_word blocks 1 nothing_held (x ∷ xs)).held (y ∷ ys)
+
+  blocks_leads : Leads blocks start blocks_texts blocks_end []
+  unfolding clap_on_literals
+  blocks_leads =
+      let first = word_leads blocks 1 nothing_held x xs hx refl ((y ∷ ys) ∷ []) in
+      let second = word_leads blocks 2 (after_word blocks 1 nothing_held (x ∷ xs)).held y ys hy refl [] in
+      (first.0 ∙ second.0, first.1 ∙ second.1)
+
+  pub blocks_taken : takes program_app (name ∷ codes "blocks" ∷ blocks_texts) ≡ true
+  unfolding clap_on_literals
+  blocks_taken = ap (λ b. b && true) (level blocks blocks_texts blocks_end [] blocks_leads)
+
+  pub blocks_asked : asked_in (subcommand_of program_app (name ∷ codes "blocks" ∷ blocks_texts)) ≡ Some (Blocks (x ∷ xs) (y ∷ ys))
+  unfolding clap_on_literals
+  blocks_asked = ap (asked_of (codes "blocks")) (rows blocks blocks_texts blocks_end [] blocks_leads)

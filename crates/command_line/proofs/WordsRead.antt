@@ -12,7 +12,7 @@ use Rattle.part_cost.specs.declared.formats.Format.TheVariants.{One, Two}
 use Rattle.query_text.specs.Numbers.{number_of}
 use Rattle.command_line.specs.declared.plan.Plan.{Plan}
 use Rattle.command_line.specs.declared.plan.Plan.TheVariants.{Exhaustive, Wand, MaxScore}
-use Rattle.command_line.specs.Command.{Command, Build, Query, Answer, Inspect, Migrate, command_of, build_command, build_in, format_of, answering_command, answered_by, plan_of, text_command, generate_command, generate_of, migrate_command, is_text, is_file_of}
+use Rattle.command_line.specs.Command.{Command, Build, Query, Answer, Inspect, Migrate, Audit, Blocks, Remap, command_of, build_command, build_in, format_of, answering_command, answered_by, plan_of, text_command, generate_command, generate_of, migrate_command, blocks_command, remap_command, is_text, is_file_of, takes_place}
 use Rattle.command_line.specs.Private.CommandLine.{program_app, asked_in}
 use Rattle.command_line.proofs.Taken.{format_name, format_words, plan_name, plan_words}
 use Rattle.command_line.proofs.Taken as clap
@@ -84,12 +84,17 @@ inspect_text : (name text : Text) → is_text text ≡ true → IsRead (name ∷
 inspect_text name [] h = cc
 inspect_text name (x ∷ xs) h = (clap.inspect_taken name x xs (plain x xs h), clap.inspect_asked name x xs (plain x xs h))
 
-inspect_read : (name : Text) (args : List Text) → is_some (text_command Inspect args) ≡ true → IsRead (name ∷ codes "inspect" ∷ args) (text_command Inspect args)
-inspect_read name [] h = cc
-inspect_read name (text ∷ []) h =
-    let is = chosen (is_text text) (Inspect text) h in
-    subst (IsRead (name ∷ codes "inspect" ∷ text ∷ [])) (sym is.1) (inspect_text name text is.0)
-inspect_read name (text ∷ word ∷ words) h = cc
+audit_text : (name text : Text) → is_text text ≡ true → IsRead (name ∷ codes "audit" ∷ text ∷ []) (Some (Audit text))
+audit_text name [] h = cc
+audit_text name (x ∷ xs) h = (clap.audit_taken name x xs (plain x xs h), clap.audit_asked name x xs (plain x xs h))
+
+text_read : (name verb : Text) (make : Text → Command) → ((text : Text) → is_text text ≡ true → IsRead (name ∷ verb ∷ text ∷ []) (Some (make text)))
+    → (args : List Text) → is_some (text_command make args) ≡ true → IsRead (name ∷ verb ∷ args) (text_command make args)
+text_read name verb make one [] h = cc
+text_read name verb make one (text ∷ []) h =
+    let is = chosen (is_text text) (make text) h in
+    subst (IsRead (name ∷ verb ∷ text ∷ [])) (sym is.1) (one text is.0)
+text_read name verb make one (text ∷ word ∷ words) h = cc
 
 -- ---- one text, and a plan
 
@@ -185,6 +190,46 @@ migrate_read name (from ∷ to ∷ []) h =
     subst (IsRead (name ∷ codes "migrate" ∷ from ∷ to ∷ [])) (sym is.1) (migrate_texts name from to two.0 two.1)
 migrate_read name (from ∷ to ∷ word ∷ words) h = cc
 
+-- ---- an index and a side file
+
+blocks_texts : (name index side : Text) → is_text index ≡ true → is_text side ≡ true → IsRead (name ∷ codes "blocks" ∷ index ∷ side ∷ []) (Some (Blocks index side))
+blocks_texts name [] side hi hs = cc
+blocks_texts name (x ∷ xs) [] hi hs = cc
+blocks_texts name (x ∷ xs) (y ∷ ys) hi hs =
+    (clap.blocks_taken name x y xs ys (plain x xs hi) (plain y ys hs), clap.blocks_asked name x y xs ys (plain x xs hi) (plain y ys hs))
+
+blocks_read : (name : Text) (args : List Text) → is_some (blocks_command args) ≡ true → IsRead (name ∷ codes "blocks" ∷ args) (blocks_command args)
+blocks_read name [] h = cc
+blocks_read name (index ∷ []) h = cc
+blocks_read name (index ∷ side ∷ []) h =
+    let is = chosen (is_text index && is_text side && not (bytes_eq index side)) (Blocks index side) h in
+    let texts = and_parts _ _ is.0 in
+    let two = and_parts _ _ texts.0 in
+    subst (IsRead (name ∷ codes "blocks" ∷ index ∷ side ∷ [])) (sym is.1) (blocks_texts name index side two.0 two.1)
+blocks_read name (index ∷ side ∷ word ∷ words) h = cc
+
+-- ---- three texts
+
+remap_texts : (name base map to : Text) → is_text base ≡ true → is_text map ≡ true → is_text to ≡ true → IsRead (name ∷ codes "remap" ∷ base ∷ map ∷ to ∷ []) (Some (Remap base map to))
+remap_texts name [] map to hb hm ht = cc
+remap_texts name (x ∷ xs) [] to hb hm ht = cc
+remap_texts name (x ∷ xs) (y ∷ ys) [] hb hm ht = cc
+remap_texts name (x ∷ xs) (y ∷ ys) (z ∷ zs) hb hm ht = (
+  clap.remap_taken name x y z xs ys zs (plain x xs hb) (plain y ys hm) (plain z zs ht),
+  clap.remap_asked name x y z xs ys zs (plain x xs hb) (plain y ys hm) (plain z zs ht),
+)
+
+remap_read : (name : Text) (args : List Text) → is_some (remap_command args) ≡ true → IsRead (name ∷ codes "remap" ∷ args) (remap_command args)
+remap_read name [] h = cc
+remap_read name (base ∷ []) h = cc
+remap_read name (base ∷ map ∷ []) h = cc
+remap_read name (base ∷ map ∷ to ∷ []) h =
+    let is = chosen (is_text base && is_text map && is_text to && not (takes_place base map to)) (Remap base map to) h in
+    let texts = and_parts _ _ (and_parts _ _ is.0).0 in
+    let two = and_parts _ _ texts.0 in
+    subst (IsRead (name ∷ codes "remap" ∷ base ∷ map ∷ to ∷ [])) (sym is.1) (remap_texts name base map to two.0 two.1 texts.1)
+remap_read name (base ∷ map ∷ to ∷ word ∷ words) h = cc
+
 -- ---- three numbers
 
 passed : {A : Type 0} (b : Bool) (a : A) → is_some (if b then Some a else None) ≡ true → b ≡ true
@@ -234,7 +279,7 @@ read [] h = cc
 read (name ∷ []) h = cc
 read (name ∷ verb ∷ args) h =
     go (bytes_eq verb (codes "build")) refl (bytes_eq verb (codes "query")) refl (bytes_eq verb (codes "answer")) refl (bytes_eq verb (codes "inspect")) refl (bytes_eq verb (codes "generate")) refl
-    (bytes_eq verb (codes "migrate")) refl
+    (bytes_eq verb (codes "migrate")) refl (bytes_eq verb (codes "audit")) refl (bytes_eq verb (codes "blocks")) refl (bytes_eq verb (codes "remap")) refl
   where
     Goal : Type 0
     Goal = IsRead (name ∷ verb ∷ args) (command_of (name ∷ verb ∷ args))
@@ -247,12 +292,16 @@ read (name ∷ verb ∷ args) h =
 
     go : (b : Bool) → bytes_eq verb (codes "build") ≡ b → (q : Bool) → bytes_eq verb (codes "query") ≡ q → (a : Bool) → bytes_eq verb (codes "answer") ≡ a
         → (i : Bool) → bytes_eq verb (codes "inspect") ≡ i → (n : Bool) → bytes_eq verb (codes "generate") ≡ n
-        → (m : Bool) → bytes_eq verb (codes "migrate") ≡ m → Goal
-    go true e q f a g i k n l m j = is (codes "build") e (build_read name args)
-    go false e true f a g i k n l m j = is (codes "query") f (answering_read name (codes "query") Query (query_text name) (query_text_by name) args)
-    go false e false f true g i k n l m j = is (codes "answer") g (answering_read name (codes "answer") Answer (answer_text name) (answer_text_by name) args)
-    go false e false f false g true k n l m j = is (codes "inspect") k (inspect_read name args)
-    go false e false f false g false k true l m j = is (codes "generate") l (generate_read name args)
-    go false e false f false g false k false l true j = is (codes "migrate") j (migrate_read name args)
-    go false e false f false g false k false l false j =
-        let none : is_some (command_of (name ∷ verb ∷ args)) ≡ false = rw (e, f, g, k, l, j) refl in absurd (true≢false (sym h ∙ none))
+        → (m : Bool) → bytes_eq verb (codes "migrate") ≡ m → (u : Bool) → bytes_eq verb (codes "audit") ≡ u → (p : Bool) → bytes_eq verb (codes "blocks") ≡ p
+        → (r : Bool) → bytes_eq verb (codes "remap") ≡ r → Goal
+    go true e q f a g i k n l m j u o p v r w = is (codes "build") e (build_read name args)
+    go false e true f a g i k n l m j u o p v r w = is (codes "query") f (answering_read name (codes "query") Query (query_text name) (query_text_by name) args)
+    go false e false f true g i k n l m j u o p v r w = is (codes "answer") g (answering_read name (codes "answer") Answer (answer_text name) (answer_text_by name) args)
+    go false e false f false g true k n l m j u o p v r w = is (codes "inspect") k (text_read name (codes "inspect") Inspect (inspect_text name) args)
+    go false e false f false g false k true l m j u o p v r w = is (codes "generate") l (generate_read name args)
+    go false e false f false g false k false l true j u o p v r w = is (codes "migrate") j (migrate_read name args)
+    go false e false f false g false k false l false j true o p v r w = is (codes "audit") o (text_read name (codes "audit") Audit (audit_text name) args)
+    go false e false f false g false k false l false j false o true v r w = is (codes "blocks") v (blocks_read name args)
+    go false e false f false g false k false l false j false o false v true w = is (codes "remap") w (remap_read name args)
+    go false e false f false g false k false l false j false o false v false w =
+        let none : is_some (command_of (name ∷ verb ∷ args)) ≡ false = rw (e, f, g, k, l, j, o, v, w) refl in absurd (true≢false (sym h ∙ none))

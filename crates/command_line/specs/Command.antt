@@ -14,6 +14,9 @@ pub data Command : Type 0 where
   Inspect : (index : List ℕ) → Command
   Generate : (seed n t : ℕ) → Command
   Migrate : (from to : List ℕ) → Command
+  Audit : (index : List ℕ) → Command
+  Blocks : (index side : List ℕ) → Command
+  Remap : (base map to : List ℕ) → Command
 
 -- words as their bytes
 abbrev pub texts : List (String Global) → List (List ℕ)
@@ -98,6 +101,29 @@ migrate_command (from ∷ []) = None
 migrate_command (from ∷ to ∷ []) = if is_text from && is_text to && not (bytes_eq from to) then Some (Migrate from to) else None
 migrate_command (from ∷ to ∷ word ∷ words) = None
 
+-- two texts, of which the second is not the first
+abbrev pub blocks_command : List (List ℕ) → Option Command
+blocks_command [] = None
+blocks_command (index ∷ []) = None
+blocks_command (index ∷ side ∷ []) = if is_text index && is_text side && not (bytes_eq index side) then Some (Blocks index side) else None
+blocks_command (index ∷ side ∷ word ∷ words) = None
+
+-- whether a name is that of a map, or of a file of a collection
+abbrev pub is_input_of : List ℕ → List ℕ → List ℕ → Bool
+is_input_of base map name = bytes_eq name map || is_file_of base name
+
+-- whether a collection under a new base would take the place of the map, or of a file of the collection
+abbrev pub takes_place : List ℕ → List ℕ → List ℕ → Bool
+takes_place base map to = is_input_of base map (to ++ codes ".docs") || is_input_of base map (to ++ codes ".freqs") || is_input_of base map (to ++ codes ".sizes")
+
+-- a base, a map, and a new base whose files are none of theirs
+abbrev pub remap_command : List (List ℕ) → Option Command
+remap_command [] = None
+remap_command (base ∷ []) = None
+remap_command (base ∷ map ∷ []) = None
+remap_command (base ∷ map ∷ to ∷ []) = if is_text base && is_text map && is_text to && not (takes_place base map to) then Some (Remap base map to) else None
+remap_command (base ∷ map ∷ to ∷ word ∷ words) = None
+
 -- the command of the words, the program's name first; none where they are refused as usage
 abbrev pub command_of : List (List ℕ) → Option Command
 command_of [] = None
@@ -109,4 +135,7 @@ command_of (name ∷ verb ∷ args) =
     else if bytes_eq verb (codes "inspect") then text_command Inspect args
     else if bytes_eq verb (codes "generate") then generate_command args
     else if bytes_eq verb (codes "migrate") then migrate_command args
+    else if bytes_eq verb (codes "audit") then text_command Audit args
+    else if bytes_eq verb (codes "blocks") then blocks_command args
+    else if bytes_eq verb (codes "remap") then remap_command args
     else None

@@ -3,7 +3,7 @@ ghost use Rattle.clap.specs.Words.{app_of, first_of, found_of, rows_of, rule_of,
 ghost use Rattle.clap.specs.declared.builder.command.Command.TheViews.{out-Command};
 ghost use Rattle.command_line.specs.Command.{command_of, plan_of, texts};
 ghost use Rattle.command_line.specs.Asked.{asked};
-ghost use Rattle.command_line.specs.Private.CommandLine.{program_app, generate_app, generate_with, migrate_app, migrate_with, number_in, build_app, query_app, answer_app, inspect_app, answering_app, asked_in, asked_of, plan_option, build_with, query_with, answer_with, AreRead, FailsForMemory};
+ghost use Rattle.command_line.specs.Private.CommandLine.{program_app, generate_app, generate_with, migrate_app, migrate_with, blocks_app, blocks_with, remap_app, remap_with, number_in, build_app, query_app, answer_app, inspect_app, audit_app, telling_app, answering_app, asked_in, asked_of, plan_option, build_with, query_with, answer_with, AreRead, FailsForMemory};
 ghost use Rattle.command_line.specs.WordsErrors.{error_of_words};
 
 use crate::error::WordsError;
@@ -58,6 +58,13 @@ fn read_subcommand<'a>(verb: &str, texts: &ArgMatches<'a>) -> Option<Command<'a>
         read_generate(texts)
     } else if verb == "migrate" {
         read_migrate(texts)
+    } else if verb == "audit" {
+        let index = text_of(texts, "index")?;
+        Some(Command::Audit { index })
+    } else if verb == "blocks" {
+        read_blocks(texts)
+    } else if verb == "remap" {
+        read_remap(texts)
     } else {
         None
     }
@@ -118,6 +125,25 @@ fn read_migrate<'a>(texts: &ArgMatches<'a>) -> Option<Command<'a>>
     Some(Command::Migrate { from, to })
 }
 
+/// What `blocks` asks for with these texts.
+fn read_blocks<'a>(texts: &ArgMatches<'a>) -> Option<Command<'a>>
+    ensures { option_map asked result ≡ blocks_with (rows_of (found_of texts.now)) }
+{
+    let index = text_of(texts, "index")?;
+    let side = text_of(texts, "side")?;
+    Some(Command::Blocks { index, side })
+}
+
+/// What `remap` asks for with these texts.
+fn read_remap<'a>(texts: &ArgMatches<'a>) -> Option<Command<'a>>
+    ensures { option_map asked result ≡ remap_with (rows_of (found_of texts.now)) }
+{
+    let base = text_of(texts, "base")?;
+    let map = text_of(texts, "map")?;
+    let to = text_of(texts, "to")?;
+    Some(Command::Remap { base, map, to })
+}
+
 /// The number of this name among these texts.
 fn read_number(texts: &ArgMatches<'_>, id: &str) -> Option<u32>
     ensures { result ≡ number_in (rows_of (found_of texts.now)) id.now }
@@ -142,6 +168,17 @@ fn text_of<'a>(texts: &ArgMatches<'a>, id: &str) -> Option<&'a str>
 /// The command line of the program: one level of subcommands, whose arguments are texts.
 fn program<'a>(alloc: Global) -> Result<clap::Command<'a>, AllocError>
     ensures { IfOk result (λ command. app_of command ≡ program_app) }
+{
+    let (audit, blocks, remap) = (audit(alloc)?, blocks(alloc)?, remap(alloc)?);
+    telling(alloc)?
+        .subcommand(audit)?
+        .subcommand(blocks)?
+        .subcommand(remap)
+}
+
+/// The same without `audit`, `blocks` and `remap`.
+fn telling<'a>(alloc: Global) -> Result<clap::Command<'a>, AllocError>
+    ensures { IfOk result (λ command. app_of command ≡ telling_app) }
 {
     let (inspect, generate, migrate) = (inspect(alloc)?, generate(alloc)?, migrate(alloc)?);
     answering(alloc)?
@@ -238,4 +275,37 @@ fn migrate<'a>(alloc: Global) -> Result<clap::Command<'a>, AllocError>
     let from = Arg::new(alloc, "from").required(true);
     let to = Arg::new(alloc, "to").required(true);
     clap::Command::new(alloc, "migrate").arg(from)?.arg(to)
+}
+
+/// `audit INDEX`
+fn audit<'a>(alloc: Global) -> Result<clap::Command<'a>, AllocError>
+    ensures app { IfOk result (λ command. app_of command ≡ audit_app) }
+    ensures local { IfOk result (λ command. (out-Command command).has_globals ≡ false) }
+{
+    let index = Arg::new(alloc, "index").required(true);
+    clap::Command::new(alloc, "audit").arg(index)
+}
+
+/// `blocks INDEX SIDE`
+fn blocks<'a>(alloc: Global) -> Result<clap::Command<'a>, AllocError>
+    ensures app { IfOk result (λ command. app_of command ≡ blocks_app) }
+    ensures local { IfOk result (λ command. (out-Command command).has_globals ≡ false) }
+{
+    let index = Arg::new(alloc, "index").required(true);
+    let side = Arg::new(alloc, "side").required(true);
+    clap::Command::new(alloc, "blocks").arg(index)?.arg(side)
+}
+
+/// `remap BASE MAP NEW`
+fn remap<'a>(alloc: Global) -> Result<clap::Command<'a>, AllocError>
+    ensures app { IfOk result (λ command. app_of command ≡ remap_app) }
+    ensures local { IfOk result (λ command. (out-Command command).has_globals ≡ false) }
+{
+    let base = Arg::new(alloc, "base").required(true);
+    let map = Arg::new(alloc, "map").required(true);
+    let to = Arg::new(alloc, "to").required(true);
+    clap::Command::new(alloc, "remap")
+        .arg(base)?
+        .arg(map)?
+        .arg(to)
 }

@@ -4,7 +4,7 @@ ghost use Rattle.command_line.specs.declared.plan.Plan as plan;
 ghost use Rattle.command_line.specs.declared.plan.Plan.TheVariants as plans;
 ghost use Rattle.part_cost.specs.declared.formats.Format.TheVariants as formats;
 ghost use Rattle.command_line.specs.Command as asked;
-ghost use Rattle.command_line.specs.Command.{answering_command, build_command, command_of, format_of, generate_command, is_file_of, is_text, migrate_command, option_in, plan_of, text_command, texts};
+ghost use Rattle.command_line.specs.Command.{answering_command, blocks_command, build_command, command_of, format_of, generate_command, is_file_of, is_text, migrate_command, option_in, plan_of, remap_command, takes_place, text_command, texts};
 
 use crate::plan::Plan;
 use part_cost::Format;
@@ -38,6 +38,18 @@ pub enum Command<'a> {
         from: &'a str,
         to: &'a str,
     },
+    Audit {
+        index: &'a str,
+    },
+    Blocks {
+        index: &'a str,
+        side: &'a str,
+    },
+    Remap {
+        base: &'a str,
+        map: &'a str,
+        to: &'a str,
+    },
 }
 
 /// Whether the words are a command, the program's name first. The others are refused as usage.
@@ -58,12 +70,14 @@ fn asks(verb: &str, args: &[String]) -> bool
         is_build(args)
     } else if verb == "query" || verb == "answer" {
         is_answering(args)
-    } else if verb == "inspect" {
+    } else if verb == "inspect" || verb == "audit" {
         is_text_alone(args)
     } else if verb == "generate" {
         is_generate(args)
-    } else if verb == "migrate" {
-        is_migrate(args)
+    } else if verb == "migrate" || verb == "blocks" {
+        is_name_and_another(args)
+    } else if verb == "remap" {
+        is_remap(args)
     } else {
         false
     }
@@ -143,8 +157,9 @@ fn is_generate(args: &[String]) -> bool
 }
 
 /// Whether words are two texts, of which the second is not the first.
-fn is_migrate(args: &[String]) -> bool
-    ensures { result ≡ is_some (migrate_command (texts args.now)) }
+fn is_name_and_another(args: &[String]) -> bool
+    ensures migrate { result ≡ is_some (migrate_command (texts args.now)) }
+    ensures blocks { result ≡ is_some (blocks_command (texts args.now)) }
 {
     match args {
         [from, to] => are_other_texts(from.as_str(), to.as_str()),
@@ -157,6 +172,30 @@ fn are_other_texts(from: &str, to: &str) -> bool
     ensures { result ≡ (is_text from.now && is_text to.now && not (bytes_eq from.now to.now)) }
 {
     can_be_text(from) && can_be_text(to) && from != to
+}
+
+/// Whether words are a base, a map, and a new base whose files are none of theirs.
+fn is_remap(args: &[String]) -> bool
+    ensures { result ≡ is_some (remap_command (texts args.now)) }
+{
+    match args {
+        [base, map, to] => can_be_moved(base.as_str(), map.as_str(), to.as_str()),
+        _ => false,
+    }
+}
+
+/// Whether three words are a base, a map, and a new base whose files are none of theirs.
+fn can_be_moved(base: &str, map: &str, to: &str) -> bool
+    ensures { result ≡ (is_text base.now && is_text map.now && is_text to.now && not (takes_place base.now map.now to.now)) }
+{
+    can_be_text(base) && can_be_text(map) && can_be_text(to) && !takes_place(base, map, to)
+}
+
+/// Whether a collection under a new base would take the place of the map, or of a file of the collection.
+fn takes_place(base: &str, map: &str, to: &str) -> bool
+    ensures { result ≡ takes_place base.now map.now to.now }
+{
+    to == base || is_file_of(to, map)
 }
 
 /// Whether a word is a number.

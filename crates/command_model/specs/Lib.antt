@@ -5,3 +5,6 @@ pub mod GotReplies
 pub mod Written
 pub mod SummaryLine
 pub mod GeneratedText
+pub mod AuditText
+pub mod FilesWritten
+pub mod FoundMap

@@ -11,6 +11,7 @@ use Rattle.collection_model.specs.Collection.{Posting, Collection, WellFormed, I
 use Rattle.cursor_api.specs.NextGeq.{next_geq_place}
 use Rattle.cursor_api.proofs.FirstPosting.{first-is_next}
 use Rattle.scan_plans.specs.Matches.{AreBelow, in_all, in_any}
+use Rattle.segments.specs.Laws.{IsInRange}
 use Rattle.query_text.specs.declared.query.Query.{Query}
 use Rattle.query_text.specs.declared.query.Query.TheVariants.{Next, And, Or, Top}
 use Rattle.no_memory.specs.declared.NoMemory.{NoMemory}
@@ -32,23 +33,26 @@ terms-below n (Or terms) named = named.below
 terms-below n (Top k terms) named = named.0.below
 
 -- the documents of their lists are those of the collection
-lists-below : (format : FormatNumbers) (c : Collection) (terms : List ℕ) → WellFormed format c → All (λ t. t < length c.lists) terms → AreBelow c.documents (lists_of c terms)
-lists-below format c terms well below =
+lists-below : (c : Collection) (terms : List ℕ) → IsInRange c → All (λ t. t < length c.lists) terms → AreBelow c.documents (lists_of c terms)
+lists-below c terms in_range below =
     All-map (λ list. All (λ d. d < c.documents) (docs_of list)) (list_of c) terms
     (
     All-weaker (λ t. t < length c.lists) (λ t. All (λ d. d < c.documents) (docs_of (list_of c t)))
-    (λ t lt. (All-get_or (IsPostingList format c.documents) c.lists t [] lt well.lists).in_range)
+    (λ t lt. All-get_or (λ list. All (λ d. d < c.documents) (docs_of list)) c.lists t [] lt in_range)
     terms
     below
     )
 
 -- and so are those of the cursors over them
-pub cursors-below : {C : Type 0} (list_at : C → List Posting) (format : FormatNumbers) (c : Collection) (query : Query) (terms : List ℕ) (made cursors : List C) (n : ℕ) →
-    WellFormed format c → NamesTerms (length c.lists) query → n ≡ c.documents → terms ≡ terms_of query → map list_at made ≡ lists_of c terms → cursors ≡ made → AreBelow n (map list_at cursors)
-cursors-below list_at format c query terms made cursors n well named documents asked so same =
+pub cursors-below : {C : Type 0} (list_at : C → List Posting) (c : Collection) (query : Query) (terms : List ℕ) (made cursors : List C) →
+    IsInRange c → NamesTerms (length c.lists) query → terms ≡ terms_of query → map list_at made ≡ lists_of c terms → cursors ≡ made → AreBelow c.documents (map list_at cursors)
+cursors-below list_at c query terms made cursors in_range named asked so same =
     let lists : map list_at cursors ≡ lists_of c (terms_of query) = ap (map list_at) same ∙ so ∙ ap (lists_of c) asked in
-    subst (λ n. AreBelow n (map list_at cursors)) (sym documents)
-    (subst (AreBelow c.documents) (sym lists) (lists-below format c (terms_of query) well (terms-below (length c.lists) query named)))
+    subst (AreBelow c.documents) (sym lists) (lists-below c (terms_of query) in_range (terms-below (length c.lists) query named))
+
+-- the documents of a well-formed collection are below their number
+pub well-in-range : (format : FormatNumbers) (c : Collection) → WellFormed format c → IsInRange c
+well-in-range format c well = All-weaker (IsPostingList format c.documents) (λ list. All (λ d. d < c.documents) (docs_of list)) (λ list is. is.in_range) c.lists well.lists
 
 -- ---- cursors that are made one after the other
 
@@ -106,18 +110,18 @@ found old new start place d doc freq at same went some of =
 
 -- ---- the texts of replies
 
-pub and-text : (c : Collection) (query : Query) (terms : List ℕ) (n : ℕ) (lists : List (List Posting)) (r : Result (Vec ℕ Global) NoMemory) → query ≡ And terms →
-    c.documents ≡ n → lists ≡ lists_of c (terms_of query) → IfOk r (λ text. text.items ≡ list_text (in_all n lists)) → IfOk r (λ text. IsAnswer c query text.items)
-and-text c query terms n lists (Err e) is documents same text = tt
-and-text c query terms n lists (Ok text) is documents same all =
+pub and-text : (c : Collection) (query : Query) (terms : List ℕ) (lists : List (List Posting)) (r : Result (Vec ℕ Global) NoMemory) → query ≡ And terms →
+    lists ≡ lists_of c (terms_of query) → IfOk r (λ text. text.items ≡ list_text (in_all c.documents lists)) → IfOk r (λ text. IsAnswer c query text.items)
+and-text c query terms lists (Err e) is same text = tt
+and-text c query terms lists (Ok text) is same all =
     let P : Query → Type 0 = λ q. IsAnswer c q text.items in
     let of : lists ≡ lists_of c terms = same ∙ ap (λ q. lists_of c (terms_of q)) is in
-    subst P (sym is) (all ∙ (λ i. list_text (in_all (sym documents i) (of i))))
+    subst P (sym is) (all ∙ ap (λ ls. list_text (in_all c.documents ls)) of)
 
-pub or-text : (c : Collection) (query : Query) (terms : List ℕ) (n : ℕ) (lists : List (List Posting)) (r : Result (Vec ℕ Global) NoMemory) → query ≡ Or terms →
-    c.documents ≡ n → lists ≡ lists_of c (terms_of query) → IfOk r (λ text. text.items ≡ list_text (in_any n lists)) → IfOk r (λ text. IsAnswer c query text.items)
-or-text c query terms n lists (Err e) is documents same text = tt
-or-text c query terms n lists (Ok text) is documents same any =
+pub or-text : (c : Collection) (query : Query) (terms : List ℕ) (lists : List (List Posting)) (r : Result (Vec ℕ Global) NoMemory) → query ≡ Or terms →
+    lists ≡ lists_of c (terms_of query) → IfOk r (λ text. text.items ≡ list_text (in_any c.documents lists)) → IfOk r (λ text. IsAnswer c query text.items)
+or-text c query terms lists (Err e) is same text = tt
+or-text c query terms lists (Ok text) is same any =
     let P : Query → Type 0 = λ q. IsAnswer c q text.items in
     let of : lists ≡ lists_of c terms = same ∙ ap (λ q. lists_of c (terms_of q)) is in
-    subst P (sym is) (any ∙ (λ i. list_text (in_any (sym documents i) (of i))))
+    subst P (sym is) (any ∙ ap (λ ls. list_text (in_any c.documents ls)) of)

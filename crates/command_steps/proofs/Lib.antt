@@ -3,7 +3,6 @@ mod Newline
 mod Held
 mod Answered
 mod Taken
-mod TermLists
 mod CursorLists
 mod Parsed
 mod TextEnds
@@ -12,8 +11,13 @@ mod Building
 mod LoadedFile
 mod WrittenFile
 mod PrintedLine
+mod LeastCosts
+mod Auditing
 mod PartCosts
 mod Making
 mod Generating
 mod Migrating
 mod AskedLines
+mod Joining
+mod ImageMade
+mod FilesInTurn

@@ -1,5 +1,7 @@
 -- Lemmas on the words of a collection that are made list by list: what is kept from list to list, and how it ends.
 use Rattle.std.proofs.Common.{◌≡◌, refl, sym, ap, ◌∙◌, subst, ℕ, ◌+◌, ◌*◌, ◌<◌, ◌≤◌, List, [], ◌∷◌, ◌++◌, length, length-append, append-nil, append_assoc, arith}
+use Rattle.std.specs.Prelude.{Result, Ok, Err, IfOk, Vec}
+use Rattle.std.specs.declared.alloc.Global.{Global}
 use Rattle.std.proofs.lemmas.List.{length-map}
 use Rattle.collection_model.specs.FormatNumbers.{most_terms}
 use Rattle.collection_model.specs.Collection.{Posting, Collection, WellFormed, postings_of, IsPostingList}
@@ -7,13 +9,11 @@ use Rattle.part_cost.specs.declared.formats.Format.{Format}
 use Rattle.part_cost.specs.Formats.{numbers_of}
 use Rattle.cost_windows.specs.WindowBounds.{window_bounds}
 use Rattle.index_file.specs.declared.builder.FinishError.{FinishError}
-use Rattle.index_file.specs.declared.builder.FinishError.TheVariants as finishing
 use Rattle.index_file.specs.FileWords.{CutList, words_of_file}
 use Rattle.index_file.specs.Builder.{Built, StandsFor, AddsList, lists_added, most_words}
 use Rattle.index_file.specs.Laws.{ListsAreCounted, FilesSpellCollections}
-use Rattle.command_steps.specs.declared.made.MakeError.TheVariants.{TooLarge}
 use Rattle.command_steps.specs.Building.{AreAdded}
-use Rattle.command_steps.specs.Making.{make_error, IsMaking}
+use Rattle.command_steps.specs.Making.{IsMaking}
 use Rattle.command_steps.specs.MadeWords.{AreWordsOf, WouldBeTooMany}
 use Rattle.command_steps.proofs.Building.{none-added, one-added, all-added}
 
@@ -58,12 +58,12 @@ making-ends format c lists b before after h last =
     subst (λ l. AreAdded format b c.documents l before after) all h.added
 
 -- the words were finished, or are too many
-pub made-words : (format : Format) → FilesSpellCollections → (c : Collection) (lists : List (List Posting)) (b : Built) (sizes words : List ℕ) (before after : ℕ)
-    → IsMaking format c lists b before after → lists ≡ [] → WellFormed (numbers_of format) c → sizes ≡ c.sizes
+made-words : (format : Format) → FilesSpellCollections → (c : Collection) (b : Built) (sizes words : List ℕ) (before after : ℕ)
+    → AreAdded format b c.documents c.lists before after → WellFormed (numbers_of format) c → sizes ≡ c.sizes
     → ((cs : List CutList) → StandsFor b cs → words ≡ words_of_file (numbers_of b.format) b.documents cs sizes) → length words ≤ most_words
     → AreWordsOf format c before after words
-made-words format spell c lists b sizes words before after h last good sizes_are made within =
-    let all = all-added format spell b c before after (making-ends format c lists b before after h last) good in
+made-words format spell c b sizes words before after added good sizes_are made within =
+    let all = all-added format spell b c before after added good in
     let is : words ≡ words_of_file (numbers_of b.format) b.documents all.cuts c.sizes =
     made all.cuts all.stands ∙ ap (λ z. words_of_file (numbers_of b.format) b.documents all.cuts z) sizes_are in
     record {
@@ -73,12 +73,19 @@ made-words format spell c lists b sizes words before after h last good sizes_are
       spelled = record { well_formed = all.spells.well_formed; partitions = all.spells.partitions; spelled = is ∙ all.spells.spelled };
     }
 
-pub made-too_many : (format : Format) → FilesSpellCollections → (c : Collection) (lists : List (List Posting)) (b : Built) (sizes : List ℕ) (before after n : ℕ)
-    → IsMaking format c lists b before after → lists ≡ [] → WellFormed (numbers_of format) c → sizes ≡ c.sizes
+pub made-or-not : (format : Format) → FilesSpellCollections → (c : Collection) (b : Built) (sizes : List ℕ) (before after : ℕ)
+    → AreAdded format b c.documents c.lists before after → WellFormed (numbers_of format) c → sizes ≡ c.sizes → (r : Result (Vec ℕ Global) FinishError)
+    → ((cs : List CutList) → StandsFor b cs → IfOk r (λ words. words.items ≡ words_of_file (numbers_of b.format) b.documents cs sizes))
+    → IfOk r (λ words. length words.items ≤ most_words) → IfOk r (λ words. AreWordsOf format c before after words.items)
+made-or-not format spell c b sizes before after added good sizes_are (Ok words) made within = made-words format spell c b sizes words.items before after added good sizes_are made within
+made-or-not format spell c b sizes before after added good sizes_are (Err e) made within = tt
+
+pub made-too_many : (format : Format) → FilesSpellCollections → (c : Collection) (b : Built) (sizes : List ℕ) (before after n : ℕ)
+    → AreAdded format b c.documents c.lists before after → WellFormed (numbers_of format) c → sizes ≡ c.sizes
     → most_words < n → ((cs : List CutList) → StandsFor b cs → n ≡ length (words_of_file (numbers_of b.format) b.documents cs sizes))
     → WouldBeTooMany format c before after n
-made-too_many format spell c lists b sizes before after n h last good sizes_are many made =
-    let all = all-added format spell b c before after (making-ends format c lists b before after h last) good in
+made-too_many format spell c b sizes before after n added good sizes_are many made =
+    let all = all-added format spell b c before after added good in
     record {
       too_many = many;
       parts = all.parts;
@@ -87,8 +94,3 @@ made-too_many format spell c lists b sizes before after n h last good sizes_are 
           ∙ ap (λ z. length (words_of_file (numbers_of b.format) b.documents all.cuts z)) sizes_are
           ∙ ap length all.spells.spelled;
     }
-
--- which refusal of the last words is of their number
-pub which-too_large : (e : FinishError) (n : ℕ) → make_error e ≡ TooLarge n → e ≡ finishing.TooLarge n
-which-too_large (finishing.TooLarge m) n h = ap finishing.TooLarge cc
-which-too_large finishing.NoMemory n h = cc

@@ -1,4 +1,4 @@
-use Rattle.std.proofs.Common.{inl, inr, ◌≡◌, refl, sym, ◌∙◌, ap, subst, ℕ, ◌<◌, ◌≤◌, ◌+◌, ◌-◌, List, ◌++◌, append_assoc, length, take, drop, Vec, arith}
+use Rattle.std.proofs.Common.{inl, inr, ◌≡◌, refl, sym, ◌∙◌, ap, subst, ℕ, ◌<◌, ◌≤◌, ◌+◌, ◌-◌, List, [], ◌++◌, append_assoc, length, take, drop, Vec, arith}
 use Rattle.std.specs.Prelude.{Result, Ok, Err, MatchResult}
 use Rattle.std.specs.Result.{IsErrAnd}
 use Rattle.std.specs.declared.alloc.Global.{Global}
@@ -13,14 +13,14 @@ use Rattle.pef_io.specs.SourceState.{SourceState, Reads}
 use Rattle.pef_io.specs.SinkState.{SinkState}
 use Rattle.query_text.specs.Lines.{text_lines, ended_lines}
 use Rattle.command_steps.specs.declared.text.RunFault.{RunFault}
-use Rattle.command_steps.specs.declared.text.RunFault.TheVariants.{TooLarge}
+use Rattle.command_steps.specs.declared.text.RunFault.TheVariants.{TooLarge, NoMemory}
 use Rattle.command_model.specs.GotReplies.{GotReplies, GotFrontOfReplies}
 use Rattle.command_steps.specs.Unended.{unended, AnswersBytes}
 use Rattle.command_steps.specs.AnswerText.{AnswersText}
 use Rattle.command_steps.specs.AnswersEnded.{HasRead, AnswersEnded}
 use Rattle.command_steps.specs.Faults.{input_fault, out_fault}
 use Rattle.command_steps.proofs.LinesOfText.{text_lines-append}
-use Rattle.command_steps.proofs.Answered.{front-whole, front-more}
+use Rattle.command_steps.proofs.Answered.{front-whole, front-more, answered-refused}
 
 -- ---- reading
 
@@ -191,3 +191,9 @@ pub mapped-err : {T E D : Type 0} (r : Result T E) (to : Result T D) (P : E → 
     MatchResult r (λ x. to ≡ Ok x) (λ e. IsErrAnd to (P e)) → to ≡ Err d → (e : E) × (r ≡ Err e) × P e d
 mapped-err (Ok y) to P d h e = absurd (fail-not-ok d y to e h)
 mapped-err (Err y) to P d h e = let p = err_from_is_err_and to h in (y, refl, subst (P y) (same-err p.0 d to p.1 e) p.2)
+
+-- memory was refused before anything was called
+pub unbegun : (c : Collection) (limit : ℕ) (input : SourceState) (out : SinkState) → AnswersText c limit input input out out (Err NoMemory)
+unbegun c limit input out =
+    out-refused c limit [] [] [] input input out out io_fail.NoMemory (record { tells = refl; told = λ t. refl; faults = refl }) (omega arith)
+    (record { lines = answered-refused c (ended_lines []) out; last = tt })

@@ -1,4 +1,4 @@
--- How words are written piece by piece to a file that is created and finished.
+-- How bytes, and words piece by piece, are written to a file that is created and finished.
 use Rattle.std.proofs.Common.{◌≡◌, refl, sym, ap, ◌∙◌, subst, ℕ, ◌+◌, ◌<◌, List, [], ◌++◌, length, take, inl, inr, ◌⊎◌, IsTrue, Option, Some, Result, Ok, Err, arith, append_assoc, append-nil}
 use Rattle.std.specs.Prelude.{unwrap_or, IsErrOf}
 use Rattle.std.proofs.Math.Seq.{take-append-add}
@@ -11,9 +11,7 @@ use Rattle.pef_io.specs.Calls.{Rose}
 use Rattle.pef_io.specs.DepotState.{DepotState, Creates, Finishes, CountsWriting}
 use Rattle.pef_io.specs.Helpers.{HasFile, WritesAllToFile}
 use Rattle.command_model.specs.Written.{IsUnwritten, IsWrittenInPart, IsBeingWritten, IsLeftByFault, OnlyWrites}
-use Rattle.command_steps.specs.declared.writing.WriteIndexError.TheVariants.{NoMemory}
-use Rattle.command_steps.specs.WriteIndex.{WritesWords}
-use Rattle.command_steps.specs.WriteFile.{write_error}
+use Rattle.command_steps.specs.WriteFile.{WritesBytes}
 
 -- ---- pieces
 
@@ -25,7 +23,7 @@ pub no-refusal : (a b : DepotState) → CountsWriting {A = Unit {0}} a b (Ok tt)
 no-refusal a b p = elim p.refusals.rises_only_there [ inl h ↦ absurd (done-well h) | inr same ↦ same ]
 
 -- the count of a call after one that did not fail
-counts-then : (a b c : DepotState) (r : Result (Unit {0}) IoFail) → CountsWriting {A = Unit {0}} a b (Ok tt) → CountsWriting b c r → CountsWriting a c r
+pub counts-then : (a b c : DepotState) (r : Result (Unit {0}) IoFail) → CountsWriting {A = Unit {0}} a b (Ok tt) → CountsWriting b c r → CountsWriting a c r
 counts-then a b c r p q = record {
   this = record {
     never_falls = omega (arith, p.this.never_falls, q.this.never_falls);
@@ -235,10 +233,10 @@ failed-not_wanted : (let r : Result (Unit {0}) IoFail = Err call.Failed in IsErr
 failed-not_wanted h = cc
 
 -- a refusal is one of the writing
-refusal : (words name : List ℕ) (a b : DepotState) (fail : IoFail) → CountsWriting {A = Unit {0}} a b (Err fail) → IsWrittenInPart name a b (word_bytes words) → IsUnwritten a b ⊎ IsBeingWritten name a b → OnlyWrites name a b
-    → (fail ≡ call.Failed → IsLeftByFault name a b (word_bytes words)) → (fail ≡ call.NoMemory → (b.create_faults ≡ a.create_faults) × (b.finish_faults ≡ a.finish_faults))
-    → WritesWords words name a b (Err (write_error fail))
-refusal words name a b call.Failed k part begun only left same = record {
+refusal : (bytes name : List ℕ) (a b : DepotState) (fail : IoFail) → CountsWriting {A = Unit {0}} a b (Err fail) → IsWrittenInPart name a b bytes → IsUnwritten a b ⊎ IsBeingWritten name a b → OnlyWrites name a b
+    → (fail ≡ call.Failed → IsLeftByFault name a b bytes) → (fail ≡ call.NoMemory → (b.create_faults ≡ a.create_faults) × (b.finish_faults ≡ a.finish_faults))
+    → WritesBytes bytes name a b (Err fail)
+refusal bytes name a b call.Failed k part begun only left same = record {
   written = tt;
   refused = part;
   begun = begun;
@@ -251,7 +249,7 @@ refusal words name a b call.Failed k part begun only left same = record {
   no_memory = λ is. cc;
   refusals_rise_only_there = elim k.refusals.rises_only_there [ inl h ↦ absurd (failed-not_wanted h) | inr e ↦ inr e ];
 }
-refusal words name a b call.NoMemory k part begun only left same = record {
+refusal bytes name a b call.NoMemory k part begun only left same = record {
   written = tt;
   refused = part;
   begun = begun;
@@ -275,8 +273,8 @@ begun-by-fault name bytes a b begun same whole = record {
 }
 
 -- no room for a piece
-pub room-refused : (words name : List ℕ) (a : DepotState) → WritesWords words name a a (Err NoMemory)
-room-refused words name a = record {
+pub room-refused : (bytes name : List ℕ) (a : DepotState) → WritesBytes bytes name a a (Err call.NoMemory)
+room-refused bytes name a = record {
   written = tt;
   refused = inl (record { files = λ t n. refl; writing = (refl, λ t. refl) });
   begun = inl (record { files = λ t n. refl; writing = (refl, λ t. refl) });
@@ -300,10 +298,10 @@ room-refused words name a = record {
   refusals_rise_only_there = inl refl;
 }
 
-pub create-refused : (words name : List ℕ) (a b : DepotState) (fail : IoFail) → Creates a b name (Err fail) → WritesWords words name a b (Err (write_error fail))
-create-refused words name a b fail k =
+pub create-refused : (bytes name : List ℕ) (a b : DepotState) (fail : IoFail) → Creates a b name (Err fail) → WritesBytes bytes name a b (Err fail)
+create-refused bytes name a b fail k =
     let same : IsUnwritten a b = record { files = k.unchanged.files; writing = k.unchanged.writing } in
-    refusal words name a b fail k.counts (inl same) (inl same) (created-only name a b (Err fail) k)
+    refusal bytes name a b fail k.counts (inl same) (inl same) (created-only name a b (Err fail) k)
     (λ is. record {
       create = λ rose. same;
       begun = λ other. absurd (other (k.create_count.failed_only_where_it_rose (ap Err is)));
@@ -311,37 +309,35 @@ create-refused words name a b fail k =
     })
     (λ is. (k.create_count.same_at_no_memory (ap Err is), k.finish_count))
 
-pub write-refused : (words name : List ℕ) (a b c : DepotState) (fail : IoFail) → Creates a b name (Ok tt) → WritesAllToFile b c (word_bytes words) (Err fail) → WritesWords words name a c (Err (write_error fail))
-write-refused words name a b c fail k w =
-    let only = written-only name (word_bytes words) a b c (Err fail) k w in
-    let begun = written-on name (word_bytes words) a b c (Err fail) k w in
+pub write-refused : (bytes name : List ℕ) (a b c : DepotState) (fail : IoFail) → Creates a b name (Ok tt) → WritesAllToFile b c bytes (Err fail) → WritesBytes bytes name a c (Err fail)
+write-refused bytes name a b c fail k w =
+    let only = written-only name bytes a b c (Err fail) k w in
+    let begun = written-on name bytes a b c (Err fail) k w in
     let creates : c.create_faults ≡ a.create_faults = w.create_count ∙ k.create_count.same_at_ok refl in
     let finishes : c.finish_faults ≡ a.finish_faults = w.finish_count ∙ k.finish_count in
-    refusal words name a c fail (counts-then a b c (Err fail) k.counts w.counts)
-    (inr (λ t. let f = front-file name (word_bytes words) a b c fail k w t in (f.0, f.1, only.other_files t)))
+    refusal bytes name a c fail (counts-then a b c (Err fail) k.counts w.counts)
+    (inr (λ t. let f = front-file name bytes a b c fail k w t in (f.0, f.1, only.other_files t)))
     (inr begun) only
-    (λ is. begun-by-fault name (word_bytes words) a c begun creates (λ rose. absurd (omega (arith, rose, finishes))))
+    (λ is. begun-by-fault name bytes a c begun creates (λ rose. absurd (omega (arith, rose, finishes))))
     (λ is. (creates, finishes))
 
-pub finish-refused : (words name : List ℕ) (a b c d : DepotState) (fail : IoFail) → Creates a b name (Ok tt) → WritesAllToFile b c (word_bytes words) (Ok tt) → Finishes c d (Err fail)
-    → WritesWords words name a d (Err (write_error fail))
-finish-refused words name a b c d fail k w f =
-    let bytes = word_bytes words in
+finish-refused : (bytes name : List ℕ) (a b c d : DepotState) (fail : IoFail) → Creates a b name (Ok tt) → WritesAllToFile b c bytes (Ok tt) → Finishes c d (Err fail)
+    → WritesBytes bytes name a d (Err fail)
+finish-refused bytes name a b c d fail k w f =
     let before = written-only name bytes a b c (Ok tt) k w in
     let only = finished-only name a c d (Err fail) before f in
     let created = written-on name bytes a b c (Ok tt) k w in
     let begun : IsBeingWritten name a d = record { created = f.unchanged.writing.0 ∙ created.created; named = λ t. f.unchanged.writing.1 (before.tells ∙ t) ∙ created.named t } in
     let whole : IsTrue a.tells → d.file name ≡ Some bytes = λ t. f.files (before.tells ∙ t) name ∙ whole-file name bytes a b c k w t in
     let creates : d.create_faults ≡ a.create_faults = f.create_count ∙ w.create_count ∙ k.create_count.same_at_ok refl in
-    refusal words name a d fail (counts-then a c d (Err fail) (counts-then a b c (Ok tt) k.counts w.counts) f.counts)
+    refusal bytes name a d fail (counts-then a c d (Err fail) (counts-then a b c (Ok tt) k.counts w.counts) f.counts)
     (inr (λ t. (length bytes, whole t ∙ ap Some (sym (take_all (length bytes) bytes (omega arith))), only.other_files t)))
     (inr begun) only
     (λ is. begun-by-fault name bytes a d begun creates (λ rose. whole))
     (λ is. (creates, f.finish_count.same_at_no_memory (ap Err is) ∙ w.finish_count ∙ k.finish_count))
 
-pub all-written : (words name : List ℕ) (a b c d : DepotState) → Creates a b name (Ok tt) → WritesAllToFile b c (word_bytes words) (Ok tt) → Finishes c d (Ok tt) → WritesWords words name a d (Ok tt)
-all-written words name a b c d k w f =
-    let bytes = word_bytes words in
+all-written : (bytes name : List ℕ) (a b c d : DepotState) → Creates a b name (Ok tt) → WritesAllToFile b c bytes (Ok tt) → Finishes c d (Ok tt) → WritesBytes bytes name a d (Ok tt)
+all-written bytes name a b c d k w f =
     let before = written-only name bytes a b c (Ok tt) k w in
     let only = finished-only name a c d (Ok tt) before f in
     record {
@@ -361,3 +357,12 @@ all-written words name a b c d k w f =
       no_memory = λ is. cc;
       refusals_rise_only_there = inr (no-refusal c d f.counts ∙ no-refusal b c w.counts ∙ no-refusal a b k.counts);
     }
+
+-- the file is finished, or that is refused
+pub finished : (bytes name : List ℕ) (a b c d : DepotState) (r : Result (Unit {0}) IoFail) → Creates a b name (Ok tt) → WritesAllToFile b c bytes (Ok tt) → Finishes c d r → WritesBytes bytes name a d r
+finished bytes name a b c d (Ok u) k w f = all-written bytes name a b c d k w f
+finished bytes name a b c d (Err fail) k w f = finish-refused bytes name a b c d fail k w f
+
+-- the counts of all that was called
+pub all-counted : (bytes name : List ℕ) (a b c d : DepotState) (r : Result (Unit {0}) IoFail) → Creates a b name (Ok tt) → WritesAllToFile b c bytes (Ok tt) → Finishes c d r → CountsWriting a d r
+all-counted bytes name a b c d r k w f = counts-then a c d r (counts-then a b c (Ok tt) k.counts w.counts) f.counts

@@ -1,17 +1,8 @@
 use Rattle.std.specs.Prelude.{◌≡◌, ℕ, List, ◌++◌}
 use Rattle.collection_model.specs.Collection.{Posting, Collection}
 use Rattle.part_cost.specs.declared.formats.Format.{Format}
-use Rattle.index_file.specs.declared.builder.FinishError.{FinishError}
-use Rattle.index_file.specs.declared.builder.FinishError.TheVariants as finishing
 use Rattle.index_file.specs.Builder.{Built}
-use Rattle.command_steps.specs.declared.made.MakeError.{MakeError}
-use Rattle.command_steps.specs.declared.made.MakeError.TheVariants.{TooLarge, NoMemory}
 use Rattle.command_steps.specs.Building.{AreAdded}
-
--- what a refusal of the last words is to the making of words
-abbrev pub make_error : FinishError → MakeError
-make_error (finishing.TooLarge n) = TooLarge n
-make_error finishing.NoMemory = NoMemory
 
 -- The first lists of a collection were added; these are to come.
 pub record IsMaking (format : Format) (c : Collection) (lists : List (List Posting)) (b : Built) (before after : ℕ) : Type 0 where

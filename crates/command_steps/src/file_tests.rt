@@ -1,13 +1,11 @@
 ghost use Rattle.std.specs.Prelude.{◌≤◌};
 
-use crate::loading::{LoadIndexError, load_index};
-use crate::writing::{WriteIndexError, write_index};
-use index_file::OpenFault;
-use pef_io::{Depot, MemDepot, Op, Slot};
+use crate::loading::{LoadWordsError, load_words};
+use crate::writing::{write_file, write_words};
+use pef_io::{Depot, IoFail, MemDepot, Op, Slot};
 use std::alloc::Global;
 use std::process::Abort;
 use std::test::Fail;
-use two_level::Check;
 
 /// The words of the file with no list over no document, in the second format.
 const NO_LISTS: &[u64] = &[6360565151758173520, 2, 0, 0, 2, 5784106577086924120];
@@ -29,21 +27,20 @@ fn loaded(
     alloc: Global,
     bytes: &[u8],
     fails: &[(Op, u64)],
-) -> Result<Result<Vec<u64>, LoadIndexError>, Fail> {
+) -> Result<Result<Vec<u64>, LoadWordsError>, Fail> {
     let mut depot = depot_of(alloc, bytes, 4, fails)?;
-    Ok(load_index(alloc, "x", &mut depot))
+    Ok(load_words(alloc, Slot::Side, "x", &mut depot))
 }
 
 #[test]
 fn files_are_loaded(rt: HostRuntime) -> Result<(), Fail> {
     let alloc = rt.alloc();
-    let ragged = LoadIndexError::Broken(OpenFault {
-        check: Check::K1,
-        term: 0,
-        part: 0,
-    });
-    assert_eq!(rt; loaded(alloc, &[0; 50], &[])?.err(), Some(ragged));
-    assert_eq!(rt; loaded(alloc, &[0; 7], &[])?.err(), Some(ragged));
+    for bytes in [[0; 50].as_slice(), &[0; 7]] {
+        assert_eq!(rt;
+            loaded(alloc, bytes, &[])?.err(),
+            Some(LoadWordsError::Ragged)
+        );
+    }
     for (bytes, words) in [
         (b"".as_slice(), [].as_slice()),
         (b"PEFINDEX", &[6360565151758173520]),
@@ -52,9 +49,9 @@ fn files_are_loaded(rt: HostRuntime) -> Result<(), Fail> {
         let found = loaded(alloc, bytes, &[])?.expect(&rt, "words");
         assert_eq!(rt; found.as_slice(), words);
     }
-    for op in [Op::Start(Slot::Index), Op::Read(Slot::Index)] {
+    for op in [Op::Start(Slot::Side), Op::Read(Slot::Side)] {
         let refused = loaded(alloc, b"PEFINDEX", &[(op, 1)])?.err();
-        assert_eq!(rt; refused, Some(LoadIndexError::Read), "{op:?}");
+        assert_eq!(rt; refused, Some(LoadWordsError::Read), "{op:?}");
     }
     Ok(())
 }
@@ -62,8 +59,8 @@ fn files_are_loaded(rt: HostRuntime) -> Result<(), Fail> {
 #[test]
 fn missing_file_is_not_loaded(rt: HostRuntime) -> Result<(), Fail> {
     let mut depot = depot_of(rt.alloc(), b"PEFINDEX", 4, &[])?;
-    let refused = load_index(rt.alloc(), "y", &mut depot).err();
-    assert_eq!(rt; refused, Some(LoadIndexError::Read));
+    let refused = load_words(rt.alloc(), Slot::Index, "y", &mut depot).err();
+    assert_eq!(rt; refused, Some(LoadWordsError::Read));
     assert_eq!(rt; depot.calls(Op::Read(Slot::Index)), 0);
     Ok(())
 }
@@ -86,12 +83,14 @@ fn words_are_written_and_loaded(rt: HostRuntime) -> Result<(), Fail> {
             words.push(k.wrapping_mul(1_000_000_007))?;
         }
         let mut depot = depot_of(alloc, b"other", 3000, &[])?;
-        assert_eq!(rt; write_index(alloc, &words, "y", &mut depot), Ok(()));
+        assert_eq!(rt; write_words(alloc, &words, "y", &mut depot), Ok(()));
         let bytes = bytes_of(alloc, &words)?;
+        assert_eq!(rt; write_file(&bytes, "z", &mut depot), Ok(()));
+        assert_eq!(rt; depot.file("z"), Some(bytes.as_slice()), "{count}");
         assert_eq!(rt; depot.file("y"), Some(bytes.as_slice()), "{count}");
         assert_eq!(rt; depot.file("x"), Some(b"other".as_slice()), "{count}");
-        assert_eq!(rt; depot.calls(Op::Finish), 1, "{count}");
-        let found = load_index(alloc, "y", &mut depot).expect(&rt, "words");
+        assert_eq!(rt; depot.calls(Op::Finish), 2, "{count}");
+        let found = load_words(alloc, Slot::Index, "y", &mut depot).expect(&rt, "words");
         assert_eq!(rt; found.as_slice(), words.as_slice(), "{count}");
     }
     Ok(())
@@ -105,8 +104,8 @@ fn check_failing(
     left: Option<&[u8]>,
 ) -> Result<(), Fail> {
     let mut depot = depot_of(alloc, b"other", 8, &[fail])?;
-    let end = write_index(alloc, NO_LISTS, "y", &mut depot);
-    assert_eq!(rt; end, Err(WriteIndexError::Write), "{fail:?}");
+    let end = write_words(alloc, NO_LISTS, "y", &mut depot);
+    assert_eq!(rt; end, Err(IoFail::Failed), "{fail:?}");
     assert_eq!(rt; depot.file("y"), left, "{fail:?}");
     assert_eq!(rt; depot.file("x"), Some(b"other".as_slice()), "{fail:?}");
     Ok(())

@@ -1,9 +1,10 @@
 ghost use Rattle.std.specs.Prelude.{◌≡◌, ℕ, IfOk};
 ghost use Rattle.pef_report.specs.Generated.{generated};
+ghost use Rattle.command_steps.specs.Building.{AreAdded};
 ghost use Rattle.command_steps.specs.MadeWords.{AreWordsOf, WouldBeTooMany};
 
-use crate::made::MakeError;
-use index_file::{Builder, files_spell_collections, lists_are_counted};
+use index_file::{Builder, FinishError, files_spell_collections, lists_are_counted};
+use no_memory::NoMemory;
 use part_cost::Format;
 use pef_report::{Gen, document_sizes, generated_are_well_formed};
 use std::alloc::Global;
@@ -18,12 +19,30 @@ pub fn generated_words<L: Ledger>(
     documents: u32,
     terms: u32,
     steps: &mut Steps<L>,
-) -> Result<Vec<u64>, MakeError>
+) -> Result<Vec<u64>, FinishError>
     ensures words { IfOk result (λ words. AreWordsOf Format.Two (generated seed documents terms) steps.old steps.new words.items) }
-    ensures too_large { (n : ℕ) → result ≡ Err (MakeError.TooLarge n) → WouldBeTooMany Format.Two (generated seed documents terms) steps.old steps.new n }
+    ensures too_large { (n : ℕ) → result ≡ Err (FinishError.TooLarge n) → WouldBeTooMany Format.Two (generated seed documents terms) steps.old steps.new n }
+{
+    files_spell_collections();
+    generated_are_well_formed();
+    let builder = add_generated(alloc, seed, documents, terms, steps).map_err(
+        |_| FinishError::NoMemory,
+    )?;
+    let sizes = document_sizes(alloc, documents).map_err(|_| FinishError::NoMemory)?;
+    builder.finish(&sizes)
+}
+
+/// A builder with each list of the generated collection of a seed.
+fn add_generated<L: Ledger>(
+    alloc: Global,
+    seed: u32,
+    documents: u32,
+    terms: u32,
+    steps: &mut Steps<L>,
+) -> Result<Builder, NoMemory>
+    ensures { let all = generated seed documents terms in IfOk result (λ built. AreAdded Format.Two built all.documents all.lists steps.old steps.new) }
 {
     lists_are_counted();
-    files_spell_collections();
     generated_are_well_formed();
     let mut lists = Gen::new(seed, documents, terms);
     let mut builder = Builder::new(alloc, documents, Format::Two)?;
@@ -32,6 +51,5 @@ pub fn generated_words<L: Ledger>(
     while lists.next_list(&mut docs, &mut freqs)? {
         builder.add_list(&docs, &freqs, steps)?;
     }
-    let sizes = document_sizes(alloc, documents)?;
-    Ok(builder.finish(&sizes)?)
+    Ok(builder)
 }

@@ -1,21 +1,19 @@
-ghost use Rattle.std.specs.Prelude.{◌≡◌, ◌≤◌, ◌*◌, ◌++◌, ℕ, List, length, replicate, string_bytes, IfErr, IfOk, OnOk};
+ghost use Rattle.std.specs.Prelude.{◌≡◌, ◌≤◌, ◌*◌, ◌++◌, ℕ, List, length, replicate, string_bytes, IfOk, OnOk};
 ghost use Rattle.part_cost.specs.Formats.{numbers_of};
 ghost use Rattle.index_file.specs.Builder.{most_words};
 ghost use Rattle.index_file.specs.IndexView.{word_count};
 ghost use Rattle.command_model.specs.GeneratedText.{IsGeneratedText, cost_of_lists, counts_line, next_line, top_line};
 ghost use Rattle.command_model.specs.Replies.{AreReplies, IsReply};
 ghost use Rattle.command_steps.specs.PrintText.{MakesAndPrints};
-ghost use Rattle.command_steps.specs.declared.printing.PrintError.TheVariants as printing;
 
 use crate::indexed::IndexLists;
 use crate::lines::reply_to;
-use crate::lists::Answerer;
+use crate::lists::TermLists;
 use crate::plan::Plan;
-use crate::printing::PrintError;
 use index_file::Index;
 use no_memory::NoMemory;
 use part_cost::{Kind, formats_have_room};
-use pef_io::{Sink, write_all_own};
+use pef_io::{IoFail, Sink, write_all_own};
 use postings::sequences_of_a_list_rise;
 use std::alloc::{AllocError, Global};
 use two_level::sequence_takes_its_cost;
@@ -25,32 +23,26 @@ const PLANS: [Plan; 3] = [Plan::Exhaustive, Plan::Wand, Plan::MaxScore];
 
 /// Prints what is told of a generated collection, from an index of it, which is given to out as one piece: the line that counts it,
 /// and the replies to what it is asked. Out is not called before all is made.
-pub fn print_generated<O: Sink>(
-    alloc: Global,
-    index: &Index<'_>,
-    out: &mut O,
-) -> Result<(), PrintError>
+pub fn print_generated<O: Sink>(alloc: Global, index: &Index<'_>, out: &mut O) -> Result<(), IoFail>
     requires few { word_count index.now ≤ most_words }
     ensures { MakesAndPrints (IsGeneratedText (numbers_of index.now.format) index.now.collection index.now.parts) (O.state out.old) (O.state out.new) result }
 {
-    let text = generated_text(alloc, index)?;
-    write_all_own(out, text.as_slice())?;
-    Ok(())
+    let text = generated_text(alloc, index).map_err(|_| IoFail::NoMemory)?;
+    write_all_own(out, text.as_slice())
 }
 
 /// What is told of a generated collection.
-fn generated_text(alloc: Global, index: &Index<'_>) -> Result<Vec<u8>, PrintError>
+fn generated_text(alloc: Global, index: &Index<'_>) -> Result<Vec<u8>, NoMemory>
     requires few { word_count index.now ≤ most_words }
-    ensures text { IfOk result (λ text. IsGeneratedText (numbers_of index.now.format) index.now.collection index.now.parts text.items) }
-    ensures refused { IfErr result (λ e. e ≡ printing.NoMemory) }
+    ensures { IfOk result (λ text. IsGeneratedText (numbers_of index.now.format) index.now.collection index.now.parts text.items) }
 {
     let mut text = counts_line(alloc, index)?.into_bytes();
     if index.terms() > 0 {
-        let lists = IndexLists::new(index);
+        let lists = IndexLists::new(index, Plan::Exhaustive);
         let next = next_line(alloc, index)?;
         let top = top_line(alloc, index)?;
-        push_reply(alloc, &lists, Plan::Exhaustive, &next, &mut text)?;
-        push_replies(alloc, &lists, &PLANS, &top, &mut text)?;
+        push_reply(alloc, &lists, &next, &mut text)?;
+        push_replies(alloc, index, &PLANS, &top, &mut text)?;
     }
     Ok(text)
 }
@@ -109,31 +101,30 @@ fn top_line(alloc: Global, index: &Index<'_>) -> Result<String, AllocError>
 }
 
 /// Appends the reply to a line.
-fn push_reply<L: Answerer>(
+fn push_reply<L: TermLists>(
     alloc: Global,
     lists: &L,
-    plan: Plan,
     line: &str,
     text: &mut Vec<u8>,
 ) -> Result<(), NoMemory>
     ensures { OnOk result ((reply : List ℕ) × IsReply (L.collection lists.now) line.now reply × (text.new.items ≡ text.old.items ++ reply)) }
 {
-    let reply = reply_to(alloc, lists, plan, line.as_bytes())?;
+    let reply = reply_to(alloc, lists, line.as_bytes())?;
     Ok(text.extend_from_slice(&reply)?)
 }
 
 /// Appends the reply to a line by each of these plans.
-fn push_replies<L: Answerer>(
+fn push_replies(
     alloc: Global,
-    lists: &L,
+    index: &Index<'_>,
     plans: &[Plan],
     line: &str,
     text: &mut Vec<u8>,
 ) -> Result<(), NoMemory>
-    ensures { OnOk result ((replies : List ℕ) × AreReplies (L.collection lists.now) (replicate (length plans.now) line.now) replies × (text.new.items ≡ text.old.items ++ replies)) }
+    ensures { OnOk result ((replies : List ℕ) × AreReplies index.now.collection (replicate (length plans.now) line.now) replies × (text.new.items ≡ text.old.items ++ replies)) }
 {
     for plan in plans {
-        push_reply(alloc, lists, *plan, line, text)?;
+        push_reply(alloc, &IndexLists::new(index, *plan), line, text)?;
     }
     Ok(())
 }

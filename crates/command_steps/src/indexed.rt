@@ -1,31 +1,28 @@
 // The lists of an opened index.
 ghost use Rattle.std.specs.Prelude.{◌≡◌};
-ghost use Rattle.collection_model.specs.Collection.{WellFormed};
-ghost use Rattle.part_cost.specs.Formats.{numbers_of};
+ghost use Rattle.segments.specs.Laws.{IsInRange};
 
-use crate::lists::{Answerer, TermLists};
-use crate::plan::Plan;
-use crate::reply::{answer, terms_of};
-use crate::term_cursors::cursors_of;
+use crate::lists::TermLists;
+use crate::plan::{Plan, plan_top};
 use index_file::Index;
 use no_memory::NoMemory;
 use postings::PostingCursor;
-use query_text::Query;
 use std::alloc::Global;
 
-/// The lists of the collection that an index stands for.
+/// The lists of the collection that an index stands for, and the plan of `top`.
 #[derive(Clone, Copy)]
 pub(crate) struct IndexLists<'i, 'a> {
     index: &'i Index<'a>,
-    ghost well_formed: { WellFormed (numbers_of index.now.format) index.now.collection },
+    plan: Plan,
+    ghost in_range: { IsInRange index.now.collection },
 }
 
 impl<'i, 'a> IndexLists<'i, 'a> {
-    pub(crate) fn new(index: &'i Index<'a>) -> IndexLists<'i, 'a>
+    pub(crate) fn new(index: &'i Index<'a>, plan: Plan) -> IndexLists<'i, 'a>
         ensures { ⟦<IndexLists<'i, 'a> as TermLists>⟧.collection result ≡ index.entry.now.collection }
     {
-        index.stands_for_a_collection();
-        IndexLists { index }
+        documents_are_below(index);
+        IndexLists { index, plan }
     }
 }
 
@@ -34,24 +31,41 @@ impl<'i, 'a> TermLists for IndexLists<'i, 'a> {
 
     ghost collection = { λ lists. lists.index.now.collection };
 
+    fn documents(&self) -> u32 {
+        self.index.documents()
+    }
+
     fn terms(&self) -> u32 {
         self.index.terms()
     }
 
-    fn cursor(&self, term: u32) -> PostingCursor<'a> {
-        self.index.cursor(term)
+    fn cursor(&self, _alloc: Global, term: u32) -> Result<PostingCursor<'a>, NoMemory> {
+        Ok(self.index.cursor(term))
     }
-}
 
-impl<'i, 'a> Answerer for IndexLists<'i, 'a> {
-    fn answer(&self, alloc: Global, plan: Plan, query: &Query) -> Result<Vec<u8>, NoMemory> {
-        let mut cursors = cursors_of(alloc, self, terms_of(query))?;
-        answer(
+    fn top(
+        &self,
+        alloc: Global,
+        cursors: &mut [PostingCursor<'a>],
+        weights: &[u32],
+        k: u32,
+    ) -> Result<Vec<(u32, u64)>, NoMemory> {
+        plan_top(
             alloc,
-            plan,
-            query,
-            cursors.as_mut_slice(),
+            self.plan,
+            cursors,
+            weights,
+            k,
             self.index.documents(),
         )
     }
+
+    ghost in_range = { λ lists. lists.in_range };
+}
+
+/// The documents of the lists are below their number.
+fn documents_are_below(index: &Index<'_>)
+    ensures { IsInRange index.now.collection }
+{
+    index.stands_for_a_collection();
 }

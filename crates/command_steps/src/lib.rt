@@ -1,17 +1,18 @@
-//! The steps of the commands: words of an index are built, also those of a generated collection and of another index, loaded and written,
-//! query lines are answered from them, and they are summed up.
+//! The steps of the commands: words of an index are built, also those of a generated collection and of another index, files are loaded as
+//! words and written, query lines are answered from an index, and it is summed up.
 #![tactic(auto)]
 
+mod audit;
 mod build;
 mod generate;
 mod generated_text;
+mod image;
 mod indexed;
+mod joined;
 mod lines;
 mod lists;
 mod loading;
-mod made;
 mod migrate;
-mod plain;
 mod plan;
 mod printing;
 mod reply;
@@ -19,16 +20,17 @@ mod term_cursors;
 mod text;
 mod writing;
 
+pub use audit::print_audit;
 pub use build::{BuildError, build_words};
 pub use generate::generated_words;
 pub use generated_text::print_generated;
-pub use loading::{LoadIndexError, load_index};
-pub use made::MakeError;
+pub use image::{FileFail, ImageError, ImageFiles, image_files, write_image};
+pub use loading::{LoadWordsError, load_words};
 pub use migrate::migrated_words;
 pub use plan::{Plan, plan_top};
-pub use printing::{PrintError, print_summary};
-pub use text::{RunFault, answer_collection, answer_text};
-pub use writing::{WriteIndexError, write_index};
+pub use printing::print_summary;
+pub use text::{RunFault, answer_joined, answer_text};
+pub use writing::{write_file, write_words};
 
 #[cfg(test)]
 mod file_tests;

@@ -7,8 +7,8 @@ ghost use Rattle.command_model.specs.Replies.{IsReply};
 ghost use Rattle.command_steps.specs.AnswersLines.{AnswersLines};
 ghost use Rattle.command_steps.specs.Unended.{AnswersBytes};
 
-use crate::lists::Answerer;
-use crate::plan::Plan;
+use crate::lists::TermLists;
+use crate::reply::answer;
 use no_memory::NoMemory;
 use pef_io::{IoFail, Sink, write_all_own};
 use query_text::{ParseError, bad_reply, parse};
@@ -22,10 +22,9 @@ const NEWLINE: u8 = b'\n';
 const MOST_HELD: usize = 65_536;
 
 /// Takes the next bytes of a text. Each line that ends in them is answered, and what they leave unended is held.
-pub(crate) fn answer_piece<L: Answerer, O: Sink>(
+pub(crate) fn answer_piece<L: TermLists, O: Sink>(
     alloc: Global,
     lists: &L,
-    plan: Plan,
     held: &mut Vec<u8>,
     piece: &[u8],
     out: &mut O,
@@ -35,17 +34,16 @@ pub(crate) fn answer_piece<L: Answerer, O: Sink>(
 {
     let mut rest = piece;
     while let Some(at) = next_newline(rest) {
-        end_line(alloc, lists, plan, held, &rest[..at], out)?;
+        end_line(alloc, lists, held, &rest[..at], out)?;
         rest = &rest[at + 1..];
     }
     hold(held, rest)
 }
 
 /// Takes the last bytes of a line, and answers it.
-fn end_line<L: Answerer, O: Sink>(
+fn end_line<L: TermLists, O: Sink>(
     alloc: Global,
     lists: &L,
-    plan: Plan,
     held: &mut Vec<u8>,
     bytes: &[u8],
     out: &mut O,
@@ -55,36 +53,34 @@ fn end_line<L: Answerer, O: Sink>(
         → AnswersBytes (L.collection lists.now) (read ++ (bytes.now ++ newline ∷ [])) held.new.items start (O.state out.new) result }
 {
     hold(held, bytes)?;
-    answer_line(alloc, lists, plan, held, out)?;
+    answer_line(alloc, lists, held, out)?;
     held.clear();
     Ok(())
 }
 
 /// Answers one line: its reply, with the newline, is one piece.
-pub(crate) fn answer_line<L: Answerer, O: Sink>(
+pub(crate) fn answer_line<L: TermLists, O: Sink>(
     alloc: Global,
     lists: &L,
-    plan: Plan,
     line: &[u8],
     out: &mut O,
 ) -> Result<(), IoFail>
     ensures { AnswersLines (L.collection lists.now) (line.now ∷ []) (O.state out.old) (O.state out.new) result }
 {
-    let reply = reply_to(alloc, lists, plan, line).map_err(|_| IoFail::NoMemory)?;
+    let reply = reply_to(alloc, lists, line).map_err(|_| IoFail::NoMemory)?;
     write_all_own(out, &reply)
 }
 
 /// The reply to one line, with its newline. That to a line which asks nothing is lent.
-pub(crate) fn reply_to<L: Answerer>(
+pub(crate) fn reply_to<L: TermLists>(
     alloc: Global,
     lists: &L,
-    plan: Plan,
     line: &[u8],
 ) -> Result<CowSlice<'static, u8>, NoMemory>
     ensures { IfOk result (λ reply. IsReply (L.collection lists.now) line.now (cow_slice_items reply)) }
 {
     match parse(alloc, line, lists.terms()) {
-        Ok(query) => Ok(CowSlice::Owned(lists.answer(alloc, plan, &query)?)),
+        Ok(query) => Ok(CowSlice::Owned(answer(alloc, lists, &query)?)),
         Err(ParseError::Bad(bad)) => Ok(CowSlice::Borrowed(bad_reply(bad))),
         Err(ParseError::NoMemory) => Err(NoMemory),
     }

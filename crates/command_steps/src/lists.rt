@@ -1,37 +1,53 @@
 // What lines are answered from.
-ghost use Rattle.std.specs.Prelude.{◌≡◌, ◌<◌, length, IfOk};
+ghost use Rattle.std.specs.Prelude.{◌≡◌, ◌≤◌, ◌<◌, ◌^◌, map, length, IfOk};
+ghost use Rattle.std.specs.List.{All};
 ghost use Rattle.collection_model.specs.Collection.{Collection, list_of};
-ghost use Rattle.query_text.specs.Parse.{NamesTerms};
-ghost use Rattle.command_model.specs.Replies.{IsAnswer};
+ghost use Rattle.query_text.specs.Weights.{AreWeights};
+ghost use Rattle.scan_plans.specs.IsTop.{IsTop};
+ghost use Rattle.scan_plans.specs.Matches.{AreBelow};
+ghost use Rattle.segments.specs.Laws.{IsInRange};
 
-use crate::plan::Plan;
 use cursor_api::DocCursor;
 use no_memory::NoMemory;
-use query_text::Query;
 use std::alloc::Global;
 
-/// The posting lists of a collection.
+/// The posting lists of a collection, and how the best documents of some of them are found.
 pub(crate) trait TermLists {
     /// A cursor over a list.
     type Cursor: DocCursor + Drop;
 
     ghost collection: { Self → Collection };
 
+    /// How many documents there are.
+    fn documents(&self) -> u32
+        ensures { result ≡ (collection self.now).documents };
+
     /// How many lists there are.
     fn terms(&self) -> u32
         ensures { result ≡ length (collection self.now).lists };
 
     /// A cursor at the start of a term's list.
-    fn cursor(&self, term: u32) -> Self::Cursor
+    fn cursor(&self, alloc: Global, term: u32) -> Result<Self::Cursor, NoMemory>
         requires { term < length (collection self.now).lists }
-        ensures list { Self.Cursor.list result ≡ list_of (collection self.now) term }
-        ensures start { Self.Cursor.place result ≡ 0 };
-}
+        ensures list { IfOk result (λ cursor. Self.Cursor.list cursor ≡ list_of (collection self.now) term) }
+        ensures start { IfOk result (λ cursor. Self.Cursor.place cursor ≡ 0) };
 
-/// Lists from which lines are answered.
-pub(crate) trait Answerer: TermLists {
-    /// The reply to what a line asks.
-    fn answer(&self, alloc: Global, plan: Plan, query: &Query) -> Result<Vec<u8>, NoMemory>
-        requires { NamesTerms (length (Self.collection self.now).lists) query.now }
-        ensures { IfOk result (λ text. IsAnswer (Self.collection self.now) query.now text.items) };
+    /// The first k of the documents that are in any of the lists, by score falling and then document rising, each with its score. The
+    /// weights are those of the cursors' lists, in the same order; a score stays below 2^58.
+    fn top(
+        &self,
+        alloc: Global,
+        cursors: &mut [Self::Cursor],
+        weights: &[u32],
+        k: u32,
+    ) -> Result<Vec<(u32, u64)>, NoMemory>
+        requires few { length cursors.old ≤ 1024 }
+        requires at_start { All (λ c. Self.Cursor.place c ≡ 0) cursors.old }
+        requires in_range { AreBelow (collection self.now).documents (map Self.Cursor.list cursors.old) }
+        requires each { length weights.now ≡ length cursors.old }
+        requires weights { AreWeights weights.now }
+        ensures first { IfOk result (λ r. IsTop (collection self.now).documents (map Self.Cursor.list cursors.old) weights.now k r.items) }
+        ensures bound { IfOk result (λ r. All (λ e. e.1 < 2 ^ 58) r.items) };
+
+    ghost in_range: { (lists : Self) → IsInRange (collection lists) };
 }

@@ -1,10 +1,11 @@
 ghost use Rattle.std.specs.Prelude.{◌≡◌, ℕ, length, IfOk, OnOk};
 ghost use Rattle.collection_model.specs.Collection.{postings_of};
+ghost use Rattle.command_steps.specs.Building.{AreAdded};
 ghost use Rattle.command_steps.specs.MadeWords.{AreWordsOf, WouldBeTooMany};
 
-use crate::made::MakeError;
 use cursor_api::DocCursor;
-use index_file::{Builder, Index, files_spell_collections, lists_are_counted};
+use index_file::{Builder, FinishError, Index, files_spell_collections, lists_are_counted};
+use no_memory::NoMemory;
 use part_cost::Format;
 use std::alloc::{AllocError, Global};
 use std::sync::ledger::Ledger;
@@ -17,12 +18,26 @@ pub fn migrated_words<L: Ledger>(
     alloc: Global,
     index: &Index<'_>,
     steps: &mut Steps<L>,
-) -> Result<Vec<u64>, MakeError>
+) -> Result<Vec<u64>, FinishError>
     ensures words { IfOk result (λ words. AreWordsOf Format.Two index.now.collection steps.old steps.new words.items) }
-    ensures too_large { (n : ℕ) → result ≡ Err (MakeError.TooLarge n) → WouldBeTooMany Format.Two index.now.collection steps.old steps.new n }
+    ensures too_large { (n : ℕ) → result ≡ Err (FinishError.TooLarge n) → WouldBeTooMany Format.Two index.now.collection steps.old steps.new n }
+{
+    files_spell_collections();
+    index.stands_for_a_collection();
+    let builder = add_lists_of(alloc, index, steps).map_err(|_| FinishError::NoMemory)?;
+    let sizes = sizes_of(alloc, index).map_err(|_| FinishError::NoMemory)?;
+    builder.finish(&sizes)
+}
+
+/// A builder with each list of an index.
+fn add_lists_of<L: Ledger>(
+    alloc: Global,
+    index: &Index<'_>,
+    steps: &mut Steps<L>,
+) -> Result<Builder, NoMemory>
+    ensures { IfOk result (λ built. AreAdded Format.Two built index.now.collection.documents index.now.collection.lists steps.old steps.new) }
 {
     lists_are_counted();
-    files_spell_collections();
     index.stands_for_a_collection();
     let mut builder = Builder::new(alloc, index.documents(), Format::Two)?;
     let mut docs = Vec::new(alloc);
@@ -31,12 +46,11 @@ pub fn migrated_words<L: Ledger>(
         read_list(&mut index.cursor(term), &mut docs, &mut freqs)?;
         builder.add_list(&docs, &freqs, steps)?;
     }
-    let sizes = sizes_of(alloc, index)?;
-    Ok(builder.finish(&sizes)?)
+    Ok(builder)
 }
 
 /// Reads the list of a cursor that stands at its start, in place of what the vectors hold.
-fn read_list<C: DocCursor>(
+pub(crate) fn read_list<C: DocCursor>(
     cursor: &mut C,
     docs: &mut Vec<u32>,
     freqs: &mut Vec<u32>,

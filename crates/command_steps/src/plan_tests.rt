@@ -1,16 +1,15 @@
 // How often the plans of `top` move their cursors.
-ghost use Rattle.std.specs.Prelude.{◌≡◌, IfOk};
-ghost use Rattle.collection_model.specs.FormatNumbers.{format_one};
-ghost use Rattle.collection_model.specs.Collection.{WellFormed};
+ghost use Rattle.std.specs.Prelude.{◌≡◌, ◌<◌, ◌≤◌, IfOk, length};
+ghost use Rattle.index_file.specs.Builder.{most_words};
 
-use crate::lists::TermLists;
-use crate::plain::PlainLists;
 use crate::plan::{Plan, plan_top};
-use crate::tests::collection;
-use collection_reader::Collection;
+use crate::tests::built;
 use cursor_api::DocCursor;
+use index_file::Index;
 use std::alloc::Global;
+use std::marker::Brand;
 use std::process::Abort;
+use std::sync::ledger::{Blank, Ledger};
 use std::test::Fail;
 
 /// A cursor that counts how many moves it makes; one behind a block is as many as the block has postings.
@@ -74,9 +73,12 @@ impl<C: DocCursor> DocCursor for Counting<C> {
     ghost well_formed = { λ c. C.well_formed c.cursor };
 }
 
-/// A list with the documents 0 to 999, once each, and one with document 0, five times.
-fn long_list_and_short_list(alloc: Global) -> Result<Collection, Fail>
-    ensures { IfOk result (WellFormed format_one) }
+/// The index of a list with the documents 0 to 999, once each, and one with document 0, five times.
+fn long_list_and_short_list<L: Ledger>(alloc: Global, blank: Blank) -> Result<Vec<u64>, Fail>
+    requires name { blank.name ≡ L.name }
+    requires parts { blank.parts ≡ L.parts }
+    requires some { 0 < L.parts }
+    ensures { IfOk result (λ words. length words.items ≤ most_words) }
 {
     let mut docs = vec![in alloc; 1, 1000, 1000]?;
     for doc in 0..1000 {
@@ -88,25 +90,19 @@ fn long_list_and_short_list(alloc: Global) -> Result<Collection, Fail>
     freqs.extend_from_slice(&[1, 5])?;
     let mut sizes = vec![in alloc; 1; 1001]?;
     sizes[0] = 1000;
-    collection(alloc, [docs.as_slice(), freqs.as_slice(), sizes.as_slice()])
+    let numbers = [docs.as_slice(), freqs.as_slice(), sizes.as_slice()];
+    built::<L>(alloc, numbers, blank)
 }
 
 /// How often the cursors of both lists are moved to find the first document of both, which has the score 6.
-fn moves_by(
-    rt: &impl Abort,
-    alloc: Global,
-    collection: &Collection,
-    plan: Plan,
-) -> Result<u64, Fail>
-    requires { WellFormed format_one collection.now }
-{
-    let lists = PlainLists::new(collection);
-    assert!(rt; lists.terms() == 2);
+fn moves_by(rt: &impl Abort, alloc: Global, index: &Index<'_>, plan: Plan) -> Result<u64, Fail> {
+    index.stands_for_a_collection();
+    assert!(rt; index.terms() == 2);
     let mut cursors = [
-        Counting::new(lists.cursor(0)),
-        Counting::new(lists.cursor(1)),
+        Counting::new(index.cursor(0)),
+        Counting::new(index.cursor(1)),
     ];
-    let top = plan_top(alloc, plan, &mut cursors, &[1, 1], 1, collection.documents).expect(
+    let top = plan_top(alloc, plan, &mut cursors, &[1, 1], 1, index.documents()).expect(
         rt, "memory",
     );
     assert_eq!(rt; top.as_slice(), [(0, 6)].as_slice());
@@ -116,13 +112,17 @@ fn moves_by(
 #[test]
 fn plans_pass_over_documents(rt: HostRuntime) -> Result<(), Fail> {
     let alloc = rt.alloc();
-    let collection = long_list_and_short_list(alloc)?;
+    let words = long_list_and_short_list::<Brand>(alloc, Blank::new(1))?;
+    let index = match Index::view(&words) {
+        Ok(index) => index,
+        Err(fault) => return Err(Fail::from(fault)),
+    };
     for (plan, least, most) in [
         (Plan::Exhaustive, 1000, 1010),
         (Plan::Wand, 0, 10),
         (Plan::MaxScore, 0, 10),
     ] {
-        let moves = moves_by(&rt, alloc, &collection, plan)?;
+        let moves = moves_by(&rt, alloc, &index, plan)?;
         assert!(rt; least <= moves && moves <= most, "{moves}");
     }
     Ok(())

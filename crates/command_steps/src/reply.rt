@@ -1,13 +1,15 @@
 // The replies to what lines ask, from the cursors of their terms.
 ghost use Rattle.std.specs.Prelude.{◌≡◌, ◌≤◌, ℕ, map, length, option_map, IfOk};
 ghost use Rattle.std.specs.List.{All};
-ghost use Rattle.collection_model.specs.Collection.{Collection, first_at_least};
+ghost use Rattle.collection_model.specs.Collection.{first_at_least};
+ghost use Rattle.query_text.specs.Parse.{NamesTerms};
 ghost use Rattle.query_text.specs.Weights.{AreWeights};
 ghost use Rattle.query_text.specs.Texts.{list_text};
 ghost use Rattle.scan_plans.specs.Matches.{AreBelow, in_all, in_any};
 ghost use Rattle.command_model.specs.Replies.{IsAnswer, IsTopText, lists_of, terms_of};
 
-use crate::plan::{Plan, plan_top};
+use crate::lists::TermLists;
+use crate::term_cursors::cursors_of;
 use cursor_api::DocCursor;
 use no_memory::NoMemory;
 use query_text::{Query, list_reply, next_reply, top_reply};
@@ -26,25 +28,38 @@ pub(crate) fn terms_of(query: &Query) -> &[u32]
     }
 }
 
-/// The reply to what a line asks, from a cursor at the start of each list that it asks for. There are `n` documents.
-pub(crate) fn answer<C: DocCursor>(
+/// The reply to what a line asks.
+pub(crate) fn answer<L: TermLists>(
     alloc: Global,
-    plan: Plan,
+    lists: &L,
     query: &Query,
-    cursors: &mut [C],
-    n: u32,
+) -> Result<Vec<u8>, NoMemory>
+    requires { NamesTerms (length (L.collection lists.now).lists) query.now }
+    ensures { IfOk result (λ text. IsAnswer (L.collection lists.now) query.now text.items) }
+{
+    let mut cursors = cursors_of(alloc, lists, terms_of(query))?;
+    answer_by(alloc, lists, query, cursors.as_mut_slice())
+}
+
+/// The same, from a cursor at the start of each list that it asks for.
+fn answer_by<L: TermLists>(
+    alloc: Global,
+    lists: &L,
+    query: &Query,
+    cursors: &mut [L::Cursor],
 ) -> Result<Vec<u8>, NoMemory>
     requires each { length cursors.old ≡ length (terms_of query.now) }
     requires few { length cursors.old ≤ 1024 }
-    requires at_start { All (λ c. C.place c ≡ 0) cursors.old }
-    requires in_range { AreBelow n (map C.list cursors.old) }
-    ensures { (c : Collection) → c.documents ≡ n → map C.list cursors.old ≡ lists_of c (terms_of query.now) → IfOk result (λ text. IsAnswer c query.now text.items) }
+    requires at_start { All (λ c. L.Cursor.place c ≡ 0) cursors.old }
+    requires in_range { AreBelow (L.collection lists.now).documents (map L.Cursor.list cursors.old) }
+    requires lists { map L.Cursor.list cursors.old ≡ lists_of (L.collection lists.now) (terms_of query.now) }
+    ensures { IfOk result (λ text. IsAnswer (L.collection lists.now) query.now text.items) }
 {
     match query {
         Query::Next { doc, .. } => next_reply(alloc, first_posting(&mut cursors[0], *doc)),
         Query::And(_) => and_answer(alloc, cursors),
         Query::Or(_) => or_answer(alloc, cursors),
-        Query::Top { k, terms } => top_answer(alloc, plan, cursors, terms.weights(), *k, n),
+        Query::Top { k, terms } => top_answer(alloc, lists, cursors, terms.weights(), *k),
     }
 }
 
@@ -78,22 +93,21 @@ fn or_answer<C: DocCursor>(alloc: Global, cursors: &mut [C]) -> Result<Vec<u8>, 
     list_reply(alloc, docs.as_slice())
 }
 
-/// The reply with the first k documents that are in any of the lists of these weights, by this plan. There are `n` documents.
-fn top_answer<C: DocCursor>(
+/// The reply with the first k documents that are in any of the lists of these weights.
+fn top_answer<L: TermLists>(
     alloc: Global,
-    plan: Plan,
-    cursors: &mut [C],
+    lists: &L,
+    cursors: &mut [L::Cursor],
     weights: &[u32],
     k: u32,
-    n: u32,
 ) -> Result<Vec<u8>, NoMemory>
     requires few { length cursors.old ≤ 1024 }
-    requires at_start { All (λ c. C.place c ≡ 0) cursors.old }
-    requires in_range { AreBelow n (map C.list cursors.old) }
-    requires weighted { length weights.now ≡ length cursors.old }
+    requires at_start { All (λ c. L.Cursor.place c ≡ 0) cursors.old }
+    requires in_range { AreBelow (L.collection lists.now).documents (map L.Cursor.list cursors.old) }
+    requires each { length weights.now ≡ length cursors.old }
     requires weights { AreWeights weights.now }
-    ensures { IfOk result (λ text. IsTopText n (map C.list cursors.old) weights.now k text.items) }
+    ensures { IfOk result (λ text. IsTopText (L.collection lists.now).documents (map L.Cursor.list cursors.old) weights.now k text.items) }
 {
-    let top = plan_top(alloc, plan, cursors, weights, k, n)?;
+    let top = lists.top(alloc, cursors, weights, k)?;
     top_reply(alloc, top.as_slice())
 }

@@ -1,16 +1,18 @@
-ghost use Rattle.std.specs.Prelude.{◌<◌, ◌^◌, IfOk, length};
-ghost use Rattle.collection_model.specs.FormatNumbers.{format_one};
-ghost use Rattle.collection_model.specs.Collection.{WellFormed};
+ghost use Rattle.std.specs.Prelude.{◌≡◌, ◌<◌, ◌≤◌, IfOk, length};
+ghost use Rattle.index_file.specs.Builder.{most_words};
 
+use crate::build::build_words;
 use crate::plan::Plan;
-use crate::text::{RunFault, answer_collection, answer_text};
-use collection_reader::{Collection, read_collection};
+use crate::text::{RunFault, answer_text};
 use index_file::Index;
 use part_cost::Format;
 use pef_io::{MemSink, MemSource, SteadyDepot};
 use std::alloc::{AllocError, Global};
+use std::marker::Brand;
 use std::process::Abort;
+use std::sync::ledger::{Blank, Ledger};
 use std::test::Fail;
+use step_count::Steps;
 
 /// More than any text here has.
 const FAR: u64 = 1 << 40;
@@ -186,17 +188,25 @@ const THREE_LISTS_OF_TWO: &[u64] = &[
     5784106577086924120,
 ];
 
-/// The collection of these numbers.
-pub(crate) fn collection(alloc: Global, numbers: Numbers) -> Result<Collection, Fail>
-    ensures { IfOk result (WellFormed format_one) }
+/// The words of an index of the collection of these numbers, in the first format.
+pub(crate) fn built<L: Ledger>(
+    alloc: Global,
+    numbers: Numbers,
+    blank: Blank,
+) -> Result<Vec<u64>, Fail>
+    requires name { blank.name ≡ L.name }
+    requires parts { blank.parts ≡ L.parts }
+    requires some { 0 < L.parts }
+    ensures { IfOk result (λ words. length words.items ≤ most_words) }
 {
     let mut files = Vec::new(alloc);
     for (name, numbers) in ["x.docs", "x.freqs", "x.sizes"].into_iter().zip(numbers) {
         files.push((String::from_str(alloc, name)?, spelled(alloc, numbers)?))?;
     }
     let mut depot = SteadyDepot::new(alloc, files, 8)?;
-    match read_collection(alloc, "x", &mut depot, Format::One) {
-        Ok(collection) => Ok(collection),
+    let mut steps = Steps::<L>::new(blank);
+    match build_words(alloc, "x", &mut depot, Format::One, &mut steps) {
+        Ok(words) => Ok(words),
         Err(e) => Err(Fail::from(e)),
     }
 }
@@ -242,24 +252,9 @@ fn out_of(alloc: Global, case: &Case) -> Result<MemSink, Fail> {
 /// How a text ends, and what was written.
 type Ended = (Result<(), RunFault>, Vec<u8>);
 
-/// How a text ends that is answered from a collection.
-fn from_collection(
-    alloc: Global,
-    collection: &Collection,
-    plan: Plan,
-    case: &Case,
-) -> Result<Ended, Fail>
-    requires { WellFormed format_one collection.now }
-{
-    let mut input = input_of(alloc, case)?;
-    let mut out = out_of(alloc, case)?;
-    let end = answer_collection(alloc, collection, plan, &mut input, case.limit, &mut out);
-    Ok((end, Vec::from_slice(alloc, out.bytes())?))
-}
-
 /// How a text ends that is answered from an index of these words.
 fn from_words(alloc: Global, words: &[u64], plan: Plan, case: &Case) -> Result<Ended, Fail>
-    requires { length words.now < 2 ^ 57 }
+    requires { length words.now ≤ most_words }
 {
     let mut input = input_of(alloc, case)?;
     let mut out = out_of(alloc, case)?;
@@ -273,7 +268,7 @@ fn from_words(alloc: Global, words: &[u64], plan: Plan, case: &Case) -> Result<E
 /// The plans of `top`.
 const PLANS: [Plan; 3] = [Plan::Exhaustive, Plan::Wand, Plan::MaxScore];
 
-/// Ends each case by each plan, from the collection and from each of the indexes of it.
+/// Ends each case by each plan, from the index that is built of the collection and from each of these indexes of it.
 fn check_cases(
     rt: &impl Abort,
     alloc: Global,
@@ -281,10 +276,10 @@ fn check_cases(
     indexes: &[&[u64]],
     cases: &[Case],
 ) -> Result<(), Fail> {
-    let collection = collection(alloc, numbers)?;
+    let built = built::<Brand>(alloc, numbers, Blank::new(1))?;
     for case in cases {
         for plan in PLANS {
-            let (end, out) = from_collection(alloc, &collection, plan, case)?;
+            let (end, out) = from_words(alloc, &built, plan, case)?;
             assert_eq!(rt; end, case.want, "at {}", case.text);
             assert_eq!(rt; out.as_slice(), case.out.as_bytes(), "at {}", case.text);
             for words in indexes {
@@ -491,7 +486,10 @@ fn terms_have_weights(rt: HostRuntime) -> Result<(), Fail> {
 #[test]
 fn lines_are_long(rt: HostRuntime) -> Result<(), Fail> {
     let alloc = rt.alloc();
-    let collection = collection(alloc, ONE_LIST)?;
+    let index = match Index::view(ONE_LIST_OF_ONE) {
+        Ok(index) => index,
+        Err(fault) => return Err(Fail::from(fault)),
+    };
     for (length, out) in [
         (65_535, "bad verb\n0 1\n"),
         (65_536, "bad length\n0 1\n"),
@@ -502,14 +500,7 @@ fn lines_are_long(rt: HostRuntime) -> Result<(), Fail> {
         let mut input = MemSource::new(text, 1000, Vec::new(alloc));
         let mut sink = MemSink::new(alloc, 1000, Vec::new(alloc))?;
         assert_eq!(rt;
-            answer_collection(
-                alloc,
-                &collection,
-                Plan::Exhaustive,
-                &mut input,
-                FAR,
-                &mut sink
-            ),
+            answer_text(alloc, &index, Plan::Exhaustive, &mut input, FAR, &mut sink),
             Ok(())
         );
         assert_eq!(rt; sink.bytes(), out.as_bytes(), "at {length}");

@@ -1,17 +1,17 @@
-ghost use Rattle.std.specs.Prelude.{◌≡◌};
-ghost use Rattle.collection_model.specs.FormatNumbers.{format_one};
-ghost use Rattle.collection_model.specs.Collection.{WellFormed};
+ghost use Rattle.std.specs.Prelude.{◌≡◌, map};
+ghost use Rattle.segments.specs.Joined.{joined};
+ghost use Rattle.command_steps.specs.AnswerJoined.{CanBeJoined, collections_of};
 ghost use Rattle.command_steps.specs.AnswerText.{AnswersText};
 ghost use Rattle.command_steps.specs.AnswersEnded.{AnswersEnded};
 ghost use Rattle.command_steps.specs.Faults.{input_fault, out_fault};
 
 use crate::indexed::IndexLists;
+use crate::joined::JoinedLists;
 use crate::lines::{answer_line, answer_piece};
-use crate::lists::Answerer;
-use crate::plain::PlainLists;
+use crate::lists::TermLists;
 use crate::plan::Plan;
-use collection_reader::Collection;
 use index_file::Index;
+use no_memory::NoMemory;
 use pef_io::{IoFail, Sink, Source};
 use std::alloc::Global;
 
@@ -44,47 +44,49 @@ pub fn answer_text<I: Source, O: Sink>(
 ) -> Result<(), RunFault>
     ensures { AnswersText index.now.collection limit (I.state input.old) (I.state input.new) (O.state out.old) (O.state out.new) result }
 {
-    answer_from(alloc, &IndexLists::new(index), plan, input, limit, out)
+    answer_from(alloc, &IndexLists::new(index, plan), input, limit, out)
 }
 
-/// The same from a collection in memory, with no index.
-pub fn answer_collection<I: Source, O: Sink>(
+/// Answers the lines of the input from the collection to which these indexes are joined, in the order of the files, as `answer_text` does
+/// from one.
+pub fn answer_joined<I: Source, O: Sink>(
     alloc: Global,
-    collection: &Collection,
+    files: &[Vec<u64>],
     plan: Plan,
     input: &mut I,
     limit: u64,
     out: &mut O,
 ) -> Result<(), RunFault>
-    requires { WellFormed format_one collection.now }
-    ensures { AnswersText collection.now limit (I.state input.old) (I.state input.new) (O.state out.old) (O.state out.new) result }
+    requires { CanBeJoined (map (λ file. file.items) files.now) }
+    ensures { AnswersText (joined (collections_of (map (λ file. file.items) files.now))) limit (I.state input.old) (I.state input.new) (O.state out.old) (O.state out.new) result }
 {
-    answer_from(alloc, &PlainLists::new(collection), plan, input, limit, out)
+    match JoinedLists::new(alloc, files, plan) {
+        Ok(lists) => answer_from(alloc, &lists, input, limit, out),
+        Err(NoMemory) => Err(RunFault::NoMemory),
+    }
 }
 
 /// Answers the lines of the input from any lists.
-fn answer_from<L: Answerer, I: Source, O: Sink>(
+pub(crate) fn answer_from<L: TermLists, I: Source, O: Sink>(
     alloc: Global,
     lists: &L,
-    plan: Plan,
     input: &mut I,
     limit: u64,
     out: &mut O,
 ) -> Result<(), RunFault>
     ensures { AnswersText (L.collection lists.now) limit (I.state input.old) (I.state input.new) (O.state out.old) (O.state out.new) result }
 {
-    let last = answer_ended_lines(alloc, lists, plan, input, limit, out)?;
+    let last = answer_ended_lines(alloc, lists, input, limit, out)?;
     if last.is_empty() {
         return Ok(());
     }
-    answer_line(alloc, lists, plan, last.as_slice(), out).map_err(out_fault)
+    answer_line(alloc, lists, last.as_slice(), out).map_err(out_fault)
 }
 
 /// Answers each line that a newline ends, and gives what is held of the line behind the last newline.
-fn answer_ended_lines<L: Answerer, I: Source, O: Sink>(
+fn answer_ended_lines<L: TermLists, I: Source, O: Sink>(
     alloc: Global,
     lists: &L,
-    plan: Plan,
     input: &mut I,
     limit: u64,
     out: &mut O,
@@ -100,7 +102,7 @@ fn answer_ended_lines<L: Answerer, I: Source, O: Sink>(
             return Ok(held);
         }
         let within = rest.min(n as u64) as usize;
-        answer_piece(alloc, lists, plan, &mut held, &piece[..within], out).map_err(out_fault)?;
+        answer_piece(alloc, lists, &mut held, &piece[..within], out).map_err(out_fault)?;
         if within < n {
             return Err(RunFault::TooLarge);
         }

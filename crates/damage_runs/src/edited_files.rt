@@ -1,7 +1,7 @@
-// Index files that were changed, by `query` and `migrate`.
+// Index files that were changed, by `query`, `migrate`, `audit` and `blocks`.
 use pef_io::Op;
 use pef_top::Status;
-use run_tables::{MIGRATE, ONE_LIST_WORDS, QUERY, bytes_of, only_index, steady_run};
+use run_tables::{AUDIT, BLOCKS, MIGRATE, ONE_LIST_WORDS, QUERY, bytes_of, only_index, steady_run};
 
 #[test]
 fn edits_of_a_file_are_refused_by_name(rt: HostRuntime) {
@@ -29,7 +29,12 @@ fn edits_of_a_file_are_refused_by_name(rt: HostRuntime) {
         words[at] = word;
         let bytes = bytes_of(alloc, &words).expect(&rt, "memory");
         let wanted = format!(in alloc; "index {line}\n").expect(&rt, "memory");
-        for command in [QUERY.as_slice(), MIGRATE.as_slice()] {
+        for command in [
+            QUERY.as_slice(),
+            MIGRATE.as_slice(),
+            AUDIT.as_slice(),
+            BLOCKS.as_slice(),
+        ] {
             let files = only_index(alloc, bytes.as_slice()).expect(&rt, "memory");
             let run = steady_run(alloc, command, files, b"or 0").expect(&rt, "memory");
             assert!(rt; run.ends(Status::Index, &wanted), "{at} {word}");
@@ -57,7 +62,12 @@ fn files_of_other_lengths_are_no_index(rt: HostRuntime) {
         let mut bytes = bytes_of(alloc, &ONE_LIST_WORDS).expect(&rt, "memory");
         bytes.truncate(length);
         let wanted = format!(in alloc; "index {check} term 0 part 0\n").expect(&rt, "memory");
-        for command in [QUERY.as_slice(), MIGRATE.as_slice()] {
+        for command in [
+            QUERY.as_slice(),
+            MIGRATE.as_slice(),
+            AUDIT.as_slice(),
+            BLOCKS.as_slice(),
+        ] {
             let files = only_index(alloc, bytes.as_slice()).expect(&rt, "memory");
             let run = steady_run(alloc, command, files, b"or 0").expect(&rt, "memory");
             assert!(rt; run.ends(Status::Index, &wanted), "{length}");

@@ -3,9 +3,9 @@ use crate::failures::{Failed, REPLIES, TEXT, line_of, run_failing};
 use pef_io::{Op, Slot};
 use pef_top::Status;
 use run_tables::{
-    BUILD, BUILD_ONE, FileList, INSPECT, OPS, QUERY, THREE_LISTS, THREE_LISTS_LINE,
-    THREE_LISTS_LINE_OF_TWO, THREE_LISTS_WORDS, THREE_LISTS_WORDS_OF_TWO, bytes_of, files_of,
-    only_index,
+    AUDIT, BUILD, BUILD_ONE, FileList, INSPECT, OPS, QUERY, THREE_LISTS, THREE_LISTS_AUDIT,
+    THREE_LISTS_AUDIT_OF_TWO, THREE_LISTS_LINE, THREE_LISTS_LINE_OF_TWO, THREE_LISTS_WORDS,
+    THREE_LISTS_WORDS_OF_TWO, bytes_of, files_of, only_index,
 };
 use std::alloc::Global;
 
@@ -91,6 +91,8 @@ fn calls_on_an_index_fail_in_turn(rt: HostRuntime) {
         (QUERY, two, REPLIES),
         (INSPECT, one, THREE_LISTS_LINE.as_bytes()),
         (INSPECT, two, THREE_LISTS_LINE_OF_TWO.as_bytes()),
+        (AUDIT, one, THREE_LISTS_AUDIT.as_bytes()),
+        (AUDIT, two, THREE_LISTS_AUDIT_OF_TWO.as_bytes()),
     ] {
         for op in OPS {
             let least = match op {

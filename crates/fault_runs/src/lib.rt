@@ -11,6 +11,12 @@ mod faults;
 #[cfg(test)]
 mod index_failures;
 #[cfg(test)]
+mod maps;
+#[cfg(test)]
 mod migration_failures;
 #[cfg(test)]
 mod print_failures;
+#[cfg(test)]
+mod remap_failures;
+#[cfg(test)]
+mod side_failures;

@@ -5,7 +5,7 @@ use pef_top::Status;
 use run_tables::{MIGRATE, ONE_LIST_WORDS, ONE_LIST_WORDS_OF_TWO, bytes_of, only_index};
 
 /// What stands under the name of the new index where the call of this number failed, of calls that move eight bytes each.
-fn left_by(op: Op, failing: u64, whole: &[u8]) -> Option<&[u8]> {
+pub(crate) fn left_by(op: Op, failing: u64, whole: &[u8]) -> Option<&[u8]> {
     match op {
         Op::Write => {
             let written = (failing as usize).saturating_sub(1).saturating_mul(8);

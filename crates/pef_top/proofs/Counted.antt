@@ -1,12 +1,12 @@
 -- How a run ends by a fault, and by none.
-use Rattle.std.proofs.Common.{◌≡◌, ℕ, ◌≤◌, ◌<◌, arith, ap, List, ◌++◌, length, inl, inr}
+use Rattle.std.proofs.Common.{◌≡◌, ℕ, ◌≤◌, ◌<◌, arith, refl, sym, ap, subst, List, ◌++◌, length, inl, inr}
 use Rattle.std.specs.Prelude.{◌≢◌, ◌⊎◌, false, IsTrue, Option, Some, None}
 use Rattle.std.proofs.lemmas.List.{length-append}
 use Rattle.pef_io.specs.declared.fail.Slot.{Slot}
 use Rattle.pef_io.specs.declared.fail.Slot.TheVariants.{Docs, Freqs, Sizes, Index, Side, Map}
 use Rattle.pef_io.specs.Calls.{Rose}
 use Rattle.pef_top.specs.Outside.{Outside, Count, OfFile, OfWriting, OfInput, OfOut, failed}
-use Rattle.pef_top.specs.Outcome.{Outcome, Done, Usage, BrokenCollection, BrokenIndex, FileFault, InputFault, WriteFault, OutFault, NoMemory, TooLarge, InputTooLarge, fault_of}
+use Rattle.pef_top.specs.Outcome.{Outcome, Done, Usage, BrokenCollection, BrokenIndex, BrokenMap, FileFault, InputFault, WriteFault, OutFault, NoMemory, TooLarge, InputTooLarge, fault_of}
 use Rattle.pef_top.specs.Ends.{EndsByFault, FirstFaultEnds, OrNoMemory, OrTooLarge}
 
 -- of which count a fault is, where that is known
@@ -52,6 +52,7 @@ is_file_fault Done slot h = let s : Of None (OfFile slot) = h in cc
 is_file_fault Usage slot h = let s : Of None (OfFile slot) = h in cc
 is_file_fault (BrokenCollection fault) slot h = let s : Of None (OfFile slot) = h in cc
 is_file_fault (BrokenIndex fault) slot h = let s : Of None (OfFile slot) = h in cc
+is_file_fault (BrokenMap fault) slot h = let s : Of None (OfFile slot) = h in cc
 is_file_fault (FileFault other) slot h = let s : Of (Some (OfFile other)) (OfFile slot) = h in cc
 is_file_fault InputFault slot h = let s : Of (Some OfInput) (OfFile slot) = h in cc
 is_file_fault (WriteFault other) slot h = let s : Of (Some OfWriting) (OfFile slot) = h in cc
@@ -74,14 +75,24 @@ none_of (inr (inr c)) x y z = absurd (z c)
 pub not_true : IsTrue false → ⊥
 not_true h = cc
 
--- what holds of the slot of the index and of each other slot
-pub by_slot : (P : Slot → Type 0) → P Index → ((slot : Slot) → slot ≢ Index → P slot) → (slot : Slot) → P slot
-by_slot P index others Docs = others Docs (λ h. cc)
-by_slot P index others Freqs = others Freqs (λ h. cc)
-by_slot P index others Sizes = others Sizes (λ h. cc)
-by_slot P index others Index = index
-by_slot P index others Side = others Side (λ h. cc)
-by_slot P index others Map = others Map (λ h. cc)
+-- a slot is another one or not
+slot_is : (a b : Slot) → (a ≡ b) ⊎ (a ≢ b)
+slot_is Docs Docs = inl refl
+slot_is Freqs Freqs = inl refl
+slot_is Sizes Sizes = inl refl
+slot_is Index Index = inl refl
+slot_is Side Side = inl refl
+slot_is Map Map = inl refl
+slot_is a b = inr (λ e. cc)
+
+-- what holds of a slot and of each other slot
+pub by_slot : (it : Slot) (P : Slot → Type 0) → P it → ((slot : Slot) → slot ≢ it → P slot) → (slot : Slot) → P slot
+by_slot it P this others slot = elim (slot_is slot it) [ inl e ↦ subst P (sym e) this | inr other ↦ others slot other ]
+
+-- counts that stood before as at the start
+pub faults_before : (old mid new : Outside) (outcome : Outcome) → ((count : Count) → failed count mid ≡ failed count old) → FirstFaultEnds mid new outcome → FirstFaultEnds old new outcome
+faults_before old mid new outcome same f =
+    record { counts = λ count. subst (λ n. EndsByFault count outcome n (failed count new)) (same count) (f.counts count) }
 
 pub not_both_lengths : (a b : ℕ) → a ≤ b → b < a → ⊥
 not_both_lengths a b le lt = omega (arith, le, lt)

@@ -12,7 +12,8 @@ use Rattle.pef_io.specs.SinkState.{SinkState}
 use Rattle.pef_io.specs.Helpers.{AppendsFront, WritesAll}
 use Rattle.collection_reader.specs.declared.fault.Fault.{Fault}
 use Rattle.index_file.specs.declared.fault.OpenFault.{OpenFault}
-use Rattle.pef_top.specs.ErrLines.{check_text, index_line, rule_text, slot_text, fault_line}
+use Rattle.remap.specs.declared.fault.MapFault.{MapFault}
+use Rattle.pef_top.specs.ErrLines.{check_text, index_line, map_line, map_rule_text, rule_text, slot_text, fault_line}
 use Rattle.pef_top.specs.Private.ErrPieces.{joined}
 
 joined-append : (xs ys : List (Bor (List ℕ))) → joined (xs ++ ys) ≡ joined xs ++ joined ys
@@ -167,3 +168,18 @@ index_fault_written old new f check term part r e1 e2 e3 w =
     ∙ ap (λ xs. codes "index " ++ xs ++ codes " term " ++ term ++ codes " part " ++ part ++ codes "\n") e1
     ∙ ap (λ xs. codes "index " ++ check_text f.check ++ codes " term " ++ xs ++ codes " part " ++ part ++ codes "\n") e2
     ∙ ap (λ xs. codes "index " ++ check_text f.check ++ codes " term " ++ decimal f.term ++ codes " part " ++ xs ++ codes "\n") e3) w
+
+-- five pieces in a row
+five_pieces : (a b c d e : List ℕ) → concat (a ∷ b ∷ c ∷ d ∷ e ∷ []) ≡ a ++ b ++ c ++ d ++ e
+five_pieces a b c d e = simp (append_assoc, append-nil)
+
+-- the pieces of the line of a file that is no order of the documents
+pub map_fault_written : (old new : SinkState) (f : MapFault) (rule place : List ℕ) (r : Result (Unit {0}) IoFail) →
+    rule ≡ map_rule_text f.rule → place ≡ decimal f.place →
+    WritesAll old new (concat (codes "map " ∷ rule ∷ codes " place " ∷ place ∷ codes "\n" ∷ [])) r →
+    WritesAll old new (map_line f) r
+map_fault_written old new f rule place r e1 e2 w =
+    let P : List ℕ → Type 0 = λ xs. WritesAll old new xs r in
+    subst P (five_pieces (codes "map ") rule (codes " place ") place (codes "\n")
+    ∙ ap (λ xs. codes "map " ++ xs ++ codes " place " ++ place ++ codes "\n") e1
+    ∙ ap (λ xs. codes "map " ++ map_rule_text f.rule ++ codes " place " ++ xs ++ codes "\n") e2) w

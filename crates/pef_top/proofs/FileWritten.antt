@@ -1,118 +1,204 @@
--- What `build` leaves.
-use Rattle.std.proofs.Common.{◌≡◌, ℕ, ◌<◌, ◌^◌, refl, sym, ◌∙◌, ap, subst, List, inl, inr}
-use Rattle.std.specs.Prelude.{Result, Ok, Err, Some, Vec}
-use Rattle.std.specs.List.{All}
-use Rattle.std.specs.declared.alloc.Global.{Global}
-use Rattle.collection_model.specs.Collection.{Collection}
-use Rattle.part_cost.specs.declared.formats.Format.{Format}
-use Rattle.part_cost.specs.Formats.{numbers_of}
+-- What a run leaves that wrote bytes as the file of a slot, or stopped at that.
+use Rattle.std.proofs.Common.{◌≡◌, ℕ, ◌≤◌, arith, refl, sym, ◌∙◌, ap, subst, List, inl, inr, ◌⊎◌}
+use Rattle.std.specs.Prelude.{Some, None, ◌≢◌, IsTrue, Result, Ok, Err}
+use Rattle.pef_io.specs.declared.fail.IoFail.{IoFail}
+use Rattle.pef_io.specs.declared.fail.IoFail.TheVariants as call
+use Rattle.pef_io.specs.declared.fail.Slot.{Slot}
+use Rattle.pef_io.specs.Calls.{Rose}
 use Rattle.pef_io.specs.SourceState.{SourceState}
 use Rattle.pef_io.specs.SinkState.{SinkState}
-use Rattle.pef_io.specs.DepotState.{DepotState}
-use Rattle.collection_reader.specs.ReadCollection.{IsCollectionSlot}
-use Rattle.command_model.specs.Found.{FindsCollection}
-use Rattle.command_steps.specs.declared.build.BuildError.{BuildError}
-use Rattle.command_steps.specs.declared.writing.WriteIndexError.{WriteIndexError}
-use Rattle.command_steps.specs.declared.writing.WriteIndexError.TheVariants as writing
-use Rattle.command_steps.specs.BuildWords.{BuildsWords, words_built}
-use Rattle.command_steps.specs.WriteIndex.{WritesWords}
-use Rattle.pef_top.specs.declared.stop.Stop.{Stop}
-use Rattle.command_line.specs.Command.{Build}
-use Rattle.pef_top.specs.Outside.{Outside, outside}
-use Rattle.pef_top.specs.Outcome.{Outcome, Done}
-use Rattle.pef_top.specs.Built.{BuildsWordsThen}
-use Rattle.pef_top.specs.ReadingCollection.{ReadsCollectionThen}
-use Rattle.pef_top.specs.WrittenIndex.{WritesIndex}
-use Rattle.pef_top.specs.Private.Leaves.{Leaves}
-use Rattle.pef_top.specs.Private.Stops.{outcome_of, stop_of_building}
-use Rattle.pef_top.proofs.Started.{written_starts}
-use Rattle.pef_top.proofs.WordsBuilt.{unbuilt, not_done, unbuilt_ends, unbuilt_refuses, unbuilt_faults, unbuilt_starts, unbuilt_complete, cut_of, unbroken, same_counts, starts}
-use Rattle.pef_top.proofs.WordsWritten.{written_outcome, not_broken, left}
+use Rattle.pef_io.specs.DepotState.{DepotState, OnlyReads}
+use Rattle.collection_reader.specs.declared.fault.Fault.{Fault}
+use Rattle.index_file.specs.declared.fault.OpenFault.{OpenFault}
+use Rattle.command_model.specs.Written.{IsWritten, IsUnwritten, IsWrittenInPart, IsBeingWritten, IsLeftByFault}
+use Rattle.command_steps.specs.WriteFile.{WritesBytes}
+use Rattle.pef_top.specs.Outside.{Outside, NoCallFailed, outside, OfFile, OfWriting, OfInput, OfOut}
+use Rattle.pef_top.specs.Outcome.{Outcome, Done, BrokenCollection, BrokenIndex, WriteFault, NoMemory, TooLarge, is_refusal, fault_of}
+use Rattle.pef_top.specs.Ends.{EndsByFault, FirstFaultEnds, OrNoMemory}
+use Rattle.pef_top.specs.WrittenFile.{IsLeftInPart, WritesFile, EndsByWriting, WritesOnlyAccepted}
+use Rattle.pef_top.specs.Private.Stops.{written_outcome}
+use Rattle.pef_top.proofs.Counted.{stays, rises, second, not_true, Of, all_end}
 
--- the words were not built
-pub not_built : (format : Format) (base index : List ℕ) (d d' : DepotState) (i : SourceState) (o e e' : SinkState) (s s' : ℕ) (error : BuildError)
-    → BuildsWords format base d d' s s' (Err error)
-    → Leaves (Some (Build base index format)) (outside d i o e s) (outside d' i o e' s') (unbuilt error)
-not_built format base index d d' i o e e' s s' error w = record {
-  performs = record {
-    ends = unbuilt_ends format base old new error (WritesIndex format (FindsCollection (numbers_of format) base d) index old new) (inl (record { files = w.reads.files; writing = w.reads.writing })) w;
-    opens = λ is. absurd (not_done error is);
-    refuses = unbuilt_refuses format base old new error w;
-    complete = λ t c found none. unbuilt_complete format base old new error Done w t c found none;
-    depot = record { refused = λ h. w.reads; unaccepted = λ h. w.reads; stay_started = w.reads.stay_started; other_slots = w.reads.other_slots; create_count = inr w.reads.create_count; finish_count = inr w.reads.finish_count };
-  };
-  faults = unbuilt_faults format base old new error w refl refl;
-  starts = unbuilt_starts format base old new error w;
-  depot_tells = w.reads.tells;
-  input_tells = refl;
-  out_tells = refl;
-}
-  where
-    old : Outside
-    old = outside d i o e s
+abbrev pub Written : Type 0
+Written = Result (Unit {0}) IoFail
 
-    new : Outside
-    new = outside d' i o e' s'
+-- it ends by none of these
+pub not_broken : (slot : Slot) (r : Written) (fault : Fault) → written_outcome slot r ≢ BrokenCollection fault
+not_broken slot (Ok u) fault h = let s : Done ≡ BrokenCollection fault = h in cc
+not_broken slot (Err call.Failed) fault h = let s : (WriteFault slot) ≡ BrokenCollection fault = h in cc
+not_broken slot (Err call.NoMemory) fault h = let s : NoMemory ≡ BrokenCollection fault = h in cc
 
--- what comes behind the reading of a collection
-behind_reading : (format : Format) (base : List ℕ) (old : Outside) (Then : Outcome → Type 0) (r : Result (Unit {0}) WriteIndexError)
-    → Then (written_outcome r) → ReadsCollectionThen (numbers_of format) base old Then (written_outcome r)
-behind_reading format base old Then (Ok u) then = then
-behind_reading format base old Then (Err writing.Write) then = then
-behind_reading format base old Then (Err writing.NoMemory) then = then
+pub not_no_index : (slot : Slot) (r : Written) (fault : OpenFault) → written_outcome slot r ≢ BrokenIndex fault
+not_no_index slot (Ok u) fault h = let s : Done ≡ BrokenIndex fault = h in cc
+not_no_index slot (Err call.Failed) fault h = let s : (WriteFault slot) ≡ BrokenIndex fault = h in cc
+not_no_index slot (Err call.NoMemory) fault h = let s : NoMemory ≡ BrokenIndex fault = h in cc
 
--- The words, of 64 bits, were built, over depot `d`, which is `d1` then, and written or not, which leaves `d2`.
-module _ (format : Format) (base index : List ℕ) (d d1 d2 : DepotState) (i : SourceState) (o e e' : SinkState) (s s' : ℕ) (words : List ℕ)
-    (w : BuildsWords format base d d1 s s' (Ok words)) (fit : All (λ x. x < 2 ^ 64) words) where
+pub not_too_large : (slot : Slot) (r : Written) (other : Slot) → written_outcome slot r ≢ TooLarge other
+not_too_large slot (Ok u) other h = let s : Done ≡ TooLarge other = h in cc
+not_too_large slot (Err call.Failed) other h = let s : (WriteFault slot) ≡ TooLarge other = h in cc
+not_too_large slot (Err call.NoMemory) other h = let s : NoMemory ≡ TooLarge other = h in cc
+
+pub not_file : (slot : Slot) (r : Written) (other : Slot) → ¬ Of (fault_of (written_outcome slot r)) (OfFile other)
+not_file slot (Ok u) other h = let s : Of None (OfFile other) = h in cc
+not_file slot (Err call.Failed) other h = let s : Of (Some OfWriting) (OfFile other) = h in cc
+not_file slot (Err call.NoMemory) other h = let s : Of None (OfFile other) = h in cc
+
+pub not_input : (slot : Slot) (r : Written) → ¬ Of (fault_of (written_outcome slot r)) OfInput
+not_input slot (Ok u) h = let s : Of None OfInput = h in cc
+not_input slot (Err call.Failed) h = let s : Of (Some OfWriting) OfInput = h in cc
+not_input slot (Err call.NoMemory) h = let s : Of None OfInput = h in cc
+
+pub not_out : (slot : Slot) (r : Written) → ¬ Of (fault_of (written_outcome slot r)) OfOut
+not_out slot (Ok u) h = let s : Of None OfOut = h in cc
+not_out slot (Err call.Failed) h = let s : Of (Some OfWriting) OfOut = h in cc
+not_out slot (Err call.NoMemory) h = let s : Of None OfOut = h in cc
+
+pub not_refusal : (slot : Slot) (r : Written) → IsTrue (is_refusal (written_outcome slot r)) → ⊥
+not_refusal slot (Ok u) h = not_true h
+not_refusal slot (Err call.Failed) h = not_true h
+not_refusal slot (Err call.NoMemory) h = not_true h
+
+-- What such a run leaves.
+pub record IsLeft (slot : Slot) (touched : Slot → Type 0) (accepted : Type 0) (name bytes : List ℕ) (OnBytes : (List ℕ → Type 0) → Type 0) (old new : Outside)
+    (outcome : Outcome) : Type 0 where
+  pub ends : WritesFile slot name OnBytes old new outcome
+  pub file : outcome ≡ Done → IsTrue new.depot.tells → new.depot.file name ≡ Some bytes
+  pub complete : NoCallFailed old new → OrNoMemory Done outcome
+  pub depot : WritesOnlyAccepted touched (λ s. s ≡ slot) accepted old new outcome
+  pub faults : FirstFaultEnds old new outcome
+  pub tells : new.depot.tells ≡ old.depot.tells
+
+-- Bytes of which OnBytes tells were made over depot `d`, which is `d1` then and was only read, and written or not, which leaves `d2`.
+module _ (slot : Slot) (touched : Slot → Type 0) (name bytes : List ℕ) (d d1 d2 : DepotState) (i : SourceState) (o e e' : SinkState) (s s' : ℕ)
+    (reads : OnlyReads touched d d1) (OnBytes : (List ℕ → Type 0) → Type 0) (on : (P : List ℕ → Type 0) → P bytes → OnBytes P) where
   abbrev old : Outside
   old = outside d i o e s
 
   abbrev new : Outside
   new = outside d2 i o e' s'
 
-  abbrev Is : Collection → Type 0
-  Is = FindsCollection (numbers_of format) base d
+  told : IsTrue d.tells → IsTrue d1.tells
+  told t = reads.tells ∙ t
 
-  -- the words were built, and written or not
-  pub is_written : (r : Result (Unit {0}) WriteIndexError) → WritesWords words index d1 d2 r → Leaves (Some (Build base index format)) old new (written_outcome r)
-  is_written r v =
-      let cut = cut_of format base d d1 s s' words w in
-      let found : Is cut.0 = cut.2.cut.collection in
-      let all = left format Is IsCollectionSlot index d d1 d2 i o e e' s s' words w.reads cut.0 cut.1 cut.2 cut.3 ((c : Collection) × Is c) (cut.0, found) fit found.well_formed
-      (same_counts format base d d1 s s' words w) r v in
-      record {
-        performs = record {
-          ends = behind_reading format base old (BuildsWordsThen format Is old new (WritesIndex format Is index old new)) r all.ends;
-          opens = λ is. (cut.0, found, (format, cut.1, all.found is));
-          refuses = record { broken = λ t fault h. unbroken format base d d1 s s' words w t fault h; sound = λ t c found fault is. not_broken r fault is };
-          complete = λ t c found none. all.complete none;
-          depot = all.depot;
-        };
-        faults = all.faults;
-        starts = written_starts IsCollectionSlot words index d d1 d2 r (written_outcome r) (starts format base d d1 s s' words w (written_outcome r)) v (ap written_outcome);
-        depot_tells = v.writes.tells ∙ w.reads.tells;
-        input_tells = refl;
-        out_tells = refl;
+  -- what is left under the name, from the reading on
+  written_from : IsWritten name d1 d2 bytes → IsWritten name d d2 bytes
+  written_from h = record {
+    file = λ t. h.file (told t);
+    others = λ t n other. h.others (told t) n other ∙ reads.files t n;
+    none_created = h.none_created;
+  }
+
+  unwritten_from : IsUnwritten d1 d2 → IsUnwritten d d2
+  unwritten_from h = record {
+    files = λ t n. h.files (told t) n ∙ reads.files t n;
+    writing = (h.writing.0 ∙ reads.writing.0, λ t. h.writing.1 (told t) ∙ reads.writing.1 t);
+  }
+
+  part_from : IsWrittenInPart name d1 d2 bytes → IsWrittenInPart name d d2 bytes
+  part_from (inl h) = inl (unwritten_from h)
+  part_from (inr h) = inr (λ t. let p = h (told t) in (p.0, p.1, λ n other. p.2 n other ∙ reads.files t n))
+
+  left_from : IsWrittenInPart name d1 d2 bytes → (IsUnwritten d1 d2 ⊎ IsBeingWritten name d1 d2) → IsLeftInPart name d d2 bytes
+  left_from part (inl h) = inl (unwritten_from h)
+  left_from part (inr h) = inr (record { created = h.created; named = λ t. h.named (told t) }, part_from part)
+
+  fault_from : IsLeftByFault name d1 d2 bytes → IsLeftByFault name d d2 bytes
+  fault_from h =
+      let Creates : ℕ → Type 0 = λ n. Rose n d2.create_faults in record {
+        create = λ rose. unwritten_from (h.create (omega (arith, rose, reads.create_count)));
+        begun = λ other. let b = h.begun (λ rose. other (subst Creates reads.create_count rose)) in record { created = b.created; named = λ t. b.named (told t) };
+        finish = λ rose t. h.finish (omega (arith, rose, reads.finish_count)) (told t);
       }
 
--- the same of what `build` gives: its words were refused
-pub build_refused : (format : Format) (base index : List ℕ) (d d' : DepotState) (i : SourceState) (o e e' : SinkState) (s s' : ℕ)
-    (built : Result (Vec ℕ Global) BuildError) (error : BuildError) (r : Result (Unit {0}) Stop)
-    → BuildsWords format base d d' s s' (words_built built) → built ≡ Err error → r ≡ Err (stop_of_building error)
-    → Leaves (Some (Build base index format)) (outside d i o e s) (outside d' i o e' s') (outcome_of r)
-build_refused format base index d d' i o e e' s s' built error r w was is =
-    let W : Result (Vec ℕ Global) BuildError → Type 0 = λ x. BuildsWords format base d d' s s' (words_built x) in
-    let P : Result (Unit {0}) Stop → Type 0 = λ x. Leaves (Some (Build base index format)) (outside d i o e s) (outside d' i o e' s') (outcome_of x) in
-    subst P (sym is) (not_built format base index d d' i o e e' s s' error (subst W was w))
+  rose_from : Rose d1.refusals d2.refusals → Rose d.refusals d2.refusals
+  rose_from (inl lt) = inl (omega (arith, lt, reads.refusals_never_fall))
+  rose_from (inr last) = inr last
 
--- or they were written, or not
-pub build_ended : (format : Format) (base index : List ℕ) (d d1 d2 : DepotState) (i : SourceState) (o e e' : SinkState) (s s' : ℕ)
-    (built : Result (Vec ℕ Global) BuildError) (words : Vec ℕ Global) (lent : List ℕ) (written : Result (Unit {0}) WriteIndexError) (r : Result (Unit {0}) Stop)
-    → BuildsWords format base d d1 s s' (words_built built) → built ≡ Ok words → lent ≡ words.items → All (λ x. x < 2 ^ 64) words.items
-    → WritesWords lent index d1 d2 written → outcome_of r ≡ written_outcome written
-    → Leaves (Some (Build base index format)) (outside d i o e s) (outside d2 i o e' s') (outcome_of r)
-build_ended format base index d d1 d2 i o e e' s s' built words lent written r w was lends fit v is =
-    let W : Result (Vec ℕ Global) BuildError → Type 0 = λ x. BuildsWords format base d d1 s s' (words_built x) in
-    let V : List ℕ → Type 0 = λ ws. WritesWords ws index d1 d2 written in
-    let P : Outcome → Type 0 = λ x. Leaves (Some (Build base index format)) (outside d i o e s) (outside d2 i o e' s') x in
-    subst P (sym is) (is_written format base index d d1 d2 i o e e' s s' words.items (subst W was w) fit written (subst V lends v))
+  writes : (r : Written) → WritesBytes bytes name d1 d2 r → WritesFile slot name OnBytes old new (written_outcome slot r)
+  writes (Ok u) v = on (IsWritten name d d2) (written_from v.written)
+  writes (Err call.Failed) v =
+      (refl, on (λ bytes. IsLeftInPart name d d2 bytes × IsLeftByFault name d d2 bytes) (left_from v.refused v.begun, fault_from (v.failed refl)))
+  writes (Err call.NoMemory) v = elim (v.no_memory refl) [
+    | inl none ↦ inl (unwritten_from none)
+    | inr rose ↦ inr (rose_from rose, on (IsLeftInPart name d d2) (left_from v.refused v.begun))
+  ]
+
+  file_written : (r : Written) → WritesBytes bytes name d1 d2 r → written_outcome slot r ≡ Done → IsTrue d2.tells → d2.file name ≡ Some bytes
+  file_written (Ok u) v is t = v.written.file (sym v.writes.tells ∙ t)
+  file_written (Err call.Failed) v is t = let bad : (WriteFault slot) ≡ Done = is in cc
+  file_written (Err call.NoMemory) v is t = let bad : NoMemory ≡ Done = is in cc
+
+  same_writing : d1.writing_faults ≡ d.writing_faults
+  same_writing = reads.writing_count
+
+  -- the count of what is written
+  writing_ends : (r : Written) → WritesBytes bytes name d1 d2 r → EndsByFault OfWriting (written_outcome slot r) d.writing_faults d2.writing_faults
+  writing_ends (Ok u) v = stays OfWriting Done _ _ (λ h. cc) (second v.count_rises_only_there (λ h. let b : ◌≡◌ {A = Written} (Ok u) (Err call.Failed) = h in cc) ∙ same_writing)
+  writing_ends (Err call.Failed) v =
+      let P : ℕ → Type 0 = λ n. Rose n d2.writing_faults in
+      let Q : ℕ → Type 0 = λ n. n ≤ d2.writing_faults in
+      rises OfWriting (WriteFault slot) _ _ refl (subst P same_writing (v.write_only_where_it_rose refl)) (subst Q same_writing v.writes.never_falls)
+  writing_ends (Err call.NoMemory) v =
+      stays OfWriting NoMemory _ _ (λ h. cc) (second v.count_rises_only_there (λ h. let b : ◌≡◌ {A = Written} (Err call.NoMemory) (Err call.Failed) = h in cc) ∙ same_writing)
+
+  -- all counts, where those of the slots stood at the reading's end as before
+  faults_end : ((slot : Slot) → d1.faults slot ≡ d.faults slot) → (r : Written) → WritesBytes bytes name d1 d2 r → FirstFaultEnds old new (written_outcome slot r)
+  faults_end counts r v = all_end _ _ _ (record {
+    slots = λ other. stays (OfFile other) (written_outcome slot r) _ _ (not_file slot r other) (v.writes.slot_counts other ∙ counts other);
+    writing = writing_ends r v;
+    input = stays OfInput (written_outcome slot r) _ _ (not_input slot r) refl;
+    out = stays OfOut (written_outcome slot r) _ _ (not_out slot r) refl;
+  })
+
+  complete : (r : Written) → WritesBytes bytes name d1 d2 r → NoCallFailed old new → OrNoMemory Done (written_outcome slot r)
+  complete (Ok u) v none = inl refl
+  complete (Err call.Failed) v none =
+      let P : ℕ → Type 0 = λ n. Rose n d2.writing_faults in
+      absurd (none OfWriting (subst P same_writing (v.write_only_where_it_rose refl)))
+  complete (Err call.NoMemory) v none = inr refl
+
+  -- a count that stood as before at the reading's end
+  or_same : (r : Written) (now before : ℕ) {first : ℕ} → (r ≡ Err call.Failed) ⊎ (now ≡ before) → before ≡ first
+      → EndsByWriting (λ s. s ≡ slot) (written_outcome slot r) ⊎ (now ≡ first)
+  or_same r now before (inl is) same = inl (slot, refl, ap (written_outcome slot) is)
+  or_same r now before (inr stands) same = inr (stands ∙ same)
+
+  only_accepted : (accepted : Type 0) → accepted → (r : Written) → WritesBytes bytes name d1 d2 r
+      → WritesOnlyAccepted touched (λ s. s ≡ slot) accepted old new (written_outcome slot r)
+  only_accepted accepted is r v = record {
+    refused = λ h. absurd (not_refusal slot r h);
+    unaccepted = λ denied. absurd (denied is);
+    stay_started = λ other h. (v.writes.slots other).0 ∙ reads.stay_started other h;
+    other_slots = λ other ne. (
+      (v.writes.slots other).0 ∙ (reads.other_slots other ne).0,
+      λ t. (v.writes.slots other).1 (told t) ∙ (reads.other_slots other ne).1 t,
+    );
+    create_count = or_same r _ _ v.create_count reads.create_count;
+    finish_count = or_same r _ _ v.finish_count reads.finish_count;
+  }
+
+  -- all of it
+  pub left : (accepted : Type 0) → accepted → ((slot : Slot) → d1.faults slot ≡ d.faults slot) → (r : Written) → WritesBytes bytes name d1 d2 r
+      → IsLeft slot touched accepted name bytes OnBytes old new (written_outcome slot r)
+  left accepted is counts r v = record {
+    ends = writes r v;
+    file = file_written r v;
+    complete = complete r v;
+    depot = only_accepted accepted is r v;
+    faults = faults_end counts r v;
+    tells = v.writes.tells ∙ reads.tells;
+  }
+
+-- ---- a run that comes to no writing
+
+-- where files are only read, none is written
+pub only_read : (touched written : Slot → Type 0) (accepted : Type 0) (before after : Outside) (outcome : Outcome) → OnlyReads touched before.depot after.depot
+    → WritesOnlyAccepted touched written accepted before after outcome
+only_read touched written accepted before after outcome reads = record {
+  refused = λ h. reads;
+  unaccepted = λ h. reads;
+  stay_started = reads.stay_started;
+  other_slots = reads.other_slots;
+  create_count = inr reads.create_count;
+  finish_count = inr reads.finish_count;
+}

@@ -5,6 +5,7 @@ use Rattle.std.specs.declared.alloc.Global.{Global}
 use Rattle.collection_model.specs.Collection.{Collection}
 use Rattle.part_cost.specs.declared.formats.Format.{Format}
 use Rattle.part_cost.specs.Formats.{numbers_of}
+use Rattle.pef_io.specs.declared.fail.IoFail.TheVariants as call
 use Rattle.pef_io.specs.SourceState.{SourceState}
 use Rattle.pef_io.specs.SinkState.{SinkState}
 use Rattle.pef_io.specs.DepotState.{DepotState}
@@ -14,10 +15,9 @@ use Rattle.index_file.specs.IndexView.{IndexView, word_count}
 use Rattle.index_file.specs.Laws.{OneIndex}
 use Rattle.pef_report.specs.Generated.{generated}
 use Rattle.command_model.specs.GeneratedText.{IsGeneratedText}
-use Rattle.command_steps.specs.declared.made.MakeError.{MakeError}
-use Rattle.command_steps.specs.declared.made.MakeError.TheVariants as making
+use Rattle.index_file.specs.declared.builder.FinishError.{FinishError}
+use Rattle.index_file.specs.declared.builder.FinishError.TheVariants as making
 use Rattle.command_steps.specs.MadeWords.{AreWordsOf, WouldBeTooMany}
-use Rattle.command_steps.specs.declared.printing.PrintError.TheVariants as printing
 use Rattle.command_steps.specs.PrintLine.{PrintsLine}
 use Rattle.command_steps.specs.PrintText.{MakesAndPrints}
 use Rattle.pef_top.specs.declared.stop.Stop.{Stop}
@@ -47,7 +47,7 @@ module _ (seed n t : ℕ) (d : DepotState) (i : SourceState) (s s' : ℕ) where
   new o e = outside d i o e s'
 
   -- the words were not made
-  not_generated : (o e e' : SinkState) (error : MakeError) → ((k : ℕ) → error ≡ making.TooLarge k → WouldBeTooMany generate_format c s s' k)
+  not_generated : (o e e' : SinkState) (error : FinishError) → ((k : ℕ) → error ≡ making.TooLarge k → WouldBeTooMany generate_format c s s' k)
       → Leaves (Some (Generate seed n t)) (old o e) (new o e') (unmade_words error)
   not_generated o e e' (making.TooLarge k) too_large =
       let w = too_large k refl in
@@ -87,8 +87,8 @@ module _ (seed n t : ℕ) (d : DepotState) (i : SourceState) (s s' : ℕ) where
     printed_ends : (o o' e e' : SinkState) (r : Printed) → PrintsText (IsGeneration c (old o e) (new o' e')) (old o e) (new o' e') (print_outcome r)
         → BuildsWordsThen generate_format (λ built. built ≡ c) (old o e) (new o' e') (PrintsText (IsGeneration c (old o e) (new o' e')) (old o e) (new o' e')) (print_outcome r)
     printed_ends o o' e e' (Ok u) then = then
-    printed_ends o o' e e' (Err printing.Write) then = then
-    printed_ends o o' e e' (Err printing.NoMemory) then = then
+    printed_ends o o' e e' (Err call.Failed) then = then
+    printed_ends o o' e e' (Err call.NoMemory) then = then
 
     -- and a text was printed, or a front of it
     text_printed : (o o' e e' : SinkState) (text : List ℕ) → Told index.format index.collection index.parts text → (r : Printed) → PrintsLine text o o' r
@@ -151,7 +151,7 @@ index_is_small c s s' words lent index w lends spells = omega (arith, w.within, 
 
 -- the words were not made
 pub generate_refused : (seed n t : ℕ) (d : DepotState) (i : SourceState) (o e e' : SinkState) (s s' : ℕ)
-    (made : Result (Vec ℕ Global) MakeError) (error : MakeError) (r : Result (Unit {0}) Stop)
+    (made : Result (Vec ℕ Global) FinishError) (error : FinishError) (r : Result (Unit {0}) Stop)
     → ((k : ℕ) → made ≡ Err (making.TooLarge k) → WouldBeTooMany generate_format (generated seed n t) s s' k)
     → made ≡ Err error → r ≡ Err (stop_of_making error)
     → Leaves (Some (Generate seed n t)) (outside d i o e s) (outside d i o e' s') (outcome_of r)

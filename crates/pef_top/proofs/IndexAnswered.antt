@@ -1,19 +1,17 @@
 -- What `query` leaves.
-use Rattle.std.proofs.Common.{◌≡◌, ℕ, ◌<◌, ◌^◌, arith, refl, sym, subst, List, length, inl}
-use Rattle.std.specs.Prelude.{Result, Ok, Some, Vec}
-use Rattle.std.specs.declared.alloc.Global.{Global}
-use Rattle.collection_model.specs.Collection.{Collection}
+use Rattle.std.proofs.Common.{◌≡◌, ℕ, refl, sym, subst, List, inl}
+use Rattle.std.specs.Prelude.{Result, Ok, Some}
 use Rattle.part_cost.specs.Formats.{numbers_of}
 use Rattle.pef_io.specs.SourceState.{SourceState}
 use Rattle.pef_io.specs.SinkState.{SinkState}
+use Rattle.pef_io.specs.declared.fail.Slot.TheVariants.{Index}
 use Rattle.pef_io.specs.DepotState.{DepotState}
 use Rattle.index_file.specs.FileWords.{Spells}
 use Rattle.index_file.specs.IndexView.{IndexView}
 use Rattle.index_file.specs.Laws.{WordsAreRead, OneBrokenCheck}
-use Rattle.command_steps.specs.declared.loading.LoadIndexError.{LoadIndexError}
 use Rattle.command_steps.specs.declared.text.RunFault.{RunFault}
 use Rattle.command_steps.specs.AnswerText.{AnswersText}
-use Rattle.command_steps.specs.LoadIndex.{LoadsWords, words_loaded}
+use Rattle.command_steps.specs.LoadWords.{LoadsWords}
 use Rattle.pef_top.specs.declared.stop.Stop.{Stop}
 use Rattle.command_line.specs.declared.plan.Plan.{Plan}
 use Rattle.command_line.specs.Command.{Query}
@@ -22,10 +20,12 @@ use Rattle.pef_top.specs.Outcome.{Outcome, Done, InputTooLarge}
 use Rattle.pef_top.specs.FoundIndex.{FindsIndexOf}
 use Rattle.pef_top.specs.AnsweredText.{AnswersInput, longest_text}
 use Rattle.pef_top.specs.Private.Leaves.{Leaves}
+use Rattle.pef_top.specs.Private.LoadedIndex.{IsLoaded}
 use Rattle.pef_top.specs.Private.Stops.{outcome_of}
 use Rattle.pef_top.proofs.Counted.{stays, or_larger, all_end}
 use Rattle.pef_top.proofs.TextAnswered.{text_outcome, not_no_index, not_too_large, not_file, not_writing, behind_reading, answers_input, must_answer, input_ends, out_ends}
-use Rattle.pef_top.proofs.IndexLoaded.{starts, loaded_counts, lent_loaded, refuses_none, found_index}
+use Rattle.pef_top.proofs.WordsLoaded.{starts, loaded_counts}
+use Rattle.pef_top.proofs.IndexLoaded.{refuses_none, found_index, lent_index}
 use Rattle.pef_top.proofs.IndexRefused.{IsRefused}
 
 -- its index was refused, and nothing was called on the input or out
@@ -49,7 +49,7 @@ query_stops name plan d d' i o e e' n outcome w = record {
   out_tells = refl;
 }
 
-module _ (words_read : WordsAreRead) (one : OneBrokenCheck) (name : List ℕ) (d d' : DepotState) (words : List ℕ) (w : LoadsWords name d d' (Ok words)) where
+module _ (words_read : WordsAreRead) (one : OneBrokenCheck) (name : List ℕ) (d d' : DepotState) (words : List ℕ) (w : LoadsWords Index name d d' (Ok words)) where
   -- they are an index, and the text was answered from it, or a part of the text
   pub is_answered : (plan : Plan) (i i' : SourceState) (o o' e e' : SinkState) (n : ℕ) (index : IndexView) → Spells (numbers_of index.format) words index.collection index.parts
       → (r : Result (Unit {0}) RunFault) → AnswersText index.collection longest_text i i' o o' r
@@ -63,12 +63,12 @@ module _ (words_read : WordsAreRead) (one : OneBrokenCheck) (name : List ℕ) (d
       costs = refl;
     };
     faults = all_end _ _ _ (record {
-      slots = λ slot. stays (OfFile slot) (text_outcome r) _ _ (not_file r slot) (loaded_counts name d d' words w slot);
+      slots = λ slot. stays (OfFile slot) (text_outcome r) _ _ (not_file r slot) (loaded_counts Index name d d' words w slot);
       writing = stays OfWriting (text_outcome r) _ _ (not_writing r) w.reads.writing_count;
       input = input_ends index.collection before after r a;
       out = out_ends index.collection before after r a;
     });
-    starts = starts name d d' words w (text_outcome r);
+    starts = starts Index name d d' words w (text_outcome r);
     depot_tells = w.reads.tells;
     input_tells = a.input_tells;
     out_tells = a.out_tells;
@@ -80,25 +80,12 @@ module _ (words_read : WordsAreRead) (one : OneBrokenCheck) (name : List ℕ) (d
       after : Outside
       after = outside d' i' o' e' n
 
--- ---- the same of what `query` gives
-
-pub lent_are_few : (name : List ℕ) (d d' : DepotState) (loaded : Result (Vec ℕ Global) LoadIndexError) (words : Vec ℕ Global) (lent : List ℕ)
-    → LoadsWords name d d' (words_loaded loaded) → loaded ≡ Ok words → lent ≡ words.items → length lent < 2 ^ 57
-lent_are_few name d d' loaded words lent w was lends = omega (arith, (lent_loaded name d d' loaded words lent w was lends).within)
-
--- the text was answered from them, or a part of it
+-- the same of what `query` gives
 pub query_ended : WordsAreRead → OneBrokenCheck → (name : List ℕ) (plan : Plan) (d d' : DepotState) (i i' : SourceState) (o o' e e' : SinkState) (n : ℕ)
-    (loaded : Result (Vec ℕ Global) LoadIndexError) (words : Vec ℕ Global) (lent : List ℕ) (index : IndexView) (answer : Result (Unit {0}) RunFault) (r : Result (Unit {0}) Stop)
-    → LoadsWords name d d' (words_loaded loaded) → loaded ≡ Ok words → lent ≡ words.items
-    → Spells (numbers_of index.format) lent index.collection index.parts
+    (words lent : List ℕ) (index : IndexView) (answer : Result (Unit {0}) RunFault) (r : Result (Unit {0}) Stop)
+    → IsLoaded name d d' words → lent ≡ words → Spells (numbers_of index.format) lent index.collection index.parts
     → AnswersText index.collection longest_text i i' o o' answer → outcome_of r ≡ text_outcome answer
     → Leaves (Some (Query name plan)) (outside d i o e n) (outside d' i' o' e' n) (outcome_of r)
-query_ended read one name plan d d' i i' o o' e e' n loaded words lent index answer r w was lends spells a is =
+query_ended read one name plan d d' i i' o o' e e' n words lent index answer r w lends spells a is =
     let P : Outcome → Type 0 = λ x. Leaves (Some (Query name plan)) (outside d i o e n) (outside d' i' o' e' n) x in
-    subst P (sym is) (is_answered read one name d d' lent (lent_loaded name d d' loaded words lent w was lends) plan i i' o o' e e' n index spells answer a)
-
-pub lent_are_found : WordsAreRead → OneBrokenCheck → (name : List ℕ) (d d' : DepotState) (loaded : Result (Vec ℕ Global) LoadIndexError) (words : Vec ℕ Global) (lent : List ℕ)
-    (index : IndexView) → LoadsWords name d d' (words_loaded loaded) → loaded ≡ Ok words → lent ≡ words.items
-    → Spells (numbers_of index.format) lent index.collection index.parts → (c : Collection) × FindsIndexOf name d c
-lent_are_found read one name d d' loaded words lent index w was lends spells =
-    (index.collection, found_index read one name d d' lent (lent_loaded name d d' loaded words lent w was lends) index spells)
+    subst P (sym is) (is_answered read one name d d' lent (lent_index name d d' words lent w lends) plan i i' o o' e e' n index spells answer a)

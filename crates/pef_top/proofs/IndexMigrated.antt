@@ -3,11 +3,13 @@ use Rattle.std.proofs.Common.{◌≡◌, ℕ, ◌≤◌, ◌<◌, ◌^◌, refl,
 use Rattle.std.specs.Prelude.{Result, Ok, Err, Some, Vec}
 use Rattle.std.specs.List.{All}
 use Rattle.std.specs.declared.alloc.Global.{Global}
+use Rattle.collection_model.specs.Bytes.{word_bytes}
 use Rattle.collection_model.specs.Collection.{Collection}
 use Rattle.part_cost.specs.Formats.{numbers_of}
+use Rattle.pef_io.specs.declared.fail.IoFail.TheVariants as call
 use Rattle.pef_io.specs.SourceState.{SourceState}
 use Rattle.pef_io.specs.SinkState.{SinkState}
-use Rattle.pef_io.specs.DepotState.{DepotState, OnlyReads}
+use Rattle.pef_io.specs.DepotState.{DepotState}
 use Rattle.pef_io.specs.declared.fail.Slot.TheVariants.{Index}
 use Rattle.index_file.specs.FileWords.{ListParts, Spells}
 use Rattle.index_file.specs.Builder.{most_words}
@@ -15,31 +17,31 @@ use Rattle.index_file.specs.IndexView.{IndexView}
 use Rattle.index_file.specs.Laws.{WordsAreRead, OneBrokenCheck}
 use Rattle.command_model.specs.Found.{IsIndexSlot}
 use Rattle.command_model.specs.Built.{AreCut}
-use Rattle.command_steps.specs.declared.loading.LoadIndexError.{LoadIndexError}
-use Rattle.command_steps.specs.declared.made.MakeError.{MakeError}
-use Rattle.command_steps.specs.declared.made.MakeError.TheVariants as making
-use Rattle.command_steps.specs.declared.writing.WriteIndexError.{WriteIndexError}
-use Rattle.command_steps.specs.declared.writing.WriteIndexError.TheVariants as writing
-use Rattle.command_steps.specs.LoadIndex.{LoadsWords, words_loaded}
+use Rattle.index_file.specs.declared.builder.FinishError.{FinishError}
+use Rattle.index_file.specs.declared.builder.FinishError.TheVariants as making
+use Rattle.command_steps.specs.LoadWords.{LoadsWords}
 use Rattle.command_steps.specs.MadeWords.{AreWordsOf, WouldBeTooMany}
-use Rattle.command_steps.specs.WriteIndex.{WritesWords}
+use Rattle.command_steps.specs.WriteFile.{WritesWords}
 use Rattle.pef_top.specs.declared.stop.Stop.{Stop}
 use Rattle.command_line.specs.Command.{Migrate}
 use Rattle.pef_top.specs.Outside.{Outside, outside}
-use Rattle.pef_top.specs.Outcome.{Outcome, Done, Usage, BrokenCollection, BrokenIndex, FileFault, InputFault, WriteFault, OutFault, NoMemory, TooLarge, InputTooLarge}
+use Rattle.pef_top.specs.Outcome.{Outcome, Done, Usage, BrokenCollection, BrokenIndex, BrokenMap, FileFault, InputFault, WriteFault, OutFault, NoMemory, TooLarge, InputTooLarge}
 use Rattle.pef_top.specs.FoundIndex.{FindsIndexOf}
 use Rattle.pef_top.specs.Built.{AreBuilt, BuildsWordsThen}
 use Rattle.pef_top.specs.ReadingIndex.{ReadsIndexThen}
-use Rattle.pef_top.specs.WrittenIndex.{WritesIndex, WritesOnlyAccepted}
+use Rattle.pef_top.specs.WrittenIndex.{WritesIndex}
 use Rattle.pef_top.specs.Migrate.{ReadsOldThen, migrate_format}
 use Rattle.pef_top.specs.Private.Leaves.{Leaves}
-use Rattle.pef_top.specs.Private.Stops.{outcome_of, stop_of_making}
+use Rattle.pef_top.specs.Private.LoadedIndex.{IsLoaded}
+use Rattle.pef_top.specs.Private.Stops.{outcome_of, written_outcome, stop_of_making}
 use Rattle.pef_top.proofs.Counted.{or_larger}
-use Rattle.pef_top.proofs.IndexLoaded.{starts, loaded_counts, lent_loaded, refuses_none, found_index}
+use Rattle.pef_top.proofs.WordsLoaded.{starts, loaded_counts}
+use Rattle.pef_top.proofs.IndexLoaded.{refuses_none, found_index, lent_index}
 use Rattle.pef_top.proofs.IndexRefused.{IsRefused}
 use Rattle.pef_top.proofs.Started.{written_starts}
 use Rattle.pef_top.proofs.WordsMade.{unmade_words, unmade_faults}
-use Rattle.pef_top.proofs.WordsWritten.{written_outcome, not_no_index, not_too_large, left}
+use Rattle.pef_top.proofs.FileWritten.{Written, not_no_index, not_too_large, only_read}
+use Rattle.pef_top.proofs.IndexWritten.{left}
 
 -- a run that ends at the reading
 at_reading : (name : List ℕ) (old : Outside) (Then : Outcome → Type 0) (outcome : Outcome) → ReadsIndexThen name old Then outcome → ReadsOldThen name old Then outcome
@@ -47,6 +49,7 @@ at_reading name old Then Done h = h
 at_reading name old Then Usage h = h
 at_reading name old Then (BrokenCollection fault) h = h
 at_reading name old Then (BrokenIndex fault) h = h
+at_reading name old Then (BrokenMap fault) h = h
 at_reading name old Then (FileFault slot) h = h
 at_reading name old Then InputFault h = h
 at_reading name old Then (WriteFault slot) h = h
@@ -56,22 +59,16 @@ at_reading name old Then (TooLarge slot) h = inl h
 at_reading name old Then InputTooLarge h = h
 
 -- or at the writing behind it
-behind_reading : (name : List ℕ) (old : Outside) (Then : Outcome → Type 0) (r : Result (Unit {0}) WriteIndexError) → Then (written_outcome r)
-    → ReadsOldThen name old Then (written_outcome r)
+behind_reading : (name : List ℕ) (old : Outside) (Then : Outcome → Type 0) (r : Written) → Then (written_outcome Index r)
+    → ReadsOldThen name old Then (written_outcome Index r)
 behind_reading name old Then (Ok u) then = then
-behind_reading name old Then (Err writing.Write) then = then
-behind_reading name old Then (Err writing.NoMemory) then = then
+behind_reading name old Then (Err call.Failed) then = then
+behind_reading name old Then (Err call.NoMemory) then = then
 
 module _ (from to : List ℕ) (d d1 : DepotState) (i : SourceState) (o e e' : SinkState) (s : ℕ) where
   -- what is done behind the reading
   abbrev Then : Outside → Outcome → Type 0
   Then new = BuildsWordsThen migrate_format (FindsIndexOf from d) (outside d i o e s) new (WritesIndex migrate_format (FindsIndexOf from d) to (outside d i o e s) new)
-
-  -- where only the old index is read, nothing is written
-  only_read : (new : SinkState) (s' : ℕ) (outcome : Outcome) → OnlyReads IsIndexSlot d d1
-      → WritesOnlyAccepted IsIndexSlot ((c : Collection) × FindsIndexOf from d c) (outside d i o e s) (outside d1 i o new s') outcome
-  only_read new s' outcome reads =
-      record { refused = λ h. reads; unaccepted = λ h. reads; stay_started = reads.stay_started; other_slots = reads.other_slots; create_count = inr reads.create_count; finish_count = inr reads.finish_count }
 
   -- the old index was refused
   pub migrate_stops : (outcome : Outcome) → IsRefused from d d1 i o e e' s outcome → Leaves (Some (Migrate from to)) (outside d i o e s) (outside d1 i o e' s) outcome
@@ -81,7 +78,7 @@ module _ (from to : List ℕ) (d d1 : DepotState) (i : SourceState) (o e e' : Si
       opens = λ is. absurd (w.not_done is);
       refuses = inr w.refuses;
       complete = λ t c found none. or_larger Done _ (w.complete Done t c found none);
-      depot = only_read e' s outcome w.reads;
+      depot = only_read _ _ _ (outside d i o e s) _ _ w.reads;
     };
     faults = w.faults;
     starts = w.starts;
@@ -90,7 +87,7 @@ module _ (from to : List ℕ) (d d1 : DepotState) (i : SourceState) (o e e' : Si
     out_tells = refl;
   }
 
-  module _ (words_read : WordsAreRead) (one : OneBrokenCheck) (words : List ℕ) (w : LoadsWords from d d1 (Ok words)) where
+  module _ (words_read : WordsAreRead) (one : OneBrokenCheck) (words : List ℕ) (w : LoadsWords Index from d d1 (Ok words)) where
     -- they are an index
     module _ (index : IndexView) (spells : Spells (numbers_of index.format) words index.collection index.parts) (s' : ℕ) where
       -- what was cut is its collection
@@ -99,7 +96,7 @@ module _ (from to : List ℕ) (d d1 : DepotState) (i : SourceState) (o e e' : Si
       cut_of_found parts cut = record { collection = found_index words_read one from d d1 words w index spells; near = cut.near; counted = cut.counted }
 
       -- and no new words were made
-      not_made : (error : MakeError) → ((n : ℕ) → error ≡ making.TooLarge n → WouldBeTooMany migrate_format index.collection s s' n)
+      not_made : (error : FinishError) → ((n : ℕ) → error ≡ making.TooLarge n → WouldBeTooMany migrate_format index.collection s s' n)
           → Leaves (Some (Migrate from to)) (outside d i o e s) (outside d1 i o e' s') (unmade_words error)
       not_made (making.TooLarge n) too_large =
           let many = too_large n refl in
@@ -109,10 +106,10 @@ module _ (from to : List ℕ) (d d1 : DepotState) (i : SourceState) (o e e' : Si
               opens = λ is. let bad : (TooLarge Index) ≡ Done = is in cc;
               refuses = inl ((index.collection, found_index words_read one from d d1 words w index spells), refl);
               complete = λ t c found none. inr (inl refl);
-              depot = only_read e' s' (TooLarge Index) w.reads;
+              depot = only_read _ _ _ (outside d i o e s) _ _ w.reads;
             };
-            faults = unmade_faults (making.TooLarge n) (outside d i o e s) (outside d1 i o e' s') (loaded_counts from d d1 words w) w.reads.writing_count refl refl;
-            starts = starts from d d1 words w (TooLarge Index);
+            faults = unmade_faults (making.TooLarge n) (outside d i o e s) (outside d1 i o e' s') (loaded_counts Index from d d1 words w) w.reads.writing_count refl refl;
+            starts = starts Index from d d1 words w (TooLarge Index);
             depot_tells = w.reads.tells;
             input_tells = refl;
             out_tells = refl;
@@ -123,10 +120,10 @@ module _ (from to : List ℕ) (d d1 : DepotState) (i : SourceState) (o e e' : Si
           opens = λ is. let bad : NoMemory ≡ Done = is in cc;
           refuses = inr (refuses_none words_read one from d d1 words w i o e s index spells NoMemory (λ h. cc) (λ fault h. cc));
           complete = λ t c found none. inr (inr refl);
-          depot = only_read e' s' NoMemory w.reads;
+          depot = only_read _ _ _ (outside d i o e s) _ _ w.reads;
         };
-        faults = unmade_faults making.NoMemory (outside d i o e s) (outside d1 i o e' s') (loaded_counts from d d1 words w) w.reads.writing_count refl refl;
-        starts = starts from d d1 words w NoMemory;
+        faults = unmade_faults making.NoMemory (outside d i o e s) (outside d1 i o e' s') (loaded_counts Index from d d1 words w) w.reads.writing_count refl refl;
+        starts = starts Index from d d1 words w NoMemory;
         depot_tells = w.reads.tells;
         input_tells = refl;
         out_tells = refl;
@@ -134,8 +131,8 @@ module _ (from to : List ℕ) (d d1 : DepotState) (i : SourceState) (o e e' : Si
 
       -- or they were made, and written or not
       is_written : (d2 : DepotState) (made : List ℕ) → AreWordsOf migrate_format index.collection s s' made → All (λ x. x < 2 ^ 64) made
-          → (r : Result (Unit {0}) WriteIndexError) → WritesWords made to d1 d2 r
-          → Leaves (Some (Migrate from to)) (outside d i o e s) (outside d2 i o e' s') (written_outcome r)
+          → (r : Written) → WritesWords made to d1 d2 r
+          → Leaves (Some (Migrate from to)) (outside d i o e s) (outside d2 i o e' s') (written_outcome Index r)
       is_written d2 made are fit r v =
           let Is : Collection → Type 0 = FindsIndexOf from d in
           let c = index.collection in
@@ -143,18 +140,18 @@ module _ (from to : List ℕ) (d d1 : DepotState) (i : SourceState) (o e e' : Si
           let built : AreBuilt migrate_format Is s s' c are.parts =
           record { cut = cut_of_found are.parts are.cut; within = subst (λ ws. length ws ≤ most_words) are.spelled.spelled are.within } in
           let all = left migrate_format Is IsIndexSlot to d d1 d2 i o e e' s s' made w.reads c are.parts built are.spelled.spelled ((c : Collection) × Is c) (c, found)
-          fit are.spelled.well_formed (loaded_counts from d d1 words w) r v in
+          fit are.spelled.well_formed (loaded_counts Index from d d1 words w) r v in
           record {
             performs = record {
               ends = behind_reading from (outside d i o e s) (Then (outside d2 i o e' s')) r all.ends;
               opens = λ is. (c, found, (are.parts, all.found is));
-              refuses = inr (refuses_none words_read one from d d1 words w i o e s index spells (written_outcome r) (not_too_large r) (not_no_index r));
+              refuses = inr (refuses_none words_read one from d d1 words w i o e s index spells (written_outcome Index r) (not_too_large Index r Index) (not_no_index Index r));
               complete = λ t c found none. all.complete none;
               depot = all.depot;
             };
             faults = all.faults;
-            starts = written_starts IsIndexSlot made to d d1 d2 r (written_outcome r) (starts from d d1 words w (written_outcome r)) v (ap written_outcome);
-            depot_tells = v.writes.tells ∙ w.reads.tells;
+            starts = written_starts IsIndexSlot (word_bytes made) to d d1 d2 r (written_outcome Index r) (starts Index from d d1 words w (written_outcome Index r)) v (ap (written_outcome Index));
+            depot_tells = all.tells;
             input_tells = refl;
             out_tells = refl;
           }
@@ -163,28 +160,24 @@ module _ (from to : List ℕ) (d d1 : DepotState) (i : SourceState) (o e e' : Si
 
 -- no words were made of the index
 pub migrate_unmade : WordsAreRead → OneBrokenCheck → (from to : List ℕ) (d d1 : DepotState) (i : SourceState) (o e e' : SinkState) (s s' : ℕ)
-    (loaded : Result (Vec ℕ Global) LoadIndexError) (words : Vec ℕ Global) (lent : List ℕ) (index : IndexView)
-    (made : Result (Vec ℕ Global) MakeError) (error : MakeError) (r : Result (Unit {0}) Stop)
-    → LoadsWords from d d1 (words_loaded loaded) → loaded ≡ Ok words → lent ≡ words.items
-    → Spells (numbers_of index.format) lent index.collection index.parts
+    (words lent : List ℕ) (index : IndexView) (made : Result (Vec ℕ Global) FinishError) (error : FinishError) (r : Result (Unit {0}) Stop)
+    → IsLoaded from d d1 words → lent ≡ words → Spells (numbers_of index.format) lent index.collection index.parts
     → ((n : ℕ) → made ≡ Err (making.TooLarge n) → WouldBeTooMany migrate_format index.collection s s' n) → made ≡ Err error → r ≡ Err (stop_of_making error)
     → Leaves (Some (Migrate from to)) (outside d i o e s) (outside d1 i o e' s') (outcome_of r)
-migrate_unmade read one from to d d1 i o e e' s s' loaded words lent index made error r w was lends spells too_large unmade is =
+migrate_unmade read one from to d d1 i o e e' s s' words lent index made error r w lends spells too_large unmade is =
     let P : Result (Unit {0}) Stop → Type 0 = λ x. Leaves (Some (Migrate from to)) (outside d i o e s) (outside d1 i o e' s') (outcome_of x) in
     subst P (sym is)
-    (not_made from to d d1 i o e e' s read one lent (lent_loaded from d d1 loaded words lent w was lends) index spells s' error (λ n h. too_large n (unmade ∙ ap Err h)))
+    (not_made from to d d1 i o e e' s read one lent (lent_index from d d1 words lent w lends) index spells s' error (λ n h. too_large n (unmade ∙ ap Err h)))
 
 -- they were written, or not
 pub migrate_ended : WordsAreRead → OneBrokenCheck → (from to : List ℕ) (d d1 d2 : DepotState) (i : SourceState) (o e e' : SinkState) (s s' : ℕ)
-    (loaded : Result (Vec ℕ Global) LoadIndexError) (words : Vec ℕ Global) (lent : List ℕ) (index : IndexView) (made : Vec ℕ Global) (lent_made : List ℕ)
-    (written : Result (Unit {0}) WriteIndexError) (r : Result (Unit {0}) Stop)
-    → LoadsWords from d d1 (words_loaded loaded) → loaded ≡ Ok words → lent ≡ words.items
-    → Spells (numbers_of index.format) lent index.collection index.parts
-    → AreWordsOf migrate_format index.collection s s' made.items → lent_made ≡ made.items → All (λ x. x < 2 ^ 64) made.items
-    → WritesWords lent_made to d1 d2 written → outcome_of r ≡ written_outcome written
+    (words lent : List ℕ) (index : IndexView) (made lent_made : List ℕ) (written : Written) (r : Result (Unit {0}) Stop)
+    → IsLoaded from d d1 words → lent ≡ words → Spells (numbers_of index.format) lent index.collection index.parts
+    → AreWordsOf migrate_format index.collection s s' made → lent_made ≡ made → All (λ x. x < 2 ^ 64) made
+    → WritesWords lent_made to d1 d2 written → outcome_of r ≡ written_outcome Index written
     → Leaves (Some (Migrate from to)) (outside d i o e s) (outside d2 i o e' s') (outcome_of r)
-migrate_ended read one from to d d1 d2 i o e e' s s' loaded words lent index made lent_made written r w was lends spells are made_lends fit v is =
+migrate_ended read one from to d d1 d2 i o e e' s s' words lent index made lent_made written r w lends spells are made_lends fit v is =
     let V : List ℕ → Type 0 = λ ws. WritesWords ws to d1 d2 written in
     let P : Outcome → Type 0 = λ x. Leaves (Some (Migrate from to)) (outside d i o e s) (outside d2 i o e' s') x in
     subst P (sym is)
-    (is_written from to d d1 i o e e' s read one lent (lent_loaded from d d1 loaded words lent w was lends) index spells s' d2 made.items are fit written (subst V made_lends v))
+    (is_written from to d d1 i o e e' s read one lent (lent_index from d d1 words lent w lends) index spells s' d2 made are fit written (subst V made_lends v))

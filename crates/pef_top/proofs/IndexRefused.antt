@@ -1,7 +1,6 @@
 -- What a run leaves that does not come to its index: the words are not loaded, or they are no index.
-use Rattle.std.proofs.Common.{◌≡◌, ℕ, refl, sym, subst, List}
-use Rattle.std.specs.Prelude.{◌≢◌, IsTrue, Result, Err, Ok, Vec}
-use Rattle.std.specs.declared.alloc.Global.{Global}
+use Rattle.std.proofs.Common.{◌≡◌, ℕ, refl, sym, subst, List, inl, inr}
+use Rattle.std.specs.Prelude.{◌≢◌, IsTrue, Result, Err, Ok}
 use Rattle.collection_model.specs.Collection.{Collection}
 use Rattle.pef_io.specs.SourceState.{SourceState}
 use Rattle.pef_io.specs.SinkState.{SinkState}
@@ -12,9 +11,9 @@ use Rattle.index_file.specs.FileWords.{IsIndex}
 use Rattle.index_file.specs.FirstBroken.{IsFirstBroken}
 use Rattle.index_file.specs.Laws.{WordsAreRead, OneBrokenCheck}
 use Rattle.command_model.specs.Found.{IsIndexSlot}
-use Rattle.command_steps.specs.declared.loading.LoadIndexError.{LoadIndexError}
-use Rattle.command_steps.specs.declared.loading.LoadIndexError.TheVariants as loading
-use Rattle.command_steps.specs.LoadIndex.{LoadsWords, words_loaded}
+use Rattle.command_steps.specs.declared.loading.LoadWordsError.{LoadWordsError}
+use Rattle.command_steps.specs.declared.loading.LoadWordsError.TheVariants as loading
+use Rattle.command_steps.specs.LoadWords.{LoadsWords}
 use Rattle.pef_top.specs.declared.stop.Stop.{Stop}
 use Rattle.pef_top.specs.declared.stop.Stop.TheVariants as stop
 use Rattle.pef_top.specs.Outside.{outside, NoCallFailed, OfFile, OfWriting, OfInput, OfOut}
@@ -23,9 +22,11 @@ use Rattle.pef_top.specs.Ends.{FirstFaultEnds, OrNoMemory}
 use Rattle.pef_top.specs.FoundIndex.{FindsIndexOf}
 use Rattle.pef_top.specs.ReadingIndex.{ReadsIndexThen, RefusesBrokenIndex}
 use Rattle.pef_top.specs.Starts.{StartsOnly}
-use Rattle.pef_top.specs.Private.Stops.{outcome_of, stop_of_loading}
+use Rattle.pef_top.specs.Private.Stops.{outcome_of, outcome_of_stop, ragged_index}
+use Rattle.pef_top.specs.Private.LoadedIndex.{IsUnloaded}
 use Rattle.pef_top.proofs.Counted.{stays, all_end}
-use Rattle.pef_top.proofs.IndexLoaded.{unloaded, unloaded_writing, unloaded_input, unloaded_out, ends_unloaded, refuses_unloaded, complete_unloaded, slots_unloaded, unloaded_starts, starts, loaded_counts, lent_loaded, breaks, refuses_broken, index_words}
+use Rattle.pef_top.proofs.WordsLoaded.{unloaded_faults, unloaded_starts, starts, loaded_counts}
+use Rattle.pef_top.proofs.IndexLoaded.{unloaded_index, no_fault, ends_unloaded, refuses_unloaded, complete_unloaded, breaks, refuses_broken, index_words}
 
 -- What such a run leaves, whatever it would have done with the index.
 pub record IsRefused (name : List ℕ) (d d' : DepotState) (i : SourceState) (o e e' : SinkState) (n : ℕ) (outcome : Outcome) : Type 1 where
@@ -37,8 +38,8 @@ pub record IsRefused (name : List ℕ) (d d' : DepotState) (i : SourceState) (o 
   pub starts : StartsOnly IsIndexSlot outcome d d'
   pub faults : FirstFaultEnds (outside d i o e n) (outside d' i o e' n) outcome
 
-never_done : (error : LoadIndexError) → unloaded error ≢ Done
-never_done (loading.Broken fault) h = let s : BrokenIndex fault ≡ Done = h in cc
+never_done : (error : LoadWordsError) → unloaded_index error ≢ Done
+never_done loading.Ragged h = let s : BrokenIndex ragged_index ≡ Done = h in cc
 never_done loading.Read h = let s : FileFault Index ≡ Done = h in cc
 never_done loading.TooLarge h = let s : TooLarge Index ≡ Done = h in cc
 never_done loading.NoMemory h = let s : NoMemory ≡ Done = h in cc
@@ -48,24 +49,19 @@ module _ (name : List ℕ) (d d' : DepotState) (i : SourceState) (o e e' : SinkS
   Refused outcome = IsRefused name d d' i o e e' n outcome
 
   -- no words were loaded
-  not_loaded : (error : LoadIndexError) → LoadsWords name d d' (Err error) → Refused (unloaded error)
+  not_loaded : (error : LoadWordsError) → LoadsWords Index name d d' (Err error) → Refused (unloaded_index error)
   not_loaded error w = record {
     ends = λ Then then. ends_unloaded name d d' i o e e' n Then then error w;
     refuses = refuses_unloaded name d d' i o e e' n error w;
     complete = λ this t c found none. complete_unloaded name d d' i o e e' n this error w t c found none;
     not_done = never_done error;
     reads = w.reads;
-    starts = unloaded_starts name d d' i o e e' n error w;
-    faults = all_end _ _ _ (record {
-      slots = slots_unloaded name d d' i o e e' n error w;
-      writing = stays OfWriting (unloaded error) _ _ (unloaded_writing error) w.reads.writing_count;
-      input = stays OfInput (unloaded error) _ _ (unloaded_input error) refl;
-      out = stays OfOut (unloaded error) _ _ (unloaded_out error) refl;
-    });
+    starts = unloaded_starts Index (stop.Index ragged_index) no_fault name d d' error w;
+    faults = unloaded_faults Index (stop.Index ragged_index) no_fault name d d' error w i o e e' n;
   }
 
   -- they are no index, and their first broken check is the file's
-  not_opened : WordsAreRead → OneBrokenCheck → (words : List ℕ) → LoadsWords name d d' (Ok words) → (fault : OpenFault) → ¬ IsIndex words → IsFirstBroken words fault
+  not_opened : WordsAreRead → OneBrokenCheck → (words : List ℕ) → LoadsWords Index name d d' (Ok words) → (fault : OpenFault) → ¬ IsIndex words → IsFirstBroken words fault
       → Refused (BrokenIndex fault)
   not_opened read one words w fault denied first = record {
     ends = λ Then then t. breaks read one name d d' words w fault first t;
@@ -73,26 +69,21 @@ module _ (name : List ℕ) (d d' : DepotState) (i : SourceState) (o e e' : SinkS
     complete = λ this t c found none. absurd (denied (index_words read name d words c t (w.words t) found));
     not_done = λ h. let s : BrokenIndex fault ≡ Done = h in cc;
     reads = w.reads;
-    starts = starts name d d' words w (BrokenIndex fault);
+    starts = starts Index name d d' words w (BrokenIndex fault);
     faults = all_end _ _ _ (record {
-      slots = λ slot. stays (OfFile slot) (BrokenIndex fault) _ _ (λ h. cc) (loaded_counts name d d' words w slot);
+      slots = λ slot. stays (OfFile slot) (BrokenIndex fault) _ _ (λ h. cc) (loaded_counts Index name d d' words w slot);
       writing = stays OfWriting (BrokenIndex fault) _ _ (λ h. cc) w.reads.writing_count;
       input = stays OfInput (BrokenIndex fault) _ _ (λ h. cc) refl;
       out = stays OfOut (BrokenIndex fault) _ _ (λ h. cc) refl;
     });
   }
 
-  -- ---- the same of what is given
+  -- no index was loaded
+  pub is_refused : WordsAreRead → OneBrokenCheck → (it : Stop) → IsUnloaded name d d' it → Refused (outcome_of_stop it)
+  is_refused read one it (inl (error, w, is)) = let P : Stop → Type 1 = λ x. Refused (outcome_of_stop x) in subst P (sym is) (not_loaded error w)
+  is_refused read one it (inr (fault, none, is)) =
+      let P : Stop → Type 1 = λ x. Refused (outcome_of_stop x) in subst P (sym is) (not_opened read one none.words none.loads fault none.no_index none.first)
 
-  module _ (loaded : Result (Vec ℕ Global) LoadIndexError) (w : LoadsWords name d d' (words_loaded loaded)) (r : Result (Unit {0}) Stop) where
-    pub refused_unloaded : (error : LoadIndexError) → loaded ≡ Err error → r ≡ Err (stop_of_loading error) → Refused (outcome_of r)
-    refused_unloaded error was is =
-        let W : Result (Vec ℕ Global) LoadIndexError → Type 0 = λ x. LoadsWords name d d' (words_loaded x) in
-        let P : Result (Unit {0}) Stop → Type 1 = λ x. Refused (outcome_of x) in
-        subst P (sym is) (not_loaded error (subst W was w))
-
-    pub refused_unopened : WordsAreRead → OneBrokenCheck → (words : Vec ℕ Global) (lent : List ℕ) (fault : OpenFault) → loaded ≡ Ok words → lent ≡ words.items
-        → ¬ IsIndex lent → IsFirstBroken lent fault → r ≡ Err (stop.Index fault) → Refused (outcome_of r)
-    refused_unopened read one words lent fault was lends denied first is =
-        let P : Result (Unit {0}) Stop → Type 1 = λ x. Refused (outcome_of x) in
-        subst P (sym is) (not_opened read one lent (lent_loaded name d d' loaded words lent w was lends) fault denied first)
+  -- the same of what a command gives
+  pub refused : WordsAreRead → OneBrokenCheck → (it : Stop) → IsUnloaded name d d' it → (r : Result (Unit {0}) Stop) → r ≡ Err it → Refused (outcome_of r)
+  refused read one it h r is = let P : Result (Unit {0}) Stop → Type 1 = λ x. Refused (outcome_of x) in subst P (sym is) (is_refused read one it h)

@@ -2,21 +2,19 @@
 use Rattle.std.proofs.Common.{◌≡◌, ◌≤◌, ℕ, arith, refl, sym, ◌∙◌, subst, List, inl, inr}
 use Rattle.std.specs.Prelude.{◌⊎◌, Result, Err}
 use Rattle.pef_io.specs.declared.fail.Slot.{Slot}
-use Rattle.pef_io.specs.declared.fail.Slot.TheVariants.{Index}
+use Rattle.pef_io.specs.declared.fail.IoFail.{IoFail}
+use Rattle.pef_io.specs.declared.fail.IoFail.TheVariants as call
 use Rattle.pef_io.specs.Calls.{one_more}
 use Rattle.pef_io.specs.DepotState.{DepotState}
 use Rattle.collection_reader.specs.ReadCollection.{IsCollectionSlot}
 use Rattle.part_cost.specs.declared.formats.Format.{Format}
-use Rattle.command_model.specs.Found.{IsIndexSlot}
 use Rattle.command_steps.specs.declared.build.BuildError.{BuildError}
 use Rattle.command_steps.specs.declared.build.BuildError.TheVariants as building
-use Rattle.command_steps.specs.declared.loading.LoadIndexError.{LoadIndexError}
-use Rattle.command_steps.specs.declared.loading.LoadIndexError.TheVariants as loading
-use Rattle.command_steps.specs.declared.writing.WriteIndexError.{WriteIndexError}
-use Rattle.command_steps.specs.declared.writing.WriteIndexError.TheVariants as writing
+use Rattle.command_steps.specs.declared.loading.LoadWordsError.{LoadWordsError}
+use Rattle.command_steps.specs.declared.loading.LoadWordsError.TheVariants as loading
 use Rattle.command_steps.specs.BuildWords.{BuildsWords}
-use Rattle.command_steps.specs.LoadIndex.{LoadsWords}
-use Rattle.command_steps.specs.WriteIndex.{WritesWords}
+use Rattle.command_steps.specs.LoadWords.{LoadsWords}
+use Rattle.command_steps.specs.WriteFile.{WritesBytes}
 use Rattle.pef_top.specs.Outcome.{Outcome, FileFault, NoMemory}
 use Rattle.pef_top.specs.Starts.{StartsOnly}
 use Rattle.pef_top.proofs.Counted.{by_slot}
@@ -44,20 +42,20 @@ built_starts format base d d' s s' r outcome w read refused = record {
 }
 
 -- words that are loaded, or not, where the outcome is the same want of memory
-pub loaded_starts : (name : List ℕ) (d d' : DepotState) (r : Result (List ℕ) LoadIndexError) (outcome : Outcome) → LoadsWords name d d' r
-    → (r ≡ Err loading.NoMemory → outcome ≡ NoMemory) → StartsOnly IsIndexSlot outcome d d'
-loaded_starts name d d' r outcome w refused = record {
-  none_twice = by_slot (λ slot. d'.starts slot ≤ one_more (d.starts slot)) (omega (arith, w.started_once Index refl))
+pub loaded_starts : (it : Slot) (name : List ℕ) (d d' : DepotState) (r : Result (List ℕ) LoadWordsError) (outcome : Outcome) → LoadsWords it name d d' r
+    → (r ≡ Err loading.NoMemory → outcome ≡ NoMemory) → StartsOnly (λ slot. slot ≡ it) outcome d d'
+loaded_starts it name d d' r outcome w refused = record {
+  none_twice = by_slot it (λ slot. d'.starts slot ≤ one_more (d.starts slot)) (omega (arith, w.started_once it refl))
       (λ slot other. subst (λ n. n ≤ one_more (d.starts slot)) (sym (w.reads.other_starts slot other)) (at_most (d.starts slot)));
   no_others = λ slot other. w.reads.other_starts slot other;
   once = λ files memory. w.started_once;
   refusals = elim w.refusals_rise_only_there [ inl is ↦ inl (refused is) | inr same ↦ inr same ];
 }
 
--- words that are then written, or not, where the outcome is the same want of memory
-pub written_starts : (slots : Slot → Type 0) (words name : List ℕ) (d d1 d2 : DepotState) (r : Result (Unit {0}) WriteIndexError) (outcome : Outcome)
-    → StartsOnly slots outcome d d1 → WritesWords words name d1 d2 r → (r ≡ Err writing.NoMemory → outcome ≡ NoMemory) → StartsOnly slots outcome d d2
-written_starts slots words name d d1 d2 r outcome read v refused = record {
+-- bytes that are then written, or not, where the outcome is the same want of memory
+pub written_starts : (slots : Slot → Type 0) (bytes name : List ℕ) (d d1 d2 : DepotState) (r : Result (Unit {0}) IoFail) (outcome : Outcome)
+    → StartsOnly slots outcome d d1 → WritesBytes bytes name d1 d2 r → (r ≡ Err call.NoMemory → outcome ≡ NoMemory) → StartsOnly slots outcome d d2
+written_starts slots bytes name d d1 d2 r outcome read v refused = record {
   none_twice = λ slot. subst (λ n. n ≤ one_more (d.starts slot)) (sym (v.writes.starts slot)) (read.none_twice slot);
   no_others = λ slot other. v.writes.starts slot ∙ read.no_others slot other;
   once = λ files memory slot is. v.writes.starts slot ∙ read.once files memory slot is;

@@ -11,7 +11,7 @@ use Rattle.pef_top.specs.Private.Leaves.{Leaves}
 use Rattle.command_line.specs.declared.error.WordsError.{WordsError}
 use Rattle.command_line.specs.WordsErrors.{error_of_words}
 use Rattle.pef_top.specs.Private.Stops.{outcome_of_stop, stop_of_words}
-use Rattle.pef_top.specs.Starts.{ReadsFrom}
+use Rattle.pef_top.specs.Starts.{StartedIn}
 use Rattle.pef_top.proofs.Started.{uncalled}
 use Rattle.pef_top.proofs.Counted.{stays, all_end}
 use Rattle.pef_top.proofs.RunEnds.{no_command}
@@ -26,7 +26,7 @@ no_memory command d i o e e' s = record {
     input = stays OfInput NoMemory _ _ (λ h. cc) refl;
     out = stays OfOut NoMemory _ _ (λ h. cc) refl;
   });
-  starts = uncalled (ReadsFrom (Some command)) NoMemory d (inl refl);
+  starts = uncalled (StartedIn (Some command) NoMemory) NoMemory d (inl refl);
   depot_tells = refl;
   input_tells = refl;
   out_tells = refl;

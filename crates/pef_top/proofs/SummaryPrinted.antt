@@ -1,38 +1,31 @@
 -- What `inspect` leaves.
 use Rattle.std.proofs.Common.{◌≡◌, ℕ, refl, sym, subst, List, inl}
-use Rattle.std.specs.Prelude.{Result, Ok, Err, Some, Vec}
-use Rattle.std.specs.declared.alloc.Global.{Global}
+use Rattle.std.specs.Prelude.{Result, Ok, Some}
 use Rattle.part_cost.specs.Formats.{numbers_of}
 use Rattle.pef_io.specs.SourceState.{SourceState}
 use Rattle.pef_io.specs.SinkState.{SinkState}
+use Rattle.pef_io.specs.declared.fail.Slot.TheVariants.{Index}
 use Rattle.pef_io.specs.DepotState.{DepotState}
 use Rattle.index_file.specs.FileWords.{Spells}
 use Rattle.index_file.specs.IndexView.{IndexView}
 use Rattle.index_file.specs.Laws.{WordsAreRead, OneBrokenCheck}
 use Rattle.command_model.specs.SummaryLine.{summary_line}
-use Rattle.command_steps.specs.declared.loading.LoadIndexError.{LoadIndexError}
-use Rattle.command_steps.specs.declared.printing.PrintError.TheVariants as printing
-use Rattle.command_steps.specs.LoadIndex.{LoadsWords, words_loaded}
+use Rattle.command_steps.specs.LoadWords.{LoadsWords}
 use Rattle.command_steps.specs.PrintLine.{PrintsLine}
 use Rattle.pef_top.specs.declared.stop.Stop.{Stop}
 use Rattle.command_line.specs.Command.{Inspect}
 use Rattle.pef_top.specs.Outside.{Outside, outside, OfFile, OfWriting, OfInput}
 use Rattle.pef_top.specs.Outcome.{Outcome, Done}
-use Rattle.pef_top.specs.ReadingIndex.{ReadsIndexThen}
 use Rattle.pef_top.specs.PrintedText.{PrintsText}
 use Rattle.pef_top.specs.Inspect.{IsInspection}
 use Rattle.pef_top.specs.Private.Leaves.{Leaves}
+use Rattle.pef_top.specs.Private.LoadedIndex.{IsLoaded}
 use Rattle.pef_top.specs.Private.Stops.{outcome_of}
 use Rattle.pef_top.proofs.Counted.{stays, all_end}
-use Rattle.pef_top.proofs.TextPrinted.{Printed, print_outcome, not_no_index, not_too_large, not_file, not_writing, not_input, prints, complete, out_ends}
-use Rattle.pef_top.proofs.IndexLoaded.{starts, loaded_counts, lent_loaded, refuses_none, found_parts}
+use Rattle.pef_top.proofs.TextPrinted.{Printed, print_outcome, not_no_index, not_too_large, not_file, not_writing, not_input, behind_index, prints, complete, out_ends}
+use Rattle.pef_top.proofs.WordsLoaded.{starts, loaded_counts}
+use Rattle.pef_top.proofs.IndexLoaded.{refuses_none, found_parts, lent_index}
 use Rattle.pef_top.proofs.IndexRefused.{IsRefused}
-
--- what comes behind the reading of an index
-behind_reading : (name : List ℕ) (old : Outside) (Then : Outcome → Type 0) (r : Printed) → Then (print_outcome r) → ReadsIndexThen name old Then (print_outcome r)
-behind_reading name old Then (Ok u) then = then
-behind_reading name old Then (Err printing.Write) then = then
-behind_reading name old Then (Err printing.NoMemory) then = then
 
 -- its index was refused, and nothing was called on out
 pub inspect_stops : (name : List ℕ) (d d' : DepotState) (i : SourceState) (o e e' : SinkState) (n : ℕ) (outcome : Outcome)
@@ -52,25 +45,25 @@ inspect_stops name d d' i o e e' n outcome w = record {
   out_tells = refl;
 }
 
-module _ (words_read : WordsAreRead) (one : OneBrokenCheck) (name : List ℕ) (d d' : DepotState) (words : List ℕ) (w : LoadsWords name d d' (Ok words)) where
+module _ (words_read : WordsAreRead) (one : OneBrokenCheck) (name : List ℕ) (d d' : DepotState) (words : List ℕ) (w : LoadsWords Index name d d' (Ok words)) where
   -- they are an index, and its line was printed, or a front of it
   is_inspected : (i : SourceState) (o o' e e' : SinkState) (n : ℕ) (index : IndexView) → Spells (numbers_of index.format) words index.collection index.parts
       → (r : Printed) → PrintsLine (summary_line index) o o' r → Leaves (Some (Inspect name)) (outside d i o e n) (outside d' i o' e' n) (print_outcome r)
   is_inspected i o o' e e' n index spells r p = record {
     performs = record {
-      ends = behind_reading name before (PrintsText (IsInspection name d) before after) r (prints (IsInspection name d) (summary_line index) inspection before after r p);
+      ends = behind_index name before (PrintsText (IsInspection name d) before after) r (prints (IsInspection name d) (summary_line index) inspection before after r p);
       refuses = refuses_none words_read one name d d' words w i o e n index spells (print_outcome r) (not_too_large r) (not_no_index r);
       complete = λ t c found none. complete (summary_line index) before after r p none;
       depot = w.reads;
       costs = refl;
     };
     faults = all_end _ _ _ (record {
-      slots = λ slot. stays (OfFile slot) (print_outcome r) _ _ (not_file r slot) (loaded_counts name d d' words w slot);
+      slots = λ slot. stays (OfFile slot) (print_outcome r) _ _ (not_file r slot) (loaded_counts Index name d d' words w slot);
       writing = stays OfWriting (print_outcome r) _ _ (not_writing r) w.reads.writing_count;
       input = stays OfInput (print_outcome r) _ _ (not_input r) refl;
       out = out_ends (summary_line index) before after r p;
     });
-    starts = starts name d d' words w (print_outcome r);
+    starts = starts Index name d d' words w (print_outcome r);
     depot_tells = w.reads.tells;
     input_tells = refl;
     out_tells = p.tells;
@@ -85,15 +78,12 @@ module _ (words_read : WordsAreRead) (one : OneBrokenCheck) (name : List ℕ) (d
       inspection : IsInspection name d (summary_line index)
       inspection = (index, found_parts words_read one name d d' words w index spells, refl)
 
--- ---- the same of what `inspect` gives
-
--- its line was printed, or a front of it
+-- the same of what `inspect` gives
 pub inspect_ended : WordsAreRead → OneBrokenCheck → (name : List ℕ) (d d' : DepotState) (i : SourceState) (o o' e e' : SinkState) (n : ℕ)
-    (loaded : Result (Vec ℕ Global) LoadIndexError) (words : Vec ℕ Global) (lent : List ℕ) (index : IndexView) (printed : Printed) (r : Result (Unit {0}) Stop)
-    → LoadsWords name d d' (words_loaded loaded) → loaded ≡ Ok words → lent ≡ words.items
-    → Spells (numbers_of index.format) lent index.collection index.parts
+    (words lent : List ℕ) (index : IndexView) (printed : Printed) (r : Result (Unit {0}) Stop)
+    → IsLoaded name d d' words → lent ≡ words → Spells (numbers_of index.format) lent index.collection index.parts
     → PrintsLine (summary_line index) o o' printed → outcome_of r ≡ print_outcome printed
     → Leaves (Some (Inspect name)) (outside d i o e n) (outside d' i o' e' n) (outcome_of r)
-inspect_ended read one name d d' i o o' e e' n loaded words lent index printed r w was lends spells p is =
+inspect_ended read one name d d' i o o' e e' n words lent index printed r w lends spells p is =
     let P : Outcome → Type 0 = λ x. Leaves (Some (Inspect name)) (outside d i o e n) (outside d' i o' e' n) x in
-    subst P (sym is) (is_inspected read one name d d' lent (lent_loaded name d d' loaded words lent w was lends) i o o' e e' n index spells printed p)
+    subst P (sym is) (is_inspected read one name d d' lent (lent_index name d d' words lent w lends) i o o' e e' n index spells printed p)

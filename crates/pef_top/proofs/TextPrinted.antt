@@ -1,21 +1,24 @@
 -- What a run leaves that prints a text.
-use Rattle.std.proofs.Common.{◌≡◌, ℕ, refl, List, inl, inr}
-use Rattle.std.specs.Prelude.{Some, None, ◌≢◌, IsTrue, Result, Ok, Err}
+use Rattle.std.proofs.Common.{◌≡◌, ◌∙◌, ap, ℕ, refl, List, inl, inr}
+use Rattle.std.specs.Prelude.{Some, None, ◌≢◌, IsTrue, Result, Ok, Err, IsErrAnd, MatchResult}
+use Rattle.std.proofs.lemmas.Result.{err_from_is_err_and}
+use Rattle.pef_io.specs.declared.fail.IoFail.{IoFail}
+use Rattle.pef_io.specs.declared.fail.IoFail.TheVariants as call
 use Rattle.pef_io.specs.declared.fail.Slot.{Slot}
 use Rattle.pef_io.specs.declared.fail.Slot.TheVariants.{Index}
 use Rattle.index_file.specs.declared.fault.OpenFault.{OpenFault}
-use Rattle.command_steps.specs.declared.printing.PrintError.{PrintError}
-use Rattle.command_steps.specs.declared.printing.PrintError.TheVariants as printing
 use Rattle.command_steps.specs.PrintLine.{PrintsLine}
+use Rattle.pef_top.specs.declared.stop.Stop.{Stop}
 use Rattle.pef_top.specs.Outside.{Outside, NoCallFailed, OfFile, OfWriting, OfInput, OfOut}
 use Rattle.pef_top.specs.Outcome.{Outcome, Done, BrokenIndex, OutFault, NoMemory, TooLarge, is_refusal, fault_of}
 use Rattle.pef_top.specs.Ends.{EndsByFault, OrNoMemory}
+use Rattle.pef_top.specs.ReadingIndex.{ReadsIndexThen}
 use Rattle.pef_top.specs.PrintedText.{PrintsText}
-use Rattle.pef_top.specs.Private.Stops.{outcome_of_stop, stop_of_printing}
+use Rattle.pef_top.specs.Private.Stops.{outcome_of, outcome_of_stop, stop_of_printing}
 use Rattle.pef_top.proofs.Counted.{stays, rises, second, not_true, Of}
 
 abbrev pub Printed : Type 0
-Printed = Result (Unit {0}) PrintError
+Printed = Result (Unit {0}) IoFail
 
 -- how a run ends that printed its text or stopped at that
 abbrev pub print_outcome : Printed → Outcome
@@ -25,49 +28,60 @@ print_outcome (Err e) = outcome_of_stop (stop_of_printing e)
 -- it ends by none of these
 pub not_no_index : (r : Printed) (fault : OpenFault) → print_outcome r ≢ BrokenIndex fault
 not_no_index (Ok u) fault h = let s : Done ≡ BrokenIndex fault = h in cc
-not_no_index (Err printing.Write) fault h = let s : OutFault ≡ BrokenIndex fault = h in cc
-not_no_index (Err printing.NoMemory) fault h = let s : NoMemory ≡ BrokenIndex fault = h in cc
+not_no_index (Err call.Failed) fault h = let s : OutFault ≡ BrokenIndex fault = h in cc
+not_no_index (Err call.NoMemory) fault h = let s : NoMemory ≡ BrokenIndex fault = h in cc
 
 pub not_too_large : (r : Printed) → print_outcome r ≢ TooLarge Index
 not_too_large (Ok u) h = let s : Done ≡ TooLarge Index = h in cc
-not_too_large (Err printing.Write) h = let s : OutFault ≡ TooLarge Index = h in cc
-not_too_large (Err printing.NoMemory) h = let s : NoMemory ≡ TooLarge Index = h in cc
+not_too_large (Err call.Failed) h = let s : OutFault ≡ TooLarge Index = h in cc
+not_too_large (Err call.NoMemory) h = let s : NoMemory ≡ TooLarge Index = h in cc
 
 pub not_file : (r : Printed) (slot : Slot) → ¬ Of (fault_of (print_outcome r)) (OfFile slot)
 not_file (Ok u) slot h = let s : Of None (OfFile slot) = h in cc
-not_file (Err printing.Write) slot h = let s : Of (Some OfOut) (OfFile slot) = h in cc
-not_file (Err printing.NoMemory) slot h = let s : Of None (OfFile slot) = h in cc
+not_file (Err call.Failed) slot h = let s : Of (Some OfOut) (OfFile slot) = h in cc
+not_file (Err call.NoMemory) slot h = let s : Of None (OfFile slot) = h in cc
 
 pub not_writing : (r : Printed) → ¬ Of (fault_of (print_outcome r)) OfWriting
 not_writing (Ok u) h = let s : Of None OfWriting = h in cc
-not_writing (Err printing.Write) h = let s : Of (Some OfOut) OfWriting = h in cc
-not_writing (Err printing.NoMemory) h = let s : Of None OfWriting = h in cc
+not_writing (Err call.Failed) h = let s : Of (Some OfOut) OfWriting = h in cc
+not_writing (Err call.NoMemory) h = let s : Of None OfWriting = h in cc
 
 pub not_input : (r : Printed) → ¬ Of (fault_of (print_outcome r)) OfInput
 not_input (Ok u) h = let s : Of None OfInput = h in cc
-not_input (Err printing.Write) h = let s : Of (Some OfOut) OfInput = h in cc
-not_input (Err printing.NoMemory) h = let s : Of None OfInput = h in cc
+not_input (Err call.Failed) h = let s : Of (Some OfOut) OfInput = h in cc
+not_input (Err call.NoMemory) h = let s : Of None OfInput = h in cc
 
 pub no_print_refuses : (r : Printed) → IsTrue (is_refusal (print_outcome r)) → ⊥
 no_print_refuses (Ok u) h = not_true h
-no_print_refuses (Err printing.Write) h = not_true h
-no_print_refuses (Err printing.NoMemory) h = not_true h
+no_print_refuses (Err call.Failed) h = not_true h
+no_print_refuses (Err call.NoMemory) h = not_true h
+
+-- what comes behind the reading of an index
+pub behind_index : (name : List ℕ) (old : Outside) (Then : Outcome → Type 0) (r : Printed) → Then (print_outcome r) → ReadsIndexThen name old Then (print_outcome r)
+behind_index name old Then (Ok u) then = then
+behind_index name old Then (Err call.Failed) then = then
+behind_index name old Then (Err call.NoMemory) then = then
 
 -- what printing promises of a text is what the run promises of it
 pub prints : (Is : List ℕ → Type 0) (line : List ℕ) → Is line → (old new : Outside) (r : Printed) → PrintsLine line old.out new.out r → PrintsText Is old new (print_outcome r)
 prints Is line is old new (Ok u) p = (line, is, λ t. p.whole t)
-prints Is line is old new (Err printing.Write) p = (line, is, λ t. p.front t)
-prints Is line is old new (Err printing.NoMemory) p = inr (line, is, λ t. p.front t)
+prints Is line is old new (Err call.Failed) p = (line, is, λ t. p.front t)
+prints Is line is old new (Err call.NoMemory) p = inr (line, is, λ t. p.front t)
 
 pub complete : (line : List ℕ) (old new : Outside) (r : Printed) → PrintsLine line old.out new.out r → NoCallFailed old new → OrNoMemory Done (print_outcome r)
 complete line old new (Ok u) p none = inl refl
-complete line old new (Err printing.Write) p none = absurd (none OfOut (p.write_only_where_it_rose refl))
-complete line old new (Err printing.NoMemory) p none = inr refl
+complete line old new (Err call.Failed) p none = absurd (none OfOut (p.write_only_where_it_rose refl))
+complete line old new (Err call.NoMemory) p none = inr refl
 
 -- the count of out
 pub out_ends : (line : List ℕ) (old new : Outside) (r : Printed) → PrintsLine line old.out new.out r → EndsByFault OfOut (print_outcome r) old.out.faults new.out.faults
 out_ends line old new (Ok u) p =
-    stays OfOut Done _ _ (λ h. cc) (second p.count_rises_only_there (λ h. let b : ◌≡◌ {A = Printed} (Ok u) (Err printing.Write) = h in cc))
-out_ends line old new (Err printing.Write) p = rises OfOut OutFault _ _ refl (p.write_only_where_it_rose refl) p.counts_never_fall.0
-out_ends line old new (Err printing.NoMemory) p =
-    stays OfOut NoMemory _ _ (λ h. cc) (second p.count_rises_only_there (λ h. let b : ◌≡◌ {A = Printed} (Err printing.NoMemory) (Err printing.Write) = h in cc))
+    stays OfOut Done _ _ (λ h. cc) (second p.count_rises_only_there (λ h. let b : ◌≡◌ {A = Printed} (Ok u) (Err call.Failed) = h in cc))
+out_ends line old new (Err call.Failed) p = rises OfOut OutFault _ _ refl (p.write_only_where_it_rose refl) p.counts_never_fall.0
+out_ends line old new (Err call.NoMemory) p =
+    stays OfOut NoMemory _ _ (λ h. cc) (second p.count_rises_only_there (λ h. let b : ◌≡◌ {A = Printed} (Err call.NoMemory) (Err call.Failed) = h in cc))
+
+-- it is told as it was
+pub print_told : (r : Printed) (to : Result (Unit {0}) Stop) → MatchResult r (λ u. to ≡ Ok u) (λ fail. IsErrAnd to (λ stop. stop ≡ stop_of_printing fail)) → outcome_of to ≡ print_outcome r
+print_told (Ok u) to h = ap outcome_of h
+print_told (Err fail) to h = let p = err_from_is_err_and to h in ap outcome_of (p.1 ∙ ap Err p.2)

@@ -10,7 +10,7 @@ use Rattle.pef_top.specs.Outside.{outside, GotText}
 use Rattle.pef_top.specs.ErrLines.{memory_line}
 use Rattle.pef_top.specs.Outcome.{NoMemory}
 use Rattle.pef_top.specs.Ends.{Ends}
-use Rattle.command_line.specs.Command.{Command, Build, Query, Answer, Inspect, Generate, Migrate}
+use Rattle.command_line.specs.Command.{Command, Build, Query, Answer, Inspect, Generate, Migrate, Audit, Blocks, Remap}
 use Rattle.pef_top.specs.Commands.{Performs}
 
 -- a run that is refused memory ends so
@@ -68,4 +68,33 @@ performs (Migrate from to) d i o e e' s = record {
   refuses = inr (record { broken = λ t f h. inr (inr refl); longer = λ t h. inr (inr refl); sound = λ t c h. (λ e. cc, λ f e. cc) });
   complete = λ t c h n. inr (inr refl);
   depot = record { refused = λ h. OnlyReads-same d; unaccepted = λ h. OnlyReads-same d; stay_started = λ slot h. h; other_slots = λ slot h. (refl, λ t. refl); create_count = inr refl; finish_count = inr refl };
+}
+performs (Audit index) d i o e e' s = record {
+  ends = inl refl;
+  refuses = record { broken = λ t f h. inr (inr refl); longer = λ t h. inr (inr refl); sound = λ t c h. (λ e. cc, λ f e. cc) };
+  complete = λ t c h n. inr refl;
+  depot = OnlyReads-same d;
+  costs = inl ((λ h. cc), refl);
+  refused = λ h. refl;
+}
+performs (Blocks index side) d i o e e' s = record {
+  ends = inl (record { files = λ t name. refl; writing = (refl, λ t. refl) });
+  opens = λ h. cc;
+  refuses = record { broken = λ t f h. inr (inr refl); longer = λ t h. inr (inr refl); sound = λ t c h. (λ e. cc, λ f e. cc) };
+  complete = λ t c h n. inr refl;
+  depot = record { refused = λ h. OnlyReads-same d; unaccepted = λ h. OnlyReads-same d; stay_started = λ slot h. h; other_slots = λ slot h. (refl, λ t. refl); create_count = inr refl; finish_count = inr refl };
+  costs = refl;
+}
+performs (Remap base map to) d i o e e' s = record {
+  ends = inl (record { files = λ t name. refl; writing = (refl, λ t. refl) });
+  opens = λ h. cc;
+  refuses = record {
+    broken_collection = λ t f h. inr (inr refl);
+    broken_map = λ t f h. inr (inr refl);
+    sound_collection = λ t c h f e. cc;
+    sound_map = λ t c ids h f e. cc;
+  };
+  complete = λ t h n. inr refl;
+  depot = record { refused = λ h. OnlyReads-same d; unaccepted = λ h. OnlyReads-same d; stay_started = λ slot h. h; other_slots = λ slot h. (refl, λ t. refl); create_count = inr refl; finish_count = inr refl };
+  costs = refl;
 }

@@ -2,19 +2,19 @@
 use Rattle.std.proofs.Common.{◌≡◌}
 use Rattle.pef_io.specs.declared.fail.Slot.{Slot}
 use Rattle.pef_io.specs.declared.fail.Slot.TheVariants.{Index}
-use Rattle.command_steps.specs.declared.made.MakeError.{MakeError}
-use Rattle.command_steps.specs.declared.made.MakeError.TheVariants as making
+use Rattle.index_file.specs.declared.builder.FinishError.{FinishError}
+use Rattle.index_file.specs.declared.builder.FinishError.TheVariants as making
 use Rattle.pef_top.specs.Outside.{Outside, OfFile, OfWriting, OfInput, OfOut}
 use Rattle.pef_top.specs.Outcome.{Outcome, NoMemory, TooLarge}
 use Rattle.pef_top.specs.Ends.{FirstFaultEnds}
 use Rattle.pef_top.specs.Private.Stops.{outcome_of_stop, stop_of_making}
 use Rattle.pef_top.proofs.Counted.{stays, all_end}
 
-abbrev pub unmade_words : MakeError → Outcome
+abbrev pub unmade_words : FinishError → Outcome
 unmade_words e = outcome_of_stop (stop_of_making e)
 
 -- it ends by no fault, where the counts stay
-pub unmade_faults : (error : MakeError) (old new : Outside) → ((slot : Slot) → new.depot.faults slot ≡ old.depot.faults slot)
+pub unmade_faults : (error : FinishError) (old new : Outside) → ((slot : Slot) → new.depot.faults slot ≡ old.depot.faults slot)
     → new.depot.writing_faults ≡ old.depot.writing_faults → new.input.faults ≡ old.input.faults → new.out.faults ≡ old.out.faults
     → FirstFaultEnds old new (unmade_words error)
 unmade_faults (making.TooLarge k) old new slots writing input out = all_end _ _ _ (record {

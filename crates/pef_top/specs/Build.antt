@@ -3,14 +3,15 @@ use Rattle.collection_model.specs.Collection.{Collection}
 use Rattle.part_cost.specs.declared.formats.Format.{Format}
 use Rattle.part_cost.specs.Formats.{numbers_of}
 use Rattle.collection_reader.specs.ReadCollection.{IsCollectionSlot}
-use Rattle.command_model.specs.Found.{FindsCollection}
+use Rattle.command_model.specs.Found.{FindsCollection, IsIndexSlot}
 use Rattle.pef_top.specs.Outside.{Outside, NoCallFailed}
 use Rattle.pef_top.specs.Outcome.{Outcome, Done}
 use Rattle.pef_top.specs.Ends.{OrTooLarge}
 use Rattle.pef_top.specs.FoundIndex.{FindsIndexOf}
 use Rattle.pef_top.specs.Built.{BuildsWordsThen}
 use Rattle.pef_top.specs.ReadingCollection.{ReadsCollectionThen, RefusesBrokenCollection}
-use Rattle.pef_top.specs.WrittenIndex.{WritesIndex, WritesOnlyAccepted}
+use Rattle.pef_top.specs.WrittenFile.{WritesOnlyAccepted}
+use Rattle.pef_top.specs.WrittenIndex.{WritesIndex}
 
 -- `build BASE INDEX` reads a collection with the limits of a format, builds its words in it and writes them under the name, where they
 -- are then found as an index of that collection.
@@ -21,4 +22,4 @@ pub record Builds (format : Format) (base index : List ℕ) (old new : Outside) 
   pub opens : outcome ≡ Done → (c : Collection) × FindsCollection (numbers_of format) base old.depot c × FindsIndexOf index new.depot c
   pub refuses : RefusesBrokenCollection (numbers_of format) base old outcome
   pub complete : IsTrue old.depot.tells → (c : Collection) → FindsCollection (numbers_of format) base old.depot c → NoCallFailed old new → OrTooLarge Done outcome
-  pub depot : WritesOnlyAccepted IsCollectionSlot ((c : Collection) × FindsCollection (numbers_of format) base old.depot c) old new outcome
+  pub depot : WritesOnlyAccepted IsCollectionSlot IsIndexSlot ((c : Collection) × FindsCollection (numbers_of format) base old.depot c) old new outcome

@@ -2,7 +2,7 @@ use Rattle.std.specs.Prelude.{◌≡◌, Option, Some, None}
 use Rattle.pef_io.specs.SinkState.{SinkState}
 use Rattle.pef_top.specs.declared.status.Status.{Status}
 use Rattle.pef_top.specs.declared.status.Status.TheVariants as status
-use Rattle.command_line.specs.Command.{Command, Build, Query, Answer, Inspect, Generate, Migrate}
+use Rattle.command_line.specs.Command.{Command, Build, Query, Answer, Inspect, Generate, Migrate, Audit, Blocks, Remap}
 use Rattle.pef_top.specs.ErrLines.{usage_line}
 use Rattle.pef_top.specs.Outside.{Outside, GotText}
 use Rattle.pef_top.specs.Outcome.{Outcome, Usage}
@@ -12,6 +12,9 @@ use Rattle.pef_top.specs.Answer.{Answers}
 use Rattle.pef_top.specs.Inspect.{Inspects}
 use Rattle.pef_top.specs.Generate.{Generates}
 use Rattle.pef_top.specs.Migrate.{Migrates}
+use Rattle.pef_top.specs.Audit.{Audits}
+use Rattle.pef_top.specs.Blocks.{WritesBlocks}
+use Rattle.pef_top.specs.Remap.{Remaps}
 
 -- Words that are no command end the run with the usage line.
 pub record IsUsage (old new : SinkState) (result : Status) : Type 0 where
@@ -32,3 +35,6 @@ Performs (Some (Answer base plan)) old new outcome = Answers base old new outcom
 Performs (Some (Inspect index)) old new outcome = Inspects index old new outcome
 Performs (Some (Generate seed n t)) old new outcome = Generates seed n t old new outcome
 Performs (Some (Migrate from to)) old new outcome = Migrates from to old new outcome
+Performs (Some (Audit index)) old new outcome = Audits index old new outcome
+Performs (Some (Blocks index side)) old new outcome = WritesBlocks index side old new outcome
+Performs (Some (Remap base map to)) old new outcome = Remaps base map to old new outcome

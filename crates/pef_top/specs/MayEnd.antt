@@ -1,17 +1,28 @@
-use Rattle.std.specs.Prelude.{◌≡◌, ⊤, Bool, true, false, IsTrue, Some}
-use Rattle.pef_io.specs.declared.fail.Slot.TheVariants.{Docs, Index}
-use Rattle.command_line.specs.Command.{Command, Build, Migrate}
+use Rattle.std.specs.Prelude.{⊤, IsTrue, Some}
+use Rattle.pef_io.specs.declared.fail.Slot.{Slot}
+use Rattle.pef_io.specs.declared.fail.Slot.TheVariants.{Docs, Index, Map}
+use Rattle.collection_reader.specs.ReadCollection.{IsCollectionSlot}
+use Rattle.command_line.specs.Command.{Command, Build, Migrate, Blocks, Remap}
+use Rattle.command_model.specs.Found.{IsIndexSlot}
 use Rattle.pef_top.specs.Outside.{Outside}
-use Rattle.pef_top.specs.Outcome.{Outcome, Done, Usage, BrokenCollection, BrokenIndex, FileFault, InputFault, WriteFault, OutFault, NoMemory, TooLarge, InputTooLarge}
+use Rattle.pef_top.specs.Outcome.{Outcome, Done, Usage, BrokenCollection, BrokenIndex, BrokenMap, FileFault, InputFault, WriteFault, OutFault, NoMemory, TooLarge, InputTooLarge}
 use Rattle.pef_top.specs.Commands.{Performs}
+use Rattle.pef_top.specs.FoundSide.{IsSideSlot}
 use Rattle.pef_top.specs.Starts.{ReadsFrom}
 use Rattle.pef_top.specs.Uncalled.{reads_input, prints}
 
--- whether it writes an index
-abbrev pub writes_index : Command → Bool
-writes_index (Build base index format) = true
-writes_index (Migrate from to) = true
-writes_index command = false
+-- the slots of the files that a command writes
+abbrev pub WritesTo : Command → Slot → Type 0
+WritesTo (Build base index format) = IsIndexSlot
+WritesTo (Migrate from to) = IsIndexSlot
+WritesTo (Blocks index side) = IsSideSlot
+WritesTo (Remap base map to) = IsCollectionSlot
+WritesTo command = λ slot. ⊥
+
+-- the slots of the files that may be too large for a command, or would be
+abbrev pub MayBeTooLarge : Command → Slot → Type 0
+MayBeTooLarge (Remap base map to) = λ slot. ⊥
+MayBeTooLarge command = IsIndexSlot
 
 -- Which outcomes a command may have.
 abbrev pub MayEnd : Command → Outcome → Type 0
@@ -19,12 +30,13 @@ MayEnd command Done = ⊤
 MayEnd command Usage = ⊥
 MayEnd command (BrokenCollection fault) = ReadsFrom (Some command) Docs
 MayEnd command (BrokenIndex fault) = ReadsFrom (Some command) Index
+MayEnd command (BrokenMap fault) = ReadsFrom (Some command) Map
 MayEnd command (FileFault slot) = ReadsFrom (Some command) slot
 MayEnd command InputFault = IsTrue (reads_input (Some command))
-MayEnd command (WriteFault slot) = (slot ≡ Index) × IsTrue (writes_index command)
+MayEnd command (WriteFault slot) = WritesTo command slot
 MayEnd command OutFault = IsTrue (prints (Some command))
 MayEnd command NoMemory = ⊤
-MayEnd command (TooLarge slot) = slot ≡ Index
+MayEnd command (TooLarge slot) = MayBeTooLarge command slot
 MayEnd command InputTooLarge = IsTrue (reads_input (Some command))
 
 -- A command ends as the table says.

@@ -13,7 +13,8 @@ use Rattle.pef_top.specs.Ends.{OrTooLarge}
 use Rattle.pef_top.specs.FoundIndex.{FindsIndex, FindsIndexOf}
 use Rattle.pef_top.specs.Built.{BuildsWordsThen}
 use Rattle.pef_top.specs.ReadingIndex.{ReadsIndexThen, IsTooLong, RefusesBrokenIndex}
-use Rattle.pef_top.specs.WrittenIndex.{WritesIndex, WritesOnlyAccepted}
+use Rattle.pef_top.specs.WrittenFile.{WritesOnlyAccepted}
+use Rattle.pef_top.specs.WrittenIndex.{WritesIndex}
 
 -- the format in which an index is written anew
 abbrev pub migrate_format : Format
@@ -38,4 +39,4 @@ pub record Migrates (from to : List ℕ) (old new : Outside) (outcome : Outcome)
   -- The file is refused exactly where it is no index or too long, but that an index may be refused as its new words would be too many.
   pub refuses : (((c : Collection) × FindsIndexOf from old.depot c) × (outcome ≡ TooLarge Index)) ⊎ RefusesBrokenIndex from old outcome
   pub complete : IsTrue old.depot.tells → (c : Collection) → FindsIndexOf from old.depot c → NoCallFailed old new → OrTooLarge Done outcome
-  pub depot : WritesOnlyAccepted IsIndexSlot ((c : Collection) × FindsIndexOf from old.depot c) old new outcome
+  pub depot : WritesOnlyAccepted IsIndexSlot IsIndexSlot ((c : Collection) × FindsIndexOf from old.depot c) old new outcome

@@ -1,9 +1,10 @@
-use Rattle.std.specs.Prelude.{◌≡◌, ⊤, Bool, true, false, not, IsTrue, Option, Some, None}
+use Rattle.std.specs.Prelude.{◌≡◌, ℕ, List, ⊤, Bool, true, false, not, IsTrue, Option, Some, None}
 use Rattle.collection_model.specs.Collection.{Collection}
 use Rattle.part_cost.specs.Formats.{numbers_of}
 use Rattle.pef_io.specs.DepotState.{DepotState}
 use Rattle.command_model.specs.Found.{FindsCollection}
-use Rattle.command_line.specs.Command.{Command, Build, Query, Answer, Inspect, Generate, Migrate}
+use Rattle.command_model.specs.FoundMap.{FindsBothOf}
+use Rattle.command_line.specs.Command.{Command, Build, Query, Answer, Inspect, Generate, Migrate, Audit, Blocks, Remap}
 use Rattle.pef_top.specs.Outcome.{Outcome, is_refusal}
 use Rattle.pef_top.specs.FoundIndex.{FindsIndexOf}
 use Rattle.pef_top.specs.Answer.{IsAnswerable}
@@ -35,9 +36,11 @@ abbrev pub prints : Option Command → Bool
 prints None = false
 prints (Some (Build base index format)) = false
 prints (Some (Migrate from to)) = false
+prints (Some (Blocks index side)) = false
+prints (Some (Remap base map to)) = false
 prints (Some command) = true
 
--- What a command reads is accepted: a collection stands under its base, or an index under its name. `generate` reads nothing.
+-- What a command reads is accepted: a collection stands under its base, or an index under its name, or a collection with an order of its documents. `generate` reads nothing.
 abbrev pub Accepts : Option Command → DepotState → Type 0
 Accepts None depot = ⊥
 Accepts (Some (Build base index format)) depot = (c : Collection) × FindsCollection (numbers_of format) base depot c
@@ -46,6 +49,9 @@ Accepts (Some (Answer base plan)) depot = (c : Collection) × IsAnswerable base 
 Accepts (Some (Inspect index)) depot = (c : Collection) × FindsIndexOf index depot c
 Accepts (Some (Generate seed n t)) depot = ⊤
 Accepts (Some (Migrate from to)) depot = (c : Collection) × FindsIndexOf from depot c
+Accepts (Some (Audit index)) depot = (c : Collection) × FindsIndexOf index depot c
+Accepts (Some (Blocks index side)) depot = (c : Collection) × FindsIndexOf index depot c
+Accepts (Some (Remap base map to)) depot = (c : Collection) × (ids : List ℕ) × FindsBothOf base map depot c ids
 
 -- Neither the input nor out was called.
 pub record IsSilent {D I O : Type 0} (old new : Objects D I O) : Type 0 where

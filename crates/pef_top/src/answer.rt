@@ -1,8 +1,6 @@
-ghost use Rattle.std.specs.Prelude.{◌≡◌, ◌<◌, ◌^◌, IsTrue, Some, length};
+ghost use Rattle.std.specs.Prelude.{◌≡◌, IsTrue, Some};
 ghost use Rattle.collection_model.specs.Collection.{Collection};
-ghost use Rattle.part_cost.specs.Formats.{numbers_of};
 ghost use Rattle.pef_io.specs.SinkState.{SinkState};
-ghost use Rattle.index_file.specs.FileWords.{IsIndex, Spells};
 ghost use Rattle.pef_top.specs.Answer.{IsAnswerable};
 ghost use Rattle.command_line.specs.Command as words;
 ghost use Rattle.pef_top.specs.Outside.{outside};
@@ -37,19 +35,7 @@ pub(crate) fn answer<D: Depot, I: Source, O: Sink, L: Ledger>(
 {
     one_index();
     let words = build_words(alloc, base, depot, Format::Two, steps)?;
-    let index = view_index(&words);
+    let index = Index::known(&words);
     answer_text(alloc, &index, plan, input, crate::top::LONGEST_TEXT, out)?;
     Ok(())
-}
-
-/// The index that words are.
-pub(crate) fn view_index<'a>(words: &'a [u64]) -> Index<'a>
-    requires words { length words.now < 2 ^ 57 }
-    requires index { IsIndex words.now }
-    ensures { Spells (numbers_of result.format) words.entry.now result.collection result.parts }
-{
-    match Index::view(words) {
-        Ok(index) => index,
-        Err(_) => unreachable!(),
-    }
 }

@@ -7,10 +7,10 @@ ghost use Rattle.pef_top.specs.Outside.{outside};
 ghost use Rattle.pef_top.specs.Private.Leaves.{Leaves};
 ghost use Rattle.pef_top.specs.Private.Stops.{outcome_of};
 
-use crate::stop::Stop;
-use command_steps::{build_words, write_index};
+use crate::stop::{Stop, after_writing};
+use command_steps::{build_words, write_words};
 use part_cost::Format;
-use pef_io::Depot;
+use pef_io::{Depot, Slot};
 use std::alloc::Global;
 use std::sync::ledger::Ledger;
 use step_count::Steps;
@@ -29,8 +29,8 @@ pub(crate) fn build<D: Depot, L: Ledger>(
 {
     let words = build_words(alloc, base, depot, format, steps)?;
     words_fit(&words);
-    write_index(alloc, &words, index, depot)?;
-    Ok(())
+    let written = write_words(alloc, &words, index, depot);
+    after_writing(Slot::Index, written)
 }
 
 /// Words are numbers of 64 bits.

@@ -1,6 +1,6 @@
 ghost use Rattle.std.specs.Prelude.{◌≡◌};
 ghost use Rattle.pef_io.specs.Helpers.{WritesAll};
-ghost use Rattle.pef_top.specs.ErrLines.{check_text, fault_line, index_line, rule_text, slot_text};
+ghost use Rattle.pef_top.specs.ErrLines.{check_text, fault_line, index_line, map_line, map_rule_text, rule_text, slot_text};
 ghost use Rattle.pef_top.specs.Outcome.{line_of};
 ghost use Rattle.pef_top.specs.Private.ErrPieces.{joined};
 ghost use Rattle.pef_top.specs.Private.Stops.{outcome_of_stop};
@@ -10,11 +10,12 @@ use collection_reader::{Fault, Rule};
 use index_file::OpenFault;
 use itoa::Buffer;
 use pef_io::{IoFail, Sink, Slot, write_all_own};
+use remap::{MapFault, MapRule};
 use two_level::Check;
 
 /// The line of words that are no command.
 const USAGE: &[u8] =
-    b"usage: pefidx build BASE INDEX [--format FORMAT] | query INDEX [--plan PLAN] | answer BASE [--plan PLAN] | inspect INDEX | generate SEED N T | migrate OLD NEW\n";
+    b"usage: pefidx build BASE INDEX [--format FORMAT] | query INDEX [--plan PLAN] | answer BASE [--plan PLAN] | inspect INDEX | generate SEED N T | migrate OLD NEW | audit INDEX | blocks INDEX SIDE | remap BASE MAP NEW\n";
 
 /// Writes the line of a run that stopped, without memory.
 pub(crate) fn write_line<E: Sink>(err: &mut E, stop: Stop) -> Result<(), IoFail>
@@ -24,6 +25,7 @@ pub(crate) fn write_line<E: Sink>(err: &mut E, stop: Stop) -> Result<(), IoFail>
         Stop::Usage => write_all_own(err, USAGE),
         Stop::Collection(fault) => write_fault(err, fault),
         Stop::Index(fault) => write_index_fault(err, fault),
+        Stop::Map(fault) => write_map_fault(err, fault),
         Stop::File(slot) => write_pieces(err, &[b"read fault: ", slot_name(slot), b"\n"]),
         Stop::Input => write_all_own(err, b"read fault: input\n"),
         Stop::Write(slot) => write_pieces(err, &[b"write fault: ", slot_name(slot), b"\n"]),
@@ -76,6 +78,23 @@ fn write_index_fault<E: Sink>(err: &mut E, fault: OpenFault) -> Result<(), IoFai
     )
 }
 
+/// Writes the line of a file that is no order of the documents.
+fn write_map_fault<E: Sink>(err: &mut E, fault: MapFault) -> Result<(), IoFail>
+    ensures { WritesAll (E.state err.old) (E.state err.new) (map_line fault) result }
+{
+    let mut place = Buffer::new();
+    write_pieces(
+        err,
+        &[
+            b"map ",
+            map_rule_name(fault.rule),
+            b" place ",
+            place.format(fault.place).as_bytes(),
+            b"\n",
+        ],
+    )
+}
+
 /// Writes some pieces, one after the other.
 fn write_pieces<E: Sink>(err: &mut E, pieces: &[&[u8]]) -> Result<(), IoFail>
     ensures { WritesAll (E.state err.old) (E.state err.new) (joined pieces.now) result }
@@ -102,6 +121,18 @@ fn rule_name(rule: Rule) -> &'static [u8]
         Rule::C10 => b"C10",
         Rule::C11 => b"C11",
         Rule::C12 => b"C12",
+    }
+}
+
+fn map_rule_name(rule: MapRule) -> &'static [u8]
+    ensures { result.now ≡ map_rule_text rule }
+{
+    match rule {
+        MapRule::M1 => b"M1",
+        MapRule::M2 => b"M2",
+        MapRule::M3 => b"M3",
+        MapRule::M4 => b"M4",
+        MapRule::M5 => b"M5",
     }
 }
 

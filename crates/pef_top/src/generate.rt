@@ -8,10 +8,9 @@ ghost use Rattle.pef_top.specs.Outcome.{is_refusal};
 ghost use Rattle.pef_top.specs.Private.Leaves.{Leaves};
 ghost use Rattle.pef_top.specs.Private.Stops.{outcome_of};
 
-use crate::answer::view_index;
-use crate::stop::Stop;
+use crate::stop::{Stop, stop_of_printing};
 use command_steps::{generated_words, print_generated};
-use index_file::one_index;
+use index_file::{Index, one_index};
 use pef_io::Sink;
 use std::alloc::Global;
 use std::sync::ledger::Ledger;
@@ -32,7 +31,6 @@ pub(crate) fn generate<O: Sink, L: Ledger>(
 {
     one_index();
     let words = generated_words(alloc, seed, documents, terms, steps)?;
-    let index = view_index(&words);
-    print_generated(alloc, &index, out)?;
-    Ok(())
+    let index = Index::known(&words);
+    print_generated(alloc, &index, out).map_err(stop_of_printing)
 }

@@ -9,8 +9,9 @@ ghost use Rattle.pef_top.specs.Outcome.{is_refusal};
 ghost use Rattle.pef_top.specs.Private.Leaves.{Leaves};
 ghost use Rattle.pef_top.specs.Private.Stops.{outcome_of};
 
-use crate::stop::Stop;
-use command_steps::{load_index, print_summary};
+use crate::loading::load_index;
+use crate::stop::{Stop, stop_of_printing};
+use command_steps::print_summary;
 use index_file::{Index, one_broken_check, words_and_bytes_undo_each_other};
 use pef_io::{Depot, Sink};
 use std::alloc::Global;
@@ -31,7 +32,6 @@ pub(crate) fn inspect<D: Depot, O: Sink>(
     one_broken_check();
     words_and_bytes_undo_each_other();
     let words = load_index(alloc, index, depot)?;
-    let index = Index::view(&words)?;
-    print_summary(alloc, &index, out)?;
-    Ok(())
+    let index = Index::known(&words);
+    print_summary(alloc, &index, out).map_err(stop_of_printing)
 }

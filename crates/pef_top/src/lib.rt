@@ -2,13 +2,17 @@
 #![tactic(auto)]
 
 mod answer;
+mod audit;
+mod blocks;
 mod build;
 mod err_lines;
 mod generate;
 mod inspect;
 mod laws;
+mod loading;
 mod migrate;
 mod query;
+mod reorder;
 mod status;
 mod stop;
 mod top;

@@ -7,10 +7,11 @@ ghost use Rattle.pef_top.specs.Private.Leaves.{Leaves};
 ghost use Rattle.pef_top.specs.Private.Stops.{outcome_of};
 
 use crate::build::words_fit;
-use crate::stop::Stop;
-use command_steps::{load_index, migrated_words, write_index};
+use crate::loading::load_index;
+use crate::stop::{Stop, after_writing};
+use command_steps::{migrated_words, write_words};
 use index_file::{Index, one_broken_check, words_and_bytes_undo_each_other};
-use pef_io::Depot;
+use pef_io::{Depot, Slot};
 use std::alloc::Global;
 use std::sync::ledger::Ledger;
 use step_count::Steps;
@@ -29,9 +30,9 @@ pub(crate) fn migrate<D: Depot, L: Ledger>(
     one_broken_check();
     words_and_bytes_undo_each_other();
     let words = load_index(alloc, from, depot)?;
-    let index = Index::view(&words)?;
+    let index = Index::known(&words);
     let migrated = migrated_words(alloc, &index, steps)?;
     words_fit(&migrated);
-    write_index(alloc, &migrated, to, depot)?;
-    Ok(())
+    let written = write_words(alloc, &migrated, to, depot);
+    after_writing(Slot::Index, written)
 }

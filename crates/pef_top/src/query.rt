@@ -8,8 +8,9 @@ ghost use Rattle.pef_top.specs.Outcome.{is_refusal};
 ghost use Rattle.pef_top.specs.Private.Leaves.{Leaves};
 ghost use Rattle.pef_top.specs.Private.Stops.{outcome_of};
 
+use crate::loading::load_index;
 use crate::stop::Stop;
-use command_steps::{Plan, answer_text, load_index};
+use command_steps::{Plan, answer_text};
 use index_file::{Index, one_broken_check, words_and_bytes_undo_each_other};
 use pef_io::{Depot, Sink, Source};
 use std::alloc::Global;
@@ -32,7 +33,7 @@ pub(crate) fn query<D: Depot, I: Source, O: Sink>(
     one_broken_check();
     words_and_bytes_undo_each_other();
     let words = load_index(alloc, index, depot)?;
-    let index = Index::view(&words)?;
+    let index = Index::known(&words);
     answer_text(alloc, &index, plan, input, crate::top::LONGEST_TEXT, out)?;
     Ok(())
 }

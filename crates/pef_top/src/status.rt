@@ -20,6 +20,8 @@ pub enum Status {
     NoMemory,
     /// The query text, or an index, is longer than its limit.
     TooLarge,
+    /// A file is no order of the documents of a collection.
+    Map,
 }
 
 impl Status {
@@ -36,6 +38,7 @@ impl Status {
             Status::Write => 6,
             Status::NoMemory => 7,
             Status::TooLarge => 8,
+            Status::Map => 10,
         }
     }
 }

@@ -1,13 +1,16 @@
 ghost use Rattle.std.specs.Prelude.{◌≡◌};
 ghost use Rattle.pef_top.specs.Outcome.{status_of};
-ghost use Rattle.pef_top.specs.Private.Stops.{outcome_of_stop};
+ghost use Rattle.pef_top.specs.Private.Stops.{outcome_of, outcome_of_stop, stop_of_index, stop_of_loading, stop_of_printing, stop_of_writing, written_outcome};
 
 use crate::status::Status;
 use collection_reader::Fault;
 use command_line::WordsError;
-use command_steps::{BuildError, LoadIndexError, MakeError, PrintError, RunFault, WriteIndexError};
-use index_file::OpenFault;
-use pef_io::Slot;
+use command_steps::{BuildError, FileFail, ImageError, LoadWordsError, RunFault};
+use index_file::{FinishError, OpenFault};
+use no_memory::NoMemory;
+use pef_io::{IoFail, Slot};
+use remap::MapFault;
+use two_level::Check;
 
 /// Why a run ended before all was done.
 #[derive(Clone, Copy, Debug, PartialEq, Eq)]
@@ -18,6 +21,8 @@ pub(crate) enum Stop {
     Collection(Fault),
     /// The file is no index.
     Index(OpenFault),
+    /// The file is no order of the documents.
+    Map(MapFault),
     /// A start or a read of this file failed.
     File(Slot),
     /// A read of the input failed.
@@ -43,6 +48,7 @@ impl Stop {
             Stop::Usage => Status::Usage,
             Stop::Collection(_) => Status::Collection,
             Stop::Index(_) => Status::Index,
+            Stop::Map(_) => Status::Map,
             Stop::File(_) | Stop::Input => Status::Read,
             Stop::Write(_) | Stop::Out => Status::Write,
             Stop::NoMemory => Status::NoMemory,
@@ -79,31 +85,26 @@ impl From<BuildError> for Stop {
     }
 }
 
-impl From<MakeError> for Stop {
+impl From<FinishError> for Stop {
     ghost use Rattle.pef_top.specs.Private.Stops.{stop_of_making};
 
     ghost from_gives = { λ e stop. stop ≡ stop_of_making e };
 
-    fn from(e: MakeError) -> Stop {
+    fn from(e: FinishError) -> Stop {
         match e {
-            MakeError::TooLarge(_) => Stop::Large(Slot::Index),
-            MakeError::NoMemory => Stop::NoMemory,
+            FinishError::TooLarge(_) => Stop::Large(Slot::Index),
+            FinishError::NoMemory => Stop::NoMemory,
         }
     }
 }
 
-impl From<LoadIndexError> for Stop {
-    ghost use Rattle.pef_top.specs.Private.Stops.{stop_of_loading};
+impl From<NoMemory> for Stop {
+    ghost use Rattle.pef_top.specs.declared.stop.Stop.TheVariants as stop;
 
-    ghost from_gives = { λ e stop. stop ≡ stop_of_loading e };
+    ghost from_gives = { λ e answer. answer ≡ stop.NoMemory };
 
-    fn from(e: LoadIndexError) -> Stop {
-        match e {
-            LoadIndexError::Broken(fault) => Stop::Index(fault),
-            LoadIndexError::Read => Stop::File(Slot::Index),
-            LoadIndexError::TooLarge => Stop::Large(Slot::Index),
-            LoadIndexError::NoMemory => Stop::NoMemory,
-        }
+    fn from(_e: NoMemory) -> Stop {
+        Stop::NoMemory
     }
 }
 
@@ -114,32 +115,6 @@ impl From<OpenFault> for Stop {
 
     fn from(e: OpenFault) -> Stop {
         Stop::Index(e)
-    }
-}
-
-impl From<WriteIndexError> for Stop {
-    ghost use Rattle.pef_top.specs.Private.Stops.{stop_of_writing};
-
-    ghost from_gives = { λ e stop. stop ≡ stop_of_writing e };
-
-    fn from(e: WriteIndexError) -> Stop {
-        match e {
-            WriteIndexError::Write => Stop::Write(Slot::Index),
-            WriteIndexError::NoMemory => Stop::NoMemory,
-        }
-    }
-}
-
-impl From<PrintError> for Stop {
-    ghost use Rattle.pef_top.specs.Private.Stops.{stop_of_printing};
-
-    ghost from_gives = { λ e stop. stop ≡ stop_of_printing e };
-
-    fn from(e: PrintError) -> Stop {
-        match e {
-            PrintError::Write => Stop::Out,
-            PrintError::NoMemory => Stop::NoMemory,
-        }
     }
 }
 
@@ -155,5 +130,84 @@ impl From<RunFault> for Stop {
             RunFault::TooLarge => Stop::LongInput,
             RunFault::NoMemory => Stop::NoMemory,
         }
+    }
+}
+
+/// Where a run stops that could not load the words of the file of this slot: at `ragged` where they are no whole words.
+pub(crate) fn stop_of_loading(slot: Slot, ragged: Stop, error: LoadWordsError) -> Stop
+    ensures { result ≡ stop_of_loading slot ragged error }
+{
+    match error {
+        LoadWordsError::Ragged => ragged,
+        LoadWordsError::Read => Stop::File(slot),
+        LoadWordsError::TooLarge => Stop::Large(slot),
+        LoadWordsError::NoMemory => Stop::NoMemory,
+    }
+}
+
+/// Where a run stops that could not load the words of its index: that they are whole words is the check K1.
+pub(crate) fn stop_of_index(error: LoadWordsError) -> Stop
+    ensures { result ≡ stop_of_index error }
+{
+    let ragged = OpenFault {
+        check: Check::K1,
+        term: 0,
+        part: 0,
+    };
+    stop_of_loading(Slot::Index, Stop::Index(ragged), error)
+}
+
+/// Where a run stops that could not write the file of this slot.
+fn stop_of_writing(slot: Slot, fail: IoFail) -> Stop
+    ensures { result ≡ stop_of_writing slot fail }
+{
+    match fail {
+        IoFail::Failed => Stop::Write(slot),
+        IoFail::NoMemory => Stop::NoMemory,
+    }
+}
+
+/// The ending of a run that wrote the file of this slot, or stopped at that.
+pub(crate) fn after_writing(slot: Slot, written: Result<(), IoFail>) -> Result<(), Stop>
+    ensures { outcome_of result ≡ written_outcome slot written }
+{
+    match written {
+        Ok(()) => Ok(()),
+        Err(fail) => Err(stop_of_writing(slot, fail)),
+    }
+}
+
+/// Where a run stops that could not print.
+pub(crate) fn stop_of_printing(fail: IoFail) -> Stop
+    ensures { result ≡ stop_of_printing fail }
+{
+    match fail {
+        IoFail::Failed => Stop::Out,
+        IoFail::NoMemory => Stop::NoMemory,
+    }
+}
+
+impl From<ImageError> for Stop {
+    ghost use Rattle.pef_top.specs.Private.Stops.{stop_of_image};
+
+    ghost from_gives = { λ e stop. stop ≡ stop_of_image e };
+
+    fn from(e: ImageError) -> Stop {
+        match e {
+            ImageError::Broken(fault) => Stop::Collection(fault),
+            ImageError::BrokenMap(fault) => Stop::Map(fault),
+            ImageError::Read(slot) => Stop::File(slot),
+            ImageError::NoMemory => Stop::NoMemory,
+        }
+    }
+}
+
+impl From<FileFail> for Stop {
+    ghost use Rattle.pef_top.specs.Private.Stops.{stop_of_file};
+
+    ghost from_gives = { λ e stop. stop ≡ stop_of_file e };
+
+    fn from(e: FileFail) -> Stop {
+        stop_of_writing(e.slot, e.fail)
     }
 }

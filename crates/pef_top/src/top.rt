@@ -8,12 +8,15 @@ ghost use Rattle.pef_top.specs.Private.Leaves.{Leaves, Reports};
 ghost use Rattle.pef_top.specs.Private.Stops.{outcome_of};
 
 use crate::answer::answer;
+use crate::audit::audit;
+use crate::blocks::write_blocks;
 use crate::build::build;
 use crate::err_lines::write_line;
 use crate::generate::generate;
 use crate::inspect::inspect;
 use crate::migrate::migrate;
 use crate::query::query;
+use crate::reorder::reorder;
 use crate::status::Status;
 use crate::stop::Stop;
 use command_line::{Command, parse_words};
@@ -35,7 +38,10 @@ pub(crate) const LONGEST_TEXT: u64 = 1 << 40;
 /// an index of format 2 that it builds and does not write. `inspect INDEX` checks that file whole and prints one line that sums
 /// it up. `generate SEED N T` builds the index of a generated collection of N documents and T lists, which it does not write, and
 /// prints what it counts and what it replies. `migrate OLD NEW` checks the file OLD whole and writes the index of its collection, in
-/// format 2 and in new partitions, as the file NEW. Every status but `Done` has its line on err, which takes no memory; an err that
+/// format 2 and in new partitions, as the file NEW. `audit INDEX` checks that file whole and prints, for each sequence of at most 256
+/// numbers, what its partition costs and the least costs of allowed partitions and of all. `blocks INDEX SIDE` checks the file INDEX whole and writes the side file of its blocks
+/// as the file SIDE. `remap BASE MAP NEW` reads a collection and, from the file MAP, an order of its
+/// documents, and writes the files NEW.docs, NEW.freqs and NEW.sizes of its image. Every status but `Done` has its line on err, which takes no memory; an err that
 /// fails changes no status.
 pub fn run<D: Depot, I: Source, O: Sink, E: Sink, L: Ledger>(
     alloc: Global,
@@ -126,6 +132,9 @@ fn perform<D: Depot, I: Source, O: Sink, L: Ledger>(
             terms,
         } => generate(alloc, seed, documents, terms, out, steps),
         Command::Migrate { from, to } => migrate(alloc, from, to, depot, steps),
+        Command::Audit { index } => audit(alloc, index, depot, out, steps),
+        Command::Blocks { index, side } => write_blocks(alloc, index, side, depot),
+        Command::Remap { base, map, to } => reorder(alloc, base, map, to, depot),
     }
 }
 

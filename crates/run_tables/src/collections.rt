@@ -47,8 +47,11 @@ pub const NINE_LISTS: Numbers<'static> = Numbers {
     sizes: &[2, 1, 1],
 };
 
+/// An order of three documents as a map has it: documents 0, 1 and 2 have the new ids 2, 0 and 1.
+pub const MAP: [u32; 4] = [3, 2, 0, 1];
+
 /// The bytes of these numbers.
-fn spelled(alloc: Global, numbers: &[u32]) -> Option<Vec<u8>> {
+pub fn spelled(alloc: Global, numbers: &[u32]) -> Option<Vec<u8>> {
     let mut bytes = Vec::new(alloc);
     for number in numbers {
         bytes.extend_from_slice(&number.to_le_bytes()).ok()?;
@@ -82,6 +85,21 @@ pub fn cut_files(
             .push((String::from_str(alloc, name).ok()?, bytes))
             .ok()?;
     }
+    Some(files)
+}
+
+/// The three files of these numbers, and a map, the file `m`, of these numbers cut to so many bytes.
+pub fn with_map(
+    alloc: Global,
+    numbers: Numbers<'_>,
+    map: &[u32],
+    length: usize,
+) -> Option<FileList> {
+    let mut files = files_of(alloc, numbers)?;
+    let mut bytes = spelled(alloc, map)?;
+    bytes.truncate(length);
+    let name = String::from_str(alloc, "m").ok()?;
+    files.push((name, bytes)).ok()?;
     Some(files)
 }
 

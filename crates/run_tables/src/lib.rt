@@ -9,15 +9,18 @@ mod runs;
 
 pub use builds::built;
 pub use collections::{
-    ManyNumbers, NINE_LISTS, NO_LIST, Numbers, ONE_LIST, THREE_LISTS, TWO_LISTS, cut_files,
-    far_document, files_of, full_list, two_long_lists,
+    MAP, ManyNumbers, NINE_LISTS, NO_LIST, Numbers, ONE_LIST, THREE_LISTS, TWO_LISTS, cut_files,
+    far_document, files_of, full_list, spelled, two_long_lists, with_map,
 };
 pub use indexes::{
     CLOSING, DOCUMENTS_IN_TWO_PARTS, ONE_LIST_WORDS, ONE_LIST_WORDS_OF_TWO, OPENING,
     THREE_LISTS_WORDS, THREE_LISTS_WORDS_OF_TWO, bytes_of, only_index,
 };
-pub use printed::{GENERATED_TEXT, THREE_LISTS_LINE, THREE_LISTS_LINE_OF_TWO};
+pub use printed::{
+    GENERATED_TEXT, THREE_LISTS_AUDIT, THREE_LISTS_AUDIT_OF_TWO, THREE_LISTS_LINE,
+    THREE_LISTS_LINE_OF_TWO,
+};
 pub use runs::{
-    ANSWER, BUILD, BUILD_ONE, FileList, INSPECT, MIGRATE, OPS, Outcome, QUERY, run_over,
-    run_to_replies, run_words, steady_run,
+    ANSWER, AUDIT, BLOCKS, BUILD, BUILD_ONE, FileList, INSPECT, MIGRATE, OPS, Outcome, QUERY,
+    REMAP, run_over, run_to_replies, run_words, steady_run,
 };

@@ -21,8 +21,17 @@ pub const QUERY: [&str; 3] = ["pefidx", "query", "y"];
 /// The words of a run that migrates the index `y` to the index `z`.
 pub const MIGRATE: [&str; 4] = ["pefidx", "migrate", "y", "z"];
 
+/// The words of a run that writes the side file `z` of the index `y`.
+pub const BLOCKS: [&str; 4] = ["pefidx", "blocks", "y", "z"];
+
+/// The words of a run that moves the collection `x` to the order of the map `m`, as the collection `y`.
+pub const REMAP: [&str; 5] = ["pefidx", "remap", "x", "m", "y"];
+
 /// The words of a run that sums the index `y` up.
 pub const INSPECT: [&str; 3] = ["pefidx", "inspect", "y"];
+
+/// The words of a run that audits the index `y`.
+pub const AUDIT: [&str; 3] = ["pefidx", "audit", "y"];
 
 /// The kinds of call of a depot.
 pub const OPS: [Op; 11] = [

@@ -6,10 +6,10 @@ use run_tables::{
 };
 
 const USAGE: &str =
-    "usage: pefidx build BASE INDEX [--format FORMAT] | query INDEX [--plan PLAN] | answer BASE [--plan PLAN] | inspect INDEX | generate SEED N T | migrate OLD NEW\n";
+    "usage: pefidx build BASE INDEX [--format FORMAT] | query INDEX [--plan PLAN] | answer BASE [--plan PLAN] | inspect INDEX | generate SEED N T | migrate OLD NEW | audit INDEX | blocks INDEX SIDE | remap BASE MAP NEW\n";
 
 /// Words that are no command.
-const NO_COMMANDS: [&[&str]; 33] = [
+const NO_COMMANDS: [&[&str]; 41] = [
     &[],
     &["pefidx"],
     &["pefidx", "answer"],
@@ -36,6 +36,8 @@ const NO_COMMANDS: [&[&str]; 33] = [
     &["pefidx", "query", "-"],
     &["pefidx", "query", "a", "b"],
     &["pefidx", "inspect"],
+    &["pefidx", "audit"],
+    &["pefidx", "audit", "y", "z"],
     &["pefidx", "inspect", "help"],
     &["pefidx", "inspect", "y", "z"],
     &["pefidx", "generate", "1", "4294967296", "1"],
@@ -45,6 +47,12 @@ const NO_COMMANDS: [&[&str]; 33] = [
     &["pefidx", "migrate", "x"],
     &["pefidx", "migrate", "x", "x"],
     &["pefidx", "migrate", "x", "help"],
+    &["pefidx", "blocks", "x"],
+    &["pefidx", "blocks", "x", "x"],
+    &["pefidx", "remap", "x", "m"],
+    &["pefidx", "remap", "x", "m", "y", "z"],
+    &["pefidx", "remap", "x", "m", "x"],
+    &["pefidx", "remap", "x", "y.docs", "y"],
 ];
 
 #[test]

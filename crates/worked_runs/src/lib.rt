@@ -5,6 +5,8 @@
 #[cfg(test)]
 mod answers;
 #[cfg(test)]
+mod audits;
+#[cfg(test)]
 mod generations;
 #[cfg(test)]
 mod indexes;
@@ -16,3 +18,7 @@ mod long_lists;
 mod migrations;
 #[cfg(test)]
 mod plans;
+#[cfg(test)]
+mod remaps;
+#[cfg(test)]
+mod side_files;

@@ -9,7 +9,7 @@ use Rattle.query_text.specs.Numbers.{number_of}
 use Rattle.command_line.specs.declared.plan.Plan.{Plan}
 use Rattle.command_line.specs.declared.error.WordsError.{WordsError}
 use Rattle.command_line.specs.declared.error.WordsError.TheVariants as refused
-use Rattle.command_line.specs.Command.{Command, Build, Query, Answer, Inspect, Migrate, command_of, format_of, plan_of, generate_of}
+use Rattle.command_line.specs.Command.{Command, Build, Query, Answer, Inspect, Migrate, Audit, Blocks, Remap, command_of, format_of, plan_of, generate_of}
 
 -- a positional that a subcommand requires
 abbrev pub required : Text → Rule
@@ -47,13 +47,29 @@ generate_app = with_rule (with_rule (with_rule (new_app (codes "generate")) (req
 abbrev pub migrate_app : App
 migrate_app = with_rule (with_rule (new_app (codes "migrate")) (required (codes "from"))) (required (codes "to"))
 
--- the command line without `inspect`, `generate` and `migrate`
+-- `audit INDEX`
+abbrev pub audit_app : App
+audit_app = with_rule (new_app (codes "audit")) (required (codes "index"))
+
+-- `blocks INDEX SIDE`
+abbrev pub blocks_app : App
+blocks_app = with_rule (with_rule (new_app (codes "blocks")) (required (codes "index"))) (required (codes "side"))
+
+-- `remap BASE MAP NEW`
+abbrev pub remap_app : App
+remap_app = with_rule (with_rule (with_rule (new_app (codes "remap")) (required (codes "base"))) (required (codes "map"))) (required (codes "to"))
+
+-- the command line of `build`, `query` and `answer`
 abbrev pub answering_app : App
 answering_app = with_subcommand (with_subcommand (with_subcommand (new_app (codes "pefidx")) build_app.top) query_app.top) answer_app.top
 
+-- the same with `inspect`, `generate` and `migrate`
+abbrev pub telling_app : App
+telling_app = with_subcommand (with_subcommand (with_subcommand answering_app inspect_app.top) generate_app.top) migrate_app.top
+
 -- the command line of the program
 abbrev pub program_app : App
-program_app = with_subcommand (with_subcommand (with_subcommand answering_app inspect_app.top) generate_app.top) migrate_app.top
+program_app = with_subcommand (with_subcommand (with_subcommand telling_app audit_app.top) blocks_app.top) remap_app.top
 
 -- a base, an index and a format, where there are all three
 abbrev pub build_from : Option Text → Option Text → Option Format → Option Command
@@ -94,6 +110,24 @@ migrate_from from to = None
 abbrev pub migrate_with : List Row → Option Command
 migrate_with rows = migrate_from (first_of (codes "from") rows) (first_of (codes "to") rows)
 
+-- an index and a side file, where there are both
+abbrev pub blocks_from : Option Text → Option Text → Option Command
+blocks_from (Some index) (Some side) = Some (Blocks index side)
+blocks_from index side = None
+
+-- what `blocks` asks for with these texts
+abbrev pub blocks_with : List Row → Option Command
+blocks_with rows = blocks_from (first_of (codes "index") rows) (first_of (codes "side") rows)
+
+-- three texts, where there are all three
+abbrev pub remap_from : Option Text → Option Text → Option Text → Option Command
+remap_from (Some base) (Some map) (Some to) = Some (Remap base map to)
+remap_from base map to = None
+
+-- what `remap` asks for with these texts
+abbrev pub remap_with : List Row → Option Command
+remap_with rows = remap_from (first_of (codes "base") rows) (first_of (codes "map") rows) (first_of (codes "to") rows)
+
 -- what a subcommand asks for with these texts
 abbrev pub asked_of : Text → List Row → Option Command
 asked_of verb rows =
@@ -103,6 +137,9 @@ asked_of verb rows =
     else if bytes_eq verb (codes "inspect") then option_map Inspect (first_of (codes "index") rows)
     else if bytes_eq verb (codes "generate") then generate_with rows
     else if bytes_eq verb (codes "migrate") then migrate_with rows
+    else if bytes_eq verb (codes "audit") then option_map Audit (first_of (codes "index") rows)
+    else if bytes_eq verb (codes "blocks") then blocks_with rows
+    else if bytes_eq verb (codes "remap") then remap_with rows
     else None
 
 -- what the matches of the words ask for

@@ -1,22 +1,26 @@
 use Rattle.std.specs.Prelude.{Result, Ok, Err}
 use Rattle.command_line.specs.declared.error.WordsError.{WordsError}
 use Rattle.command_line.specs.declared.error.WordsError.TheVariants as words
+use Rattle.pef_io.specs.declared.fail.IoFail.{IoFail}
+use Rattle.pef_io.specs.declared.fail.IoFail.TheVariants as call
+use Rattle.pef_io.specs.declared.fail.Slot.{Slot}
 use Rattle.pef_io.specs.declared.fail.Slot.TheVariants.{Index}
+use Rattle.two_level.specs.declared.check.Check.TheVariants.{K1}
+use Rattle.index_file.specs.declared.builder.FinishError.{FinishError}
+use Rattle.index_file.specs.declared.builder.FinishError.TheVariants as making
+use Rattle.index_file.specs.declared.fault.OpenFault.{OpenFault}
 use Rattle.command_steps.specs.declared.build.BuildError.{BuildError}
 use Rattle.command_steps.specs.declared.build.BuildError.TheVariants as building
-use Rattle.command_steps.specs.declared.made.MakeError.{MakeError}
-use Rattle.command_steps.specs.declared.made.MakeError.TheVariants as making
-use Rattle.command_steps.specs.declared.loading.LoadIndexError.{LoadIndexError}
-use Rattle.command_steps.specs.declared.loading.LoadIndexError.TheVariants as loading
-use Rattle.command_steps.specs.declared.writing.WriteIndexError.{WriteIndexError}
-use Rattle.command_steps.specs.declared.writing.WriteIndexError.TheVariants as writing
-use Rattle.command_steps.specs.declared.printing.PrintError.{PrintError}
-use Rattle.command_steps.specs.declared.printing.PrintError.TheVariants as printing
+use Rattle.command_steps.specs.declared.loading.LoadWordsError.{LoadWordsError}
+use Rattle.command_steps.specs.declared.loading.LoadWordsError.TheVariants as loading
 use Rattle.command_steps.specs.declared.text.RunFault.{RunFault}
 use Rattle.command_steps.specs.declared.text.RunFault.TheVariants as answering
+use Rattle.command_steps.specs.declared.image.ImageError.{ImageError}
+use Rattle.command_steps.specs.declared.image.ImageError.TheVariants as image
+use Rattle.command_steps.specs.declared.image.FileFail.{FileFail}
 use Rattle.pef_top.specs.declared.stop.Stop.{Stop}
 use Rattle.pef_top.specs.declared.stop.Stop.TheVariants as stop
-use Rattle.pef_top.specs.Outcome.{Outcome, Done, Usage, BrokenCollection, BrokenIndex, FileFault, InputFault, WriteFault, OutFault, NoMemory, TooLarge, InputTooLarge}
+use Rattle.pef_top.specs.Outcome.{Outcome, Done, Usage, BrokenCollection, BrokenIndex, BrokenMap, FileFault, InputFault, WriteFault, OutFault, NoMemory, TooLarge, InputTooLarge}
 
 -- where a run stops whose words gave no command
 abbrev pub stop_of_words : WordsError → Stop
@@ -31,21 +35,29 @@ stop_of_building (building.TooLarge count) = stop.Large Index
 stop_of_building building.NoMemory = stop.NoMemory
 
 -- where a run stops that could not make its words
-abbrev pub stop_of_making : MakeError → Stop
+abbrev pub stop_of_making : FinishError → Stop
 stop_of_making (making.TooLarge count) = stop.Large Index
 stop_of_making making.NoMemory = stop.NoMemory
 
--- where a run stops that could not load its words
-abbrev pub stop_of_loading : LoadIndexError → Stop
-stop_of_loading (loading.Broken fault) = stop.Index fault
-stop_of_loading loading.Read = stop.File Index
-stop_of_loading loading.TooLarge = stop.Large Index
-stop_of_loading loading.NoMemory = stop.NoMemory
+-- where a run stops that could not load the words of the file of a slot: at `ragged` where they are no whole words
+abbrev pub stop_of_loading : Slot → Stop → LoadWordsError → Stop
+stop_of_loading slot ragged loading.Ragged = ragged
+stop_of_loading slot ragged loading.Read = stop.File slot
+stop_of_loading slot ragged loading.TooLarge = stop.Large slot
+stop_of_loading slot ragged loading.NoMemory = stop.NoMemory
 
--- where a run stops that could not write its words
-abbrev pub stop_of_writing : WriteIndexError → Stop
-stop_of_writing writing.Write = stop.Write Index
-stop_of_writing writing.NoMemory = stop.NoMemory
+-- the fault of an index that is no whole words
+abbrev pub ragged_index : OpenFault
+ragged_index = record { check = K1; term = 0; part = 0 }
+
+-- where a run stops that could not load the words of its index
+abbrev pub stop_of_index : LoadWordsError → Stop
+stop_of_index error = stop_of_loading Index (stop.Index ragged_index) error
+
+-- where a run stops that could not write the file of a slot
+abbrev pub stop_of_writing : Slot → IoFail → Stop
+stop_of_writing slot call.Failed = stop.Write slot
+stop_of_writing slot call.NoMemory = stop.NoMemory
 
 -- where a run stops that could not answer its text
 abbrev pub stop_of_answering : RunFault → Stop
@@ -54,16 +66,28 @@ stop_of_answering answering.Write = stop.Out
 stop_of_answering answering.TooLarge = stop.LongInput
 stop_of_answering answering.NoMemory = stop.NoMemory
 
--- where a run stops that could not print its line
-abbrev pub stop_of_printing : PrintError → Stop
-stop_of_printing printing.Write = stop.Out
-stop_of_printing printing.NoMemory = stop.NoMemory
+-- where a run stops that could not print
+abbrev pub stop_of_printing : IoFail → Stop
+stop_of_printing call.Failed = stop.Out
+stop_of_printing call.NoMemory = stop.NoMemory
+
+-- where a run stops that could not make the files of an image
+abbrev pub stop_of_image : ImageError → Stop
+stop_of_image (image.Broken fault) = stop.Collection fault
+stop_of_image (image.BrokenMap fault) = stop.Map fault
+stop_of_image (image.Read slot) = stop.File slot
+stop_of_image image.NoMemory = stop.NoMemory
+
+-- where a run stops that could not write one of them
+abbrev pub stop_of_file : FileFail → Stop
+stop_of_file f = stop_of_writing f.slot f.fail
 
 -- how a run ended that stopped so
 abbrev pub outcome_of_stop : Stop → Outcome
 outcome_of_stop stop.Usage = Usage
 outcome_of_stop (stop.Collection fault) = BrokenCollection fault
 outcome_of_stop (stop.Index fault) = BrokenIndex fault
+outcome_of_stop (stop.Map fault) = BrokenMap fault
 outcome_of_stop (stop.File slot) = FileFault slot
 outcome_of_stop stop.Input = InputFault
 outcome_of_stop (stop.Write slot) = WriteFault slot
@@ -76,3 +100,8 @@ outcome_of_stop stop.LongInput = InputTooLarge
 abbrev pub outcome_of : Result (Unit {0}) Stop → Outcome
 outcome_of (Ok u) = Done
 outcome_of (Err s) = outcome_of_stop s
+
+-- how a run ends that wrote the file of a slot or stopped at that
+abbrev pub written_outcome : Slot → Result (Unit {0}) IoFail → Outcome
+written_outcome slot (Ok u) = Done
+written_outcome slot (Err fail) = outcome_of_stop (stop_of_writing slot fail)

@@ -7,8 +7,8 @@ use Rattle.command_steps.proofs.AskedLines.{GetsReplies, gets-one, asked-nothing
 use Rattle.command_steps.proofs.generated_text.generated_text.Goals.{then-terms-gt0+in_ok-next+in_ok-top+in_ok-push_reply+in_ok-push_replies, else-terms-gt0}
 use Rattle.command_steps.proofs.generated_text.generated_text.Goals as goal
 
-pub returns-clause-text : goal.returns-clause-text
-returns-clause-text c =
+pub returns : goal.returns
+returns c =
     let i = c.args.index.now in
     let line : List ℕ = c.into_bytes-text.result.items in
     let counted = ap (λ v. v.items) c.into_bytes-text.ensures.value ∙ c.in_ok-counts_line.ensures in
@@ -18,12 +18,11 @@ returns-clause-text c =
           let top : List ℕ = w.deref-then-terms-gt0.result.now in
           let mid : List ℕ = w.push_reply.new.text.items in
           let First : Collection → Type 0 = λ k. (reply : List ℕ) × IsReply k next reply × (mid ≡ line ++ reply) in
-          let Tops : Collection → List ℕ → Type 0 = λ k text. GetsReplies k (top ∷ top ∷ top ∷ []) mid text in
-          let tops = subst (λ k. Tops k w.push_replies.new.text.items) w.new-lists.ensures w.in_ok-push_replies.ensures in
+          let Tops : List ℕ → Type 0 = λ text. GetsReplies i.collection (top ∷ top ∷ top ∷ []) mid text in
           asked-four (numbers_of i.format) i.collection i.parts line next top mid c.if-terms-gt0.text.items (omega (arith, w.if-terms-gt0.true, c.terms.ensures)) counted
           (w.deref.ensures ∙ w.in_ok-next.ensures) (w.deref-then-terms-gt0.ensures ∙ w.in_ok-top.ensures)
           (gets-one i.collection next line mid (subst First w.new-lists.ensures w.in_ok-push_reply.ensures))
-          (subst (Tops i.collection) (sym (ap (λ t. t.items) w.text-is)) tops)
+          (subst Tops (sym (ap (λ t. t.items) w.text-is)) w.in_ok-push_replies.ensures)
       | else-terms-gt0 w ↦
           asked-nothing (numbers_of i.format) i.collection i.parts c.if-terms-gt0.text.items (omega (arith, w.if-terms-gt0.false, c.terms.ensures)) (ap (λ t. t.items) w.text-is ∙ counted)
     ]

@@ -1,22 +1,20 @@
-use Rattle.std.proofs.Common.{◌∙◌, subst, List, ℕ, Err, Ok}
-use Rattle.std.proofs.lemmas.Result.{err_from_is_err_and}
+use Rattle.std.proofs.Common.{◌≡◌, sym, subst, rules, List, ℕ, Result, Err}
+use Rattle.pef_io.specs.declared.fail.IoFail.{IoFail}
+use Rattle.pef_io.specs.declared.fail.IoFail.TheVariants.{NoMemory}
 use Rattle.pef_io.specs.Helpers.{WritesAll}
 use Rattle.command_model.specs.SummaryLine.{summary_line}
-use Rattle.command_steps.proofs.PrintedLine.{not-made, not-printed, printed}
+use Rattle.command_steps.specs.PrintLine.{PrintsLine}
+use Rattle.command_steps.proofs.PrintedLine.{not-made, printed-or-not}
 use Rattle.command_steps.proofs.printing.print_summary.Goals as goal
 
 pub returns-in_err-line : goal.returns-in_err-line
 returns-in_err-line g c =
-    let p = err_from_is_err_and c.from_residual.result c.from_residual.ensures.1 in
-    rw (p.1, p.2, c.in_err-line.ensures.refused) (not-made (summary_line c.args.index.now) _)
-
-pub returns-in_err-write_all_own : goal.returns-in_err-write_all_own
-returns-in_err-write_all_own g c =
-    let p = err_from_is_err_and c.from_residual-in_err-write_all_own.result c.from_residual-in_err-write_all_own.ensures.1 in
-    let P : List ℕ → Type 0 = λ line. WritesAll (g.O.Sink.state c.args.out.now) (g.O.Sink.state c.write_all_own.new.sink) line (Err c.in_err-write_all_own.field-0.0) in
-    rw (p.1, p.2) (not-printed (summary_line c.args.index.now) _ _ _ (subst P (c.as_bytes.ensures.value ∙ c.in_ok-line.ensures.line) c.in_err-write_all_own.ensures))
+    let is : c.from_residual.result ≡ Err NoMemory = search rules in
+    let P : Result (Unit {0}) IoFail → Type 0 = λ r. PrintsLine (summary_line c.args.index.now) (g.O.Sink.state c.args.out.now) (g.O.Sink.state c.args.out.now) r in
+    subst P (sym is) (not-made (summary_line c.args.index.now) _)
 
 pub returns : goal.returns
 returns g c =
-    let P : List ℕ → Type 0 = λ line. WritesAll (g.O.Sink.state c.args.out.now) (g.O.Sink.state c.write_all_own.new.sink) line (Ok tt) in
-    printed (summary_line c.args.index.now) _ _ (subst P (c.as_bytes.ensures.value ∙ c.in_ok-line.ensures.line) c.in_ok-write_all_own.ensures)
+    let made : ◌≡◌ {A = List ℕ} c.as_bytes.result.now (summary_line c.args.index.now) = search rules in
+    let P : List ℕ → Type 0 = λ line. WritesAll (g.O.Sink.state c.args.out.now) (g.O.Sink.state c.write_all_own.new.sink) line c.write_all_own.result in
+    printed-or-not (summary_line c.args.index.now) _ _ _ (subst P made c.write_all_own.ensures)

@@ -1,11 +1,7 @@
-use Rattle.std.proofs.Common.{map}
-use Rattle.command_steps.proofs.CursorLists.{and-text, or-text}
+use Rattle.command_steps.proofs.CursorLists.{cursors-below}
 use Rattle.command_steps.proofs.reply.answer.Goals as goal
 
-pub returns-in-And : goal.returns-in-And
-returns-in-And g c = λ x documents lists.
-    and-text x c.args.query.now _ c.args.n (map g.C.DocCursor.list c.args.cursors.now) c.and_answer.result c.in-And.is documents lists (c.and_answer.ensures c.args.n c.requires.in_range)
-
-pub returns-in-Or : goal.returns-in-Or
-returns-in-Or g c = λ x documents lists.
-    or-text x c.args.query.now _ c.args.n (map g.C.DocCursor.list c.args.cursors.now) c.or_answer.result c.in-Or.is documents lists (c.or_answer.ensures c.args.n c.requires.in_range)
+pub answer_by-requires-clause-in_range : goal.answer_by-requires-clause-in_range
+answer_by-requires-clause-in_range g c =
+    cursors-below g.L.Cursor.DocCursor.list (g.L.TermLists.collection c.args.lists.now) c.args.query.now c.terms_of.result.now c.in_ok-cursors.cursors.items c.as_mut_slice.result.now
+    (g.met.L.TermLists.in_range c.args.lists.now) c.requires c.terms_of.ensures c.in_ok-cursors.ensures.lists c.as_mut_slice.ensures.value

@@ -3,7 +3,7 @@ use Rattle.command_steps.proofs.term_cursors.cursors_of.Goals as goal
 
 pub loop-term-preserved : goal.loop-term-preserved
 loop-term-preserved g c = record {
-  lists = lists-pushed g.L.Cursor.DocCursor.list (g.L.TermLists.collection c.args.lists.now) c.args.terms.now c.loop-term.term-index c.loop-term.cursors.items c.push.new.self.items c.cursor.result
-      c.loop-term.invariant.lists c.in_ok-push.ensures.items c.cursor.ensures.list c.loop-term-test.true;
-  start = starts-pushed g.L.Cursor.DocCursor.place c.loop-term.cursors.items c.push.new.self.items c.cursor.result c.loop-term.invariant.start c.in_ok-push.ensures.items c.cursor.ensures.start;
+  lists = lists-pushed g.L.Cursor.DocCursor.list (g.L.TermLists.collection c.args.lists.now) c.args.terms.now c.loop-term.term-index c.loop-term.cursors.items c.push.new.self.items c.in_ok-cursor.field-0
+      c.loop-term.invariant.lists c.in_ok-push.ensures.items c.in_ok-cursor.ensures.list c.loop-term-test.true;
+  start = starts-pushed g.L.Cursor.DocCursor.place c.loop-term.cursors.items c.push.new.self.items c.in_ok-cursor.field-0 c.loop-term.invariant.start c.in_ok-push.ensures.items c.in_ok-cursor.ensures.start;
 }

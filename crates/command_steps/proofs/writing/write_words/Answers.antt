@@ -1,26 +1,22 @@
-use Rattle.std.proofs.Common.{rules, ◌∙◌}
-use Rattle.std.proofs.lemmas.List.{nil_from_length}
 use Rattle.std.proofs.lemmas.Result.{err_from_is_err_and}
-use Rattle.std.specs.Slice.Iter.{chunks_rest}
-use Rattle.command_steps.proofs.WrittenFile.{begun, more, stopped, ended}
+use Rattle.collection_model.specs.Bytes.{word_bytes}
+use Rattle.command_steps.proofs.WrittenFile.{room-refused, create-refused, write-refused, finished}
 use Rattle.command_steps.proofs.writing.write_words.Goals as goal
 
-pub loop-part-init : goal.loop-part-init
-loop-part-init g c = (search rules, tt, search rules, begun _ _ _ (search rules))
-
-pub loop-part-preserved : goal.loop-part-preserved
-loop-part-preserved g c =
-    let steps = c.in-Some.ensures.steps in (
-      search rules,
-      tt,
-      steps.0 ∙ c.loop-part.invariant.2,
-      more _ _ _ _ _ c.in-Some.part.now (chunks_rest c.next.new.self) _ c.loop-part.invariant.3 steps.1.0 c.spell_into.ensures c.in_ok-depot_write_all.ensures,
-    )
-
-pub returns-in_err-depot_write_all : goal.returns-in_err-depot_write_all
-returns-in_err-depot_write_all g c =
+pub returns-in_err-piece : goal.returns-in_err-piece
+returns-in_err-piece g c =
     let p = err_from_is_err_and c.from_residual.result c.from_residual.ensures.1 in
-    rw (p.1, p.2) (stopped _ _ _ _ _ c.in-Some.part.now (chunks_rest c.next.new.self) _ _ c.loop-part.invariant.3 c.in-Some.ensures.steps.1.0 c.spell_into.ensures c.in_err-depot_write_all.ensures)
+    rw (p.1, p.2, c.in_err-piece.ensures.refused) (room-refused (word_bytes c.args.words.now) c.args.name.now _)
+
+pub returns-in_err-create : goal.returns-in_err-create
+returns-in_err-create g c =
+    let p = err_from_is_err_and c.from_residual-in_err-create.result c.from_residual-in_err-create.ensures.1 in
+    rw (p.1, p.2) (create-refused (word_bytes c.args.words.now) c.args.name.now _ _ _ c.in_err-create.ensures)
+
+pub returns-in_err-write_pieces : goal.returns-in_err-write_pieces
+returns-in_err-write_pieces g c =
+    let p = err_from_is_err_and c.from_residual-in_err-write_pieces.result c.from_residual-in_err-write_pieces.ensures.1 in
+    rw (p.1, p.2) (write-refused (word_bytes c.args.words.now) c.args.name.now _ _ _ _ c.in_ok-create.ensures c.in_err-write_pieces.ensures)
 
 pub returns : goal.returns
-returns g c = ended _ _ _ _ c.loop-part.invariant.3 (nil_from_length _ c.in-None.ensures.steps.1.0)
+returns g c = finished (word_bytes c.args.words.now) c.args.name.now _ _ _ _ _ c.in_ok-create.ensures c.in_ok-write_pieces.ensures c.finish.ensures

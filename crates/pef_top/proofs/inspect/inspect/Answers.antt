@@ -1,41 +1,34 @@
-use Rattle.std.proofs.Common.{sym, ◌∙◌, ap, Ok, Err}
+use Rattle.std.proofs.Common.{◌∙◌, ap, subst, Err}
+use Rattle.std.specs.Prelude.{IsTrue}
 use Rattle.std.proofs.lemmas.Result.{err_from_is_err_and}
-use Rattle.pef_top.specs.Private.Stops.{outcome_of}
-use Rattle.pef_top.proofs.IndexAnswered.{lent_are_found}
-use Rattle.pef_top.proofs.TextPrinted.{print_outcome}
+use Rattle.pef_top.specs.Outcome.{Outcome, is_refusal}
+use Rattle.pef_top.proofs.IndexLoaded.{lent_is_index, loaded_is_found}
+use Rattle.pef_top.proofs.IndexRefused.{refused}
+use Rattle.pef_top.proofs.TextPrinted.{print_told, no_print_refuses}
 use Rattle.pef_top.proofs.SummaryPrinted.{inspect_stops, inspect_ended}
-use Rattle.pef_top.proofs.IndexRefused.{refused_unloaded, refused_unopened}
 use Rattle.pef_top.proofs.inspect.inspect.Goals as goal
 
 pub returns-in_err-words-clause-leaves : goal.returns-in_err-words-clause-leaves
 returns-in_err-words-clause-leaves g c = λ i e e' n.
     let p = err_from_is_err_and c.from_residual.result c.from_residual.ensures.1 in
     inspect_stops c.args.index.now _ _ i _ e e' n _
-    (refused_unloaded c.args.index.now _ _ i _ e e' n c.load_index.result c.load_index.ensures c.from_residual.result _ c.in_err-words.was (p.1 ∙ ap Err p.2))
+    (refused c.args.index.now _ _ i _ e e' n c.words_and_bytes_undo_each_other.ensures.read c.one_broken_check.ensures _ c.in_err-words.ensures.refused
+    c.from_residual.result (p.1 ∙ ap Err p.2))
 
-pub returns-in_err-index-clause-leaves : goal.returns-in_err-index-clause-leaves
-returns-in_err-index-clause-leaves g c = λ i e e' n.
-    let p = err_from_is_err_and c.from_residual-in_err-index.result c.from_residual-in_err-index.ensures.1 in
-    inspect_stops c.args.index.now _ _ i _ e e' n _
-    (refused_unopened c.args.index.now _ _ i _ e e' n c.load_index.result c.load_index.ensures c.from_residual-in_err-index.result
-    c.words_and_bytes_undo_each_other.ensures.read c.one_broken_check.ensures c.in_ok-words.words c.deref.result.now _ c.in_ok-words.was c.deref.ensures.value
-    c.in_err-index.ensures.no_index c.in_err-index.ensures.first (p.1 ∙ ap Err p.2))
-
-pub returns-in_err-print_summary-clause-leaves : goal.returns-in_err-print_summary-clause-leaves
-returns-in_err-print_summary-clause-leaves g c = λ i e e' n.
-    let p = err_from_is_err_and c.from_residual-in_err-print_summary.result c.from_residual-in_err-print_summary.ensures.1 in
-    inspect_ended c.words_and_bytes_undo_each_other.ensures.read c.one_broken_check.ensures c.args.index.now _ _ i _ _ e e' n
-    c.load_index.result c.in_ok-words.words c.deref.result.now c.in_ok-index.index c.print_summary.result c.from_residual-in_err-print_summary.result
-    c.load_index.ensures c.in_ok-words.was c.deref.ensures.value c.in_ok-index.ensures.ok c.print_summary.ensures
-    (ap outcome_of (p.1 ∙ ap Err p.2) ∙ sym (ap print_outcome c.in_err-print_summary.was))
-
-pub returns-in_err-print_summary-clause-unaccepted : goal.returns-in_err-print_summary-clause-unaccepted
-returns-in_err-print_summary-clause-unaccepted g c = λ denied.
-    absurd (denied (lent_are_found c.words_and_bytes_undo_each_other.ensures.read c.one_broken_check.ensures c.args.index.now _ _
-    c.load_index.result c.in_ok-words.words c.deref.result.now c.in_ok-index.index c.load_index.ensures c.in_ok-words.was c.deref.ensures.value c.in_ok-index.ensures.ok))
+pub known-index-requires-clause-index : goal.known-index-requires-clause-index
+known-index-requires-clause-index g c = lent_is_index c.args.index.now _ _ _ _ c.in_ok-words.ensures.loaded c.deref.ensures.value
 
 pub returns-clause-leaves : goal.returns-clause-leaves
 returns-clause-leaves g c = λ i e e' n.
     inspect_ended c.words_and_bytes_undo_each_other.ensures.read c.one_broken_check.ensures c.args.index.now _ _ i _ _ e e' n
-    c.load_index.result c.in_ok-words.words c.deref.result.now c.in_ok-index.index c.print_summary.result (Ok tt)
-    c.load_index.ensures c.in_ok-words.was c.deref.ensures.value c.in_ok-index.ensures.ok c.print_summary.ensures (sym (ap print_outcome c.in_ok-print_summary.was))
+    c.in_ok-words.words.items c.deref.result.now c.known-index.result c.print_summary.result c.map_err.result
+    c.in_ok-words.ensures.loaded c.deref.ensures.value c.known-index.ensures.spells c.print_summary.ensures
+    (print_told c.print_summary.result c.map_err.result c.map_err.ensures.cases)
+
+pub returns-clause-refused : goal.returns-clause-refused
+returns-clause-refused g c = λ h.
+    let P : Outcome → Type 0 = λ x. IsTrue (is_refusal x) in
+    absurd (no_print_refuses c.print_summary.result (subst P (print_told c.print_summary.result c.map_err.result c.map_err.ensures.cases) h))
+
+pub returns-clause-unaccepted : goal.returns-clause-unaccepted
+returns-clause-unaccepted g c = λ denied. absurd (denied (loaded_is_found c.args.index.now _ _ _ c.in_ok-words.ensures.loaded))

@@ -62,3 +62,26 @@ returns-in-Migrate-clause-leaves g c = λ e e'.
     (outside (g.D.Depot.state c.migrate.new.depot) (g.I.Source.state c.args.input.now) (g.O.Sink.state c.args.out.now) e' c.migrate.new.steps) (outcome_of c.migrate.result) in
     subst P (sym (ap (λ x. Some (asked x)) c.in-Migrate.is) ∙ c.in_ok-command.ensures.command)
     (c.migrate.ensures (g.I.Source.state c.args.input.now) (g.O.Sink.state c.args.out.now) e e')
+
+pub returns-in-Audit-clause-leaves : goal.returns-in-Audit-clause-leaves
+returns-in-Audit-clause-leaves g c = λ e e'.
+    let P : Option Command → Type 0 = λ command. Leaves command
+    (outside (g.D.Depot.state c.args.depot.now) (g.I.Source.state c.args.input.now) (g.O.Sink.state c.args.out.now) e c.args.steps.now)
+    (outside (g.D.Depot.state c.audit.new.depot) (g.I.Source.state c.args.input.now) (g.O.Sink.state c.audit.new.out) e' c.audit.new.steps) (outcome_of c.audit.result) in
+    subst P (sym (ap (λ x. Some (asked x)) c.in-Audit.is) ∙ c.in_ok-command.ensures.command) (c.audit.ensures.leaves (g.I.Source.state c.args.input.now) e e')
+
+pub returns-in-Blocks-clause-leaves : goal.returns-in-Blocks-clause-leaves
+returns-in-Blocks-clause-leaves g c = λ e e'.
+    let P : Option Command → Type 0 = λ command. Leaves command
+    (outside (g.D.Depot.state c.args.depot.now) (g.I.Source.state c.args.input.now) (g.O.Sink.state c.args.out.now) e c.args.steps.now)
+    (outside (g.D.Depot.state c.write_blocks.new.depot) (g.I.Source.state c.args.input.now) (g.O.Sink.state c.args.out.now) e' c.args.steps.now) (outcome_of c.write_blocks.result) in
+    subst P (sym (ap (λ x. Some (asked x)) c.in-Blocks.is) ∙ c.in_ok-command.ensures.command)
+    (c.write_blocks.ensures (g.I.Source.state c.args.input.now) (g.O.Sink.state c.args.out.now) e e' c.args.steps.now)
+
+pub returns-in-Remap-clause-leaves : goal.returns-in-Remap-clause-leaves
+returns-in-Remap-clause-leaves g c = λ e e'.
+    let P : Option Command → Type 0 = λ command. Leaves command
+    (outside (g.D.Depot.state c.args.depot.now) (g.I.Source.state c.args.input.now) (g.O.Sink.state c.args.out.now) e c.args.steps.now)
+    (outside (g.D.Depot.state c.reorder.new.depot) (g.I.Source.state c.args.input.now) (g.O.Sink.state c.args.out.now) e' c.args.steps.now) (outcome_of c.reorder.result) in
+    subst P (sym (ap (λ x. Some (asked x)) c.in-Remap.is) ∙ c.in_ok-command.ensures.command)
+    (c.reorder.ensures (g.I.Source.state c.args.input.now) (g.O.Sink.state c.args.out.now) e e' c.args.steps.now)
