@@ -1,0 +1,69 @@
+#!/usr/bin/env python3
+"""Times the calls beside the process, on the same query lines: beside.py PROGRAM INDEX ASKED.
+
+ASKED is the built asked.c. For each verb lines of two terms are drawn, terms and documents with equal chances. The time of the process is the
+processor time of `PROGRAM query INDEX` over those lines, less that of a run without lines, which loads and checks the file; so it has the
+reading of the lines and the writing of the replies in it. The time of the library is that of the calls alone. Each is the least of three
+rounds, in nanoseconds a line. The table is one of Markdown. PROGRAM may have arguments of its own, in one word.
+"""
+import os
+import random
+import shlex
+import subprocess
+import sys
+import tempfile
+
+sys.path.insert(0, os.path.join(os.path.dirname(os.path.abspath(__file__)), "..", "python"))
+import pefidx
+
+ROUNDS = 3
+COUNTS = {"next": 100000, "and": 5000, "or": 2000, "top": 2000}
+
+
+def drawn(index, verb, count):
+    """Query lines of a verb."""
+    draw = random.Random(1)
+    made = []
+    for _ in range(count):
+        one, other = draw.randrange(index.terms), draw.randrange(index.terms)
+        if verb == "next":
+            made.append(f"next {one} {draw.randrange(index.documents)}\n")
+        elif verb == "top":
+            made.append(f"top 10 {one} {other}\n")
+        else:
+            made.append(f"{verb} {one} {other}\n")
+    return "".join(made).encode()
+
+
+def process_time(words, text):
+    """The processor time of a run over this text, in nanoseconds."""
+    with tempfile.TemporaryFile() as lines:
+        lines.write(text)
+        lines.seek(0)
+        process = subprocess.Popen(words, stdin=lines, stdout=subprocess.DEVNULL)
+        _, status, used = os.wait4(process.pid, 0)
+        process.returncode = os.waitstatus_to_exitcode(status)
+    if status:
+        sys.exit(f"{' '.join(words)}: ended with {process.returncode}")
+    return 1e9 * (used.ru_utime + used.ru_stime)
+
+
+def least(measure):
+    return min(measure() for _ in range(ROUNDS))
+
+
+def main():
+    program, path, asked = shlex.split(sys.argv[1]), sys.argv[2], sys.argv[3]
+    opened = least(lambda: process_time([*program, "query", path], b""))
+    print("| Line of two terms | Process, ns a line | Library, ns a call |\n|---|---|---|")
+    with pefidx.Index(path) as index:
+        for verb, count in COUNTS.items():
+            text = drawn(index, verb, count)
+            for plan, number in pefidx.PLANS.items() if verb == "top" else [("exhaustive", 0)]:
+                process = least(lambda: process_time([*program, "query", path, "--plan", plan], text)) - opened
+                called = least(lambda: float(subprocess.run([asked, path, str(number)], input=text, stdout=subprocess.PIPE, check=True).stdout))
+                name = f"`top 10`, {plan}" if verb == "top" else f"`{verb}`"
+                print(f"| {name} | {process / count:,.0f} | {called:,.0f} |")
+
+
+main()
