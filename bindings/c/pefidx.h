@@ -4,15 +4,15 @@
  *
  * What every caller owes:
  *
- * - `words` points to `count` words of 64 bits in the order of the machine, which is to be little-endian, aligned to 8 bytes. They are
- *   the bytes of an index file, which may be a map of the file, and stay as they are during a call.
- * - Every call but pefidx_check and pefidx_build takes words that pefidx_check has accepted, and that are the same since. This is not
- *   looked at again: over other words anything may happen. A file that is mapped must not be changed or cut by others meanwhile;
- *   the program pefidx never does, since it replaces files whole.
- * - No pointer is null, also where there are 0 items behind it, and what a call writes overlaps nothing else that it is given.
+ * - `words` points to `count` words of 64 bits, aligned to 8 bytes, in the byte order of the machine, which must be little-endian. They are
+ *   the bytes of an index file, for example a map of the file, and do not change during a call.
+ * - Every call but pefidx_check and pefidx_build takes words that pefidx_check has accepted and that have not changed since. This is not
+ *   checked again: with other words anything may happen. A file that is mapped must not be changed or cut by others meanwhile;
+ *   the program pefidx never does that, since it replaces files whole.
+ * - No pointer is null, even where it points to 0 items, and what a call writes overlaps nothing else that it is given.
  * - Calls that take memory, named below, take it by malloc and give it back before they return. They are not for signal handlers.
  *
- * What a caller gets: a status. Where it is none of PEFIDX_DONE and PEFIDX_ROOM, nothing was written, but what is named with the status.
+ * What a caller gets is a status. If it is neither PEFIDX_DONE nor PEFIDX_ROOM, nothing was written except what is named with the status.
  */
 #ifndef PEFIDX_H
 #define PEFIDX_H
@@ -93,7 +93,7 @@ typedef struct pefidx_bad_posting {
     uint64_t place;
 } pefidx_bad_posting;
 
-/* Looks at every word, and tells whether the words are an index, of either format. It takes no memory, and its time grows with the number
+/* Checks every word, and tells whether the words are an index, of either format. It takes no memory, and its time depends on the number
  * of words alone. Any words may be given.
  *
  * PEFIDX_DONE: they are one, and may be given to the calls below.
@@ -149,8 +149,8 @@ uint32_t pefidx_top(const uint64_t *words, size_t count, uint32_t plan, const ui
  * PEFIDX_DONE: the words stand in `words`, and *count is how many they are. They are an index of just these lists and sizes, and every
  *   sequence of it is cut into parts that cost at most 103/100 of the cheapest allowed cut.
  * PEFIDX_ROOM: *count is how many they are, which is more than room; the first `room` of them stand in `words`. It is then to be called
- *   again with that room, and does its work again; with room for as many words as there are postings, with 16 for each list and 1 for each
- *   document, it has not been seen.
+ *   again with that room, and does its work again. With room for as many words as there are postings, plus 16 for each list and 1 for each
+ *   document, this has not been seen to happen.
  * PEFIDX_TOO_MANY, PEFIDX_NOT_WHOLE: exactly then, and in this order.
  * PEFIDX_BAD_POSTING: exactly where, but for these, a list is no posting list; *bad is the first posting that cannot stand in its list.
  * PEFIDX_TOO_LARGE: the words would be more than 2^37; *count is how many.
