@@ -1,4 +1,4 @@
-ghost use Rattle.std.specs.Prelude.{◌≡◌, ℕ, ◌+◌, ◌≤◌, ◌<◌, List, [], length, slice_index};
+ghost use Rattle.std.specs.Prelude.{◌≡◌, ℕ, ◌+◌, ◌≤◌, ◌<◌, List, length, slice_index};
 ghost use Rattle.collection_model.specs.Collection.{greatest_freq};
 ghost use Rattle.collection_model.specs.NextBelow.{AreNextBelow};
 ghost use Rattle.collection_model.specs.Sequences.{steps_from, postings_in};
@@ -8,7 +8,6 @@ ghost use Rattle.postings.specs.Blocks.{AreSumsFrom};
 
 use crate::sums::Sums;
 use cursor_api::DocCursor;
-use part_cost::Format;
 use two_level::{SeqCursor, SeqView};
 
 /// A cursor over the two sequences of a list: its documents, and the sums of its frequencies. Only the documents are read while it
@@ -28,13 +27,6 @@ pub struct PostingCursor<'a> {
     ghost before: { past ≡ span.past sums.sequence.values sums.place },
     ghost cursor: { IsCursorAt (postings_in docs.sequence.values sums.sequence.values) docs.place },
     ghost greatest: { max ≡ greatest_freq (postings_in docs.sequence.values sums.sequence.values) },
-}
-
-// The sequence of no values.
-fn no_values<'a>() -> SeqView<'a>
-    ensures { result.values ≡ [] }
-{
-    SeqView::known(&[], 0, 0, Format::One)
 }
 
 // Turns the next sums into their frequencies, by one more than the sum before them, and gives one more than the last sum.
@@ -70,6 +62,16 @@ impl<'a> PostingCursor<'a> {
             past: 0,
             max,
         }
+    }
+
+    /// Goes to a place of the list that is no earlier, and may be the end. It goes there by the directory, and not posting by posting.
+    pub fn move_to(&mut self, place: u32)
+        requires later { ⟦<PostingCursor<'a> as DocCursor>⟧.place self.old ≤ place }
+        requires within { place ≤ length (⟦<PostingCursor<'a> as DocCursor>⟧.list self.old) }
+        ensures list { ⟦<PostingCursor<'a> as DocCursor>⟧.list self.new ≡ ⟦<PostingCursor<'a> as DocCursor>⟧.list self.old }
+        ensures place { ⟦<PostingCursor<'a> as DocCursor>⟧.place self.new ≡ place }
+    {
+        self.docs.move_to(place);
     }
 
     // Gives the documents from the place on that are below `end`, as many as there are and have room, and goes behind them. The
@@ -110,15 +112,6 @@ impl<'a> PostingCursor<'a> {
     {
         self.sums.values_below(u64::MAX, freqs);
         self.past = sums_to_freqs(freqs, self.past);
-    }
-}
-
-/// At an empty list.
-impl<'a> Default for PostingCursor<'a> {
-    ghost is_default = { λ c. (postings_in c.docs.sequence.values c.sums.sequence.values ≡ []) × (c.docs.place ≡ 0) };
-
-    fn default() -> PostingCursor<'a> {
-        PostingCursor::new(no_values(), no_values(), 0)
     }
 }
 
