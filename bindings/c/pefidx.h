@@ -116,11 +116,11 @@ uint32_t pefidx_size_of(const uint64_t *words, size_t count, uint32_t doc, uint3
  * It takes no memory. */
 uint32_t pefidx_next(const uint64_t *words, size_t count, uint32_t term, uint32_t doc, pefidx_posting *found);
 
-/* PEFIDX_DONE: the postings of the term's list whose documents are at least doc stand in `postings`, rising, as many as there are or
- * there is room for, and *given is how many these are. Where *given is room, the next ones are asked from one more than the last document on.
+/* PEFIDX_DONE: the postings of the term's list from `place` on stand in `postings`, as many as there are or there is room for, and *given
+ * is how many these are: 0 from the end of the list on. Places count from 0, so the next block begins at place + *given.
  * PEFIDX_NO_TERM: exactly where term is not below pefidx_terms.
  * It takes no memory. */
-uint32_t pefidx_postings(const uint64_t *words, size_t count, uint32_t term, uint32_t doc, pefidx_posting *postings, size_t room, size_t *given);
+uint32_t pefidx_postings(const uint64_t *words, size_t count, uint32_t term, uint32_t place, pefidx_posting *postings, size_t room, size_t *given);
 
 /* The documents that are in the lists of all the terms, rising; none where there are 0 terms. A term may stand more than once.
  *

@@ -206,22 +206,22 @@ class Index:
             return None
         return (found.doc, found.freq) if status == DONE else _refuse(status)
 
-    def blocks(self, term, doc=0, room=4096):
-        """The postings of a term whose documents are at least `doc`, block by block: each as documents and frequencies."""
-        words, term, doc = self._open(), _number(term), _number(doc)
+    def blocks(self, term, place=0, room=4096):
+        """The postings of a term from a place of its list on, block by block: each as documents and frequencies. Places count from 0."""
+        words, term, place = self._open(), _number(term), _number(place)
         room = max(1, room)
         while True:
             pairs, given = array.array("I", bytes(8 * room)), ctypes.c_size_t()
-            status = _lib.pefidx_postings(ctypes.addressof(words), len(words), term, doc, pairs.buffer_info()[0], room, given)
+            status = _lib.pefidx_postings(ctypes.addressof(words), len(words), term, place, pairs.buffer_info()[0], room, given)
             if status != DONE:
                 _refuse(status)
             if given.value < room:
                 del pairs[2 * given.value :]
             if given.value:
                 yield (_given(pairs[0::2]), _given(pairs[1::2]))
-            if given.value < room or pairs[-2] == MOST:
+            if given.value < room:
                 return
-            doc = pairs[-2] + 1
+            place += given.value
 
     def postings(self, term):
         """The documents and the frequencies of a term."""

@@ -67,11 +67,11 @@ int main(int argc, char **argv)
     begun = now();
     seen = 0;
     for (uint32_t term = 0; term < terms && seen < 100000000; term++) {
-        uint32_t doc = 0;
+        uint32_t place = 0;
         do {
-            pefidx_postings(words, count, term, doc, list, ROOM, &given);
+            pefidx_postings(words, count, term, place, list, ROOM, &given);
             seen += given;
-            doc = given ? list[given - 1].doc + 1 : 0;
+            place += (uint32_t)given;
         } while (given == ROOM);
     }
     printf("postings, for each of %llu %.2f\n", (unsigned long long)seen, (now() - begun) / (double)(seen ? seen : 1));

@@ -1,7 +1,6 @@
 ghost use Rattle.std.specs.Prelude.{◌≡◌, ◌≤◌, ◌<◌, ◌^◌, length, map, drop, min, slice_index, None, Some};
 ghost use Rattle.collection_model.specs.Collection.{list_of, first_at_least};
 ghost use Rattle.collection_model.specs.Collection as model;
-ghost use Rattle.cursor_api.specs.NextGeq.{next_geq_place};
 ghost use Rattle.index_file.specs.FileWords.{IsIndex};
 ghost use Rattle.pefidx_c.specs.Asked.{collection_in};
 ghost use Rattle.pefidx_c.specs.Rooms.{posting_of, put_in};
@@ -83,13 +82,13 @@ pub extern "C" fn pefidx_next(words: &[u64], term: u32, doc: u32, found: &mut Po
     }
 }
 
-/// The postings of a term's list whose documents are at least `doc`, as many as there is room for, and how many these are. The next of
-/// them are asked from one more than the last document on.
+/// The postings of a term's list from a place on, as many as there is room for, and how many these are. Places count from 0. From a
+/// place at or behind the end there are none.
 #[unsafe(no_mangle)]
 pub extern "C" fn pefidx_postings(
     words: &[u64],
     term: u32,
-    doc: u32,
+    place: u32,
     postings: &mut [Posting],
     count: &mut usize,
 ) -> u32
@@ -98,17 +97,17 @@ pub extern "C" fn pefidx_postings(
     ensures no_term { length (collection_in words.now).lists ≤ term
         → (result ≡ number_of Status.NoTerm) × (postings.new ≡ postings.old) × (count.new ≡ count.old) }
     ensures done { term < length (collection_in words.now).lists → result ≡ number_of Status.Done }
-    ensures count { let list = list_of (collection_in words.now) term in
-        term < length (collection_in words.now).lists → count.new ≡ min (length postings.old) (length (drop (next_geq_place list 0 doc) list)) }
-    ensures postings { let list = list_of (collection_in words.now) term in
-        term < length (collection_in words.now).lists → map posting_of postings.new ≡ put_in (map posting_of postings.old) (drop (next_geq_place list 0 doc) list) }
+    ensures count { term < length (collection_in words.now).lists
+        → count.new ≡ min (length postings.old) (length (drop place (list_of (collection_in words.now) term))) }
+    ensures postings { term < length (collection_in words.now).lists
+        → map posting_of postings.new ≡ put_in (map posting_of postings.old) (drop place (list_of (collection_in words.now) term)) }
 {
     let index = Index::known(words);
     if term >= index.terms() {
         return Status::NoTerm.number();
     }
     let mut cursor = index.cursor(term);
-    cursor.next_geq(doc);
+    cursor.move_to(place.min(cursor.len()));
     *count = take_postings(&mut cursor, postings);
     Status::Done.number()
 }

@@ -49,6 +49,8 @@ fn an_index_is_built_and_asked(rt: HostRuntime) -> Result<(), Fail> {
     let mut list = [found; 1];
     assert_eq!(&rt; pefidx_postings(words, 0, 0, &mut list, &mut given), 0);
     assert_eq!(&rt; (given, list[0].doc, list[0].freq), (1, 0, 2));
+    assert_eq!(&rt; pefidx_postings(words, 0, 1, &mut list, &mut given), 0);
+    assert_eq!(&rt; (given, list[0].doc, list[0].freq), (1, 2, 1));
     let mut docs = [7; 3];
     let mut matches = 0;
     assert_eq!(&rt;
