@@ -1,4 +1,5 @@
-// Each file of the three lists is cut at each byte.
+// Each file of the three lists is cut at each byte, and err fails at each of its writes.
+use crate::in_turn::{Turn, Turns, first_wrong};
 use pef_io::{MemSink, Op, Slot, SteadyDepot, SteadySink, SteadySource};
 use pef_top::Status;
 use run_tables::{ANSWER, BUILD, BUILD_ONE, THREE_LISTS, cut_files, run_words};
@@ -42,49 +43,53 @@ fn run_cut(
     Some((status, err))
 }
 
-/// The words of runs, and a file of the collection with its length in bytes.
-fn cases() -> [(&'static [&'static str], Slot, usize); 9] {
-    [
-        (&ANSWER, Slot::Docs, 28),
-        (&ANSWER, Slot::Freqs, 20),
-        (&ANSWER, Slot::Sizes, 12),
-        (&BUILD, Slot::Docs, 28),
-        (&BUILD, Slot::Freqs, 20),
-        (&BUILD, Slot::Sizes, 12),
-        (&BUILD_ONE, Slot::Docs, 28),
-        (&BUILD_ONE, Slot::Freqs, 20),
-        (&BUILD_ONE, Slot::Sizes, 12),
-    ]
+/// Runs of the words over the collection whose file of this slot is cut to so many bytes, where writes on err fail.
+#[derive(Drop)]
+struct Cut {
+    words: &'static [&'static str],
+    file: Slot,
+    length: usize,
 }
+
+impl Turns for Cut {
+    fn turn(&self, alloc: Global, failing: u64) -> Option<Turn> {
+        let line = fault_of_cut(self.file, self.length).as_bytes();
+        let (status, err) = run_cut(alloc, self.words, self.file, self.length, failing)?;
+        let made = failing <= err.calls();
+        let told = if made {
+            line.starts_with(err.bytes()) && err.bytes().len() < line.len()
+        } else {
+            err.bytes() == line
+        };
+        Some(Turn::of(made, told && status == Status::Collection))
+    }
+}
+
+/// The words of runs, and a file of the collection with its length in bytes.
+const CASES: [(&[&str], Slot, usize); 9] = [
+    (&ANSWER, Slot::Docs, 28),
+    (&ANSWER, Slot::Freqs, 20),
+    (&ANSWER, Slot::Sizes, 12),
+    (&BUILD, Slot::Docs, 28),
+    (&BUILD, Slot::Freqs, 20),
+    (&BUILD, Slot::Sizes, 12),
+    (&BUILD_ONE, Slot::Docs, 28),
+    (&BUILD_ONE, Slot::Freqs, 20),
+    (&BUILD_ONE, Slot::Sizes, 12),
+];
 
 #[test]
 fn each_cut_has_its_fault_and_err_may_fail(rt: HostRuntime) {
-    for (words, cut, whole) in cases() {
+    for (words, file, whole) in CASES {
         for length in 0..whole {
-            let line = fault_of_cut(cut, length).as_bytes();
-            let mut failed = 0;
-            for failing in 1..100 {
-                let run = run_cut(rt.alloc(), words, cut, length, failing);
-                let (status, err) = run.expect(&rt, "nothing is called or created");
-                assert_eq!(rt; status, Status::Collection, "{words:?} {cut:?} {length}");
-                if err.calls() < failing {
-                    assert_eq!(rt; err.bytes(), line, "{words:?} {cut:?} {length}");
-                    break;
-                }
-                assert!(rt;
-                    line.starts_with(err.bytes()),
-                    "{words:?} {cut:?} {length} {failing}"
-                );
-                assert!(rt;
-                    err.bytes().len() < line.len(),
-                    "{words:?} {cut:?} {length} {failing}"
-                );
-                failed = failing;
-            }
-            assert!(rt;
-                line.len() / 4 <= failed as usize && failed < 99,
-                "{words:?} {cut:?} {length}"
-            );
+            let least = fault_of_cut(file, length).len() as u64 / 4;
+            let cut = Cut {
+                words,
+                file,
+                length,
+            };
+            let wrong = first_wrong(rt.alloc(), &cut, least);
+            assert_eq!(rt; wrong, None, "{words:?} {file:?} {length}");
         }
     }
 }

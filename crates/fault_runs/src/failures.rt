@@ -1,6 +1,7 @@
 // Each call fails in turn.
 ghost use Rattle.std.specs.Prelude.{◌≤◌};
 
+use crate::in_turn::{Turn, Turns, first_wrong};
 use pef_io::{MemDepot, MemSink, MemSource, Op, Slot};
 use pef_top::Status;
 use run_tables::{
@@ -32,6 +33,25 @@ impl Failed {
             && self.input.calls() == 0
             && self.out.calls() == 0
     }
+
+    /// Whether the run did all, with this text on out, and did not call err.
+    pub(crate) fn prints(&self, text: &[u8]) -> bool {
+        self.status == Status::Done && self.out.bytes() == text && self.err.calls() == 0
+    }
+}
+
+/// Which calls fail: of the depot, reads of the input, writes on out.
+pub(crate) type Fails = (Vec<(Op, u64)>, Vec<u64>, Vec<u64>);
+
+/// No call fails.
+pub(crate) fn no_fails(alloc: Global) -> Fails {
+    (Vec::new(alloc), Vec::new(alloc), Vec::new(alloc))
+}
+
+/// This call of the depot fails.
+pub(crate) fn failing_call(alloc: Global, op: Op, failing: u64) -> Option<Fails> {
+    let calls = vec![in alloc; (op, failing)].ok()?;
+    Some((calls, Vec::new(alloc), Vec::new(alloc)))
 }
 
 /// Runs the words over the text where each call moves at most `most` bytes, and the calls with these numbers
@@ -42,7 +62,7 @@ pub(crate) fn run_failing(
     files: FileList,
     text: &[u8],
     most: usize,
-    fails: (Vec<(Op, u64)>, Vec<u64>, Vec<u64>),
+    fails: Fails,
 ) -> Option<Failed>
     requires { 1 ≤ most }
 {
@@ -81,80 +101,99 @@ pub(crate) fn line_of(op: Op) -> (&'static str, u64) {
     }
 }
 
-#[test]
-fn calls_on_the_files_fail_in_turn(rt: HostRuntime) {
-    for op in OPS {
-        let (line, least) = line_of(op);
-        let mut failed = 0;
-        for failing in 1..100 {
-            let alloc = rt.alloc();
-            let held = files_of(alloc, THREE_LISTS).expect(&rt, "memory");
-            let fails = vec![in alloc; (op, failing)].expect(&rt, "memory");
-            let none = (fails, Vec::new(alloc), Vec::new(alloc));
-            let run = run_failing(alloc, &ANSWER, held, TEXT, 4, none).expect(&rt, "memory");
-            if run.depot.calls(op) < failing {
-                assert_eq!(rt; run.status, Status::Done, "{op:?} {failing}");
-                assert_eq!(rt; run.out.bytes(), REPLIES, "{op:?} {failing}");
-                assert_eq!(rt; run.err.calls(), 0, "{op:?} {failing}");
-                break;
-            }
-            assert!(rt; run.ends(Status::Read, line), "{op:?} {failing}");
-            assert_eq!(rt; run.depot.calls(Op::Create), 0, "{op:?} {failing}");
-            failed = failing;
-        }
-        assert!(rt; least <= failed && failed < 99, "{op:?}");
+/// Runs that answer from the three lists, where calls of a kind fail.
+#[derive(Drop)]
+struct Answering {
+    op: Op,
+}
+
+impl Turns for Answering {
+    fn turn(&self, alloc: Global, failing: u64) -> Option<Turn> {
+        let held = files_of(alloc, THREE_LISTS)?;
+        let fails = failing_call(alloc, self.op, failing)?;
+        let run = run_failing(alloc, &ANSWER, held, TEXT, 4, fails)?;
+        let made = failing <= run.depot.calls(self.op);
+        let right = if made {
+            run.ends(Status::Read, line_of(self.op).0) && run.depot.calls(Op::Create) == 0
+        } else {
+            run.prints(REPLIES)
+        };
+        Some(Turn::of(made, right))
     }
 }
 
 #[test]
+fn calls_on_the_files_fail_in_turn(rt: HostRuntime) {
+    for op in OPS {
+        let wrong = first_wrong(rt.alloc(), &Answering { op }, line_of(op).1);
+        assert_eq!(rt; wrong, None, "{op:?}");
+    }
+}
+
+/// How a run ends where a read of the input fails, where a write on out does, and where nothing fails.
+const READ: (Status, &str) = (Status::Read, "read fault: input\n");
+
+const WRITE: (Status, &str) = (Status::Write, "write fault: out\n");
+
+const DONE: (Status, &str) = (Status::Done, "");
+
+/// The read of the input and the write on out that fail, how the run ends, and what is written on out.
+const STREAMS: [(u64, u64, (Status, &str), &str); 16] = [
+    (1, 0, READ, ""),
+    (2, 0, READ, ""),
+    (3, 0, READ, ""),
+    (4, 0, READ, "end\n"),
+    (5, 0, READ, "end\n"),
+    (6, 0, READ, "end\n2 0 1\n"),
+    (7, 0, READ, "end\n2 0 1\n1 0\n"),
+    (8, 0, READ, "end\n2 0 1\n1 0\n"),
+    (9, 0, READ, "end\n2 0 1\n1 0\n"),
+    (10, 0, DONE, "end\n2 0 1\n1 0\n0 1\n"),
+    (0, 1, WRITE, ""),
+    (0, 2, WRITE, "end\n"),
+    (0, 3, WRITE, "end\n2 0 "),
+    (0, 4, WRITE, "end\n2 0 1\n"),
+    (0, 5, WRITE, "end\n2 0 1\n1 0\n"),
+    (0, 6, DONE, "end\n2 0 1\n1 0\n0 1\n"),
+];
+
+/// The words of runs over the three lists, and those of the file `y`.
+const OVER: [(&[&str], &[u64]); 3] = [
+    (&ANSWER, &[]),
+    (&QUERY, &THREE_LISTS_WORDS),
+    (&QUERY, &THREE_LISTS_WORDS_OF_TWO),
+];
+
+/// Whether a run of these words over the three lists and the file `y` ends so, where this read of the input and this write on out
+/// fail.
+fn ends_so(
+    alloc: Global,
+    over: (&[&str], &[u64]),
+    fails: (u64, u64),
+    ending: (Status, &str),
+    replies: &str,
+) -> Option<bool> {
+    let held = with_index(alloc, over.1)?;
+    let reads = vec![in alloc; fails.0].ok()?;
+    let writes = vec![in alloc; fails.1].ok()?;
+    let run = run_failing(
+        alloc,
+        over.0,
+        held,
+        TEXT,
+        4,
+        (Vec::new(alloc), reads, writes),
+    )?;
+    let told = run.err.bytes() == ending.1.as_bytes() && run.out.bytes() == replies.as_bytes();
+    Some(told && run.status == ending.0)
+}
+
+#[test]
 fn reads_of_the_input_and_writes_on_out_fail_in_turn(rt: HostRuntime) {
-    let read = (Status::Read, "read fault: input\n");
-    let write = (Status::Write, "write fault: out\n");
-    let done = (Status::Done, "");
-    for (failing_read, failing_write, (status, line), replies) in [
-        (1, 0, read, ""),
-        (2, 0, read, ""),
-        (3, 0, read, ""),
-        (4, 0, read, "end\n"),
-        (5, 0, read, "end\n"),
-        (6, 0, read, "end\n2 0 1\n"),
-        (7, 0, read, "end\n2 0 1\n1 0\n"),
-        (8, 0, read, "end\n2 0 1\n1 0\n"),
-        (9, 0, read, "end\n2 0 1\n1 0\n"),
-        (10, 0, done, "end\n2 0 1\n1 0\n0 1\n"),
-        (0, 1, write, ""),
-        (0, 2, write, "end\n"),
-        (0, 3, write, "end\n2 0 "),
-        (0, 4, write, "end\n2 0 1\n"),
-        (0, 5, write, "end\n2 0 1\n1 0\n"),
-        (0, 6, done, "end\n2 0 1\n1 0\n0 1\n"),
-    ] {
-        for (words, index) in [
-            (ANSWER, [].as_slice()),
-            (QUERY, THREE_LISTS_WORDS.as_slice()),
-            (QUERY, THREE_LISTS_WORDS_OF_TWO.as_slice()),
-        ] {
-            let alloc = rt.alloc();
-            let held = with_index(alloc, index).expect(&rt, "memory");
-            let reads = vec![in alloc; failing_read].expect(&rt, "memory");
-            let writes = vec![in alloc; failing_write].expect(&rt, "memory");
-            let fails = (Vec::new(alloc), reads, writes);
-            let run = run_failing(alloc, &words, held, TEXT, 4, fails).expect(&rt, "memory");
-            assert_eq!(rt;
-                run.status,
-                status,
-                "{words:?} {failing_read} {failing_write}"
-            );
-            assert_eq!(rt;
-                run.err.bytes(),
-                line.as_bytes(),
-                "{words:?} {failing_read} {failing_write}"
-            );
-            assert_eq!(rt;
-                run.out.bytes(),
-                replies.as_bytes(),
-                "{words:?} {failing_read} {failing_write}"
-            );
+    for (read, write, ending, replies) in STREAMS {
+        for over in OVER {
+            let right = ends_so(rt.alloc(), over, (read, write), ending, replies);
+            assert_eq!(rt; right, Some(true), "{over:?} {read} {write}");
         }
     }
 }
@@ -172,6 +211,18 @@ fn the_second_write_of_two_bytes_fails(rt: HostRuntime) {
     assert_eq!(rt; run.out.bytes(), b"2 ".as_slice());
 }
 
+/// Whether a run of these words over the one list without this one of its files ends with this line, and creates nothing.
+fn misses(alloc: Global, words: &[&str], missing: usize, line: &str) -> Option<bool> {
+    let mut held = files_of(alloc, ONE_LIST)?;
+    if held.len() <= missing {
+        return None;
+    }
+    held.remove(missing);
+    let run = run_failing(alloc, words, held, TEXT, 4, no_fails(alloc))?;
+    let untouched = run.depot.calls(Op::Create) == 0 && run.depot.file("y").is_none();
+    Some(untouched && run.ends(Status::Read, line))
+}
+
 #[test]
 fn a_missing_file_is_a_read_fault(rt: HostRuntime) {
     for words in [ANSWER.as_slice(), BUILD.as_slice(), BUILD_ONE.as_slice()] {
@@ -180,15 +231,8 @@ fn a_missing_file_is_a_read_fault(rt: HostRuntime) {
             (1, "read fault: freqs\n"),
             (2, "read fault: sizes\n"),
         ] {
-            let alloc = rt.alloc();
-            let mut held = files_of(alloc, ONE_LIST).expect(&rt, "memory");
-            assert!(rt; missing < held.len());
-            held.remove(missing);
-            let none = (Vec::new(alloc), Vec::new(alloc), Vec::new(alloc));
-            let run = run_failing(alloc, words, held, TEXT, 4, none).expect(&rt, "memory");
-            assert!(rt; run.ends(Status::Read, line), "{words:?} {missing}");
-            assert_eq!(rt; run.depot.calls(Op::Create), 0, "{words:?} {missing}");
-            assert_eq!(rt; run.depot.file("y"), None, "{words:?} {missing}");
+            let right = misses(rt.alloc(), words, missing, line);
+            assert_eq!(rt; right, Some(true), "{words:?} {missing}");
         }
     }
 }
@@ -197,7 +241,6 @@ fn a_missing_file_is_a_read_fault(rt: HostRuntime) {
 fn a_missing_index_is_a_read_fault(rt: HostRuntime) {
     let alloc = rt.alloc();
     let held = files_of(alloc, ONE_LIST).expect(&rt, "memory");
-    let none = (Vec::new(alloc), Vec::new(alloc), Vec::new(alloc));
-    let run = run_failing(alloc, &QUERY, held, TEXT, 4, none).expect(&rt, "memory");
+    let run = run_failing(alloc, &QUERY, held, TEXT, 4, no_fails(alloc)).expect(&rt, "memory");
     assert!(rt; run.ends(Status::Read, "read fault: index\n"));
 }

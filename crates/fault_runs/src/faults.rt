@@ -4,13 +4,13 @@ use part_cost::Format;
 use pef_io::{Op, Slot};
 use pef_top::{BuildError, Status};
 use run_tables::{
-    ANSWER, BUILD, BUILD_ONE, Numbers, ONE_LIST, built, cut_files, files_of, full_list,
+    ANSWER, BUILD, BUILD_ONE, FileList, Numbers, built, cut_files, files_of, full_list,
     run_to_replies, steady_run,
 };
 use std::alloc::Global;
 
-/// What a fault is called on the error output.
-fn name_of(alloc: Global, fault: Fault) -> Option<String> {
+/// The line of a fault on the error output.
+fn line_of(alloc: Global, fault: Fault) -> Option<String> {
     let Fault {
         rule,
         file,
@@ -25,152 +25,191 @@ fn name_of(alloc: Global, fault: Fault) -> Option<String> {
         Slot::Side => "side",
         Slot::Map => "map",
     };
-    format!(in alloc; "{rule:?} {file} term {term} place {place}").ok()
+    format!(in alloc; "collection {rule:?} {file} term {term} place {place}\n").ok()
 }
+
+/// The numbers of the one list.
+const DOCS: &[u32] = &[1, 3, 2, 0, 2];
+
+const FREQS: &[u32] = &[2, 1, 5];
+
+const SIZES: &[u32] = &[3, 4, 0, 7];
+
+/// No file is cut.
+const WHOLE: (Slot, usize) = (Slot::Index, 0);
+
+/// The numbers of the three files of a broken collection, the file that is cut and to how many bytes, and the line of its first
+/// fault.
+const BROKEN: [([&[u32]; 3], (Slot, usize), &str); 14] = [
+    (
+        [&[1, 268_435_455], &[], &[]],
+        WHOLE,
+        "collection C1 sizes term 0 place 0\n",
+    ),
+    (
+        [&[1, 5, 2, 4, 4], &[2, 1, 1], &[5, 0, 0, 0, 0, 0]],
+        WHOLE,
+        "collection C5 docs term 0 place 1\n",
+    ),
+    (
+        [&[1, 5, 2, 4, 3], &[2, 1, 1], &[5, 0, 0, 0, 0, 0]],
+        WHOLE,
+        "collection C5 docs term 0 place 1\n",
+    ),
+    (
+        [&[1, 3, 1, 3], &[1, 1], &[3, 0, 0, 0]],
+        WHOLE,
+        "collection C4 docs term 0 place 0\n",
+    ),
+    (
+        [DOCS, &[2, 1, 0], SIZES],
+        WHOLE,
+        "collection C7 freqs term 0 place 1\n",
+    ),
+    (
+        [&[1, 3], FREQS, SIZES],
+        (Slot::Docs, 6),
+        "collection C1 docs term 0 place 0\n",
+    ),
+    (
+        [&[2, 3, 2, 0, 2], FREQS, SIZES],
+        WHOLE,
+        "collection C2 docs term 0 place 0\n",
+    ),
+    (
+        [&[2], &[], &[]],
+        WHOLE,
+        "collection C2 docs term 0 place 0\n",
+    ),
+    (
+        [&[1, 3, u32::MAX], &[], SIZES],
+        WHOLE,
+        "collection C1 docs term 0 place 0\n",
+    ),
+    (
+        [DOCS, &[], SIZES],
+        WHOLE,
+        "collection C1 freqs term 0 place 0\n",
+    ),
+    (
+        [DOCS, &[2, 1, 5, 0], SIZES],
+        WHOLE,
+        "collection C10 freqs term 1 place 0\n",
+    ),
+    (
+        [DOCS, &[3, 1, 5, 1], SIZES],
+        WHOLE,
+        "collection C6 freqs term 0 place 0\n",
+    ),
+    (
+        [DOCS, FREQS, &[2, 4, 0]],
+        WHOLE,
+        "collection C11 sizes term 1 place 0\n",
+    ),
+    (
+        [DOCS, FREQS, &[3, 4, 0, 7, 0]],
+        (Slot::Sizes, 17),
+        "collection C12 sizes term 1 place 3\n",
+    ),
+];
 
 /// The numbers of three files.
 fn numbers<'a>(docs: &'a [u32], freqs: &'a [u32], sizes: &'a [u32]) -> Numbers<'a> {
     Numbers { docs, freqs, sizes }
 }
 
-#[test]
-fn broken_collections_are_named(rt: HostRuntime) {
-    let one = ONE_LIST;
-    let whole = (Slot::Index, 0);
-    for (numbers, cut, line) in [
-        (
-            numbers(&[1, 268_435_455], &[], &[]),
-            whole,
-            "C1 sizes term 0 place 0",
-        ),
-        (
-            numbers(&[1, 5, 2, 4, 4], &[2, 1, 1], &[5, 0, 0, 0, 0, 0]),
-            whole,
-            "C5 docs term 0 place 1",
-        ),
-        (
-            numbers(&[1, 5, 2, 4, 3], &[2, 1, 1], &[5, 0, 0, 0, 0, 0]),
-            whole,
-            "C5 docs term 0 place 1",
-        ),
-        (
-            numbers(&[1, 3, 1, 3], &[1, 1], &[3, 0, 0, 0]),
-            whole,
-            "C4 docs term 0 place 0",
-        ),
-        (
-            numbers(one.docs, &[2, 1, 0], one.sizes),
-            whole,
-            "C7 freqs term 0 place 1",
-        ),
-        (
-            numbers(&[1, 3], one.freqs, one.sizes),
-            (Slot::Docs, 6),
-            "C1 docs term 0 place 0",
-        ),
-        (
-            numbers(&[2, 3, 2, 0, 2], one.freqs, one.sizes),
-            whole,
-            "C2 docs term 0 place 0",
-        ),
-        (numbers(&[2], &[], &[]), whole, "C2 docs term 0 place 0"),
-        (
-            numbers(&[1, 3, u32::MAX], &[], one.sizes),
-            whole,
-            "C1 docs term 0 place 0",
-        ),
-        (
-            numbers(one.docs, &[], one.sizes),
-            whole,
-            "C1 freqs term 0 place 0",
-        ),
-        (
-            numbers(one.docs, &[2, 1, 5, 0], one.sizes),
-            whole,
-            "C10 freqs term 1 place 0",
-        ),
-        (
-            numbers(one.docs, &[3, 1, 5, 1], one.sizes),
-            whole,
-            "C6 freqs term 0 place 0",
-        ),
-        (
-            numbers(one.docs, one.freqs, &[2, 4, 0]),
-            whole,
-            "C11 sizes term 1 place 0",
-        ),
-        (
-            numbers(one.docs, one.freqs, &[3, 4, 0, 7, 0]),
-            (Slot::Sizes, 17),
-            "C12 sizes term 1 place 3",
-        ),
-    ] {
-        for words in [ANSWER.as_slice(), BUILD.as_slice(), BUILD_ONE.as_slice()] {
-            let alloc = rt.alloc();
-            let files = cut_files(alloc, numbers, cut.0, cut.1).expect(&rt, "memory");
-            let run = steady_run(alloc, words, files, b"next 0 1").expect(&rt, "memory");
-            let wanted = format!(in alloc; "collection {line}\n").expect(&rt, "memory");
-            assert!(rt; run.ends(Status::Collection, &wanted), "{words:?} {line}");
-            assert_eq!(rt; run.depot.calls(Op::Create), 0, "{words:?} {line}");
-        }
-        let alloc = rt.alloc();
-        let files = cut_files(alloc, numbers, cut.0, cut.1).expect(&rt, "memory");
-        let words = built(alloc, files, Format::One).expect(&rt, "memory");
-        let Err(BuildError::Broken(fault)) = words else {
-            panic!(rt; "{line}")
-        };
-        let name = name_of(alloc, fault).expect(&rt, "memory");
-        assert_eq!(rt; name.as_bytes(), line.as_bytes());
+/// Whether the run of these words over these files ends with this line, and creates no file.
+fn is_named(alloc: Global, words: &[&str], files: FileList, line: &str) -> Option<bool> {
+    let run = steady_run(alloc, words, files, b"next 0 1")?;
+    Some(run.ends(Status::Collection, line) && run.depot.calls(Op::Create) == 0)
+}
+
+/// The line of the fault for which no words are built of these files; none where they are, or for another cause.
+fn line_of_build(alloc: Global, files: FileList) -> Option<String> {
+    match built(alloc, files, Format::One)? {
+        Err(BuildError::Broken(fault)) => line_of(alloc, fault),
+        _ => None,
     }
 }
 
-// A collection that the first format refuses may be one of the second, or break another rule there. The sums of the full lists
-// are 2^36, 2^48, and one more than each.
+#[test]
+fn broken_collections_are_named(rt: HostRuntime) {
+    for ([docs, freqs, sizes], (file, length), line) in BROKEN {
+        let alloc = rt.alloc();
+        let numbers = numbers(docs, freqs, sizes);
+        for words in [ANSWER.as_slice(), BUILD.as_slice(), BUILD_ONE.as_slice()] {
+            let files = cut_files(alloc, numbers, file, length).expect(&rt, "memory");
+            let named = is_named(alloc, words, files, line);
+            assert_eq!(rt; named, Some(true), "{words:?} {line}");
+        }
+        let files = cut_files(alloc, numbers, file, length).expect(&rt, "memory");
+        let found = line_of_build(alloc, files).expect(&rt, "a broken collection");
+        assert_eq!(rt; found.as_bytes(), line.as_bytes());
+    }
+}
+
+/// Whether a run of these words over these numbers, and its replies to two lines, end so: with this line, or well where it is empty.
+fn end_so(
+    alloc: Global,
+    words: &[&str],
+    numbers: Numbers<'_>,
+    line: &str,
+    replies: &str,
+) -> Option<bool> {
+    let files = files_of(alloc, numbers)?;
+    let run = run_to_replies(alloc, words, files, b"next 0 16\nnext 0 65536")?;
+    let status = if line.is_empty() {
+        Status::Done
+    } else {
+        Status::Collection
+    };
+    let told = run.err.bytes() == line.as_bytes() && run.out.bytes() == replies.as_bytes();
+    Some(told && run.status == status)
+}
+
+/// More documents than a format has room for, or than there are sizes for: the numbers of documents and of sizes, the words of a
+/// run, and its line.
+const MANY: [([&[u32]; 2], &[&str], &str); 6] = [
+    ([&[1, 268_435_456], &[]], &ANSWER, NO_SIZES),
+    ([&[1, 268_435_456], &[]], &BUILD, NO_SIZES),
+    ([&[1, 268_435_456], &[]], &BUILD_ONE, MANY_DOCUMENTS),
+    ([&[1, u32::MAX], &[u32::MAX]], &ANSWER, NO_SIZES),
+    ([&[1, u32::MAX], &[u32::MAX]], &BUILD, NO_SIZES),
+    ([&[1, u32::MAX], &[u32::MAX]], &BUILD_ONE, MANY_DOCUMENTS),
+];
+
+const NO_SIZES: &str = "collection C1 sizes term 0 place 0\n";
+
+const MANY_DOCUMENTS: &str = "collection C3 docs term 0 place 0\n";
+
+/// Full lists whose sums are 2^36, 2^48, and one more than each: the last document and how often it is there, the words of a run, its
+/// line and its replies.
+const SUMS: [(u32, u32, &[&str], &str, &str); 8] = [
+    (16, 16, &BUILD_ONE, "", "16 16\nend\n"),
+    (16, 17, &ANSWER, "", "16 17\nend\n"),
+    (16, 17, &BUILD, "", "16 17\nend\n"),
+    (16, 17, &BUILD_ONE, LARGE_SUM_OF_ONE, ""),
+    (65_536, 65_536, &BUILD, "", "16 4294967295\n65536 65536\n"),
+    (65_536, 65_536, &BUILD_ONE, LARGE_SUM_OF_ONE, ""),
+    (65_536, 65_537, &ANSWER, LARGE_SUM_OF_TWO, ""),
+    (65_536, 65_537, &BUILD, LARGE_SUM_OF_TWO, ""),
+];
+
+const LARGE_SUM_OF_ONE: &str = "collection C8 freqs term 0 place 16\n";
+
+const LARGE_SUM_OF_TWO: &str = "collection C8 freqs term 0 place 65536\n";
+
+// A collection that the first format refuses may be one of the second, or break another rule there.
 #[test]
 fn limits_of_a_run_are_those_of_its_format(rt: HostRuntime) {
     let alloc = rt.alloc();
-    let first_greatest = full_list(alloc, 16, u32::MAX, 16).expect(&rt, "memory");
-    let above_first = full_list(alloc, 16, u32::MAX, 17).expect(&rt, "memory");
-    let second_greatest = full_list(alloc, 65_536, u32::MAX, 65_536).expect(&rt, "memory");
-    let above_second = full_list(alloc, 65_536, u32::MAX, 65_537).expect(&rt, "memory");
-    let many = numbers(&[1, 268_435_456], &[], &[]);
-    let most = numbers(&[1, u32::MAX], &[], &[u32::MAX]);
-    let [answer, build, build_one] = [ANSWER.as_slice(), BUILD.as_slice(), BUILD_ONE.as_slice()];
-    let sizes = "collection C1 sizes term 0 place 0\n";
-    let c3 = "collection C3 docs term 0 place 0\n";
-    let c8_first = "collection C8 freqs term 0 place 16\n";
-    let c8_second = "collection C8 freqs term 0 place 65536\n";
-    for (numbers, words, line, replies) in [
-        (many, answer, sizes, ""),
-        (many, build, sizes, ""),
-        (many, build_one, c3, ""),
-        (most, answer, sizes, ""),
-        (most, build, sizes, ""),
-        (most, build_one, c3, ""),
-        (first_greatest.numbers(), build_one, "", "16 16\nend\n"),
-        (above_first.numbers(), answer, "", "16 17\nend\n"),
-        (above_first.numbers(), build, "", "16 17\nend\n"),
-        (above_first.numbers(), build_one, c8_first, ""),
-        (
-            second_greatest.numbers(),
-            build,
-            "",
-            "16 4294967295\n65536 65536\n",
-        ),
-        (second_greatest.numbers(), build_one, c8_first, ""),
-        (above_second.numbers(), answer, c8_second, ""),
-        (above_second.numbers(), build, c8_second, ""),
-    ] {
-        let files = files_of(alloc, numbers).expect(&rt, "memory");
-        let text = b"next 0 16\nnext 0 65536";
-        let run = run_to_replies(alloc, words, files, text).expect(&rt, "memory");
-        let status = if line.is_empty() {
-            Status::Done
-        } else {
-            Status::Collection
-        };
-        assert_eq!(rt; run.status, status, "{words:?} {line}");
-        assert_eq!(rt; run.err.bytes(), line.as_bytes(), "{words:?} {line}");
-        assert_eq!(rt; run.out.bytes(), replies.as_bytes(), "{words:?} {line}");
+    for ([docs, sizes], words, line) in MANY {
+        let right = end_so(alloc, words, numbers(docs, &[], sizes), line, "");
+        assert_eq!(rt; right, Some(true), "{words:?} {line}");
+    }
+    for (count, last, words, line, replies) in SUMS {
+        let list = full_list(alloc, count, u32::MAX, last).expect(&rt, "memory");
+        let right = end_so(alloc, words, list.numbers(), line, replies);
+        assert_eq!(rt; right, Some(true), "{words:?} {count} {last}");
     }
 }

@@ -9,6 +9,8 @@ mod failures;
 #[cfg(test)]
 mod faults;
 #[cfg(test)]
+mod in_turn;
+#[cfg(test)]
 mod index_failures;
 #[cfg(test)]
 mod maps;

@@ -1,114 +1,69 @@
-// Each write on out of `inspect`, of `generate` and of `audit` fails in turn; out takes four bytes a call, and one of `audit`.
+// Each write on out of `inspect`, of `generate` and of `audit` fails in turn.
 use crate::failures::run_failing;
+use crate::in_turn::{Turn, Turns, first_wrong};
 use pef_top::Status;
 use run_tables::{
     AUDIT, GENERATED_TEXT, INSPECT, THREE_LISTS_AUDIT, THREE_LISTS_AUDIT_OF_TWO, THREE_LISTS_LINE,
     THREE_LISTS_LINE_OF_TWO, THREE_LISTS_WORDS, THREE_LISTS_WORDS_OF_TWO, bytes_of, only_index,
 };
+use std::alloc::Global;
 
-#[test]
-fn writes_of_an_inspection_fail_in_turn(rt: HostRuntime) {
-    let one = THREE_LISTS_WORDS.as_slice();
-    let two = THREE_LISTS_WORDS_OF_TWO.as_slice();
-    for (words, line) in [(one, THREE_LISTS_LINE), (two, THREE_LISTS_LINE_OF_TWO)] {
-        let mut failed = 0;
-        for failing in 1..100 {
-            let alloc = rt.alloc();
-            let bytes = bytes_of(alloc, words).expect(&rt, "memory");
-            let files = only_index(alloc, bytes.as_slice()).expect(&rt, "memory");
-            let fails = vec![in alloc; failing as u64].expect(&rt, "memory");
-            let fails = (Vec::new(alloc), Vec::new(alloc), fails);
-            let run = run_failing(alloc, &INSPECT, files, b"or 0", 4, fails).expect(&rt, "memory");
-            assert_eq!(rt; run.input.calls(), 0, "{failing}");
-            if run.out.calls() < failing as u64 {
-                assert_eq!(rt; run.status, Status::Done, "{failing}");
-                assert_eq!(rt; run.out.bytes(), line.as_bytes(), "{failing}");
-                assert_eq!(rt; run.err.calls(), 0, "{failing}");
-                break;
-            }
-            assert_eq!(rt; run.status, Status::Write, "{failing}");
-            assert_eq!(rt;
-                Some(run.out.bytes()),
-                line.as_bytes().get(..4 * (failing - 1)),
-                "{failing}"
-            );
-            assert_eq!(rt;
-                run.err.bytes(),
-                b"write fault: out\n".as_slice(),
-                "{failing}"
-            );
-            failed = failing;
-        }
-        assert!(rt; line.len() / 4 <= failed && failed < 99);
+/// The words of a run that tells of a generated collection.
+const GENERATE: [&str; 5] = ["pefidx", "generate", "1", "3", "2"];
+
+/// Runs that print a text over the index of these words, where a write on out takes at most `most` bytes, and writes fail.
+#[derive(Drop)]
+struct Printing {
+    words: &'static [&'static str],
+    index: &'static [u64],
+    most: usize,
+    text: &'static str,
+}
+
+impl Turns for Printing {
+    fn turn(&self, alloc: Global, failing: u64) -> Option<Turn> {
+        let bytes = bytes_of(alloc, self.index)?;
+        let files = only_index(alloc, bytes.as_slice())?;
+        let most = self.most.max(1);
+        let fails = (
+            Vec::new(alloc),
+            Vec::new(alloc),
+            vec![in alloc; failing].ok()?,
+        );
+        let run = run_failing(alloc, self.words, files, b"or 0", most, fails)?;
+        let made = failing <= run.out.calls();
+        let right = if made {
+            let front = (failing as usize).saturating_sub(1).saturating_mul(most);
+            run.status == Status::Write
+                && Some(run.out.bytes()) == self.text.as_bytes().get(..front)
+                && run.err.bytes() == b"write fault: out\n".as_slice()
+        } else {
+            run.prints(self.text.as_bytes())
+        };
+        Some(Turn::of(made, right && run.input.calls() == 0))
     }
 }
 
+// Out takes four bytes a call, and one of `audit`.
 #[test]
-fn writes_of_a_generation_fail_in_turn(rt: HostRuntime) {
-    let words = ["pefidx", "generate", "1", "3", "2"];
-    let mut failed = 0;
-    for failing in 1..100 {
-        let alloc = rt.alloc();
-        let fails = vec![in alloc; failing as u64].expect(&rt, "memory");
-        let fails = (Vec::new(alloc), Vec::new(alloc), fails);
-        let run = run_failing(alloc, &words, Vec::new(alloc), b"", 4, fails).expect(&rt, "memory");
-        assert_eq!(rt; run.input.calls(), 0, "{failing}");
-        if run.out.calls() < failing as u64 {
-            assert_eq!(rt; run.status, Status::Done, "{failing}");
-            assert_eq!(rt; run.out.bytes(), GENERATED_TEXT.as_bytes(), "{failing}");
-            assert_eq!(rt; run.err.calls(), 0, "{failing}");
-            break;
-        }
-        assert_eq!(rt; run.status, Status::Write, "{failing}");
-        let text = GENERATED_TEXT.as_bytes();
-        assert_eq!(rt;
-            Some(run.out.bytes()),
-            text.get(..4 * (failing - 1)),
-            "{failing}"
-        );
-        assert_eq!(rt;
-            run.err.bytes(),
-            b"write fault: out\n".as_slice(),
-            "{failing}"
-        );
-        failed = failing;
-    }
-    assert!(rt; GENERATED_TEXT.len() / 4 <= failed && failed < 99);
-}
-
-#[test]
-fn writes_of_an_audit_fail_in_turn(rt: HostRuntime) {
+fn writes_on_out_fail_in_turn(rt: HostRuntime) {
     let one = THREE_LISTS_WORDS.as_slice();
     let two = THREE_LISTS_WORDS_OF_TWO.as_slice();
-    for (words, text) in [(one, THREE_LISTS_AUDIT), (two, THREE_LISTS_AUDIT_OF_TWO)] {
-        let mut failed = 0;
-        for failing in 1..200 {
-            let alloc = rt.alloc();
-            let bytes = bytes_of(alloc, words).expect(&rt, "memory");
-            let files = only_index(alloc, bytes.as_slice()).expect(&rt, "memory");
-            let fails = vec![in alloc; failing as u64].expect(&rt, "memory");
-            let fails = (Vec::new(alloc), Vec::new(alloc), fails);
-            let run = run_failing(alloc, &AUDIT, files, b"or 0", 1, fails).expect(&rt, "memory");
-            assert_eq!(rt; run.input.calls(), 0, "{failing}");
-            if run.out.calls() < failing as u64 {
-                assert_eq!(rt; run.status, Status::Done, "{failing}");
-                assert_eq!(rt; run.out.bytes(), text.as_bytes(), "{failing}");
-                assert_eq!(rt; run.err.calls(), 0, "{failing}");
-                break;
-            }
-            assert_eq!(rt; run.status, Status::Write, "{failing}");
-            assert_eq!(rt;
-                Some(run.out.bytes()),
-                text.as_bytes().get(..failing - 1),
-                "{failing}"
-            );
-            assert_eq!(rt;
-                run.err.bytes(),
-                b"write fault: out\n".as_slice(),
-                "{failing}"
-            );
-            failed = failing;
-        }
-        assert!(rt; text.len() <= failed && failed < 199);
+    for (words, index, most, text) in [
+        (INSPECT.as_slice(), one, 4, THREE_LISTS_LINE),
+        (INSPECT.as_slice(), two, 4, THREE_LISTS_LINE_OF_TWO),
+        (GENERATE.as_slice(), [].as_slice(), 4, GENERATED_TEXT),
+        (AUDIT.as_slice(), one, 1, THREE_LISTS_AUDIT),
+        (AUDIT.as_slice(), two, 1, THREE_LISTS_AUDIT_OF_TWO),
+    ] {
+        let printing = Printing {
+            words,
+            index,
+            most,
+            text,
+        };
+        let least = text.len() / most.max(1);
+        let wrong = first_wrong(rt.alloc(), &printing, least as u64);
+        assert_eq!(rt; wrong, None, "{words:?} {text}");
     }
 }

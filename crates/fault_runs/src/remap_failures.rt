@@ -1,5 +1,6 @@
 // Each call of a move to another order fails in turn.
-use crate::failures::{Failed, run_failing};
+use crate::failures::{failing_call, no_fails, run_failing};
+use crate::in_turn::{Turn, Turns, first_wrong};
 use pef_io::{MemDepot, Op, Slot};
 use pef_top::Status;
 use run_tables::{MAP, ONE_LIST, REMAP, files_of, spelled, with_map};
@@ -12,13 +13,18 @@ const MOVED: [(&str, &[u32]); 3] = [
     ("y.sizes", &[3, 0, 7, 4]),
 ];
 
+/// The bytes that are written where the write of this number fails, of writes of four bytes from that of number `first` on.
+fn written(first: u64, failing: u64) -> Option<usize> {
+    (failing.checked_sub(first)? as usize).checked_mul(4)
+}
+
 /// Which of the three files is being written where the call of this number fails, of calls that move four bytes each, and how
 /// many of its bytes are there; none where it is not begun.
 fn stop_at(op: Op, failing: u64) -> (usize, Option<usize>) {
     match (op, failing) {
-        (Op::Write, 1..=5) => (0, Some(4 * (failing as usize - 1))),
-        (Op::Write, 6..=8) => (1, Some(4 * (failing as usize - 6))),
-        (Op::Write, 9..=12) => (2, Some(4 * (failing as usize - 9))),
+        (Op::Write, 1..=5) => (0, written(1, failing)),
+        (Op::Write, 6..=8) => (1, written(6, failing)),
+        (Op::Write, 9..=12) => (2, written(9, failing)),
         (Op::Finish, 1) => (0, Some(20)),
         (Op::Finish, 2) => (1, Some(12)),
         (Op::Finish, 3) => (2, Some(16)),
@@ -62,12 +68,27 @@ fn are_left(alloc: Global, depot: &MemDepot, stop: (usize, Option<usize>)) -> Op
     Some(right)
 }
 
-/// Moves the one list where the call of this kind and number fails, of calls that move four bytes each.
-fn run_with(alloc: Global, op: Op, failing: u64) -> Option<Failed> {
-    let files = with_map(alloc, ONE_LIST, &MAP, 16)?;
-    let fails = vec![in alloc; (op, failing)].ok()?;
-    let fails = (fails, Vec::new(alloc), Vec::new(alloc));
-    run_failing(alloc, &REMAP, files, b"", 4, fails)
+/// Moves of the one list, where calls of a kind fail that move four bytes each.
+#[derive(Drop)]
+struct Moving {
+    op: Op,
+}
+
+impl Turns for Moving {
+    fn turn(&self, alloc: Global, failing: u64) -> Option<Turn> {
+        let files = with_map(alloc, ONE_LIST, &MAP, 16)?;
+        let fails = failing_call(alloc, self.op, failing)?;
+        let run = run_failing(alloc, &REMAP, files, b"", 4, fails)?;
+        let made = failing <= run.depot.calls(self.op);
+        let (ending, stop) = if made {
+            (line_of(self.op, failing), stop_at(self.op, failing))
+        } else {
+            ((Status::Done, ""), (3, None))
+        };
+        let (status, line) = ending;
+        let left = are_left(alloc, &run.depot, stop)?;
+        Some(Turn::of(made, left && run.ends(status, line)))
+    }
 }
 
 #[test]
@@ -85,23 +106,8 @@ fn calls_of_a_move_fail_in_turn(rt: HostRuntime) {
         (Op::Write, 12),
         (Op::Finish, 3),
     ] {
-        let mut failed = 0;
-        for failing in 1..100 {
-            let alloc = rt.alloc();
-            let run = run_with(alloc, op, failing).expect(&rt, "memory");
-            if run.depot.calls(op) < failing {
-                assert!(rt; run.ends(Status::Done, ""), "{op:?} {failing}");
-                let left = are_left(alloc, &run.depot, (3, None));
-                assert_eq!(rt; left, Some(true), "{op:?} {failing}");
-                break;
-            }
-            let (status, line) = line_of(op, failing);
-            assert!(rt; run.ends(status, line), "{op:?} {failing}");
-            let left = are_left(alloc, &run.depot, stop_at(op, failing));
-            assert_eq!(rt; left, Some(true), "{op:?} {failing}");
-            failed = failing;
-        }
-        assert!(rt; least <= failed && failed < 99, "{op:?}");
+        let wrong = first_wrong(rt.alloc(), &Moving { op }, least);
+        assert_eq!(rt; wrong, None, "{op:?}");
     }
 }
 
@@ -110,8 +116,7 @@ fn calls_of_a_move_fail_in_turn(rt: HostRuntime) {
 fn a_missing_map_is_a_read_fault(rt: HostRuntime) {
     let alloc = rt.alloc();
     let files = files_of(alloc, ONE_LIST).expect(&rt, "memory");
-    let none = (Vec::new(alloc), Vec::new(alloc), Vec::new(alloc));
-    let run = run_failing(alloc, &REMAP, files, b"", 4, none).expect(&rt, "memory");
+    let run = run_failing(alloc, &REMAP, files, b"", 4, no_fails(alloc)).expect(&rt, "memory");
     assert!(rt; run.ends(Status::Read, "read fault: map\n"));
     assert_eq!(rt; run.depot.calls(Op::Create), 0);
 }
