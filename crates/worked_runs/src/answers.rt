@@ -1,9 +1,11 @@
 // Answers and usage.
+use pef_io::SteadyDepot;
 use pef_top::Status;
 use run_tables::{
-    ANSWER, BUILD, BUILD_ONE, NINE_LISTS, NO_LIST, ONE_LIST, OPS, THREE_LISTS, TWO_LISTS, files_of,
-    run_to_replies, steady_run,
+    ANSWER, BUILD, BUILD_ONE, NINE_LISTS, NO_LIST, Numbers, ONE_LIST, OPS, THREE_LISTS, TWO_LISTS,
+    files_of, run_to_replies, steady_run,
 };
+use std::alloc::Global;
 
 const USAGE: &str =
     "usage: pefidx build BASE INDEX [--format FORMAT] | query INDEX [--plan PLAN] | answer BASE [--plan PLAN] | inspect INDEX | generate SEED N T | migrate OLD NEW | audit INDEX | blocks INDEX SIDE | remap BASE MAP NEW\n";
@@ -55,107 +57,132 @@ const NO_COMMANDS: [&[&str]; 41] = [
     &["pefidx", "remap", "x", "y.docs", "y"],
 ];
 
+/// Collections, lines over them, and the replies.
+const LINES: [(Numbers<'static>, &str, &str); 9] = [
+    (ONE_LIST, "", ""),
+    (
+        ONE_LIST,
+        "next 0 1\nnext 0 3\nand 0\nor 0 0\ntop 1 0",
+        "2 5\nend\n2 0 2\n2 0 2\n1 2:5\n",
+    ),
+    (ONE_LIST, "next 0 0\nnext 0 2\n", "0 1\n2 5\n"),
+    (
+        ONE_LIST,
+        "\n\nnear 0\n next  00 001 \n",
+        "bad verb\nbad verb\nbad verb\n2 5\n",
+    ),
+    (
+        ONE_LIST,
+        "next 0 1\r\nNEXT 0 1\n\tnext 0 1\n",
+        "bad number\nbad verb\nbad verb\n",
+    ),
+    (
+        ONE_LIST,
+        "next\nnext 0\nnext 0 0 0\nnext x 0\nnext 0 +1\nnext 7 x\n",
+        "bad number\nbad number\nbad number\nbad number\nbad number\nbad number\n",
+    ),
+    (
+        ONE_LIST,
+        "next 0 4294967296\nnext 0 4294967295\nnext 1 0\nnext 4294967295 0\n",
+        "bad number\nend\nbad term\nbad term\n",
+    ),
+    (
+        THREE_LISTS,
+        "next 1 0\nnext 2 0\nnext 0 0\nnext 0 1\nnext 3 0",
+        "end\n1 3\n0 1\nend\nbad term\n",
+    ),
+    (NO_LIST, "next 0 0", "bad term\n"),
+];
+
+/// The same for verbs over several terms.
+const TERMS: [(Numbers<'static>, &str, &str); 8] = [
+    (
+        ONE_LIST,
+        "top 0 0\nand\nor\ntop 5\ntop 9 0 0\ntop 4294967295 0\n",
+        "0\n0\n0\n0\n2 2:10 0:2\n2 2:5 0:1\n",
+    ),
+    (
+        TWO_LISTS,
+        "top 2 0 1\nand 1 0\nor 0 1\n",
+        "2 4:4 1:3\n2 1 4\n3 1 2 4\n",
+    ),
+    (
+        TWO_LISTS,
+        "top 3 1 0 1\nand 1 1\ntop 1 1\n",
+        "3 2:6 4:5 1:4\n3 1 2 4\n1 2:3\n",
+    ),
+    (
+        TWO_LISTS,
+        "top 3 0*2 1\ntop 2 0 1*2\ntop 2 1*2 0\ntop 2 0 0 1\ntop 2 0*00002 1\ntop 1 0*65535\ntop 2 0 1\ntop 1 1*3 0 1*4 0*5",
+        "3 4:7 1:5 2:3\n2 2:6 4:5\n2 2:6 4:5\n2 4:7 1:5\n2 4:7 1:5\n1 4:196605\n2 4:4 1:3\n1 4:25\n",
+    ),
+    (
+        TWO_LISTS,
+        "top 1 0*65536\ntop 2 0 0*0\ntop 1 9*0\ntop 1 0*\ntop 1 *2\ntop 1 0*2*3\nand 0*2\ntop 1*2 0\ntop 1 0*4294967296\ntop 1 9*2\nor 0*1\nnext 0*1 0",
+        "bad weight\nbad weight\nbad weight\nbad number\nbad number\nbad number\nbad number\nbad number\nbad number\nbad term\nbad number\nbad number\n",
+    ),
+    (
+        TWO_LISTS,
+        "and 7\ntop x 0\nnext 0\ntop\nnext 0 4294967296\n\nnear 0\nnext 0 2",
+        "bad term\nbad number\nbad number\nbad number\nbad number\nbad verb\nbad verb\n4 3\n",
+    ),
+    (
+        THREE_LISTS,
+        "and 0 1\nor 1\nor 0 1 2\ntop 1 1 2\n",
+        "0\n0\n2 0 1\n1 1:3\n",
+    ),
+    (
+        NINE_LISTS,
+        "and 0 1 2 3 4 5 6 7 8\nor 8 7 6 5 4 3 2 1 0\ntop 2 0 1 2 3 4 5 6 7 8\n",
+        "1 1\n1 1\n1 1:9\n",
+    ),
+];
+
+/// The words of the runs that answer a collection: at once, and from an index in each format.
+const WAYS: [&[&str]; 3] = [&ANSWER, &BUILD, &BUILD_ONE];
+
+/// Whether all is done, these are the replies to the text by these words, and err is not called.
+pub(crate) fn are_replies(
+    alloc: Global,
+    words: &[&str],
+    numbers: Numbers<'_>,
+    text: &[u8],
+    replies: &str,
+) -> Option<bool> {
+    let files = files_of(alloc, numbers)?;
+    let run = run_to_replies(alloc, words, files, text)?;
+    let told = run.out.bytes() == replies.as_bytes();
+    Some(told && run.status == Status::Done && run.err.calls() == 0)
+}
+
 #[test]
 fn lines_are_answered(rt: HostRuntime) {
-    for (numbers, text, replies) in [
-        (ONE_LIST, "", ""),
-        (
-            ONE_LIST,
-            "next 0 1\nnext 0 3\nand 0\nor 0 0\ntop 1 0",
-            "2 5\nend\n2 0 2\n2 0 2\n1 2:5\n",
-        ),
-        (ONE_LIST, "next 0 0\nnext 0 2\n", "0 1\n2 5\n"),
-        (
-            ONE_LIST,
-            "\n\nnear 0\n next  00 001 \n",
-            "bad verb\nbad verb\nbad verb\n2 5\n",
-        ),
-        (
-            ONE_LIST,
-            "next 0 1\r\nNEXT 0 1\n\tnext 0 1\n",
-            "bad number\nbad verb\nbad verb\n",
-        ),
-        (
-            ONE_LIST,
-            "next\nnext 0\nnext 0 0 0\nnext x 0\nnext 0 +1\nnext 7 x\n",
-            "bad number\nbad number\nbad number\nbad number\nbad number\nbad number\n",
-        ),
-        (
-            ONE_LIST,
-            "next 0 4294967296\nnext 0 4294967295\nnext 1 0\nnext 4294967295 0\n",
-            "bad number\nend\nbad term\nbad term\n",
-        ),
-        (
-            THREE_LISTS,
-            "next 1 0\nnext 2 0\nnext 0 0\nnext 0 1\nnext 3 0",
-            "end\n1 3\n0 1\nend\nbad term\n",
-        ),
-        (NO_LIST, "next 0 0", "bad term\n"),
-    ] {
-        for words in [ANSWER.as_slice(), BUILD.as_slice(), BUILD_ONE.as_slice()] {
-            let alloc = rt.alloc();
-            let files = files_of(alloc, numbers).expect(&rt, "memory");
-            let run = run_to_replies(alloc, words, files, text.as_bytes()).expect(&rt, "memory");
-            assert_eq!(rt; run.status, Status::Done, "{words:?} {text:?}");
-            assert_eq!(rt; run.out.bytes(), replies.as_bytes(), "{words:?} {text:?}");
-            assert_eq!(rt; run.err.calls(), 0, "{words:?} {text:?}");
+    for (numbers, text, replies) in LINES {
+        for words in WAYS {
+            let right = are_replies(rt.alloc(), words, numbers, text.as_bytes(), replies);
+            assert_eq!(rt; right, Some(true), "{words:?} {text:?}");
         }
     }
 }
 
 #[test]
 fn documents_of_terms_are_found(rt: HostRuntime) {
-    for (numbers, text, replies) in [
-        (
-            ONE_LIST,
-            "top 0 0\nand\nor\ntop 5\ntop 9 0 0\ntop 4294967295 0\n",
-            "0\n0\n0\n0\n2 2:10 0:2\n2 2:5 0:1\n",
-        ),
-        (
-            TWO_LISTS,
-            "top 2 0 1\nand 1 0\nor 0 1\n",
-            "2 4:4 1:3\n2 1 4\n3 1 2 4\n",
-        ),
-        (
-            TWO_LISTS,
-            "top 3 1 0 1\nand 1 1\ntop 1 1\n",
-            "3 2:6 4:5 1:4\n3 1 2 4\n1 2:3\n",
-        ),
-        (
-            TWO_LISTS,
-            "top 3 0*2 1\ntop 2 0 1*2\ntop 2 1*2 0\ntop 2 0 0 1\ntop 2 0*00002 1\ntop 1 0*65535\ntop 2 0 1\ntop 1 1*3 0 1*4 0*5",
-            "3 4:7 1:5 2:3\n2 2:6 4:5\n2 2:6 4:5\n2 4:7 1:5\n2 4:7 1:5\n1 4:196605\n2 4:4 1:3\n1 4:25\n",
-        ),
-        (
-            TWO_LISTS,
-            "top 1 0*65536\ntop 2 0 0*0\ntop 1 9*0\ntop 1 0*\ntop 1 *2\ntop 1 0*2*3\nand 0*2\ntop 1*2 0\ntop 1 0*4294967296\ntop 1 9*2\nor 0*1\nnext 0*1 0",
-            "bad weight\nbad weight\nbad weight\nbad number\nbad number\nbad number\nbad number\nbad number\nbad number\nbad term\nbad number\nbad number\n",
-        ),
-        (
-            TWO_LISTS,
-            "and 7\ntop x 0\nnext 0\ntop\nnext 0 4294967296\n\nnear 0\nnext 0 2",
-            "bad term\nbad number\nbad number\nbad number\nbad number\nbad verb\nbad verb\n4 3\n",
-        ),
-        (
-            THREE_LISTS,
-            "and 0 1\nor 1\nor 0 1 2\ntop 1 1 2\n",
-            "0\n0\n2 0 1\n1 1:3\n",
-        ),
-        (
-            NINE_LISTS,
-            "and 0 1 2 3 4 5 6 7 8\nor 8 7 6 5 4 3 2 1 0\ntop 2 0 1 2 3 4 5 6 7 8\n",
-            "1 1\n1 1\n1 1:9\n",
-        ),
-    ] {
-        for words in [ANSWER.as_slice(), BUILD.as_slice(), BUILD_ONE.as_slice()] {
-            let alloc = rt.alloc();
-            let files = files_of(alloc, numbers).expect(&rt, "memory");
-            let run = run_to_replies(alloc, words, files, text.as_bytes()).expect(&rt, "memory");
-            assert_eq!(rt; run.status, Status::Done, "{words:?} {text:?}");
-            assert_eq!(rt; run.out.bytes(), replies.as_bytes(), "{words:?} {text:?}");
-            assert_eq!(rt; run.err.calls(), 0, "{words:?} {text:?}");
+    for (numbers, text, replies) in TERMS {
+        for words in WAYS {
+            let right = are_replies(rt.alloc(), words, numbers, text.as_bytes(), replies);
+            assert_eq!(rt; right, Some(true), "{words:?} {text:?}");
         }
     }
+}
+
+/// A line of a verb and so many times a field, and one line more.
+fn line_of(alloc: Global, verb: &str, field: &str, fields: usize) -> Option<Vec<u8>> {
+    let mut text = Vec::from_slice(alloc, verb.as_bytes()).ok()?;
+    for _ in 0..fields {
+        text.extend_from_slice(field.as_bytes()).ok()?;
+    }
+    text.extend_from_slice(b"\nnext 0 2").ok()?;
+    Some(text)
 }
 
 #[test]
@@ -167,50 +194,44 @@ fn a_line_has_at_most_1024_fields_of_terms(rt: HostRuntime) {
         ("top 1", " 0*1", 1_025, "bad terms\n4 3\n"),
         ("top 1", " 0*0", 1_025, "bad weight\n4 3\n"),
     ] {
-        let alloc = rt.alloc();
-        let mut text = Vec::from_slice(alloc, verb.as_bytes()).expect(&rt, "memory");
-        for _ in 0..fields {
-            text.extend_from_slice(field.as_bytes())
-                .expect(&rt, "memory");
-        }
-        text.extend_from_slice(b"\nnext 0 2").expect(&rt, "memory");
-        let files = files_of(alloc, TWO_LISTS).expect(&rt, "memory");
-        let run = steady_run(alloc, &ANSWER, files, text.as_slice()).expect(&rt, "memory");
-        assert_eq!(rt; run.status, Status::Done, "{verb} {field} {fields}");
-        assert_eq!(rt;
-            run.out.bytes(),
-            replies.as_bytes(),
-            "{verb} {field} {fields}"
-        );
+        let text = line_of(rt.alloc(), verb, field, fields).expect(&rt, "memory");
+        let right = are_replies(rt.alloc(), &ANSWER, TWO_LISTS, &text, replies);
+        assert_eq!(rt; right, Some(true), "{verb} {field} {fields}");
     }
 }
 
 #[test]
 fn a_line_is_at_most_65535_bytes(rt: HostRuntime) {
-    for (length, reply) in [
+    for (length, replies) in [
         (65_535, "bad verb\n2 5\n"),
         (65_536, "bad length\n2 5\n"),
         (200_000, "bad length\n2 5\n"),
     ] {
-        let alloc = rt.alloc();
-        let mut text = vec![in alloc; b'x'; length].expect(&rt, "memory");
-        text.extend_from_slice(b"\nnext 0 1").expect(&rt, "memory");
-        let files = files_of(alloc, ONE_LIST).expect(&rt, "memory");
-        let run = steady_run(alloc, &ANSWER, files, text.as_slice()).expect(&rt, "memory");
-        assert_eq!(rt; run.status, Status::Done, "{length}");
-        assert_eq!(rt; run.out.bytes(), reply.as_bytes(), "{length}");
+        let text = line_of(rt.alloc(), "", "x", length).expect(&rt, "memory");
+        let right = are_replies(rt.alloc(), &ANSWER, ONE_LIST, &text, replies);
+        assert_eq!(rt; right, Some(true), "{length}");
     }
+}
+
+/// Whether no kind of call of a depot was made.
+pub(crate) fn is_uncalled(depot: &SteadyDepot) -> bool {
+    let mut uncalled = true;
+    for op in OPS {
+        uncalled = uncalled && depot.calls(op) == 0;
+    }
+    uncalled
+}
+
+/// Whether a run of these words ends in the usage line, and calls nothing.
+fn is_no_command(alloc: Global, words: &[&str]) -> Option<bool> {
+    let files = files_of(alloc, ONE_LIST)?;
+    let run = steady_run(alloc, words, files, b"next 0 1")?;
+    Some(run.ends(Status::Usage, USAGE) && is_uncalled(&run.depot))
 }
 
 #[test]
 fn words_that_are_no_command_call_nothing(rt: HostRuntime) {
     for words in NO_COMMANDS {
-        let alloc = rt.alloc();
-        let files = files_of(alloc, ONE_LIST).expect(&rt, "memory");
-        let run = steady_run(alloc, words, files, b"next 0 1").expect(&rt, "memory");
-        assert!(rt; run.ends(Status::Usage, USAGE), "{words:?}");
-        for op in OPS {
-            assert_eq!(rt; run.depot.calls(op), 0, "{words:?} {op:?}");
-        }
+        assert_eq!(rt; is_no_command(rt.alloc(), words), Some(true), "{words:?}");
     }
 }

@@ -1,44 +1,47 @@
 // Index files, and how close each of their sequences is cut.
-use pef_io::Op;
+use crate::inspections::prints;
 use pef_top::Status;
 use run_tables::{
-    AUDIT, BUILD, BUILD_ONE, DOCUMENTS_IN_TWO_PARTS, NO_LIST, ONE_LIST_WORDS,
+    AUDIT, BUILD, BUILD_ONE, DOCUMENTS_IN_TWO_PARTS, NO_LIST, Numbers, ONE_LIST_WORDS,
     ONE_LIST_WORDS_OF_TWO, THREE_LISTS_AUDIT, THREE_LISTS_AUDIT_OF_TWO, THREE_LISTS_WORDS,
-    THREE_LISTS_WORDS_OF_TWO, bytes_of, files_of, full_list, only_index, run_over, steady_run,
+    THREE_LISTS_WORDS_OF_TWO, files_of, full_list, run_over, steady_run,
 };
+use std::alloc::Global;
+
+/// The words of indexes, their audits, and in how many pieces these are printed.
+const AUDITS: [(&[u64], &str, u64); 5] = [
+    (
+        &ONE_LIST_WORDS,
+        "0 docs 131 131 131\n0 freqs 134 134 134\nsequences 2 longer 0\n",
+        3,
+    ),
+    (
+        &ONE_LIST_WORDS_OF_TWO,
+        "0 docs 195 195 195\n0 freqs 198 198 198\nsequences 2 longer 0\n",
+        3,
+    ),
+    (
+        &DOCUMENTS_IN_TWO_PARTS,
+        "0 docs 258 131 131\n0 freqs 134 134 134\nsequences 2 longer 0\n",
+        3,
+    ),
+    (&THREE_LISTS_WORDS, THREE_LISTS_AUDIT, 5),
+    (&THREE_LISTS_WORDS_OF_TWO, THREE_LISTS_AUDIT_OF_TWO, 5),
+];
 
 #[test]
 fn sequences_are_audited(rt: HostRuntime) {
-    let rows: [(&[u64], &str, u64); 5] = [
-        (
-            &ONE_LIST_WORDS,
-            "0 docs 131 131 131\n0 freqs 134 134 134\nsequences 2 longer 0\n",
-            3,
-        ),
-        (
-            &ONE_LIST_WORDS_OF_TWO,
-            "0 docs 195 195 195\n0 freqs 198 198 198\nsequences 2 longer 0\n",
-            3,
-        ),
-        (
-            &DOCUMENTS_IN_TWO_PARTS,
-            "0 docs 258 131 131\n0 freqs 134 134 134\nsequences 2 longer 0\n",
-            3,
-        ),
-        (&THREE_LISTS_WORDS, THREE_LISTS_AUDIT, 5),
-        (&THREE_LISTS_WORDS_OF_TWO, THREE_LISTS_AUDIT_OF_TWO, 5),
-    ];
-    for (words, text, pieces) in rows {
-        let alloc = rt.alloc();
-        let bytes = bytes_of(alloc, words).expect(&rt, "memory");
-        let files = only_index(alloc, bytes.as_slice()).expect(&rt, "memory");
-        let run = steady_run(alloc, &AUDIT, files, b"or 0").expect(&rt, "memory");
-        assert_eq!(rt; run.status, Status::Done, "{text}");
-        assert_eq!(rt; run.out.bytes(), text.as_bytes(), "{text}");
-        assert_eq!(rt; run.out.calls(), pieces, "{text}");
-        assert_eq!(rt; (run.input.calls(), run.err.calls()), (0, 0), "{text}");
-        assert_eq!(rt; run.depot.calls(Op::Create), 0, "{text}");
+    for (index, text, pieces) in AUDITS {
+        let right = prints(rt.alloc(), &AUDIT, index, text, pieces);
+        assert_eq!(rt; right, Some(true), "{text}");
     }
+}
+
+/// Whether this is the audit of the index that these words build of the collection.
+fn is_audited(alloc: Global, words: &[&str], numbers: Numbers<'_>, text: &str) -> Option<bool> {
+    let built = steady_run(alloc, words, files_of(alloc, numbers)?, b"")?;
+    let run = run_over(alloc, &AUDIT, built.depot, b"")?;
+    Some(run.status == Status::Done && run.out.bytes() == text.as_bytes())
 }
 
 // A list of all documents, each once, is one part of ones; of 256 numbers it has its lines, and of more none.
@@ -55,14 +58,9 @@ fn long_sequences_have_no_line(rt: HostRuntime) {
         (BUILD_ONE.as_slice(), 999, "sequences 0 longer 2\n"),
     ] {
         let list = full_list(alloc, last, 1, 1).expect(&rt, "memory");
-        let files = files_of(alloc, list.numbers()).expect(&rt, "memory");
-        let built = steady_run(alloc, words, files, b"").expect(&rt, "memory");
-        let run = run_over(alloc, &AUDIT, built.depot, b"").expect(&rt, "memory");
-        assert_eq!(rt; run.status, Status::Done, "{last}");
-        assert_eq!(rt; run.out.bytes(), text.as_bytes(), "{last}");
+        let right = is_audited(alloc, words, list.numbers(), text);
+        assert_eq!(rt; right, Some(true), "{last}");
     }
-    let files = files_of(alloc, NO_LIST).expect(&rt, "memory");
-    let built = steady_run(alloc, &BUILD, files, b"").expect(&rt, "memory");
-    let run = run_over(alloc, &AUDIT, built.depot, b"").expect(&rt, "memory");
-    assert_eq!(rt; run.out.bytes(), b"sequences 0 longer 0\n".as_slice());
+    let right = is_audited(alloc, &BUILD, NO_LIST, "sequences 0 longer 0\n");
+    assert_eq!(rt; right, Some(true));
 }

@@ -29,48 +29,96 @@ fn build_of(format: Format) -> &'static [&'static str] {
     }
 }
 
-// The thousand documents are in one list, each once: both sequences are one part without payload.
+/// Collections, formats and the words of their indexes.
+const WORDS: [(Numbers<'static>, Format, &[u64]); 6] = [
+    (NO_LIST, Format::One, &[OPENING, 1, 0, 0, 2, CLOSING]),
+    (NO_LIST, Format::Two, &[OPENING, 2, 0, 0, 2, CLOSING]),
+    (ONE_LIST, Format::One, &ONE_LIST_WORDS),
+    (ONE_LIST, Format::Two, &ONE_LIST_WORDS_OF_TWO),
+    (THREE_LISTS, Format::One, &THREE_LISTS_WORDS),
+    (THREE_LISTS, Format::Two, &THREE_LISTS_WORDS_OF_TWO),
+];
+
+/// The words before and behind 500 zeros of the index of a thousand documents in one list, each once: both sequences are one part
+/// without payload.
+const THOUSAND_WORDS: [(Format, &[u64], &[u64]); 2] = [
+    (
+        Format::One,
+        &[OPENING, 1, 68719476736999, 0, 68719476736999, 0],
+        &[2, 4, 4294968296, 4294967297, 1000, 1, 6, CLOSING],
+    ),
+    (
+        Format::Two,
+        &[OPENING, 2, 999, 1000, 0, 999, 1000, 0],
+        &[2, 5, 4294968296, 4294967297, 1000, 1, 8, CLOSING],
+    ),
+];
+
+/// Whether the index of a collection has these words by `build_words`.
+fn has_words(alloc: Global, numbers: Numbers<'_>, format: Format, want: &[u64]) -> Option<bool> {
+    match built(alloc, files_of(alloc, numbers)?, format)? {
+        Ok(words) => Some(words.as_slice() == want),
+        Err(_) => None,
+    }
+}
+
+/// Whether `build` leaves these words in the file, and does not call err.
+fn leaves_words(alloc: Global, numbers: Numbers<'_>, format: Format, want: &[u64]) -> Option<bool> {
+    let run = steady_run(alloc, build_of(format), files_of(alloc, numbers)?, b"")?;
+    let bytes = bytes_of(alloc, want)?;
+    let left = run.depot.file("y") == Some(bytes.as_slice());
+    Some(left && run.ends(Status::Done, "") && run.err.calls() == 0)
+}
+
 #[test]
 fn indexes_have_their_words(rt: HostRuntime) {
     let alloc = rt.alloc();
-    let thousand = full_list(alloc, 999, 1, 1).expect(&rt, "memory");
-    let thousand_words = around_zeros(
-        alloc,
-        &[OPENING, 1, 68719476736999, 0, 68719476736999, 0],
-        500,
-        &[2, 4, 4294968296, 4294967297, 1000, 1, 6, CLOSING],
-    )
-    .expect(&rt, "memory");
-    let thousand_words_of_two = around_zeros(
-        alloc,
-        &[OPENING, 2, 999, 1000, 0, 999, 1000, 0],
-        500,
-        &[2, 5, 4294968296, 4294967297, 1000, 1, 8, CLOSING],
-    )
-    .expect(&rt, "memory");
-    let rows: [(Numbers<'_>, Format, &[u64]); 8] = [
-        (NO_LIST, Format::One, &[OPENING, 1, 0, 0, 2, CLOSING]),
-        (NO_LIST, Format::Two, &[OPENING, 2, 0, 0, 2, CLOSING]),
-        (ONE_LIST, Format::One, &ONE_LIST_WORDS),
-        (ONE_LIST, Format::Two, &ONE_LIST_WORDS_OF_TWO),
-        (THREE_LISTS, Format::One, &THREE_LISTS_WORDS),
-        (THREE_LISTS, Format::Two, &THREE_LISTS_WORDS_OF_TWO),
-        (thousand.numbers(), Format::One, &thousand_words),
-        (thousand.numbers(), Format::Two, &thousand_words_of_two),
-    ];
-    for (numbers, format, want) in rows {
-        let files = files_of(alloc, numbers).expect(&rt, "memory");
-        let words = built(alloc, files, format)
-            .expect(&rt, "memory")
-            .expect(&rt, "a collection");
-        assert_eq!(rt; words.as_slice(), want, "{format:?}");
-        let files = files_of(alloc, numbers).expect(&rt, "memory");
-        let run = steady_run(alloc, build_of(format), files, b"").expect(&rt, "memory");
-        assert!(rt; run.ends(Status::Done, ""), "{format:?}");
-        let bytes = bytes_of(alloc, want).expect(&rt, "memory");
-        assert_eq!(rt; run.depot.file("y"), Some(bytes.as_slice()), "{format:?}");
-        assert_eq!(rt; run.err.calls(), 0, "{format:?}");
+    for (numbers, format, want) in WORDS {
+        assert_eq!(rt;
+            has_words(alloc, numbers, format, want),
+            Some(true),
+            "{want:?}"
+        );
+        assert_eq!(rt;
+            leaves_words(alloc, numbers, format, want),
+            Some(true),
+            "{want:?}"
+        );
     }
+}
+
+#[test]
+fn a_thousand_documents_have_their_words(rt: HostRuntime) {
+    let alloc = rt.alloc();
+    let list = full_list(alloc, 999, 1, 1).expect(&rt, "memory");
+    for (format, before, behind) in THOUSAND_WORDS {
+        let want = around_zeros(alloc, before, 500, behind).expect(&rt, "memory");
+        let built = has_words(alloc, list.numbers(), format, &want);
+        assert_eq!(rt; built, Some(true), "{format:?}");
+        let left = leaves_words(alloc, list.numbers(), format, &want);
+        assert_eq!(rt; left, Some(true), "{format:?}");
+    }
+}
+
+/// Whether an index of two lists says of the first that its documents are the words from 2 on, its frequencies those from here on,
+/// and both are cut in two.
+fn is_cut(words: &[u64], freqs: u64) -> bool {
+    let entry = [2, freqs, 100_001 + (2 << 32), 2 + (900_001 << 32)];
+    match words.len().checked_sub(12) {
+        Some(at) => words[at..].starts_with(&entry),
+        None => false,
+    }
+}
+
+/// Whether the index of the far document in a format is cut so, and has its replies.
+fn is_cut_off(alloc: Global, numbers: Numbers<'_>, format: Format, freqs: u64) -> Option<bool> {
+    let build = steady_run(alloc, build_of(format), files_of(alloc, numbers)?, b"")?;
+    let words = read_words(alloc, build.depot.file("y")?).ok()?;
+    let built = build.status == Status::Done && is_cut(&words, freqs);
+    let text = b"next 0 100000\nnext 0 99999\ntop 2 0 1\nand 1 0\nnext 1 6\n";
+    let query = run_over(alloc, &QUERY, build.depot, text)?;
+    let replies = b"1000000 900001\n99999 1\n2 1000000:900001 5:3\n1 5\nend\n".as_slice();
+    Some(built && query.status == Status::Done && query.out.bytes() == replies)
 }
 
 // Both sequences of the first list are cut in two, which costs 277 bits in the first format and 405 in the second.
@@ -78,25 +126,9 @@ fn indexes_have_their_words(rt: HostRuntime) {
 fn a_far_document_is_cut_off(rt: HostRuntime) {
     let alloc = rt.alloc();
     let far = far_document(alloc).expect(&rt, "memory");
-    for (format, length) in [(Format::One, 5), (Format::Two, 7)] {
-        let files = files_of(alloc, far.numbers()).expect(&rt, "memory");
-        let build = steady_run(alloc, build_of(format), files, b"").expect(&rt, "memory");
-        assert_eq!(rt; build.status, Status::Done, "{format:?}");
-        let file = build.depot.file("y").expect(&rt, "a file");
-        let words = read_words(alloc, file).expect(&rt, "whole words");
-        assert!(rt; 12 <= words.len());
-        let directory = words.len() - 12;
-        assert_eq!(rt; words[directory], 2);
-        assert_eq!(rt; words[directory + 1], 2 + length);
-        assert_eq!(rt; words[directory + 2], 100_001 + (2 << 32));
-        assert_eq!(rt; words[directory + 3], 2 + (900_001 << 32));
-        let text = b"next 0 100000\nnext 0 99999\ntop 2 0 1\nand 1 0\nnext 1 6\n";
-        let query = run_over(alloc, &QUERY, build.depot, text).expect(&rt, "memory");
-        assert_eq!(rt; query.status, Status::Done, "{format:?}");
-        assert_eq!(rt;
-            query.out.bytes(),
-            b"1000000 900001\n99999 1\n2 1000000:900001 5:3\n1 5\nend\n".as_slice()
-        );
+    for (format, freqs) in [(Format::One, 7), (Format::Two, 9)] {
+        let right = is_cut_off(alloc, far.numbers(), format, freqs);
+        assert_eq!(rt; right, Some(true), "{format:?}");
     }
 }
 

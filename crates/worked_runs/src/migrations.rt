@@ -1,4 +1,5 @@
 // Indexes that are migrated: the words of the new one, and its replies.
+use pef_io::SteadyDepot;
 use pef_top::Status;
 use run_tables::{
     CLOSING, DOCUMENTS_IN_TWO_PARTS, MIGRATE, ONE_LIST_WORDS, ONE_LIST_WORDS_OF_TWO, OPENING,
@@ -22,52 +23,71 @@ const THREE_LISTS_TEXT: (&str, &str) = (
     "end\n2 0 1\n1 0\n0 1\n",
 );
 
-// The words in which the documents are needlessly cut in two become the words of one part, and the replies stay.
+/// The words of indexes and of the migrated ones, and lines and replies of both. The words in which the documents are needlessly cut
+/// in two become the words of one part.
+const MIGRATED: [(&[u64], &[u64], (&str, &str)); 6] = [
+    (
+        &[OPENING, 1, 0, 0, 2, CLOSING],
+        &[OPENING, 2, 0, 0, 2, CLOSING],
+        ("next 0 0", "bad term\n"),
+    ),
+    (&ONE_LIST_WORDS, &ONE_LIST_WORDS_OF_TWO, ONE_LIST_TEXT),
+    (
+        &ONE_LIST_WORDS_OF_TWO,
+        &ONE_LIST_WORDS_OF_TWO,
+        ONE_LIST_TEXT,
+    ),
+    (
+        &DOCUMENTS_IN_TWO_PARTS,
+        &ONE_LIST_WORDS_OF_TWO,
+        ONE_LIST_TEXT,
+    ),
+    (
+        &THREE_LISTS_WORDS,
+        &THREE_LISTS_WORDS_OF_TWO,
+        THREE_LISTS_TEXT,
+    ),
+    (
+        &THREE_LISTS_WORDS_OF_TWO,
+        &THREE_LISTS_WORDS_OF_TWO,
+        THREE_LISTS_TEXT,
+    ),
+];
+
+/// Whether an index is migrated to these words and stays, and err is not called; the files that then are there.
+fn migrated(alloc: Global, old: &[u64], new: &[u64], text: &str) -> Option<(bool, SteadyDepot)> {
+    let old = bytes_of(alloc, old)?;
+    let new = bytes_of(alloc, new)?;
+    let files = only_index(alloc, old.as_slice())?;
+    let run = steady_run(alloc, &MIGRATE, files, text.as_bytes())?;
+    let kept = run.depot.file("y") == Some(old.as_slice());
+    let made = run.depot.file("z") == Some(new.as_slice());
+    let right = kept && made && run.ends(Status::Done, "") && run.err.calls() == 0;
+    Some((right, run.depot))
+}
+
+/// Whether an index is migrated to these words, and both have these replies to the text.
+fn are_migrated(
+    alloc: Global,
+    old: &[u64],
+    new: &[u64],
+    text: &str,
+    replies: &str,
+) -> Option<bool> {
+    let (right, depot) = migrated(alloc, old, new, text)?;
+    let of_new = run_over(alloc, &QUERY_NEW, depot, text.as_bytes())?;
+    let bytes = bytes_of(alloc, old)?;
+    let files = only_index(alloc, bytes.as_slice())?;
+    let of_old = steady_run(alloc, &QUERY, files, text.as_bytes())?;
+    let same = of_new.out.bytes() == of_old.out.bytes();
+    Some(right && same && of_new.out.bytes() == replies.as_bytes())
+}
+
 #[test]
 fn migrated_indexes_have_their_words_and_replies(rt: HostRuntime) {
-    let rows: [(&[u64], &[u64], (&str, &str)); 6] = [
-        (
-            &[OPENING, 1, 0, 0, 2, CLOSING],
-            &[OPENING, 2, 0, 0, 2, CLOSING],
-            ("next 0 0", "bad term\n"),
-        ),
-        (&ONE_LIST_WORDS, &ONE_LIST_WORDS_OF_TWO, ONE_LIST_TEXT),
-        (
-            &ONE_LIST_WORDS_OF_TWO,
-            &ONE_LIST_WORDS_OF_TWO,
-            ONE_LIST_TEXT,
-        ),
-        (
-            &DOCUMENTS_IN_TWO_PARTS,
-            &ONE_LIST_WORDS_OF_TWO,
-            ONE_LIST_TEXT,
-        ),
-        (
-            &THREE_LISTS_WORDS,
-            &THREE_LISTS_WORDS_OF_TWO,
-            THREE_LISTS_TEXT,
-        ),
-        (
-            &THREE_LISTS_WORDS_OF_TWO,
-            &THREE_LISTS_WORDS_OF_TWO,
-            THREE_LISTS_TEXT,
-        ),
-    ];
-    for (old, new, (text, replies)) in rows {
-        let alloc = rt.alloc();
-        let old = bytes_of(alloc, old).expect(&rt, "memory");
-        let new = bytes_of(alloc, new).expect(&rt, "memory");
-        let files = only_index(alloc, old.as_slice()).expect(&rt, "memory");
-        let run = steady_run(alloc, &MIGRATE, files, text.as_bytes()).expect(&rt, "memory");
-        assert!(rt; run.ends(Status::Done, ""), "{text:?}");
-        assert_eq!(rt; run.depot.file("y"), Some(old.as_slice()), "{text:?}");
-        assert_eq!(rt; run.depot.file("z"), Some(new.as_slice()), "{text:?}");
-        assert_eq!(rt; run.err.calls(), 0, "{text:?}");
-        let asked = run_over(alloc, &QUERY_NEW, run.depot, text.as_bytes()).expect(&rt, "memory");
-        assert_eq!(rt; asked.out.bytes(), replies.as_bytes(), "{text:?}");
-        let files = only_index(alloc, old.as_slice()).expect(&rt, "memory");
-        let asked = steady_run(alloc, &QUERY, files, text.as_bytes()).expect(&rt, "memory");
-        assert_eq!(rt; asked.out.bytes(), replies.as_bytes(), "{text:?}");
+    for (old, new, (text, replies)) in MIGRATED {
+        let right = are_migrated(rt.alloc(), old, new, text, replies);
+        assert_eq!(rt; right, Some(true), "{new:?} {text:?}");
     }
 }
 

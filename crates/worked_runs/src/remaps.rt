@@ -1,8 +1,10 @@
 // Collections that are moved to another order of their documents: the files of the new one, and its replies.
+use pef_io::SteadyDepot;
 use pef_top::Status;
 use run_tables::{
     MAP, NO_LIST, Numbers, ONE_LIST, REMAP, TWO_LISTS, run_over, spelled, steady_run, with_map,
 };
+use std::alloc::Global;
 
 /// The words of a run that answers from the new collection.
 const ANSWER_NEW: [&str; 3] = ["pefidx", "answer", "y"];
@@ -21,38 +23,57 @@ const REVERSED: Numbers<'static> = Numbers {
     sizes: &[5, 1, 1, 1, 1, 1],
 };
 
+/// Collections, orders of their documents, the collections that are moved there, and the replies to `or 0`.
+const MOVES: [(Numbers<'static>, &[u32], Numbers<'static>, &str); 5] = [
+    (ONE_LIST, &MAP, MOVED, "2 1 2\n"),
+    (MOVED, &[3, 1, 2, 0], ONE_LIST, "2 0 2\n"),
+    (ONE_LIST, &[3, 0, 1, 2], ONE_LIST, "2 0 2\n"),
+    (TWO_LISTS, &[5, 4, 3, 2, 1, 0], REVERSED, "2 0 3\n"),
+    (NO_LIST, &[0], NO_LIST, "bad term\n"),
+];
+
+/// Whether the files of this name are those of the collection.
+fn has_files(
+    alloc: Global,
+    depot: &SteadyDepot,
+    names: [&str; 3],
+    numbers: Numbers<'_>,
+) -> Option<bool> {
+    let mut right = true;
+    for (name, numbers) in names
+        .into_iter()
+        .zip([numbers.docs, numbers.freqs, numbers.sizes])
+    {
+        let bytes = spelled(alloc, numbers)?;
+        right = right && depot.file(name) == Some(bytes.as_slice());
+    }
+    Some(right)
+}
+
+/// Whether a collection is moved, it and the map stay, and the moved one has these replies.
+fn is_moved(
+    alloc: Global,
+    old: Numbers<'_>,
+    map: &[u32],
+    new: Numbers<'_>,
+    replies: &str,
+) -> Option<bool> {
+    let order = spelled(alloc, map)?;
+    let files = with_map(alloc, old, map, order.len())?;
+    let run = steady_run(alloc, &REMAP, files, b"")?;
+    let done = run.ends(Status::Done, "") && run.err.calls() == 0;
+    let moved = has_files(alloc, &run.depot, ["y.docs", "y.freqs", "y.sizes"], new)?;
+    let kept = has_files(alloc, &run.depot, ["x.docs", "x.freqs", "x.sizes"], old)?;
+    let order_kept = run.depot.file("m") == Some(order.as_slice());
+    let asked = run_over(alloc, &ANSWER_NEW, run.depot, b"or 0")?;
+    let told = asked.out.bytes() == replies.as_bytes();
+    Some(done && moved && kept && order_kept && told)
+}
+
 #[test]
 fn collections_are_moved(rt: HostRuntime) {
-    let rows: [(Numbers<'static>, &[u32], Numbers<'static>, &str); 5] = [
-        (ONE_LIST, &MAP, MOVED, "2 1 2\n"),
-        (MOVED, &[3, 1, 2, 0], ONE_LIST, "2 0 2\n"),
-        (ONE_LIST, &[3, 0, 1, 2], ONE_LIST, "2 0 2\n"),
-        (TWO_LISTS, &[5, 4, 3, 2, 1, 0], REVERSED, "2 0 3\n"),
-        (NO_LIST, &[0], NO_LIST, "bad term\n"),
-    ];
-    for (old, map, new, replies) in rows {
-        let alloc = rt.alloc();
-        let files = with_map(alloc, old, map, 4 * map.len()).expect(&rt, "memory");
-        let run = steady_run(alloc, &REMAP, files, b"").expect(&rt, "memory");
-        assert!(rt; run.ends(Status::Done, ""), "{map:?}");
-        assert_eq!(rt; run.err.calls(), 0, "{map:?}");
-        for (name, numbers) in [
-            ("y.docs", new.docs),
-            ("y.freqs", new.freqs),
-            ("y.sizes", new.sizes),
-            ("x.docs", old.docs),
-            ("x.freqs", old.freqs),
-            ("x.sizes", old.sizes),
-            ("m", map),
-        ] {
-            let bytes = spelled(alloc, numbers).expect(&rt, "memory");
-            assert_eq!(rt;
-                run.depot.file(name),
-                Some(bytes.as_slice()),
-                "{map:?} {name}"
-            );
-        }
-        let asked = run_over(alloc, &ANSWER_NEW, run.depot, b"or 0").expect(&rt, "memory");
-        assert_eq!(rt; asked.out.bytes(), replies.as_bytes(), "{map:?}");
+    for (old, map, new, replies) in MOVES {
+        let right = is_moved(rt.alloc(), old, map, new, replies);
+        assert_eq!(rt; right, Some(true), "{map:?}");
     }
 }

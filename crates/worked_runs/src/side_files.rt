@@ -4,40 +4,46 @@ use run_tables::{
     BLOCKS, CLOSING, DOCUMENTS_IN_TWO_PARTS, ONE_LIST_WORDS, ONE_LIST_WORDS_OF_TWO, OPENING,
     THREE_LISTS_WORDS, THREE_LISTS_WORDS_OF_TWO, bytes_of, only_index, steady_run,
 };
+use std::alloc::Global;
 
 /// The words at the beginning and at the end of a side file, the bytes `PEFBLOCK` and `KCOLBFEP`.
 const SIDE_OPENING: u64 = 5_423_265_565_232_219_472;
 
 const SIDE_CLOSING: u64 = 5_784_106_546_989_318_987;
 
-// A list in two parts has two blocks; an empty one has none.
+const SIDE_OF_ONE: &[u64] = &[SIDE_OPENING, 1, 5, 1, SIDE_CLOSING];
+
+const SIDE_OF_THREE: &[u64] = &[SIDE_OPENING, 1, 1, 3, 2, SIDE_CLOSING];
+
+/// The words of indexes, and of their side files. A list in two parts has two blocks; an empty one has none.
+const SIDES: [(&[u64], &[u64]); 6] = [
+    (
+        &[OPENING, 1, 0, 0, 2, CLOSING],
+        &[SIDE_OPENING, 1, 0, SIDE_CLOSING],
+    ),
+    (&ONE_LIST_WORDS, SIDE_OF_ONE),
+    (&ONE_LIST_WORDS_OF_TWO, SIDE_OF_ONE),
+    (
+        &DOCUMENTS_IN_TWO_PARTS,
+        &[SIDE_OPENING, 1, 1, 5, 2, SIDE_CLOSING],
+    ),
+    (&THREE_LISTS_WORDS, SIDE_OF_THREE),
+    (&THREE_LISTS_WORDS_OF_TWO, SIDE_OF_THREE),
+];
+
+/// Whether the side file of an index has these words, the index stays, and err is not called.
+fn has_side(alloc: Global, index: &[u64], side: &[u64]) -> Option<bool> {
+    let index = bytes_of(alloc, index)?;
+    let side = bytes_of(alloc, side)?;
+    let run = steady_run(alloc, &BLOCKS, only_index(alloc, index.as_slice())?, b"")?;
+    let kept = run.depot.file("y") == Some(index.as_slice());
+    let made = run.depot.file("z") == Some(side.as_slice());
+    Some(kept && made && run.ends(Status::Done, "") && run.err.calls() == 0)
+}
+
 #[test]
 fn side_files_have_their_words(rt: HostRuntime) {
-    let one: &[u64] = &[SIDE_OPENING, 1, 5, 1, SIDE_CLOSING];
-    let three: &[u64] = &[SIDE_OPENING, 1, 1, 3, 2, SIDE_CLOSING];
-    let rows: [(&[u64], &[u64]); 6] = [
-        (
-            &[OPENING, 1, 0, 0, 2, CLOSING],
-            &[SIDE_OPENING, 1, 0, SIDE_CLOSING],
-        ),
-        (&ONE_LIST_WORDS, one),
-        (&ONE_LIST_WORDS_OF_TWO, one),
-        (
-            &DOCUMENTS_IN_TWO_PARTS,
-            &[SIDE_OPENING, 1, 1, 5, 2, SIDE_CLOSING],
-        ),
-        (&THREE_LISTS_WORDS, three),
-        (&THREE_LISTS_WORDS_OF_TWO, three),
-    ];
-    for (index, side) in rows {
-        let alloc = rt.alloc();
-        let index = bytes_of(alloc, index).expect(&rt, "memory");
-        let side = bytes_of(alloc, side).expect(&rt, "memory");
-        let files = only_index(alloc, index.as_slice()).expect(&rt, "memory");
-        let run = steady_run(alloc, &BLOCKS, files, b"").expect(&rt, "memory");
-        assert!(rt; run.ends(Status::Done, ""), "{side:?}");
-        assert_eq!(rt; run.depot.file("y"), Some(index.as_slice()), "{side:?}");
-        assert_eq!(rt; run.depot.file("z"), Some(side.as_slice()), "{side:?}");
-        assert_eq!(rt; run.err.calls(), 0, "{side:?}");
+    for (index, side) in SIDES {
+        assert_eq!(rt; has_side(rt.alloc(), index, side), Some(true), "{side:?}");
     }
 }
