@@ -31,12 +31,3 @@ pub use plan::{Plan, plan_top};
 pub use printing::print_summary;
 pub use text::{RunFault, answer_joined, answer_text};
 pub use writing::{write_file, write_words};
-
-#[cfg(test)]
-mod file_tests;
-#[cfg(test)]
-mod generated_tests;
-#[cfg(test)]
-mod plan_tests;
-#[cfg(test)]
-mod tests;

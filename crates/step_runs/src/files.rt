@@ -1,7 +1,7 @@
+// Files that are loaded and written.
 ghost use Rattle.std.specs.Prelude.{◌≤◌};
 
-use crate::loading::{LoadWordsError, load_words};
-use crate::writing::{write_file, write_words};
+use command_steps::{LoadWordsError, load_words, write_file, write_words};
 use pef_io::{Depot, IoFail, MemDepot, Op, Slot};
 use std::alloc::Global;
 use std::process::Abort;

@@ -1,0 +1,12 @@
+//! Runs of single steps of the commands over inputs, outputs and files in memory: texts that are answered, files that are loaded and
+//! written, what is printed of generated collections, and how often plans move their cursors.
+#![tactic(auto)]
+
+#[cfg(test)]
+mod files;
+#[cfg(test)]
+mod generations;
+#[cfg(test)]
+mod plans;
+#[cfg(test)]
+mod texts;
