@@ -6,3 +6,5 @@ mod Taken
 mod WordsRead
 mod TextsRead
 mod Rows
+mod Several
+mod Lent

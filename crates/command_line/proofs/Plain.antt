@@ -1,9 +1,15 @@
 -- The words as texts.
 use Rattle.std.proofs.Common.{◌≡◌, ℕ, ◌≤◌, ◌<◌, refl, arith, List, [], ◌∷◌, length, drop, ◌∙◌, ap, sym}
 use Rattle.std.proofs.Math.ListN.{get_or}
-use Rattle.std.specs.Prelude.{Bool, false, String, is_some, string_bytes}
+use Rattle.std.specs.Prelude.{Bool, true, false, Option, Some, None, String, is_some, string_bytes}
 use Rattle.std.specs.declared.alloc.Global.{Global}
-use Rattle.command_line.specs.Command.{command_of, remap_command, texts}
+use Rattle.clap.specs.Words.{kind_of}
+use Rattle.clap.specs.declared.error.Error.{Error}
+use Rattle.clap.specs.declared.error.kind.ErrorKind.TheVariants.{OutOfMemory}
+use Rattle.command_line.specs.declared.error.WordsError.{WordsError}
+use Rattle.command_line.specs.WordsErrors.{error_of_words}
+use Rattle.command_line.specs.Private.CommandLine.{error_of_kind, error_of_matching}
+use Rattle.command_line.specs.Command.{Command, command_of, remap_command, texts}
 
 -- a name, a verb, and what is behind them
 named : (words : List (String Global)) (a b : String Global) (v : List ℕ) → 2 ≤ length words
@@ -39,3 +45,8 @@ more_than_three (a ∷ []) many = absurd (omega (arith, many))
 more_than_three (a ∷ b ∷ []) many = absurd (omega (arith, many))
 more_than_three (a ∷ b ∷ c ∷ []) many = absurd (omega (arith, many))
 more_than_three (a ∷ b ∷ c ∷ d ∷ words) many = refl
+
+-- why words that are a command gave none
+pub refused_words : (command : Option Command) (e : Error) (error : WordsError) → is_some command ≡ true → kind_of e ≡ OutOfMemory → error ≡ error_of_matching e → error ≡ error_of_words command
+refused_words None e error some kind is = cc
+refused_words (Some command) e error some kind is = is ∙ ap error_of_kind kind

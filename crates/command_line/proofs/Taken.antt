@@ -32,15 +32,15 @@ plan_name MaxScore = codes "maxscore"
 -- ---- a level whose first words are taken by positionals
 
 -- a subcommand as it is built
-abbrev leaf : App → Shape
+abbrev pub leaf : App → Shape
 leaf sub = built_leaf sub.top
 
 -- where the walk of a level begins
-abbrev start : Walk
+abbrev pub start : Walk
 start = at 1 nothing_held
 
 -- whether a level passes, from where its walk ends
-abbrev ended : Shape → Walk → Bool → Bool
+abbrev pub ended : Shape → Walk → Bool → Bool
 ended s end through = through
     && (settle_passes s.rules s.args_override_self end.held
     && (list_all default_passes s.rules && is_valid s (finished s.rules end.held) false))
@@ -54,13 +54,13 @@ abbrev takes_word : Shape → ℕ → Held → Bool
 takes_word s position held = option_map_or (λ a. positional_passes s.rules s.args_override_self a held) (arg_by_index s.rules position) false
 
 -- From one walk these words lead to another, with others to come: they pass where those do.
-abbrev Leads : Shape → Walk → List Text → Walk → List Text → Type 0
+abbrev pub Leads : Shape → Walk → List Text → Walk → List Text → Type 0
 Leads s from words to rest = (fold (walked s.rules []) from words ≡ fold (walked s.rules []) to rest) × (walk_passes s [] from words ≡ walk_passes s [] to rest)
 
-leads_on : (s : Shape) (a b c : Walk) (words some rest : List Text) → Leads s a words b some → Leads s b some c rest → Leads s a words c rest
+pub leads_on : (s : Shape) (a b c : Walk) (words some rest : List Text) → Leads s a words b some → Leads s b some c rest → Leads s a words c rest
 leads_on s a b c words some rest f g = (f.0 ∙ g.0, f.1 ∙ g.1)
 
-word_leads : (s : Shape) (position : ℕ) (held : Held) (x : ℕ) (xs : Text) → (x == 45) ≡ false → takes_word s position held ≡ true → (rest : List Text)
+pub word_leads : (s : Shape) (position : ℕ) (held : Held) (x : ℕ) (xs : Text) → (x == 45) ≡ false → takes_word s position held ≡ true → (rest : List Text)
     → Leads s (at position held) ((x ∷ xs) ∷ rest) (after_word s position held (x ∷ xs)) rest
 unfolding walk_passes
 word_leads s position held x xs h taken rest = (
@@ -70,17 +70,17 @@ word_leads s position held x xs h taken rest = (
 )
 
 -- so a level passes where the rest does
-abbrev Passes : Shape → List Text → Walk → List Text → Type 0
+abbrev pub Passes : Shape → List Text → Walk → List Text → Type 0
 Passes s words end rest = level_passes s [] nothing_held words false ≡ ended s (fold (walked s.rules []) end rest) (walk_passes s [] end rest)
 
-level : (s : Shape) (words : List Text) (end : Walk) (rest : List Text) → Leads s start words end rest → Passes s words end rest
+pub level : (s : Shape) (words : List Text) (end : Walk) (rest : List Text) → Leads s start words end rest → Passes s words end rest
 level s words end rest leads = ap (λ w. ended s w (walk_passes s [] start words)) leads.0 ∙ ap (ended s (fold (walked s.rules []) end rest)) leads.1
 
 -- and its rows are those behind the rest
-abbrev HasRows : Shape → List Text → Walk → List Text → Type 0
+abbrev pub HasRows : Shape → List Text → Walk → List Text → Type 0
 HasRows s words end rest = rows_after s.rules [] words ≡ finished s.rules (fold (walked s.rules []) end rest).held
 
-rows : (s : Shape) (words : List Text) (end : Walk) (rest : List Text) → Leads s start words end rest → HasRows s words end rest
+pub rows : (s : Shape) (words : List Text) (end : Walk) (rest : List Text) → Leads s start words end rest → HasRows s words end rest
 rows s words end rest leads = ap (λ (w : Walk). finished s.rules w.held) leads.0
 
 -- ---- one text, and a plan

@@ -1,12 +1,12 @@
 -- What is read of the matches.
 use Rattle.std.proofs.Common.{◌≡◌, refl, sym, ap, ap₂, ◌∙◌}
-use Rattle.std.specs.Prelude.{List, Option, Some, None, codes, option_map, option_and_then, unwrap_or}
+use Rattle.std.specs.Prelude.{List, map, Option, Some, None, codes, option_map, option_and_then, unwrap_or}
 use Rattle.std.specs.Borrow.{Bor}
 use Rattle.clap.specs.Words.{Row, Text, first_of}
 use Rattle.part_cost.specs.declared.formats.Format.{Format}
 use Rattle.command_line.specs.declared.plan.Plan.{Plan}
-use Rattle.command_line.specs.Command.{Command, Build, format_of}
-use Rattle.command_line.specs.Private.CommandLine.{build_from, build_with, answering_from}
+use Rattle.command_line.specs.Command.{Command, Build, Segments, format_of}
+use Rattle.command_line.specs.Private.CommandLine.{build_from, build_with, answering_from, segments_from}
 
 -- a text, as the borrowed text that is read
 abbrev pub now_of : Option (Bor Text) → Option Text
@@ -74,6 +74,28 @@ module _ (make : Text → Plan → Command) where
 
   pub text_and_plan : (text : Option Text) (plan : Option Plan) (t : Text) (p : Plan) → text ≡ Some t → plan ≡ Some p → Some (make t p) ≡ answering_from make text plan
   text_and_plan text plan t p et ep = sym (ap (λ o. answering_from make o plan) et ∙ ap (answering_from make (Some t)) ep)
+
+-- ---- `segments`
+
+pub no_indexes : (names : Option (List Text)) (plan : Option Plan) → names ≡ None → None ≡ segments_from names plan
+no_indexes names plan e = sym (ap (λ o. segments_from o plan) e)
+
+no_plan_of : (names : Option (List Text)) → segments_from names None ≡ None
+no_plan_of None = refl
+no_plan_of (Some names) = refl
+
+pub no_segments : (names : Option (List Text)) (plan : Option Plan) → plan ≡ None → None ≡ segments_from names plan
+no_segments names plan e = sym (ap (segments_from names) e ∙ no_plan_of names)
+
+pub names_and_plan : (names : Option (List Text)) (plan : Option Plan) (ns : List Text) (p : Plan) → names ≡ Some ns → plan ≡ Some p → segments_from names plan ≡ Some (Segments ns p)
+names_and_plan names plan ns p en ep = ap (λ o. segments_from o plan) en ∙ ap (segments_from (Some ns)) ep
+
+-- the texts of an argument, as they are lent
+pub many_read : (found : Option (Bor (List (Bor Text)))) (value : Option (List Text)) (texts : Bor (List (Bor Text))) → option_map (λ s. map (λ v. v.now) s.now) found ≡ value → found ≡ Some texts → value ≡ Some (map (λ v. v.now) texts.now)
+many_read found value texts e is = sym e ∙ ap (option_map (λ s. map (λ v. v.now) s.now)) is
+
+pub none_read : (found : Option (Bor (List (Bor Text)))) (value : Option (List Text)) → option_map (λ s. map (λ v. v.now) s.now) found ≡ value → found ≡ None → value ≡ None
+none_read found value e is = sym e ∙ ap (option_map (λ s. map (λ v. v.now) s.now)) is
 
 -- ---- the subcommand
 

@@ -1,6 +1,6 @@
 -- `clap` reads each command as the words ask for it.
 use Rattle.std.proofs.Common.{◌≡◌, refl, sym, ap, ◌∙◌, subst, true≢false}
-use Rattle.std.specs.Prelude.{◌==◌, ◌&&◌, not, ℕ, Bool, true, false, List, [], ◌∷◌, codes, bytes_eq, is_some, if◌then◌else◌, Option, Some, None}
+use Rattle.std.specs.Prelude.{◌==◌, ◌&&◌, not, nat_le, length, ℕ, Bool, true, false, List, [], ◌∷◌, ◌++◌, codes, bytes_eq, is_some, if◌then◌else◌, Option, Some, None}
 use Rattle.std.specs.Char.{is_ascii_digit}
 use Rattle.std.specs.Cmp.Lexicographic.{same_text}
 use Rattle.std.proofs.lemmas.Bool.{eqb-true, and_parts, not-true}
@@ -12,10 +12,13 @@ use Rattle.part_cost.specs.declared.formats.Format.TheVariants.{One, Two}
 use Rattle.query_text.specs.Numbers.{number_of}
 use Rattle.command_line.specs.declared.plan.Plan.{Plan}
 use Rattle.command_line.specs.declared.plan.Plan.TheVariants.{Exhaustive, Wand, MaxScore}
-use Rattle.command_line.specs.Command.{Command, Build, Query, Answer, Inspect, Migrate, Audit, Blocks, Remap, command_of, build_command, build_in, format_of, answering_command, answered_by, plan_of, text_command, generate_command, generate_of, migrate_command, blocks_command, remap_command, is_text, is_file_of, takes_place}
+use Rattle.command_line.specs.Command.{Command, Build, Query, Answer, Inspect, Migrate, Audit, Blocks, Remap, command_of, build_command, build_in, format_of, answering_command, answered_by, plan_of, text_command, generate_command, generate_of, migrate_command, blocks_command, remap_command, is_text, is_file_of, takes_place, Segments, segments_command, segments_by, texts_before, words_behind, most_segments, option_in}
 use Rattle.command_line.specs.Private.CommandLine.{program_app, asked_in}
 use Rattle.command_line.proofs.Taken.{format_name, format_words, plan_name, plan_words}
 use Rattle.command_line.proofs.Taken as clap
+use Rattle.command_line.proofs.Several.{IsPlain, ArePlain}
+use Rattle.command_line.proofs.Several as several
+use Rattle.command_line.proofs.Lent.{cut}
 
 -- the words are taken, and their matches ask for this command
 abbrev IsRead : List Text → Option Command → Type 0
@@ -272,6 +275,52 @@ generate_read name (seed ∷ n ∷ t ∷ []) h =
     numbers_read name seed n t are.0 are.1 are.2
 generate_read name (seed ∷ n ∷ t ∷ word ∷ words) h = cc
 
+-- ---- some texts, and a plan
+
+-- texts begin with no minus sign
+text_plain : (word : Text) → is_text word ≡ true → IsPlain word
+text_plain [] h = cc
+text_plain (x ∷ xs) h = plain x xs h
+
+texts_plain : (words : List Text) → ArePlain (texts_before words)
+texts_plain [] = tt
+texts_plain (word ∷ words) = go (is_text word) refl (texts_plain words)
+  where
+    go : (b : Bool) → is_text word ≡ b → ArePlain (texts_before words) → ArePlain (if b then word ∷ texts_before words else [])
+    go true e rest = (text_plain word e, rest)
+    go false e rest = tt
+
+segments_read : (name : Text) (args : List Text) → is_some (segments_command args) ≡ true → IsRead (name ∷ codes "segments" ∷ args) (segments_command args)
+segments_read name args h = go (texts_before args) (words_behind args) (cut args) (texts_plain args) h
+  where
+    -- what the words are, with these texts and these words behind them
+    said : List Text → List Text → Option Command
+    said names rest = segments_by names (option_in (codes "--plan") plan_of Exhaustive rest)
+
+    none : (plan : Option Plan) → is_some (segments_by [] plan) ≡ false
+    none None = refl
+    none (Some plan) = refl
+
+    by : (first : Text) (more rest : List Text) (plan : Plan) → args ≡ (first ∷ more) ++ rest → is_some (segments_by (first ∷ more) (Some plan)) ≡ true
+        → (nat_le (length (first ∷ more)) 64 ≡ true → IsRead (name ∷ codes "segments" ∷ first ∷ (more ++ rest)) (Some (Segments (first ∷ more) plan)))
+        → IsRead (name ∷ codes "segments" ∷ args) (segments_by (first ∷ more) (Some plan))
+    by first more rest plan e h reads =
+        let is = chosen (nat_le 1 (length (first ∷ more)) && nat_le (length (first ∷ more)) most_segments) (Segments (first ∷ more) plan) h in
+        subst (λ ws. IsRead (name ∷ codes "segments" ∷ ws) (segments_by (first ∷ more) (Some plan))) (sym e)
+        (subst (IsRead (name ∷ codes "segments" ∷ first ∷ (more ++ rest))) (sym is.1) (reads (and_parts (nat_le 1 (length (first ∷ more))) (nat_le (length (first ∷ more)) most_segments) is.0).1))
+
+    go : (names rest : List Text) → args ≡ names ++ rest → ArePlain names → is_some (said names rest) ≡ true → IsRead (name ∷ codes "segments" ∷ args) (said names rest)
+    go [] rest e p h = absurd (true≢false (sym h ∙ none (option_in (codes "--plan") plan_of Exhaustive rest)))
+    go (first ∷ more) [] e p h = by first more [] Exhaustive e h (λ few. (several.alone_taken name first more few p.0 p.1, several.alone_asked name first more few p.0 p.1))
+    go (first ∷ more) (option ∷ []) e p h = cc
+    go (first ∷ more) (option ∷ value ∷ []) e p h =
+        let is = named (codes "--plan") plan_of (segments_by (first ∷ more)) refl option value h in
+        let words : option ∷ value ∷ [] ≡ plan_words is.0 = ap (λ o. o ∷ value ∷ []) is.2 ∙ ap (λ v. codes "--plan" ∷ v ∷ []) (plan_named value is.0 is.1) in
+        let read = by first more (plan_words is.0) is.0 (e ∙ ap (λ ws. (first ∷ more) ++ ws) words) (ap is_some (sym is.3) ∙ h)
+        (λ few. (several.by_taken name first more few p.0 p.1 is.0, several.by_asked name first more few p.0 p.1 is.0)) in
+        subst (IsRead (name ∷ codes "segments" ∷ args)) (sym is.3) read
+    go (first ∷ more) (a ∷ b ∷ c ∷ ds) e p h = cc
+
 -- ---- any words
 
 pub read : (words : List Text) → is_some (command_of words) ≡ true → IsRead words (command_of words)
@@ -280,6 +329,7 @@ read (name ∷ []) h = cc
 read (name ∷ verb ∷ args) h =
     go (bytes_eq verb (codes "build")) refl (bytes_eq verb (codes "query")) refl (bytes_eq verb (codes "answer")) refl (bytes_eq verb (codes "inspect")) refl (bytes_eq verb (codes "generate")) refl
     (bytes_eq verb (codes "migrate")) refl (bytes_eq verb (codes "audit")) refl (bytes_eq verb (codes "blocks")) refl (bytes_eq verb (codes "remap")) refl
+    (bytes_eq verb (codes "segments")) refl
   where
     Goal : Type 0
     Goal = IsRead (name ∷ verb ∷ args) (command_of (name ∷ verb ∷ args))
@@ -293,15 +343,16 @@ read (name ∷ verb ∷ args) h =
     go : (b : Bool) → bytes_eq verb (codes "build") ≡ b → (q : Bool) → bytes_eq verb (codes "query") ≡ q → (a : Bool) → bytes_eq verb (codes "answer") ≡ a
         → (i : Bool) → bytes_eq verb (codes "inspect") ≡ i → (n : Bool) → bytes_eq verb (codes "generate") ≡ n
         → (m : Bool) → bytes_eq verb (codes "migrate") ≡ m → (u : Bool) → bytes_eq verb (codes "audit") ≡ u → (p : Bool) → bytes_eq verb (codes "blocks") ≡ p
-        → (r : Bool) → bytes_eq verb (codes "remap") ≡ r → Goal
-    go true e q f a g i k n l m j u o p v r w = is (codes "build") e (build_read name args)
-    go false e true f a g i k n l m j u o p v r w = is (codes "query") f (answering_read name (codes "query") Query (query_text name) (query_text_by name) args)
-    go false e false f true g i k n l m j u o p v r w = is (codes "answer") g (answering_read name (codes "answer") Answer (answer_text name) (answer_text_by name) args)
-    go false e false f false g true k n l m j u o p v r w = is (codes "inspect") k (text_read name (codes "inspect") Inspect (inspect_text name) args)
-    go false e false f false g false k true l m j u o p v r w = is (codes "generate") l (generate_read name args)
-    go false e false f false g false k false l true j u o p v r w = is (codes "migrate") j (migrate_read name args)
-    go false e false f false g false k false l false j true o p v r w = is (codes "audit") o (text_read name (codes "audit") Audit (audit_text name) args)
-    go false e false f false g false k false l false j false o true v r w = is (codes "blocks") v (blocks_read name args)
-    go false e false f false g false k false l false j false o false v true w = is (codes "remap") w (remap_read name args)
-    go false e false f false g false k false l false j false o false v false w =
-        let none : is_some (command_of (name ∷ verb ∷ args)) ≡ false = rw (e, f, g, k, l, j, o, v, w) refl in absurd (true≢false (sym h ∙ none))
+        → (r : Bool) → bytes_eq verb (codes "remap") ≡ r → (s : Bool) → bytes_eq verb (codes "segments") ≡ s → Goal
+    go true e q f a g i k n l m j u o p v r w s x = is (codes "build") e (build_read name args)
+    go false e true f a g i k n l m j u o p v r w s x = is (codes "query") f (answering_read name (codes "query") Query (query_text name) (query_text_by name) args)
+    go false e false f true g i k n l m j u o p v r w s x = is (codes "answer") g (answering_read name (codes "answer") Answer (answer_text name) (answer_text_by name) args)
+    go false e false f false g true k n l m j u o p v r w s x = is (codes "inspect") k (text_read name (codes "inspect") Inspect (inspect_text name) args)
+    go false e false f false g false k true l m j u o p v r w s x = is (codes "generate") l (generate_read name args)
+    go false e false f false g false k false l true j u o p v r w s x = is (codes "migrate") j (migrate_read name args)
+    go false e false f false g false k false l false j true o p v r w s x = is (codes "audit") o (text_read name (codes "audit") Audit (audit_text name) args)
+    go false e false f false g false k false l false j false o true v r w s x = is (codes "blocks") v (blocks_read name args)
+    go false e false f false g false k false l false j false o false v true w s x = is (codes "remap") w (remap_read name args)
+    go false e false f false g false k false l false j false o false v false w true x = is (codes "segments") x (segments_read name args)
+    go false e false f false g false k false l false j false o false v false w false x =
+        let none : is_some (command_of (name ∷ verb ∷ args)) ≡ false = rw (e, f, g, k, l, j, o, v, w, x) refl in absurd (true≢false (sym h ∙ none))

@@ -1,4 +1,4 @@
-use Rattle.std.specs.Prelude.{ℕ, Bool, false, not, ◌&&◌, ◌||◌, ◌==◌, ◌++◌, bytes_eq, codes, if◌then◌else◌, List, [], ◌∷◌, map, Option, Some, None, String, string_bytes}
+use Rattle.std.specs.Prelude.{ℕ, nat_le, length, Bool, false, not, ◌&&◌, ◌||◌, ◌==◌, ◌++◌, bytes_eq, codes, if◌then◌else◌, List, [], ◌∷◌, map, Option, Some, None, String, string_bytes}
 use Rattle.std.specs.declared.alloc.Global.{Global}
 use Rattle.part_cost.specs.declared.formats.Format.{Format}
 use Rattle.part_cost.specs.declared.formats.Format.TheVariants.{One, Two}
@@ -17,6 +17,7 @@ pub data Command : Type 0 where
   Audit : (index : List ℕ) → Command
   Blocks : (index side : List ℕ) → Command
   Remap : (base map to : List ℕ) → Command
+  Segments : (indexes : List (List ℕ)) (plan : Plan) → Command
 
 -- words as their bytes
 abbrev pub texts : List (String Global) → List (List ℕ)
@@ -124,6 +125,29 @@ remap_command (base ∷ map ∷ []) = None
 remap_command (base ∷ map ∷ to ∷ []) = if is_text base && is_text map && is_text to && not (takes_place base map to) then Some (Remap base map to) else None
 remap_command (base ∷ map ∷ to ∷ word ∷ words) = None
 
+-- the words before the first that can be no text of a command
+abbrev pub texts_before : List (List ℕ) → List (List ℕ)
+texts_before [] = []
+texts_before (word ∷ words) = if is_text word then word ∷ texts_before words else []
+
+-- that word, and the words behind it
+abbrev pub words_behind : List (List ℕ) → List (List ℕ)
+words_behind [] = []
+words_behind (word ∷ words) = if is_text word then words_behind words else word ∷ words
+
+-- the most indexes of a command
+abbrev pub most_segments : ℕ
+most_segments = 64
+
+-- some indexes with a plan, where there is one, and there are as many as may be
+abbrev pub segments_by : List (List ℕ) → Option Plan → Option Command
+segments_by names None = None
+segments_by names (Some plan) = if nat_le 1 (length names) && nat_le (length names) most_segments then Some (Segments names plan) else None
+
+-- one index or more, and then the option with a plan, or nothing
+abbrev pub segments_command : List (List ℕ) → Option Command
+segments_command words = segments_by (texts_before words) (option_in (codes "--plan") plan_of Exhaustive (words_behind words))
+
 -- the command of the words, the program's name first; none where they are refused as usage
 abbrev pub command_of : List (List ℕ) → Option Command
 command_of [] = None
@@ -138,4 +162,5 @@ command_of (name ∷ verb ∷ args) =
     else if bytes_eq verb (codes "audit") then text_command Audit args
     else if bytes_eq verb (codes "blocks") then blocks_command args
     else if bytes_eq verb (codes "remap") then remap_command args
+    else if bytes_eq verb (codes "segments") then segments_command args
     else None

@@ -1,14 +1,15 @@
-ghost use Rattle.std.specs.Prelude.{◌≡◌, codes, false, IfErr, IfOk, Some, option_and_then, option_map};
+ghost use Rattle.std.specs.Prelude.{◌≡◌, ◌+◌, ◌≤◌, length, take, drop, codes, false, IfErr, IfOk, Some, option_and_then, option_map};
 ghost use Rattle.clap.specs.Words.{app_of, first_of, found_of, rows_of, rule_of, subcommand_rows_of};
 ghost use Rattle.clap.specs.declared.builder.command.Command.TheViews.{out-Command};
 ghost use Rattle.command_line.specs.Command.{command_of, plan_of, texts};
+ghost use Rattle.command_line.specs.Command as line;
 ghost use Rattle.command_line.specs.Asked.{asked};
-ghost use Rattle.command_line.specs.Private.CommandLine.{program_app, generate_app, generate_with, migrate_app, migrate_with, blocks_app, blocks_with, remap_app, remap_with, number_in, build_app, query_app, answer_app, inspect_app, audit_app, telling_app, answering_app, asked_in, asked_of, plan_option, build_with, query_with, answer_with, AreRead, FailsForMemory};
+ghost use Rattle.command_line.specs.Private.CommandLine.{program_app, generate_app, generate_with, migrate_app, migrate_with, blocks_app, blocks_with, remap_app, remap_with, number_in, build_app, query_app, answer_app, inspect_app, audit_app, telling_app, answering_app, asked_in, asked_of, plan_option, indexes_argument, build_with, query_with, answer_with, AreRead, FailsForMemory, single_app, segments_app, segments_with, AreLent};
 ghost use Rattle.command_line.specs.WordsErrors.{error_of_words};
 
 use crate::error::WordsError;
 use crate::plan::Plan;
-use crate::words::{Command, is_command, parse_format, parse_number, parse_plan};
+use crate::words::{Command, MOST_SEGMENTS, is_command, parse_format, parse_number, parse_plan};
 use clap::{Arg, ArgMatches};
 use std::alloc::{AllocError, Global};
 
@@ -22,7 +23,7 @@ pub fn parse_words<'a>(alloc: Global, words: &'a [String]) -> Result<Command<'a>
         return Err(WordsError::Usage);
     }
     let matches = match_words(alloc, words)?;
-    read_command(&matches).ok_or(WordsError::Usage)
+    read_command(words, &matches).ok_or(WordsError::Usage)
 }
 
 /// The matches of the words. Of words that are a command there are none only where memory is refused.
@@ -34,15 +35,21 @@ fn match_words<'a>(alloc: Global, words: &'a [String]) -> Result<ArgMatches<'a>,
 }
 
 /// What the matches of the words ask for.
-fn read_command<'a>(matches: &ArgMatches<'a>) -> Option<Command<'a>>
+fn read_command<'a>(words: &'a [String], matches: &ArgMatches<'a>) -> Option<Command<'a>>
+    requires { AreLent (line.texts words.now) (asked_in (subcommand_rows_of matches.now)) }
     ensures { option_map asked result ≡ asked_in (subcommand_rows_of matches.now) }
 {
     let (verb, texts) = matches.subcommand()?;
-    read_subcommand(verb, texts)
+    read_subcommand(words, verb, texts)
 }
 
 /// What a subcommand asks for with these texts.
-fn read_subcommand<'a>(verb: &str, texts: &ArgMatches<'a>) -> Option<Command<'a>>
+fn read_subcommand<'a>(
+    words: &'a [String],
+    verb: &str,
+    texts: &ArgMatches<'a>,
+) -> Option<Command<'a>>
+    requires { AreLent (line.texts words.now) (asked_of verb.now (rows_of (found_of texts.now))) }
     ensures { option_map asked result ≡ asked_of verb.now (rows_of (found_of texts.now)) }
 {
     if verb == "build" {
@@ -65,6 +72,8 @@ fn read_subcommand<'a>(verb: &str, texts: &ArgMatches<'a>) -> Option<Command<'a>
         read_blocks(texts)
     } else if verb == "remap" {
         read_remap(texts)
+    } else if verb == "segments" {
+        read_segments(words, texts)
     } else {
         None
     }
@@ -144,6 +153,25 @@ fn read_remap<'a>(texts: &ArgMatches<'a>) -> Option<Command<'a>>
     Some(Command::Remap { base, map, to })
 }
 
+/// What `segments` asks for with these texts, which are the words behind the verb.
+fn read_segments<'a>(words: &'a [String], texts: &ArgMatches<'a>) -> Option<Command<'a>>
+    requires { AreLent (line.texts words.now) (segments_with (rows_of (found_of texts.now))) }
+    ensures { option_map asked result ≡ segments_with (rows_of (found_of texts.now)) }
+{
+    let count = texts.get_strs("indexes")?.len();
+    let plan = read_plan(texts)?;
+    let indexes = behind_verb(words, count);
+    Some(Command::Segments { indexes, plan })
+}
+
+/// The first so many words behind the verb.
+fn behind_verb<'a>(words: &'a [String], count: usize) -> &'a [String]
+    requires { 2 + count ≤ length words.now }
+    ensures { result.now ≡ take count (drop 2 words.entry.now) }
+{
+    &words[2..2 + count]
+}
+
 /// The number of this name among these texts.
 fn read_number(texts: &ArgMatches<'_>, id: &str) -> Option<u32>
     ensures { result ≡ number_in (rows_of (found_of texts.now)) id.now }
@@ -168,6 +196,14 @@ fn text_of<'a>(texts: &ArgMatches<'a>, id: &str) -> Option<&'a str>
 /// The command line of the program: one level of subcommands, whose arguments are texts.
 fn program<'a>(alloc: Global) -> Result<clap::Command<'a>, AllocError>
     ensures { IfOk result (λ command. app_of command ≡ program_app) }
+{
+    let segments = segments(alloc)?;
+    single(alloc)?.subcommand(segments)
+}
+
+/// The same without `segments`.
+fn single<'a>(alloc: Global) -> Result<clap::Command<'a>, AllocError>
+    ensures { IfOk result (λ command. app_of command ≡ single_app) }
 {
     let (audit, blocks, remap) = (audit(alloc)?, blocks(alloc)?, remap(alloc)?);
     telling(alloc)?
@@ -308,4 +344,24 @@ fn remap<'a>(alloc: Global) -> Result<clap::Command<'a>, AllocError>
         .arg(base)?
         .arg(map)?
         .arg(to)
+}
+
+/// `segments INDEX.. [--plan PLAN]`
+fn segments<'a>(alloc: Global) -> Result<clap::Command<'a>, AllocError>
+    ensures app { IfOk result (λ command. app_of command ≡ segments_app) }
+    ensures local { IfOk result (λ command. (out-Command command).has_globals ≡ false) }
+{
+    clap::Command::new(alloc, "segments")
+        .arg(indexes(alloc))?
+        .arg(plan(alloc))
+}
+
+/// `INDEX..`
+fn indexes<'a>(alloc: Global) -> Arg<'a>
+    ensures rule { rule_of result ≡ indexes_argument }
+    ensures local { result.global ≡ false }
+{
+    Arg::new(alloc, "indexes")
+        .required(true)
+        .num_args(1..=MOST_SEGMENTS)
 }

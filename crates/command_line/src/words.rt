@@ -1,14 +1,17 @@
-ghost use Rattle.std.specs.Prelude.{◌≡◌, ◌&&◌, not, ℕ, List, ◌∷◌, ◌++◌, bytes_eq, codes, is_some};
+ghost use Rattle.std.specs.Prelude.{◌≡◌, ◌≤◌, nat_le, length, ◌&&◌, not, ℕ, List, ◌∷◌, ◌++◌, bytes_eq, codes, is_some};
 ghost use Rattle.query_text.specs.Numbers.{number_of};
 ghost use Rattle.command_line.specs.declared.plan.Plan as plan;
 ghost use Rattle.command_line.specs.declared.plan.Plan.TheVariants as plans;
 ghost use Rattle.part_cost.specs.declared.formats.Format.TheVariants as formats;
 ghost use Rattle.command_line.specs.Command as asked;
-ghost use Rattle.command_line.specs.Command.{answering_command, blocks_command, build_command, command_of, format_of, generate_command, is_file_of, is_text, migrate_command, option_in, plan_of, remap_command, takes_place, text_command, texts};
+ghost use Rattle.command_line.specs.Command.{answering_command, blocks_command, build_command, command_of, format_of, generate_command, is_file_of, is_text, migrate_command, option_in, plan_of, remap_command, takes_place, text_command, texts, most_segments, segments_command, texts_before};
 
 use crate::plan::Plan;
 use part_cost::Format;
 use query_text::number;
+
+/// The most indexes of a command.
+pub(crate) const MOST_SEGMENTS: usize = 64;
 
 /// What the words of the command line ask for.
 #[derive(Clone, Copy, Debug, PartialEq, Eq)]
@@ -50,6 +53,11 @@ pub enum Command<'a> {
         map: &'a str,
         to: &'a str,
     },
+    Segments {
+        /// From 1 to 64.
+        indexes: &'a [String],
+        plan: Plan,
+    },
 }
 
 /// Whether the words are a command, the program's name first. The others are refused as usage.
@@ -78,6 +86,8 @@ fn asks(verb: &str, args: &[String]) -> bool
         is_name_and_another(args)
     } else if verb == "remap" {
         is_remap(args)
+    } else if verb == "segments" {
+        is_segments(args)
     } else {
         false
     }
@@ -196,6 +206,36 @@ fn takes_place(base: &str, map: &str, to: &str) -> bool
     ensures { result ≡ takes_place base.now map.now to.now }
 {
     to == base || is_file_of(to, map)
+}
+
+/// Whether words are one text or more, at most as many as may be, and then the option with a plan, or nothing.
+fn is_segments(args: &[String]) -> bool
+    ensures { result ≡ is_some (segments_command (texts args.now)) }
+{
+    let count = texts_before(args);
+    is_count(count) && names_plan(&args[count..])
+}
+
+/// Whether a command may have so many indexes.
+fn is_count(count: usize) -> bool
+    ensures { result ≡ (nat_le 1 count && nat_le count most_segments) }
+{
+    1 <= count && count <= MOST_SEGMENTS
+}
+
+/// How many words stand before the first that can be no text of a command.
+fn texts_before(words: &[String]) -> usize
+    ensures count { result ≡ length (texts_before (texts words.now)) }
+    ensures within { result ≤ length words.now }
+{
+    let mut count = 0;
+    for word in words {
+        if !can_be_text(word.as_str()) {
+            return count;
+        }
+        count += 1;
+    }
+    count
 }
 
 /// Whether a word is a number.

@@ -13,7 +13,8 @@ use Rattle.pef_io.specs.Helpers.{AppendsFront, WritesAll}
 use Rattle.collection_reader.specs.declared.fault.Fault.{Fault}
 use Rattle.index_file.specs.declared.fault.OpenFault.{OpenFault}
 use Rattle.remap.specs.declared.fault.MapFault.{MapFault}
-use Rattle.pef_top.specs.ErrLines.{check_text, index_line, map_line, map_rule_text, rule_text, slot_text, fault_line}
+use Rattle.segments.specs.declared.pushed.SegRule.{SegRule}
+use Rattle.pef_top.specs.ErrLines.{check_text, index_line, map_line, map_rule_text, rule_text, slot_text, fault_line, seg_rule_text, segment_line, unfit_line}
 use Rattle.pef_top.specs.Private.ErrPieces.{joined}
 
 joined-append : (xs ys : List (Bor (List ℕ))) → joined (xs ++ ys) ≡ joined xs ++ joined ys
@@ -183,3 +184,20 @@ map_fault_written old new f rule place r e1 e2 w =
     subst P (five_pieces (codes "map ") rule (codes " place ") place (codes "\n")
     ∙ ap (λ xs. codes "map " ++ xs ++ codes " place " ++ place ++ codes "\n") e1
     ∙ ap (λ xs. codes "map " ++ map_rule_text f.rule ++ codes " place " ++ xs ++ codes "\n") e2) w
+
+-- the pieces of the line of a segment that is no index
+pub segment_fault_written : (old new : SinkState) (f : OpenFault) (s : ℕ) (check term part segment : List ℕ) (r : Result (Unit {0}) IoFail) →
+    check ≡ check_text f.check → term ≡ decimal f.term → part ≡ decimal f.part → segment ≡ decimal s →
+    WritesAll old new (concat (codes "index " ∷ check ∷ codes " term " ∷ term ∷ codes " part " ∷ part ∷ codes " segment " ∷ segment ∷ codes "\n" ∷ [])) r →
+    WritesAll old new (segment_line f s) r
+segment_fault_written old new f s check term part segment r e1 e2 e3 e4 w =
+    let P : List ℕ → Type 0 = λ xs. WritesAll old new xs r in
+    let line : List ℕ → List ℕ → List ℕ → List ℕ → List ℕ = λ c t p s. codes "index " ++ c ++ codes " term " ++ t ++ codes " part " ++ p ++ codes " segment " ++ s ++ codes "\n" in
+    subst P (nine_pieces (codes "index ") check (codes " term ") term (codes " part ") part (codes " segment ") segment (codes "\n") ∙ (λ i. line (e1 i) (e2 i) (e3 i) (e4 i))) w
+
+-- the pieces of the line of a segment that cannot be joined
+pub unfit_written : (old new : SinkState) (rule : SegRule) (s : ℕ) (name segment : List ℕ) (r : Result (Unit {0}) IoFail) → name ≡ seg_rule_text rule → segment ≡ decimal s →
+    WritesAll old new (concat (codes "segments " ∷ name ∷ codes " segment " ∷ segment ∷ codes "\n" ∷ [])) r → WritesAll old new (unfit_line rule s) r
+unfit_written old new rule s name segment r e1 e2 w =
+    let P : List ℕ → Type 0 = λ xs. WritesAll old new xs r in
+    subst P (five_pieces (codes "segments ") name (codes " segment ") segment (codes "\n") ∙ (λ i. codes "segments " ++ e1 i ++ codes " segment " ++ e2 i ++ codes "\n")) w

@@ -38,7 +38,7 @@ is_ragged zero h = absurd (h refl)
 is_ragged (suc n) h = ap not (eqb-suc-zero n)
 
 -- the first check of bytes that are no whole words, and of those of words
-ragged_breaks : (bytes : List ℕ) (fault : OpenFault) → length bytes % 8 ≢ 0 → fault ≡ ragged_index → IsFirstBrokenOfFile bytes fault
+pub ragged_breaks : (bytes : List ℕ) (fault : OpenFault) → length bytes % 8 ≢ 0 → fault ≡ ragged_index → IsFirstBrokenOfFile bytes fault
 ragged_breaks bytes fault h e =
     subst (λ b. MatchBool b (fault ≡ ragged_index) ((ws : List ℕ) × AreOfWords bytes ws × IsFirstBroken ws fault)) (sym (is_ragged (length bytes % 8) h)) e
 
@@ -51,7 +51,7 @@ words_break bytes words fault of first =
     subst (λ b. MatchBool b (fault ≡ ragged_index) ((ws : List ℕ) × AreOfWords bytes ws × IsFirstBroken ws fault)) (sym (is_even (length bytes % 8) (even bytes words of)))
     (words, of, first)
 
-words_broken : WordsAreRead → (bytes words : List ℕ) (fault : OpenFault) → AreOfWords bytes words → IsFirstBrokenOfFile bytes fault → IsFirstBroken words fault
+pub words_broken : WordsAreRead → (bytes words : List ℕ) (fault : OpenFault) → AreOfWords bytes words → IsFirstBrokenOfFile bytes fault → IsFirstBroken words fault
 words_broken read bytes words fault of first =
     let it : (ws : List ℕ) × AreOfWords bytes ws × IsFirstBroken ws fault =
     subst (λ b. MatchBool b (fault ≡ ragged_index) ((ws : List ℕ) × AreOfWords bytes ws × IsFirstBroken ws fault)) (is_even (length bytes % 8) (even bytes words of)) first in
@@ -59,7 +59,7 @@ words_broken read bytes words fault of first =
     subst P (read it.0 words it.1.fit of.fit (sym it.1.bytes_are ∙ of.bytes_are)) it.2
 
 -- the file of an index is not too large, and its words are an index
-index_is_short : (name : List ℕ) (d : DepotState) (c : Collection) → IsTrue d.tells → FindsIndexOf name d c → length (bytes_under d name) ≤ most_bytes
+pub index_is_short : (name : List ℕ) (d : DepotState) (c : Collection) → IsTrue d.tells → FindsIndexOf name d c → length (bytes_under d name) ≤ most_bytes
 index_is_short name d c t (format, parts, found) = short (bytes_under d name) (file_words (numbers_of format) c parts) (found.bytes t) found.within
 
 index_is_even : (name : List ℕ) (d : DepotState) (c : Collection) → IsTrue d.tells → FindsIndexOf name d c → length (bytes_under d name) % 8 ≡ 0

@@ -28,3 +28,7 @@ mod WordsLoaded
 mod IndexLoaded
 mod IndexRefused
 mod Headline
+mod SegmentsFound
+mod SegmentsRead
+mod SegmentsAnswered
+mod SegmentLoaded

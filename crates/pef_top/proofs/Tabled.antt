@@ -3,9 +3,9 @@ use Rattle.std.proofs.Common.{refl, inl, inr}
 use Rattle.std.specs.Prelude.{Some}
 use Rattle.pef_io.specs.declared.fail.Slot.TheVariants.{Docs}
 use Rattle.collection_reader.specs.ReadCollection.{IsCollectionSlot}
-use Rattle.command_line.specs.Command.{Command, Build, Query, Answer, Inspect, Generate, Migrate, Audit, Blocks, Remap}
+use Rattle.command_line.specs.Command.{Command, Build, Query, Answer, Inspect, Generate, Migrate, Audit, Blocks, Remap, Segments}
 use Rattle.pef_top.specs.Outside.{Outside}
-use Rattle.pef_top.specs.Outcome.{Outcome, Done, Usage, BrokenCollection, BrokenIndex, BrokenMap, FileFault, InputFault, WriteFault, OutFault, NoMemory, TooLarge, InputTooLarge}
+use Rattle.pef_top.specs.Outcome.{Outcome, Done, Usage, BrokenCollection, BrokenIndex, BrokenMap, FileFault, InputFault, WriteFault, OutFault, NoMemory, TooLarge, InputTooLarge, BrokenSegment, UnfitSegment}
 use Rattle.pef_top.specs.Commands.{Performs}
 use Rattle.pef_top.specs.MayEnd.{MayEnd}
 
@@ -25,6 +25,8 @@ may_end (Build base index format) old new OutFault h = absurd h.ends
 may_end (Build base index format) old new NoMemory h = tt
 may_end (Build base index format) old new (TooLarge slot) h = h.ends.0
 may_end (Build base index format) old new InputTooLarge h = absurd h.ends
+may_end (Build base index format) old new (BrokenSegment fault segment) h = absurd h.ends
+may_end (Build base index format) old new (UnfitSegment rule segment) h = absurd h.ends
 may_end (Query index plan) old new Done h = tt
 may_end (Query index plan) old new Usage h = h.ends
 may_end (Query index plan) old new (BrokenCollection fault) h = absurd h.ends
@@ -37,6 +39,8 @@ may_end (Query index plan) old new OutFault h = refl
 may_end (Query index plan) old new NoMemory h = tt
 may_end (Query index plan) old new (TooLarge slot) h = h.ends.0
 may_end (Query index plan) old new InputTooLarge h = refl
+may_end (Query index plan) old new (BrokenSegment fault segment) h = absurd h.ends
+may_end (Query index plan) old new (UnfitSegment rule segment) h = absurd h.ends
 may_end (Answer base plan) old new Done h = tt
 may_end (Answer base plan) old new Usage h = h.ends
 may_end (Answer base plan) old new (BrokenCollection fault) h = docs
@@ -49,6 +53,8 @@ may_end (Answer base plan) old new OutFault h = refl
 may_end (Answer base plan) old new NoMemory h = tt
 may_end (Answer base plan) old new (TooLarge slot) h = h.ends.0
 may_end (Answer base plan) old new InputTooLarge h = refl
+may_end (Answer base plan) old new (BrokenSegment fault segment) h = absurd h.ends
+may_end (Answer base plan) old new (UnfitSegment rule segment) h = absurd h.ends
 may_end (Inspect index) old new Done h = tt
 may_end (Inspect index) old new Usage h = h.ends
 may_end (Inspect index) old new (BrokenCollection fault) h = absurd h.ends
@@ -61,6 +67,8 @@ may_end (Inspect index) old new OutFault h = refl
 may_end (Inspect index) old new NoMemory h = tt
 may_end (Inspect index) old new (TooLarge slot) h = h.ends.0
 may_end (Inspect index) old new InputTooLarge h = absurd h.ends
+may_end (Inspect index) old new (BrokenSegment fault segment) h = absurd h.ends
+may_end (Inspect index) old new (UnfitSegment rule segment) h = absurd h.ends
 may_end (Generate seed n t) old new Done h = tt
 may_end (Generate seed n t) old new Usage h = h.ends
 may_end (Generate seed n t) old new (BrokenCollection fault) h = absurd h.ends
@@ -73,6 +81,8 @@ may_end (Generate seed n t) old new OutFault h = refl
 may_end (Generate seed n t) old new NoMemory h = tt
 may_end (Generate seed n t) old new (TooLarge slot) h = h.ends.0
 may_end (Generate seed n t) old new InputTooLarge h = absurd h.ends
+may_end (Generate seed n t) old new (BrokenSegment fault segment) h = absurd h.ends
+may_end (Generate seed n t) old new (UnfitSegment rule segment) h = absurd h.ends
 may_end (Migrate from to) old new Done h = tt
 may_end (Migrate from to) old new Usage h = h.ends
 may_end (Migrate from to) old new (BrokenCollection fault) h = absurd h.ends
@@ -85,6 +95,8 @@ may_end (Migrate from to) old new OutFault h = absurd h.ends
 may_end (Migrate from to) old new NoMemory h = tt
 may_end (Migrate from to) old new (TooLarge slot) h = elim h.ends [ inl long ↦ long.0 | inr many ↦ many.0 ]
 may_end (Migrate from to) old new InputTooLarge h = absurd h.ends
+may_end (Migrate from to) old new (BrokenSegment fault segment) h = absurd h.ends
+may_end (Migrate from to) old new (UnfitSegment rule segment) h = absurd h.ends
 may_end (Audit index) old new Done h = tt
 may_end (Audit index) old new Usage h = h.ends
 may_end (Audit index) old new (BrokenCollection fault) h = absurd h.ends
@@ -97,6 +109,8 @@ may_end (Audit index) old new OutFault h = refl
 may_end (Audit index) old new NoMemory h = tt
 may_end (Audit index) old new (TooLarge slot) h = h.ends.0
 may_end (Audit index) old new InputTooLarge h = absurd h.ends
+may_end (Audit index) old new (BrokenSegment fault segment) h = absurd h.ends
+may_end (Audit index) old new (UnfitSegment rule segment) h = absurd h.ends
 may_end (Blocks index side) old new Done h = tt
 may_end (Blocks index side) old new Usage h = h.ends
 may_end (Blocks index side) old new (BrokenCollection fault) h = absurd h.ends
@@ -109,6 +123,8 @@ may_end (Blocks index side) old new OutFault h = absurd h.ends
 may_end (Blocks index side) old new NoMemory h = tt
 may_end (Blocks index side) old new (TooLarge slot) h = h.ends.0
 may_end (Blocks index side) old new InputTooLarge h = absurd h.ends
+may_end (Blocks index side) old new (BrokenSegment fault segment) h = absurd h.ends
+may_end (Blocks index side) old new (UnfitSegment rule segment) h = absurd h.ends
 may_end (Remap base map to) old new Done h = tt
 may_end (Remap base map to) old new Usage h = h.ends
 may_end (Remap base map to) old new (BrokenCollection fault) h = inl docs
@@ -121,3 +137,19 @@ may_end (Remap base map to) old new OutFault h = absurd h.ends
 may_end (Remap base map to) old new NoMemory h = tt
 may_end (Remap base map to) old new (TooLarge slot) h = absurd h.ends
 may_end (Remap base map to) old new InputTooLarge h = absurd h.ends
+may_end (Remap base map to) old new (BrokenSegment fault segment) h = absurd h.ends
+may_end (Remap base map to) old new (UnfitSegment rule segment) h = absurd h.ends
+may_end (Segments indexes plan) old new Done h = tt
+may_end (Segments indexes plan) old new Usage h = h.ends
+may_end (Segments indexes plan) old new (BrokenCollection fault) h = absurd h.ends
+may_end (Segments indexes plan) old new (BrokenIndex fault) h = absurd h.ends
+may_end (Segments indexes plan) old new (BrokenMap fault) h = absurd h.ends
+may_end (Segments indexes plan) old new (FileFault slot) h = h.ends
+may_end (Segments indexes plan) old new InputFault h = refl
+may_end (Segments indexes plan) old new (WriteFault slot) h = absurd h.ends
+may_end (Segments indexes plan) old new OutFault h = refl
+may_end (Segments indexes plan) old new NoMemory h = tt
+may_end (Segments indexes plan) old new (TooLarge slot) h = h.ends.0
+may_end (Segments indexes plan) old new InputTooLarge h = refl
+may_end (Segments indexes plan) old new (BrokenSegment fault segment) h = refl
+may_end (Segments indexes plan) old new (UnfitSegment rule segment) h = refl

@@ -10,7 +10,7 @@ use Rattle.pef_top.specs.Outside.{outside, GotText}
 use Rattle.pef_top.specs.ErrLines.{memory_line}
 use Rattle.pef_top.specs.Outcome.{NoMemory}
 use Rattle.pef_top.specs.Ends.{Ends}
-use Rattle.command_line.specs.Command.{Command, Build, Query, Answer, Inspect, Generate, Migrate, Audit, Blocks, Remap}
+use Rattle.command_line.specs.Command.{Command, Build, Query, Answer, Inspect, Generate, Migrate, Audit, Blocks, Remap, Segments}
 use Rattle.pef_top.specs.Commands.{Performs}
 
 -- a run that is refused memory ends so
@@ -96,5 +96,12 @@ performs (Remap base map to) d i o e e' s = record {
   };
   complete = λ t h n. inr refl;
   depot = record { refused = λ h. OnlyReads-same d; unaccepted = λ h. OnlyReads-same d; stay_started = λ slot h. h; other_slots = λ slot h. (refl, λ t. refl); create_count = inr refl; finish_count = inr refl };
+  costs = refl;
+}
+performs (Segments indexes plan) d i o e e' s = record {
+  ends = inl (record { input = refl; out = refl });
+  refuses = record { refused = λ t this h. inr (inr refl); sound = λ t c h r. r };
+  answers = record { complete = λ t c h n l. inr (inr refl); limited = λ t c h n l. inr (inr refl) };
+  depot = OnlyReads-same d;
   costs = refl;
 }

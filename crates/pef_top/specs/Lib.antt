@@ -5,9 +5,11 @@ pub mod Outcome
 pub mod Ends
 pub mod FoundIndex
 pub mod FoundSide
+pub mod FoundSegments
 pub mod Built
 pub mod ReadingCollection
 pub mod ReadingIndex
+pub mod ReadingSegments
 pub mod AnsweredText
 pub mod PrintedText
 pub mod WrittenFile
@@ -21,6 +23,7 @@ pub mod Generate
 pub mod Migrate
 pub mod Audit
 pub mod Remap
+pub mod AnswerSegments
 pub mod Commands
 pub mod Uncalled
 pub mod Starts

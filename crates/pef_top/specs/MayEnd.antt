@@ -1,11 +1,11 @@
-use Rattle.std.specs.Prelude.{⊤, IsTrue, Some}
+use Rattle.std.specs.Prelude.{⊤, Bool, true, false, IsTrue, Some}
 use Rattle.pef_io.specs.declared.fail.Slot.{Slot}
 use Rattle.pef_io.specs.declared.fail.Slot.TheVariants.{Docs, Index, Map}
 use Rattle.collection_reader.specs.ReadCollection.{IsCollectionSlot}
-use Rattle.command_line.specs.Command.{Command, Build, Migrate, Blocks, Remap}
+use Rattle.command_line.specs.Command.{Command, Build, Migrate, Blocks, Remap, Segments}
 use Rattle.command_model.specs.Found.{IsIndexSlot}
 use Rattle.pef_top.specs.Outside.{Outside}
-use Rattle.pef_top.specs.Outcome.{Outcome, Done, Usage, BrokenCollection, BrokenIndex, BrokenMap, FileFault, InputFault, WriteFault, OutFault, NoMemory, TooLarge, InputTooLarge}
+use Rattle.pef_top.specs.Outcome.{Outcome, Done, Usage, BrokenCollection, BrokenIndex, BrokenMap, FileFault, InputFault, WriteFault, OutFault, NoMemory, TooLarge, InputTooLarge, BrokenSegment, UnfitSegment}
 use Rattle.pef_top.specs.Commands.{Performs}
 use Rattle.pef_top.specs.FoundSide.{IsSideSlot}
 use Rattle.pef_top.specs.Starts.{ReadsFrom}
@@ -24,13 +24,25 @@ abbrev pub MayBeTooLarge : Command → Slot → Type 0
 MayBeTooLarge (Remap base map to) = λ slot. ⊥
 MayBeTooLarge command = IsIndexSlot
 
+-- whether a command joins indexes
+abbrev pub joins : Command → Bool
+joins (Segments indexes plan) = true
+joins command = false
+
+-- A command may be refused its index, which is no segment.
+abbrev pub MayBeRefusedIndex : Command → Type 0
+MayBeRefusedIndex (Segments indexes plan) = ⊥
+MayBeRefusedIndex command = ReadsFrom (Some command) Index
+
 -- Which outcomes a command may have.
 abbrev pub MayEnd : Command → Outcome → Type 0
 MayEnd command Done = ⊤
 MayEnd command Usage = ⊥
 MayEnd command (BrokenCollection fault) = ReadsFrom (Some command) Docs
-MayEnd command (BrokenIndex fault) = ReadsFrom (Some command) Index
+MayEnd command (BrokenIndex fault) = MayBeRefusedIndex command
 MayEnd command (BrokenMap fault) = ReadsFrom (Some command) Map
+MayEnd command (BrokenSegment fault segment) = IsTrue (joins command)
+MayEnd command (UnfitSegment rule segment) = IsTrue (joins command)
 MayEnd command (FileFault slot) = ReadsFrom (Some command) slot
 MayEnd command InputFault = IsTrue (reads_input (Some command))
 MayEnd command (WriteFault slot) = WritesTo command slot

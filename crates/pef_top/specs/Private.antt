@@ -3,3 +3,4 @@ pub mod ErrPieces
 pub mod Stops
 pub mod LoadedIndex
 pub mod Leaves
+pub mod ReadSegments

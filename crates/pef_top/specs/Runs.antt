@@ -5,7 +5,7 @@ use Rattle.pef_top.specs.Outside.{Outside}
 use Rattle.pef_top.specs.Outcome.{Outcome, Done}
 use Rattle.pef_top.specs.Ends.{Ends}
 use Rattle.pef_top.specs.Commands.{IsUsage, Performs}
-use Rattle.pef_top.specs.Starts.{StartedIn, StartsOnly}
+use Rattle.pef_top.specs.Starts.{Starts}
 use Rattle.pef_top.specs.Uncalled.{Objects, Accepts, LeavesUncalled}
 
 -- What a run promises of its status, of what is outside, of the objects on which the command works, and of err, before it and after it.
@@ -18,6 +18,6 @@ pub record Runs {D I O E : Type 0} (command : Option Command) (old new : Outside
   pub outcome : (ended : Outcome)
       × Ends old new ended result
       × Performs command old new ended
-      × StartsOnly (StartedIn command ended) ended old.depot new.depot
+      × Starts command ended old.depot new.depot
       × LeavesUncalled command (Accepts command old.depot) ended old_objects new_objects
       × (ended ≡ Done → new_err ≡ old_err)

@@ -1,6 +1,6 @@
 ghost use Rattle.std.specs.Prelude.{◌≡◌};
 ghost use Rattle.pef_io.specs.Helpers.{WritesAll};
-ghost use Rattle.pef_top.specs.ErrLines.{check_text, fault_line, index_line, map_line, map_rule_text, rule_text, slot_text};
+ghost use Rattle.pef_top.specs.ErrLines.{check_text, fault_line, index_line, map_line, map_rule_text, rule_text, seg_rule_text, segment_line, slot_text, unfit_line};
 ghost use Rattle.pef_top.specs.Outcome.{line_of};
 ghost use Rattle.pef_top.specs.Private.ErrPieces.{joined};
 ghost use Rattle.pef_top.specs.Private.Stops.{outcome_of_stop};
@@ -11,11 +11,12 @@ use index_file::OpenFault;
 use itoa::Buffer;
 use pef_io::{IoFail, Sink, Slot, write_all_own};
 use remap::{MapFault, MapRule};
+use segments::SegRule;
 use two_level::Check;
 
 /// The line of words that are no command.
 const USAGE: &[u8] =
-    b"usage: pefidx build BASE INDEX [--format FORMAT] | query INDEX [--plan PLAN] | answer BASE [--plan PLAN] | inspect INDEX | generate SEED N T | migrate OLD NEW | audit INDEX | blocks INDEX SIDE | remap BASE MAP NEW\n";
+    b"usage: pefidx build BASE INDEX [--format FORMAT] | query INDEX [--plan PLAN] | answer BASE [--plan PLAN] | inspect INDEX | generate SEED N T | migrate OLD NEW | audit INDEX | blocks INDEX SIDE | remap BASE MAP NEW | segments INDEX.. [--plan PLAN]\n";
 
 /// Writes the line of a run that stopped, without memory.
 pub(crate) fn write_line<E: Sink>(err: &mut E, stop: Stop) -> Result<(), IoFail>
@@ -26,6 +27,8 @@ pub(crate) fn write_line<E: Sink>(err: &mut E, stop: Stop) -> Result<(), IoFail>
         Stop::Collection(fault) => write_fault(err, fault),
         Stop::Index(fault) => write_index_fault(err, fault),
         Stop::Map(fault) => write_map_fault(err, fault),
+        Stop::Segment(fault, s) => write_segment_fault(err, fault, s),
+        Stop::Unfit(rule, s) => write_unfit(err, rule, s),
         Stop::File(slot) => write_pieces(err, &[b"read fault: ", slot_name(slot), b"\n"]),
         Stop::Input => write_all_own(err, b"read fault: input\n"),
         Stop::Write(slot) => write_pieces(err, &[b"write fault: ", slot_name(slot), b"\n"]),
@@ -95,6 +98,46 @@ fn write_map_fault<E: Sink>(err: &mut E, fault: MapFault) -> Result<(), IoFail>
     )
 }
 
+/// Writes the line of a segment that is no index.
+fn write_segment_fault<E: Sink>(err: &mut E, fault: OpenFault, s: u64) -> Result<(), IoFail>
+    ensures { WritesAll (E.state err.old) (E.state err.new) (segment_line fault s) result }
+{
+    let mut term = Buffer::new();
+    let mut part = Buffer::new();
+    let mut segment = Buffer::new();
+    write_pieces(
+        err,
+        &[
+            b"index ",
+            check_name(fault.check),
+            b" term ",
+            term.format(fault.term).as_bytes(),
+            b" part ",
+            part.format(fault.part).as_bytes(),
+            b" segment ",
+            segment.format(s).as_bytes(),
+            b"\n",
+        ],
+    )
+}
+
+/// Writes the line of a segment that cannot be joined to those before it.
+fn write_unfit<E: Sink>(err: &mut E, rule: SegRule, s: u64) -> Result<(), IoFail>
+    ensures { WritesAll (E.state err.old) (E.state err.new) (unfit_line rule s) result }
+{
+    let mut segment = Buffer::new();
+    write_pieces(
+        err,
+        &[
+            b"segments ",
+            seg_rule_name(rule),
+            b" segment ",
+            segment.format(s).as_bytes(),
+            b"\n",
+        ],
+    )
+}
+
 /// Writes some pieces, one after the other.
 fn write_pieces<E: Sink>(err: &mut E, pieces: &[&[u8]]) -> Result<(), IoFail>
     ensures { WritesAll (E.state err.old) (E.state err.new) (joined pieces.now) result }
@@ -133,6 +176,15 @@ fn map_rule_name(rule: MapRule) -> &'static [u8]
         MapRule::M3 => b"M3",
         MapRule::M4 => b"M4",
         MapRule::M5 => b"M5",
+    }
+}
+
+fn seg_rule_name(rule: SegRule) -> &'static [u8]
+    ensures { result.now ≡ seg_rule_text rule }
+{
+    match rule {
+        SegRule::G1 => b"G1",
+        SegRule::G2 => b"G2",
     }
 }
 

@@ -8,6 +8,7 @@ mod build;
 mod err_lines;
 mod generate;
 mod inspect;
+mod joined;
 mod laws;
 mod loading;
 mod migrate;
@@ -17,7 +18,9 @@ mod status;
 mod stop;
 mod top;
 
-pub use command_steps::{BuildError, Plan, RunFault, answer_text, build_words, plan_top};
+pub use command_steps::{
+    BuildError, Plan, RunFault, answer_joined, answer_text, build_words, plan_top,
+};
 pub use laws::{built_files_answer, commands_end_by_the_table, migrated_files_answer};
 pub use status::Status;
 pub use top::{run, run_uncounted};

@@ -22,6 +22,8 @@ pub enum Status {
     TooLarge,
     /// A file is no order of the documents of a collection.
     Map,
+    /// An index cannot be joined to those before it.
+    Segments,
 }
 
 impl Status {
@@ -39,6 +41,7 @@ impl Status {
             Status::NoMemory => 7,
             Status::TooLarge => 8,
             Status::Map => 10,
+            Status::Segments => 11,
         }
     }
 }

@@ -1,6 +1,6 @@
 ghost use Rattle.std.specs.Prelude.{◌≡◌};
 ghost use Rattle.pef_top.specs.Outcome.{status_of};
-ghost use Rattle.pef_top.specs.Private.Stops.{outcome_of, outcome_of_stop, stop_of_index, stop_of_loading, stop_of_printing, stop_of_writing, written_outcome};
+ghost use Rattle.pef_top.specs.Private.Stops.{at_segment, outcome_of, outcome_of_stop, stop_of_index, stop_of_loading, stop_of_printing, stop_of_writing, written_outcome};
 
 use crate::status::Status;
 use collection_reader::Fault;
@@ -10,6 +10,8 @@ use index_file::{FinishError, OpenFault};
 use no_memory::NoMemory;
 use pef_io::{IoFail, Slot};
 use remap::MapFault;
+use segments::SegRule;
+use std::alloc::{AllocError, AllocFailed};
 use two_level::Check;
 
 /// Why a run ended before all was done.
@@ -23,6 +25,10 @@ pub(crate) enum Stop {
     Index(OpenFault),
     /// The file is no order of the documents.
     Map(MapFault),
+    /// The file of this segment, counted from 0, is no index.
+    Segment(OpenFault, u64),
+    /// The index of this segment, counted from 0, cannot be joined to those before it.
+    Unfit(SegRule, u64),
     /// A start or a read of this file failed.
     File(Slot),
     /// A read of the input failed.
@@ -47,12 +53,23 @@ impl Stop {
         match self {
             Stop::Usage => Status::Usage,
             Stop::Collection(_) => Status::Collection,
-            Stop::Index(_) => Status::Index,
+            Stop::Index(_) | Stop::Segment(..) => Status::Index,
             Stop::Map(_) => Status::Map,
+            Stop::Unfit(..) => Status::Segments,
             Stop::File(_) | Stop::Input => Status::Read,
             Stop::Write(_) | Stop::Out => Status::Write,
             Stop::NoMemory => Status::NoMemory,
             Stop::Large(_) | Stop::LongInput => Status::TooLarge,
+        }
+    }
+
+    /// The same, where the index is segment s.
+    pub(crate) fn at_segment(self, s: u64) -> Stop
+        ensures { result ≡ at_segment s self }
+    {
+        match self {
+            Stop::Index(fault) => Stop::Segment(fault, s),
+            other => other,
         }
     }
 }
@@ -67,6 +84,26 @@ impl From<WordsError> for Stop {
             WordsError::Usage => Stop::Usage,
             WordsError::NoMemory => Stop::NoMemory,
         }
+    }
+}
+
+impl From<AllocError> for Stop {
+    ghost use Rattle.pef_top.specs.declared.stop.Stop.TheVariants as stop;
+
+    ghost from_gives = { λ _ answer. answer ≡ stop.NoMemory };
+
+    fn from(_refused: AllocError) -> Stop {
+        Stop::NoMemory
+    }
+}
+
+impl<T: Drop> From<AllocFailed<T>> for Stop {
+    ghost use Rattle.pef_top.specs.declared.stop.Stop.TheVariants as stop;
+
+    ghost from_gives = { λ _ answer. answer ≡ stop.NoMemory };
+
+    fn from(_refused: AllocFailed<T>) -> Stop {
+        Stop::NoMemory
     }
 }
 

@@ -14,6 +14,7 @@ use crate::build::build;
 use crate::err_lines::write_line;
 use crate::generate::generate;
 use crate::inspect::inspect;
+use crate::joined::answer_segments;
 use crate::migrate::migrate;
 use crate::query::query;
 use crate::reorder::reorder;
@@ -41,7 +42,8 @@ pub(crate) const LONGEST_TEXT: u64 = 1 << 40;
 /// format 2 and in new partitions, as the file NEW. `audit INDEX` checks that file whole and prints, for each sequence of at most 256
 /// numbers, what its partition costs and the least costs of allowed partitions and of all. `blocks INDEX SIDE` checks the file INDEX whole and writes the side file of its blocks
 /// as the file SIDE. `remap BASE MAP NEW` reads a collection and, from the file MAP, an order of its
-/// documents, and writes the files NEW.docs, NEW.freqs and NEW.sizes of its image. Every status but `Done` has its line on err, which takes no memory; an err that
+/// documents, and writes the files NEW.docs, NEW.freqs and NEW.sizes of its image. `segments INDEX.. [--plan PLAN]` checks each of 1 to
+/// 64 files whole, and answers the lines from the collection to which their indexes are joined. Every status but `Done` has its line on err, which takes no memory; an err that
 /// fails changes no status.
 pub fn run<D: Depot, I: Source, O: Sink, E: Sink, L: Ledger>(
     alloc: Global,
@@ -135,6 +137,9 @@ fn perform<D: Depot, I: Source, O: Sink, L: Ledger>(
         Command::Audit { index } => audit(alloc, index, depot, out, steps),
         Command::Blocks { index, side } => write_blocks(alloc, index, side, depot),
         Command::Remap { base, map, to } => reorder(alloc, base, map, to, depot),
+        Command::Segments { indexes, plan } => {
+            answer_segments(alloc, indexes, plan, depot, input, out)
+        }
     }
 }
 

@@ -1,5 +1,5 @@
-use Rattle.std.specs.Prelude.{◌≡◌, ℕ, is_some, List, [], ◌∷◌, true, codes, if◌then◌else◌, bytes_eq, Option, Some, None, option_map, option_and_then}
-use Rattle.clap.specs.Words.{App, Row, Rule, Text, first_of, new_app, new_rule, with_rule, with_subcommand, kind_of, subcommand_rows_of}
+use Rattle.std.specs.Prelude.{◌≡◌, ℕ, ◌+◌, ◌≤◌, length, take, drop, is_some, List, [], ◌∷◌, true, codes, if◌then◌else◌, bytes_eq, Option, Some, None, option_map, option_and_then}
+use Rattle.clap.specs.Words.{App, Row, Rule, Text, first_of, new_app, new_rule, with_rule, with_subcommand, kind_of, subcommand_rows_of, all_of}
 use Rattle.clap.specs.declared.error.Error.{Error}
 use Rattle.clap.specs.declared.error.kind.ErrorKind.{ErrorKind}
 use Rattle.clap.specs.declared.error.kind.ErrorKind.TheVariants.{OutOfMemory}
@@ -9,7 +9,7 @@ use Rattle.query_text.specs.Numbers.{number_of}
 use Rattle.command_line.specs.declared.plan.Plan.{Plan}
 use Rattle.command_line.specs.declared.error.WordsError.{WordsError}
 use Rattle.command_line.specs.declared.error.WordsError.TheVariants as refused
-use Rattle.command_line.specs.Command.{Command, Build, Query, Answer, Inspect, Migrate, Audit, Blocks, Remap, command_of, format_of, plan_of, generate_of}
+use Rattle.command_line.specs.Command.{Command, Build, Query, Answer, Inspect, Migrate, Audit, Blocks, Remap, command_of, format_of, plan_of, generate_of, Segments, most_segments}
 
 -- a positional that a subcommand requires
 abbrev pub required : Text → Rule
@@ -22,6 +22,10 @@ format_option = record (new_rule (codes "format")) { long = Some (codes "format"
 -- `--plan PLAN`, with its default
 abbrev pub plan_option : Rule
 plan_option = record (new_rule (codes "plan")) { long = Some (codes "plan"); defaults = codes "exhaustive" ∷ [] }
+
+-- `INDEX..`, as many as a command may have
+abbrev pub indexes_argument : Rule
+indexes_argument = record (required (codes "indexes")) { range = Some (record { start_inclusive = 1; end_inclusive = most_segments }) }
 
 -- `build BASE INDEX [--format FORMAT]`
 abbrev pub build_app : App
@@ -59,6 +63,10 @@ blocks_app = with_rule (with_rule (new_app (codes "blocks")) (required (codes "i
 abbrev pub remap_app : App
 remap_app = with_rule (with_rule (with_rule (new_app (codes "remap")) (required (codes "base"))) (required (codes "map"))) (required (codes "to"))
 
+-- `segments INDEX.. [--plan PLAN]`
+abbrev pub segments_app : App
+segments_app = with_rule (with_rule (new_app (codes "segments")) indexes_argument) plan_option
+
 -- the command line of `build`, `query` and `answer`
 abbrev pub answering_app : App
 answering_app = with_subcommand (with_subcommand (with_subcommand (new_app (codes "pefidx")) build_app.top) query_app.top) answer_app.top
@@ -67,9 +75,13 @@ answering_app = with_subcommand (with_subcommand (with_subcommand (new_app (code
 abbrev pub telling_app : App
 telling_app = with_subcommand (with_subcommand (with_subcommand answering_app inspect_app.top) generate_app.top) migrate_app.top
 
+-- the same with `audit`, `blocks` and `remap`
+abbrev pub single_app : App
+single_app = with_subcommand (with_subcommand (with_subcommand telling_app audit_app.top) blocks_app.top) remap_app.top
+
 -- the command line of the program
 abbrev pub program_app : App
-program_app = with_subcommand (with_subcommand (with_subcommand telling_app audit_app.top) blocks_app.top) remap_app.top
+program_app = with_subcommand single_app segments_app.top
 
 -- a base, an index and a format, where there are all three
 abbrev pub build_from : Option Text → Option Text → Option Format → Option Command
@@ -128,6 +140,15 @@ remap_from base map to = None
 abbrev pub remap_with : List Row → Option Command
 remap_with rows = remap_from (first_of (codes "base") rows) (first_of (codes "map") rows) (first_of (codes "to") rows)
 
+-- some indexes and a plan, where there are both
+abbrev pub segments_from : Option (List Text) → Option Plan → Option Command
+segments_from (Some indexes) (Some plan) = Some (Segments indexes plan)
+segments_from indexes plan = None
+
+-- what `segments` asks for with these texts
+abbrev pub segments_with : List Row → Option Command
+segments_with rows = segments_from (all_of (codes "indexes") rows) (option_and_then plan_of (first_of (codes "plan") rows))
+
 -- what a subcommand asks for with these texts
 abbrev pub asked_of : Text → List Row → Option Command
 asked_of verb rows =
@@ -140,6 +161,7 @@ asked_of verb rows =
     else if bytes_eq verb (codes "audit") then option_map Audit (first_of (codes "index") rows)
     else if bytes_eq verb (codes "blocks") then blocks_with rows
     else if bytes_eq verb (codes "remap") then remap_with rows
+    else if bytes_eq verb (codes "segments") then segments_with rows
     else None
 
 -- what the matches of the words ask for
@@ -162,3 +184,8 @@ error_of_kind kind = refused.Usage
 -- the same by the error
 abbrev pub error_of_matching : Error → WordsError
 error_of_matching e = error_of_kind (kind_of e)
+
+-- Indexes that a command asks for are the words behind the verb, from the first on.
+abbrev pub AreLent : List Text → Option Command → Type 0
+AreLent words command =
+    (indexes : List Text) (plan : Plan) → command ≡ Some (Segments indexes plan) → (2 + length indexes ≤ length words) × (indexes ≡ take (length indexes) (drop 2 words))

@@ -5,14 +5,14 @@ use Rattle.command_line.specs.Command.{Command}
 use Rattle.pef_top.specs.Outside.{Outside, GotText}
 use Rattle.pef_top.specs.Outcome.{Outcome, Done, status_of, line_of}
 use Rattle.pef_top.specs.Ends.{FirstFaultEnds}
-use Rattle.pef_top.specs.Starts.{StartedIn, StartsOnly}
+use Rattle.pef_top.specs.Starts.{Starts}
 use Rattle.pef_top.specs.Commands.{Performs}
 
 -- What a command leaves, err apart: what it promises, the counts of faults, what it starts, and that the objects go on telling.
 pub record Leaves (command : Option Command) (old new : Outside) (outcome : Outcome) : Type 0 where
   pub performs : Performs command old new outcome
   pub faults : FirstFaultEnds old new outcome
-  pub starts : StartsOnly (StartedIn command outcome) outcome old.depot new.depot
+  pub starts : Starts command outcome old.depot new.depot
   pub depot_tells : new.depot.tells ≡ old.depot.tells
   pub input_tells : new.input.tells ≡ old.input.tells
   pub out_tells : new.out.tells ≡ old.out.tells

@@ -1,4 +1,4 @@
-use Rattle.std.specs.Prelude.{Result, Ok, Err}
+use Rattle.std.specs.Prelude.{ℕ, Result, Ok, Err}
 use Rattle.command_line.specs.declared.error.WordsError.{WordsError}
 use Rattle.command_line.specs.declared.error.WordsError.TheVariants as words
 use Rattle.pef_io.specs.declared.fail.IoFail.{IoFail}
@@ -20,7 +20,7 @@ use Rattle.command_steps.specs.declared.image.ImageError.TheVariants as image
 use Rattle.command_steps.specs.declared.image.FileFail.{FileFail}
 use Rattle.pef_top.specs.declared.stop.Stop.{Stop}
 use Rattle.pef_top.specs.declared.stop.Stop.TheVariants as stop
-use Rattle.pef_top.specs.Outcome.{Outcome, Done, Usage, BrokenCollection, BrokenIndex, BrokenMap, FileFault, InputFault, WriteFault, OutFault, NoMemory, TooLarge, InputTooLarge}
+use Rattle.pef_top.specs.Outcome.{Outcome, Done, Usage, BrokenCollection, BrokenIndex, BrokenMap, FileFault, InputFault, WriteFault, OutFault, NoMemory, TooLarge, InputTooLarge, BrokenSegment, UnfitSegment}
 
 -- where a run stops whose words gave no command
 abbrev pub stop_of_words : WordsError → Stop
@@ -82,12 +82,19 @@ stop_of_image image.NoMemory = stop.NoMemory
 abbrev pub stop_of_file : FileFail → Stop
 stop_of_file f = stop_of_writing f.slot f.fail
 
+-- where a run stops whose index is a segment
+abbrev pub at_segment : ℕ → Stop → Stop
+at_segment s (stop.Index fault) = stop.Segment fault s
+at_segment s it = it
+
 -- how a run ended that stopped so
 abbrev pub outcome_of_stop : Stop → Outcome
 outcome_of_stop stop.Usage = Usage
 outcome_of_stop (stop.Collection fault) = BrokenCollection fault
 outcome_of_stop (stop.Index fault) = BrokenIndex fault
 outcome_of_stop (stop.Map fault) = BrokenMap fault
+outcome_of_stop (stop.Segment fault segment) = BrokenSegment fault segment
+outcome_of_stop (stop.Unfit rule segment) = UnfitSegment rule segment
 outcome_of_stop (stop.File slot) = FileFault slot
 outcome_of_stop stop.Input = InputFault
 outcome_of_stop (stop.Write slot) = WriteFault slot

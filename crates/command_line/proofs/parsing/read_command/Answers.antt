@@ -21,3 +21,10 @@ returns c =
     let entered = pairs c.subcommand.result _ _ (subcommand_rows_of c.args.matches.now)
     (c.subcommand.ensures.name ∙ first_named (out-ArgMatches c.args.matches.now).subcommand _ _) c.subcommand.ensures.rows in
     c.read_subcommand.ensures ∙ sym (ap asked_in (entered ∙ ap (option_map (λ p. (p.0.now, rows_of (found_of p.1.now)))) found))
+
+pub read_subcommand-requires : goal.read_subcommand-requires
+read_subcommand-requires c = λ indexes plan h.
+    let found : c.subcommand.result ≡ Some (c.in_ok-verb.verb, c.in_ok-verb.texts) = search rules in
+    let entered = pairs c.subcommand.result _ _ (subcommand_rows_of c.args.matches.now)
+    (c.subcommand.ensures.name ∙ first_named (out-ArgMatches c.args.matches.now).subcommand _ _) c.subcommand.ensures.rows in
+    c.requires indexes plan (ap asked_in (entered ∙ ap (option_map (λ p. (p.0.now, rows_of (found_of p.1.now)))) found) ∙ h)

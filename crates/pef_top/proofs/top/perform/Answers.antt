@@ -85,3 +85,10 @@ returns-in-Remap-clause-leaves g c = λ e e'.
     (outside (g.D.Depot.state c.reorder.new.depot) (g.I.Source.state c.args.input.now) (g.O.Sink.state c.args.out.now) e' c.args.steps.now) (outcome_of c.reorder.result) in
     subst P (sym (ap (λ x. Some (asked x)) c.in-Remap.is) ∙ c.in_ok-command.ensures.command)
     (c.reorder.ensures (g.I.Source.state c.args.input.now) (g.O.Sink.state c.args.out.now) e e' c.args.steps.now)
+
+pub returns-in-Segments-clause-leaves : goal.returns-in-Segments-clause-leaves
+returns-in-Segments-clause-leaves g c = λ e e'.
+    let P : Option Command → Type 0 = λ command. Leaves command
+    (outside (g.D.Depot.state c.args.depot.now) (g.I.Source.state c.args.input.now) (g.O.Sink.state c.args.out.now) e c.args.steps.now)
+    (outside (g.D.Depot.state c.answer_segments.new.depot) (g.I.Source.state c.answer_segments.new.input) (g.O.Sink.state c.answer_segments.new.out) e' c.args.steps.now) (outcome_of c.answer_segments.result) in
+    subst P (sym (ap (λ x. Some (asked x)) c.in-Segments.is) ∙ c.in_ok-command.ensures.command) (c.answer_segments.ensures.leaves e e' c.args.steps.now)
