@@ -8,7 +8,7 @@ use run_tables::{
 use std::alloc::Global;
 
 const USAGE: &str =
-    "usage: pefidx build BASE INDEX [--format FORMAT] | query INDEX [--plan PLAN] | answer BASE [--plan PLAN] | inspect INDEX | generate SEED N T | migrate OLD NEW | audit INDEX | blocks INDEX SIDE | remap BASE MAP NEW\n";
+    "usage: pefidx build BASE INDEX [--format FORMAT] | query INDEX [--plan PLAN] | answer BASE [--plan PLAN] | inspect INDEX | generate SEED N T | migrate OLD NEW | audit INDEX | blocks INDEX SIDE | remap BASE MAP NEW | segments INDEX.. [--plan PLAN]\n";
 
 /// Words that are no command.
 const NO_COMMANDS: [&[&str]; 41] = [
