@@ -70,6 +70,14 @@ impl<'a> Side<'a> {
             None => Ok(Side { words }),
         }
     }
+
+    /// The same side file of words that `view` accepts, without looking whether it does.
+    pub fn known<S: BlockSource>(words: &'a [u64], _source: &S) -> Side<'a>
+        requires { words.now ≡ side_words (S.lists _source.now) }
+        ensures { words_seen result ≡ words.entry.now }
+    {
+        Side { words }
+    }
 }
 
 impl<'a> Side<'a> {

@@ -64,7 +64,7 @@ impl<'i, 'a> TermLists for IndexLists<'i, 'a> {
 }
 
 /// The documents of the lists are below their number.
-fn documents_are_below(index: &Index<'_>)
+pub(crate) fn documents_are_below(index: &Index<'_>)
     ensures { IsInRange index.now.collection }
 {
     index.stands_for_a_collection();

@@ -3,6 +3,7 @@
 #![tactic(auto)]
 
 mod audit;
+mod blockwise;
 mod build;
 mod generate;
 mod generated_text;
@@ -29,5 +30,5 @@ pub use loading::{LoadWordsError, load_words};
 pub use migrate::migrated_words;
 pub use plan::{Plan, plan_top};
 pub use printing::print_summary;
-pub use text::{RunFault, answer_joined, answer_text};
+pub use text::{RunFault, answer_by_blocks, answer_joined, answer_text};
 pub use writing::{write_file, write_words};

@@ -1,15 +1,21 @@
 ghost use Rattle.std.specs.Prelude.{◌≡◌, map};
+ghost use Rattle.block_max.specs.SideWords.{side_words, words_seen};
+ghost use Rattle.index_blocks.specs.BlockLists.{blocks_of_index};
+ghost use Rattle.index_blocks.specs.Seen.{index_seen};
 ghost use Rattle.segments.specs.Joined.{joined};
 ghost use Rattle.command_steps.specs.AnswerJoined.{CanBeJoined, collections_of};
 ghost use Rattle.command_steps.specs.AnswerText.{AnswersText};
 ghost use Rattle.command_steps.specs.AnswersEnded.{AnswersEnded};
 ghost use Rattle.command_steps.specs.Faults.{input_fault, out_fault};
 
+use crate::blockwise::SideLists;
 use crate::indexed::IndexLists;
 use crate::joined::JoinedLists;
 use crate::lines::{answer_line, answer_piece};
 use crate::lists::TermLists;
 use crate::plan::Plan;
+use block_max::Side;
+use index_blocks::IndexBlocks;
 use index_file::Index;
 use no_memory::NoMemory;
 use pef_io::{IoFail, Sink, Source};
@@ -45,6 +51,22 @@ pub fn answer_text<I: Source, O: Sink>(
     ensures { AnswersText index.now.collection limit (I.state input.old) (I.state input.new) (O.state out.old) (O.state out.new) result }
 {
     answer_from(alloc, &IndexLists::new(index, plan), input, limit, out)
+}
+
+/// Answers the lines of the input from an opened index, given as its lists in blocks, and its side file, as `answer_text` does; `top` is
+/// answered by block-max WAND.
+pub fn answer_by_blocks<'i, I: Source, O: Sink>(
+    alloc: Global,
+    blocks: &'i IndexBlocks<'i, '_>,
+    side: Side<'i>,
+    input: &mut I,
+    limit: u64,
+    out: &mut O,
+) -> Result<(), RunFault>
+    requires { words_seen side ≡ side_words (blocks_of_index (index_seen blocks.now)) }
+    ensures { AnswersText (index_seen blocks.now).collection limit (I.state input.old) (I.state input.new) (O.state out.old) (O.state out.new) result }
+{
+    answer_from(alloc, &SideLists::new(blocks, side), input, limit, out)
 }
 
 /// Answers the lines of the input from the collection to which these indexes are joined, in the order of the files, as `answer_text` does

@@ -1,3 +1,4 @@
 pub mod BlockLists
 pub mod Laws
 pub mod Props
+pub mod Seen

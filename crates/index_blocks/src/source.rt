@@ -1,12 +1,15 @@
-ghost use Rattle.std.specs.Prelude.{◌≡◌};
+ghost use Rattle.std.specs.Prelude.{◌≡◌, ◌<◌, length};
 ghost use Rattle.std.specs.List.{All};
+ghost use Rattle.collection_model.specs.Collection.{list_of};
 ghost use Rattle.block_max.specs.Blocks.{IsBlockList};
+ghost use Rattle.block_max.specs.SideWords.{side_words, words_seen};
 ghost use Rattle.index_blocks.specs.BlockLists.{block_starts, blocks_of_index};
 ghost use Rattle.index_blocks.specs.Props.{cut-prop};
 
-use block_max::BlockSource;
+use block_max::{BlockSource, Side, SideCursor};
+use cursor_api::DocCursor;
 use index_file::Index;
-use postings::cursors_stand_in_lists;
+use postings::{PostingCursor, cursors_stand_in_lists};
 
 /// The lists of an opened index, whose blocks are the parts of their documents.
 #[derive(Clone, Copy)]
@@ -19,14 +22,39 @@ pub struct IndexBlocks<'i, 'a> {
 }
 
 impl<'i, 'a> IndexBlocks<'i, 'a> {
+    ghost use Rattle.index_blocks.specs.Seen.{index_seen};
+
     /// The lists of an index, with what `block_starts` gives of it.
     pub fn new(index: &'i Index<'a>, starts: &'i [u64]) -> IndexBlocks<'i, 'a>
         requires { starts.now ≡ block_starts (blocks_of_index index.now) }
-        ensures { ⟦<IndexBlocks<'i, 'a> as BlockSource>⟧.lists result ≡ blocks_of_index index.entry.now }
+        ensures lists { ⟦<IndexBlocks<'i, 'a> as BlockSource>⟧.lists result ≡ blocks_of_index index.entry.now }
+        ensures index { index_seen result ≡ index.entry.now }
     {
         index.stands_for_a_collection();
         cursors_stand_in_lists();
         IndexBlocks { index, starts }
+    }
+
+    /// The index whose lists these are.
+    pub fn index(&self) -> &'i Index<'a>
+        ensures { result.now ≡ index_seen self.now }
+    {
+        self.index
+    }
+
+    /// A cursor at the start of list t of the index, with the blocks of its side file.
+    pub fn cursor(
+        &'i self,
+        side: Side<'i>,
+        t: u32,
+    ) -> SideCursor<'i, PostingCursor<'a>, IndexBlocks<'i, 'a>>
+        requires within { t < length (index_seen self.now).collection.lists }
+        requires of_side { words_seen side ≡ side_words (blocks_of_index (index_seen self.now)) }
+        ensures list { ⟦<SideCursor<'i, PostingCursor<'a>, IndexBlocks<'i, 'a>> as DocCursor>⟧.list result ≡ list_of (index_seen self.entry.now).collection t }
+        ensures start { ⟦<SideCursor<'i, PostingCursor<'a>, IndexBlocks<'i, 'a>> as DocCursor>⟧.place result ≡ 0 }
+    {
+        self.index.stands_for_a_collection();
+        SideCursor::new(self.index.cursor(t), self, side, t)
     }
 }
 
