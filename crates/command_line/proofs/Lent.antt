@@ -9,7 +9,7 @@ use Rattle.part_cost.specs.declared.formats.Format.TheVariants.{Two}
 use Rattle.query_text.specs.Numbers.{number_of}
 use Rattle.command_line.specs.declared.plan.Plan.{Plan}
 use Rattle.command_line.specs.declared.plan.Plan.TheVariants.{Exhaustive}
-use Rattle.command_line.specs.Command.{Command, Build, Query, Answer, Inspect, Generate, Migrate, Audit, Blocks, Remap, Segments, command_of, build_command, build_in, format_of, option_in, plan_of, answering_command, answered_by, text_command, generate_command, generate_of, migrate_command, blocks_command, remap_command, segments_command, segments_by, texts, texts_before, words_behind, most_segments, is_text, is_file_of, takes_place}
+use Rattle.command_line.specs.Command.{Command, Build, Query, Answer, Inspect, Generate, Migrate, Audit, Blocks, BlockQuery, Remap, Segments, command_of, build_command, build_in, format_of, option_in, plan_of, answering_command, answered_by, text_command, generate_command, generate_of, migrate_command, blocks_command, bquery_command, remap_command, segments_command, segments_by, texts, texts_before, words_behind, most_segments, is_text, is_file_of, takes_place}
 use Rattle.command_line.specs.Private.CommandLine.{AreLent}
 
 -- ---- the texts before the first word that is none
@@ -157,6 +157,12 @@ blocks_other (index ∷ []) = none_other
 blocks_other (index ∷ side ∷ []) = if_other (is_text index && is_text side && not (bytes_eq index side)) (Blocks index side) (λ indexes plan h. cc)
 blocks_other (index ∷ side ∷ word ∷ words) = none_other
 
+bquery_other : (args : List Text) → IsOther (bquery_command args)
+bquery_other [] = none_other
+bquery_other (index ∷ []) = none_other
+bquery_other (index ∷ side ∷ []) = if_other (is_text index && is_text side) (BlockQuery index side) (λ indexes plan h. cc)
+bquery_other (index ∷ side ∷ word ∷ words) = none_other
+
 remap_other : (args : List Text) → IsOther (remap_command args)
 remap_other [] = none_other
 remap_other (base ∷ []) = none_other
@@ -187,6 +193,7 @@ lent (name ∷ verb ∷ args) indexes plan h =
     let is : indexes ≡ texts_before args = segments_lent args indexes plan
     (last (bytes_eq verb (codes "segments")) (segments_command args)
     (next (bytes_eq verb (codes "remap")) _ _ (remap_other args)
+    (next (bytes_eq verb (codes "bquery")) _ _ (bquery_other args)
     (next (bytes_eq verb (codes "blocks")) _ _ (blocks_other args)
     (next (bytes_eq verb (codes "audit")) _ _ (text_other Audit (λ text i p h. cc) args)
     (next (bytes_eq verb (codes "migrate")) _ _ (migrate_other args)
@@ -194,7 +201,7 @@ lent (name ∷ verb ∷ args) indexes plan h =
     (next (bytes_eq verb (codes "inspect")) _ _ (text_other Inspect (λ text i p h. cc) args)
     (next (bytes_eq verb (codes "answer")) _ _ (answering_other Answer (λ text its i p h. cc) args)
     (next (bytes_eq verb (codes "query")) _ _ (answering_other Query (λ text its i p h. cc) args)
-    (next (bytes_eq verb (codes "build")) _ _ (build_other args) h)))))))))) in
+    (next (bytes_eq verb (codes "build")) _ _ (build_other args) h))))))))))) in
     let taken = texts_taken args in (omega (arith, taken.0, ap length is), is ∙ taken.1 ∙ ap (λ n. take n args) (ap length (sym is)))
   where
     next : (b : Bool) (x y : Option Command) → IsOther x → (if b then x else y) ≡ Some (Segments indexes plan) → y ≡ Some (Segments indexes plan)

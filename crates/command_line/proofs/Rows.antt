@@ -2,7 +2,7 @@ use Rattle.std.proofs.Common.{◌≡◌, refl, [], ◌∷◌, Some, None}
 use Rattle.std.specs.Prelude.{codes}
 use Rattle.part_cost.specs.declared.formats.Format.TheVariants.{One, Two}
 use Rattle.command_line.specs.declared.plan.Plan.TheVariants.{Exhaustive, Wand, MaxScore}
-use Rattle.command_line.specs.Command.{command_of, Build, Query, Answer, Inspect, Generate, Migrate, Audit, Blocks, Remap}
+use Rattle.command_line.specs.Command.{command_of, Build, Query, Answer, Inspect, Generate, Migrate, Audit, Blocks, BlockQuery, Remap}
 
 name-alone : command_of (codes "pefidx" ∷ []) ≡ None
 name-alone = refl
@@ -102,6 +102,18 @@ blocks-other-name = refl
 
 blocks-same-name : command_of (codes "pefidx" ∷ codes "blocks" ∷ codes "x" ∷ codes "x" ∷ []) ≡ None
 blocks-same-name = refl
+
+bquery-other-name : command_of (codes "pefidx" ∷ codes "bquery" ∷ codes "x" ∷ codes "y" ∷ []) ≡ Some (BlockQuery (codes "x") (codes "y"))
+bquery-other-name = refl
+
+bquery-same-name : command_of (codes "pefidx" ∷ codes "bquery" ∷ codes "x" ∷ codes "x" ∷ []) ≡ Some (BlockQuery (codes "x") (codes "x"))
+bquery-same-name = refl
+
+bquery-one-text : command_of (codes "pefidx" ∷ codes "bquery" ∷ codes "x" ∷ []) ≡ None
+bquery-one-text = refl
+
+bquery-by-a-plan : command_of (codes "pefidx" ∷ codes "bquery" ∷ codes "x" ∷ codes "y" ∷ codes "--plan" ∷ codes "wand" ∷ []) ≡ None
+bquery-by-a-plan = refl
 
 remap-other-base : command_of (codes "pefidx" ∷ codes "remap" ∷ codes "x" ∷ codes "m" ∷ codes "y" ∷ []) ≡ Some (Remap (codes "x") (codes "m") (codes "y"))
 remap-other-base = refl

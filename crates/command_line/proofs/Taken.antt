@@ -11,8 +11,8 @@ use Rattle.part_cost.specs.declared.formats.Format.{Format}
 use Rattle.part_cost.specs.declared.formats.Format.TheVariants.{One, Two}
 use Rattle.command_line.specs.declared.plan.Plan.{Plan}
 use Rattle.command_line.specs.declared.plan.Plan.TheVariants.{Exhaustive, Wand, MaxScore}
-use Rattle.command_line.specs.Command.{Build, Query, Answer, Inspect, Migrate, Audit, Blocks, Remap, generate_command}
-use Rattle.command_line.specs.Private.CommandLine.{program_app, build_app, query_app, answer_app, inspect_app, generate_app, migrate_app, audit_app, blocks_app, remap_app, asked_in, asked_of}
+use Rattle.command_line.specs.Command.{Build, Query, Answer, Inspect, Migrate, Audit, Blocks, BlockQuery, Remap, generate_command}
+use Rattle.command_line.specs.Private.CommandLine.{program_app, build_app, query_app, answer_app, inspect_app, generate_app, migrate_app, audit_app, blocks_app, bquery_app, remap_app, asked_in, asked_of}
 use Rattle.command_line.proofs.PlainWalk.{at, walks, passes}
 
 pub simple : is_simple program_app ≡ true
@@ -354,3 +354,28 @@ module _ (name : Text) (x y : ℕ) (xs ys : Text) (hx : (x == 45) ≡ false) (hy
   pub blocks_asked : asked_in (subcommand_of program_app (name ∷ codes "blocks" ∷ blocks_texts)) ≡ Some (Blocks (x ∷ xs) (y ∷ ys))
   unfolding clap_on_literals
   blocks_asked = ap (asked_of (codes "blocks")) (rows blocks blocks_texts blocks_end [] blocks_leads)
+
+abbrev bquery : Shape
+bquery = leaf bquery_app
+
+module _ (name : Text) (x y : ℕ) (xs ys : Text) (hx : (x == 45) ≡ false) (hy : (y == 45) ≡ false) where
+  abbrev bquery_texts : List Text
+  bquery_texts = (x ∷ xs) ∷ (y ∷ ys) ∷ []
+
+  abbrev bquery_end : Walk
+  bquery_end = after_word bquery 2 (after_word bquery 1 nothing_held (x ∷ xs)).held (y ∷ ys)
+
+  bquery_leads : Leads bquery start bquery_texts bquery_end []
+  unfolding clap_on_literals
+  bquery_leads =
+      let first = word_leads bquery 1 nothing_held x xs hx refl ((y ∷ ys) ∷ []) in
+      let second = word_leads bquery 2 (after_word bquery 1 nothing_held (x ∷ xs)).held y ys hy refl [] in
+      (first.0 ∙ second.0, first.1 ∙ second.1)
+
+  pub bquery_taken : takes program_app (name ∷ codes "bquery" ∷ bquery_texts) ≡ true
+  unfolding clap_on_literals
+  bquery_taken = ap (λ b. b && true) (level bquery bquery_texts bquery_end [] bquery_leads)
+
+  pub bquery_asked : asked_in (subcommand_of program_app (name ∷ codes "bquery" ∷ bquery_texts)) ≡ Some (BlockQuery (x ∷ xs) (y ∷ ys))
+  unfolding clap_on_literals
+  bquery_asked = ap (asked_of (codes "bquery")) (rows bquery bquery_texts bquery_end [] bquery_leads)

@@ -12,7 +12,7 @@ use Rattle.part_cost.specs.declared.formats.Format.TheVariants.{One, Two}
 use Rattle.query_text.specs.Numbers.{number_of}
 use Rattle.command_line.specs.declared.plan.Plan.{Plan}
 use Rattle.command_line.specs.declared.plan.Plan.TheVariants.{Exhaustive, Wand, MaxScore}
-use Rattle.command_line.specs.Command.{Command, Build, Query, Answer, Inspect, Migrate, Audit, Blocks, Remap, command_of, build_command, build_in, format_of, answering_command, answered_by, plan_of, text_command, generate_command, generate_of, migrate_command, blocks_command, remap_command, is_text, is_file_of, takes_place, Segments, segments_command, segments_by, texts_before, words_behind, most_segments, option_in}
+use Rattle.command_line.specs.Command.{Command, Build, Query, Answer, Inspect, Migrate, Audit, Blocks, BlockQuery, Remap, command_of, build_command, build_in, format_of, answering_command, answered_by, plan_of, text_command, generate_command, generate_of, migrate_command, blocks_command, bquery_command, remap_command, is_text, is_file_of, takes_place, Segments, segments_command, segments_by, texts_before, words_behind, most_segments, option_in}
 use Rattle.command_line.specs.Private.CommandLine.{program_app, asked_in}
 use Rattle.command_line.proofs.Taken.{format_name, format_words, plan_name, plan_words}
 use Rattle.command_line.proofs.Taken as clap
@@ -211,6 +211,21 @@ blocks_read name (index ∷ side ∷ []) h =
     subst (IsRead (name ∷ codes "blocks" ∷ index ∷ side ∷ [])) (sym is.1) (blocks_texts name index side two.0 two.1)
 blocks_read name (index ∷ side ∷ word ∷ words) h = cc
 
+bquery_texts : (name index side : Text) → is_text index ≡ true → is_text side ≡ true → IsRead (name ∷ codes "bquery" ∷ index ∷ side ∷ []) (Some (BlockQuery index side))
+bquery_texts name [] side hi hs = cc
+bquery_texts name (x ∷ xs) [] hi hs = cc
+bquery_texts name (x ∷ xs) (y ∷ ys) hi hs =
+    (clap.bquery_taken name x y xs ys (plain x xs hi) (plain y ys hs), clap.bquery_asked name x y xs ys (plain x xs hi) (plain y ys hs))
+
+bquery_read : (name : Text) (args : List Text) → is_some (bquery_command args) ≡ true → IsRead (name ∷ codes "bquery" ∷ args) (bquery_command args)
+bquery_read name [] h = cc
+bquery_read name (index ∷ []) h = cc
+bquery_read name (index ∷ side ∷ []) h =
+    let is = chosen (is_text index && is_text side) (BlockQuery index side) h in
+    let two = and_parts _ _ is.0 in
+    subst (IsRead (name ∷ codes "bquery" ∷ index ∷ side ∷ [])) (sym is.1) (bquery_texts name index side two.0 two.1)
+bquery_read name (index ∷ side ∷ word ∷ words) h = cc
+
 -- ---- three texts
 
 remap_texts : (name base map to : Text) → is_text base ≡ true → is_text map ≡ true → is_text to ≡ true → IsRead (name ∷ codes "remap" ∷ base ∷ map ∷ to ∷ []) (Some (Remap base map to))
@@ -328,7 +343,7 @@ read [] h = cc
 read (name ∷ []) h = cc
 read (name ∷ verb ∷ args) h =
     go (bytes_eq verb (codes "build")) refl (bytes_eq verb (codes "query")) refl (bytes_eq verb (codes "answer")) refl (bytes_eq verb (codes "inspect")) refl (bytes_eq verb (codes "generate")) refl
-    (bytes_eq verb (codes "migrate")) refl (bytes_eq verb (codes "audit")) refl (bytes_eq verb (codes "blocks")) refl (bytes_eq verb (codes "remap")) refl
+    (bytes_eq verb (codes "migrate")) refl (bytes_eq verb (codes "audit")) refl (bytes_eq verb (codes "blocks")) refl (bytes_eq verb (codes "bquery")) refl (bytes_eq verb (codes "remap")) refl
     (bytes_eq verb (codes "segments")) refl
   where
     Goal : Type 0
@@ -343,16 +358,17 @@ read (name ∷ verb ∷ args) h =
     go : (b : Bool) → bytes_eq verb (codes "build") ≡ b → (q : Bool) → bytes_eq verb (codes "query") ≡ q → (a : Bool) → bytes_eq verb (codes "answer") ≡ a
         → (i : Bool) → bytes_eq verb (codes "inspect") ≡ i → (n : Bool) → bytes_eq verb (codes "generate") ≡ n
         → (m : Bool) → bytes_eq verb (codes "migrate") ≡ m → (u : Bool) → bytes_eq verb (codes "audit") ≡ u → (p : Bool) → bytes_eq verb (codes "blocks") ≡ p
-        → (r : Bool) → bytes_eq verb (codes "remap") ≡ r → (s : Bool) → bytes_eq verb (codes "segments") ≡ s → Goal
-    go true e q f a g i k n l m j u o p v r w s x = is (codes "build") e (build_read name args)
-    go false e true f a g i k n l m j u o p v r w s x = is (codes "query") f (answering_read name (codes "query") Query (query_text name) (query_text_by name) args)
-    go false e false f true g i k n l m j u o p v r w s x = is (codes "answer") g (answering_read name (codes "answer") Answer (answer_text name) (answer_text_by name) args)
-    go false e false f false g true k n l m j u o p v r w s x = is (codes "inspect") k (text_read name (codes "inspect") Inspect (inspect_text name) args)
-    go false e false f false g false k true l m j u o p v r w s x = is (codes "generate") l (generate_read name args)
-    go false e false f false g false k false l true j u o p v r w s x = is (codes "migrate") j (migrate_read name args)
-    go false e false f false g false k false l false j true o p v r w s x = is (codes "audit") o (text_read name (codes "audit") Audit (audit_text name) args)
-    go false e false f false g false k false l false j false o true v r w s x = is (codes "blocks") v (blocks_read name args)
-    go false e false f false g false k false l false j false o false v true w s x = is (codes "remap") w (remap_read name args)
-    go false e false f false g false k false l false j false o false v false w true x = is (codes "segments") x (segments_read name args)
-    go false e false f false g false k false l false j false o false v false w false x =
-        let none : is_some (command_of (name ∷ verb ∷ args)) ≡ false = rw (e, f, g, k, l, j, o, v, w, x) refl in absurd (true≢false (sym h ∙ none))
+        → (s : Bool) → bytes_eq verb (codes "bquery") ≡ s → (r : Bool) → bytes_eq verb (codes "remap") ≡ r → (y : Bool) → bytes_eq verb (codes "segments") ≡ y → Goal
+    go true e q f a g i k n l m j u o p v s t r w y x = is (codes "build") e (build_read name args)
+    go false e true f a g i k n l m j u o p v s t r w y x = is (codes "query") f (answering_read name (codes "query") Query (query_text name) (query_text_by name) args)
+    go false e false f true g i k n l m j u o p v s t r w y x = is (codes "answer") g (answering_read name (codes "answer") Answer (answer_text name) (answer_text_by name) args)
+    go false e false f false g true k n l m j u o p v s t r w y x = is (codes "inspect") k (text_read name (codes "inspect") Inspect (inspect_text name) args)
+    go false e false f false g false k true l m j u o p v s t r w y x = is (codes "generate") l (generate_read name args)
+    go false e false f false g false k false l true j u o p v s t r w y x = is (codes "migrate") j (migrate_read name args)
+    go false e false f false g false k false l false j true o p v s t r w y x = is (codes "audit") o (text_read name (codes "audit") Audit (audit_text name) args)
+    go false e false f false g false k false l false j false o true v s t r w y x = is (codes "blocks") v (blocks_read name args)
+    go false e false f false g false k false l false j false o false v true t r w y x = is (codes "bquery") t (bquery_read name args)
+    go false e false f false g false k false l false j false o false v false t true w y x = is (codes "remap") w (remap_read name args)
+    go false e false f false g false k false l false j false o false v false t false w true x = is (codes "segments") x (segments_read name args)
+    go false e false f false g false k false l false j false o false v false t false w false x =
+        let none : is_some (command_of (name ∷ verb ∷ args)) ≡ false = rw (e, f, g, k, l, j, o, v, t, w, x) refl in absurd (true≢false (sym h ∙ none))

@@ -16,6 +16,7 @@ pub data Command : Type 0 where
   Migrate : (from to : List ℕ) → Command
   Audit : (index : List ℕ) → Command
   Blocks : (index side : List ℕ) → Command
+  BlockQuery : (index side : List ℕ) → Command
   Remap : (base map to : List ℕ) → Command
   Segments : (indexes : List (List ℕ)) (plan : Plan) → Command
 
@@ -109,6 +110,13 @@ blocks_command (index ∷ []) = None
 blocks_command (index ∷ side ∷ []) = if is_text index && is_text side && not (bytes_eq index side) then Some (Blocks index side) else None
 blocks_command (index ∷ side ∷ word ∷ words) = None
 
+-- two texts, which may be the same
+abbrev pub bquery_command : List (List ℕ) → Option Command
+bquery_command [] = None
+bquery_command (index ∷ []) = None
+bquery_command (index ∷ side ∷ []) = if is_text index && is_text side then Some (BlockQuery index side) else None
+bquery_command (index ∷ side ∷ word ∷ words) = None
+
 -- whether a name is that of a map, or of a file of a collection
 abbrev pub is_input_of : List ℕ → List ℕ → List ℕ → Bool
 is_input_of base map name = bytes_eq name map || is_file_of base name
@@ -161,6 +169,7 @@ command_of (name ∷ verb ∷ args) =
     else if bytes_eq verb (codes "migrate") then migrate_command args
     else if bytes_eq verb (codes "audit") then text_command Audit args
     else if bytes_eq verb (codes "blocks") then blocks_command args
+    else if bytes_eq verb (codes "bquery") then bquery_command args
     else if bytes_eq verb (codes "remap") then remap_command args
     else if bytes_eq verb (codes "segments") then segments_command args
     else None

@@ -4,7 +4,7 @@ ghost use Rattle.clap.specs.declared.builder.command.Command.TheViews.{out-Comma
 ghost use Rattle.command_line.specs.Command.{command_of, plan_of, texts};
 ghost use Rattle.command_line.specs.Command as line;
 ghost use Rattle.command_line.specs.Asked.{asked};
-ghost use Rattle.command_line.specs.Private.CommandLine.{program_app, generate_app, generate_with, migrate_app, migrate_with, blocks_app, blocks_with, remap_app, remap_with, number_in, build_app, query_app, answer_app, inspect_app, audit_app, telling_app, answering_app, asked_in, asked_of, plan_option, indexes_argument, build_with, query_with, answer_with, AreRead, FailsForMemory, single_app, segments_app, segments_with, AreLent};
+ghost use Rattle.command_line.specs.Private.CommandLine.{program_app, generate_app, generate_with, migrate_app, migrate_with, blocks_app, blocks_with, bquery_app, bquery_with, blockwise_app, remap_app, remap_with, number_in, build_app, query_app, answer_app, inspect_app, audit_app, telling_app, answering_app, asked_in, asked_of, plan_option, indexes_argument, build_with, query_with, answer_with, AreRead, FailsForMemory, single_app, segments_app, segments_with, AreLent};
 ghost use Rattle.command_line.specs.WordsErrors.{error_of_words};
 
 use crate::error::WordsError;
@@ -70,6 +70,8 @@ fn read_subcommand<'a>(
         Some(Command::Audit { index })
     } else if verb == "blocks" {
         read_blocks(texts)
+    } else if verb == "bquery" {
+        read_bquery(texts)
     } else if verb == "remap" {
         read_remap(texts)
     } else if verb == "segments" {
@@ -143,6 +145,15 @@ fn read_blocks<'a>(texts: &ArgMatches<'a>) -> Option<Command<'a>>
     Some(Command::Blocks { index, side })
 }
 
+/// What `bquery` asks for with these texts.
+fn read_bquery<'a>(texts: &ArgMatches<'a>) -> Option<Command<'a>>
+    ensures { option_map asked result ≡ bquery_with (rows_of (found_of texts.now)) }
+{
+    let index = text_of(texts, "index")?;
+    let side = text_of(texts, "side")?;
+    Some(Command::BlockQuery { index, side })
+}
+
 /// What `remap` asks for with these texts.
 fn read_remap<'a>(texts: &ArgMatches<'a>) -> Option<Command<'a>>
     ensures { option_map asked result ≡ remap_with (rows_of (found_of texts.now)) }
@@ -206,13 +217,21 @@ fn single<'a>(alloc: Global) -> Result<clap::Command<'a>, AllocError>
     ensures { IfOk result (λ command. app_of command ≡ single_app) }
 {
     let (audit, blocks, remap) = (audit(alloc)?, blocks(alloc)?, remap(alloc)?);
-    telling(alloc)?
+    blockwise(alloc)?
         .subcommand(audit)?
         .subcommand(blocks)?
         .subcommand(remap)
 }
 
 /// The same without `audit`, `blocks` and `remap`.
+fn blockwise<'a>(alloc: Global) -> Result<clap::Command<'a>, AllocError>
+    ensures { IfOk result (λ command. app_of command ≡ blockwise_app) }
+{
+    let bquery = bquery(alloc)?;
+    telling(alloc)?.subcommand(bquery)
+}
+
+/// The same without `bquery`.
 fn telling<'a>(alloc: Global) -> Result<clap::Command<'a>, AllocError>
     ensures { IfOk result (λ command. app_of command ≡ telling_app) }
 {
@@ -330,6 +349,16 @@ fn blocks<'a>(alloc: Global) -> Result<clap::Command<'a>, AllocError>
     let index = Arg::new(alloc, "index").required(true);
     let side = Arg::new(alloc, "side").required(true);
     clap::Command::new(alloc, "blocks").arg(index)?.arg(side)
+}
+
+/// `bquery INDEX SIDE`
+fn bquery<'a>(alloc: Global) -> Result<clap::Command<'a>, AllocError>
+    ensures app { IfOk result (λ command. app_of command ≡ bquery_app) }
+    ensures local { IfOk result (λ command. (out-Command command).has_globals ≡ false) }
+{
+    let index = Arg::new(alloc, "index").required(true);
+    let side = Arg::new(alloc, "side").required(true);
+    clap::Command::new(alloc, "bquery").arg(index)?.arg(side)
 }
 
 /// `remap BASE MAP NEW`

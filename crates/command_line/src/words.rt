@@ -4,7 +4,7 @@ ghost use Rattle.command_line.specs.declared.plan.Plan as plan;
 ghost use Rattle.command_line.specs.declared.plan.Plan.TheVariants as plans;
 ghost use Rattle.part_cost.specs.declared.formats.Format.TheVariants as formats;
 ghost use Rattle.command_line.specs.Command as asked;
-ghost use Rattle.command_line.specs.Command.{answering_command, blocks_command, build_command, command_of, format_of, generate_command, is_file_of, is_text, migrate_command, option_in, plan_of, remap_command, takes_place, text_command, texts, most_segments, segments_command, texts_before};
+ghost use Rattle.command_line.specs.Command.{answering_command, blocks_command, bquery_command, build_command, command_of, format_of, generate_command, is_file_of, is_text, migrate_command, option_in, plan_of, remap_command, takes_place, text_command, texts, most_segments, segments_command, texts_before};
 
 use crate::plan::Plan;
 use part_cost::Format;
@@ -48,6 +48,10 @@ pub enum Command<'a> {
         index: &'a str,
         side: &'a str,
     },
+    BlockQuery {
+        index: &'a str,
+        side: &'a str,
+    },
     Remap {
         base: &'a str,
         map: &'a str,
@@ -84,6 +88,8 @@ fn asks(verb: &str, args: &[String]) -> bool
         is_generate(args)
     } else if verb == "migrate" || verb == "blocks" {
         is_name_and_another(args)
+    } else if verb == "bquery" {
+        are_two_texts(args)
     } else if verb == "remap" {
         is_remap(args)
     } else if verb == "segments" {
@@ -182,6 +188,16 @@ fn are_other_texts(from: &str, to: &str) -> bool
     ensures { result ≡ (is_text from.now && is_text to.now && not (bytes_eq from.now to.now)) }
 {
     can_be_text(from) && can_be_text(to) && from != to
+}
+
+/// Whether words are two texts, which may be the same.
+fn are_two_texts(args: &[String]) -> bool
+    ensures { result ≡ is_some (bquery_command (texts args.now)) }
+{
+    match args {
+        [index, side] => can_be_text(index.as_str()) && can_be_text(side.as_str()),
+        _ => false,
+    }
 }
 
 /// Whether words are a base, a map, and a new base whose files are none of theirs.

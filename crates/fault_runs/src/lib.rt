@@ -3,6 +3,8 @@
 #![tactic(auto)]
 
 #[cfg(test)]
+mod block_query_failures;
+#[cfg(test)]
 mod cuts;
 #[cfg(test)]
 mod failures;

@@ -6,7 +6,7 @@ use Rattle.pef_io.specs.declared.fail.Slot.{Slot}
 use Rattle.pef_io.specs.declared.fail.Slot.TheVariants.{Docs, Freqs, Sizes, Index, Side, Map}
 use Rattle.pef_io.specs.Calls.{Rose}
 use Rattle.pef_top.specs.Outside.{Outside, Count, OfFile, OfWriting, OfInput, OfOut, failed}
-use Rattle.pef_top.specs.Outcome.{Outcome, Done, Usage, BrokenCollection, BrokenIndex, BrokenMap, FileFault, InputFault, WriteFault, OutFault, NoMemory, TooLarge, InputTooLarge, BrokenSegment, UnfitSegment, fault_of}
+use Rattle.pef_top.specs.Outcome.{Outcome, Done, Usage, BrokenCollection, BrokenIndex, BrokenSide, BrokenMap, FileFault, InputFault, WriteFault, OutFault, NoMemory, TooLarge, InputTooLarge, BrokenSegment, UnfitSegment, fault_of}
 use Rattle.pef_top.specs.Ends.{EndsByFault, FirstFaultEnds, OrNoMemory, OrTooLarge}
 
 -- of which count a fault is, where that is known
@@ -52,6 +52,7 @@ is_file_fault Done slot h = let s : Of None (OfFile slot) = h in cc
 is_file_fault Usage slot h = let s : Of None (OfFile slot) = h in cc
 is_file_fault (BrokenCollection fault) slot h = let s : Of None (OfFile slot) = h in cc
 is_file_fault (BrokenIndex fault) slot h = let s : Of None (OfFile slot) = h in cc
+is_file_fault (BrokenSide fault) slot h = let s : Of None (OfFile slot) = h in cc
 is_file_fault (BrokenMap fault) slot h = let s : Of None (OfFile slot) = h in cc
 is_file_fault (BrokenSegment fault segment) slot h = let s : Of None (OfFile slot) = h in cc
 is_file_fault (UnfitSegment rule segment) slot h = let s : Of None (OfFile slot) = h in cc

@@ -12,9 +12,10 @@ use Rattle.pef_io.specs.SinkState.{SinkState}
 use Rattle.pef_io.specs.Helpers.{AppendsFront, WritesAll}
 use Rattle.collection_reader.specs.declared.fault.Fault.{Fault}
 use Rattle.index_file.specs.declared.fault.OpenFault.{OpenFault}
+use Rattle.block_max.specs.declared.fault.SideFault.{SideFault}
 use Rattle.remap.specs.declared.fault.MapFault.{MapFault}
 use Rattle.segments.specs.declared.pushed.SegRule.{SegRule}
-use Rattle.pef_top.specs.ErrLines.{check_text, index_line, map_line, map_rule_text, rule_text, slot_text, fault_line, seg_rule_text, segment_line, unfit_line}
+use Rattle.pef_top.specs.ErrLines.{check_text, index_line, map_line, map_rule_text, rule_text, side_check_text, side_line, slot_text, fault_line, seg_rule_text, segment_line, unfit_line}
 use Rattle.pef_top.specs.Private.ErrPieces.{joined}
 
 joined-append : (xs ys : List (Bor (List ℕ))) → joined (xs ++ ys) ≡ joined xs ++ joined ys
@@ -169,6 +170,18 @@ index_fault_written old new f check term part r e1 e2 e3 w =
     ∙ ap (λ xs. codes "index " ++ xs ++ codes " term " ++ term ++ codes " part " ++ part ++ codes "\n") e1
     ∙ ap (λ xs. codes "index " ++ check_text f.check ++ codes " term " ++ xs ++ codes " part " ++ part ++ codes "\n") e2
     ∙ ap (λ xs. codes "index " ++ check_text f.check ++ codes " term " ++ decimal f.term ++ codes " part " ++ xs ++ codes "\n") e3) w
+
+-- the pieces of the line of a file that is no index
+pub side_fault_written : (old new : SinkState) (f : SideFault) (check term part : List ℕ) (r : Result (Unit {0}) IoFail) →
+    check ≡ side_check_text f.check → term ≡ decimal f.term → part ≡ decimal f.part →
+    WritesAll old new (concat (codes "side " ∷ check ∷ codes " term " ∷ term ∷ codes " part " ∷ part ∷ codes "\n" ∷ [])) r →
+    WritesAll old new (side_line f) r
+side_fault_written old new f check term part r e1 e2 e3 w =
+    let P : List ℕ → Type 0 = λ xs. WritesAll old new xs r in
+    subst P (seven_pieces (codes "side ") check (codes " term ") term (codes " part ") part (codes "\n")
+    ∙ ap (λ xs. codes "side " ++ xs ++ codes " term " ++ term ++ codes " part " ++ part ++ codes "\n") e1
+    ∙ ap (λ xs. codes "side " ++ side_check_text f.check ++ codes " term " ++ xs ++ codes " part " ++ part ++ codes "\n") e2
+    ∙ ap (λ xs. codes "side " ++ side_check_text f.check ++ codes " term " ++ decimal f.term ++ codes " part " ++ xs ++ codes "\n") e3) w
 
 -- five pieces in a row
 five_pieces : (a b c d e : List ℕ) → concat (a ∷ b ∷ c ∷ d ∷ e ∷ []) ≡ a ++ b ++ c ++ d ++ e

@@ -30,10 +30,10 @@ use Rattle.pef_top.proofs.WordsLoaded.{even, short}
 
 -- ---- bytes and words
 
-is_even : (n : ℕ) → n ≡ 0 → not (n == 0) ≡ false
+pub is_even : (n : ℕ) → n ≡ 0 → not (n == 0) ≡ false
 is_even n e = rw e refl
 
-is_ragged : (n : ℕ) → n ≢ 0 → not (n == 0) ≡ true
+pub is_ragged : (n : ℕ) → n ≢ 0 → not (n == 0) ≡ true
 is_ragged zero h = absurd (h refl)
 is_ragged (suc n) h = ap not (eqb-suc-zero n)
 

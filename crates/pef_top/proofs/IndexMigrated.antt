@@ -25,7 +25,7 @@ use Rattle.command_steps.specs.WriteFile.{WritesWords}
 use Rattle.pef_top.specs.declared.stop.Stop.{Stop}
 use Rattle.command_line.specs.Command.{Migrate}
 use Rattle.pef_top.specs.Outside.{Outside, outside}
-use Rattle.pef_top.specs.Outcome.{Outcome, Done, Usage, BrokenCollection, BrokenIndex, BrokenMap, FileFault, InputFault, WriteFault, OutFault, NoMemory, TooLarge, InputTooLarge, BrokenSegment, UnfitSegment}
+use Rattle.pef_top.specs.Outcome.{Outcome, Done, Usage, BrokenCollection, BrokenIndex, BrokenSide, BrokenMap, FileFault, InputFault, WriteFault, OutFault, NoMemory, TooLarge, InputTooLarge, BrokenSegment, UnfitSegment}
 use Rattle.pef_top.specs.FoundIndex.{FindsIndexOf}
 use Rattle.pef_top.specs.Built.{AreBuilt, BuildsWordsThen}
 use Rattle.pef_top.specs.ReadingIndex.{ReadsIndexThen}
@@ -49,6 +49,7 @@ at_reading name old Then Done h = h
 at_reading name old Then Usage h = h
 at_reading name old Then (BrokenCollection fault) h = h
 at_reading name old Then (BrokenIndex fault) h = h
+at_reading name old Then (BrokenSide fault) h = h
 at_reading name old Then (BrokenMap fault) h = h
 at_reading name old Then (BrokenSegment fault segment) h = h
 at_reading name old Then (UnfitSegment rule segment) h = h

@@ -19,6 +19,10 @@ mod IndexMigrated
 mod RunEnds
 mod Rows
 mod SideWritten
+mod SideLoaded
+mod SideStarted
+mod SideRefused
+mod SideAnswered
 mod Tabled
 mod Without
 mod Refused

@@ -9,7 +9,7 @@ use Rattle.pef_top.specs.declared.stop.Stop.{Stop}
 use Rattle.pef_top.specs.declared.stop.Stop.TheVariants as stop
 use Rattle.command_line.specs.Command.{Command}
 use Rattle.pef_top.specs.Outside.{Outside, GotText, outside, OfFile, OfWriting, OfInput, OfOut}
-use Rattle.pef_top.specs.Outcome.{Outcome, Done, Usage, BrokenCollection, BrokenIndex, BrokenMap, FileFault, InputFault, WriteFault, OutFault, NoMemory, TooLarge, InputTooLarge, BrokenSegment, UnfitSegment, status_of, line_of}
+use Rattle.pef_top.specs.Outcome.{Outcome, Done, Usage, BrokenCollection, BrokenIndex, BrokenSide, BrokenMap, FileFault, InputFault, WriteFault, OutFault, NoMemory, TooLarge, InputTooLarge, BrokenSegment, UnfitSegment, status_of, line_of}
 use Rattle.pef_top.specs.Ends.{Ends}
 use Rattle.pef_top.specs.Commands.{IsUsage, Performs}
 use Rattle.pef_top.specs.Uncalled.{LeavesUncalled, calls_depot, reads_input, prints, objects}
@@ -39,6 +39,7 @@ not_done : (s : Stop) → outcome_of_stop s ≢ Done
 not_done stop.Usage h = let e : Usage ≡ Done = h in cc
 not_done (stop.Collection fault) h = let e : BrokenCollection fault ≡ Done = h in cc
 not_done (stop.Index fault) h = let e : BrokenIndex fault ≡ Done = h in cc
+not_done (stop.Side fault) h = let e : BrokenSide fault ≡ Done = h in cc
 not_done (stop.Map fault) h = let e : BrokenMap fault ≡ Done = h in cc
 not_done (stop.Segment fault segment) h = let e : BrokenSegment fault segment ≡ Done = h in cc
 not_done (stop.Unfit rule segment) h = let e : UnfitSegment rule segment ≡ Done = h in cc

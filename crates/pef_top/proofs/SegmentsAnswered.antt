@@ -19,7 +19,7 @@ use Rattle.command_line.specs.declared.plan.Plan.{Plan}
 use Rattle.command_line.specs.Command.{Segments}
 use Rattle.pef_top.specs.declared.stop.Stop.{Stop}
 use Rattle.pef_top.specs.Outside.{Outside, NoCallFailed, outside, OfFile, OfWriting, OfInput, OfOut}
-use Rattle.pef_top.specs.Outcome.{Outcome, Done, Usage, BrokenCollection, BrokenIndex, BrokenMap, BrokenSegment, UnfitSegment, FileFault, InputFault, WriteFault, OutFault, NoMemory, TooLarge, InputTooLarge, fault_of}
+use Rattle.pef_top.specs.Outcome.{Outcome, Done, Usage, BrokenCollection, BrokenIndex, BrokenMap, BrokenSegment, UnfitSegment, FileFault, InputFault, WriteFault, OutFault, NoMemory, TooLarge, InputTooLarge, fault_of, BrokenSide}
 use Rattle.pef_top.specs.Ends.{EndsByFault, OrNoMemory}
 use Rattle.pef_top.specs.FoundSegments.{FindsSegments, FindsJoined, IsRefusedAt}
 use Rattle.pef_top.specs.ReadingSegments.{ReadsSegmentsThen}
@@ -39,6 +39,7 @@ only_memory names d P Usage p h = cc
 only_memory names d P (BrokenCollection fault) p h = cc
 only_memory names d P (BrokenIndex fault) p h = cc
 only_memory names d P (BrokenMap fault) p h = cc
+only_memory names d P (BrokenSide fault) p h = cc
 only_memory names d P (BrokenSegment fault s) p h = h
 only_memory names d P (UnfitSegment rule s) p h = h
 only_memory names d P (FileFault slot) p h = h
@@ -59,6 +60,7 @@ is_end names d Usage t h = inr (inr h)
 is_end names d (BrokenCollection fault) t h = inr (inr h)
 is_end names d (BrokenIndex fault) t h = inr (inr h)
 is_end names d (BrokenMap fault) t h = inr (inr h)
+is_end names d (BrokenSide fault) t h = inr (inr h)
 is_end names d (BrokenSegment fault s) t h = inl (h t)
 is_end names d (UnfitSegment rule s) t h = inl h
 is_end names d (FileFault slot) t h = inr (inl (ap FileFault h))
@@ -93,6 +95,7 @@ not_other names d outcome h = go outcome h
     go (BrokenCollection fault) h = memory (BrokenCollection fault) h
     go (BrokenIndex fault) h = memory (BrokenIndex fault) h
     go (BrokenMap fault) h = memory (BrokenMap fault) h
+    go (BrokenSide fault) h = memory (BrokenSide fault) h
     go (BrokenSegment fault s) h = no_fault (BrokenSegment fault s) refl
     go (UnfitSegment rule s) h = no_fault (UnfitSegment rule s) refl
     go (FileFault slot) h = (

@@ -18,7 +18,7 @@ use Rattle.segments.specs.declared.pushed.SegRule.{SegRule}
 use Rattle.segments.specs.declared.pushed.SegRule.TheVariants.{G1, G2}
 use Rattle.segments.specs.Joined.{FitTogether, terms_in}
 use Rattle.command_model.specs.Found.{AreOfWords, most_bytes}
-use Rattle.pef_top.specs.Outcome.{Outcome, Done, Usage, BrokenCollection, BrokenIndex, BrokenMap, BrokenSegment, UnfitSegment, FileFault, InputFault, WriteFault, OutFault, NoMemory, TooLarge, InputTooLarge}
+use Rattle.pef_top.specs.Outcome.{Outcome, Done, Usage, BrokenCollection, BrokenIndex, BrokenMap, BrokenSegment, UnfitSegment, FileFault, InputFault, WriteFault, OutFault, NoMemory, TooLarge, InputTooLarge, BrokenSide}
 use Rattle.pef_top.specs.FoundIndex.{FindsIndexOf, IsFirstBrokenOfFile, HasBroken}
 use Rattle.pef_top.specs.FoundSegments.{no_collection, FindsSegments, IsUnfit, IsRefusedAt}
 use Rattle.pef_top.specs.Starts.{ComesTo}
@@ -183,6 +183,7 @@ module _ (read : WordsAreRead) (one : OneBrokenCheck) (one_index : OneIndex) (de
   at_place names (BrokenCollection fault) refused = absurd refused
   at_place names (BrokenIndex fault) refused = absurd refused
   at_place names (BrokenMap fault) refused = absurd refused
+  at_place names (BrokenSide fault) refused = absurd refused
   at_place names (FileFault slot) refused = absurd refused
   at_place names InputFault refused = absurd refused
   at_place names (WriteFault slot) refused = absurd refused

@@ -24,7 +24,7 @@ use Rattle.command_model.specs.Found.{IsIndexSlot, AreOfWords, most_bytes}
 use Rattle.command_line.specs.Command.{texts}
 use Rattle.command_steps.specs.AnswerJoined.{collections_of}
 use Rattle.pef_top.specs.Outside.{OfFile}
-use Rattle.pef_top.specs.Outcome.{Outcome, Done, Usage, BrokenCollection, BrokenIndex, BrokenMap, BrokenSegment, UnfitSegment, FileFault, InputFault, WriteFault, OutFault, NoMemory, TooLarge, InputTooLarge}
+use Rattle.pef_top.specs.Outcome.{Outcome, Done, Usage, BrokenCollection, BrokenIndex, BrokenMap, BrokenSegment, UnfitSegment, FileFault, InputFault, WriteFault, OutFault, NoMemory, TooLarge, InputTooLarge, BrokenSide}
 use Rattle.pef_top.specs.Ends.{EndsByFault}
 use Rattle.pef_top.specs.FoundIndex.{FindsIndexOf, HasBroken, IsFirstBrokenOfFile}
 use Rattle.pef_top.specs.FoundSegments.{no_collection, OnSegment, IsUnfit}
@@ -218,6 +218,7 @@ module _ (names : List (List ℕ)) (k : ℕ) (name : List ℕ) (before : Pushed)
       told (BrokenCollection fault) h = absurd h
       told (BrokenIndex fault) h = absurd h
       told (BrokenMap fault) h = absurd h
+      told (BrokenSide fault) h = absurd h
       told InputFault h = absurd h
       told (WriteFault slot) h = absurd h
       told OutFault h = absurd h

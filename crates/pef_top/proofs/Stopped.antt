@@ -4,7 +4,7 @@ use Rattle.std.specs.Prelude.{Option, Some, None}
 use Rattle.pef_io.specs.SourceState.{SourceState}
 use Rattle.pef_io.specs.SinkState.{SinkState}
 use Rattle.pef_io.specs.DepotState.{DepotState}
-use Rattle.command_line.specs.Command.{Command, Build, Query, Answer, Inspect, Generate, Migrate, Audit, Blocks, Remap, Segments}
+use Rattle.command_line.specs.Command.{Command, Build, Query, Answer, Inspect, Generate, Migrate, Audit, Blocks, BlockQuery, Remap, Segments}
 use Rattle.pef_top.specs.Outside.{outside, OfFile, OfWriting, OfInput, OfOut}
 use Rattle.pef_top.specs.Outcome.{NoMemory}
 use Rattle.pef_top.specs.Private.Leaves.{Leaves}
@@ -27,6 +27,7 @@ starts_none (Generate seed n t) d = uncalled (StartedIn (Some (Generate seed n t
 starts_none (Migrate from to) d = uncalled (StartedIn (Some (Migrate from to)) NoMemory) NoMemory d (inl refl)
 starts_none (Audit index) d = uncalled (StartedIn (Some (Audit index)) NoMemory) NoMemory d (inl refl)
 starts_none (Blocks index side) d = uncalled (StartedIn (Some (Blocks index side)) NoMemory) NoMemory d (inl refl)
+starts_none (BlockQuery index side) d = uncalled (StartedIn (Some (BlockQuery index side)) NoMemory) NoMemory d (inl refl)
 starts_none (Remap base map to) d = uncalled (StartedIn (Some (Remap base map to)) NoMemory) NoMemory d (inl refl)
 starts_none (Segments indexes plan) d = record { in_turn = (0, omega arith, λ s lt. absurd (omega (arith, lt)), refl); no_others = λ slot other. refl; refusals = inr refl }
 

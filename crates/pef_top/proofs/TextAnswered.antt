@@ -21,7 +21,7 @@ use Rattle.pef_top.specs.AnsweredText.{AnswersInput, MustAnswer, longest_text}
 use Rattle.pef_top.specs.Private.Stops.{outcome_of_stop, stop_of_answering}
 use Rattle.pef_top.proofs.Counted.{stays, rises, second, not_true, not_both_lengths, longer_than, Of}
 
-abbrev Answer : Type 0
+abbrev pub Answer : Type 0
 Answer = Result (Unit {0}) RunFault
 
 -- how a run ends that answered its text or stopped at it

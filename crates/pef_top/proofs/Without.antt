@@ -10,7 +10,7 @@ use Rattle.pef_top.specs.Outside.{outside, GotText}
 use Rattle.pef_top.specs.ErrLines.{memory_line}
 use Rattle.pef_top.specs.Outcome.{NoMemory}
 use Rattle.pef_top.specs.Ends.{Ends}
-use Rattle.command_line.specs.Command.{Command, Build, Query, Answer, Inspect, Generate, Migrate, Audit, Blocks, Remap, Segments}
+use Rattle.command_line.specs.Command.{Command, Build, Query, Answer, Inspect, Generate, Migrate, Audit, Blocks, BlockQuery, Remap, Segments}
 use Rattle.pef_top.specs.Commands.{Performs}
 
 -- a run that is refused memory ends so
@@ -83,6 +83,14 @@ performs (Blocks index side) d i o e e' s = record {
   refuses = record { broken = λ t f h. inr (inr refl); longer = λ t h. inr (inr refl); sound = λ t c h. (λ e. cc, λ f e. cc) };
   complete = λ t c h n. inr refl;
   depot = record { refused = λ h. OnlyReads-same d; unaccepted = λ h. OnlyReads-same d; stay_started = λ slot h. h; other_slots = λ slot h. (refl, λ t. refl); create_count = inr refl; finish_count = inr refl };
+  costs = refl;
+}
+performs (BlockQuery index side) d i o e e' s = record {
+  ends = inl (record { input = refl; out = refl });
+  refuses = record { broken = λ t f h. inr (inr refl); longer = λ t h. inr (inr refl); sound = λ t c h. (λ e. cc, λ f e. cc) };
+  refuses_side = record { broken = λ t f h. inr (inr refl); longer = λ t has h. inr (inr refl); sound = λ t c h. (λ e. cc, λ f e. cc) };
+  answers = record { complete = λ t c h n l. inr (inr refl); limited = λ t c h n l. inr (inr refl) };
+  depot = OnlyReads-same d;
   costs = refl;
 }
 performs (Remap base map to) d i o e e' s = record {

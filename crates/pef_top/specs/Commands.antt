@@ -2,7 +2,7 @@ use Rattle.std.specs.Prelude.{◌≡◌, Option, Some, None}
 use Rattle.pef_io.specs.SinkState.{SinkState}
 use Rattle.pef_top.specs.declared.status.Status.{Status}
 use Rattle.pef_top.specs.declared.status.Status.TheVariants as status
-use Rattle.command_line.specs.Command.{Command, Build, Query, Answer, Inspect, Generate, Migrate, Audit, Blocks, Remap, Segments}
+use Rattle.command_line.specs.Command.{Command, Build, Query, Answer, Inspect, Generate, Migrate, Audit, Blocks, BlockQuery, Remap, Segments}
 use Rattle.pef_top.specs.ErrLines.{usage_line}
 use Rattle.pef_top.specs.Outside.{Outside, GotText}
 use Rattle.pef_top.specs.Outcome.{Outcome, Usage}
@@ -14,6 +14,7 @@ use Rattle.pef_top.specs.Generate.{Generates}
 use Rattle.pef_top.specs.Migrate.{Migrates}
 use Rattle.pef_top.specs.Audit.{Audits}
 use Rattle.pef_top.specs.Blocks.{WritesBlocks}
+use Rattle.pef_top.specs.BlockQuery.{QueriesBlocks}
 use Rattle.pef_top.specs.Remap.{Remaps}
 use Rattle.pef_top.specs.AnswerSegments.{AnswersSegments}
 
@@ -38,5 +39,6 @@ Performs (Some (Generate seed n t)) old new outcome = Generates seed n t old new
 Performs (Some (Migrate from to)) old new outcome = Migrates from to old new outcome
 Performs (Some (Audit index)) old new outcome = Audits index old new outcome
 Performs (Some (Blocks index side)) old new outcome = WritesBlocks index side old new outcome
+Performs (Some (BlockQuery index side)) old new outcome = QueriesBlocks index side old new outcome
 Performs (Some (Remap base map to)) old new outcome = Remaps base map to old new outcome
 Performs (Some (Segments indexes plan)) old new outcome = AnswersSegments indexes old new outcome

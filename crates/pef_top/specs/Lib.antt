@@ -24,6 +24,8 @@ pub mod Migrate
 pub mod Audit
 pub mod Remap
 pub mod AnswerSegments
+pub mod ReadingSide
+pub mod BlockQuery
 pub mod Commands
 pub mod Uncalled
 pub mod Starts

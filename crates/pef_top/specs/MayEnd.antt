@@ -1,13 +1,13 @@
 use Rattle.std.specs.Prelude.{⊤, Bool, true, false, IsTrue, Some}
 use Rattle.pef_io.specs.declared.fail.Slot.{Slot}
-use Rattle.pef_io.specs.declared.fail.Slot.TheVariants.{Docs, Index, Map}
+use Rattle.pef_io.specs.declared.fail.Slot.TheVariants.{Docs, Index, Side, Map}
 use Rattle.collection_reader.specs.ReadCollection.{IsCollectionSlot}
-use Rattle.command_line.specs.Command.{Command, Build, Migrate, Blocks, Remap, Segments}
+use Rattle.command_line.specs.Command.{Command, Build, Migrate, Blocks, BlockQuery, Remap, Segments}
 use Rattle.command_model.specs.Found.{IsIndexSlot}
 use Rattle.pef_top.specs.Outside.{Outside}
-use Rattle.pef_top.specs.Outcome.{Outcome, Done, Usage, BrokenCollection, BrokenIndex, BrokenMap, FileFault, InputFault, WriteFault, OutFault, NoMemory, TooLarge, InputTooLarge, BrokenSegment, UnfitSegment}
+use Rattle.pef_top.specs.Outcome.{Outcome, Done, Usage, BrokenCollection, BrokenIndex, BrokenSide, BrokenMap, FileFault, InputFault, WriteFault, OutFault, NoMemory, TooLarge, InputTooLarge, BrokenSegment, UnfitSegment}
 use Rattle.pef_top.specs.Commands.{Performs}
-use Rattle.pef_top.specs.FoundSide.{IsSideSlot}
+use Rattle.pef_top.specs.FoundSide.{IsIndexOrSide, IsSideSlot}
 use Rattle.pef_top.specs.Starts.{ReadsFrom}
 use Rattle.pef_top.specs.Uncalled.{reads_input, prints}
 
@@ -22,6 +22,7 @@ WritesTo command = λ slot. ⊥
 -- the slots of the files that may be too large for a command, or would be
 abbrev pub MayBeTooLarge : Command → Slot → Type 0
 MayBeTooLarge (Remap base map to) = λ slot. ⊥
+MayBeTooLarge (BlockQuery index side) = IsIndexOrSide
 MayBeTooLarge command = IsIndexSlot
 
 -- whether a command joins indexes
@@ -40,6 +41,7 @@ MayEnd command Done = ⊤
 MayEnd command Usage = ⊥
 MayEnd command (BrokenCollection fault) = ReadsFrom (Some command) Docs
 MayEnd command (BrokenIndex fault) = MayBeRefusedIndex command
+MayEnd command (BrokenSide fault) = ReadsFrom (Some command) Side
 MayEnd command (BrokenMap fault) = ReadsFrom (Some command) Map
 MayEnd command (BrokenSegment fault segment) = IsTrue (joins command)
 MayEnd command (UnfitSegment rule segment) = IsTrue (joins command)

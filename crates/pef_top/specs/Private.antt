@@ -2,5 +2,6 @@
 pub mod ErrPieces
 pub mod Stops
 pub mod LoadedIndex
+pub mod LoadedSide
 pub mod Leaves
 pub mod ReadSegments

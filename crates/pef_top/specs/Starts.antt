@@ -6,9 +6,10 @@ use Rattle.pef_io.specs.DepotState.{DepotState, StartedOnce, NoneStartedTwice, b
 use Rattle.collection_reader.specs.ReadCollection.{IsCollectionSlot}
 use Rattle.command_model.specs.Found.{IsIndexSlot, most_bytes}
 use Rattle.command_model.specs.FoundMap.{IsCollectionOrMap}
-use Rattle.command_line.specs.Command.{Command, Build, Query, Answer, Inspect, Generate, Migrate, Audit, Blocks, Remap, Segments}
-use Rattle.pef_top.specs.Outcome.{Outcome, BrokenCollection, BrokenSegment, UnfitSegment, FileFault, NoMemory, TooLarge}
+use Rattle.command_line.specs.Command.{Command, Build, Query, Answer, Inspect, Generate, Migrate, Audit, Blocks, BlockQuery, Remap, Segments}
+use Rattle.pef_top.specs.Outcome.{Outcome, BrokenCollection, BrokenSegment, UnfitSegment, BrokenIndex, FileFault, NoMemory, TooLarge}
 use Rattle.pef_top.specs.FoundSegments.{OnSegment}
+use Rattle.pef_top.specs.FoundSide.{IsIndexOrSide}
 
 -- the slots from which a command reads
 abbrev pub ReadsFrom : Option Command → Slot → Type 0
@@ -21,12 +22,16 @@ ReadsFrom (Some (Generate seed n t)) = λ slot. ⊥
 ReadsFrom (Some (Migrate from to)) = IsIndexSlot
 ReadsFrom (Some (Audit index)) = IsIndexSlot
 ReadsFrom (Some (Blocks index side)) = IsIndexSlot
+ReadsFrom (Some (BlockQuery index side)) = IsIndexOrSide
 ReadsFrom (Some (Remap base map to)) = IsCollectionOrMap
 ReadsFrom (Some (Segments indexes plan)) = IsIndexSlot
 
--- those to which a run comes that ends so, where no call on a file failed and no memory was refused: the map of a collection that is refused is not started
+-- those to which a run comes that ends so, where no call on a file failed and no memory was refused: the map of a collection that is
+-- refused is not started, nor is the side file of an index that is refused
 abbrev pub StartedIn : Option Command → Outcome → Slot → Type 0
 StartedIn (Some (Remap base map to)) (BrokenCollection fault) = IsCollectionSlot
+StartedIn (Some (BlockQuery index side)) (BrokenIndex fault) = IsIndexSlot
+StartedIn (Some (BlockQuery index side)) (TooLarge Index) = IsIndexSlot
 StartedIn command outcome = ReadsFrom command
 
 -- What a run that reads from these slots starts, and what memory its depot is refused.

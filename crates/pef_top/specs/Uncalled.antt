@@ -4,10 +4,11 @@ use Rattle.part_cost.specs.Formats.{numbers_of}
 use Rattle.pef_io.specs.DepotState.{DepotState}
 use Rattle.command_model.specs.Found.{FindsCollection}
 use Rattle.command_model.specs.FoundMap.{FindsBothOf}
-use Rattle.command_line.specs.Command.{Command, Build, Query, Answer, Inspect, Generate, Migrate, Audit, Blocks, Remap, Segments}
+use Rattle.command_line.specs.Command.{Command, Build, Query, Answer, Inspect, Generate, Migrate, Audit, Blocks, BlockQuery, Remap, Segments}
 use Rattle.pef_top.specs.Outcome.{Outcome, is_refusal}
 use Rattle.pef_top.specs.FoundIndex.{FindsIndexOf}
 use Rattle.pef_top.specs.FoundSegments.{FindsJoined}
+use Rattle.pef_top.specs.FoundSide.{FindsWithSide}
 use Rattle.pef_top.specs.Answer.{IsAnswerable}
 
 -- the objects on which a command works, whole
@@ -31,6 +32,7 @@ abbrev pub reads_input : Option Command → Bool
 reads_input (Some (Query index plan)) = true
 reads_input (Some (Answer base plan)) = true
 reads_input (Some (Segments indexes plan)) = true
+reads_input (Some (BlockQuery index side)) = true
 reads_input command = false
 
 -- whether it prints on out
@@ -42,7 +44,7 @@ prints (Some (Blocks index side)) = false
 prints (Some (Remap base map to)) = false
 prints (Some command) = true
 
--- What a command reads is accepted: a collection stands under its base, or an index under its name, or a collection with an order of its documents, or
+-- What a command reads is accepted: a collection stands under its base, or an index under its name, or an index with its side file, or a collection with an order of its documents, or
 -- indexes that can be joined under its names. `generate` reads nothing.
 abbrev pub Accepts : Option Command → DepotState → Type 0
 Accepts None depot = ⊥
@@ -54,6 +56,7 @@ Accepts (Some (Generate seed n t)) depot = ⊤
 Accepts (Some (Migrate from to)) depot = (c : Collection) × FindsIndexOf from depot c
 Accepts (Some (Audit index)) depot = (c : Collection) × FindsIndexOf index depot c
 Accepts (Some (Blocks index side)) depot = (c : Collection) × FindsIndexOf index depot c
+Accepts (Some (BlockQuery index side)) depot = (c : Collection) × FindsWithSide index side depot c
 Accepts (Some (Remap base map to)) depot = (c : Collection) × (ids : List ℕ) × FindsBothOf base map depot c ids
 Accepts (Some (Segments indexes plan)) depot = (c : Collection) × FindsJoined indexes depot c
 

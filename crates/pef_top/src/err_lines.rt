@@ -1,11 +1,12 @@
 ghost use Rattle.std.specs.Prelude.{◌≡◌};
 ghost use Rattle.pef_io.specs.Helpers.{WritesAll};
-ghost use Rattle.pef_top.specs.ErrLines.{check_text, fault_line, index_line, map_line, map_rule_text, rule_text, seg_rule_text, segment_line, slot_text, unfit_line};
+ghost use Rattle.pef_top.specs.ErrLines.{check_text, fault_line, index_line, map_line, map_rule_text, rule_text, seg_rule_text, segment_line, side_check_text, side_line, slot_text, unfit_line};
 ghost use Rattle.pef_top.specs.Outcome.{line_of};
 ghost use Rattle.pef_top.specs.Private.ErrPieces.{joined};
 ghost use Rattle.pef_top.specs.Private.Stops.{outcome_of_stop};
 
 use crate::stop::Stop;
+use block_max::{SideCheck, SideFault};
 use collection_reader::{Fault, Rule};
 use index_file::OpenFault;
 use itoa::Buffer;
@@ -16,7 +17,7 @@ use two_level::Check;
 
 /// The line of words that are no command.
 const USAGE: &[u8] =
-    b"usage: pefidx build BASE INDEX [--format FORMAT] | query INDEX [--plan PLAN] | answer BASE [--plan PLAN] | inspect INDEX | generate SEED N T | migrate OLD NEW | audit INDEX | blocks INDEX SIDE | remap BASE MAP NEW | segments INDEX.. [--plan PLAN]\n";
+    b"usage: pefidx build BASE INDEX [--format FORMAT] | query INDEX [--plan PLAN] | answer BASE [--plan PLAN] | inspect INDEX | generate SEED N T | migrate OLD NEW | audit INDEX | blocks INDEX SIDE | bquery INDEX SIDE | remap BASE MAP NEW | segments INDEX.. [--plan PLAN]\n";
 
 /// Writes the line of a run that stopped, without memory.
 pub(crate) fn write_line<E: Sink>(err: &mut E, stop: Stop) -> Result<(), IoFail>
@@ -26,6 +27,7 @@ pub(crate) fn write_line<E: Sink>(err: &mut E, stop: Stop) -> Result<(), IoFail>
         Stop::Usage => write_all_own(err, USAGE),
         Stop::Collection(fault) => write_fault(err, fault),
         Stop::Index(fault) => write_index_fault(err, fault),
+        Stop::Side(fault) => write_side_fault(err, fault),
         Stop::Map(fault) => write_map_fault(err, fault),
         Stop::Segment(fault, s) => write_segment_fault(err, fault, s),
         Stop::Unfit(rule, s) => write_unfit(err, rule, s),
@@ -72,6 +74,26 @@ fn write_index_fault<E: Sink>(err: &mut E, fault: OpenFault) -> Result<(), IoFai
         &[
             b"index ",
             check_name(fault.check),
+            b" term ",
+            term.format(fault.term).as_bytes(),
+            b" part ",
+            part.format(fault.part).as_bytes(),
+            b"\n",
+        ],
+    )
+}
+
+/// Writes the line of a file that is no side file of the index.
+fn write_side_fault<E: Sink>(err: &mut E, fault: SideFault) -> Result<(), IoFail>
+    ensures { WritesAll (E.state err.old) (E.state err.new) (side_line fault) result }
+{
+    let mut term = Buffer::new();
+    let mut part = Buffer::new();
+    write_pieces(
+        err,
+        &[
+            b"side ",
+            side_check_name(fault.check),
             b" term ",
             term.format(fault.term).as_bytes(),
             b" part ",
@@ -216,5 +238,18 @@ fn check_name(check: Check) -> &'static [u8]
         Check::K9 => b"K9",
         Check::K10 => b"K10",
         Check::K11 => b"K11",
+    }
+}
+
+fn side_check_name(check: SideCheck) -> &'static [u8]
+    ensures { result.now ≡ side_check_text check }
+{
+    match check {
+        SideCheck::S1 => b"S1",
+        SideCheck::S2 => b"S2",
+        SideCheck::S3 => b"S3",
+        SideCheck::S4 => b"S4",
+        SideCheck::S5 => b"S5",
+        SideCheck::S6 => b"S6",
     }
 }

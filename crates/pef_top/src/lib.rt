@@ -3,6 +3,7 @@
 
 mod answer;
 mod audit;
+mod block_query;
 mod blocks;
 mod build;
 mod err_lines;
@@ -14,6 +15,7 @@ mod loading;
 mod migrate;
 mod query;
 mod reorder;
+mod side_loading;
 mod status;
 mod stop;
 mod top;

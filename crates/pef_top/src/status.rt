@@ -18,8 +18,10 @@ pub enum Status {
     Write,
     /// Memory was refused.
     NoMemory,
-    /// The query text, or an index, is longer than its limit.
+    /// The query text, an index or a side file is longer than its limit.
     TooLarge,
+    /// A file is no side file of the index.
+    Side,
     /// A file is no order of the documents of a collection.
     Map,
     /// An index cannot be joined to those before it.
@@ -40,6 +42,7 @@ impl Status {
             Status::Write => 6,
             Status::NoMemory => 7,
             Status::TooLarge => 8,
+            Status::Side => 9,
             Status::Map => 10,
             Status::Segments => 11,
         }

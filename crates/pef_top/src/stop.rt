@@ -1,8 +1,9 @@
 ghost use Rattle.std.specs.Prelude.{◌≡◌};
 ghost use Rattle.pef_top.specs.Outcome.{status_of};
-ghost use Rattle.pef_top.specs.Private.Stops.{at_segment, outcome_of, outcome_of_stop, stop_of_index, stop_of_loading, stop_of_printing, stop_of_writing, written_outcome};
+ghost use Rattle.pef_top.specs.Private.Stops.{at_segment, outcome_of, outcome_of_stop, stop_of_index, stop_of_loading, stop_of_printing, stop_of_side, stop_of_writing, written_outcome};
 
 use crate::status::Status;
+use block_max::{SideCheck, SideFault};
 use collection_reader::Fault;
 use command_line::WordsError;
 use command_steps::{BuildError, FileFail, ImageError, LoadWordsError, RunFault};
@@ -23,6 +24,8 @@ pub(crate) enum Stop {
     Collection(Fault),
     /// The file is no index.
     Index(OpenFault),
+    /// The file is no side file of the index.
+    Side(SideFault),
     /// The file is no order of the documents.
     Map(MapFault),
     /// The file of this segment, counted from 0, is no index.
@@ -54,6 +57,7 @@ impl Stop {
             Stop::Usage => Status::Usage,
             Stop::Collection(_) => Status::Collection,
             Stop::Index(_) | Stop::Segment(..) => Status::Index,
+            Stop::Side(_) => Status::Side,
             Stop::Map(_) => Status::Map,
             Stop::Unfit(..) => Status::Segments,
             Stop::File(_) | Stop::Input => Status::Read,
@@ -155,6 +159,16 @@ impl From<OpenFault> for Stop {
     }
 }
 
+impl From<SideFault> for Stop {
+    ghost use Rattle.pef_top.specs.declared.stop.Stop.TheVariants as stop;
+
+    ghost from_gives = { λ e answer. answer ≡ stop.Side e };
+
+    fn from(e: SideFault) -> Stop {
+        Stop::Side(e)
+    }
+}
+
 impl From<RunFault> for Stop {
     ghost use Rattle.pef_top.specs.Private.Stops.{stop_of_answering};
 
@@ -192,6 +206,18 @@ pub(crate) fn stop_of_index(error: LoadWordsError) -> Stop
         part: 0,
     };
     stop_of_loading(Slot::Index, Stop::Index(ragged), error)
+}
+
+/// Where a run stops that could not load the words of its side file: that they are whole words is the check S1.
+pub(crate) fn stop_of_side(error: LoadWordsError) -> Stop
+    ensures { result ≡ stop_of_side error }
+{
+    let ragged = SideFault {
+        check: SideCheck::S1,
+        term: 0,
+        part: 0,
+    };
+    stop_of_loading(Slot::Side, Stop::Side(ragged), error)
 }
 
 /// Where a run stops that could not write the file of this slot.

@@ -9,6 +9,7 @@ ghost use Rattle.pef_top.specs.Private.Stops.{outcome_of};
 
 use crate::answer::answer;
 use crate::audit::audit;
+use crate::block_query::query_blocks;
 use crate::blocks::write_blocks;
 use crate::build::build;
 use crate::err_lines::write_line;
@@ -41,7 +42,8 @@ pub(crate) const LONGEST_TEXT: u64 = 1 << 40;
 /// prints what it counts and what it replies. `migrate OLD NEW` checks the file OLD whole and writes the index of its collection, in
 /// format 2 and in new partitions, as the file NEW. `audit INDEX` checks that file whole and prints, for each sequence of at most 256
 /// numbers, what its partition costs and the least costs of allowed partitions and of all. `blocks INDEX SIDE` checks the file INDEX whole and writes the side file of its blocks
-/// as the file SIDE. `remap BASE MAP NEW` reads a collection and, from the file MAP, an order of its
+/// as the file SIDE. `bquery INDEX SIDE` checks the file INDEX whole, and the file SIDE as its side file, and answers the lines of the input as
+/// `query` does, `top` by block-max WAND. `remap BASE MAP NEW` reads a collection and, from the file MAP, an order of its
 /// documents, and writes the files NEW.docs, NEW.freqs and NEW.sizes of its image. `segments INDEX.. [--plan PLAN]` checks each of 1 to
 /// 64 files whole, and answers the lines from the collection to which their indexes are joined. Every status but `Done` has its line on err, which takes no memory; an err that
 /// fails changes no status.
@@ -136,6 +138,7 @@ fn perform<D: Depot, I: Source, O: Sink, L: Ledger>(
         Command::Migrate { from, to } => migrate(alloc, from, to, depot, steps),
         Command::Audit { index } => audit(alloc, index, depot, out, steps),
         Command::Blocks { index, side } => write_blocks(alloc, index, side, depot),
+        Command::BlockQuery { index, side } => query_blocks(alloc, index, side, depot, input, out),
         Command::Remap { base, map, to } => reorder(alloc, base, map, to, depot),
         Command::Segments { indexes, plan } => {
             answer_segments(alloc, indexes, plan, depot, input, out)

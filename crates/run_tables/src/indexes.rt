@@ -166,3 +166,12 @@ pub fn only_index(alloc: Global, bytes: &[u8]) -> Option<FileList> {
         .ok()?;
     Some(files)
 }
+
+/// The bytes of these words as the files `y` and `z`.
+pub fn index_and_side(alloc: Global, index: &[u64], side: &[u64]) -> Option<FileList> {
+    let mut files = only_index(alloc, &bytes_of(alloc, index)?)?;
+    files
+        .push((String::from_str(alloc, "z").ok()?, bytes_of(alloc, side)?))
+        .ok()?;
+    Some(files)
+}

@@ -14,13 +14,13 @@ pub use collections::{
 };
 pub use indexes::{
     CLOSING, DOCUMENTS_IN_TWO_PARTS, ONE_LIST_WORDS, ONE_LIST_WORDS_OF_TWO, OPENING,
-    THREE_LISTS_WORDS, THREE_LISTS_WORDS_OF_TWO, bytes_of, only_index,
+    THREE_LISTS_WORDS, THREE_LISTS_WORDS_OF_TWO, bytes_of, index_and_side, only_index,
 };
 pub use printed::{
     GENERATED_TEXT, THREE_LISTS_AUDIT, THREE_LISTS_AUDIT_OF_TWO, THREE_LISTS_LINE,
     THREE_LISTS_LINE_OF_TWO,
 };
 pub use runs::{
-    ANSWER, AUDIT, BLOCKS, BUILD, BUILD_ONE, FileList, INSPECT, MIGRATE, OPS, Outcome, QUERY,
-    REMAP, run_over, run_to_replies, run_words, steady_run,
+    ANSWER, AUDIT, BLOCKS, BQUERY, BUILD, BUILD_ONE, FileList, INSPECT, MIGRATE, OPS, Outcome,
+    QUERY, REMAP, run_over, run_to_replies, run_words, steady_run,
 };

@@ -24,6 +24,9 @@ pub const MIGRATE: [&str; 4] = ["pefidx", "migrate", "y", "z"];
 /// The words of a run that writes the side file `z` of the index `y`.
 pub const BLOCKS: [&str; 4] = ["pefidx", "blocks", "y", "z"];
 
+/// The words of a run that answers from the index `y` and its side file `z`.
+pub const BQUERY: [&str; 4] = ["pefidx", "bquery", "y", "z"];
+
 /// The words of a run that moves the collection `x` to the order of the map `m`, as the collection `y`.
 pub const REMAP: [&str; 5] = ["pefidx", "remap", "x", "m", "y"];
 

@@ -8,10 +8,10 @@ use run_tables::{
 use std::alloc::Global;
 
 const USAGE: &str =
-    "usage: pefidx build BASE INDEX [--format FORMAT] | query INDEX [--plan PLAN] | answer BASE [--plan PLAN] | inspect INDEX | generate SEED N T | migrate OLD NEW | audit INDEX | blocks INDEX SIDE | remap BASE MAP NEW | segments INDEX.. [--plan PLAN]\n";
+    "usage: pefidx build BASE INDEX [--format FORMAT] | query INDEX [--plan PLAN] | answer BASE [--plan PLAN] | inspect INDEX | generate SEED N T | migrate OLD NEW | audit INDEX | blocks INDEX SIDE | bquery INDEX SIDE | remap BASE MAP NEW | segments INDEX.. [--plan PLAN]\n";
 
 /// Words that are no command.
-const NO_COMMANDS: [&[&str]; 41] = [
+const NO_COMMANDS: [&[&str]; 43] = [
     &[],
     &["pefidx"],
     &["pefidx", "answer"],
@@ -51,6 +51,8 @@ const NO_COMMANDS: [&[&str]; 41] = [
     &["pefidx", "migrate", "x", "help"],
     &["pefidx", "blocks", "x"],
     &["pefidx", "blocks", "x", "x"],
+    &["pefidx", "bquery", "x"],
+    &["pefidx", "bquery", "x", "y", "--plan", "wand"],
     &["pefidx", "remap", "x", "m"],
     &["pefidx", "remap", "x", "m", "y", "z"],
     &["pefidx", "remap", "x", "m", "x"],

@@ -7,6 +7,8 @@ mod answers;
 #[cfg(test)]
 mod audits;
 #[cfg(test)]
+mod block_queries;
+#[cfg(test)]
 mod generations;
 #[cfg(test)]
 mod indexes;

@@ -9,7 +9,7 @@ use Rattle.query_text.specs.Numbers.{number_of}
 use Rattle.command_line.specs.declared.plan.Plan.{Plan}
 use Rattle.command_line.specs.declared.error.WordsError.{WordsError}
 use Rattle.command_line.specs.declared.error.WordsError.TheVariants as refused
-use Rattle.command_line.specs.Command.{Command, Build, Query, Answer, Inspect, Migrate, Audit, Blocks, Remap, command_of, format_of, plan_of, generate_of, Segments, most_segments}
+use Rattle.command_line.specs.Command.{Command, Build, Query, Answer, Inspect, Migrate, Audit, Blocks, BlockQuery, Remap, command_of, format_of, plan_of, generate_of, Segments, most_segments}
 
 -- a positional that a subcommand requires
 abbrev pub required : Text → Rule
@@ -59,6 +59,10 @@ audit_app = with_rule (new_app (codes "audit")) (required (codes "index"))
 abbrev pub blocks_app : App
 blocks_app = with_rule (with_rule (new_app (codes "blocks")) (required (codes "index"))) (required (codes "side"))
 
+-- `bquery INDEX SIDE`
+abbrev pub bquery_app : App
+bquery_app = with_rule (with_rule (new_app (codes "bquery")) (required (codes "index"))) (required (codes "side"))
+
 -- `remap BASE MAP NEW`
 abbrev pub remap_app : App
 remap_app = with_rule (with_rule (with_rule (new_app (codes "remap")) (required (codes "base"))) (required (codes "map"))) (required (codes "to"))
@@ -75,9 +79,13 @@ answering_app = with_subcommand (with_subcommand (with_subcommand (new_app (code
 abbrev pub telling_app : App
 telling_app = with_subcommand (with_subcommand (with_subcommand answering_app inspect_app.top) generate_app.top) migrate_app.top
 
+-- the same with `bquery`
+abbrev pub blockwise_app : App
+blockwise_app = with_subcommand telling_app bquery_app.top
+
 -- the same with `audit`, `blocks` and `remap`
 abbrev pub single_app : App
-single_app = with_subcommand (with_subcommand (with_subcommand telling_app audit_app.top) blocks_app.top) remap_app.top
+single_app = with_subcommand (with_subcommand (with_subcommand blockwise_app audit_app.top) blocks_app.top) remap_app.top
 
 -- the command line of the program
 abbrev pub program_app : App
@@ -131,6 +139,15 @@ blocks_from index side = None
 abbrev pub blocks_with : List Row → Option Command
 blocks_with rows = blocks_from (first_of (codes "index") rows) (first_of (codes "side") rows)
 
+-- the same for `bquery`
+abbrev pub bquery_from : Option Text → Option Text → Option Command
+bquery_from (Some index) (Some side) = Some (BlockQuery index side)
+bquery_from index side = None
+
+-- what `bquery` asks for with these texts
+abbrev pub bquery_with : List Row → Option Command
+bquery_with rows = bquery_from (first_of (codes "index") rows) (first_of (codes "side") rows)
+
 -- three texts, where there are all three
 abbrev pub remap_from : Option Text → Option Text → Option Text → Option Command
 remap_from (Some base) (Some map) (Some to) = Some (Remap base map to)
@@ -160,6 +177,7 @@ asked_of verb rows =
     else if bytes_eq verb (codes "migrate") then migrate_with rows
     else if bytes_eq verb (codes "audit") then option_map Audit (first_of (codes "index") rows)
     else if bytes_eq verb (codes "blocks") then blocks_with rows
+    else if bytes_eq verb (codes "bquery") then bquery_with rows
     else if bytes_eq verb (codes "remap") then remap_with rows
     else if bytes_eq verb (codes "segments") then segments_with rows
     else None

@@ -4,11 +4,13 @@ use Rattle.command_line.specs.declared.error.WordsError.TheVariants as words
 use Rattle.pef_io.specs.declared.fail.IoFail.{IoFail}
 use Rattle.pef_io.specs.declared.fail.IoFail.TheVariants as call
 use Rattle.pef_io.specs.declared.fail.Slot.{Slot}
-use Rattle.pef_io.specs.declared.fail.Slot.TheVariants.{Index}
+use Rattle.pef_io.specs.declared.fail.Slot.TheVariants.{Index, Side}
 use Rattle.two_level.specs.declared.check.Check.TheVariants.{K1}
 use Rattle.index_file.specs.declared.builder.FinishError.{FinishError}
 use Rattle.index_file.specs.declared.builder.FinishError.TheVariants as making
 use Rattle.index_file.specs.declared.fault.OpenFault.{OpenFault}
+use Rattle.block_max.specs.declared.fault.SideCheck.TheVariants.{S1}
+use Rattle.block_max.specs.declared.fault.SideFault.{SideFault}
 use Rattle.command_steps.specs.declared.build.BuildError.{BuildError}
 use Rattle.command_steps.specs.declared.build.BuildError.TheVariants as building
 use Rattle.command_steps.specs.declared.loading.LoadWordsError.{LoadWordsError}
@@ -20,7 +22,7 @@ use Rattle.command_steps.specs.declared.image.ImageError.TheVariants as image
 use Rattle.command_steps.specs.declared.image.FileFail.{FileFail}
 use Rattle.pef_top.specs.declared.stop.Stop.{Stop}
 use Rattle.pef_top.specs.declared.stop.Stop.TheVariants as stop
-use Rattle.pef_top.specs.Outcome.{Outcome, Done, Usage, BrokenCollection, BrokenIndex, BrokenMap, FileFault, InputFault, WriteFault, OutFault, NoMemory, TooLarge, InputTooLarge, BrokenSegment, UnfitSegment}
+use Rattle.pef_top.specs.Outcome.{Outcome, Done, Usage, BrokenCollection, BrokenIndex, BrokenSide, BrokenMap, FileFault, InputFault, WriteFault, OutFault, NoMemory, TooLarge, InputTooLarge, BrokenSegment, UnfitSegment}
 
 -- where a run stops whose words gave no command
 abbrev pub stop_of_words : WordsError → Stop
@@ -53,6 +55,14 @@ ragged_index = record { check = K1; term = 0; part = 0 }
 -- where a run stops that could not load the words of its index
 abbrev pub stop_of_index : LoadWordsError → Stop
 stop_of_index error = stop_of_loading Index (stop.Index ragged_index) error
+
+-- the fault of a side file that is no whole words
+abbrev pub ragged_side : SideFault
+ragged_side = record { check = S1; term = 0; part = 0 }
+
+-- where a run stops that could not load the words of its side file
+abbrev pub stop_of_side : LoadWordsError → Stop
+stop_of_side error = stop_of_loading Side (stop.Side ragged_side) error
 
 -- where a run stops that could not write the file of a slot
 abbrev pub stop_of_writing : Slot → IoFail → Stop
@@ -92,6 +102,7 @@ abbrev pub outcome_of_stop : Stop → Outcome
 outcome_of_stop stop.Usage = Usage
 outcome_of_stop (stop.Collection fault) = BrokenCollection fault
 outcome_of_stop (stop.Index fault) = BrokenIndex fault
+outcome_of_stop (stop.Side fault) = BrokenSide fault
 outcome_of_stop (stop.Map fault) = BrokenMap fault
 outcome_of_stop (stop.Segment fault segment) = BrokenSegment fault segment
 outcome_of_stop (stop.Unfit rule segment) = UnfitSegment rule segment

@@ -78,6 +78,13 @@ returns-in-Blocks-clause-leaves g c = λ e e'.
     subst P (sym (ap (λ x. Some (asked x)) c.in-Blocks.is) ∙ c.in_ok-command.ensures.command)
     (c.write_blocks.ensures (g.I.Source.state c.args.input.now) (g.O.Sink.state c.args.out.now) e e' c.args.steps.now)
 
+pub returns-in-BlockQuery-clause-leaves : goal.returns-in-BlockQuery-clause-leaves
+returns-in-BlockQuery-clause-leaves g c = λ e e'.
+    let P : Option Command → Type 0 = λ command. Leaves command
+    (outside (g.D.Depot.state c.args.depot.now) (g.I.Source.state c.args.input.now) (g.O.Sink.state c.args.out.now) e c.args.steps.now)
+    (outside (g.D.Depot.state c.query_blocks.new.depot) (g.I.Source.state c.query_blocks.new.input) (g.O.Sink.state c.query_blocks.new.out) e' c.args.steps.now) (outcome_of c.query_blocks.result) in
+    subst P (sym (ap (λ x. Some (asked x)) c.in-BlockQuery.is) ∙ c.in_ok-command.ensures.command) (c.query_blocks.ensures.leaves e e' c.args.steps.now)
+
 pub returns-in-Remap-clause-leaves : goal.returns-in-Remap-clause-leaves
 returns-in-Remap-clause-leaves g c = λ e e'.
     let P : Option Command → Type 0 = λ command. Leaves command

@@ -1,0 +1,30 @@
+use Rattle.std.specs.Prelude.{◌≡◌, ◌≢◌, ℕ, ◌⊎◌, List, Ok, Err}
+use Rattle.pef_io.specs.declared.fail.Slot.TheVariants.{Side}
+use Rattle.pef_io.specs.DepotState.{DepotState}
+use Rattle.block_max.specs.declared.fault.SideFault.{SideFault}
+use Rattle.block_max.specs.Blocks.{BlockList}
+use Rattle.block_max.specs.SideFaults.{IsFirstSideFault}
+use Rattle.block_max.specs.SideWords.{side_words}
+use Rattle.command_steps.specs.declared.loading.LoadWordsError.{LoadWordsError}
+use Rattle.command_steps.specs.LoadWords.{LoadsWords}
+use Rattle.pef_top.specs.declared.stop.Stop.{Stop}
+use Rattle.pef_top.specs.declared.stop.Stop.TheVariants as stop
+use Rattle.pef_top.specs.Private.Stops.{stop_of_side}
+
+-- These words were loaded from the file under the name, and are the side words of some lists.
+pub record IsLoadedSide (lists : List BlockList) (name : List ℕ) (old new : DepotState) (words : List ℕ) : Type 0 where
+  pub loads : LoadsWords Side name old new (Ok words)
+  pub side : words ≡ side_words lists
+
+-- Words were loaded that are not, of which this is the first check that breaks.
+pub record IsNoSide (lists : List BlockList) (name : List ℕ) (old new : DepotState) (fault : SideFault) : Type 0 where
+  pub words : List ℕ
+  pub loads : LoadsWords Side name old new (Ok words)
+  pub no_side : words ≢ side_words lists
+  pub first : IsFirstSideFault lists words fault
+
+-- Where a run stops that loaded no side file of some lists: no words were loaded, or they are none.
+abbrev pub IsUnloadedSide : List BlockList → List ℕ → DepotState → DepotState → Stop → Type 0
+IsUnloadedSide lists name old new it =
+    ((error : LoadWordsError) × LoadsWords Side name old new (Err error) × (it ≡ stop_of_side error))
+    ⊎ ((fault : SideFault) × IsNoSide lists name old new fault × (it ≡ stop.Side fault))
