@@ -23,4 +23,6 @@ mod print_failures;
 #[cfg(test)]
 mod remap_failures;
 #[cfg(test)]
+mod segment_failures;
+#[cfg(test)]
 mod side_failures;

@@ -168,6 +168,38 @@ pub fn two_long_lists(alloc: Global) -> Option<ManyNumbers> {
     Some(ManyNumbers { docs, freqs, sizes })
 }
 
+/// The documents of a collection of two lists from one on and below another, as a collection of their own.
+pub fn documents_from(
+    alloc: Global,
+    numbers: Numbers<'_>,
+    first: u32,
+    end: u32,
+) -> Option<ManyNumbers> {
+    let documents = end.checked_sub(first)?;
+    let mut docs = Vec::from_slice(alloc, &[1, documents]).ok()?;
+    let mut freqs = Vec::new(alloc);
+    let mut rest = numbers.docs.get(2..)?;
+    let mut rest_freqs = numbers.freqs;
+    for _ in 0..2 {
+        let count = *rest.first()? as usize;
+        let list = rest.get(1..)?.get(..count)?;
+        let list_freqs = rest_freqs.get(1..)?.get(..count)?;
+        let from = list.iter().position(|doc| *doc >= first).unwrap_or(count);
+        let to = list.iter().position(|doc| *doc >= end).unwrap_or(count);
+        let inside = list.get(from..to)?;
+        docs.push(inside.len() as u32).ok()?;
+        freqs.push(inside.len() as u32).ok()?;
+        for doc in inside {
+            docs.push(doc.checked_sub(first)?).ok()?;
+        }
+        freqs.extend_from_slice(list_freqs.get(from..to)?).ok()?;
+        rest = rest.get(1..)?.get(count..)?;
+        rest_freqs = rest_freqs.get(1..)?.get(count..)?;
+    }
+    let sizes = repeated(alloc, &[documents], 1, documents, &[])?;
+    Some(ManyNumbers { docs, freqs, sizes })
+}
+
 /// The numbers from 0 up to a last one, between some others.
 fn counted(alloc: Global, before: &[u32], count: u32, behind: &[u32]) -> Option<Vec<u32>> {
     let mut numbers = Vec::from_slice(alloc, before).ok()?;

@@ -8,6 +8,9 @@ pub const OPENING: u64 = 6_360_565_151_758_173_520;
 /// The word at the end of a file, the bytes `XEDNIFEP`.
 pub const CLOSING: u64 = 5_784_106_577_086_924_120;
 
+/// The words of no list over no document, in the second format.
+pub const NO_LIST_WORDS: [u64; 6] = [OPENING, 2, 0, 0, 2, CLOSING];
+
 /// The words of the one list in the first format.
 pub const ONE_LIST_WORDS: [u64; 18] = [
     OPENING,
@@ -173,5 +176,17 @@ pub fn index_and_side(alloc: Global, index: &[u64], side: &[u64]) -> Option<File
     files
         .push((String::from_str(alloc, "z").ok()?, bytes_of(alloc, side)?))
         .ok()?;
+    Some(files)
+}
+
+/// Files of these words, by name.
+pub fn indexes_of(alloc: Global, indexes: &[(&str, &[u64])]) -> Option<FileList> {
+    let mut files = Vec::new(alloc);
+    for (name, words) in indexes {
+        let bytes = bytes_of(alloc, words)?;
+        files
+            .push((String::from_str(alloc, name).ok()?, bytes))
+            .ok()?;
+    }
     Some(files)
 }

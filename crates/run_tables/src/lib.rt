@@ -10,11 +10,11 @@ mod runs;
 pub use builds::built;
 pub use collections::{
     MAP, ManyNumbers, NINE_LISTS, NO_LIST, Numbers, ONE_LIST, THREE_LISTS, TWO_LISTS, cut_files,
-    far_document, files_of, full_list, spelled, two_long_lists, with_map,
+    documents_from, far_document, files_of, full_list, spelled, two_long_lists, with_map,
 };
 pub use indexes::{
-    CLOSING, DOCUMENTS_IN_TWO_PARTS, ONE_LIST_WORDS, ONE_LIST_WORDS_OF_TWO, OPENING,
-    THREE_LISTS_WORDS, THREE_LISTS_WORDS_OF_TWO, bytes_of, index_and_side, only_index,
+    CLOSING, DOCUMENTS_IN_TWO_PARTS, NO_LIST_WORDS, ONE_LIST_WORDS, ONE_LIST_WORDS_OF_TWO, OPENING,
+    THREE_LISTS_WORDS, THREE_LISTS_WORDS_OF_TWO, bytes_of, index_and_side, indexes_of, only_index,
 };
 pub use printed::{
     GENERATED_TEXT, THREE_LISTS_AUDIT, THREE_LISTS_AUDIT_OF_TWO, THREE_LISTS_LINE,

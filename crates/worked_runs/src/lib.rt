@@ -15,6 +15,8 @@ mod indexes;
 #[cfg(test)]
 mod inspections;
 #[cfg(test)]
+mod joined;
+#[cfg(test)]
 mod long_lists;
 #[cfg(test)]
 mod migrations;
