@@ -1,7 +1,12 @@
-// Index files that were changed, by `query`, `migrate`, `audit` and `blocks`.
+// Index files that were changed, by the commands that read one.
 use pef_io::Op;
 use pef_top::Status;
-use run_tables::{AUDIT, BLOCKS, MIGRATE, ONE_LIST_WORDS, QUERY, bytes_of, only_index, steady_run};
+use run_tables::{
+    AUDIT, BLOCKS, BQUERY, MIGRATE, ONE_LIST_WORDS, QUERY, bytes_of, only_index, steady_run,
+};
+
+/// The words of a run that answers from the index `y` as the only segment.
+const ONE_SEGMENT: [&str; 3] = ["pefidx", "segments", "y"];
 
 #[test]
 fn edits_of_a_file_are_refused_by_name(rt: HostRuntime) {
@@ -34,12 +39,17 @@ fn edits_of_a_file_are_refused_by_name(rt: HostRuntime) {
             MIGRATE.as_slice(),
             AUDIT.as_slice(),
             BLOCKS.as_slice(),
+            BQUERY.as_slice(),
         ] {
             let files = only_index(alloc, bytes.as_slice()).expect(&rt, "memory");
             let run = steady_run(alloc, command, files, b"or 0").expect(&rt, "memory");
             assert!(rt; run.ends(Status::Index, &wanted), "{at} {word}");
             assert_eq!(rt; run.depot.calls(Op::Create), 0, "{at} {word}");
         }
+        let wanted = format!(in alloc; "index {line} segment 0\n").expect(&rt, "memory");
+        let files = only_index(alloc, bytes.as_slice()).expect(&rt, "memory");
+        let run = steady_run(alloc, &ONE_SEGMENT, files, b"or 0").expect(&rt, "memory");
+        assert!(rt; run.ends(Status::Index, &wanted), "{at} {word}");
     }
 }
 
@@ -67,11 +77,18 @@ fn files_of_other_lengths_are_no_index(rt: HostRuntime) {
             MIGRATE.as_slice(),
             AUDIT.as_slice(),
             BLOCKS.as_slice(),
+            BQUERY.as_slice(),
         ] {
             let files = only_index(alloc, bytes.as_slice()).expect(&rt, "memory");
             let run = steady_run(alloc, command, files, b"or 0").expect(&rt, "memory");
             assert!(rt; run.ends(Status::Index, &wanted), "{length}");
             assert_eq!(rt; run.depot.calls(Op::Create), 0, "{length}");
         }
+        let wanted = format!(in alloc; "index {check} term 0 part 0 segment 0\n").expect(
+            &rt, "memory",
+        );
+        let files = only_index(alloc, bytes.as_slice()).expect(&rt, "memory");
+        let run = steady_run(alloc, &ONE_SEGMENT, files, b"or 0").expect(&rt, "memory");
+        assert!(rt; run.ends(Status::Index, &wanted), "{length}");
     }
 }
