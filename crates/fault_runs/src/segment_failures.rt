@@ -1,61 +1,51 @@
-// Calls on the files of three indexes fail: each is read to its end, in pieces of four bytes, before the next is started.
-use crate::failures::run_failing;
+// Calls on the files of three indexes fail in turn: each is read to its end, in pieces of four bytes, before the next is started.
+use crate::failures::{failing_call, run_failing};
+use crate::in_turn::{Turn, Turns, first_wrong};
 use pef_io::{Op, Slot};
 use pef_top::Status;
 use run_tables::{ONE_LIST_WORDS, ONE_LIST_WORDS_OF_TWO, indexes_of};
+use std::alloc::Global;
 
-#[test]
-fn calls_on_three_indexes_fail(rt: HostRuntime) {
-    let files: [(&str, &[u64]); 3] = [
-        ("x", &ONE_LIST_WORDS),
-        ("y", &ONE_LIST_WORDS_OF_TWO),
-        ("z", &ONE_LIST_WORDS),
-    ];
-    let words = ["pefidx", "segments", "x", "y", "z"];
-    for (op, failing, starts) in [
-        (Op::Start(Slot::Index), 1, 1),
-        (Op::Start(Slot::Index), 2, 2),
-        (Op::Start(Slot::Index), 3, 3),
-        (Op::Read(Slot::Index), 1, 1),
-        (Op::Read(Slot::Index), 37, 1),
-        (Op::Read(Slot::Index), 38, 2),
-        (Op::Read(Slot::Index), 78, 2),
-        (Op::Read(Slot::Index), 79, 3),
-        (Op::Read(Slot::Index), 115, 3),
-    ] {
-        let alloc = rt.alloc();
-        let held = indexes_of(alloc, &files).expect(&rt, "memory");
-        let fails = vec![in alloc; (op, failing)].expect(&rt, "memory");
-        let fails = (fails, Vec::new(alloc), Vec::new(alloc));
-        let run = run_failing(alloc, &words, held, b"or 0", 4, fails).expect(&rt, "memory");
-        assert!(rt;
-            run.ends(Status::Read, "read fault: index\n"),
-            "{op:?} {failing}"
-        );
-        assert_eq!(rt;
-            run.depot.calls(Op::Start(Slot::Index)),
-            starts,
-            "{op:?} {failing}"
-        );
+/// Runs over three indexes where a call of this kind fails.
+#[derive(Clone, Copy)]
+struct OverThree(Op);
+
+impl Turns for OverThree {
+    fn turn(&self, alloc: Global, failing: u64) -> Option<Turn> {
+        let files: [(&str, &[u64]); 3] = [
+            ("x", &ONE_LIST_WORDS),
+            ("y", &ONE_LIST_WORDS_OF_TWO),
+            ("z", &ONE_LIST_WORDS),
+        ];
+        let held = indexes_of(alloc, &files)?;
+        let words = ["pefidx", "segments", "x", "y", "z"];
+        let fails = failing_call(alloc, self.0, failing)?;
+        let run = run_failing(alloc, &words, held, b"or 0", 4, fails)?;
+        let made = failing <= run.depot.calls(self.0);
+        let right = if made {
+            run.ends(Status::Read, "read fault: index\n")
+                && run.depot.calls(Op::Start(Slot::Index)) == starts_at(self.0, failing)
+        } else {
+            run.prints(b"6 0 2 3 5 6 8\n")
+        };
+        Some(Turn::of(made, right))
     }
 }
 
-// Past the last call of each kind the run is done.
+/// How many files are started where the call of this number fails: the first takes 37 reads, the second 41 and the third 37.
+fn starts_at(op: Op, failing: u64) -> u64 {
+    match op {
+        Op::Start(_) => failing,
+        _ if failing <= 37 => 1,
+        _ if failing <= 78 => 2,
+        _ => 3,
+    }
+}
+
 #[test]
-fn calls_on_three_indexes_are_no_more(rt: HostRuntime) {
-    let files: [(&str, &[u64]); 3] = [
-        ("x", &ONE_LIST_WORDS),
-        ("y", &ONE_LIST_WORDS_OF_TWO),
-        ("z", &ONE_LIST_WORDS),
-    ];
-    let words = ["pefidx", "segments", "x", "y", "z"];
-    for (op, failing) in [(Op::Start(Slot::Index), 4), (Op::Read(Slot::Index), 116)] {
-        let alloc = rt.alloc();
-        let held = indexes_of(alloc, &files).expect(&rt, "memory");
-        let fails = vec![in alloc; (op, failing)].expect(&rt, "memory");
-        let fails = (fails, Vec::new(alloc), Vec::new(alloc));
-        let run = run_failing(alloc, &words, held, b"or 0", 4, fails).expect(&rt, "memory");
-        assert_eq!(rt; run.status, Status::Done, "{op:?}");
-        assert_eq!(rt; run.out.bytes(), b"6 0 2 3 5 6 8\n".as_slice(), "{op:?}");
+fn calls_on_three_indexes_fail_in_turn(rt: HostRuntime) {
+    for (op, least) in [(Op::Start(Slot::Index), 3), (Op::Read(Slot::Index), 115)] {
+        let wrong = first_wrong(rt.alloc(), &OverThree(op), least);
+        assert_eq!(rt; wrong, None, "{op:?}");
     }
 }
