@@ -10,7 +10,7 @@ use Rattle.std.proofs.lemmas.Nat.{mul-le}
 use Rattle.std.proofs.lemmas.List.Elements.{All-head, All-tail, All-map, All-drop}
 use Rattle.std.proofs.lemmas.List.FromFn.{length-range_with_len, get_or-range_with_len, fill_by_all}
 use Rattle.std.proofs.lemmas.List.Folds.{list_any_at}
-use Rattle.std.proofs.lemmas.List.Sorted.{All-permutation, sum_by-IsPermutation, list_any-IsPermutation}
+use Rattle.std.proofs.lemmas.List.Sorted.{All-permutation}
 use Rattle.std.proofs.lemmas.List.Sums.{sum_by-cons, sum_by-take-drop}
 use Rattle.std.proofs.lemmas.Slice.Zip.{length-zip, get_or-zip}
 use Rattle.collection_model.specs.Collection.{Posting, greatest_freq}
@@ -19,6 +19,7 @@ use Rattle.scan_plans.specs.Ranking.{IsLeastScore}
 use Rattle.scan_plans.specs.Skips.{CannotEnter}
 use Rattle.topk_pruning.specs.declared.term.Term.{Term}
 use Rattle.topk_pruning.specs.Terms.{term_of, terms_of, list_of, share, score_in, in_lists, bounds, beats, AreTerms, AreAllTerms, AreSpared}
+use Rattle.topk_pruning.proofs.Alike.{alike-moved, alike-score, alike-any}
 
 -- ---- one list
 absent-step : (b : Bool) (p : Posting) (l : List Posting) (d : ℕ) → (b || has_doc d l) ≡ false → (has_doc d l ≡ false → freq_of_doc d l ≡ 0) → unwrap_or (option_map (λ p. p.freq) (cond b (Some p) (find (λ p. eqb p.doc d) l))) 0 ≡ 0
@@ -100,10 +101,10 @@ any-terms lists weights d =
 
 -- the score of a document is that in the lists of all the terms, in any order
 pub score-is : (lists : List (List Posting)) (weights : List ℕ) (terms : List Term) (d : ℕ) → AreAllTerms lists weights terms → score lists weights d ≡ score_in lists d terms
-score-is lists weights terms d are = score-terms lists weights d are.each ∙ sym (sum_by-IsPermutation (share lists d) (terms_of lists weights) terms are.all)
+score-is lists weights terms d are = score-terms lists weights d are.each ∙ alike-score lists d (terms_of lists weights) terms are.all
 
 pub any-is : (lists : List (List Posting)) (weights : List ℕ) (terms : List Term) (d : ℕ) → AreAllTerms lists weights terms → list_any (has_doc d) lists ≡ in_lists lists d terms
-any-is lists weights terms d are = any-terms lists weights d ∙ list_any-IsPermutation (λ t. has_doc d (list_of lists t)) (terms_of lists weights) terms are.all
+any-is lists weights terms d are = any-terms lists weights d ∙ alike-any lists d (terms_of lists weights) terms are.all
 
 pub terms-are : (lists : List (List Posting)) (weights : List ℕ) (terms : List Term) → IsPermutation (terms_of lists weights) terms → bounds terms < 2 ^ 58 → AreTerms lists terms
 terms-are lists weights terms all light =
@@ -116,18 +117,26 @@ terms-are lists weights terms all light =
       light = light;
     }
 
+-- they are all its terms
+pub all-terms : (lists : List (List Posting)) (weights : List ℕ) (terms : List Term) → length weights ≡ length lists → IsPermutation (terms_of lists weights) terms → AreAllTerms lists weights terms
+all-terms lists weights terms each moved = record { each = each; all = alike-moved (terms_of lists weights) terms moved }
+
 -- ---- what is skipped
-pub shares-within : (lists : List (List Posting)) (d : ℕ) (terms : List Term) → All (λ t. t.bound ≡ t.weight * greatest_freq (list_of lists t)) terms → score_in lists d terms ≤ bounds terms
-shares-within lists d terms bounded = sums-le (share lists d) (λ t. t.bound) terms (λ k e within. share-within lists d (get_or terms k e) (bounded k e within))
+-- what a term of a whole list adds to the score of a document is within its bound
+pub bounded-at : (lists : List (List Posting)) (terms : List Term) (d : ℕ) → AreTerms lists terms → All (λ t. share lists d t ≤ t.bound) terms
+bounded-at lists terms d are k e within = share-within lists d (get_or terms k e) (are.bounded k e within)
+
+pub shares-within : (lists : List (List Posting)) (d : ℕ) (terms : List Term) → All (λ t. share lists d t ≤ t.bound) terms → score_in lists d terms ≤ bounds terms
+shares-within lists d terms bounded = sums-le (share lists d) (λ t. t.bound) terms bounded
 
 -- a document that none of the lists has
 pub score-none : (lists : List (List Posting)) (d : ℕ) (terms : List Term) → in_lists lists d terms ≡ false → score_in lists d terms ≡ 0
 score-none lists d terms none = sum-none (share lists d) terms (λ k e within. share-absent lists d (get_or terms k e) (none-of_any (λ t. has_doc d (list_of lists t)) terms none k e within))
 
 -- a document that only the later terms' lists can have has no more than their bounds
-pub few-bound : (lists : List (List Posting)) (d count : ℕ) (terms : List Term) → All (λ t. t.bound ≡ t.weight * greatest_freq (list_of lists t)) terms → in_lists lists d (take count terms) ≡ false → score_in lists d terms ≤ bounds (drop count terms)
+pub few-bound : (lists : List (List Posting)) (d count : ℕ) (terms : List Term) → All (λ t. share lists d t ≤ t.bound) terms → in_lists lists d (take count terms) ≡ false → score_in lists d terms ≤ bounds (drop count terms)
 few-bound lists d count terms bounded none =
-    let P : Term → Type 0 = λ t. t.bound ≡ t.weight * greatest_freq (list_of lists t) in
+    let P : Term → Type 0 = λ t. share lists d t ≤ t.bound in
     let first = score-none lists d (take count terms) none in
     let rest = shares-within lists d (drop count terms) (All-drop P count terms bounded) in
     let whole = sum_by-take-drop (share lists d) terms count in
@@ -144,10 +153,10 @@ beats-lower None low high le is = is
 beats-lower (Some s) low high le is = let below : high ≤ s = ltb-false s high is in le-ltb s low (omega arith)
 
 -- a document that no essential term's list has cannot enter
-pub spared-cannot : (lists : List (List Posting)) (weights : List ℕ) (terms : List Term) (k essential d : ℕ) (held : List (ℕ × ℕ)) → AreAllTerms lists weights terms → AreTerms lists terms → AreSpared k held terms essential → in_lists lists d (take essential terms) ≡ false → CannotEnter lists weights k held d
-spared-cannot lists weights terms k essential d held all are so none = elim so.spared as (λ _. CannotEnter lists weights k held d) [
+pub spared-cannot : (lists : List (List Posting)) (weights : List ℕ) (terms : List Term) (k essential d : ℕ) (held : List (ℕ × ℕ)) → AreAllTerms lists weights terms → All (λ t. share lists d t ≤ t.bound) terms → AreSpared k held terms essential → in_lists lists d (take essential terms) ≡ false → CannotEnter lists weights k held d
+spared-cannot lists weights terms k essential d held all bounded so none = elim so.spared as (λ _. CannotEnter lists weights k held d) [
   | inl whole ↦ (let same : take essential terms ≡ terms = take_all essential terms (omega arith) in inl (any-is lists weights terms d all ∙ ap (in_lists lists d) (sym same) ∙ none))
-  | inr full ↦ (let le = few-bound lists d essential terms are.bounded none in
+  | inr full ↦ (let le = few-bound lists d essential terms bounded none in
       let is = score-is lists weights terms d all in
       inr (full.0, λ i e within. let h = full.1 i e within in omega arith))
 ]

@@ -10,11 +10,11 @@ use Rattle.std.proofs.lemmas.List.Folds.{list_any-append}
 use Rattle.collection_model.specs.Collection.{Posting, greatest_freq}
 use Rattle.scan_plans.specs.Matches.{AreBelow, has_doc}
 use Rattle.scan_plans.specs.IsTop.{IsTop}
-use Rattle.scan_plans.specs.Ranking.{IsFirstK, IsLeastScore}
-use Rattle.scan_plans.specs.Skips.{TopAfterOffer, TopAfterSkips, TopIsBelow, HasOnlyBelow}
+use Rattle.scan_plans.specs.Ranking.{IsLeastScore}
+use Rattle.scan_plans.specs.Skips.{TopAfterSkips, TopIsBelow, HasOnlyBelow}
 use Rattle.topk_pruning.specs.declared.term.Term.{Term}
-use Rattle.topk_pruning.specs.Terms.{term_of, list_of, score_in, in_lists, bounds, AreTerms, AreAllTerms, IsFirstDoc, AreSpared, IsEssential}
-use Rattle.topk_pruning.proofs.Scores.{any-is, score-is, shares-within, not-beaten, spared-cannot}
+use Rattle.topk_pruning.specs.Terms.{term_of, list_of, in_lists, bounds, AreTerms, AreAllTerms, IsFirstDoc, AreSpared, IsEssential}
+use Rattle.topk_pruning.proofs.Scores.{any-is, score-is, bounded-at, shares-within, not-beaten, spared-cannot}
 
 -- ---- one more term
 same-term : (a b : Term) → a.list ≡ b.list → a.weight ≡ b.weight → a.bound ≡ b.bound → a ≡ b
@@ -26,12 +26,6 @@ terms-more lists weights i t terms new list weight bound so_far adds =
     let same : t ≡ term_of lists weights i = same-term t (term_of lists weights i) list weight bound in
     adds ∙ ap (λ (ts : List Term). ts ++ t ∷ []) so_far ∙ ap (λ (t : Term). map (term_of lists weights) (range_with_len 0 i) ++ t ∷ []) same
     ∙ sym (map-range_with_len_more (term_of lists weights) 0 i i (omega arith))
-
--- ---- one document that is offered
-pub offered-top : TopAfterOffer → (lists : List (List Posting)) (terms : List Term) (k doc s : ℕ) (held new : List (ℕ × ℕ)) → s ≡ score_in lists doc terms → IsFirstK k ((doc, s) ∷ held) new → (weights : List ℕ) → AreAllTerms lists weights terms → in_lists lists doc terms ≡ true → IsTop doc lists weights k held → IsTop (doc + 1) lists weights k new
-offered-top law lists terms k doc s held new is first weights all has top =
-    law doc lists weights k held new top (any-is lists weights terms doc all ∙ has)
-    (subst (λ (s : ℕ). IsFirstK k ((doc, s) ∷ held) new) (is ∙ sym (score-is lists weights terms doc all)) first)
 
 -- ---- how many are essential
 pub essential-spared : (terms : List Term) (o : Option ℕ) (count k : ℕ) (held : List (ℕ × ℕ)) → IsEssential terms o count → IfSome o (λ s. length held ≡ k) → IfSome o (IsLeastScore held) → AreSpared k held terms count
@@ -60,14 +54,14 @@ pub next-step : TopAfterSkips → TopIsBelow → HasOnlyBelow → (n : ℕ) (lis
 next-step skips is_below only n lists weights terms k from doc essential held below all are spared top first =
     let later : from ≤ doc = first.one_has_it.0 in
     let has : in_lists lists doc terms ≡ true = any-of_take (λ t. has_doc doc (list_of lists t)) essential terms first.one_has_it.1 in
-    let at : IsTop doc lists weights k held = skips from doc lists weights k held later (λ d f lt. spared-cannot lists weights terms k essential d held all are spared (first.none_before d f lt)) top in
+    let at : IsTop doc lists weights k held = skips from doc lists weights k held later (λ d f lt. spared-cannot lists weights terms k essential d held all (bounded-at lists terms d are) spared (first.none_before d f lt)) top in
     record { later = later; has = has; in_range = only n lists doc below (any-is lists weights terms doc all ∙ has); top = at; above = is_below doc lists weights k held at }
 
 -- no candidate is left: all other documents are skipped
 pub last-step : TopAfterSkips → (n : ℕ) (lists : List (List Posting)) (weights : List ℕ) (terms : List Term) (k from essential : ℕ) (held : List (ℕ × ℕ)) → AreAllTerms lists weights terms → AreTerms lists terms
     → AreSpared k held terms essential → from ≤ n → IsTop from lists weights k held → IsFirstDoc lists (take essential terms) from None → IsTop n lists weights k held
 last-step skips n lists weights terms k from essential held all are spared le top first =
-    skips from n lists weights k held le (λ d f lt. spared-cannot lists weights terms k essential d held all are spared (first.none_before d f tt)) top
+    skips from n lists weights k held le (λ d f lt. spared-cannot lists weights terms k essential d held all (bounded-at lists terms d are) spared (first.none_before d f tt)) top
 
 -- ---- the scores of a top list
 pub scores-light : (n : ℕ) (lists : List (List Posting)) (weights : List ℕ) (terms : List Term) (k : ℕ) (held : List (ℕ × ℕ)) → AreAllTerms lists weights terms → AreTerms lists terms → IsTop n lists weights k held → All (λ e. e.1 < 2 ^ 58) held
@@ -75,7 +69,7 @@ scores-light n lists weights terms k held all are top i d within =
     let scored = top.scored i d within in
     let doc : ℕ = (get_or held i d).0 in
     let is = score-is lists weights terms doc all in
-    let le = shares-within lists doc terms are.bounded in
+    let le = shares-within lists doc terms (bounded-at lists terms doc are) in
     let light = are.light in
     omega arith
 

@@ -1,49 +1,39 @@
 -- Lemmas on windows of documents that are scored, and on the cursors of the terms that are asked.
-use Rattle.std.proofs.Common.{◌≡◌, ◌≢◌, refl, sym, ap, inl, inr, ◌⊎◌, ◌∙◌, subst, ℕ, ◌+◌, ◌-◌, ◌*◌, ◌<◌, ◌≤◌, ◌^◌, Bool, true, false, eqb, min, List, [], ◌∷◌, ◌++◌, map, take, drop, set, length, get_or, Option, Some, None, arith}
-use Rattle.std.specs.List.{All, IsDistinct, list_any, range_with_len, sum}
+use Rattle.std.proofs.Common.{◌≡◌, ◌≢◌, refl, sym, ap, inl, inr, ◌⊎◌, ◌∙◌, subst, ℕ, ◌+◌, ◌-◌, ◌*◌, ◌<◌, ◌≤◌, ◌^◌, true, false, min, List, [], ◌∷◌, take, drop, set, length, get_or, Option, Some, None, arith}
+use Rattle.std.specs.List.{All, list_any, range_with_len, sum}
 use Rattle.std.specs.List.Sorted.{IsPermutation}
 use Rattle.std.specs.Option.{IfSome, IfNone}
-use Rattle.std.proofs.lemmas.Bool.{cases_lt, cases_eq, cases_Bool, eqb-false, eq-eqb, ne_eqb, false≢true, le-ltb}
-use Rattle.std.proofs.lemmas.List.{get_or_default, get_or-map, get_or-take, get_or-drop, get_or-set_same, get_or-set_other, length-take, length-drop, length-map, take_all}
-use Rattle.std.proofs.lemmas.List.Elements.{All-contains, All-append, All-cons, All-take, All-drop, All-map}
+use Rattle.std.proofs.lemmas.Bool.{cases_lt, cases_eq, cases_Bool, false≢true, le-ltb}
+use Rattle.std.proofs.lemmas.List.{get_or_default, get_or-take, get_or-drop, get_or-set_same, get_or-set_other, length-take, length-drop, take_all}
+use Rattle.std.proofs.lemmas.List.Elements.{All-contains, All-cons, All-take, All-drop, All-map}
 use Rattle.std.proofs.lemmas.List.FromFn.{length-range_with_len, get_or-range_with_len, length-map-range_with_len, get_or-map-range_with_len}
 use Rattle.std.proofs.lemmas.List.Folds.{Any-from_list_any, list_any_at}
 use Rattle.std.proofs.lemmas.List.Sorted.{All-permutation}
 use Rattle.std.proofs.lemmas.List.Sums.{get_or-le-sum_by, sum_by-take-drop}
-use Rattle.std.proofs.lemmas.Map.Keys.{IsDistinct-IsPermutation, IsDistinct-from_apart, apart_from_distinct}
-use Rattle.collection_model.specs.Collection.{Posting, greatest_freq, docs_of}
-use Rattle.cursor_api.specs.NextGeq.{IsCursorAt}
-use Rattle.scan_plans.specs.Matches.{AreBelow, has_doc}
+use Rattle.collection_model.specs.Collection.{Posting}
+use Rattle.scan_plans.specs.Matches.{has_doc}
 use Rattle.scan_plans.specs.IsTop.{IsTop}
 use Rattle.scan_plans.specs.Ranking.{IsFirstK, IsLeastScore}
 use Rattle.scan_plans.specs.Scan.{HasPassed}
 use Rattle.scan_plans.specs.Skips.{CannotEnter, TopAfterOffer, TopAfterSkips}
 use Rattle.scan_plans.specs.Window.{is_marked, IsFirstCandidate, NoneIsCandidate, AreTakenBack}
 use Rattle.topk_pruning.specs.declared.term.Term.{Term}
-use Rattle.topk_pruning.specs.Terms.{term_of, terms_of, list_of, share, score_in, in_lists, bounds, beats, AreApart, AreBefore, AreKept, AreTerms, AreAllTerms, AreSpared, Considers, FollowsTo}
-use Rattle.topk_pruning.proofs.Scores.{score-is, score-none, shares-within, beaten-cannot, spared-cannot}
+use Rattle.topk_pruning.specs.Terms.{term_of, terms_of, list_of, share, score_in, in_lists, bounds, beats, AreApart, AreBefore, AreKept, AreTermsIn, AreQueryTerms, AreAllTerms, AreSpared, Considers, FollowsTo}
+use Rattle.topk_pruning.proofs.Alike.{alike-moved, alike-apart}
+use Rattle.topk_pruning.proofs.Scores.{terms-are, score-is, score-none, shares-within, beaten-cannot, spared-cannot}
 
 abbrev pub no_term : Term
 no_term = record { list = 0; weight = 0; bound = 0 }
 
 -- ---- the terms of a query
-eqb-turned : (m n : ℕ) → eqb m n ≡ eqb n m
-eqb-turned m n = elim (cases_eq m n) as (λ _. eqb m n ≡ eqb n m) [
-  | inl same ↦ eq-eqb m n same ∙ sym (eq-eqb n m (sym same))
-  | inr other ↦ ne_eqb m n other ∙ sym (ne_eqb n m (λ e. other (sym e)))
-]
-
 pub terms-apart : (lists : List (List Posting)) (weights : List ℕ) (terms : List Term) → IsPermutation (terms_of lists weights) terms → AreApart terms
 terms-apart lists weights terms moved =
-    let same : Term → Term → Bool = λ a b. eqb a.list b.list in
     let n : ℕ = length lists in
-    let first : IsDistinct same (terms_of lists weights) = IsDistinct-from_apart same (terms_of lists weights) (λ i j d lt within.
+    alike-apart (terms_of lists weights) terms (alike-moved (terms_of lists weights) terms moved) (λ i j d lt within.
     let l = length-map-range_with_len (term_of lists weights) 0 n in
     let a = ap (λ (t : Term). t.list) (get_or-map-range_with_len (term_of lists weights) 0 n i i d (omega arith) (omega arith)) in
     let b = ap (λ (t : Term). t.list) (get_or-map-range_with_len (term_of lists weights) 0 n j j d (omega arith) (omega arith)) in
-    ne_eqb _ _ (λ e. absurd (omega arith))) in
-    let now : IsDistinct same terms = IsDistinct-IsPermutation same (λ a b. eqb-turned a.list b.list) (terms_of lists weights) terms moved first in
-    λ i j d lt within. eqb-false _ _ (apart_from_distinct same terms i j d now lt within)
+    λ e. absurd (omega arith))
 
 pub terms-small : (lists : List (List Posting)) (weights : List ℕ) (terms : List Term) → length weights ≡ length lists → sum weights < 2 ^ 26 → IsPermutation (terms_of lists weights) terms → All (λ t. t.weight < 2 ^ 26) terms
 terms-small lists weights terms each light moved =
@@ -55,24 +45,32 @@ terms-small lists weights terms each light moved =
     let le = get_or-le-sum_by (λ (w : ℕ). w) weights (get_or (range_with_len 0 n) k d) 0 (omega arith) in
     omega arith))
 
+-- all that is known of them
+pub query-terms : (lists : List (List Posting)) (weights : List ℕ) (terms : List Term) → length weights ≡ length lists → sum weights < 2 ^ 26 → IsPermutation (terms_of lists weights) terms → bounds terms < 2 ^ 58 → AreQueryTerms lists terms
+query-terms lists weights terms each light moved bounded = record {
+  terms_are = terms-are lists weights terms moved bounded;
+  apart = terms-apart lists weights terms moved;
+  small = terms-small lists weights terms each light moved;
+}
+
 -- ---- some of the terms
-pub are-take : (lists : List (List Posting)) (terms : List Term) (i : ℕ) → AreTerms lists terms → AreTerms lists (take i terms)
-are-take lists terms i are =
+pub are-take : (lists : List (List Posting)) (from to : ℕ) (terms : List Term) (i : ℕ) → AreTermsIn lists from to terms → AreTermsIn lists from to (take i terms)
+are-take lists from to terms i are =
     let whole = sum_by-take-drop (λ (t : Term). t.bound) terms i in
     let light = are.light in
     record {
       within = All-take (λ (t : Term). t.list < length lists) i terms are.within;
-      bounded = All-take (λ (t : Term). t.bound ≡ t.weight * greatest_freq (list_of lists t)) i terms are.bounded;
+      bounded = λ d after before. All-take (λ (t : Term). share lists d t ≤ t.bound) i terms (are.bounded d after before);
       light = omega arith;
     }
 
-pub are-drop : (lists : List (List Posting)) (terms : List Term) (i : ℕ) → AreTerms lists terms → AreTerms lists (drop i terms)
-are-drop lists terms i are =
+pub are-drop : (lists : List (List Posting)) (from to : ℕ) (terms : List Term) (i : ℕ) → AreTermsIn lists from to terms → AreTermsIn lists from to (drop i terms)
+are-drop lists from to terms i are =
     let whole = sum_by-take-drop (λ (t : Term). t.bound) terms i in
     let light = are.light in
     record {
       within = All-drop (λ (t : Term). t.list < length lists) i terms are.within;
-      bounded = All-drop (λ (t : Term). t.bound ≡ t.weight * greatest_freq (list_of lists t)) i terms are.bounded;
+      bounded = λ d after before. All-drop (λ (t : Term). share lists d t ≤ t.bound) i terms (are.bounded d after before);
       light = omega arith;
     }
 
@@ -175,23 +173,13 @@ spared-kept terms k essential held new kept so_far = record {
   ];
 }
 
--- more terms are essential than need be
-pub spared-more : (terms : List Term) (k few many : ℕ) (held : List (ℕ × ℕ)) → few ≤ many → many ≤ length terms → bounds (drop many terms) ≤ bounds (drop few terms) → AreSpared k held terms few → AreSpared k held terms many
-spared-more terms k few many held le within less so_far = record {
-  within = within;
-  spared = elim so_far.spared as (λ _. (many ≡ length terms) ⊎ ((length held ≡ k) × All (λ e. bounds (drop many terms) ≤ e.1) held)) [
-    | inl whole ↦ inl (omega arith)
-    | inr full ↦ inr (full.0, λ i e inside. let h = full.1 i e inside in omega arith)
-  ];
-}
-
 -- ---- a score that the bounds left cannot lift
 pub unlifted : (o : Option ℕ) (low score left whole : ℕ) → IfNone o (low ≡ 0) → IfSome o (λ least. low ≡ min (least + 1) 18446744073709551615 - left) → score < low → whole ≤ score + left → beats o whole ≡ false
 unlifted None low score left whole none some lt le = absurd (omega arith)
 unlifted (Some least) low score left whole none some lt le = le-ltb least whole (omega arith)
 
 -- ---- the documents of a window
-module _ (lists : List (List Posting)) (terms : List Term) (essential first : ℕ) (are : AreTerms lists terms) (scores marks : List ℕ)
+module _ (lists : List (List Posting)) (terms : List Term) (essential first : ℕ) (scores marks : List ℕ) (are : AreTermsIn lists first (first + length scores) terms)
     (scored : (k : ℕ) → k < length scores → get_or scores k 0 ≡ score_in lists (first + k) (take essential terms))
     (marked : (k : ℕ) → k < length scores → is_marked marks k ≡ in_lists lists (first + k) (take essential terms)) where
   -- where nothing is marked the score is 0
@@ -213,7 +201,7 @@ module _ (lists : List (List Posting)) (terms : List Term) (essential first : �
   pub light-score : (k : ℕ) → k < length scores → get_or scores k 0 + bounds (drop essential terms) < 2 ^ 58
   light-score k within =
       let known = scored k within in
-      let le = shares-within lists (first + k) (take essential terms) (are-take lists terms essential are).bounded in
+      let le = shares-within lists (first + k) (take essential terms) ((are-take lists first (first + length scores) terms essential are).bounded (first + k) (omega arith) (omega arith)) in
       let whole = sum_by-take-drop (λ (t : Term). t.bound) terms essential in
       let light = are.light in
       omega arith
@@ -223,7 +211,7 @@ module _ (lists : List (List Posting)) (terms : List Term) (essential first : �
   marked-any k within is =
       let ts : List Term = take essential terms in
       let some = Any-from_list_any (λ t. has_doc (first + k) (list_of lists t)) ts (sym (marked k within) ∙ is) in
-      let inside = (are-take lists terms essential are).within some.0 some.1 some.2 in
+      let inside = (are-take lists first (first + length scores) terms essential are).within some.0 some.1 some.2 in
       let same = ap (λ (t : Term). t.list) some.3 in
       list_any_at (has_doc (first + k)) lists some.1.list [] (omega arith) some.4
 
@@ -232,10 +220,10 @@ module _ (lists : List (List Posting)) (terms : List Term) (essential first : �
       → (j : ℕ) → j < length scores → (is_marked marks j ≡ true → get_or scores j 0 < low) → CannotEnter lists weights k held (first + j)
   passed-cannot weights k low o held all spared full least none some j within passed =
       elim (cases_Bool (is_marked marks j)) as (λ _. CannotEnter lists weights k held (first + j)) [
-        | inl is ↦ (let others = shares-within lists (first + j) (drop essential terms) (are-drop lists terms essential are).bounded in
+        | inl is ↦ (let others = shares-within lists (first + j) (drop essential terms) ((are-drop lists first (first + length scores) terms essential are).bounded (first + j) (omega arith) (omega arith)) in
             let whole = whole-score j within in
             beaten-cannot lists weights terms k (first + j) o held all full least (unlifted o low (get_or scores j 0) (bounds (drop essential terms)) (score_in lists (first + j) terms) none some (passed is) (omega arith)))
-        | inr not ↦ spared-cannot lists weights terms k essential (first + j) held all are spared (sym (marked j within) ∙ not)
+        | inr not ↦ spared-cannot lists weights terms k essential (first + j) held all (are.bounded (first + j) (omega arith) (omega arith)) spared (sym (marked j within) ∙ not)
       ]
 
   -- documents that cannot enter are passed over
@@ -310,23 +298,3 @@ module _ (scores marks ns nm : List ℕ) (from : ℕ) (wide : length scores ≤ 
         marked = λ k after within. more.marked k after (omega arith) ∙ taken.marked k (omega arith) within;
         scored = λ k after within. more.scored k after (omega arith) ∙ taken.scored k (omega arith) within;
       }
-
--- ---- the end of a window
--- no cursor has passed a document from an end on, where no list has one from n on
-pub passed-end : {X : Type 0} (list : X → List Posting) (place : X → ℕ) → ((x : X) → IsCursorAt (list x) (place x)) → (cs : List X) (lists : List (List Posting)) (end n : ℕ) → map list cs ≡ lists → AreBelow n lists → All (λ x. HasPassed end (list x) (place x)) cs → All (λ x. HasPassed (min end n) (list x) (place x)) cs
-passed-end list place good cs lists end n same below all i x within = record {
-  passed = λ k lt.
-      let c = get_or cs i x in
-      let l = length-map cs list in
-      let m = ap length same in
-      let docs = length-map (list c) (λ (p : Posting). p.doc) in
-      let inside = (good c).within in
-      let early = (all i x within).passed k lt in
-      let read : get_or lists i [] ≡ list c = ap (λ (ls : List (List Posting)). get_or ls i []) (sym same) ∙ get_or-map list cs i x [] within in
-      let late : get_or (docs_of (list c)) k 0 < n = subst (λ (l : List Posting). All (λ d. d < n) (docs_of l)) read (below i [] (omega arith)) k 0 (omega arith) in
-      omega arith;
-}
-
--- a front that was used, and the rest
-pub clear-again : (width : ℕ) (front scores : List ℕ) → All (λ s. s ≡ 0) front → All (λ s. s ≡ 0) scores → All (λ s. s ≡ 0) (front ++ drop width scores)
-clear-again width front scores used rest = All-append (λ (s : ℕ). s ≡ 0) front (drop width scores) used (All-drop (λ (s : ℕ). s ≡ 0) width scores rest)

@@ -33,6 +33,14 @@ score_in lists d terms = sum_by (share lists d) terms
 abbrev pub in_lists : List (List Posting) → ℕ → List Term → Bool
 in_lists lists d terms = list_any (λ t. has_doc d (list_of lists t)) terms
 
+-- the lists of some terms with their weights
+abbrev pub keys : List Term → List (ℕ × ℕ)
+keys terms = map (λ t. (t.list, t.weight)) terms
+
+-- the same lists with the same weights, in any order
+abbrev pub AreAlike : List Term → List Term → Type 0
+AreAlike terms others = IsPermutation (keys terms) (keys others)
+
 -- the bounds of some terms together
 abbrev pub bounds : List Term → ℕ
 bounds terms = sum_by (λ t. t.bound) terms
@@ -48,10 +56,16 @@ pub record AreTerms (lists : List (List Posting)) (terms : List Term) : Type 0 w
   pub bounded : All (λ t. t.bound ≡ t.weight * greatest_freq (list_of lists t)) terms
   pub light : bounds terms < 2 ^ 58
 
--- the terms of a query, in any order
+-- terms of some of the lists, each with a bound of what it adds to the scores of the documents from one up to another
+pub record AreTermsIn (lists : List (List Posting)) (from to : ℕ) (terms : List Term) : Type 0 where
+  pub within : All (λ t. t.list < length lists) terms
+  pub bounded : (d : ℕ) → from ≤ d → d < to → All (λ t. share lists d t ≤ t.bound) terms
+  pub light : bounds terms < 2 ^ 58
+
+-- the terms of a query, in any order and with any bounds
 pub record AreAllTerms (lists : List (List Posting)) (weights : List ℕ) (terms : List Term) : Type 0 where
   pub each : length weights ≡ length lists
-  pub all : IsPermutation (terms_of lists weights) terms
+  pub all : AreAlike (terms_of lists weights) terms
 
 -- the first document from a number on that the list of one of some terms has, None where there is none
 pub record IsFirstDoc (lists : List (List Posting)) (terms : List Term) (from : ℕ) (found : Option ℕ) : Type 0 where
@@ -72,6 +86,17 @@ pub record IsEssential (terms : List Term) (threshold : Option ℕ) (count : ℕ
 -- terms of different lists
 abbrev pub AreApart : List Term → Type 0
 AreApart terms = AllPairs (λ a b. a.list ≢ b.list) terms
+
+-- terms of different lists, whose weights are small
+pub record AreQueryTerms (lists : List (List Posting)) (terms : List Term) : Type 0 where
+  pub terms_are : AreTerms lists terms
+  pub apart : AreApart terms
+  pub small : All (λ t. t.weight < 2 ^ 26) terms
+
+-- some terms with bounds for the documents from one up to another, in any order
+pub record AreNear (lists : List (List Posting)) (terms : List Term) (from to : ℕ) (near : List Term) : Type 0 where
+  pub alike : AreAlike terms near
+  pub bounded : AreTermsIn lists from to near
 
 -- the cursors of some terms have passed no document from one on
 pub record AreBefore {X : Type 0} (list : X → List Posting) (place : X → ℕ) (d : ℕ) (terms : List Term) (cursors : List X) : Type 0 where

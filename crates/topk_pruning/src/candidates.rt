@@ -3,50 +3,53 @@ ghost use Rattle.std.specs.List.{All};
 ghost use Rattle.scan_plans.specs.Matches.{AreBelow, has_doc, freq_of_doc};
 ghost use Rattle.scan_plans.specs.Scan.{HasPassed, StandsFrom};
 ghost use Rattle.scan_plans.specs.Window.{is_marked};
-ghost use Rattle.topk_pruning.specs.Terms.{AreApart, AreBefore, AreKept, AreSpared, AreTerms, Considers, FollowsTo, beats, bounds, in_lists, score_in};
+ghost use Rattle.topk_pruning.specs.Terms.{AreApart, AreBefore, AreKept, AreSpared, AreTermsIn, Considers, FollowsTo, beats, bounds, in_lists, score_in};
 
 use crate::probe::{doc_from, is_above, probe};
 use crate::term::{Term, total_bound};
 use cursor_api::DocCursor;
 use scan_plans::{Block, TopK, add_list, take_candidate, top_list_grows};
 
-// Scores the documents of a window from `first` on that the lists of the essential terms have, and offers those that can be held. The
-// cursors are then behind the window, or before it where their lists were not asked.
+// Scores the documents of a window, so many from `first` on, that the lists of the essential terms have, and offers those that can be
+// held. The cursors are then behind the window, or before it where their lists were not asked.
 pub(crate) fn score_window<C: DocCursor>(
     cursors: &mut [C],
     terms: &[Term],
     essential: usize,
     first: u32,
+    count: usize,
     scores: &mut [u64],
     marks: &mut [u64],
     block: &mut Block,
     top: &mut TopK,
 )
-    requires terms { AreTerms (map C.list cursors.old) terms.now }
+    requires terms { AreTermsIn (map C.list cursors.old) first (first + count) terms.now }
     requires apart { AreApart terms.now }
     requires small { All (λ t. t.weight < 2 ^ 26) terms.now }
     requires passed { All (λ c. HasPassed first (C.list c) (C.place c)) cursors.old }
+    requires fits { count ≤ length scores.old }
     requires wide { length scores.old ≤ 64 * length marks.old }
     requires clear { All (λ s. s ≡ 0) scores.old }
     requires none { (k : ℕ) → k < 64 * length marks.old → is_marked marks.old k ≡ false }
     requires below { AreBelow top.old.n (map C.list cursors.old) }
     requires narrow { top.old.n < 2 ^ 32 }
-    requires in_range { first ≤ top.old.n }
+    requires in_range { first + count ≤ top.old.n }
     requires above { All (λ e. e.0 < first) top.old.held }
     requires essential { AreSpared top.old.k top.old.held terms.now essential }
     ensures lists { map C.list cursors.new ≡ map C.list cursors.old }
-    ensures passed { All (λ c. HasPassed (first + length scores.old) (C.list c) (C.place c)) cursors.new }
+    ensures passed { All (λ c. HasPassed (first + count) (C.list c) (C.place c)) cursors.new }
     ensures count { length scores.new ≡ length scores.old }
     ensures marks_count { length marks.new ≡ length marks.old }
     ensures clear { All (λ s. s ≡ 0) scores.new }
     ensures none { (k : ℕ) → k < 64 * length marks.old → is_marked marks.new k ≡ false }
     ensures k { top.new.k ≡ top.old.k }
     ensures n { top.new.n ≡ top.old.n }
-    ensures held { FollowsTo (map C.list cursors.old) terms.now top.old.k first (min (first + length scores.old) top.old.n) top.old.held top.new.held }
+    ensures held { FollowsTo (map C.list cursors.old) terms.now top.old.k first (first + count) top.old.held top.new.held }
 {
-    let reached = add_terms(cursors, &terms[..essential], first, scores, marks, block);
+    let window = &mut scores[..count];
+    let reached = add_terms(cursors, &terms[..essential], first, window, marks, block);
     offer_candidates(
-        cursors, terms, essential, first, reached, scores, marks, top,
+        cursors, terms, essential, first, reached, window, marks, top,
     );
 }
 
@@ -60,7 +63,7 @@ fn add_terms<C: DocCursor>(
     marks: &mut [u64],
     block: &mut Block,
 ) -> usize
-    requires terms { AreTerms (map C.list cursors.old) terms.now }
+    requires terms { AreTermsIn (map C.list cursors.old) first (first + length scores.old) terms.now }
     requires apart { AreApart terms.now }
     requires small { All (λ t. t.weight < 2 ^ 26) terms.now }
     requires passed { All (λ c. HasPassed first (C.list c) (C.place c)) cursors.old }
@@ -129,7 +132,7 @@ fn offer_candidates<C: DocCursor>(
     marks: &mut [u64],
     top: &mut TopK,
 )
-    requires terms { AreTerms (map C.list cursors.old) terms.now }
+    requires terms { AreTermsIn (map C.list cursors.old) first (first + length scores.old) terms.now }
     requires before { AreBefore C.list C.place first (drop essential terms.now) cursors.old }
     requires passed { All (λ c. HasPassed (first + length scores.old) (C.list c) (C.place c)) cursors.old }
     requires wide { length scores.old ≤ 64 * length marks.old }
@@ -189,7 +192,7 @@ fn consider<C: DocCursor>(
     known: u64,
     top: &mut TopK,
 )
-    requires terms { AreTerms (map C.list cursors.old) others.now }
+    requires terms { AreTermsIn (map C.list cursors.old) doc (doc + 1) others.now }
     requires left { left ≡ bounds others.now }
     requires light { known + left < 2 ^ 58 }
     requires before { AreBefore C.list C.place doc others.now cursors.old }
@@ -218,7 +221,7 @@ fn score_above<C: DocCursor>(
     known: u64,
     threshold: Option<u64>,
 ) -> Option<u64>
-    requires terms { AreTerms (map C.list cursors.old) others.now }
+    requires terms { AreTermsIn (map C.list cursors.old) doc (doc + 1) others.now }
     requires bound { bound ≡ bounds others.now }
     requires light { known + bound < 2 ^ 58 }
     requires before { AreBefore C.list C.place doc others.now cursors.old }

@@ -1,14 +1,9 @@
-ghost use Rattle.std.specs.Prelude.{◌≡◌, ℕ, ◌-◌, ◌*◌, ◌≤◌, ◌<◌, false, min, map, length, slice_index_or, IfSome};
-ghost use Rattle.std.specs.List.{All};
+ghost use Rattle.std.specs.Prelude.{◌≡◌, ℕ, ◌*◌, ◌≤◌, ◌<◌, min, map, length};
 ghost use Rattle.scan_plans.specs.Matches.{freq_of_doc};
-ghost use Rattle.topk_pruning.specs.Terms.{AreTerms, beats, score_in};
-ghost use Rattle.topk_pruning.specs.declared.order.Standing.{Standing as StandingOf};
-ghost use Rattle.topk_pruning.specs.Order.{IsFalling, PassesOver, StandsAt, terms_at};
+ghost use Rattle.topk_pruning.specs.Terms.{AreNear, AreTerms};
 
-use crate::order::Standing;
-use crate::probe::is_above;
+use crate::term::Term;
 use cursor_api::DocCursor;
-use scan_plans::TopK;
 
 /// What is known of the frequencies of a stretch of a cursor's list, beside its greatest frequency.
 pub trait Ceilings<C: DocCursor> {
@@ -18,56 +13,64 @@ pub trait Ceilings<C: DocCursor> {
         ensures most { (d : ℕ) → doc ≤ d → d ≤ result.0 → freq_of_doc d (C.list cursor.now) ≤ result.1 };
 }
 
-// The document up to which none from `doc` on can be held, where the ceilings tell that there is one: k are held, and none of them has
-// a lower score.
-pub(crate) fn pass_over<C: DocCursor, B: Ceilings<C>>(
-    cursors: &[C],
-    order: &[Standing],
-    ceilings: Option<&B>,
-    doc: u32,
-    n: u32,
-    top: &TopK,
-) -> Option<u32>
-    requires terms { AreTerms (map C.list cursors.now) (terms_at order.now) }
-    requires stand { All (StandsAt (map C.list cursors.now) doc) order.now }
-    requires falling { IsFalling order.now }
-    requires in_range { doc < n }
-    ensures { IfSome result (PassesOver (map C.list cursors.now) order.now n top.now.k doc top.now.held) }
-{
-    let next = beaten_up_to(cursors, order, ceilings?, doc, top.threshold())?;
-    Some(next.min(n))
+// The greatest frequency of the list, up to its end.
+pub(crate) struct Greatest;
+
+impl<C: DocCursor> Ceilings<C> for Greatest {
+    fn ceiling(&self, cursor: &C, _doc: u32) -> (u32, u32) {
+        (u32::MAX, cursor.max_freq())
+    }
 }
 
-// A document behind `doc` before which none from `doc` on beats the least score held. The ceilings of the lists that stand at `doc` or
-// before it are added up; they hold as far as the shortest reaches, and before the next list stands.
-fn beaten_up_to<C: DocCursor, B: Ceilings<C>>(
+// Gives `near` the terms with their bounds for the documents from `first` on, the highest bound first, and tells the document up to
+// which these hold.
+pub(crate) fn bound_terms<C: DocCursor, B: Ceilings<C>>(
     cursors: &[C],
-    order: &[Standing],
+    terms: &[Term],
     ceilings: &B,
-    doc: u32,
-    threshold: Option<u64>,
-) -> Option<u32>
-    requires terms { AreTerms (map C.list cursors.now) (terms_at order.now) }
-    requires stand { All (StandsAt (map C.list cursors.now) doc) order.now }
-    requires falling { IsFalling order.now }
-    requires narrow { doc < 4294967295 }
-    ensures later { IfSome result (λ next. doc < next) }
-    ensures beaten { IfSome result (λ next. (d : ℕ) → doc ≤ d → d < next → beats threshold (score_in (map C.list cursors.now) d (terms_at order.now)) ≡ false) }
+    first: u32,
+    n: u32,
+    near: &mut [Term],
+) -> u32
+    requires terms { AreTerms (map C.list cursors.now) terms.now }
+    requires each { length near.old ≡ length terms.now }
+    requires in_range { first < n }
+    ensures each { length near.new ≡ length terms.now }
+    ensures later { first < result }
+    ensures in_range { result ≤ n }
+    ensures near { AreNear (map C.list cursors.now) terms.now first result near.new }
 {
-    let mut sum = 0;
-    let mut next = u32::MAX;
-    let mut place = order.len();
-    while place > 0 && order[place - 1].doc <= doc {
-        place -= 1;
-        let term = order[place].term;
-        let (last, greatest) = ceilings.ceiling(&cursors[term.list], doc);
-        next = next.min(last.saturating_add(1));
-        sum += most_under(term.weight, greatest, term.bound);
+    let reach = bound_each(cursors, terms, ceilings, first, n, near);
+    near.sort_unstable_by(|a, b| b.bound.cmp(&a.bound));
+    reach
+}
+
+// The same in the order of the terms. The bounds hold as far as the ceiling that reaches least.
+fn bound_each<C: DocCursor, B: Ceilings<C>>(
+    cursors: &[C],
+    terms: &[Term],
+    ceilings: &B,
+    first: u32,
+    n: u32,
+    near: &mut [Term],
+) -> u32
+    requires terms { AreTerms (map C.list cursors.now) terms.now }
+    requires each { length near.old ≡ length terms.now }
+    requires in_range { first < n }
+    ensures each { length near.new ≡ length terms.now }
+    ensures later { first < result }
+    ensures in_range { result ≤ n }
+    ensures near { AreNear (map C.list cursors.now) terms.now first result near.new }
+{
+    let mut reach = n;
+    for place in 0..terms.len() {
+        let term = terms[place];
+        let (last, greatest) = ceilings.ceiling(&cursors[term.list], first);
+        let bound = most_under(term.weight, greatest, term.bound);
+        reach = reach.min(last.saturating_add(1));
+        near[place] = Term { bound, ..term };
     }
-    if is_above(sum, threshold) {
-        return None;
-    }
-    Some(next.min(doc_above(order, place)))
+    reach
 }
 
 // The most that a list adds to the score of a document, where it has no more than this frequency.
@@ -75,17 +78,4 @@ fn most_under(weight: u32, ceiling: u32, bound: u64) -> u64
     ensures { result ≡ min (weight * ceiling) bound }
 {
     (u64::from(weight) * u64::from(ceiling)).min(bound)
-}
-
-// The document at which the last of the first so many stands; without any, one behind all documents.
-fn doc_above(order: &[Standing], count: usize) -> u32
-    requires { count ≤ length order.now }
-    ensures none { count ≡ 0 → result ≡ 4294967295 }
-    ensures at { (s : StandingOf) → 0 < count → result ≡ (slice_index_or order.now (count - 1) s).doc }
-{
-    if count > 0 {
-        order[count - 1].doc
-    } else {
-        u32::MAX
-    }
 }

@@ -1,5 +1,5 @@
 use super::*;
-use crate::wand::Greatest;
+use crate::ceilings::Greatest;
 use cursor_api::PlainCursor;
 
 // Five documents; a list has the documents 1 and 4, another 1, 2 and 4.

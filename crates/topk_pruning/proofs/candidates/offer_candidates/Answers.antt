@@ -6,7 +6,8 @@ use Rattle.collection_model.specs.Collection.{Posting}
 use Rattle.scan_plans.specs.IsTop.{IsTop}
 use Rattle.scan_plans.specs.Window.{is_marked}
 use Rattle.topk_pruning.specs.declared.term.Term.{Term}
-use Rattle.topk_pruning.specs.Terms.{AreBefore, AreTerms, Considers, bounds, score_in}
+use Rattle.topk_pruning.specs.Terms.{AreBefore, AreTermsIn, Considers, bounds, score_in}
+use Rattle.topk_pruning.proofs.Alike.{in-narrower}
 use Rattle.topk_pruning.proofs.Windows.{are-drop, behind-is, before-later, spared-kept, unmarked-none, light-score, marked-any, follows-passed, follows-considered, considered-above, candidate-there, none-there, taken-later}
 use Rattle.topk_pruning.proofs.candidates.offer_candidates.Goals as goal
 
@@ -29,13 +30,13 @@ loop-place-init g c =
 
 pub total_bound-left-requires : goal.total_bound-left-requires
 total_bound-left-requires g c =
-    let light = (are-drop (map g.C.DocCursor.list c.args.cursors.now) c.args.terms.now c.args.essential c.requires.terms).light in
+    let light = (are-drop (map g.C.DocCursor.list c.args.cursors.now) c.args.first (c.args.first + length c.args.scores.now) c.args.terms.now c.args.essential c.requires.terms).light in
     let same = ap bounds (behind-is c.args.terms.now c.args.essential) in
     record { light = omega arith }
 
 pub take_candidate-requires-clause-marked : goal.take_candidate-requires-clause-marked
 take_candidate-requires-clause-marked g c =
-    unmarked-none (map g.C.DocCursor.list c.args.cursors.now) c.args.terms.now c.args.essential c.args.first c.requires.terms c.args.scores.now c.args.marks.now c.requires.scores c.requires.marks c.loop-place.from c.loop-place.scores c.loop-place.marks c.requires.wide c.loop-place.invariant.taken
+    unmarked-none (map g.C.DocCursor.list c.args.cursors.now) c.args.terms.now c.args.essential c.args.first c.args.scores.now c.args.marks.now c.requires.terms c.requires.scores c.requires.marks c.loop-place.from c.loop-place.scores c.loop-place.marks c.requires.wide c.loop-place.invariant.taken
 
 pub overflow_cast-doc : goal.overflow_cast-doc
 overflow_cast-doc g c =
@@ -48,14 +49,24 @@ overflow_cast-doc g c =
     let inside = next.within in
     let start = c.from.ensures in
     let doc : c.from.result + c.in-Some.place ≡ c.args.first + c.in-Some.place = omega arith in
-    let below = c.top_list_grows.ensures.in_range c.args.top.now.n lists (c.args.first + c.in-Some.place) c.requires.below (marked-any lists terms c.args.essential c.args.first c.requires.terms c.args.scores.now c.args.marks.now c.requires.scores c.requires.marks c.in-Some.place inside next.marked) in
+    let below = c.top_list_grows.ensures.in_range c.args.top.now.n lists (c.args.first + c.in-Some.place) c.requires.below (marked-any lists terms c.args.essential c.args.first c.args.scores.now c.args.marks.now c.requires.terms c.requires.scores c.requires.marks c.in-Some.place inside next.marked) in
     let narrow = c.requires.narrow in
     omega arith
 
 pub consider-requires-clause-terms : goal.consider-requires-clause-terms
 consider-requires-clause-terms g c =
-    let now : List (List Posting) = map g.C.DocCursor.list c.loop-place.cursors in
-    subst (AreTerms now) (sym (behind-is c.args.terms.now c.args.essential)) (subst (λ (ls : List (List Posting)). AreTerms ls (drop c.args.essential c.args.terms.now)) (sym c.loop-place.invariant.lists) (are-drop (map g.C.DocCursor.list c.args.cursors.now) c.args.terms.now c.args.essential c.requires.terms))
+    let list = g.C.DocCursor.list in
+    let lists : List (List Posting) = map list c.args.cursors.now in
+    let now : List (List Posting) = map list c.loop-place.cursors in
+    let terms : List Term = c.args.terms.now in
+    let end : ℕ = c.args.first + length c.args.scores.now in
+    let so_far = c.loop-place.invariant in
+    let next = candidate-there c.args.scores.now c.args.marks.now c.loop-place.scores c.loop-place.marks c.loop-place.from c.requires.wide so_far.taken c.least_score.result c.in-Some.place c.in-Some.score c.in-Some.ensures.some in
+    let inside = next.within in
+    let start = c.from.ensures in
+    let doc : ℕ = c.from.result + c.in-Some.place in
+    let here : AreTermsIn lists doc (doc + 1) (drop c.args.essential terms) = in-narrower lists c.args.first end doc (doc + 1) (drop c.args.essential terms) (omega arith) (omega arith) (are-drop lists c.args.first end terms c.args.essential c.requires.terms) in
+    subst (AreTermsIn now doc (doc + 1)) (sym (behind-is terms c.args.essential)) (subst (λ (ls : List (List Posting)). AreTermsIn ls doc (doc + 1) (drop c.args.essential terms)) (sym so_far.lists) here)
 
 pub consider-requires-clause-light : goal.consider-requires-clause-light
 consider-requires-clause-light g c =
@@ -68,8 +79,8 @@ consider-requires-clause-light g c =
     let inside = next.within in
     let start = c.from.ensures in
     let doc : c.from.result + c.in-Some.place ≡ c.args.first + c.in-Some.place = omega arith in
-    let below = c.top_list_grows.ensures.in_range c.args.top.now.n lists (c.args.first + c.in-Some.place) c.requires.below (marked-any lists terms c.args.essential c.args.first c.requires.terms c.args.scores.now c.args.marks.now c.requires.scores c.requires.marks c.in-Some.place inside next.marked) in
-    let light = light-score lists terms c.args.essential c.args.first c.requires.terms c.args.scores.now c.args.marks.now c.requires.scores c.requires.marks c.in-Some.place inside in
+    let below = c.top_list_grows.ensures.in_range c.args.top.now.n lists (c.args.first + c.in-Some.place) c.requires.below (marked-any lists terms c.args.essential c.args.first c.args.scores.now c.args.marks.now c.requires.terms c.requires.scores c.requires.marks c.in-Some.place inside next.marked) in
+    let light = light-score lists terms c.args.essential c.args.first c.args.scores.now c.args.marks.now c.requires.terms c.requires.scores c.requires.marks c.in-Some.place inside in
     let is = next.scored in
     let left = c.total_bound-left.ensures in
     let same = ap bounds (behind-is c.args.terms.now c.args.essential) in
@@ -86,7 +97,7 @@ consider-requires-clause-before g c =
     let inside = next.within in
     let start = c.from.ensures in
     let doc : c.from.result + c.in-Some.place ≡ c.args.first + c.in-Some.place = omega arith in
-    let below = c.top_list_grows.ensures.in_range c.args.top.now.n lists (c.args.first + c.in-Some.place) c.requires.below (marked-any lists terms c.args.essential c.args.first c.requires.terms c.args.scores.now c.args.marks.now c.requires.scores c.requires.marks c.in-Some.place inside next.marked) in
+    let below = c.top_list_grows.ensures.in_range c.args.top.now.n lists (c.args.first + c.in-Some.place) c.requires.below (marked-any lists terms c.args.essential c.args.first c.args.scores.now c.args.marks.now c.requires.terms c.requires.scores c.requires.marks c.in-Some.place inside next.marked) in
     let place = g.C.DocCursor.place in
     subst (λ (ts : List Term). AreBefore list place (c.from.result + c.in-Some.place) ts c.loop-place.cursors) (sym (behind-is terms c.args.essential))
     (before-later list place (c.args.first + c.loop-place.from) (c.from.result + c.in-Some.place) (drop c.args.essential terms) c.loop-place.cursors (omega arith) so_far.before)
@@ -102,7 +113,7 @@ consider-requires-clause-above g c =
     let inside = next.within in
     let start = c.from.ensures in
     let doc : c.from.result + c.in-Some.place ≡ c.args.first + c.in-Some.place = omega arith in
-    let below = c.top_list_grows.ensures.in_range c.args.top.now.n lists (c.args.first + c.in-Some.place) c.requires.below (marked-any lists terms c.args.essential c.args.first c.requires.terms c.args.scores.now c.args.marks.now c.requires.scores c.requires.marks c.in-Some.place inside next.marked) in
+    let below = c.top_list_grows.ensures.in_range c.args.top.now.n lists (c.args.first + c.in-Some.place) c.requires.below (marked-any lists terms c.args.essential c.args.first c.args.scores.now c.args.marks.now c.requires.terms c.requires.scores c.requires.marks c.in-Some.place inside next.marked) in
     λ i e within. let h = so_far.above i e within in omega arith
 
 pub consider-requires-clause-in_range : goal.consider-requires-clause-in_range
@@ -116,7 +127,7 @@ consider-requires-clause-in_range g c =
     let inside = next.within in
     let start = c.from.ensures in
     let doc : c.from.result + c.in-Some.place ≡ c.args.first + c.in-Some.place = omega arith in
-    let below = c.top_list_grows.ensures.in_range c.args.top.now.n lists (c.args.first + c.in-Some.place) c.requires.below (marked-any lists terms c.args.essential c.args.first c.requires.terms c.args.scores.now c.args.marks.now c.requires.scores c.requires.marks c.in-Some.place inside next.marked) in
+    let below = c.top_list_grows.ensures.in_range c.args.top.now.n lists (c.args.first + c.in-Some.place) c.requires.below (marked-any lists terms c.args.essential c.args.first c.args.scores.now c.args.marks.now c.requires.terms c.requires.scores c.requires.marks c.in-Some.place inside next.marked) in
     let n = so_far.n in
     omega arith
 
@@ -131,7 +142,7 @@ loop-place-preserved g c =
     let inside = next.within in
     let start = c.from.ensures in
     let doc : c.from.result + c.in-Some.place ≡ c.args.first + c.in-Some.place = omega arith in
-    let below = c.top_list_grows.ensures.in_range c.args.top.now.n lists (c.args.first + c.in-Some.place) c.requires.below (marked-any lists terms c.args.essential c.args.first c.requires.terms c.args.scores.now c.args.marks.now c.requires.scores c.requires.marks c.in-Some.place inside next.marked) in
+    let below = c.top_list_grows.ensures.in_range c.args.top.now.n lists (c.args.first + c.in-Some.place) c.requires.below (marked-any lists terms c.args.essential c.args.first c.args.scores.now c.args.marks.now c.requires.terms c.requires.scores c.requires.marks c.in-Some.place inside next.marked) in
     let place = g.C.DocCursor.place in
     let at : ℕ = c.in-Some.place in
     let others : List Term = drop c.args.essential terms in
@@ -143,7 +154,7 @@ loop-place-preserved g c =
     let left : c.total_bound-left.result ≡ bounds others = c.total_bound-left.ensures ∙ ap bounds lent in
     let low : IfSome c.threshold.result (λ least. c.least_score.result ≡ min (least + 1) 18446744073709551615 - bounds others) = subst (λ (b : ℕ). IfSome c.threshold.result (λ least. c.least_score.result ≡ min (least + 1) 18446744073709551615 - b)) left c.least_score.ensures.some in
     let full : IfSome c.threshold.result (λ s. length held ≡ c.args.top.now.k) = subst (λ (j : ℕ). IfSome c.threshold.result (λ s. length held ≡ j)) k c.threshold.ensures.full in
-    let here = follows-passed lists terms c.args.essential c.args.first c.requires.terms c.args.scores.now c.args.marks.now c.requires.scores c.requires.marks c.top_list_grows.ensures.skipped c.loop-place.from (c.args.first + at) c.args.top.now.k c.least_score.result c.threshold.result c.args.top.now.held held
+    let here = follows-passed lists terms c.args.essential c.args.first c.args.scores.now c.args.marks.now c.requires.terms c.requires.scores c.requires.marks c.top_list_grows.ensures.skipped c.loop-place.from (c.args.first + at) c.args.top.now.k c.least_score.result c.threshold.result c.args.top.now.held held
     so_far.spared full c.threshold.ensures.least c.least_score.ensures.none low (omega arith) (omega arith) (λ j f lt is. next.passed j f (omega arith) is) so_far.held in
     let known : c.in-Some.score + score_in (map list c.loop-place.cursors) (c.from.result + at) (take (length terms - c.args.essential) (drop c.args.essential terms)) ≡ get_or c.args.scores.now at 0 + score_in lists (c.args.first + at) others =
     (let a = next.scored in
@@ -167,7 +178,7 @@ loop-place-preserved g c =
       n = kept.n ∙ so_far.n;
       above = (let top = c.top_list_grows.ensures in considered-above c.args.top.now.k (c.args.first + at) (c.args.first + (at + 1)) _ held new (omega arith) considered (λ i e within. let h = so_far.above i e within in omega arith));
       spared = spared-kept terms c.args.top.now.k c.args.essential held new (λ b j all. let r = kept.kept b (j ∙ sym k) all in (r.0 ∙ k, r.1)) so_far.spared;
-      held = follows-considered lists terms c.args.essential c.args.first c.requires.terms c.args.scores.now c.args.marks.now c.requires.scores c.requires.marks c.top_list_grows.ensures.offered c.top_list_grows.ensures.skipped at c.args.top.now.k c.args.top.now.held held new inside next.marked considered here;
+      held = follows-considered lists terms c.args.essential c.args.first c.args.scores.now c.args.marks.now c.requires.terms c.requires.scores c.requires.marks c.top_list_grows.ensures.offered c.top_list_grows.ensures.skipped at c.args.top.now.k c.args.top.now.held held new inside next.marked considered here;
     }
 
 pub returns-clause-clear : goal.returns-clause-clear
@@ -202,5 +213,5 @@ returns-clause-held g c =
     let within = so_far.within in
     let in_range = so_far.in_range in
     let none = none-there c.args.scores.now c.args.marks.now c.loop-place.scores c.loop-place.marks c.loop-place.from c.requires.wide so_far.taken c.least_score.result c.in_default.ensures.none in
-    follows-passed lists terms c.args.essential c.args.first c.requires.terms c.args.scores.now c.args.marks.now c.requires.scores c.requires.marks c.top_list_grows.ensures.skipped c.loop-place.from (min (c.args.first + length c.args.scores.now) c.args.top.now.n) c.args.top.now.k c.least_score.result c.threshold.result c.args.top.now.held held
+    follows-passed lists terms c.args.essential c.args.first c.args.scores.now c.args.marks.now c.requires.terms c.requires.scores c.requires.marks c.top_list_grows.ensures.skipped c.loop-place.from (min (c.args.first + length c.args.scores.now) c.args.top.now.n) c.args.top.now.k c.least_score.result c.threshold.result c.args.top.now.held held
     so_far.spared full c.threshold.ensures.least c.least_score.ensures.none low (omega arith) (omega arith) (λ j f lt is. none j f (omega arith) is) so_far.held

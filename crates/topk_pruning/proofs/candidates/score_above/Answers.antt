@@ -2,29 +2,29 @@ use Rattle.std.proofs.Common.{◌≡◌, sym, ap, ◌∙◌, ℕ, ◌+◌, ◌*�
 use Rattle.std.proofs.lemmas.List.{length-map}
 use Rattle.std.proofs.lemmas.List.Elements.{All-set, All-take, All-drop}
 use Rattle.std.proofs.lemmas.List.Sums.{sum_by_more, sum_by-drop_more, sum_by-take-drop}
-use Rattle.collection_model.specs.Collection.{Posting, greatest_freq}
+use Rattle.collection_model.specs.Collection.{Posting}
 use Rattle.scan_plans.specs.Matches.{freq_of_doc}
 use Rattle.scan_plans.specs.Scan.{HasPassed}
 use Rattle.topk_pruning.specs.declared.term.Term.{Term}
-use Rattle.topk_pruning.specs.Terms.{list_of, share, score_in, bounds, AreTerms}
+use Rattle.topk_pruning.specs.Terms.{share, score_in, bounds, AreTermsIn}
 use Rattle.topk_pruning.proofs.Moves.{lists-set, list-read}
-use Rattle.topk_pruning.proofs.Scores.{share-within, shares-within, beats-lower}
+use Rattle.topk_pruning.proofs.Scores.{shares-within, beats-lower}
 use Rattle.topk_pruning.proofs.Windows.{no_term, before-set}
 use Rattle.topk_pruning.proofs.candidates.score_above.Goals as goal
 
 -- the score so far and the bounds left are within what is known and the bounds together
-fits-so_far : (lists : List (List Posting)) (terms : List Term) (doc i known score left : ℕ) → AreTerms lists terms → score ≡ known + score_in lists doc (take i terms) → left ≡ bounds (drop i terms) → score + left ≤ known + bounds terms
+fits-so_far : (lists : List (List Posting)) (terms : List Term) (doc i known score left : ℕ) → AreTermsIn lists doc (doc + 1) terms → score ≡ known + score_in lists doc (take i terms) → left ≡ bounds (drop i terms) → score + left ≤ known + bounds terms
 fits-so_far lists terms doc i known score left are so_far rest =
-    let Bounded : Term → Type 0 = λ t. t.bound ≡ t.weight * greatest_freq (list_of lists t) in
-    let first = shares-within lists doc (take i terms) (All-take Bounded i terms are.bounded) in
+    let Bounded : Term → Type 0 = λ t. share lists doc t ≤ t.bound in
+    let first = shares-within lists doc (take i terms) (All-take Bounded i terms (are.bounded doc (omega arith) (omega arith))) in
     let whole = sum_by-take-drop (λ (t : Term). t.bound) terms i in
     omega arith
 
 -- and the whole score is within them
-score-within : (lists : List (List Posting)) (terms : List Term) (doc i known score left : ℕ) → AreTerms lists terms → score ≡ known + score_in lists doc (take i terms) → left ≡ bounds (drop i terms) → known + score_in lists doc terms ≤ score + left
+score-within : (lists : List (List Posting)) (terms : List Term) (doc i known score left : ℕ) → AreTermsIn lists doc (doc + 1) terms → score ≡ known + score_in lists doc (take i terms) → left ≡ bounds (drop i terms) → known + score_in lists doc terms ≤ score + left
 score-within lists terms doc i known score left are so_far rest =
-    let Bounded : Term → Type 0 = λ t. t.bound ≡ t.weight * greatest_freq (list_of lists t) in
-    let last = shares-within lists doc (drop i terms) (All-drop Bounded i terms are.bounded) in
+    let Bounded : Term → Type 0 = λ t. share lists doc t ≤ t.bound in
+    let last = shares-within lists doc (drop i terms) (All-drop Bounded i terms (are.bounded doc (omega arith) (omega arith))) in
     let whole = sum_by-take-drop (share lists doc) terms i in
     omega arith
 
@@ -56,7 +56,7 @@ overflow_add-score-in-loop-term g c =
     let inside = c.requires.terms.within i no_term c.loop-term-test.true in
     let within : t.list < length cs = omega arith in
     let value : c.probe-score.result ≡ share lists c.args.doc t = c.probe-score.ensures.value ∙ ap (λ (l : List Posting). t.weight * freq_of_doc c.args.doc l) (list-read list place cs lists t.list d c.loop-term.invariant.lists within) in
-    let le = share-within lists c.args.doc t (c.requires.terms.bounded i no_term c.loop-term-test.true) in
+    let le : share lists c.args.doc t ≤ t.bound = c.requires.terms.bounded c.args.doc (omega arith) (omega arith) i no_term c.loop-term-test.true in
     let less = sum_by-drop_more (λ (t : Term). t.bound) terms i no_term c.loop-term-test.true in
     let fits = fits-so_far lists terms c.args.doc i c.args.known c.loop-term.score c.loop-term.left c.requires.terms c.loop-term.invariant.so_far c.loop-term.invariant.left in
     omega (arith, c.requires.light, c.requires.bound, fits, less, le, value, c.loop-term.invariant.left)

@@ -1,9 +1,9 @@
-use Rattle.std.proofs.Common.{◌≡◌, ℕ, ◌*◌, ◌-◌, ◌<◌, ◌≤◌, false, length, map}
+use Rattle.std.proofs.Common.{◌≡◌, ◌-◌, ◌≤◌, length, map}
 use Rattle.std.specs.List.{All}
 use Rattle.scan_plans.specs.IsTop.{IsTop}
 use Rattle.scan_plans.specs.Scan.{HasPassed}
-use Rattle.scan_plans.specs.Window.{is_marked}
 use Rattle.topk_pruning.specs.Terms.{AreSpared}
+use Rattle.topk_pruning.specs.Windows.{IsReady}
 use Rattle.topk_pruning.proofs.maxscore.top_maxscore.Given as goal
 
 abbrev pub invariant-loop-first : goal.invariant-loop-first
@@ -11,11 +11,7 @@ invariant-loop-first g l = record {
   lists : map g.C.DocCursor.list l.cursors ≡ map g.C.DocCursor.list l.initial.cursors;
   passed : All (λ c. HasPassed l.from (g.C.DocCursor.list c) (g.C.DocCursor.place c)) l.cursors;
   in_range : l.from ≤ l.fn.n;
-  some : 1 ≤ l.width;
-  room : l.width ≤ length l.scores;
-  wide : length l.scores ≤ 64 * length l.marks;
-  clear : All (λ s. s ≡ 0) l.scores;
-  none : (k : ℕ) → k < 64 * length l.marks → is_marked l.marks k ≡ false;
+  ready : IsReady (length l.terms.items) l.room;
   k : l.top.k ≡ l.fn.k;
   n : l.top.n ≡ l.fn.n;
   held : IsTop l.from (map g.C.DocCursor.list l.initial.cursors) l.weights l.fn.k l.top.held;

@@ -1,8 +1,8 @@
-use Rattle.std.proofs.Common.{arith}
+use Rattle.std.proofs.Common.{refl, arith}
 use Rattle.topk_pruning.proofs.Orders.{bounds-fall}
 use Rattle.topk_pruning.proofs.Tops.{essential-spared}
-use Rattle.topk_pruning.proofs.Windows.{spared-more}
-use Rattle.topk_pruning.proofs.maxscore.essential_now.Goals as goal
+use Rattle.topk_pruning.proofs.Near.{spared-less}
+use Rattle.topk_pruning.proofs.essential.essential_now.Goals as goal
 
 pub returns : goal.returns
 returns c =
@@ -10,5 +10,5 @@ returns c =
     let few = count.within in
     let rest = c.saturating_sub.ensures in
     let most = c.max.ensures in
-    spared-more c.args.terms.now c.args.top.now.k c.essential_terms-count.result c.max.result c.args.top.now.held (omega arith) (omega arith) (bounds-fall c.args.terms.now c.essential_terms-count.result c.max.result (omega arith))
+    spared-less c.args.terms.now c.args.terms.now c.essential_terms-count.result c.max.result c.args.top.now.k c.args.top.now.held refl (omega arith) (omega arith) (bounds-fall c.args.terms.now c.essential_terms-count.result c.max.result (omega arith))
     (essential-spared c.args.terms.now c.threshold.result c.essential_terms-count.result c.args.top.now.k c.args.top.now.held count c.threshold.ensures.full c.threshold.ensures.least)

@@ -1,6 +1,6 @@
 use Rattle.std.proofs.Common.{◌≡◌, ◌<◌, ℕ, drop, true}
 use Rattle.topk_pruning.specs.Terms.{bounds, beats}
-use Rattle.topk_pruning.proofs.maxscore.essential_terms.Given as goal
+use Rattle.topk_pruning.proofs.essential.essential_terms.Given as goal
 
 abbrev pub invariant-loop-term : goal.invariant-loop-term
 invariant-loop-term l = record {

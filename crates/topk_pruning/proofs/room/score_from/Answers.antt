@@ -1,0 +1,39 @@
+use Rattle.std.proofs.Common.{sym, ◌∙◌, subst, ℕ, ◌<◌, ◌^◌, List, map}
+use Rattle.std.specs.List.{All}
+use Rattle.collection_model.specs.Collection.{Posting}
+use Rattle.topk_pruning.specs.declared.term.Term.{Term}
+use Rattle.topk_pruning.specs.Terms.{AreApart, AreTermsIn, FollowsTo}
+use Rattle.topk_pruning.proofs.Alike.{alike-all, alike-apart, follows-alike}
+use Rattle.topk_pruning.proofs.Near.{written-back}
+use Rattle.topk_pruning.proofs.room.score_from.Goals as goal
+
+pub score_up_to-requires-clause-terms : goal.score_up_to-requires-clause-terms
+score_up_to-requires-clause-terms g c =
+    let lists : List (List Posting) = map g.C.DocCursor.list c.args.cursors.now in
+    let near : List Term = c.bound_terms-reach.new.near in
+    let same = written-back c.args.room.now.terms.len near c.args.room.now.terms.items c.args.room.now.terms.ok.0 (c.bound_terms-reach.ensures.each ∙ sym c.requires.ready.each) in
+    subst (AreTermsIn lists c.args.first c.bound_terms-reach.result) (sym same) c.bound_terms-reach.ensures.near.bounded
+
+pub score_up_to-requires-clause-apart : goal.score_up_to-requires-clause-apart
+score_up_to-requires-clause-apart g c =
+    let near : List Term = c.bound_terms-reach.new.near in
+    let same = written-back c.args.room.now.terms.len near c.args.room.now.terms.items c.args.room.now.terms.ok.0 (c.bound_terms-reach.ensures.each ∙ sym c.requires.ready.each) in
+    subst (λ (ts : List Term). AreApart ts) (sym same) (alike-apart c.args.terms.now near c.bound_terms-reach.ensures.near.alike c.requires.terms.apart)
+
+pub score_up_to-requires-clause-small : goal.score_up_to-requires-clause-small
+score_up_to-requires-clause-small g c =
+    let near : List Term = c.bound_terms-reach.new.near in
+    let same = written-back c.args.room.now.terms.len near c.args.room.now.terms.items c.args.room.now.terms.ok.0 (c.bound_terms-reach.ensures.each ∙ sym c.requires.ready.each) in
+    subst (All (λ (t : Term). t.weight < 2 ^ 26)) (sym same) (alike-all (λ e. e.1 < 2 ^ 26) c.args.terms.now near c.bound_terms-reach.ensures.near.alike c.requires.terms.small)
+
+pub returns-clause-held : goal.returns-clause-held
+returns-clause-held g c =
+    let lists : List (List Posting) = map g.C.DocCursor.list c.args.cursors.now in
+    let near : List Term = c.bound_terms-reach.new.near in
+    let k : ℕ = c.args.top.now.k in
+    let first : ℕ = c.args.first in
+    let to : ℕ = c.score_up_to.result in
+    let held : List (ℕ × ℕ) = c.args.top.now.held in
+    let new : List (ℕ × ℕ) = c.score_up_to.new.top.held in
+    let same = written-back c.args.room.now.terms.len near c.args.room.now.terms.items c.args.room.now.terms.ok.0 (c.bound_terms-reach.ensures.each ∙ sym c.requires.ready.each) in
+    follows-alike lists c.args.terms.now near k first to held new c.bound_terms-reach.ensures.near.alike (subst (λ (ts : List Term). FollowsTo lists ts k first to held new) same c.score_up_to.ensures.held)

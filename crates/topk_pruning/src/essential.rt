@@ -1,0 +1,100 @@
+ghost use Rattle.std.specs.Prelude.{◌≡◌, ℕ, ◌+◌, ◌≤◌, ◌<◌, ◌^◌, List, drop, length};
+ghost use Rattle.std.specs.List.{All};
+ghost use Rattle.std.specs.List.Sorted.{IsPermutation};
+ghost use Rattle.topk_pruning.specs.Terms.{AreSpared, IsEssential, bounds};
+
+use crate::probe::is_above;
+use crate::term::{Term, total_bound};
+use cursor_api::DocCursor;
+use scan_plans::TopK;
+
+// How many lists are asked for a candidate, at most. Those of the highest bounds beyond are essential, so that no posting costs more than
+// so many questions.
+const MOST_ASKED: usize = 8;
+
+// How many terms are essential with what is held: none where all the bounds together do not beat the least score held, and all while
+// fewer than k are held.
+pub(crate) fn essential_now(terms: &[Term], top: &TopK) -> usize
+    requires light { bounds terms.now < 2 ^ 58 }
+    ensures { AreSpared top.now.k top.now.held terms.now result }
+{
+    let count = essential_terms(terms, top.threshold());
+    if count == 0 {
+        return 0;
+    }
+    count.max(terms.len().saturating_sub(MOST_ASKED))
+}
+
+// How many terms are essential: the bounds of the others together do not beat the least score held, and those of one more would.
+fn essential_terms(terms: &[Term], threshold: Option<u64>) -> usize
+    requires light { bounds terms.now < 2 ^ 58 }
+    ensures { IsEssential terms.now threshold result }
+{
+    let mut left = total_bound(terms);
+    let mut count = 0;
+    for term in terms {
+        if !is_above(left, threshold) {
+            return count;
+        }
+        left -= term.bound;
+        count += 1;
+    }
+    count
+}
+
+// Makes the terms of short lists essential too, those with less than a quarter of the postings of the essential lists: to read such a
+// list costs less than to ask it for candidates. They go behind the essential terms; it tells how many are essential then.
+pub(crate) fn with_short_lists<C: DocCursor>(
+    cursors: &[C],
+    terms: &mut [Term],
+    essential: usize,
+) -> usize
+    requires within { All (λ t. t.list < length cursors.now) terms.old }
+    requires few { essential ≤ length terms.old }
+    ensures moved { IsPermutation terms.old terms.new }
+    ensures spared { (k : ℕ) (held : List (ℕ × ℕ)) → AreSpared k held terms.old essential → AreSpared k held terms.new result }
+{
+    let long = postings_in(cursors, &terms[..essential]);
+    let mut count = essential;
+    for place in essential..terms.len() {
+        count = take_short(cursors, terms, count, place, long);
+    }
+    count
+}
+
+// Puts the term at a place behind the first so many where its list has less than a quarter of `long` postings, and tells how many they
+// are then.
+fn take_short<C: DocCursor>(
+    cursors: &[C],
+    terms: &mut [Term],
+    count: usize,
+    place: usize,
+    long: u64,
+) -> usize
+    requires within { All (λ t. t.list < length cursors.now) terms.old }
+    requires before { count ≤ place }
+    requires inside { place < length terms.old }
+    ensures moved { IsPermutation terms.old terms.new }
+    ensures each { length terms.new ≡ length terms.old }
+    ensures more { count ≤ result }
+    ensures within { result ≤ place + 1 }
+    ensures less { bounds (drop result terms.new) ≤ bounds (drop count terms.old) }
+{
+    let term = terms[place];
+    if 4 * u64::from(cursors[term.list].len()) >= long {
+        return count;
+    }
+    terms.swap(count, place);
+    count + 1
+}
+
+// How many postings the lists of some terms have together.
+fn postings_in<C: DocCursor>(cursors: &[C], terms: &[Term]) -> u64
+    requires within { All (λ t. t.list < length cursors.now) terms.now }
+{
+    let mut total: u64 = 0;
+    for term in terms {
+        total = total.saturating_add(u64::from(cursors[term.list].len()));
+    }
+    total
+}

@@ -1,0 +1,140 @@
+ghost use Rattle.std.specs.Prelude.{◌≡◌, ℕ, ◌+◌, ◌≤◌, ◌<◌, ◌^◌, map, length, IfOk};
+ghost use Rattle.std.specs.List.{All};
+ghost use Rattle.scan_plans.specs.Matches.{AreBelow};
+ghost use Rattle.scan_plans.specs.Scan.{HasPassed};
+ghost use Rattle.topk_pruning.specs.Terms.{AreApart, AreQueryTerms, AreTermsIn, FollowsTo};
+ghost use Rattle.topk_pruning.specs.Windows.{IsReady};
+
+use crate::candidates::score_window;
+use crate::ceilings::{Ceilings, bound_terms};
+use crate::essential::{essential_now, with_short_lists};
+use crate::term::Term;
+use cursor_api::DocCursor;
+use no_memory::NoMemory;
+use scan_plans::{Block, TopK, new_marks, new_scores, scored_words, top_list_grows};
+use std::alloc::Global;
+
+// How many documents the first window has. Each later one has four times as many, as far as there is room for their scores: a query whose
+// best documents come early ends early.
+const FIRST_WIDTH: usize = 8;
+
+// What the windows of documents of a query are scored with.
+#[derive(Drop)]
+pub(crate) struct Room {
+    // The terms with their bounds in a window.
+    terms: Vec<Term>,
+    scores: Vec<u64>,
+    marks: Vec<u64>,
+    block: Block,
+    // How many documents the next window has, at most.
+    width: usize,
+}
+
+impl Room {
+    // Room for the windows of a query with these terms, the first of 8 documents.
+    pub(crate) fn new(alloc: Global, terms: &[Term], n: u32) -> Result<Room, NoMemory>
+        ensures { IfOk result (IsReady (length terms.now)) }
+    {
+        let mut near = Vec::new(alloc);
+        near.extend_from_slice(terms)?;
+        let words = scored_words(n);
+        let scores = new_scores(alloc, words)?;
+        let marks = new_marks(alloc, words)?;
+        Ok(Room {
+            terms: near,
+            scores,
+            marks,
+            block: Block::new(),
+            width: FIRST_WIDTH,
+        })
+    }
+}
+
+// Scores the documents of a window from `first` on that can be held and offers them, or passes over documents of which none can, and
+// tells from which document on the search goes on. No document from there on has been passed by a cursor.
+pub(crate) fn score_from<C: DocCursor, B: Ceilings<C>>(
+    cursors: &mut [C],
+    terms: &[Term],
+    ceilings: &B,
+    first: u32,
+    n: u32,
+    room: &mut Room,
+    top: &mut TopK,
+) -> u32
+    requires terms { AreQueryTerms (map C.list cursors.old) terms.now }
+    requires passed { All (λ c. HasPassed first (C.list c) (C.place c)) cursors.old }
+    requires below { AreBelow n (map C.list cursors.old) }
+    requires in_range { first < n }
+    requires ready { IsReady (length terms.now) room.old }
+    requires same_n { top.old.n ≡ n }
+    requires above { All (λ e. e.0 < first) top.old.held }
+    ensures lists { map C.list cursors.new ≡ map C.list cursors.old }
+    ensures passed { All (λ c. HasPassed result (C.list c) (C.place c)) cursors.new }
+    ensures ready { IsReady (length terms.now) room.new }
+    ensures k { top.new.k ≡ top.old.k }
+    ensures n { top.new.n ≡ top.old.n }
+    ensures later { first < result }
+    ensures in_range { result ≤ n }
+    ensures held { FollowsTo (map C.list cursors.old) terms.now top.old.k first result top.old.held top.new.held }
+{
+    let reach = bound_terms(
+        cursors,
+        terms,
+        ceilings,
+        first,
+        n,
+        room.terms.as_mut_slice(),
+    );
+    score_up_to(cursors, first, reach, room, top)
+}
+
+// The same with the terms of the room, whose bounds hold up to `reach`. Where all the bounds together do not beat the least score held,
+// no document up to there can be held, and no cursor moves.
+fn score_up_to<C: DocCursor>(
+    cursors: &mut [C],
+    first: u32,
+    reach: u32,
+    room: &mut Room,
+    top: &mut TopK,
+) -> u32
+    requires terms { AreTermsIn (map C.list cursors.old) first reach room.old.terms.items }
+    requires apart { AreApart room.old.terms.items }
+    requires small { All (λ t. t.weight < 2 ^ 26) room.old.terms.items }
+    requires passed { All (λ c. HasPassed first (C.list c) (C.place c)) cursors.old }
+    requires below { AreBelow top.old.n (map C.list cursors.old) }
+    requires narrow { top.old.n < 2 ^ 32 }
+    requires later { first < reach }
+    requires in_range { reach ≤ top.old.n }
+    requires ready { IsReady (length room.old.terms.items) room.old }
+    requires above { All (λ e. e.0 < first) top.old.held }
+    ensures lists { map C.list cursors.new ≡ map C.list cursors.old }
+    ensures passed { All (λ c. HasPassed result (C.list c) (C.place c)) cursors.new }
+    ensures ready { IsReady (length room.old.terms.items) room.new }
+    ensures k { top.new.k ≡ top.old.k }
+    ensures n { top.new.n ≡ top.old.n }
+    ensures later { first < result }
+    ensures in_range { result ≤ reach }
+    ensures held { FollowsTo (map C.list cursors.old) room.old.terms.items top.old.k first result top.old.held top.new.held }
+{
+    top_list_grows();
+    let width = room.width;
+    room.width = width.saturating_mul(4).min(room.scores.len());
+    let essential = essential_now(&room.terms, top);
+    if essential == 0 {
+        return reach;
+    }
+    let essential = with_short_lists(cursors, room.terms.as_mut_slice(), essential);
+    let count = width.min((reach - first) as usize);
+    score_window(
+        cursors,
+        &room.terms,
+        essential,
+        first,
+        count,
+        room.scores.as_mut_slice(),
+        room.marks.as_mut_slice(),
+        &mut room.block,
+        top,
+    );
+    first + count as u32
+}
