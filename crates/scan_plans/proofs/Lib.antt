@@ -14,3 +14,4 @@ mod Found
 mod Skipping
 mod Candidates
 mod Shared
+mod Few

@@ -1,4 +1,4 @@
-ghost use Rattle.std.specs.Prelude.{◌≡◌, ℕ, ◌+◌, ◌*◌, ◌≤◌, ◌<◌, ◌^◌, false, List, map, length, slice_index, sum, IfOk};
+ghost use Rattle.std.specs.Prelude.{◌≡◌, ℕ, ◌+◌, ◌*◌, ◌≤◌, ◌<◌, ◌^◌, false, List, map, length, min, slice_index, sum, sum_by, IfOk};
 ghost use Rattle.std.specs.Int.{bit_at};
 ghost use Rattle.std.specs.List.{All};
 ghost use Rattle.collection_model.specs.Collection.{Posting};
@@ -8,6 +8,7 @@ ghost use Rattle.scan_plans.specs.Best.{IsBest, IsBar};
 ghost use Rattle.scan_plans.specs.Window.{AreScored, is_marked};
 
 use crate::TopK;
+use crate::laws::top_list_is_short;
 use crate::scan::least_doc;
 use crate::window::{Block, add_lists, new_marks, new_scores, scored_words};
 use cursor_api::DocCursor;
@@ -16,8 +17,43 @@ use std::alloc::Global;
 
 /// The first k of the documents that are in any of the lists, by score falling and then document rising, each with its score:
 /// the sum over the lists of the weight times the frequency. `n` is the number of documents. It scores every document that
-/// a list has, window by window of documents, and touches each posting once. The weights are those of the cursors' lists, in the same order; a score stays below 2^58.
+/// a list has, window by window of documents, and touches
+/// each posting once. It takes room for no more documents than there are postings. The weights are those of the cursors' lists, in the
+/// same order; a score stays below 2^58.
 pub fn top_exhaustive<C: DocCursor>(
+    alloc: Global,
+    cursors: &mut [C],
+    weights: &[u32],
+    k: u32,
+    n: u32,
+) -> Result<Vec<(u32, u64)>, NoMemory>
+    requires few { length cursors.old ≤ 1024 }
+    requires at_start { All (λ c. C.place c ≡ 0) cursors.old }
+    requires in_range { AreBelow n (map C.list cursors.old) }
+    requires each { length weights.now ≡ length cursors.old }
+    requires some { All (λ w. 1 ≤ w) weights.now }
+    requires light { sum weights.now < 2 ^ 26 }
+    ensures first { IfOk result (λ r. IsTop n (map C.list cursors.old) weights.now k r.items) }
+    ensures bound { IfOk result (λ r. All (λ e. e.1 < 2 ^ 58) r.items) }
+{
+    top_list_is_short();
+    let most = most_found(cursors, k);
+    score_all(alloc, cursors, weights, most, n)
+}
+
+/// How many documents a list of the first k can have: no more than the lists have postings.
+pub fn most_found<C: DocCursor>(cursors: &[C], k: u32) -> u32
+    ensures { result ≡ min k (sum_by length (map C.list cursors.now)) }
+{
+    let mut postings: u64 = 0;
+    for cursor in cursors {
+        postings = postings.saturating_add(u64::from(cursor.len()));
+    }
+    postings.min(u64::from(k)) as u32
+}
+
+// The same with room for k documents.
+fn score_all<C: DocCursor>(
     alloc: Global,
     cursors: &mut [C],
     weights: &[u32],

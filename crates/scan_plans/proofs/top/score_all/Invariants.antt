@@ -3,7 +3,7 @@ use Rattle.std.specs.List.{All, sum_by}
 use Rattle.scan_plans.specs.Best.{IsBest}
 use Rattle.scan_plans.specs.Matches.{in_any}
 use Rattle.scan_plans.specs.Scan.{StandsFrom}
-use Rattle.scan_plans.proofs.top.top_exhaustive.Given as goal
+use Rattle.scan_plans.proofs.top.score_all.Given as goal
 
 abbrev pub invariant-loop-first : goal.invariant-loop-first
 invariant-loop-first g l = record {

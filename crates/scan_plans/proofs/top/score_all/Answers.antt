@@ -1,0 +1,145 @@
+use Rattle.std.proofs.Common.{◌≡◌, refl, sym, ap, inl, inr, ◌∙◌, subst, ℕ, ◌+◌, ◌^◌, ◌<◌, true, false, List, [], length, map, slice_index, arith}
+use Rattle.std.proofs.lemmas.Bool.{cases_lt, false≢true}
+use Rattle.std.specs.List.{All, list_any}
+use Rattle.std.proofs.lemmas.List.{length-map}
+use Rattle.std.proofs.lemmas.List.Elements.{All-nil}
+use Rattle.std.proofs.lemmas.Result.{IfOk-weaker}
+use Rattle.collection_model.specs.Collection.{Posting}
+use Rattle.scan_plans.specs.Best.{IsBest}
+use Rattle.scan_plans.specs.IsTop.{IsTop}
+use Rattle.scan_plans.specs.Matches.{AreBelow, has_doc, in_any}
+use Rattle.scan_plans.specs.Ranking.{Ranking}
+use Rattle.scan_plans.specs.Scan.{StandsFrom}
+use Rattle.scan_plans.specs.Window.{AreScored}
+use Rattle.scan_plans.proofs.Bests.{best-none, best-below, best-top, any-below}
+use Rattle.scan_plans.proofs.Scans.{next-doc, no-next-doc, any-bound}
+use Rattle.scan_plans.proofs.Steps.{passing-leaves-less, starts-stand}
+use Rattle.scan_plans.proofs.top.score_all.Goals as goal
+
+-- a number that is not above 0
+zero-unless : (n : ℕ) → ¬ (0 < n) → n ≡ 0
+zero-unless n not = elim (cases_lt 0 n) as (λ _. n ≡ 0) [ inl some ↦ absurd (not some) | inr none ↦ omega arith ]
+
+pub loop-first-init : goal.loop-first-init
+loop-first-init g c =
+    let lists : List (List Posting) = map g.C.DocCursor.list c.args.cursors.now in
+    let held : c.in_ok-top.top.held ≡ [] = ap (λ (r : Ranking). r.held) c.in_ok-top.ensures in
+    record {
+      low = 0;
+      lists = refl;
+      stand = starts-stand g.C.DocCursor.list g.C.DocCursor.place c.args.cursors.now c.requires.at_start;
+      some = let same = ap length c.as_mut_slice-marks.ensures.value in let count = c.in_ok-mark_buffer.ensures.count in let some = c.scored_words-words.ensures.some in omega arith;
+      same = let scores = ap length c.as_mut_slice-scores.ensures.value in let marks = ap length c.as_mut_slice-marks.ensures.value in let scored = c.in_ok-score_buffer.ensures.count in let marked = c.in_ok-mark_buffer.ensures.count in omega arith;
+      clear = subst (All (λ s. s ≡ 0)) (sym c.as_mut_slice-scores.ensures.value) c.in_ok-score_buffer.ensures.clear;
+      none = subst (All (λ w. w ≡ 0)) (sym c.as_mut_slice-marks.ensures.value) c.in_ok-mark_buffer.ensures.clear;
+      k = ap (λ (r : Ranking). r.k) c.in_ok-top.ensures;
+      n = ap (λ (r : Ranking). r.n) c.in_ok-top.ensures;
+      best = subst (IsBest c.args.k lists c.args.weights.now []) (sym held) (best-none c.args.k lists c.args.weights.now);
+      bound = subst (All (λ (e : ℕ × ℕ). e.1 < 2 ^ 58)) (sym held) (All-nil (λ (e : ℕ × ℕ). e.1 < 2 ^ 58));
+    }
+
+pub add_lists-reached-requires-clause-stand : goal.add_lists-reached-requires-clause-stand
+add_lists-reached-requires-clause-stand g c =
+    let next = next-doc g.C.DocCursor.list g.C.DocCursor.place g.met.C.DocCursor.well_formed c.loop-first.cursors c.loop-first.invariant.low c.in-Some.first c.loop-first.invariant.stand (sym c.least_doc.ensures ∙ c.in-Some.is) in
+    next.stand
+
+pub add_lists-reached-requires-clause-each : goal.add_lists-reached-requires-clause-each
+add_lists-reached-requires-clause-each g c =
+    let same = ap length c.loop-first.invariant.lists in
+    let now-mapped = length-map c.loop-first.cursors g.C.DocCursor.list in
+    let old-mapped = length-map c.args.cursors.now g.C.DocCursor.list in
+    let each = c.requires.each in
+    omega arith
+
+pub offer_marked-requires-clause-same : goal.offer_marked-requires-clause-same
+offer_marked-requires-clause-same g c = let scores = c.add_lists-reached.ensures.count in let marks = c.add_lists-reached.ensures.marks_count in let same = c.loop-first.invariant.same in omega arith
+
+pub offer_marked-requires-clause-marked : goal.offer_marked-requires-clause-marked
+offer_marked-requires-clause-marked g c = λ k within unmarked.
+    let lists : List (List Posting) = map g.C.DocCursor.list c.loop-first.cursors in
+    let scores = c.add_lists-reached.ensures.count in
+    let marks = c.add_lists-reached.ensures.marks_count in
+    let same = c.loop-first.invariant.same in
+    let absent : list_any (has_doc (c.in-Some.first + k)) lists ≡ false = sym (c.add_lists-reached.ensures.marks k (omega arith)) ∙ unmarked in
+    zero-unless (slice_index c.add_lists-reached.new.scores k) (λ some. false≢true (sym absent ∙ (c.add_lists-reached.ensures.scores.found k within).0 some))
+
+pub offer_marked-requires-clause-within : goal.offer_marked-requires-clause-within
+offer_marked-requires-clause-within g c = let count = c.add_lists-reached.ensures.count in let within = c.add_lists-reached.ensures.within in omega arith
+
+pub offer_marked-requires-clause-behind : goal.offer_marked-requires-clause-behind
+offer_marked-requires-clause-behind g c = λ k from inside. let count = c.add_lists-reached.ensures.count in c.add_lists-reached.ensures.behind k from (omega arith)
+
+pub offer_marked-requires-clause-narrow : goal.offer_marked-requires-clause-narrow
+offer_marked-requires-clause-narrow g c = omega (arith, c.loop-first.invariant.n, c.ranges.n.fits)
+
+pub offer_marked-requires-clause-in_range : goal.offer_marked-requires-clause-in_range
+offer_marked-requires-clause-in_range g c = λ k within above.
+    let lists : List (List Posting) = map g.C.DocCursor.list c.args.cursors.now in
+    let same = c.loop-first.invariant.lists in
+    let doc : ℕ = c.in-Some.first + k in
+    let has : list_any (has_doc doc) lists ≡ true = ap (list_any (has_doc doc)) (sym same) ∙ (c.add_lists-reached.ensures.scores.found k within).0 above in
+    subst (λ (n : ℕ). doc < n) (sym c.loop-first.invariant.n) (any-bound c.args.n lists doc c.requires.in_range has)
+
+pub offer_marked-requires-clause-above : goal.offer_marked-requires-clause-above
+offer_marked-requires-clause-above g c =
+    let first : ℕ = c.in-Some.first in
+    let low : ℕ = c.loop-first.invariant.low in
+    let lists : List (List Posting) = map g.C.DocCursor.list c.args.cursors.now in
+    let next = next-doc g.C.DocCursor.list g.C.DocCursor.place g.met.C.DocCursor.well_formed c.loop-first.cursors c.loop-first.invariant.low c.in-Some.first c.loop-first.invariant.stand (sym c.least_doc.ensures ∙ c.in-Some.is) in
+    best-below c.args.k lists c.args.weights.now (in_any low lists) c.loop-first.top.held first c.loop-first.invariant.best (any-below low first lists next.low_first)
+
+pub loop-first-smaller : goal.loop-first-smaller
+loop-first-smaller g c =
+    let next = next-doc g.C.DocCursor.list g.C.DocCursor.place g.met.C.DocCursor.well_formed c.loop-first.cursors c.loop-first.invariant.low c.in-Some.first c.loop-first.invariant.stand (sym c.least_doc.ensures ∙ c.in-Some.is) in
+    let some = c.loop-first.invariant.some in
+    let same = c.loop-first.invariant.same in
+    passing-leaves-less g.C.DocCursor.list g.C.DocCursor.place g.met.C.DocCursor.well_formed c.in-Some.first (c.in-Some.first + length c.loop-first.scores) c.loop-first.cursors c.add_lists-reached.new.cursors (omega arith) c.add_lists-reached.ensures.lists next.stand c.add_lists-reached.ensures.stand next.at
+
+pub loop-first-preserved : goal.loop-first-preserved
+loop-first-preserved g c =
+    let first : ℕ = c.in-Some.first in
+    let low : ℕ = c.loop-first.invariant.low in
+    let same = c.loop-first.invariant.lists in
+    let lists : List (List Posting) = map g.C.DocCursor.list c.args.cursors.now in
+    let weights : List ℕ = c.args.weights.now in
+    let held : List (ℕ × ℕ) = c.loop-first.top.held in
+    let next = next-doc g.C.DocCursor.list g.C.DocCursor.place g.met.C.DocCursor.well_formed c.loop-first.cursors c.loop-first.invariant.low c.in-Some.first c.loop-first.invariant.stand (sym c.least_doc.ensures ∙ c.in-Some.is) in
+    let skipped : in_any low lists ≡ in_any first lists = subst (λ (ls : List (List Posting)). in_any low ls ≡ in_any first ls) same next.skipped in
+    let scored : AreScored lists weights first c.add_lists-reached.new.scores = subst (λ (ls : List (List Posting)). AreScored ls weights first c.add_lists-reached.new.scores) same c.add_lists-reached.ensures.scores in
+    let k = c.loop-first.invariant.k in
+    let before : IsBest c.args.k lists weights (in_any first lists) held = subst (λ (docs : List ℕ). IsBest c.args.k lists weights docs held) skipped c.loop-first.invariant.best in
+    let more = c.offer_marked.ensures.best lists weights scored (subst (λ (n : ℕ). IsBest n lists weights (in_any first lists) held) (sym k) before) in
+    let some = c.loop-first.invariant.some in
+    let same_count = c.loop-first.invariant.same in
+    let marks = c.add_lists-reached.ensures.marks_count in
+    let marks_kept = c.offer_marked.ensures.marks_count in
+    let kept = c.offer_marked.ensures.count in
+    let count = c.add_lists-reached.ensures.count in
+    record {
+      low = first + length c.add_lists-reached.new.scores;
+      lists = c.add_lists-reached.ensures.lists ∙ same;
+      stand = subst (λ (n : ℕ). All (λ x. StandsFrom (first + n) (g.C.DocCursor.list x) (g.C.DocCursor.place x)) c.add_lists-reached.new.cursors) (sym count) c.add_lists-reached.ensures.stand;
+      some = omega arith;
+      same = omega arith;
+      clear = c.offer_marked.ensures.clear;
+      none = c.offer_marked.ensures.none;
+      k = c.offer_marked.ensures.k ∙ k;
+      n = c.offer_marked.ensures.n ∙ c.loop-first.invariant.n;
+      best = subst (λ (n : ℕ). IsBest n lists weights (in_any (first + length c.add_lists-reached.new.scores) lists) c.offer_marked.new.top.held) k more;
+      bound = c.offer_marked.ensures.bound c.add_lists-reached.ensures.bound c.loop-first.invariant.bound;
+    }
+
+pub returns-clause-bound : goal.returns-clause-bound
+returns-clause-bound g c =
+    IfOk-weaker c.into_list.result (λ r. r.items ≡ c.loop-first.top.held) (λ r. All (λ e. e.1 < 2 ^ 58) r.items) (λ r is. subst (All (λ (e : ℕ × ℕ). e.1 < 2 ^ 58)) (sym is) c.loop-first.invariant.bound) c.into_list.ensures
+
+pub returns-clause-first : goal.returns-clause-first
+returns-clause-first g c =
+    let same = c.loop-first.invariant.lists in
+    let low : ℕ = c.loop-first.invariant.low in
+    let lists : List (List Posting) = map g.C.DocCursor.list c.args.cursors.now in
+    let all : in_any low lists ≡ in_any c.args.n lists = ap (in_any low) (sym same)
+    ∙ no-next-doc g.C.DocCursor.list g.C.DocCursor.place g.met.C.DocCursor.well_formed c.loop-first.cursors low c.args.n c.loop-first.invariant.stand (sym c.least_doc.ensures ∙ c.in_default.is) (subst (AreBelow c.args.n) (sym same) c.requires.in_range)
+    ∙ ap (in_any c.args.n) same in
+    let best = subst (λ (docs : List ℕ). IsBest c.args.k lists c.args.weights.now docs c.loop-first.top.held) all c.loop-first.invariant.best in
+    IfOk-weaker c.into_list.result (λ r. r.items ≡ c.loop-first.top.held) (λ r. IsTop c.args.n lists c.args.weights.now c.args.k r.items) (λ r is. subst (IsTop c.args.n lists c.args.weights.now c.args.k) (sym is) (best-top c.args.n lists c.args.weights.now c.args.k c.loop-first.top.held best)) c.into_list.ensures
