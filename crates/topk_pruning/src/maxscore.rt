@@ -12,7 +12,7 @@ use crate::room::{Room, score_from};
 use crate::term::{Term, terms_by_bound};
 use cursor_api::DocCursor;
 use no_memory::NoMemory;
-use scan_plans::{TopK, cursors_tell, top_list_grows};
+use scan_plans::{TopK, cursors_tell, most_found, top_list_grows, top_list_is_short};
 use std::alloc::Global;
 
 /// The first k of the documents that are in any of the lists, by score falling and then document rising, each with its score, as
@@ -24,6 +24,28 @@ use std::alloc::Global;
 /// only as long as the bounds of those that are left can lift its score above the least held. A bound is the weight times the greatest
 /// frequency.
 pub fn top_maxscore<C: DocCursor>(
+    alloc: Global,
+    cursors: &mut [C],
+    weights: &[u32],
+    k: u32,
+    n: u32,
+) -> Result<Vec<(u32, u64)>, NoMemory>
+    requires few { length cursors.old ≤ 1024 }
+    requires at_start { All (λ c. C.place c ≡ 0) cursors.old }
+    requires in_range { AreBelow n (map C.list cursors.old) }
+    requires each { length weights.now ≡ length cursors.old }
+    requires some { All (λ w. 1 ≤ w) weights.now }
+    requires light { sum weights.now < 2 ^ 26 }
+    ensures first { IfOk result (λ r. IsTop n (map C.list cursors.old) weights.now k r.items) }
+    ensures bound { IfOk result (λ r. All (λ e. e.1 < 2 ^ 58) r.items) }
+{
+    top_list_is_short();
+    let most = most_found(cursors, k);
+    score_essential(alloc, cursors, weights, most, n)
+}
+
+// The same with room for k documents.
+fn score_essential<C: DocCursor>(
     alloc: Global,
     cursors: &mut [C],
     weights: &[u32],

@@ -4,7 +4,7 @@ use Rattle.scan_plans.specs.IsTop.{IsTop}
 use Rattle.scan_plans.specs.Scan.{HasPassed}
 use Rattle.topk_pruning.specs.Terms.{AreSpared}
 use Rattle.topk_pruning.specs.Windows.{IsReady}
-use Rattle.topk_pruning.proofs.maxscore.top_maxscore.Given as goal
+use Rattle.topk_pruning.proofs.maxscore.score_essential.Given as goal
 
 abbrev pub invariant-loop-first : goal.invariant-loop-first
 invariant-loop-first g l = record {

@@ -1,0 +1,183 @@
+use Rattle.std.proofs.Common.{◌≡◌, sym, ap, ◌∙◌, subst, ℕ, ◌<◌, ◌^◌, List, map, length, Some, None, arith}
+use Rattle.std.specs.List.{All}
+use Rattle.std.proofs.lemmas.List.{length-map}
+use Rattle.std.proofs.lemmas.Result.{IfOk-weaker}
+use Rattle.collection_model.specs.Collection.{Posting}
+use Rattle.scan_plans.specs.Matches.{AreBelow}
+use Rattle.scan_plans.specs.IsTop.{IsTop}
+use Rattle.std.specs.Option.{IfSome}
+use Rattle.scan_plans.specs.Ranking.{Ranking}
+use Rattle.topk_pruning.specs.declared.term.Term.{Term}
+use Rattle.topk_pruning.specs.declared.order.Standing.{Standing}
+use Rattle.topk_pruning.specs.Terms.{AreTerms, AreQueryTerms, AreAllTerms, FollowsTo, bounds}
+use Rattle.topk_pruning.specs.Windows.{IsReady}
+use Rattle.topk_pruning.specs.Order.{terms_at, IsOrder, IsPivot}
+use Rattle.topk_pruning.proofs.Moves.{later-passed}
+use Rattle.topk_pruning.proofs.Scores.{terms-are, all-terms}
+use Rattle.topk_pruning.proofs.Orders.{order-later}
+use Rattle.topk_pruning.proofs.Pivots.{AtPivot, caught-order, standing-are, pivot-step, pivot-end}
+use Rattle.topk_pruning.proofs.Tops.{scores-light}
+use Rattle.topk_pruning.proofs.Windows.{query-terms}
+use Rattle.topk_pruning.proofs.wand.score_from_pivots.Given as given
+use Rattle.topk_pruning.proofs.wand.score_from_pivots.Goals as goal
+use Rattle.topk_pruning.proofs.wand.score_from_pivots.Goals.{In-Some, In_default}
+
+pub order_of-requires-clause-terms : goal.order_of-requires-clause-terms
+order_of-requires-clause-terms g c =
+    let lists : List (List Posting) = map g.C.DocCursor.list c.args.cursors.now in
+    let are : AreTerms lists c.in_ok-terms.terms.items = terms-are lists c.args.weights.now c.in_ok-terms.terms.items c.in_ok-terms.ensures.all c.in_ok-terms.ensures.light in
+    subst (AreTerms lists) (sym c.deref.ensures.value) are
+
+pub loop-room-init : goal.loop-room-init
+loop-room-init g c =
+    let lists : List (List Posting) = map g.C.DocCursor.list c.args.cursors.now in
+    record {
+      lists = c.order_of.ensures.lists;
+      passed = c.order_of.ensures.passed;
+      in_range = omega arith;
+      k = ap (λ (t : Ranking). t.k) c.in_ok-top.ensures;
+      n = ap (λ (t : Ranking). t.n) c.in_ok-top.ensures;
+      held = subst (IsTop 0 lists c.args.weights.now c.args.k) (sym (ap (λ (t : Ranking). t.held) c.in_ok-top.ensures)) (c.top_list_grows.ensures.none lists c.args.weights.now c.args.k);
+      order = subst (λ (ts : List Term). IsOrder lists ts 0 c.in_ok-order.order.items) c.deref.ensures.value c.in_ok-order.ensures.order;
+      falling = c.in_ok-order.ensures.falling;
+      ready = subst (λ (count : ℕ). IsReady count c.in_ok-room.room) (ap length c.deref-2.ensures.value) c.in_ok-room.ensures;
+    }
+
+pub catch_up-requires-clause-within : goal.catch_up-requires-clause-within
+catch_up-requires-clause-within g c =
+    let lists : List (List Posting) = map g.C.DocCursor.list c.args.cursors.now in
+    let terms : List Term = c.in_ok-terms.terms.items in
+    let are : AreTerms lists terms = terms-are lists c.args.weights.now terms c.in_ok-terms.ensures.all c.in_ok-terms.ensures.light in
+    let standing : AreTerms lists (terms_at c.loop-room.order.items) = standing-are lists terms c.loop-room.from c.loop-room.order.items c.loop-room.invariant.order are in
+    let l = length-map c.loop-room.cursors g.C.DocCursor.list in
+    let same = ap length c.loop-room.invariant.lists in
+    λ k t inside. let h = standing.within k t inside in omega arith
+
+pub catch_up-requires-clause-passed : goal.catch_up-requires-clause-passed
+catch_up-requires-clause-passed g c = c.loop-room.invariant.passed
+
+pub catch_up-requires-clause-falling : goal.catch_up-requires-clause-falling
+catch_up-requires-clause-falling g c = c.loop-room.invariant.falling
+
+pub pivot-requires : goal.pivot-requires
+pivot-requires g c =
+    let lists : List (List Posting) = map g.C.DocCursor.list c.args.cursors.now in
+    let terms : List Term = c.in_ok-terms.terms.items in
+    let are : AreTerms lists terms = terms-are lists c.args.weights.now terms c.in_ok-terms.ensures.all c.in_ok-terms.ensures.light in
+    let standing : AreTerms lists (terms_at c.catch_up.new.order.items) = standing-are lists terms c.loop-room.from c.catch_up.new.order.items (caught-order (map g.C.DocCursor.list c.loop-room.cursors) (map g.C.DocCursor.list c.args.cursors.now) c.in_ok-terms.terms.items c.loop-room.from c.loop-room.order.items c.catch_up.new.order.items c.loop-room.invariant.lists c.in_ok-catch_up.ensures.order c.loop-room.invariant.order) are in
+    let light = standing.light in
+    let same = ap (λ (o : List Standing). bounds (terms_at o)) c.deref-in-loop-room.ensures.value in
+    record { light = omega arith }
+
+-- what is known at a pivot
+pivot-known : (g : given.Over) (c : In-Some g) → AtPivot c.args.n (map g.C.DocCursor.list c.args.cursors.now) c.args.weights.now c.args.k c.loop-room.from c.in-Some.first c.loop-room.top.held
+pivot-known g c =
+    let lists : List (List Posting) = map g.C.DocCursor.list c.args.cursors.now in
+    let weights : List ℕ = c.args.weights.now in
+    let terms : List Term = c.in_ok-terms.terms.items in
+    let are : AreTerms lists terms = terms-are lists weights terms c.in_ok-terms.ensures.all c.in_ok-terms.ensures.light in
+    let count = length-map c.args.cursors.now g.C.DocCursor.list in
+    let all : AreAllTerms lists weights terms = all-terms lists weights terms (omega (arith, c.requires.each, count)) c.in_ok-terms.ensures.all in
+    let order : List Standing = c.catch_up.new.order.items in
+    let caught : IsOrder lists terms c.loop-room.from order = caught-order (map g.C.DocCursor.list c.loop-room.cursors) lists terms c.loop-room.from c.loop-room.order.items order c.loop-room.invariant.lists c.in_ok-catch_up.ensures.order c.loop-room.invariant.order in
+    let full = subst (λ (k : ℕ). IfSome c.threshold.result (λ s. length c.loop-room.top.held ≡ k)) c.loop-room.invariant.k c.threshold.ensures.full in
+    let pivot : IsPivot order c.threshold.result (Some c.in-Some.first) = subst (λ (o : List Standing). IsPivot o c.threshold.result (Some c.in-Some.first)) c.deref-in-loop-room.ensures.value c.in-Some.ensures in
+    let grows = c.top_list_grows.ensures in
+    pivot-step grows.skipped grows.below grows.in_range c.args.n lists weights terms c.args.k c.loop-room.from c.in-Some.first order c.threshold.result c.loop-room.top.held c.requires.in_range all are caught c.in_ok-catch_up.ensures.falling c.in_ok-catch_up.ensures.caught_up full c.threshold.ensures.least pivot c.loop-room.invariant.held
+
+-- what is held where there is none
+top-of_none : (g : given.Over) (c : In_default g) → IsTop c.args.n (map g.C.DocCursor.list c.args.cursors.now) c.args.weights.now c.args.k c.loop-room.top.held
+top-of_none g c =
+    let lists : List (List Posting) = map g.C.DocCursor.list c.args.cursors.now in
+    let weights : List ℕ = c.args.weights.now in
+    let terms : List Term = c.in_ok-terms.terms.items in
+    let are : AreTerms lists terms = terms-are lists weights terms c.in_ok-terms.ensures.all c.in_ok-terms.ensures.light in
+    let count = length-map c.args.cursors.now g.C.DocCursor.list in
+    let all : AreAllTerms lists weights terms = all-terms lists weights terms (omega (arith, c.requires.each, count)) c.in_ok-terms.ensures.all in
+    let order : List Standing = c.catch_up.new.order.items in
+    let full = subst (λ (k : ℕ). IfSome c.threshold.result (λ s. length c.loop-room.top.held ≡ k)) c.loop-room.invariant.k c.threshold.ensures.full in
+    let pivot : IsPivot order c.threshold.result None = subst (λ (o : List Standing). IsPivot o c.threshold.result None) c.deref-in-loop-room.ensures.value c.in_default.ensures in
+    pivot-end c.top_list_grows.ensures.skipped c.args.n lists weights terms c.args.k c.loop-room.from order c.threshold.result c.loop-room.top.held all are (caught-order (map g.C.DocCursor.list c.loop-room.cursors) (map g.C.DocCursor.list c.args.cursors.now) c.in_ok-terms.terms.items c.loop-room.from c.loop-room.order.items c.catch_up.new.order.items c.loop-room.invariant.lists c.in_ok-catch_up.ensures.order c.loop-room.invariant.order) full c.threshold.ensures.least pivot c.loop-room.invariant.in_range c.loop-room.invariant.held
+
+pub returns-in_default-clause-first : goal.returns-in_default-clause-first
+returns-in_default-clause-first g c =
+    let lists : List (List Posting) = map g.C.DocCursor.list c.args.cursors.now in
+    let top = top-of_none g (goal.at.returns-in_default-clause-first g c).In_default in
+    IfOk-weaker c.into_list.result (λ r. r.items ≡ c.loop-room.top.held) (λ r. IsTop c.args.n lists c.args.weights.now c.args.k r.items) (λ r is. subst (IsTop c.args.n lists c.args.weights.now c.args.k) (sym is) top) c.into_list.ensures
+
+pub returns-in_default-clause-bound : goal.returns-in_default-clause-bound
+returns-in_default-clause-bound g c =
+    let lists : List (List Posting) = map g.C.DocCursor.list c.args.cursors.now in
+    let weights : List ℕ = c.args.weights.now in
+    let terms : List Term = c.in_ok-terms.terms.items in
+    let are : AreTerms lists terms = terms-are lists weights terms c.in_ok-terms.ensures.all c.in_ok-terms.ensures.light in
+    let count = length-map c.args.cursors.now g.C.DocCursor.list in
+    let all : AreAllTerms lists weights terms = all-terms lists weights terms (omega (arith, c.requires.each, count)) c.in_ok-terms.ensures.all in
+    let light = scores-light c.args.n lists weights terms c.args.k c.loop-room.top.held all are (top-of_none g (goal.at.returns-in_default-clause-bound g c).In_default) in
+    IfOk-weaker c.into_list.result (λ r. r.items ≡ c.loop-room.top.held) (λ r. All (λ e. e.1 < 2 ^ 58) r.items) (λ r is. subst (λ (h : List (ℕ × ℕ)). All (λ e. e.1 < 2 ^ 58) h) (sym is) light) c.into_list.ensures
+
+pub score_from-from-requires-clause-terms : goal.score_from-from-requires-clause-terms
+score_from-from-requires-clause-terms g c =
+    let lists : List (List Posting) = map g.C.DocCursor.list c.args.cursors.now in
+    let terms : List Term = c.in_ok-terms.terms.items in
+    let count = length-map c.args.cursors.now g.C.DocCursor.list in
+    let same = c.catch_up.ensures.lists ∙ c.loop-room.invariant.lists in
+    let query : AreQueryTerms lists terms = query-terms lists c.args.weights.now terms (omega (arith, c.requires.each, count)) c.requires.light c.in_ok-terms.ensures.all c.in_ok-terms.ensures.light in
+    subst (λ (ls : List (List Posting)). AreQueryTerms ls c.deref-in-loop-room-2.result.now) (sym same) (subst (AreQueryTerms lists) (sym c.deref-in-loop-room-2.ensures.value) query)
+
+pub score_from-from-requires-clause-passed : goal.score_from-from-requires-clause-passed
+score_from-from-requires-clause-passed g c =
+    let known = pivot-known g (goal.at.score_from-from-requires-clause-passed g c).In-Some in
+    later-passed g.C.DocCursor.list g.C.DocCursor.place c.catch_up.new.cursors c.loop-room.from c.in-Some.first known.later c.catch_up.ensures.passed
+
+pub score_from-from-requires-clause-below : goal.score_from-from-requires-clause-below
+score_from-from-requires-clause-below g c =
+    let same = c.catch_up.ensures.lists ∙ c.loop-room.invariant.lists in
+    subst (AreBelow c.args.n) (sym same) c.requires.in_range
+
+pub score_from-from-requires-clause-in_range : goal.score_from-from-requires-clause-in_range
+score_from-from-requires-clause-in_range g c = (pivot-known g (goal.at.score_from-from-requires-clause-in_range g c).In-Some).in_range
+
+pub score_from-from-requires-clause-ready : goal.score_from-from-requires-clause-ready
+score_from-from-requires-clause-ready g c = subst (λ (count : ℕ). IsReady count c.loop-room.room) (sym (ap length c.deref-in-loop-room-2.ensures.value)) c.loop-room.invariant.ready
+
+pub score_from-from-requires-clause-above : goal.score_from-from-requires-clause-above
+score_from-from-requires-clause-above g c = (pivot-known g (goal.at.score_from-from-requires-clause-above g c).In-Some).above
+
+pub loop-room-smaller : goal.loop-room-smaller
+loop-room-smaller g c =
+    let known = pivot-known g (goal.at.loop-room-smaller g c).In-Some in
+    omega (arith, known.later, c.score_from-from.ensures.later, c.score_from-from.ensures.in_range, c.ranges.n.fits)
+
+pub loop-room-preserved : goal.loop-room-preserved
+loop-room-preserved g c =
+    let lists : List (List Posting) = map g.C.DocCursor.list c.args.cursors.now in
+    let weights : List ℕ = c.args.weights.now in
+    let terms : List Term = c.in_ok-terms.terms.items in
+    let count = length-map c.args.cursors.now g.C.DocCursor.list in
+    let all : AreAllTerms lists weights terms = all-terms lists weights terms (omega (arith, c.requires.each, count)) c.in_ok-terms.ensures.all in
+    let so_far = c.loop-room.invariant in
+    let known = pivot-known g (goal.at.loop-room-preserved g c).In-Some in
+    let same = c.catch_up.ensures.lists ∙ so_far.lists in
+    let scored = c.score_from-from.ensures in
+    let first : ℕ = c.in-Some.first in
+    let to : ℕ = c.score_from-from.result in
+    let held : List (ℕ × ℕ) = c.loop-room.top.held in
+    let new : List (ℕ × ℕ) = c.score_from-from.new.top.held in
+    let after = known.later in
+    let later = scored.later in
+    let follows : FollowsTo lists terms c.args.k first to held new =
+    subst (λ (j : ℕ). FollowsTo lists terms j first to held new) so_far.k
+    (subst (λ (ls : List (List Posting)). FollowsTo ls terms c.loop-room.top.k first to held new) same
+    (subst (λ (ts : List Term). FollowsTo (map g.C.DocCursor.list c.catch_up.new.cursors) ts c.loop-room.top.k first to held new) c.deref-in-loop-room-2.ensures.value scored.held)) in
+    record {
+      lists = scored.lists ∙ same;
+      passed = scored.passed;
+      in_range = scored.in_range;
+      ready = subst (λ (count : ℕ). IsReady count c.score_from-from.new.room) (ap length c.deref-in-loop-room-2.ensures.value) scored.ready;
+      k = scored.k ∙ so_far.k;
+      n = scored.n ∙ so_far.n;
+      held = follows weights all known.top;
+      order = order-later lists terms c.loop-room.from to c.catch_up.new.order.items (omega arith) (caught-order (map g.C.DocCursor.list c.loop-room.cursors) lists terms c.loop-room.from c.loop-room.order.items c.catch_up.new.order.items so_far.lists c.in_ok-catch_up.ensures.order so_far.order);
+      falling = c.in_ok-catch_up.ensures.falling;
+    }
