@@ -1,8 +1,8 @@
 -- Lemmas on the least cost of the parts from a place on.
-use Rattle.std.proofs.Common.{◌≡◌, refl, sym, subst, ap, ℕ, zero, suc, ◌+◌, ◌-◌, ◌*◌, ◌^◌, ◌<◌, ◌≤◌, ◌⊎◌, inl, inr, Bool, true, false, not, IsTrue, List, [], ◌∷◌, length, get_or, min, arith}
-use Rattle.std.proofs.lemmas.Bool.{cases_lt, cases_eq}
+use Rattle.std.proofs.Common.{◌≡◌, refl, sym, subst, ℕ, zero, suc, ◌+◌, ◌-◌, ◌*◌, ◌^◌, ◌<◌, ◌≤◌, inl, inr, Bool, true, false, not, IsTrue, List, [], ◌∷◌, get_or, arith}
+use Rattle.std.proofs.lemmas.Bool.{cases_lt}
 use Rattle.std.proofs.lemmas.Nat.{mul-le}
-use Rattle.part_cost.specs.Partition.{IsPartitionFrom, IsPartition, WithinLimitFrom, IsAllowed, IsCheapest, IsCheapestOfAll, cost_from}
+use Rattle.part_cost.specs.Partition.{IsCheapest, IsCheapestOfAll, cost_from}
 use Rattle.part_cost.proofs.Partitions.{ends-within}
 use Rattle.partition_path.specs.Rests.{AreParts, IsCheapestRest}
 

@@ -5,3 +5,4 @@ mod Extending
 mod Rises
 mod Search
 mod LeastRests
+mod SinglePart

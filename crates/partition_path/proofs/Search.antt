@@ -152,7 +152,7 @@ module _ (limit : ℕ) (cost : ℕ → ℕ → ℕ) (bounds : List ℕ) (n i bef
   all-searched = subst (λ (x : ℕ). Searched limit cost bounds n x before after w t rival) end searched
 
   -- with at most three costs for each window and number
-  pub few-costs : after ≤ before + 3 * length bounds * (n + 1)
+  pub few-costs : after ≤ before + 3 * length bounds * n
   few-costs =
       let s = all-searched in
       let count = NoneFell-count (zeros bounds) w.positions s.forward in

@@ -4,6 +4,7 @@ ghost use Rattle.part_cost.specs.Partition.{IsNear, partition_cost};
 ghost use Rattle.cost_windows.specs.WindowBounds.{window_bounds};
 
 use crate::routes::Routes;
+use crate::whole::cost_as_one_part;
 use no_memory::NoMemory;
 use part_cost::SpanCost;
 use std::alloc::Global;
@@ -44,9 +45,10 @@ impl Cuts {
 
 /// A partition into parts that are allowed in the costs' format, at most 103/100 of the cheapest such, after the
 /// approximation of Ottaviano and Venturini (Partitioned Elias-Fano Indexes, SIGIR 2014): for each bound of the format a
-/// window slides over the sequence, and the parts that are tried are those to the windows' ends. For each number and one
-/// more it counts at most three times as many costs as there are window bounds, and it takes room for a few numbers at
-/// each place. An `Err` comes only where memory is refused.
+/// window slides over the sequence, and the parts that are tried are those to the windows' ends. A sequence that costs
+/// no more as one part than two parts without payload is not cut. For each number and one more it counts at most three
+/// times as many costs as there are window bounds, and it takes room for a few numbers at each place. An `Err` comes only
+/// where memory is refused.
 pub fn partition<C: SpanCost, L: Ledger>(
     alloc: Global,
     cost: &C,
@@ -57,6 +59,11 @@ pub fn partition<C: SpanCost, L: Ledger>(
     ensures counted { IfOk result (λ cuts. steps.old + length cuts.ends ≤ steps.new) }
     ensures bounded { steps.new ≤ steps.old + 3 * length (window_bounds (C.format_of cost.now)) * (C.count cost.now + 1) }
 {
+    if let Some(total) = cost_as_one_part(cost, steps) {
+        let mut ends = Vec::new(alloc);
+        ends.push(cost.len())?;
+        return Ok(Cuts { ends, total });
+    }
     let routes = Routes::found(alloc, cost, steps)?;
     let ends = routes.ends(alloc)?;
     let total = routes.total();

@@ -7,6 +7,7 @@ mod rival;
 mod routes;
 #[cfg(test)]
 mod tests;
+mod whole;
 
 pub use cuts::{Cuts, partition};
 pub use exact::exact_cost;

@@ -47,7 +47,7 @@ impl Routes {
         ensures reached { IfOk result (λ t. IsReached t (C.count cost.now)) }
         ensures near { IfOk result (λ t. (others : List ℕ) → IsAllowed (numbers_of (C.format_of cost.now)).limit (C.cost_of cost.now) (C.count cost.now) others
             → 100 * cost_to t (C.count cost.now) ≤ 103 * partition_cost (C.cost_of cost.now) others) }
-        ensures bounded { steps.new ≤ steps.old + 3 * length (window_bounds (C.format_of cost.now)) * (C.count cost.now + 1) }
+        ensures bounded { steps.new ≤ steps.old + 3 * length (window_bounds (C.format_of cost.now)) * C.count cost.now }
     {
         formats_have_room();
         bounds_follow_rule();

@@ -7,7 +7,7 @@ use Rattle.partition_path.proofs.cuts.partition.Goals as goal
 pub ends-requires-clause-linked : goal.ends-requires-clause-linked
 ends-requires-clause-linked g c =
     let said = c.in_ok-routes.ensures in
-    linked (numbers_of (g.C.SpanCost.format_of c.args.cost.now)).limit (g.C.SpanCost.cost_of c.args.cost.now) (g.C.SpanCost.count c.args.cost.now) c.args.steps.now c.found.new.steps c.in_ok-routes.routes said.routes said.reached
+    linked (numbers_of (g.C.SpanCost.format_of c.args.cost.now)).limit (g.C.SpanCost.cost_of c.args.cost.now) (g.C.SpanCost.count c.args.cost.now) c.cost_as_one_part.new.steps c.found.new.steps c.in_ok-routes.routes said.routes said.reached
 
 pub returns-clause-near : goal.returns-clause-near
 returns-clause-near g c =
@@ -16,7 +16,7 @@ returns-clause-near g c =
     let t = c.in_ok-routes.routes in
     let said = c.in_ok-routes.ensures in
     let chain = to-last t (length t) n c.in_ok-ends.ends.items said.routes.places c.in_ok-ends.ensures in
-    near (numbers_of (g.C.SpanCost.format_of c.args.cost.now)).limit cost n c.args.steps.now c.found.new.steps t said.routes said.reached c.in_ok-ends.ends.items chain said.near
+    near (numbers_of (g.C.SpanCost.format_of c.args.cost.now)).limit cost n c.cost_as_one_part.new.steps c.found.new.steps t said.routes said.reached c.in_ok-ends.ends.items chain said.near
 
 pub returns-clause-total : goal.returns-clause-total
 returns-clause-total g c =
@@ -26,7 +26,7 @@ returns-clause-total g c =
     let said = c.in_ok-routes.ensures in
     let chain = to-last t (length t) n c.in_ok-ends.ends.items said.routes.places c.in_ok-ends.ensures in
     let last : length t - 1 ≡ n = omega (arith, said.routes.places) in
-    c.total-total.ensures ∙ ap (λ (x : ℕ). cost_to t x) last ∙ total (numbers_of (g.C.SpanCost.format_of c.args.cost.now)).limit cost n c.args.steps.now c.found.new.steps t said.routes said.reached c.in_ok-ends.ends.items chain
+    c.total-total.ensures ∙ ap (λ (x : ℕ). cost_to t x) last ∙ total (numbers_of (g.C.SpanCost.format_of c.args.cost.now)).limit cost n c.cost_as_one_part.new.steps c.found.new.steps t said.routes said.reached c.in_ok-ends.ends.items chain
 
 pub returns-clause-counted : goal.returns-clause-counted
 returns-clause-counted g c =
@@ -35,4 +35,4 @@ returns-clause-counted g c =
     let t = c.in_ok-routes.routes in
     let said = c.in_ok-routes.ensures in
     let chain = to-last t (length t) n c.in_ok-ends.ends.items said.routes.places c.in_ok-ends.ensures in
-    counted (numbers_of (g.C.SpanCost.format_of c.args.cost.now)).limit cost n c.args.steps.now c.found.new.steps t said.routes said.reached c.in_ok-ends.ends.items chain
+    omega (arith, counted (numbers_of (g.C.SpanCost.format_of c.args.cost.now)).limit cost n c.cost_as_one_part.new.steps c.found.new.steps t said.routes said.reached c.in_ok-ends.ends.items chain, c.cost_as_one_part.ensures.counted)

@@ -1,7 +1,7 @@
-use Rattle.std.proofs.Common.{◌≡◌, ◌∙◌, sym, subst, ap, ℕ, ◌≤◌, ◌<◌, ◌+◌, ◌-◌, ◌*◌, ◌^◌, inl, inr, IsTrue, not, true, false, get_or, min, rules, arith}
+use Rattle.std.proofs.Common.{◌≡◌, ◌∙◌, sym, subst, ap, ℕ, ◌≤◌, ◌<◌, ◌+◌, ◌-◌, inl, inr, IsTrue, get_or, rules, arith}
 use Rattle.std.proofs.lemmas.Bool.{cases_lt}
 use Rattle.part_cost.specs.Formats.{numbers_of}
-use Rattle.partition_path.specs.Rests.{IsCheapestRest, LongPartsAreAbove}
+use Rattle.partition_path.specs.Rests.{LongPartsAreAbove}
 use Rattle.partition_path.proofs.LeastRests.{IsLeastTo, MayEnd, least-first, least-kept, least-taken, least-behind, cheapest-rest, room-for-rest}
 use Rattle.partition_path.proofs.exact.cheapest_from.Goals.{else-limited-via-then-limited+else-part-limit, else-limited-via-else-limited}
 use Rattle.partition_path.proofs.exact.cheapest_from.Goals as goal

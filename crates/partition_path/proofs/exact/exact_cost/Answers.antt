@@ -1,11 +1,10 @@
-use Rattle.std.proofs.Common.{◌≡◌, ◌∙◌, sym, subst, ap, ℕ, ◌≤◌, ◌<◌, ◌+◌, ◌-◌, ◌*◌, inl, inr, List, [], ◌∷◌, length, get_or, get_or-set_same, get_or-set_other, replicate, rules, arith}
+use Rattle.std.proofs.Common.{◌≡◌, ◌∙◌, sym, subst, ap, ℕ, ◌≤◌, ◌<◌, ◌+◌, ◌-◌, inl, inr, List, [], ◌∷◌, length, get_or, get_or-set_same, get_or-set_other, replicate, arith}
 use Rattle.std.specs.Prelude.{slice_set}
-use Rattle.std.proofs.lemmas.Bool.{cases_lt, cases_eq}
-use Rattle.std.proofs.lemmas.Nat.{mul-le}
+use Rattle.std.proofs.lemmas.Bool.{cases_eq}
 use Rattle.std.proofs.lemmas.List.{length-set, get_or-replicate}
 use Rattle.part_cost.specs.Formats.{numbers_of}
 use Rattle.partition_path.specs.Rests.{IsCheapestRest}
-use Rattle.partition_path.proofs.LeastRests.{AreKnown, rest-none, cheapest-allowed, cheapest-of-all}
+use Rattle.partition_path.proofs.LeastRests.{rest-none, cheapest-allowed, cheapest-of-all}
 use Rattle.partition_path.proofs.exact.exact_cost.Goals as goal
 
 -- the first number, whatever stands for none
