@@ -6,3 +6,4 @@ mod Rises
 mod Search
 mod LeastRests
 mod SinglePart
+mod RestWindow

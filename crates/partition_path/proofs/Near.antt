@@ -1,4 +1,4 @@
-use Rattle.std.proofs.Common.{◌≡◌, subst, ℕ, zero, suc, ◌+◌, ◌-◌, ◌*◌, ◌≤◌, ◌<◌, ◌⊎◌, inl, inr, List, [], ◌∷◌, arith}
+use Rattle.std.proofs.Common.{◌≡◌, subst, ap, ℕ, zero, suc, ◌+◌, ◌-◌, ◌*◌, ◌≤◌, ◌<◌, ◌⊎◌, inl, inr, List, [], ◌∷◌, arith}
 use Rattle.std.proofs.lemmas.Bool.{cases_lt}
 use Rattle.part_cost.specs.Partition.{IsPartitionFrom, WithinLimitFrom, cost_from}
 use Rattle.partition_path.specs.Tables.{Table, IsReached, cost_to}
@@ -13,7 +13,17 @@ IsSettled limit cost n t r =
 abbrev pub IsPassed : ℕ → Table → ℕ → Type 0
 IsPassed n t r = (q : ℕ) × (r < q) × (q ≤ n) × (cost_to t q ≤ cost_to t r)
 
-module _ (limit : ℕ) (cost : ℕ → ℕ → ℕ) (n : ℕ) (t : Table) (monotone : (h i j k : ℕ) → h ≤ i → i < j → j ≤ k → k ≤ n → cost i j ≤ cost h k) where
+-- The route to the last place costs no more than the one to place r with two parts more, or with one to the last place.
+pub record IsOutdone (limit charge : ℕ) (cost : ℕ → ℕ → ℕ) (n : ℕ) (t : Table) (r : ℕ) : Type 0 where
+  pub reached : IsReached t n
+  pub two : cost_to t n ≤ cost_to t r + 2 * charge
+  pub one : cost r n ≤ limit → cost_to t n ≤ cost_to t r + cost r n
+
+-- no part from place r has to be tried any more
+abbrev pub IsDone : ℕ → ℕ → (ℕ → ℕ → ℕ) → ℕ → Table → ℕ → Type 0
+IsDone limit charge cost n t r = IsSettled limit cost n t r ⊎ (IsPassed n t r ⊎ IsOutdone limit charge cost n t r)
+
+module _ (limit charge : ℕ) (cost : ℕ → ℕ → ℕ) (n : ℕ) (t : Table) (monotone : (h i j k : ℕ) → h ≤ i → i < j → j ≤ k → k ≤ n → cost i j ≤ cost h k) (least : (i j : ℕ) → i < j → j ≤ n → charge ≤ cost i j) where
   -- a place that a later place passes over is settled where that one is
   passed-settled : (r q : ℕ) → IsReached t r → r < q → q ≤ n → cost_to t q ≤ cost_to t r → (q < n → IsSettled limit cost n t q) → IsSettled limit cost n t r
   passed-settled r q reached after within cheap settled e l w a =
@@ -25,14 +35,47 @@ module _ (limit : ℕ) (cost : ℕ → ℕ → ℕ) (n : ℕ) (t : Table) (monot
         | inr at ↦ (q, at, within, omega (arith, cheap, reached), omega (arith, cheap))
       ]
 
-  module _ (done : (r : ℕ) → r < n → IsReached t r → IsSettled limit cost n t r ⊎ IsPassed n t r) where
-    -- so each place that is reached is settled
-    all-settled : (fuel r : ℕ) → n ≤ r + fuel → r < n → IsReached t r → IsSettled limit cost n t r
+  -- and outdone where that one is
+  passed-outdone : (r q : ℕ) → r < q → q < n → cost_to t q ≤ cost_to t r → IsOutdone limit charge cost n t q → IsOutdone limit charge cost n t r
+  passed-outdone r q after before cheap o =
+      let less = monotone r q n n (omega arith) before (omega arith) (omega arith) in
+      record {
+        reached = o.reached;
+        two = omega (arith, o.two, cheap);
+        one = λ a. let rest = o.one (omega (arith, less, a)) in omega (arith, rest, less, cheap);
+      }
+
+  -- From a place that is outdone no allowed rest is cheaper.
+  outdone-near : (p r e : ℕ) (others : List ℕ) → p ≤ r → r < e → IsOutdone limit charge cost n t r → IsPartitionFrom p n (e ∷ others) → WithinLimitFrom limit cost p (e ∷ others) → 100 * cost_to t n ≤ 100 * cost_to t r + 103 * cost_from cost p (e ∷ others)
+  outdone-near p r e [] l behind o part within =
+      let last : e ≡ n = part.1 in
+      let priced : cost p e ≡ cost p n = ap (λ (x : ℕ). cost p x) last in
+      let less = monotone p r n n l (omega (arith, behind, last)) (omega arith) (omega arith) in
+      let rest = o.one (omega (arith, less, priced, within.0)) in
+      omega (arith, rest, less, priced)
+  outdone-near p r e (f ∷ others) l behind o part within =
+      let inside = ends-within f n others part.1.1 in
+      let first = least p e part.0 (omega (arith, part.1.0, inside)) in
+      let second = least e f part.1.0 inside in
+      omega (arith, o.two, first, second)
+
+  module _ (done : (r : ℕ) → r < n → IsReached t r → IsDone limit charge cost n t r) where
+    -- so each place that is reached is settled or outdone
+    all-settled : (fuel r : ℕ) → n ≤ r + fuel → r < n → IsReached t r → IsSettled limit cost n t r ⊎ IsOutdone limit charge cost n t r
     all-settled zero r f l reached = absurd (omega (arith, f))
     all-settled (suc fuel) r f l reached =
         elim (done r l reached) [
-          | inl s ↦ s
-          | inr p ↦ passed-settled r p.0 reached p.1 p.2 p.3 (λ m. all-settled fuel p.0 (omega (arith, p.1, f)) m (omega (arith, p.3, reached)))
+          | inl s ↦ inl s
+          | inr other ↦ elim other [
+            | inl p ↦ elim (cases_lt p.0 n) [
+              | inl before ↦ elim (all-settled fuel p.0 (omega (arith, p.1, f)) before (omega (arith, p.3, reached))) [
+                | inl s ↦ inl (passed-settled r p.0 reached p.1 p.2 p.3 (λ m. s))
+                | inr o ↦ inr (passed-outdone r p.0 p.1 before p.3 o)
+              ]
+              | inr last ↦ inl (passed-settled r p.0 reached p.1 p.2 p.3 (λ m. absurd (omega (arith, m, last))))
+            ]
+            | inr o ↦ inr o
+          ]
         ]
 
     -- The cheapest route to the end costs at most 103/100 of each allowed rest more than any route to a place behind its start.
@@ -45,9 +88,13 @@ module _ (limit : ℕ) (cost : ℕ → ℕ → ℕ) (n : ℕ) (t : Table) (monot
           | inl behind ↦
               let ends_in = ends-within e n others part.1 in
               let less = monotone p r e e l behind (omega arith) ends_in in
-              let s = all-settled (n - r) r (omega arith) (omega (arith, ends_in)) reached e behind ends_in (omega (arith, less, within.0)) in
-              let rest = near-rest e s.0 others s.1 s.2 s.3 part.1 within.1 in
-              (rest.0, omega (arith, rest.1, s.4, less))
+              elim (all-settled (n - r) r (omega arith) (omega (arith, ends_in)) reached) [
+                | inl settled ↦
+                    let s = settled e behind ends_in (omega (arith, less, within.0)) in
+                    let rest = near-rest e s.0 others s.1 s.2 s.3 part.1 within.1 in
+                    (rest.0, omega (arith, rest.1, s.4, less))
+                | inr o ↦ (o.reached, outdone-near p r e others l behind o part within)
+              ]
           | inr at ↦
               let rest = near-rest e r others at w reached part.1 within.1 in
               (rest.0, omega (arith, rest.1))
@@ -58,8 +105,11 @@ module _ (limit : ℕ) (cost : ℕ → ℕ → ℕ) (n : ℕ) (t : Table) (monot
     end-reached one zero r f l reached = let at : r ≡ n = omega (arith, f) in subst (λ (x : ℕ). IsReached t x) at reached
     end-reached one (suc fuel) r f l reached =
         elim (cases_lt r n) [
-          | inl before ↦
-              let s = all-settled (n - r) r (omega arith) before reached (r + 1) (omega arith) (omega arith) (one r before) in
-              end-reached one fuel s.0 (omega (arith, s.1, f)) s.2 s.3
+          | inl before ↦ elim (all-settled (n - r) r (omega arith) before reached) [
+            | inl settled ↦
+                let s = settled (r + 1) (omega arith) (omega (arith, before)) (one r before) in
+                end-reached one fuel s.0 (omega (arith, s.1, f)) s.2 s.3
+            | inr o ↦ o.reached
+          ]
           | inr at ↦ let same : r ≡ n = omega arith in subst (λ (x : ℕ). IsReached t x) same reached
         ]

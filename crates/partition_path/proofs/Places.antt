@@ -6,7 +6,7 @@ use Rattle.part_cost.specs.Bounds.{Cover}
 use Rattle.cost_windows.specs.WindowEnds.{IsLongestEnd, StandsAt, AllStand}
 use Rattle.cost_windows.specs.Windows.{Windows, KeepCosts, AllAtLongest}
 use Rattle.partition_path.specs.Tables.{Table, cost_to, start_to, IsReached, HasLastPart, AreRoutes, IsSameAt, IsByWindow, AreExtended, unreached}
-use Rattle.partition_path.proofs.Near.{IsSettled, IsPassed}
+use Rattle.partition_path.proofs.Near.{IsSettled, IsDone}
 use Rattle.partition_path.proofs.Extending.{same-cost, same-start, its-cost, its-start}
 
 -- a window stands where its bound says, by its place in the list
@@ -25,7 +25,7 @@ find-test : (c b : ℕ) (t : Bool) (bs : List ℕ) (P : ℕ → Type 0) → nat_
 find-test c b true bs P e h = inl (leb-true _ _ e, rw e at h)
 find-test c b false bs P e h = inr (rw e at h)
 
-find-place : (c : ℕ) (bs : List ℕ) (P : ℕ → Type 0) → IsSomeAnd (find (λ x. nat_le c x) bs) P → (m : ℕ) × (m < length bs) × (c ≤ get_or bs m 0) × P (get_or bs m 0)
+pub find-place : (c : ℕ) (bs : List ℕ) (P : ℕ → Type 0) → IsSomeAnd (find (λ x. nat_le c x) bs) P → (m : ℕ) × (m < length bs) × (c ≤ get_or bs m 0) × P (get_or bs m 0)
 find-place c [] P h = elim h [ ]
 find-place c (b ∷ bs) P h =
     elim (find-test c b (nat_le c b) bs P refl h) [
@@ -34,7 +34,7 @@ find-place c (b ∷ bs) P h =
     ]
 
 -- places up to where the windows are stay as they are
-same-before : (w : Windows) (k : ℕ) (old new : Table) → AreExtended w k old new → (j : ℕ) → j ≤ w.place → IsSameAt old new j
+pub same-before : (w : Windows) (k : ℕ) (old new : Table) → AreExtended w k old new → (j : ℕ) → j ≤ w.place → IsSameAt old new j
 same-before w k old new x j l =
     elim (x.each j) [
       | inl s ↦ s
@@ -172,18 +172,26 @@ module _ (limit : ℕ) (cost : ℕ → ℕ → ℕ) (n i before middle after : �
       ]
 
   -- places that were done stay done
-  pub done-more : ((r : ℕ) → r < i → IsReached old r → IsSettled limit cost n old r ⊎ IsPassed n old r) → IsSettled limit cost n new i → (r : ℕ) → r < i + 1 → IsReached new r → IsSettled limit cost n new r ⊎ IsPassed n new r
-  done-more done settled r l reached =
+  pub done-more : (charge : ℕ) → ((r : ℕ) → r < i → IsReached old r → IsDone limit charge cost n old r) → IsDone limit charge cost n new i → (r : ℕ) → r < i + 1 → IsReached new r → IsDone limit charge cost n new r
+  done-more charge done here_done r l reached =
       let le : r ≤ i = omega arith in
       elim (eq-or-lt_of_le le) [
-        | inl e ↦ inl (subst (λ (y : ℕ). IsSettled limit cost n new y) (sym e) settled)
+        | inl e ↦ subst (λ (y : ℕ). IsDone limit charge cost n new y) (sym e) here_done
         | inr earlier ↦
             let at = same-before w (length w.bounds) old new x r (omega (arith, here)) in
+            let last = x.cheaper n in
             elim (done r earlier (omega (arith, same-cost at, reached))) [
               | inl s ↦ inl (λ e a m c.
                   let t = s e a m c in
                   let cheaper = x.cheaper t.0 in
                   (t.0, t.1, t.2, omega (arith, t.3, cheaper), omega (arith, t.4, cheaper, same-cost at)))
-              | inr p ↦ let cheaper = x.cheaper p.0 in inr (p.0, p.1, p.2, omega (arith, p.3, cheaper, same-cost at))
+              | inr other ↦ elim other [
+                | inl p ↦ let cheaper = x.cheaper p.0 in inr (inl (p.0, p.1, p.2, omega (arith, p.3, cheaper, same-cost at)))
+                | inr o ↦ inr (inr (record {
+                  reached = omega (arith, o.reached, last);
+                  two = omega (arith, o.two, last, same-cost at);
+                  one = λ a. let rest = o.one a in omega (arith, rest, last, same-cost at);
+                }))
+              ]
             ]
       ]

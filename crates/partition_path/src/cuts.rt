@@ -46,9 +46,10 @@ impl Cuts {
 /// A partition into parts that are allowed in the costs' format, at most 103/100 of the cheapest such, after the
 /// approximation of Ottaviano and Venturini (Partitioned Elias-Fano Indexes, SIGIR 2014): for each bound of the format a
 /// window slides over the sequence, and the parts that are tried are those to the windows' ends. A sequence that costs
-/// no more as one part than two parts without payload is not cut. For each number and one more it counts at most three
-/// times as many costs as there are window bounds, and it takes room for a few numbers at each place. An `Err` comes only
-/// where memory is refused.
+/// no more as one part than two parts without payload is not cut, and from a place where two more such parts would not be
+/// cheaper than a known route to the end, only the part to the end is tried. For each number and one more it counts at
+/// most three times as many costs as there are window bounds, and it takes room for a few numbers at each place. An `Err`
+/// comes only where memory is refused.
 pub fn partition<C: SpanCost, L: Ledger>(
     alloc: Global,
     cost: &C,

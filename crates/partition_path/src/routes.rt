@@ -1,4 +1,4 @@
-ghost use Rattle.std.specs.Prelude.{◌≡◌, ℕ, ◌≤◌, ◌<◌, ◌+◌, ◌-◌, ◌*◌, ◌^◌, length, IfSome, IfNone, IfOk, List};
+ghost use Rattle.std.specs.Prelude.{◌≡◌, ℕ, nat_le, ◌≤◌, ◌<◌, ◌+◌, ◌-◌, ◌*◌, ◌^◌, length, IfSome, IfNone, IfOk, List};
 ghost use Rattle.std.specs.List.{All};
 ghost use Rattle.part_cost.specs.Formats.{numbers_of};
 ghost use Rattle.part_cost.specs.Partition.{IsAllowed, partition_cost};
@@ -53,14 +53,19 @@ impl Routes {
         bounds_follow_rule();
         bounds_cover();
         let count = cost.len();
+        let charge = cost.format().charge();
         let mut routes = Routes::new(alloc, count as usize)?;
         let mut windows = Windows::new(alloc, cost.format())?;
         // The start has no place before it to be passed over.
         let mut rival = Rival { place: 0, cost: 0 };
         for i in 0..count {
             if let Some(here) = routes.open(i, rival) {
-                windows.advance(i, cost, steps);
-                rival = routes.extend(i, here, &windows, rival);
+                if routes.is_outdone(here, charge) {
+                    routes.offer_rest(i, here, cost, steps);
+                } else {
+                    windows.advance(i, cost, steps);
+                    rival = routes.extend(i, here, &windows, rival);
+                }
             }
         }
         Ok(routes)
@@ -88,6 +93,42 @@ impl Routes {
             None
         } else {
             Some(route.cost)
+        }
+    }
+
+    /// Whether the route to the last place costs no more than one to a place, at this cost, with two parts more: each costs at
+    /// least the charge.
+    fn is_outdone(&self, here: u64, charge: u64) -> bool
+        requires some { 0 < length self.now }
+        requires room { here + 2 * charge < unreached }
+        ensures { result ≡ nat_le (cost_to self.now (length self.now - 1)) (here + 2 * charge) }
+    {
+        match self.known[self.known.len() - 1] {
+            Some(last) => last.cost <= here + 2 * charge,
+            None => false,
+        }
+    }
+
+    /// Tries the part from place i, whose route costs so much, to the last place, where it is allowed.
+    fn offer_rest<C: SpanCost, L: Ledger>(
+        &mut self,
+        i: u64,
+        here: u64,
+        cost: &C,
+        steps: &mut Steps<L>,
+    )
+        requires within { i < C.count cost.now }
+        requires places { length self.old ≡ C.count cost.now + 1 }
+        requires room { here + (numbers_of (C.format_of cost.now)).limit < unreached }
+        ensures offered { C.cost_of cost.now i (C.count cost.now) ≤ (numbers_of (C.format_of cost.now)).limit
+            → IsOffered i (C.count cost.now) (here + C.cost_of cost.now i (C.count cost.now)) self.old self.new }
+        ensures same { (numbers_of (C.format_of cost.now)).limit < C.cost_of cost.now i (C.count cost.now) → self.new ≡ self.old }
+        ensures step { steps.new ≡ steps.old + 1 }
+    {
+        let last = cost.len();
+        let rest = cost.cost(i, last, steps);
+        if rest <= cost.format().limit() {
+            let _cost = self.offer(i, last, here + rest);
         }
     }
 
