@@ -11,8 +11,9 @@ use Rattle.pef_io.specs.declared.load.LoadError.{LoadError}
 use Rattle.pef_io.specs.declared.load.LoadError.TheVariants.{Read, TooLarge, NoMemory}
 use Rattle.pef_io.specs.Calls.{Rose}
 use Rattle.pef_io.specs.DepotState.{DepotState, SameStarts, OnlyReads, ReadsSlot, SameButCounts}
-use Rattle.pef_io.specs.Loads.{Loads, TakesBytes, load_error}
+use Rattle.pef_io.specs.Loads.{FillsPiece, Loads, TakesBytes, load_error}
 use Rattle.pef_io.proofs.Fronts.{no_more_at_ok}
+use Rattle.pef_io.proofs.OnlyReads.{OnlyReads-same}
 use Rattle.pef_io.proofs.Ops.{same_or_other}
 
 -- what stands in front after a piece was read into a part of a list
@@ -27,6 +28,15 @@ read_into held k n count bytes lent piece tail same within some fits =
     ∙ take-append-add front ((piece ++ rest) ++ tail) count
     ∙ ap (λ xs. front ++ xs) (ap (λ xs. take count xs) (append_assoc piece rest tail) ∙ take-append-le count piece (rest ++ tail) some)
     ∙ ap (λ xs. take held xs ++ take count piece) same
+
+-- the same of a whole list
+pub put_front : (held k count : ℕ) (bytes piece : List ℕ) → held ≤ length bytes → count ≤ length piece → take (held + count) (put_mid held k bytes piece) ≡ take held bytes ++ take count piece
+put_front held k count bytes piece within some =
+    let front = take held bytes in
+    let rest = post_of held k bytes in
+    ap (λ m. take (m + count) (front ++ (piece ++ rest))) (sym (length-take-le held bytes within))
+    ∙ take-append-add front (piece ++ rest) count
+    ∙ ap (λ xs. front ++ xs) (take-append-le count piece rest some)
 
 -- the same where no byte came
 pub front_kept : (held k n : ℕ) (bytes lent piece tail : List ℕ) → lent ≡ bytes → held ≤ length bytes → held ≤ n → take held (take n (put_mid held k lent piece ++ tail)) ≡ take held bytes
@@ -156,6 +166,84 @@ refused old mid new slot limit bytes before after result fail h r e few = record
     failed_is_not is = cc
 
     refusals : (f : IoFail) → result ≡ Err f → IsErrOf result call.NoMemory ⊎ (new.refusals ≡ mid.refusals) → IsErrOf {T = List ℕ} (Err (load_error f)) NoMemory ⊎ (new.refusals ≡ old.refusals)
+    refusals call.Failed was (inl is) = absurd (failed_is_not (subst (λ r. IsErrOf r call.NoMemory) was is))
+    refusals call.Failed was (inr same) = inr (same ∙ h.refusals)
+    refusals call.NoMemory was answer = inl refl
+
+-- ---- a piece that is filled
+-- nothing was read
+pub read_nothing : (a : DepotState) (slot : Slot) → HasRead a a slot []
+read_nothing a slot = record { front = λ t. refl; count = refl; starts = λ s. refl; refusals = refl; reads = OnlyReads-same a }
+
+-- the piece is full
+pub filled : (old new : DepotState) (slot : Slot) (piece : List ℕ) (held : ℕ) → HasRead old new slot (take held piece) → held ≡ length piece → FillsPiece old new slot piece (Ok held)
+filled old new slot piece held h full = record {
+  within = omega arith;
+  next_bytes = h.front;
+  at_end = λ t less. absurd (omega arith);
+  failed_only_where_it_rose = λ was. absurd (no-fault was);
+  count_rises_only_there = inr h.count;
+  reads = h.reads;
+  starts = h.starts;
+  refusals_rise_only_there = inr h.refusals;
+}
+  where
+    no-fault : IsErrOf {T = ℕ} (Ok held) call.Failed → ⊥
+    no-fault was = cc
+
+-- the slot is at its end
+pub filled-to_end : (old mid new : DepotState) (slot : Slot) (piece now before after : List ℕ) (held : ℕ) (result : Result ℕ IoFail) → HasRead old mid slot (take held piece) → ReadsSlot mid new slot before after result → result ≡ Ok 0 → 0 < length before
+    → held ≤ length now → take held now ≡ take held piece → FillsPiece old new slot now (Ok held)
+filled-to_end old mid new slot piece now before after held result h r e room within same = record {
+  within = within;
+  next_bytes = λ t. h.front t ∙ ap (λ xs. take held piece ++ xs) (stays t) ∙ ap (λ xs. xs ++ new.left slot) (sym same);
+  at_end = λ t less. sym (stays t) ∙ none t;
+  failed_only_where_it_rose = λ was. absurd (no-fault was);
+  count_rises_only_there = inr (r.counts.this.same_at_ok (ap is_ok e) ∙ h.count);
+  reads = OnlyReads-then h.reads refl r;
+  starts = λ s. r.starts s ∙ h.starts s;
+  refusals_rise_only_there = inr (no_more_at_ok result 0 e r.counts.refusals.rises_only_there ∙ h.refusals);
+}
+  where
+    none : IsTrue old.tells → mid.left slot ≡ []
+    none t = (IfOk-at_ok (λ k. (k ≡ 0) ↔ (mid.left slot ≡ [])) e (r.at_end (h.reads.tells ∙ t) room)).0 refl
+
+    stays : IsTrue old.tells → mid.left slot ≡ new.left slot
+    stays t = IfOk-at_ok (λ k. mid.left slot ≡ take k after ++ new.left slot) e (r.next_bytes (h.reads.tells ∙ t))
+
+    no-fault : IsErrOf {T = ℕ} (Ok held) call.Failed → ⊥
+    no-fault was = cc
+
+-- a read was refused
+pub unfilled : (old mid new : DepotState) (slot : Slot) (bytes now before after : List ℕ) (result : Result ℕ IoFail) (fail : IoFail) → HasRead old mid slot bytes → ReadsSlot mid new slot before after result → result ≡ Err fail → FillsPiece old new slot now (Err fail)
+unfilled old mid new slot bytes now before after result fail h r e = record {
+  within = tt;
+  next_bytes = λ t. tt;
+  at_end = λ t. tt;
+  failed_only_where_it_rose = rose fail e;
+  count_rises_only_there = count fail e;
+  reads = OnlyReads-then h.reads refl r;
+  starts = λ s. r.starts s ∙ h.starts s;
+  refusals_rise_only_there = refusals fail e r.counts.refusals.rises_only_there;
+}
+  where
+    not_failed : IsErrOf {T = ℕ} (Err call.NoMemory) call.Failed → ⊥
+    not_failed is = cc
+
+    rose : (f : IoFail) → result ≡ Err f → IsErrOf {T = ℕ} (Err f) call.Failed → Rose (old.faults slot) (new.faults slot)
+    rose call.Failed was is =
+        let P : ℕ → Type 0 = λ n. Rose n (new.faults slot) in
+        subst P h.count (r.counts.this.failed_only_where_it_rose was)
+    rose call.NoMemory was is = absurd (not_failed is)
+
+    count : (f : IoFail) → result ≡ Err f → IsErrOf {T = ℕ} (Err f) call.Failed ⊎ (new.faults slot ≡ old.faults slot)
+    count call.Failed was = inl refl
+    count call.NoMemory was = inr (r.counts.this.same_at_no_memory was ∙ h.count)
+
+    failed_is_not : IsErrOf {T = ℕ} (Err call.Failed) call.NoMemory → ⊥
+    failed_is_not is = cc
+
+    refusals : (f : IoFail) → result ≡ Err f → IsErrOf result call.NoMemory ⊎ (new.refusals ≡ mid.refusals) → IsErrOf {T = ℕ} (Err f) call.NoMemory ⊎ (new.refusals ≡ old.refusals)
     refusals call.Failed was (inl is) = absurd (failed_is_not (subst (λ r. IsErrOf r call.NoMemory) was is))
     refusals call.Failed was (inr same) = inr (same ∙ h.refusals)
     refusals call.NoMemory was answer = inl refl

@@ -27,7 +27,7 @@ pub use fail::{IoFail, Slot};
 pub use failing::{MemSink, MemSource};
 pub use failing_depot::MemDepot;
 pub use helpers::{depot_write_all, write_all_own};
-pub use load::{LoadError, load_bytes};
+pub use load::{LoadError, fill_piece, load_bytes};
 pub use standard::{StdDepot, StdSink, StdSource};
 pub use steady::{SteadySink, SteadySource};
 pub use steady_depot::SteadyDepot;

@@ -1,5 +1,5 @@
-ghost use Rattle.std.specs.Prelude.{◌≡◌, ◌*◌, ◌≤◌, ◌<◌, max, IsTrue, OnOk, take, vec_len};
-ghost use Rattle.pef_io.specs.Loads.{Loads, loaded};
+ghost use Rattle.std.specs.Prelude.{◌≡◌, ◌*◌, ◌≤◌, ◌<◌, length, max, IsTrue, OnOk, take, vec_len};
+ghost use Rattle.pef_io.specs.Loads.{FillsPiece, Loads, loaded};
 
 use crate::fail::{IoFail, Slot};
 use crate::traits::Depot;
@@ -81,4 +81,22 @@ fn make_room(bytes: &mut Vec<u8>, held: usize) -> Result<(), AllocError>
         return Ok(());
     }
     bytes.resize((2 * held).max(FIRST_ROOM), 0)
+}
+
+/// Fills a piece with the next bytes of a started slot, as far as there are any, and tells how many came: fewer than there is room
+/// for only at the end. A read that fails, or is refused memory, ends it.
+pub fn fill_piece<D: Depot>(depot: &mut D, slot: Slot, piece: &mut [u8]) -> Result<usize, IoFail>
+    requires { IsTrue ((D.state depot.old).started slot) }
+    ensures filled { FillsPiece (D.state depot.old) (D.state depot.new) slot piece.new result }
+    ensures room { length piece.new ≡ length piece.old }
+{
+    let mut held = 0;
+    while held < piece.len() {
+        let count = depot.read(slot, &mut piece[held..])?;
+        if count == 0 {
+            return Ok(held);
+        }
+        held += count;
+    }
+    Ok(held)
 }

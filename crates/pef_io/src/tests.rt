@@ -1,7 +1,7 @@
 use crate::{
     Depot, IoFail, LoadError, MemDepot, MemSink, MemSource, Op, Sink, Slot, Source, StdDepot,
-    StdSink, StdSource, SteadyDepot, SteadySink, SteadySource, depot_write_all, load_bytes,
-    write_all_own,
+    StdSink, StdSource, SteadyDepot, SteadySink, SteadySource, depot_write_all, fill_piece,
+    load_bytes, write_all_own,
 };
 use std::alloc::{AllocError, Global};
 use std::{fs, io};
@@ -218,6 +218,28 @@ fn a_load_reads_its_slot_alone(rt: HostRuntime) {
         );
         assert_eq!(rt; buf, read, "{failing} {limit}");
     }
+}
+
+/// Starts the file `a` and fills two pieces.
+fn fill_two<D: Depot>(
+    depot: &mut D,
+    one: &mut [u8; 4],
+    two: &mut [u8; 4],
+) -> Result<(usize, usize), IoFail> {
+    depot.start(Slot::Index, "a")?;
+    let first = fill_piece(depot, Slot::Index, one)?;
+    let second = fill_piece(depot, Slot::Index, two)?;
+    Ok((first, second))
+}
+
+#[test]
+fn a_piece_is_filled_by_several_reads(rt: HostRuntime) {
+    let alloc = rt.alloc();
+    let held = files(alloc, &[("a", "abcde")]).expect(&rt, "");
+    let mut depot = SteadyDepot::new(alloc, held, 3).expect(&rt, "");
+    let (mut one, mut two) = ([0; 4], [0; 4]);
+    assert_eq!(rt; fill_two(&mut depot, &mut one, &mut two), Ok((4, 1)));
+    assert_eq!(rt; (one, two), (*b"abcd", *b"e\0\0\0"));
 }
 
 /// A writer that takes at most two bytes of a piece, and counts how often it is flushed.
