@@ -20,3 +20,4 @@ mod CollectionRead
 mod InTurn
 mod Rows
 mod WholeFaults
+pub mod HeldNumbers

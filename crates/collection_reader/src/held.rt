@@ -3,6 +3,7 @@ ghost use Rattle.collection_model.specs.Bytes.{le32};
 ghost use Rattle.collection_reader.specs.OneFile.{LooksAhead, TakesByte, TakesNumber};
 
 use crate::fault::{CollError, Rule};
+use crate::four_bytes::number_at;
 use crate::position::Position;
 use pef_io::{Depot, Slot};
 use std::alloc::{AllocError, Global};
@@ -88,7 +89,7 @@ impl Held {
         for byte in &mut bytes {
             *byte = self.byte(at, depot)?;
         }
-        Ok(u32::from_le_bytes(bytes))
+        Ok(number_at(&bytes, 0))
     }
 
     /// The number that the next four bytes held are.
@@ -97,13 +98,7 @@ impl Held {
         ensures { self.old ≡ le32 result ++ self.new }
     {
         let at = self.used;
-        let bytes = [
-            self.piece[at],
-            self.piece[at + 1],
-            self.piece[at + 2],
-            self.piece[at + 3],
-        ];
         self.used += 4;
-        u32::from_le_bytes(bytes)
+        number_at(&self.piece, at)
     }
 }

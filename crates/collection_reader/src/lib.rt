@@ -3,6 +3,7 @@
 
 mod collection;
 mod fault;
+mod four_bytes;
 mod held;
 mod laws;
 mod phase;
@@ -16,6 +17,7 @@ mod whole;
 
 pub use collection::Collection;
 pub use fault::{CollError, Fault, Rule};
+pub use four_bytes::number_at;
 pub use laws::{
     files_have_one_first_fault, lists_are_read_in_turn, no_fault_means_spelled,
     no_head_fault_means_front, second_format_never_has_too_many_documents,

@@ -1,6 +1,6 @@
 ghost use Rattle.collection_reader.specs.Starting.{AreStarted};
 
-use crate::{CollError, Fault, ListReader, Rule, read_collection};
+use crate::{CollError, Fault, ListReader, Rule, number_at, read_collection};
 use part_cost::Format;
 use pef_io::{Depot, MemDepot, Op, Slot, SteadyDepot};
 use std::alloc::{AllocError, Global};
@@ -98,6 +98,7 @@ fn are_read_as(
 #[test]
 fn small_collections_are_read(rt: HostRuntime) -> Result<(), Fail> {
     let alloc = rt.alloc();
+    assert_eq!(rt; number_at(&[9, 2, 1, 0, 0], 1), 258);
     let empty = in_files(&[1, 0], &[], &[0]);
     let three_lists = in_files(&[1, 2, 1, 0, 0, 1, 1], &[1, 1, 0, 1, 3], &[2, 1, 1]);
     for format in [Format::One, Format::Two] {

@@ -1,5 +1,6 @@
 -- Lemmas on words and their bytes.
 use Rattle.std.proofs.Common.{◌≡◌, refl, sym, ap, ◌∙◌, ℕ, zero, suc, ◌+◌, ◌*◌, ◌/◌, ◌%◌, ◌^◌, ◌<◌, ◌≤◌, List, [], ◌∷◌, ◌++◌, length, get_or, take, drop, arith, append-nil}
+use Rattle.byteorder.specs.Endian.{little_number}
 use Rattle.std.specs.List.{All}
 use Rattle.std.specs.Int.{from_le_bytes, w64}
 use Rattle.std.specs.Simd.{first_chunks}
@@ -55,6 +56,10 @@ byte-below : (bytes : List ℕ) (i : ℕ) → AreBytes bytes → get_or bytes i 
 byte-below [] i are = omega arith
 byte-below (b ∷ bytes) zero are = All-head (λ x. x < 256) b bytes are
 byte-below (b ∷ bytes) (suc i) are = byte-below bytes i (All-tail (λ x. x < 256) b bytes are)
+
+-- the number that eight bytes are read as
+pub little-is : (piece : List ℕ) → little_number 8 piece ≡ from_le_bytes w64 piece
+little-is piece = omega arith
 
 -- eight bytes are those of the number that they are read as
 pub word-at : (bytes : List ℕ) (word i : ℕ) → i < length bytes / 8 → ((k : ℕ) → get_or bytes k 0 < 256) → word ≡ from_le_bytes w64 (take 8 (drop (i * 8) bytes)) → le64 word ≡ take 8 (drop (i * 8) bytes)

@@ -1,6 +1,7 @@
 ghost use Rattle.std.specs.Prelude.{◌≡◌, ◌≢◌, ◌↔◌, ℕ, ◌*◌, ◌%◌, length, IfOk};
 ghost use Rattle.collection_model.specs.Bytes.{word_bytes};
 
+use byteorder::{ByteOrder, LittleEndian};
 use no_memory::NoMemory;
 use std::alloc::Global;
 
@@ -19,7 +20,9 @@ pub fn spell_words(alloc: Global, words: &[u64]) -> Result<Vec<u8>, NoMemory>
 {
     let mut bytes = Vec::new(alloc);
     for word in words {
-        bytes.extend_from_slice(&word.to_le_bytes())?;
+        let mut piece = [0; 8];
+        LittleEndian::write_u64(&mut piece, *word);
+        bytes.extend_from_slice(&piece)?;
     }
     Ok(bytes)
 }
@@ -31,7 +34,7 @@ pub fn spell_into(words: &[u64], piece: &mut [u8])
 {
     let mut at = 0;
     for word in words {
-        piece[at..at + 8].copy_from_slice(&word.to_le_bytes());
+        LittleEndian::write_u64(&mut piece[at..at + 8], *word);
         at += 8;
     }
 }
@@ -49,7 +52,7 @@ pub fn read_words(alloc: Global, bytes: &[u8]) -> Result<Vec<u64>, WordsError>
     let mut words = Vec::new(alloc);
     for piece in pieces {
         words
-            .push(u64::from_le_bytes(*piece))
+            .push(LittleEndian::read_u64(piece))
             .map_err(|_| WordsError::NoMemory)?;
     }
     Ok(words)

@@ -64,28 +64,3 @@ no_number first mid last a b c k bytes lt rest reads byte = record {
       rw (rest t, none) (omega (arith, length-append (take k bytes) [], length-take k bytes));
   depot = reads-on reads byte.depot;
 }
-
-first_of : (piece : List ℕ) (used next end b : ℕ) → next ≡ used + 1 → used < end → end ≤ length piece → b ≡ get_or piece used 0 → take (end - used) (drop used piece) ≡ b ∷ take (end - next) (drop next piece)
-first_of piece used next end b is lt within e = rw (is, e) (first_held piece used end lt within)
-
-small_four : (a b c d : ℕ) → a < 256 → b < 256 → c < 256 → d < 256 → (i : ℕ) → get_or (a ∷ b ∷ c ∷ d ∷ []) i 0 < 256
-small_four a b c d p q r s zero = p
-small_four a b c d p q r s (suc zero) = q
-small_four a b c d p q r s (suc (suc zero)) = r
-small_four a b c d p q r s (suc (suc (suc zero))) = s
-small_four a b c d p q r s (suc (suc (suc (suc i)))) = lit< tt
-
--- the bytes held, the number of the first four apart
-pub number_held : (piece : List ℕ) (used end n a b c d : ℕ) → used + 4 ≤ end → end ≤ length piece
-    → a ≡ get_or piece used 0 → b ≡ get_or piece (used + 1) 0 → c ≡ get_or piece (used + 2) 0 → d ≡ get_or piece (used + 3) 0
-    → a < 256 → b < 256 → c < 256 → d < 256 → n ≡ from_le_bytes w32 (a ∷ b ∷ c ∷ d ∷ []) → take (end - used) (drop used piece) ≡ le32 n ++ take (end - (used + 4)) (drop (used + 4) piece)
-number_held piece used end n a b c d enough within ea eb ec ed fa fb fc fd is =
-    first_of piece used (used + 1) end a refl (omega arith) within ea
-    ∙ ap (λ r. a ∷ r) (
-    first_of piece (used + 1) (used + 2) end b (omega arith) (omega arith) within eb
-    ∙ ap (λ r. b ∷ r) (
-    first_of piece (used + 2) (used + 3) end c (omega arith) (omega arith) within ec
-    ∙ ap (λ r. c ∷ r) (first_of piece (used + 3) (used + 4) end d (omega arith) (omega arith) within ed)
-    )
-    )
-    ∙ ap (λ bytes. bytes ++ take (end - (used + 4)) (drop (used + 4) piece)) (sym (le_bytes_4 (a ∷ b ∷ c ∷ d ∷ []) n refl (small_four a b c d fa fb fc fd) is))

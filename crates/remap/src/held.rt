@@ -3,6 +3,7 @@ ghost use Rattle.collection_model.specs.Bytes.{le32};
 ghost use Rattle.pef_io.specs.declared.fail.Slot.TheVariants.{Map};
 ghost use Rattle.remap.specs.OneMap.{LooksAhead, TakesByte, TakesNumber};
 
+use collection_reader::number_at;
 use pef_io::{Depot, IoFail, Slot};
 use std::alloc::{AllocError, Global};
 use std::marker::Model;
@@ -86,7 +87,7 @@ impl Held {
             };
             *byte = next;
         }
-        Ok(Some(u32::from_le_bytes(bytes)))
+        Ok(Some(number_at(&bytes, 0)))
     }
 
     /// The number that the next four bytes held are.
@@ -95,13 +96,7 @@ impl Held {
         ensures { self.old ≡ le32 result ++ self.new }
     {
         let at = self.used;
-        let bytes = [
-            self.piece[at],
-            self.piece[at + 1],
-            self.piece[at + 2],
-            self.piece[at + 3],
-        ];
         self.used += 4;
-        u32::from_le_bytes(bytes)
+        number_at(&self.piece, at)
     }
 }

@@ -1,6 +1,6 @@
-use Rattle.std.proofs.Common.{◌∙◌, sym, ap, refl, arith}
-use Rattle.std.proofs.lemmas.List.{take_all}
-use Rattle.collection_model.specs.Bytes.{word_bytes}
+use Rattle.std.proofs.Common.{◌∙◌, ◌+◌, ◌-◌, ◌++◌, take, drop, sym, ap, refl, get_or, append-nil, arith}
+use Rattle.std.proofs.lemmas.List.{drop_all, length-take, take_all}
+use Rattle.collection_model.specs.Bytes.{le64, word_bytes}
 use Rattle.index_file.proofs.WordBytes.{spelled-more}
 use Rattle.index_file.proofs.bytes.spell_into.Goals as goal
 
@@ -11,7 +11,7 @@ loop-word-preserved c =
     let i = c.loop-word.word-index in
     let before = c.loop-word.invariant in (
       omega (arith, before.0),
-      spelled-more words c.loop-word.piece _ i _ at _ before.0 before.1 (omega (arith, before.0)) (omega arith) (c.copy_from_slice.ensures.after ∙ c.to_le_bytes.ensures) refl,
+      spelled-more words c.loop-word.piece _ i _ at _ before.0 before.1 (omega (arith, before.0)) (omega arith) (c.write_u64.ensures ∙ ap (λ rest. le64 (get_or words i 0) ++ rest) (drop_all 8 (take (at + 8 - at) (drop at c.loop-word.piece)) (omega (arith, length-take (at + 8 - at) (drop at c.loop-word.piece)))) ∙ append-nil (le64 (get_or words i 0))) refl,
     )
 
 pub returns : goal.returns

@@ -1,0 +1,12 @@
+use Rattle.std.proofs.Common.{◌∙◌, ap, ℕ, ◌<◌, ◌-◌, drop, length, get_or, arith}
+use Rattle.std.proofs.lemmas.List.{length-drop, take_all}
+use Rattle.byteorder.specs.Endian.{little_number}
+use Rattle.collection_reader.proofs.HeldNumbers.{read_behind}
+use Rattle.collection_reader.proofs.four_bytes.number_at.Goals as goal
+
+pub returns : goal.returns
+returns c =
+    let bytes = c.args.bytes.now in
+    let at = c.args.at in
+    read_behind bytes at c.read_u32.result c.requires (λ i. omega (arith, c.type_inv.bytes i))
+    (c.read_u32.ensures ∙ ap (little_number 4) (take_all (length bytes - at) (drop at bytes) (omega (arith, length-drop at bytes))))
