@@ -12,6 +12,9 @@ use scan_plans::TopK;
 // so many questions.
 const MOST_ASKED: usize = 8;
 
+// A list of no more postings is always read, and never asked for a candidate.
+const MOST_READ: u32 = 256;
+
 // How many terms are essential with what is held: none where all the bounds together do not beat the least score held, and all while
 // fewer than k are held.
 pub(crate) fn essential_now(terms: &[Term], top: &TopK) -> usize
@@ -42,8 +45,8 @@ fn essential_terms(terms: &[Term], threshold: Option<u64>) -> usize
     count
 }
 
-// Makes the terms of short lists essential too, those with less than a quarter of the postings of the essential lists: to read such a
-// list costs less than to ask it for candidates. They go behind the essential terms; it tells how many are essential then.
+// Makes the terms of lists essential too that are short beside the essential ones: to read such a list costs less than to ask it for
+// candidates. They go behind the essential terms; it tells how many are essential then.
 pub(crate) fn with_short_lists<C: DocCursor>(
     cursors: &[C],
     terms: &mut [Term],
@@ -62,8 +65,7 @@ pub(crate) fn with_short_lists<C: DocCursor>(
     count
 }
 
-// Puts the term at a place behind the first so many where its list has less than a quarter of `long` postings, and tells how many they
-// are then.
+// Puts the term at a place behind the first so many where its list is short beside `long` postings, and tells how many they are then.
 fn take_short<C: DocCursor>(
     cursors: &[C],
     terms: &mut [Term],
@@ -81,11 +83,16 @@ fn take_short<C: DocCursor>(
     ensures less { bounds (drop result terms.new) ≤ bounds (drop count terms.old) }
 {
     let term = terms[place];
-    if 4 * u64::from(cursors[term.list].len()) >= long {
+    if !is_short(cursors[term.list].len(), long) {
         return count;
     }
     terms.swap(count, place);
     count + 1
+}
+
+// Whether a list of so many postings is short, where so many others are read: it has few, or less than a quarter of them.
+fn is_short(len: u32, others: u64) -> bool {
+    len <= MOST_READ || 4 * u64::from(len) < others
 }
 
 // How many postings the lists of some terms have together.

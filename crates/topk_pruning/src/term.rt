@@ -7,9 +7,6 @@ use cursor_api::DocCursor;
 use no_memory::NoMemory;
 use std::alloc::Global;
 
-// How many lists WAND keeps in order: with more, each pivot moves so many cursors that scoring every document costs less.
-pub(crate) const MOST_LISTS: usize = 16;
-
 // A list of a query.
 #[derive(Clone, Copy)]
 pub(crate) struct Term {
