@@ -3,3 +3,4 @@ pub mod Forms
 pub mod PartView
 pub mod PartValues
 pub mod Laws
+pub mod Sought

@@ -1,6 +1,7 @@
 ghost use Rattle.std.specs.Prelude.{◌≡◌, ℕ, ◌*◌, ◌≤◌, ◌<◌, ◌+◌, ◌^◌, length, slice_index, IsTrue};
 ghost use Rattle.part_cost.specs.Payload.{widest_low};
 ghost use Rattle.part_cost.specs.Span.{AreRelative};
+ghost use Rattle.part_codec.specs.PartView.{universe_of, count_of};
 
 use super::*;
 use bit_words::Bits;
@@ -122,6 +123,19 @@ fn gives<'a, C: PartCodec<'a>>(view: &C, place: u64, x: u64, room: usize, values
     &to[..count] == values
 }
 
+// What a search tells in a part that passes its check: a place, the number there, and the number that is found.
+fn sought(view: &PartView, k: u64, number: u64, x: u64) -> (u64, u64, u64)
+    requires reached { x < universe_of view.now }
+    requires within { k < count_of view.now }
+    requires below { number ≤ x }
+{
+    if !view.check() || view.get(k) != number {
+        return (0, 0, 0);
+    }
+    let sought = view.seek(k, number, x);
+    (sought.place, sought.there, sought.number)
+}
+
 // Each form of a view, by itself and by its kind.
 #[test]
 fn finds_numbers(rt: HostRuntime) {
@@ -139,6 +153,8 @@ fn finds_numbers(rt: HostRuntime) {
     assert!(rt; finds(&PartView::at(PlacedPart::at(bits, 0, 701, 2)), 3, 0, 0, 3));
     assert!(rt; follows(&EfView::<128>::at(PlacedPart::at(bits, 0, 701, 2)), 0, 700));
     assert!(rt; follows(&PartView::at(PlacedPart::at(bits, 0, 701, 2)), 0, 700));
+    let view = PartView::at(PlacedPart::at(bits, 0, 701, 2));
+    assert_eq!(rt; sought(&view, 0, 3, 4), (1, 700, 700));
     let near = [33];
     let bits = Bits { words: &near };
     assert!(rt;
@@ -153,6 +169,8 @@ fn finds_numbers(rt: HostRuntime) {
     assert!(rt; finds(&PartView::at(PlacedPart::at(bits, 0, 6, 2)), 0, 1, 1, 5));
     assert!(rt; follows(&MapView::<512>::at(PlacedPart::at(bits, 0, 6, 2)), 0, 5));
     assert!(rt; follows(&PartView::at(PlacedPart::at(bits, 0, 6, 2)), 0, 5));
+    let view = PartView::at(PlacedPart::at(bits, 0, 6, 2));
+    assert_eq!(rt; sought(&view, 0, 0, 1), (0, 0, 5));
     assert!(rt; finds(&OnesView::at(3), 1, 0, 1, 1));
     assert!(rt; finds(&PartView::at(PlacedPart::at(bits, 0, 3, 3)), 1, 2, 2, 2));
     assert!(rt; follows(&OnesView::at(3), 0, 1));

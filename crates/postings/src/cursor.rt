@@ -121,10 +121,9 @@ impl<'a> DocCursor for PostingCursor<'a> {
     ghost place = { λ c. c.docs.place };
 
     fn doc(&self) -> Option<u32> {
-        if self.docs.place() < self.len {
-            Some(self.docs.value() as u32)
-        } else {
-            None
+        match self.docs.current() {
+            Some(doc) => Some(doc as u32),
+            None => None,
         }
     }
 

@@ -138,6 +138,7 @@ fn finds_later(view: &MapView<'_, 512>, values: &[u64], k: usize) -> bool
         }
         if view.first_from(from, number, least) != (place, later)
             || view.first_from(from, number, later) != (place, later)
+            || view.number_at_least(later) != later
         {
             return false;
         }

@@ -9,6 +9,7 @@ mod Accepting
 mod Entries
 mod Parts
 mod Places
+mod Standing
 mod Probes
 mod Takes
 mod AtAWord

@@ -6,7 +6,7 @@ use Rattle.bit_words.specs.Bits.{bits_of}
 use Rattle.part_cost.specs.Payload.{widest_low}
 use Rattle.part_cost.specs.Span.{past, relative_values, cost_of_part}
 use Rattle.part_cost.specs.Partition.{partition_cost}
-use Rattle.part_cost.specs.Stored.{HoldsPart}
+use Rattle.part_cost.specs.Stored.{HoldsPart, IsFirstAtLeast}
 use Rattle.part_codec.specs.PartBits.{part_bits}
 use Rattle.part_codec.specs.PartView.{Holds, universe_of, count_of}
 use Rattle.two_level.specs.declared.held.HeldPart.{HeldPart}
@@ -67,3 +67,15 @@ abbrev pub LiesIn : FormatNumbers → List ℕ → ℕ → ℕ → Option HeldPa
 LiesIn format words parts place (Some held) value =
     IsHeldPart format words parts held × (held.part.from ≤ place) × (place < held.part.to) × (value ≡ slice_index (sequence_stated format words parts).values place)
 LiesIn format words parts place None value = place ≡ length (sequence_stated format words parts).values
+
+-- a value of the part that is held, the first of the sequence from a place on that is no less
+pub record IsValueBehind (held : HeldPart) (xs : List ℕ) (from value : ℕ) : Type 0 where
+  pub place : ℕ
+  pub first : IsFirstAtLeast xs from value place
+  pub before : place < held.part.to
+  pub value_there : value ≡ slice_index xs place
+
+-- The value stands in the part that is held, at a place or behind it; where no part is held, the place is the end.
+abbrev pub StandsBehind : Option HeldPart → List ℕ → ℕ → ℕ → Type 0
+StandsBehind (Some held) xs from value = IsValueBehind held xs from value
+StandsBehind None xs from value = from ≡ length xs

@@ -1,21 +1,24 @@
-ghost use Rattle.std.specs.Prelude.{◌≡◌, ℕ, ◌≤◌, ◌<◌, ◌+◌, length, slice_index, take};
+ghost use Rattle.std.specs.Prelude.{◌≡◌, ℕ, ◌≤◌, ◌<◌, ◌+◌, length, slice_index, take, IfSome, IfNone};
 ghost use Rattle.collection_model.specs.NextBelow.{AreNextBelow};
 ghost use Rattle.two_level.specs.SequenceView.{place_at_least};
 
-use crate::held::{HeldPart, first_from_part, hold_if_any, hold_place};
+use crate::held::{HeldPart, first_from_part, hold_at, hold_if_any};
 use crate::laws::directory_states_its_parts;
 use part_cost::Format;
 use std::marker::Model;
 
 /// A place in a sequence, which may be its end. The part of the place and the value there are held, so that the values of a
-/// part are read one after another, each by the one before it, without a search. At the end the value says nothing.
+/// part are read one after another, each by the one before it, without a search. At the end the value says nothing. A search in a
+/// bitmap finds a value without its place, which is counted only where it is asked.
 #[derive(Drop)]
 pub struct SeqCursor<'a> {
     words: &'a [u64],
     parts: u32,
     m: u32,
     format: Format,
-    place: u32,
+    // A place of the part at or before the cursor's, and the value there: the cursor's is counted from it.
+    counted: u32,
+    known: u64,
     held: Option<HeldPart<'a>>,
     value: u64,
 }
@@ -23,14 +26,15 @@ pub struct SeqCursor<'a> {
 impl<'a> Model for SeqCursor<'a> {
     ghost use Rattle.std.specs.Prelude.{◌<◌, ◌^◌, length};
     ghost use Rattle.part_cost.specs.Formats.{numbers_of};
-    ghost use Rattle.two_level.specs.SequenceView.{SequencePlace, BeginWith, sequence_stated};
-    ghost use Rattle.two_level.specs.SequenceParts.{LiesIn};
+    ghost use Rattle.two_level.specs.SequenceView.{SequencePlace, BeginWith, sequence_stated, place_at_least};
+    ghost use Rattle.two_level.specs.SequenceParts.{LiesIn, StandsBehind};
 
     ghost Value = { SequencePlace };
 
-    ghost view = { λ c. record { sequence = sequence_stated (numbers_of c.format) c.words.now c.parts; place = c.place } };
+    ghost view = { λ c. let v = sequence_stated (numbers_of c.format) c.words.now c.parts in record { sequence = v; place = place_at_least v.values c.counted c.value } };
 
-    ghost invariant = { λ c. BeginWith c.words.now c.parts c.m (sequence_stated (numbers_of c.format) c.words.now c.parts) × (length c.words.now < 2 ^ 57) × LiesIn (numbers_of c.format) c.words.now c.parts c.place c.held c.value };
+    ghost invariant = { λ c. let v = sequence_stated (numbers_of c.format) c.words.now c.parts in
+        BeginWith c.words.now c.parts c.m v × (length c.words.now < 2 ^ 57) × LiesIn (numbers_of c.format) c.words.now c.parts c.counted c.held c.known × StandsBehind c.held v.values c.counted c.value };
 }
 
 impl<'a> SeqCursor<'a> {
@@ -51,7 +55,35 @@ impl<'a> SeqCursor<'a> {
             parts,
             m,
             format,
-            place: 0,
+            counted: 0,
+            known: value,
+            held,
+            value,
+        }
+    }
+
+    // A cursor at place k of the sequence with which the words begin, which may be its end.
+    pub(crate) fn at_place(
+        words: &'a [u64],
+        parts: u32,
+        m: u32,
+        k: u32,
+        format: Format,
+    ) -> SeqCursor<'a>
+        requires words { length words.now < 2 ^ 57 }
+        requires begun { BeginWith words.now parts m (sequence_stated (numbers_of format) words.now parts) }
+        requires within { k ≤ length (sequence_stated (numbers_of format) words.now parts).values }
+        ensures sequence { result.sequence ≡ sequence_stated (numbers_of format) words.entry.now parts }
+        ensures place { result.place ≡ k }
+    {
+        let (held, value) = hold_at(words, parts, m, k, format);
+        SeqCursor {
+            words,
+            parts,
+            m,
+            format,
+            counted: k,
+            known: value,
             held,
             value,
         }
@@ -61,7 +93,26 @@ impl<'a> SeqCursor<'a> {
     pub fn place(&self) -> u32
         ensures { result ≡ self.now.place }
     {
-        self.place
+        directory_states_its_parts();
+        let Some(held) = &self.held else {
+            return self.counted;
+        };
+        if self.known < self.value {
+            held.first_from(self.counted, self.known, self.value).0
+        } else {
+            self.counted
+        }
+    }
+
+    /// The value at the place, None at the end. The place is not counted.
+    pub fn current(&self) -> Option<u64>
+        ensures some { IfSome result (λ value. (self.now.place < length self.now.sequence.values) × (value ≡ slice_index self.now.sequence.values self.now.place)) }
+        ensures none { IfNone result (self.now.place ≡ length self.now.sequence.values) }
+    {
+        match &self.held {
+            Some(_) => Some(self.value),
+            None => None,
+        }
     }
 
     /// The value at the place.
@@ -78,17 +129,25 @@ impl<'a> SeqCursor<'a> {
         ensures sequence { self.new.sequence ≡ self.old.sequence }
         ensures place { self.new.place ≡ self.old.place + 1 }
     {
-        let place = self.place;
+        let place = self.counted;
         let value = self.value;
-        self.place += 1;
+        if self.known < value {
+            // The place was not counted.
+            self.next_geq(value + 1);
+            return;
+        }
         let Some(held) = &self.held else {
             unreachable!()
         };
         if place + 1 < held.part.to {
             self.value = held.value_after(place, value);
+            self.known = self.value;
+            self.counted = place + 1;
         } else {
             let behind = held.index + 1;
             (self.held, self.value) = hold_if_any(self.words, self.parts, behind, self.format);
+            self.known = self.value;
+            self.counted = place + 1;
         }
     }
 
@@ -100,7 +159,7 @@ impl<'a> SeqCursor<'a> {
         ensures room { length to.new ≡ length to.old }
         ensures values { AreNextBelow self.old.sequence.values self.old.place x to.new result }
     {
-        let most = to.len().min((self.m - self.place) as usize);
+        let most = to.len().min((self.m - self.place()) as usize);
         let mut count = 0;
         'given: while count < most && self.value() < x {
             count += self.pass_below(x, &mut to[count..]);
@@ -121,14 +180,15 @@ impl<'a> SeqCursor<'a> {
         ensures within { self.old.place + result ≤ length self.old.sequence.values }
         ensures values { AreNextBelow (take (self.old.place + result) self.old.sequence.values) self.old.place x to.new result }
     {
-        let place = self.place;
+        let place = self.place();
         let value = self.value;
         let Some(held) = &self.held else {
             unreachable!()
         };
         let count = held.values_below(place, value, x, to);
         let last = count - 1;
-        self.place = place + last as u32;
+        self.counted = place + last as u32;
+        self.known = to[last];
         self.value = to[last];
         self.next();
         count
@@ -140,7 +200,8 @@ impl<'a> SeqCursor<'a> {
         ensures place { self.new.place ≡ place_at_least self.old.sequence.values self.old.place x }
     {
         directory_states_its_parts();
-        let place = self.place;
+        let counted = self.counted;
+        let known = self.known;
         let value = self.value;
         let Some(held) = &self.held else {
             return;
@@ -149,10 +210,13 @@ impl<'a> SeqCursor<'a> {
             return;
         }
         if x <= held.part.last {
-            (self.place, self.value) = held.first_from(place, value, x);
+            let sought = held.seek(counted, known, x);
+            self.counted = sought.place as u32;
+            self.known = sought.there;
+            self.value = sought.number;
         } else {
             let behind = held.index + 1;
-            (self.place, self.held, self.value) = first_from_part(
+            (self.counted, self.held, self.value) = first_from_part(
                 self.words,
                 self.parts,
                 self.m,
@@ -160,6 +224,7 @@ impl<'a> SeqCursor<'a> {
                 x,
                 self.format,
             );
+            self.known = self.value;
         }
     }
 
@@ -169,7 +234,7 @@ impl<'a> SeqCursor<'a> {
         ensures sequence { self.new.sequence ≡ self.old.sequence }
         ensures place { self.new.place ≡ k }
     {
-        match k.checked_sub(self.place) {
+        match k.checked_sub(self.place()) {
             Some(0) => {}
             Some(1) => self.next(),
             _ => self.jump_to(k),
@@ -182,15 +247,17 @@ impl<'a> SeqCursor<'a> {
         ensures sequence { self.new.sequence ≡ self.old.sequence }
         ensures place { self.new.place ≡ k }
     {
-        self.place = k;
+        self.counted = k;
         match &self.held {
-            Some(held) if held.has(k) => self.value = held.value(k),
-            _ if k < self.m => {
-                let held = hold_place(self.words, self.parts, k, self.format);
-                self.value = held.value(k);
-                self.held = Some(held);
+            Some(held) if held.has(k) => {
+                let value = held.value(k);
+                self.known = value;
+                self.value = value;
             }
-            _ => self.held = None,
+            _ => {
+                (self.held, self.value) = hold_at(self.words, self.parts, self.m, k, self.format);
+                self.known = self.value;
+            }
         }
     }
 }

@@ -4,6 +4,7 @@ ghost use Rattle.std.specs.List.Sorted.{IsStrictlyIncreasing};
 ghost use Rattle.part_cost.specs.Span.{past};
 ghost use Rattle.part_cost.specs.Stored.{IsFirstAtLeast};
 ghost use Rattle.part_codec.specs.PartView.{Holds, universe_of, count_of};
+ghost use Rattle.part_codec.specs.Sought.{IsSought};
 ghost use Rattle.part_cost.specs.Formats.{numbers_of};
 ghost use Rattle.two_level.specs.SequenceFault.{end_before};
 ghost use Rattle.two_level.specs.SequenceView.{BeginWith, sequence_stated, place_at_least};
@@ -13,7 +14,7 @@ use crate::directory::part_reaching;
 use crate::finding::{part_of_place, stated_part};
 use crate::laws::directory_states_its_parts;
 use crate::part::Part;
-use part_codec::{PartCodec, PartView};
+use part_codec::{PartCodec, PartView, Sought};
 use part_cost::{Format, formats_have_room};
 
 // A part of a sequence that is held to be read: which part it is, what is said of it, one past the value before it, and the
@@ -191,6 +192,26 @@ impl<'a> HeldPart<'a> {
         let (k, number) = first_from_number(&self.view, least, from, number);
         (self.part.from + k as u32, number + self.past)
     }
+
+    // The first value of the part at or behind a place that is at least x, by the value at that place, which is no more than x; and
+    // a place at or before its own with the value there, since in a bitmap places are not counted.
+    pub(crate) fn seek(&self, place: u32, value: u64, x: u64) -> Sought
+        requires values { (xs : List ℕ) × HoldsValues self.now xs × (value ≡ slice_index xs place) }
+        requires after { self.now.part.from ≤ place }
+        requires before { place < self.now.part.to }
+        requires reached { x ≤ self.now.part.last }
+        requires below { value ≤ x }
+        ensures { (xs : List ℕ) → HoldsValues self.now xs → value ≡ slice_index xs place → (s : IsSought xs place x result) × (s.own < self.now.part.to) }
+    {
+        let least = x.saturating_sub(self.past);
+        let from = (place - self.part.from) as u64;
+        let sought = self.view.seek(from, value - self.past, least);
+        Sought {
+            place: self.part.from as u64 + sought.place,
+            there: sought.there + self.past,
+            number: sought.number + self.past,
+        }
+    }
 }
 
 // Holds a part of the sequence with which the words begin.
@@ -258,6 +279,29 @@ pub(crate) fn hold_place<'a>(
         part_of_place(words, parts, place, format),
         format,
     )
+}
+
+// Holds the part of a place of the sequence with which the words begin, and gives the value there; at the end it holds none.
+pub(crate) fn hold_at<'a>(
+    words: &'a [u64],
+    parts: u32,
+    m: u32,
+    place: u32,
+    format: Format,
+) -> (Option<HeldPart<'a>>, u64)
+    requires words { length words.now < 2 ^ 57 }
+    requires begun { BeginWith words.now parts m (sequence_stated (numbers_of format) words.now parts) }
+    requires within { place ≤ length (sequence_stated (numbers_of format) words.now parts).values }
+    ensures lies { LiesIn (numbers_of format) words.entry.now parts place result.0 result.1 }
+{
+    directory_states_its_parts();
+    if place < m {
+        let held = hold_place(words, parts, place, format);
+        let value = held.value(place);
+        (Some(held), value)
+    } else {
+        (None, 0)
+    }
 }
 
 // The first place from the start of a part on whose value is at least x, with its part and that value; else the end.

@@ -320,7 +320,11 @@ fn finds_places(
         let value = values[k as usize];
         let mut cursor = view.cursor();
         cursor.next_geq(value);
+        assert_eq!(rt; cursor.current(), Some(value));
         assert_eq!(rt; cursor.place(), k, "for {value}");
+        cursor.next();
+        assert_eq!(rt; cursor.place(), k + 1, "next");
+        assert_eq!(rt; view.cursor_at(k).current(), Some(value));
         cursor.move_to(m - k);
         cursor.move_to(k);
         cursor.next_geq(0);

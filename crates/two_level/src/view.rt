@@ -200,4 +200,13 @@ impl<'a> SeqView<'a> {
     {
         SeqCursor::at_start(self.words, self.parts, self.m, self.format)
     }
+
+    /// A cursor at place k, which may be the end. No other part is looked at.
+    pub fn cursor_at(&self, k: u32) -> SeqCursor<'a>
+        requires within { k ≤ length self.now.values }
+        ensures sequence { result.sequence ≡ self.now }
+        ensures place { result.place ≡ k }
+    {
+        SeqCursor::at_place(self.words, self.parts, self.m, k, self.format)
+    }
 }

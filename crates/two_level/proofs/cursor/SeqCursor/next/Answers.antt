@@ -1,23 +1,53 @@
-use Rattle.std.proofs.Common.{◌≡◌, ◌+◌, subst, arith}
+use Rattle.std.proofs.Common.{◌≡◌, ◌+◌, ◌<◌, length, List, ℕ, sym, ap, ◌∙◌, subst, arith}
+use Rattle.std.specs.Prelude.{slice_index}
+use Rattle.std.specs.List.Sorted.{IsStrictlyIncreasing}
 use Rattle.part_cost.specs.Formats.{numbers_of}
 use Rattle.part_cost.proofs.Partitions.{few-parts}
 use Rattle.two_level.specs.SequenceFault.{end_before}
-use Rattle.two_level.specs.SequenceParts.{LiesIn}
+use Rattle.two_level.specs.SequenceView.{sequence_stated, place_at_least}
+use Rattle.two_level.specs.SequenceParts.{LiesIn, StandsBehind}
 use Rattle.two_level.proofs.Parts.{end-before-next}
+use Rattle.two_level.proofs.Standing.{stands-here, place-here, known-place, place-next, value-there}
 use Rattle.two_level.proofs.cursor.SeqCursor.next.Goals as goal
 
 pub overflow_add-behind : goal.overflow_add-behind
 overflow_add-behind c =
     let s = c.self.inside in
-    let lies = subst (λ h. LiesIn (numbers_of s.format) s.words.now s.parts s.place h s.value) c.in-Some.is c.self.invariant.2 in
+    let lies = subst (λ h. LiesIn (numbers_of s.format) s.words.now s.parts s.counted h s.known) c.in-Some.is c.self.invariant.2 in
     let begun = c.self.invariant.0.3.sequence in
     omega (arith, lies.0.within, lies.0.values.few, begun.count, begun.parts_count, few-parts 0 s.m _ begun.partition)
+
+pub returns-then-self-value-clause-place : goal.returns-then-self-value-clause-place
+returns-then-self-value-clause-place c =
+    let s = c.self.inside in
+    let v = c.args.self.now in
+    let within = subst (λ p. p.place < length p.sequence.values) (sym c.self.view_is) c.requires.within in
+    let rises : IsStrictlyIncreasing v.sequence.values = subst (λ p. IsStrictlyIncreasing p.sequence.values) c.self.view_is c.self.invariant.0.3.sequence.rising in
+    let there : s.value ≡ slice_index v.sequence.values v.place =
+    subst (λ p. s.value ≡ slice_index p.sequence.values p.place) c.self.view_is
+    (value-there (numbers_of s.format) s.words.now s.parts s.counted s.held s.known s.value c.self.invariant.2 c.self.invariant.3 within) in
+    c.next_geq.ensures.place ∙ sym (place-next v.sequence.values rises v.place s.value c.requires.within there)
 
 pub invariant_of-self-else-place-held : goal.invariant_of-self-else-place-held
 invariant_of-self-else-place-held c =
     let s = c.self.inside in
     let held = c.in-Some.held in
-    let lies = subst (λ h. LiesIn (numbers_of s.format) s.words.now s.parts s.place h s.value) c.in-Some.is c.self.invariant.2 in
-    let begins : end_before (numbers_of s.format) s.words.now 0 (held.index + 1) ≡ s.place + 1 =
+    let lies = subst (λ h. LiesIn (numbers_of s.format) s.words.now s.parts s.counted h s.known) c.in-Some.is c.self.invariant.2 in
+    let begins : end_before (numbers_of s.format) s.words.now 0 (held.index + 1) ≡ s.counted + 1 =
     omega (arith, end-before-next (numbers_of s.format) s.words.now held.index, lies.0.to, lies.2, c.if-place-held.false) in
-    (c.self.invariant.0, c.self.invariant.1, subst (λ n. LiesIn (numbers_of s.format) s.words.now s.parts n c.hold_if_any.result.0 c.hold_if_any.result.1) begins c.hold_if_any.ensures.lies)
+    let behind = subst (λ n. LiesIn (numbers_of s.format) s.words.now s.parts n c.hold_if_any.result.0 c.hold_if_any.result.1) begins c.hold_if_any.ensures.lies in
+    (c.self.invariant.0, c.self.invariant.1, behind, stands-here (numbers_of s.format) s.words.now s.parts (s.counted + 1) c.hold_if_any.result.0 c.hold_if_any.result.1 behind)
+
+pub returns-else-place-held-clause-place : goal.returns-else-place-held-clause-place
+returns-else-place-held-clause-place c =
+    let s = c.self.inside in
+    let held = c.in-Some.held in
+    let xs : List ℕ = (sequence_stated (numbers_of s.format) s.words.now s.parts).values in
+    let lies = subst (λ h. LiesIn (numbers_of s.format) s.words.now s.parts s.counted h s.known) c.in-Some.is c.self.invariant.2 in
+    let stands = subst (λ h. StandsBehind h xs s.counted s.value) c.in-Some.is c.self.invariant.3 in
+    let begins : end_before (numbers_of s.format) s.words.now 0 (held.index + 1) ≡ s.counted + 1 =
+    omega (arith, end-before-next (numbers_of s.format) s.words.now held.index, lies.0.to, lies.2, c.if-place-held.false) in
+    let behind = subst (λ n. LiesIn (numbers_of s.format) s.words.now s.parts n c.hold_if_any.result.0 c.hold_if_any.result.1) begins c.hold_if_any.ensures.lies in
+    let here : s.counted ≡ place_at_least xs s.counted s.value = known-place held xs s.counted s.known s.value lies.3 (omega (arith, c.if-self-value.false)) stands in
+    subst (λ p. place_at_least xs (s.counted + 1) c.hold_if_any.result.1 ≡ p.place + 1) c.self.view_is
+    (sym (place-here (numbers_of s.format) s.words.now s.parts (s.counted + 1) c.hold_if_any.result.0 c.hold_if_any.result.1 behind) ∙ ap (λ n. n + 1) here)

@@ -5,18 +5,28 @@ use Rattle.part_cost.specs.Formats.{numbers_of}
 use Rattle.collection_model.proofs.NextBelow.{AreGiven, given-none}
 use Rattle.two_level.proofs.Blocks.{given-behind, of-part}
 use Rattle.two_level.proofs.Parts.{lies-within}
+use Rattle.two_level.proofs.Standing.{lies-there}
 use Rattle.two_level.proofs.cursor.SeqCursor.values_below.Goals as goal
+
+pub overflow_sub-self-inside : goal.overflow_sub-self-inside
+overflow_sub-self-inside c =
+    let s = c.self.inside in
+    let there = lies-there (numbers_of s.format) s.words.now s.parts s.counted s.held s.known s.value c.self.invariant.2 c.self.invariant.3 in
+    let within = lies-within (numbers_of s.format) s.words.now s.parts _ s.held s.value there in
+    let fit : c.args.self.now.place ≤ s.m = subst (λ p. p.place ≤ s.m) c.self.view_is (omega (arith, within, c.self.invariant.0.3.sequence.count)) in
+    omega (arith, fit, c.place.ensures)
 
 pub given-init : goal.given-init
 given-init c =
     let s = c.self.inside in
-    let within = lies-within (numbers_of s.format) s.words.now s.parts s.place s.held s.value c.self.invariant.2 in
-    let count = c.self.invariant.0.3.sequence.count in
+    let there = lies-there (numbers_of s.format) s.words.now s.parts s.counted s.held s.known s.value c.self.invariant.2 c.self.invariant.3 in
+    let within = subst (λ p. p.place ≤ length p.sequence.values) c.self.view_is (lies-within (numbers_of s.format) s.words.now s.parts _ s.held s.value there) in
+    let count = subst (λ p. length p.sequence.values ≡ s.m) c.self.view_is c.self.invariant.0.3.sequence.count in
     record {
       sequence = refl;
       place = omega arith;
-      within = subst (λ p. p.place ≤ length p.sequence.values) c.self.view_is within;
-      most = subst (λ p. c.min-most.result ≤ length p.sequence.values - p.place) c.self.view_is (omega (arith, within, count, c.min-most.ensures));
+      within = within;
+      most = omega (arith, within, count, c.min-most.ensures, c.place.ensures);
       room = omega arith;
       given = given-none c.args.self.now.sequence.values c.args.self.now.place c.args.x c.args.to.now;
     }

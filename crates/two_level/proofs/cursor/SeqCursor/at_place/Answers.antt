@@ -1,0 +1,8 @@
+use Rattle.std.proofs.Common.{sym}
+use Rattle.part_cost.specs.Formats.{numbers_of}
+use Rattle.two_level.proofs.Standing.{place-here}
+use Rattle.two_level.proofs.cursor.SeqCursor.at_place.Goals as goal
+
+pub returns-clause-place : goal.returns-clause-place
+returns-clause-place c =
+    sym (place-here (numbers_of c.args.format) c.args.words.now c.args.parts c.args.k c.hold_at-value.result.0 c.hold_at-value.result.1 c.hold_at-value.ensures.lies)

@@ -1,0 +1,21 @@
+use Rattle.std.proofs.Common.{List, ℕ, Some, refl, sym, subst}
+use Rattle.part_cost.specs.Formats.{numbers_of}
+use Rattle.two_level.specs.SequenceView.{sequence_stated}
+use Rattle.two_level.specs.SequenceParts.{LiesIn}
+use Rattle.two_level.proofs.Standing.{place-here}
+use Rattle.two_level.proofs.cursor.SeqCursor.jump_to.Goals as goal
+
+pub returns-in-Some-clause-place : goal.returns-in-Some-clause-place
+returns-in-Some-clause-place c =
+    let s = c.self.inside in
+    let xs : List ℕ = (sequence_stated (numbers_of s.format) s.words.now s.parts).values in
+    let held = c.in-Some.held in
+    let lies = subst (λ h. LiesIn (numbers_of s.format) s.words.now s.parts s.counted h s.known) c.in-Some.is c.self.invariant.2 in
+    let has = c.if-has.ensures.0 refl in
+    sym (place-here (numbers_of s.format) s.words.now s.parts c.args.k (Some held) c.value-value.result
+    (lies.0, has.0, has.1, c.value-value.ensures xs lies.0.values))
+
+pub returns-in_default-clause-place : goal.returns-in_default-clause-place
+returns-in_default-clause-place c =
+    let s = c.self.inside in
+    sym (place-here (numbers_of s.format) s.words.now s.parts c.args.k c.hold_at.result.0 c.hold_at.result.1 c.hold_at.ensures.lies)

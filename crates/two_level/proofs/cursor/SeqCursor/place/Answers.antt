@@ -1,0 +1,27 @@
+use Rattle.std.proofs.Common.{◌≡◌, ◌+◌, List, ℕ, subst, arith}
+use Rattle.part_cost.specs.Formats.{numbers_of}
+use Rattle.two_level.specs.SequenceFault.{stated_last}
+use Rattle.two_level.specs.SequenceView.{SequenceView, sequence_stated}
+use Rattle.two_level.specs.SequenceParts.{LiesIn, StandsBehind}
+use Rattle.two_level.proofs.Places.{found-first, below-last}
+use Rattle.two_level.proofs.cursor.SeqCursor.place.Goals as goal
+
+pub first_from-requires-clause-reached : goal.first_from-requires-clause-reached
+first_from-requires-clause-reached c =
+    let s = c.self.inside in
+    let part = c.in-Some.held in
+    let v : SequenceView = sequence_stated (numbers_of s.format) s.words.now s.parts in
+    let lies = subst (λ h. LiesIn (numbers_of s.format) s.words.now s.parts s.counted h s.known) c.in-Some.is c.self.invariant.2 in
+    let behind = subst (λ h. StandsBehind h v.values s.counted s.value) c.in-Some.is c.self.invariant.3 in
+    let d = c.directory_states_its_parts.ensures s.format s.words.now s.parts s.m c.self.invariant.0 in
+    let most = below-last (numbers_of s.format) s.words.now s.parts part.index (stated_last (numbers_of s.format) s.words.now 0 part.index + 1) v d lies.0.within (omega arith)
+    behind.place (omega (arith, behind.before, lies.0.to)) in
+    omega (arith, most, behind.value_there, lies.0.last)
+
+pub returns-then-self : goal.returns-then-self
+returns-then-self c =
+    let s = c.self.inside in
+    let xs : List ℕ = (sequence_stated (numbers_of s.format) s.words.now s.parts).values in
+    let lies = subst (λ h. LiesIn (numbers_of s.format) s.words.now s.parts s.counted h s.known) c.in-Some.is c.self.invariant.2 in
+    subst (λ p. c.first_from.result.0 ≡ p.place) c.self.view_is
+    (found-first xs s.counted c.first_from.result.0 s.value (c.first_from.ensures.first xs lies.0.values lies.3))

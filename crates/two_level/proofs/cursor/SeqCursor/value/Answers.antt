@@ -1,0 +1,12 @@
+use Rattle.std.proofs.Common.{◌<◌, ◌≡◌, length, sym, subst}
+use Rattle.std.specs.Prelude.{slice_index}
+use Rattle.part_cost.specs.Formats.{numbers_of}
+use Rattle.two_level.proofs.Standing.{value-there}
+use Rattle.two_level.proofs.cursor.SeqCursor.value.Goals as goal
+
+pub returns : goal.returns
+returns c =
+    let s = c.self.inside in
+    let within = subst (λ p. p.place < length p.sequence.values) (sym c.self.view_is) c.requires.within in
+    subst (λ p. s.value ≡ slice_index p.sequence.values p.place) c.self.view_is
+    (value-there (numbers_of s.format) s.words.now s.parts s.counted s.held s.known s.value c.self.invariant.2 c.self.invariant.3 within)
