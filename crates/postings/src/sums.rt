@@ -34,6 +34,17 @@ fn open<'a>(view: &SeqView<'a>, cursor: &mut Option<SeqCursor<'a>>)
     }
 }
 
+// Opens a cursor at place k of the sequence where there is none yet.
+fn open_at<'a>(view: &SeqView<'a>, cursor: &mut Option<SeqCursor<'a>>, k: u32)
+    requires over { IsOver view.now cursor.old }
+    requires within { k ≤ length view.now.values }
+    ensures { (c : SequencePlace) × (cursor.new ≡ Some c) × (c.sequence ≡ view.now) }
+{
+    if cursor.is_none() {
+        *cursor = Some(view.cursor_at(k));
+    }
+}
+
 impl<'a> Sums<'a> {
     // The sums at their start.
     pub(crate) fn new(view: SeqView<'a>) -> Sums<'a>
@@ -72,7 +83,7 @@ impl<'a> Sums<'a> {
         ensures sequence { self.new.sequence ≡ self.old.sequence }
         ensures place { self.new.place ≡ k }
     {
-        open(&self.view, &mut self.cursor);
+        open_at(&self.view, &mut self.cursor, k);
         match &mut self.cursor {
             Some(cursor) => cursor.move_to(k),
             None => unreachable!(),
