@@ -27,12 +27,14 @@ pub struct SideCursor<'a, C: DocCursor, S: BlockSource> {
     source: &'a S,
     side: Side<'a>,
     term: u32,
-    // How many blocks the lists before have.
+    // How many blocks the lists before have, and how many this one.
     before: u64,
+    blocks: u32,
     ghost within: { term < length (S.lists source.now) },
     ghost of_source: { C.list cursor ≡ (nth_list (S.lists source.now) term).list },
     ghost of_side: { words_seen side ≡ side_words (S.lists source.now) },
     ghost counted: { before ≡ blocks_before (S.lists source.now) term },
+    ghost all: { blocks ≡ length (nth_list (S.lists source.now) term).ends },
 }
 
 impl<'a, C: DocCursor, S: BlockSource> SideCursor<'a, C, S> {
@@ -46,24 +48,27 @@ impl<'a, C: DocCursor, S: BlockSource> SideCursor<'a, C, S> {
         ensures blocks { ⟦<SideCursor<'a, C, S> as BlockCursor>⟧.blocks result ≡ blocks_of (nth_list (S.lists source.entry.now) t) }
     {
         let before = source.blocks_before(t);
+        let blocks = source.blocks(t);
         SideCursor {
             cursor,
             source,
             side,
             term: t,
             before,
+            blocks,
         }
     }
 }
 
-// How many blocks of list `t` end before `doc`.
-fn blocks_below<S: BlockSource>(source: &S, t: u32, doc: u32) -> u32
-    requires { t < length (S.lists source.now) }
+// How many of the blocks of list `t`, of which there are `count`, end before `doc`.
+fn blocks_below<S: BlockSource>(source: &S, t: u32, count: u32, doc: u32) -> u32
+    requires within { t < length (S.lists source.now) }
+    requires all { count ≡ length (nth_list (S.lists source.now) t).ends }
     ensures within { result ≤ length (nth_list (S.lists source.now) t).ends }
     ensures first { result ≡ position_or_len (λ b. nat_le doc b.last) (blocks_of (nth_list (S.lists source.now) t)) }
 {
     let mut low = 0;
-    let mut high = source.blocks(t);
+    let mut high = count;
     while low < high {
         (low, high) = half(source, t, doc, low, high);
     }
@@ -135,8 +140,8 @@ impl<'a, C: DocCursor, S: BlockSource> BlockCursor for SideCursor<'a, C, S> {
     ghost blocks = { λ c. blocks_of (nth_list (S.lists c.source.now) c.term) };
 
     fn block_at(&self, doc: u32) -> Option<(u32, u32)> {
-        let block = blocks_below(self.source, self.term, doc);
-        if block < self.source.blocks(self.term) {
+        let block = blocks_below(self.source, self.term, self.blocks, doc);
+        if block < self.blocks {
             let last = self.source.last(self.term, block);
             Some((last, self.side.greatest(self.before, block)))
         } else {

@@ -13,7 +13,7 @@ use scan_plans::TopK;
 const MOST_ASKED: usize = 8;
 
 // A list of no more postings is always read, and never asked for a candidate.
-const MOST_READ: u32 = 256;
+const MOST_READ: u32 = 2_048;
 
 // How many terms are essential with what is held: none where all the bounds together do not beat the least score held, and all while
 // fewer than k are held.
@@ -90,9 +90,9 @@ fn take_short<C: DocCursor>(
     count + 1
 }
 
-// Whether a list of so many postings is short, where so many others are read: it has few, or less than a quarter of them.
+// Whether a list of so many postings is short, where so many others are read: it has few, or less than a sixteenth of them.
 fn is_short(len: u32, others: u64) -> bool {
-    len <= MOST_READ || 4 * u64::from(len) < others
+    len <= MOST_READ || 16 * u64::from(len) < others
 }
 
 // How many postings the lists of some terms have together.

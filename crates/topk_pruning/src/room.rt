@@ -14,8 +14,8 @@ use no_memory::NoMemory;
 use scan_plans::{Block, TopK, new_marks, new_scores, scored_words, top_list_grows};
 use std::alloc::Global;
 
-// How many documents the first window has. Each later one has four times as many, as far as there is room for their scores: a query whose
-// best documents come early ends early.
+// How many documents the first window has. Each later one has sixteen times as many, as far as there is room for their scores: a query
+// whose best documents come early ends early.
 const FIRST_WIDTH: usize = 8;
 
 // What the windows of documents of a query are scored with.
@@ -118,7 +118,7 @@ fn score_up_to<C: DocCursor>(
 {
     top_list_grows();
     let width = room.width;
-    room.width = width.saturating_mul(4).min(room.scores.len());
+    room.width = width.saturating_mul(16).min(room.scores.len());
     let essential = essential_now(&room.terms, top);
     if essential == 0 {
         return reach;

@@ -19,6 +19,6 @@ pub returns-clause-first : goal.returns-clause-first
 returns-clause-first g c =
     let i = c.loop-low.invariant in
     let cs : List BlockList = g.S.BlockSource.lists c.args.source.now in
-    below-is cs c.args.t c.loop-low.low c.args.doc (g.met.S.BlockSource.cut c.args.source.now) c.requires (omega (arith, i.up, i.within)) i.before
+    below-is cs c.args.t c.loop-low.low c.args.doc (g.met.S.BlockSource.cut c.args.source.now) c.requires.within (omega (arith, i.up, i.within)) i.before
     (λ inside. let same : c.loop-low.low ≡ c.loop-low.high = omega (arith, i.up, c.loop-low-test.false) in
     subst (λ (k : ℕ). c.args.doc ≤ (nth_block cs c.args.t k).last) (sym same) (i.reached (omega (arith, inside, same))))
