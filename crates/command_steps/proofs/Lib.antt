@@ -8,7 +8,7 @@ mod Parsed
 mod TextEnds
 mod WholeText
 mod Building
-mod LoadedFile
+mod LoadedWords
 mod WrittenFile
 mod PrintedLine
 mod LeastCosts

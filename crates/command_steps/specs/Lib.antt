@@ -17,5 +17,5 @@ pub mod AnswersLines
 pub mod Unended
 pub mod AnswersEnded
 pub mod Faults
-pub mod LoadBytes
+pub mod ReadWords
 pub mod JoinedSegments

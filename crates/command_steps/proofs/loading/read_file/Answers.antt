@@ -1,17 +1,66 @@
-use Rattle.std.proofs.Common.{refl}
+use Rattle.std.proofs.Common.{◌≡◌, ◌≢◌, ◌∙◌, ap, ℕ, ◌+◌, ◌*◌, ◌%◌, ◌<◌, ◌≤◌, ◌++◌, List, take, drop, length, arith}
+use Rattle.std.proofs.lemmas.List.{length-append, length-take, take_at}
 use Rattle.std.proofs.lemmas.Result.{err_from_is_err_and}
-use Rattle.command_steps.proofs.LoadedFile.{start-refused, file-refused, file-loaded}
-use Rattle.command_steps.proofs.loading.file_bytes.Goals as goal
+use Rattle.collection_model.specs.Bytes.{word_bytes}
+use Rattle.index_file.specs.Builder.{most_words}
+use Rattle.command_model.proofs.WordBytes.{word_bytes-length}
+use Rattle.command_steps.proofs.LoadedWords.{more-words, all-words, piece-too_large, words-refused}
+use Rattle.command_steps.proofs.loading.read_file.Goals as goal
 
-pub returns-in_err-start : goal.returns-in_err-start
-returns-in_err-start g c =
-    let p = err_from_is_err_and c.from_residual.result c.from_residual.ensures.1 in
-    rw (p.1, p.2) (start-refused c.args.slot c.args.name.now _ _ _ c.in_err-start.ensures)
+-- so many words more than there were, of a piece of the file
+grown : (words more piece : List ℕ) (count : ℕ) → count ≤ length piece → word_bytes more ≡ word_bytes words ++ take count piece → 8 * length more ≡ 8 * length words + count
+grown words more piece count within are =
+    let sides = ap length are ∙ length-append (word_bytes words) (take count piece) in
+    omega (arith, sides, word_bytes-length more, word_bytes-length words, length-take count piece)
 
-pub returns-in_err-bytes : goal.returns-in_err-bytes
-returns-in_err-bytes g c =
-    let p = err_from_is_err_and c.from_residual-in_err-bytes.result c.from_residual-in_err-bytes.ensures.1 in
-    rw (p.1, p.2) (file-refused c.args.slot c.args.name.now _ _ _ _ _ refl c.in_ok-start.ensures c.in_err-bytes.ensures)
+-- a piece that is lent whole is given back whole
+lent-back : (piece items : List ℕ) (len : ℕ) → length piece ≡ len → take len (piece ++ drop (length piece) items) ≡ piece
+lent-back piece items len same = take_at piece (drop (length piece) items) len same
 
-pub returns : goal.returns
-returns g c = file-loaded c.args.slot c.args.name.now _ _ _ _ _ refl c.in_ok-start.ensures c.in_ok-bytes.ensures
+pub returns-then-len-count-gt-LONGEST_FILE : goal.returns-then-len-count-gt-LONGEST_FILE
+returns-then-len-count-gt-LONGEST_FILE g c =
+    piece-too_large c.args.slot (g.D.Depot.state c.args.depot.now) (g.D.Depot.state c.loop-words.depot) (g.D.Depot.state c.fill_piece.new.depot) c.loop-words.words.items c.fill_piece.new.piece c.in_ok-count.count
+    c.loop-words.invariant.read c.in_ok-count.ensures.filled (omega (arith, c.if-len-count-gt-LONGEST_FILE.true, c.len.ensures, c.loop-words.words.ok.0))
+
+pub returns-in_err-add_words : goal.returns-in_err-add_words
+returns-in_err-add_words g c =
+    let p = err_from_is_err_and c.from_residual-in_err-add_words.result c.from_residual-in_err-add_words.ensures.1 in
+    let count = c.in_ok-count.count in
+    let lent = c.deref.result.now in
+    let whole : length c.fill_piece.new.piece ≡ 65536 = omega (arith, c.in_ok-count.ensures.room, ap length c.as_mut_slice.ensures.value, c.loop-words.invariant.room) in
+    let all : length (take count lent) ≡ count = omega (arith, length-take count lent, ap length c.deref.ensures.value, c.in_ok-count.ensures.filled.within) in
+    rw (p.1, p.2) (words-refused c.args.slot (g.D.Depot.state c.args.depot.now) (g.D.Depot.state c.loop-words.depot) (g.D.Depot.state c.fill_piece.new.depot) c.loop-words.words.items c.fill_piece.new.piece count c.in_err-add_words.field-0.0
+    c.loop-words.invariant.read c.in_ok-count.ensures.filled (ap (λ n. n % 8) whole) (omega (arith, c.if-len-count-gt-LONGEST_FILE.false, c.len.ensures, c.loop-words.words.ok.0))
+    (λ is even. c.in_err-add_words.ensures.ragged is (ap (λ n. n % 8) all ∙ even)))
+
+pub returns-then-count-lt-PIECE_BYTES : goal.returns-then-count-lt-PIECE_BYTES
+returns-then-count-lt-PIECE_BYTES g c =
+    let count = c.in_ok-count.count in
+    let words = c.loop-words.words.items in
+    let more = c.add_words.new.words.items in
+    let filled = c.in_ok-count.ensures.filled in
+    let are : word_bytes more ≡ word_bytes words ++ take count c.fill_piece.new.piece = c.in_ok-add_words.ensures.added ∙ ap (λ xs. word_bytes words ++ take count xs) (c.deref.ensures.value ∙ lent-back c.fill_piece.new.piece c.loop-words.piece.items c.loop-words.piece.len (omega (arith, c.in_ok-count.ensures.room, ap length c.as_mut_slice.ensures.value, c.loop-words.piece.ok.0))) in
+    let whole : length c.fill_piece.new.piece ≡ 65536 = omega (arith, c.in_ok-count.ensures.room, ap length c.as_mut_slice.ensures.value, c.loop-words.invariant.room) in
+    all-words c.args.slot (g.D.Depot.state c.args.depot.now) (g.D.Depot.state c.loop-words.depot) (g.D.Depot.state c.fill_piece.new.depot) words more c.fill_piece.new.piece count c.loop-words.invariant.read filled are
+    (omega (arith, whole, c.if-count-lt-PIECE_BYTES.true)) (omega (arith, grown words more c.fill_piece.new.piece count filled.within are, c.if-len-count-gt-LONGEST_FILE.false, c.len.ensures, c.loop-words.words.ok.0))
+
+pub loop-words-smaller : goal.loop-words-smaller
+loop-words-smaller g c =
+    let count = c.in_ok-count.count in
+    let words = c.loop-words.words.items in
+    let more = c.add_words.new.words.items in
+    let are : word_bytes more ≡ word_bytes words ++ take count c.fill_piece.new.piece = c.in_ok-add_words.ensures.added ∙ ap (λ xs. word_bytes words ++ take count xs) (c.deref.ensures.value ∙ lent-back c.fill_piece.new.piece c.loop-words.piece.items c.loop-words.piece.len (omega (arith, c.in_ok-count.ensures.room, ap length c.as_mut_slice.ensures.value, c.loop-words.piece.ok.0))) in
+    omega (arith, grown words more c.fill_piece.new.piece count c.in_ok-count.ensures.filled.within are, c.if-len-count-gt-LONGEST_FILE.false, c.len.ensures, c.loop-words.words.ok.0, c.if-count-lt-PIECE_BYTES.false)
+
+pub loop-words-preserved : goal.loop-words-preserved
+loop-words-preserved g c =
+    let count = c.in_ok-count.count in
+    let words = c.loop-words.words.items in
+    let more = c.add_words.new.words.items in
+    let filled = c.in_ok-count.ensures.filled in
+    let are : word_bytes more ≡ word_bytes words ++ take count c.fill_piece.new.piece = c.in_ok-add_words.ensures.added ∙ ap (λ xs. word_bytes words ++ take count xs) (c.deref.ensures.value ∙ lent-back c.fill_piece.new.piece c.loop-words.piece.items c.loop-words.piece.len (omega (arith, c.in_ok-count.ensures.room, ap length c.as_mut_slice.ensures.value, c.loop-words.piece.ok.0))) in
+    record {
+      room = omega (arith, ap length (lent-back c.fill_piece.new.piece c.loop-words.piece.items c.loop-words.piece.len (omega (arith, c.in_ok-count.ensures.room, ap length c.as_mut_slice.ensures.value, c.loop-words.piece.ok.0))), c.in_ok-count.ensures.room, ap length c.as_mut_slice.ensures.value, c.loop-words.invariant.room);
+      few = omega (arith, grown words more c.fill_piece.new.piece count filled.within are, c.if-len-count-gt-LONGEST_FILE.false, c.len.ensures, c.loop-words.words.ok.0);
+      read = more-words c.args.slot (g.D.Depot.state c.args.depot.now) (g.D.Depot.state c.loop-words.depot) (g.D.Depot.state c.fill_piece.new.depot) words more c.fill_piece.new.piece count c.loop-words.invariant.read filled are;
+    }
