@@ -10,13 +10,13 @@ use Rattle.index_file.specs.FileWords.{file_words}
 use Rattle.index_file.specs.Laws.{OneIndex, WordsAreRead}
 use Rattle.command_model.specs.Found.{FindsCollection}
 use Rattle.command_model.specs.GotReplies.{GotReplies}
-use Rattle.pef_top.specs.Outside.{Outside, Told}
-use Rattle.pef_top.specs.Outcome.{Done}
-use Rattle.pef_top.specs.FoundIndex.{FindsIndexOf}
-use Rattle.pef_top.specs.AnsweredText.{AnswersAll}
-use Rattle.pef_top.specs.Build.{Builds}
-use Rattle.pef_top.specs.Query.{Queries}
-use Rattle.pef_top.specs.Migrate.{Migrates, migrate_format}
+use Rattle.command_ends.specs.Outside.{Outside, Told}
+use Rattle.command_ends.specs.Outcome.{Done}
+use Rattle.command_ends.specs.FoundIndex.{FindsIndexOf}
+use Rattle.command_ends.specs.AnsweredText.{AnswersAll}
+use Rattle.collection_commands.specs.Build.{Builds}
+use Rattle.index_commands.specs.Query.{Queries}
+use Rattle.index_commands.specs.Migrate.{Migrates, migrate_format}
 
 -- a file that is told is an index of one collection only
 same_index : OneIndex → WordsAreRead → (name : List ℕ) (d : DepotState) (a c : Collection) → FindsIndexOf name d a → FindsIndexOf name d c → IsTrue d.tells → a ≡ c

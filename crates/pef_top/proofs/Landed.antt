@@ -12,16 +12,16 @@ use Rattle.collection_reader.specs.FirstFault.{IsFirstFault}
 use Rattle.collection_reader.specs.ReadCollection.{files_at}
 use Rattle.collection_reader.specs.Laws.{OneFirstFault, SpelledHasNoFault}
 use Rattle.pef_io.specs.DepotState.{DepotState}
-use Rattle.pef_top.proofs.Counted.{is_file_fault}
-use Rattle.pef_top.specs.declared.status.Status.{Status}
+use Rattle.command_ends.proofs.Counted.{is_file_fault}
+use Rattle.command_ends.specs.declared.status.Status.{Status}
 use Rattle.command_line.specs.Command.{Command}
-use Rattle.pef_top.specs.Ends.{Ends}
+use Rattle.command_ends.specs.Ends.{Ends}
 use Rattle.pef_top.specs.Uncalled.{Objects, LeavesUncalled, IsSilent}
-use Rattle.pef_top.specs.Outside.{Outside, Told, IsUnanswered, OfFile}
-use Rattle.pef_top.specs.Outcome.{Outcome, Done, NoMemory, BrokenCollection, FileFault, is_refusal}
+use Rattle.command_ends.specs.Outside.{Outside, Told, IsUnanswered, OfFile}
+use Rattle.command_ends.specs.Outcome.{Outcome, Done, NoMemory, BrokenCollection, FileFault, is_refusal}
 use Rattle.command_model.specs.Found.{HasFault}
-use Rattle.pef_top.specs.Answer.{Answers, IsAnswerable, IsBuiltFrom, answer_format}
-use Rattle.pef_top.specs.AnsweredText.{AnswersAll}
+use Rattle.collection_commands.specs.Answer.{Answers, IsAnswerable, IsBuiltFrom, answer_format}
+use Rattle.command_ends.specs.AnsweredText.{AnswersAll}
 
 -- where all is done, the replies are those of each collection that the files hold
 pub replies_of_each : OneCollection (numbers_of answer_format) → (base : List ℕ) (old new : Outside) → Answers base old new Done → Told old

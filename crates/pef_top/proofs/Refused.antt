@@ -1,10 +1,10 @@
 use Rattle.std.proofs.Common.{refl, sym, subst, inr, arith, Option, None}
 use Rattle.std.specs.Prelude.{◌≡◌, false}
-use Rattle.pef_top.proofs.Counted.{all_end}
-use Rattle.pef_top.specs.declared.status.Status.TheVariants as status
-use Rattle.pef_top.specs.Outside.{Outside}
-use Rattle.pef_top.specs.Outcome.{Outcome, Usage}
-use Rattle.pef_top.specs.Ends.{Ends}
+use Rattle.command_ends.proofs.Counted.{all_end}
+use Rattle.command_ends.specs.declared.status.Status.TheVariants as status
+use Rattle.command_ends.specs.Outside.{Outside}
+use Rattle.command_ends.specs.Outcome.{Outcome, Usage}
+use Rattle.command_ends.specs.Ends.{Ends}
 use Rattle.command_line.specs.Command.{Command}
 use Rattle.pef_top.specs.Commands.{Performs}
 use Rattle.pef_top.specs.Uncalled.{Objects, LeavesUncalled}

@@ -4,22 +4,24 @@ use Rattle.std.specs.Prelude.{◌≢◌, not, IsTrue, Result, Ok, Err, IsOk, Opt
 use Rattle.pef_io.specs.SourceState.{SourceState}
 use Rattle.pef_io.specs.SinkState.{SinkState}
 use Rattle.pef_io.specs.DepotState.{DepotState}
-use Rattle.pef_top.specs.declared.status.Status.{Status}
-use Rattle.pef_top.specs.declared.stop.Stop.{Stop}
-use Rattle.pef_top.specs.declared.stop.Stop.TheVariants as stop
+use Rattle.command_ends.specs.declared.status.Status.{Status}
+use Rattle.command_ends.specs.declared.stop.Stop.{Stop}
+use Rattle.command_ends.specs.declared.stop.Stop.TheVariants as stop
 use Rattle.command_line.specs.Command.{Command}
-use Rattle.pef_top.specs.Outside.{Outside, GotText, outside, OfFile, OfWriting, OfInput, OfOut}
-use Rattle.pef_top.specs.Outcome.{Outcome, Done, Usage, BrokenCollection, BrokenIndex, BrokenSide, BrokenMap, FileFault, InputFault, WriteFault, OutFault, NoMemory, TooLarge, InputTooLarge, BrokenSegment, UnfitSegment, status_of, line_of}
-use Rattle.pef_top.specs.Ends.{Ends}
+use Rattle.command_ends.specs.Outside.{Outside, GotText, outside, OfFile, OfWriting, OfInput, OfOut}
+use Rattle.command_ends.specs.Outcome.{Outcome, Done, Usage, BrokenCollection, BrokenIndex, BrokenSide, BrokenMap, FileFault, InputFault, WriteFault, OutFault, NoMemory, TooLarge, InputTooLarge, BrokenSegment, UnfitSegment, status_of, line_of}
+use Rattle.command_ends.specs.Ends.{Ends}
 use Rattle.pef_top.specs.Commands.{IsUsage, Performs}
 use Rattle.pef_top.specs.Uncalled.{LeavesUncalled, calls_depot, reads_input, prints, objects}
-use Rattle.pef_top.specs.Private.Leaves.{Leaves, Reports}
-use Rattle.pef_top.specs.Private.Stops.{outcome_of, outcome_of_stop}
-use Rattle.pef_top.proofs.Started.{uncalled}
-use Rattle.pef_top.proofs.Counted.{stays, all_end}
+use Rattle.command_ends.specs.Steps.Leaves.{Leaves}
+use Rattle.pef_top.specs.Private.Reports.{Reports}
+use Rattle.command_ends.specs.Steps.Stops.{outcome_of, outcome_of_stop}
+use Rattle.command_ends.proofs.Started.{uncalled}
+use Rattle.command_ends.proofs.Counted.{stays, all_end}
+use Rattle.pef_top.specs.Starts.{Starts}
 
 -- words that are no command
-pub no_command : (d : DepotState) (i : SourceState) (o e e' : SinkState) (s : ℕ) → Leaves None (outside d i o e s) (outside d i o e' s) Usage
+pub no_command : (d : DepotState) (i : SourceState) (o e e' : SinkState) (s : ℕ) → Leaves (Performs None) (Starts None) (outside d i o e s) (outside d i o e' s) Usage
 no_command d i o e e' s = record {
   performs = record { usage = refl; costs = refl };
   faults = all_end _ _ _ (record {
@@ -57,7 +59,7 @@ is_ok (Err s) h = absurd (not_done s h)
 
 -- One run.
 module _ (command : Option Command) (old new : Outside) (outcome : Outcome) (result : Status)
-    (leaves : Leaves command old new outcome) (reports : Reports old.err new.err outcome result) where
+    (leaves : Leaves (Performs command) (Starts command) old new outcome) (reports : Reports old.err new.err outcome result) where
   -- what holds whatever the command
   pub run_ends : Ends old new outcome result
   run_ends = record {

@@ -5,17 +5,18 @@ use Rattle.pef_io.specs.SourceState.{SourceState}
 use Rattle.pef_io.specs.SinkState.{SinkState}
 use Rattle.pef_io.specs.DepotState.{DepotState}
 use Rattle.command_line.specs.Command.{Command, Build, Query, Answer, Inspect, Generate, Migrate, Audit, Blocks, BlockQuery, Remap, Segments}
-use Rattle.pef_top.specs.Outside.{outside, OfFile, OfWriting, OfInput, OfOut}
-use Rattle.pef_top.specs.Outcome.{NoMemory}
-use Rattle.pef_top.specs.Private.Leaves.{Leaves}
+use Rattle.command_ends.specs.Outside.{outside, OfFile, OfWriting, OfInput, OfOut}
+use Rattle.command_ends.specs.Outcome.{NoMemory}
+use Rattle.command_ends.specs.Steps.Leaves.{Leaves}
 use Rattle.command_line.specs.declared.error.WordsError.{WordsError}
 use Rattle.command_line.specs.WordsErrors.{error_of_words}
-use Rattle.pef_top.specs.Private.Stops.{outcome_of_stop, stop_of_words}
+use Rattle.command_ends.specs.Steps.Stops.{outcome_of_stop, stop_of_words}
 use Rattle.pef_top.specs.Starts.{StartedIn, Starts}
-use Rattle.pef_top.proofs.Started.{uncalled}
-use Rattle.pef_top.proofs.Counted.{stays, all_end}
+use Rattle.command_ends.proofs.Started.{uncalled}
+use Rattle.command_ends.proofs.Counted.{stays, all_end}
 use Rattle.pef_top.proofs.RunEnds.{no_command}
 use Rattle.pef_top.proofs.Without.{performs}
+use Rattle.pef_top.specs.Commands.{Performs}
 
 -- nothing is started
 starts_none : (command : Command) (d : DepotState) → Starts (Some command) NoMemory d d
@@ -31,7 +32,7 @@ starts_none (BlockQuery index side) d = uncalled (StartedIn (Some (BlockQuery in
 starts_none (Remap base map to) d = uncalled (StartedIn (Some (Remap base map to)) NoMemory) NoMemory d (inl refl)
 starts_none (Segments indexes plan) d = record { in_turn = (0, omega arith, λ s lt. absurd (omega (arith, lt)), refl); no_others = λ slot other. refl; refusals = inr refl }
 
-no_memory : (command : Command) (d : DepotState) (i : SourceState) (o e e' : SinkState) (s : ℕ) → Leaves (Some command) (outside d i o e s) (outside d i o e' s) NoMemory
+no_memory : (command : Command) (d : DepotState) (i : SourceState) (o e e' : SinkState) (s : ℕ) → Leaves (Performs (Some command)) (Starts (Some command)) (outside d i o e s) (outside d i o e' s) NoMemory
 no_memory command d i o e e' s = record {
   performs = performs command d i o e e' s;
   faults = all_end _ _ _ (record {
@@ -47,11 +48,11 @@ no_memory command d i o e e' s = record {
 }
 
 at_once : (command : Option Command) (d : DepotState) (i : SourceState) (o e e' : SinkState) (s : ℕ)
-    → Leaves command (outside d i o e s) (outside d i o e' s) (outcome_of_stop (stop_of_words (error_of_words command)))
+    → Leaves (Performs command) (Starts command) (outside d i o e s) (outside d i o e' s) (outcome_of_stop (stop_of_words (error_of_words command)))
 at_once None d i o e e' s = no_command d i o e e' s
 at_once (Some command) d i o e e' s = no_memory command d i o e e' s
 
 -- Words that are none, and want of memory, change nothing outside.
 pub stopped : (command : Option Command) (error : WordsError) (d : DepotState) (i : SourceState) (o e e' : SinkState) (s : ℕ) → error ≡ error_of_words command
-    → Leaves command (outside d i o e s) (outside d i o e' s) (outcome_of_stop (stop_of_words error))
+    → Leaves (Performs command) (Starts command) (outside d i o e s) (outside d i o e' s) (outcome_of_stop (stop_of_words error))
 stopped command error d i o e e' s is = rw is (at_once command d i o e e' s)

@@ -4,12 +4,12 @@ use Rattle.pef_io.specs.SourceState.{SourceState}
 use Rattle.pef_io.specs.SinkState.{SinkState}
 use Rattle.pef_io.specs.DepotState.{DepotState}
 use Rattle.pef_io.proofs.OnlyReads.{OnlyReads-same}
-use Rattle.pef_top.proofs.Counted.{all_end}
-use Rattle.pef_top.specs.declared.status.Status.TheVariants as status
-use Rattle.pef_top.specs.Outside.{outside, GotText}
-use Rattle.pef_top.specs.ErrLines.{memory_line}
-use Rattle.pef_top.specs.Outcome.{NoMemory}
-use Rattle.pef_top.specs.Ends.{Ends}
+use Rattle.command_ends.proofs.Counted.{all_end}
+use Rattle.command_ends.specs.declared.status.Status.TheVariants as status
+use Rattle.command_ends.specs.Outside.{outside, GotText}
+use Rattle.command_ends.specs.ErrLines.{memory_line}
+use Rattle.command_ends.specs.Outcome.{NoMemory}
+use Rattle.command_ends.specs.Ends.{Ends}
 use Rattle.command_line.specs.Command.{Command, Build, Query, Answer, Inspect, Generate, Migrate, Audit, Blocks, BlockQuery, Remap, Segments}
 use Rattle.pef_top.specs.Commands.{Performs}
 

@@ -1,22 +1,22 @@
 use Rattle.std.specs.Prelude.{◌≡◌, Option, Some, None}
 use Rattle.pef_io.specs.SinkState.{SinkState}
-use Rattle.pef_top.specs.declared.status.Status.{Status}
-use Rattle.pef_top.specs.declared.status.Status.TheVariants as status
+use Rattle.command_ends.specs.declared.status.Status.{Status}
+use Rattle.command_ends.specs.declared.status.Status.TheVariants as status
 use Rattle.command_line.specs.Command.{Command, Build, Query, Answer, Inspect, Generate, Migrate, Audit, Blocks, BlockQuery, Remap, Segments}
-use Rattle.pef_top.specs.ErrLines.{usage_line}
-use Rattle.pef_top.specs.Outside.{Outside, GotText}
-use Rattle.pef_top.specs.Outcome.{Outcome, Usage}
-use Rattle.pef_top.specs.Build.{Builds}
-use Rattle.pef_top.specs.Query.{Queries}
-use Rattle.pef_top.specs.Answer.{Answers}
-use Rattle.pef_top.specs.Inspect.{Inspects}
-use Rattle.pef_top.specs.Generate.{Generates}
-use Rattle.pef_top.specs.Migrate.{Migrates}
-use Rattle.pef_top.specs.Audit.{Audits}
-use Rattle.pef_top.specs.Blocks.{WritesBlocks}
-use Rattle.pef_top.specs.BlockQuery.{QueriesBlocks}
-use Rattle.pef_top.specs.Remap.{Remaps}
-use Rattle.pef_top.specs.AnswerSegments.{AnswersSegments}
+use Rattle.command_ends.specs.ErrLines.{usage_line}
+use Rattle.command_ends.specs.Outside.{Outside, GotText}
+use Rattle.command_ends.specs.Outcome.{Outcome, Usage}
+use Rattle.collection_commands.specs.Build.{Builds}
+use Rattle.index_commands.specs.Query.{Queries}
+use Rattle.collection_commands.specs.Answer.{Answers}
+use Rattle.index_commands.specs.Inspect.{Inspects}
+use Rattle.collection_commands.specs.Generate.{Generates}
+use Rattle.index_commands.specs.Migrate.{Migrates}
+use Rattle.index_commands.specs.Audit.{Audits}
+use Rattle.side_commands.specs.Blocks.{WritesBlocks}
+use Rattle.side_commands.specs.BlockQuery.{QueriesBlocks}
+use Rattle.collection_commands.specs.Remap.{Remaps}
+use Rattle.segment_commands.specs.AnswerSegments.{AnswersSegments}
 
 -- Words that are no command end the run with the usage line.
 pub record IsUsage (old new : SinkState) (result : Status) : Type 0 where

@@ -5,12 +5,12 @@ use Rattle.part_cost.specs.Formats.{numbers_of}
 use Rattle.query_text.specs.Lines.{text_lines}
 use Rattle.command_model.specs.Found.{FindsCollection}
 use Rattle.command_model.specs.GotReplies.{GotReplies}
-use Rattle.pef_top.specs.Outside.{Outside, Told}
-use Rattle.pef_top.specs.Outcome.{Done}
-use Rattle.pef_top.specs.Build.{Builds}
-use Rattle.pef_top.specs.Query.{Queries}
-use Rattle.pef_top.specs.FoundIndex.{FindsIndexOf}
-use Rattle.pef_top.specs.Migrate.{Migrates}
+use Rattle.command_ends.specs.Outside.{Outside, Told}
+use Rattle.command_ends.specs.Outcome.{Done}
+use Rattle.collection_commands.specs.Build.{Builds}
+use Rattle.index_commands.specs.Query.{Queries}
+use Rattle.command_ends.specs.FoundIndex.{FindsIndexOf}
+use Rattle.index_commands.specs.Migrate.{Migrates}
 
 -- Where `build` is done and then `query` of what it left, the replies are those of the collection that `build` found.
 abbrev pub BuiltFilesAnswer : Type 0

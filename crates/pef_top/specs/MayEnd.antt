@@ -4,10 +4,10 @@ use Rattle.pef_io.specs.declared.fail.Slot.TheVariants.{Docs, Index, Side, Map}
 use Rattle.collection_reader.specs.ReadCollection.{IsCollectionSlot}
 use Rattle.command_line.specs.Command.{Command, Build, Migrate, Blocks, BlockQuery, Remap, Segments}
 use Rattle.command_model.specs.Found.{IsIndexSlot}
-use Rattle.pef_top.specs.Outside.{Outside}
-use Rattle.pef_top.specs.Outcome.{Outcome, Done, Usage, BrokenCollection, BrokenIndex, BrokenSide, BrokenMap, FileFault, InputFault, WriteFault, OutFault, NoMemory, TooLarge, InputTooLarge, BrokenSegment, UnfitSegment}
+use Rattle.command_ends.specs.Outside.{Outside}
+use Rattle.command_ends.specs.Outcome.{Outcome, Done, Usage, BrokenCollection, BrokenIndex, BrokenSide, BrokenMap, FileFault, InputFault, WriteFault, OutFault, NoMemory, TooLarge, InputTooLarge, BrokenSegment, UnfitSegment}
 use Rattle.pef_top.specs.Commands.{Performs}
-use Rattle.pef_top.specs.FoundSide.{IsIndexOrSide, IsSideSlot}
+use Rattle.side_commands.specs.FoundSide.{IsIndexOrSide, IsSideSlot}
 use Rattle.pef_top.specs.Starts.{ReadsFrom}
 use Rattle.pef_top.specs.Uncalled.{reads_input, prints}
 

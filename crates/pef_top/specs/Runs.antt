@@ -1,9 +1,9 @@
 use Rattle.std.specs.Prelude.{◌≡◌, Option, None}
-use Rattle.pef_top.specs.declared.status.Status.{Status}
+use Rattle.command_ends.specs.declared.status.Status.{Status}
 use Rattle.command_line.specs.Command.{Command}
-use Rattle.pef_top.specs.Outside.{Outside}
-use Rattle.pef_top.specs.Outcome.{Outcome, Done}
-use Rattle.pef_top.specs.Ends.{Ends}
+use Rattle.command_ends.specs.Outside.{Outside}
+use Rattle.command_ends.specs.Outcome.{Outcome, Done}
+use Rattle.command_ends.specs.Ends.{Ends}
 use Rattle.pef_top.specs.Commands.{IsUsage, Performs}
 use Rattle.pef_top.specs.Starts.{Starts}
 use Rattle.pef_top.specs.Uncalled.{Objects, Accepts, LeavesUncalled}

@@ -5,11 +5,11 @@ use Rattle.pef_io.specs.DepotState.{DepotState}
 use Rattle.command_model.specs.Found.{FindsCollection}
 use Rattle.command_model.specs.FoundMap.{FindsBothOf}
 use Rattle.command_line.specs.Command.{Command, Build, Query, Answer, Inspect, Generate, Migrate, Audit, Blocks, BlockQuery, Remap, Segments}
-use Rattle.pef_top.specs.Outcome.{Outcome, is_refusal}
-use Rattle.pef_top.specs.FoundIndex.{FindsIndexOf}
-use Rattle.pef_top.specs.FoundSegments.{FindsJoined}
-use Rattle.pef_top.specs.FoundSide.{FindsWithSide}
-use Rattle.pef_top.specs.Answer.{IsAnswerable}
+use Rattle.command_ends.specs.Outcome.{Outcome, is_refusal}
+use Rattle.command_ends.specs.FoundIndex.{FindsIndexOf}
+use Rattle.segment_commands.specs.FoundSegments.{FindsJoined}
+use Rattle.side_commands.specs.FoundSide.{FindsWithSide}
+use Rattle.collection_commands.specs.Answer.{IsAnswerable}
 
 -- the objects on which a command works, whole
 pub record Objects (D I O : Type 0) : Type 0 where

@@ -1,35 +1,26 @@
 ghost use Rattle.std.specs.Prelude.{◌≡◌, ℕ, ◌<◌, IsOk};
 ghost use Rattle.pef_io.specs.SinkState.{SinkState};
 ghost use Rattle.command_line.specs.Command.{command_of, texts};
-ghost use Rattle.pef_top.specs.Outside.{outside};
+ghost use Rattle.command_ends.specs.Outside.{outside};
 ghost use Rattle.pef_top.specs.Uncalled.{objects, Accepts, LeavesUncalled};
+ghost use Rattle.pef_top.specs.Commands.{Performs};
+ghost use Rattle.pef_top.specs.Starts.{Starts};
 ghost use Rattle.pef_top.specs.Runs.{Runs};
-ghost use Rattle.pef_top.specs.Private.Leaves.{Leaves, Reports};
-ghost use Rattle.pef_top.specs.Private.Stops.{outcome_of};
+ghost use Rattle.pef_top.specs.Private.Reports.{Reports};
+ghost use Rattle.command_ends.specs.Steps.Leaves.{Leaves};
+ghost use Rattle.command_ends.specs.Steps.Stops.{outcome_of};
 
-use crate::answer::answer;
-use crate::audit::audit;
-use crate::block_query::query_blocks;
-use crate::blocks::write_blocks;
-use crate::build::build;
-use crate::err_lines::write_line;
-use crate::generate::generate;
-use crate::inspect::inspect;
-use crate::joined::answer_segments;
-use crate::migrate::migrate;
-use crate::query::query;
-use crate::reorder::reorder;
-use crate::status::Status;
-use crate::stop::Stop;
+use collection_commands::{answer, build, generate, reorder};
+use command_ends::{Status, Stop, write_line};
 use command_line::{Command, parse_words};
+use index_commands::{audit, inspect, migrate, query};
 use pef_io::{Depot, Sink, Source};
+use segment_commands::answer_segments;
+use side_commands::{query_blocks, write_blocks};
 use std::alloc::Global;
 use std::marker::Brand;
 use std::sync::ledger::{Blank, Ledger};
 use step_count::Steps;
-
-/// The most bytes of query text that are answered.
-pub(crate) const LONGEST_TEXT: u64 = 1 << 40;
 
 /// Runs the command of the words, the program's name first.
 ///
@@ -113,7 +104,7 @@ fn perform<D: Depot, I: Source, O: Sink, L: Ledger>(
     out: &mut O,
     steps: &mut Steps<L>,
 ) -> Result<(), Stop>
-    ensures leaves { (e e' : SinkState) → Leaves (command_of (texts words.now))
+    ensures leaves { let command = command_of (texts words.now) in (e e' : SinkState) → Leaves (Performs command) (Starts command)
         (outside (D.state depot.old) (I.state input.old) (O.state out.old) e steps.old)
         (outside (D.state depot.new) (I.state input.new) (O.state out.new) e' steps.new) (outcome_of result) }
     ensures uncalled { let command = command_of (texts words.now) in

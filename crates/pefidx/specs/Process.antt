@@ -3,10 +3,10 @@ use Rattle.std.specs.declared.alloc.Global.{Global}
 use Rattle.no_memory.specs.declared.NoMemory.{NoMemory}
 use Rattle.pef_io.specs.SinkState.{SinkState}
 use Rattle.command_line.specs.Command.{command_of, texts}
-use Rattle.pef_top.specs.declared.status.Status.{Status}
-use Rattle.pef_top.specs.declared.status.Status.TheVariants as status
-use Rattle.pef_top.specs.ErrLines.{memory_line}
-use Rattle.pef_top.specs.Outside.{Outside, GotText}
+use Rattle.command_ends.specs.declared.status.Status.{Status}
+use Rattle.command_ends.specs.declared.status.Status.TheVariants as status
+use Rattle.command_ends.specs.ErrLines.{memory_line}
+use Rattle.command_ends.specs.Outside.{Outside, GotText}
 use Rattle.pef_top.specs.Uncalled.{Objects}
 use Rattle.pef_top.specs.Runs.{Runs}
 

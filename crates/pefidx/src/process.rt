@@ -1,8 +1,8 @@
 ghost use Rattle.std.specs.Prelude.{◌≡◌};
 ghost use Rattle.std.specs.Process.{exit_status};
-ghost use Rattle.pef_top.specs.declared.status.Status as ended;
-ghost use Rattle.pef_top.specs.Outside.{outside};
-ghost use Rattle.pef_top.specs.StatusNumber.{status_number};
+ghost use Rattle.command_ends.specs.declared.status.Status as ended;
+ghost use Rattle.command_ends.specs.Outside.{outside};
+ghost use Rattle.command_ends.specs.StatusNumber.{status_number};
 ghost use Rattle.pef_top.specs.Uncalled.{objects};
 ghost use Rattle.pefidx.specs.Process.{Processes};
 

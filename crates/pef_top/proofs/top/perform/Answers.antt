@@ -1,18 +1,20 @@
 use Rattle.std.proofs.Common.{rules, ◌≡◌, sym, ◌∙◌, ap, subst}
 use Rattle.std.specs.Prelude.{Option, Some, Result, Err}
-use Rattle.pef_top.specs.declared.stop.Stop.{Stop}
+use Rattle.command_ends.specs.declared.stop.Stop.{Stop}
 use Rattle.command_line.specs.Command.{Command, command_of, texts}
-use Rattle.pef_top.specs.Outside.{outside}
+use Rattle.command_ends.specs.Outside.{outside}
 use Rattle.command_line.specs.Asked.{asked}
-use Rattle.pef_top.specs.Private.Leaves.{Leaves}
-use Rattle.pef_top.specs.Private.Stops.{outcome_of, stop_of_words}
+use Rattle.command_ends.specs.Steps.Leaves.{Leaves}
+use Rattle.command_ends.specs.Steps.Stops.{outcome_of, stop_of_words}
 use Rattle.pef_top.proofs.Stopped.{stopped}
 use Rattle.pef_top.proofs.top.perform.Goals as goal
+use Rattle.pef_top.specs.Commands.{Performs}
+use Rattle.pef_top.specs.Starts.{Starts}
 
 pub returns-in_err-command-clause-leaves : goal.returns-in_err-command-clause-leaves
 returns-in_err-command-clause-leaves g c = λ e e'.
     let command = command_of (texts c.args.words.now) in
-    let P : Result (Unit {0}) Stop → Type 0 = λ result. Leaves command
+    let P : Result (Unit {0}) Stop → Type 0 = λ result. Leaves (Performs command) (Starts command)
     (outside (g.D.Depot.state c.args.depot.now) (g.I.Source.state c.args.input.now) (g.O.Sink.state c.args.out.now) e c.args.steps.now)
     (outside (g.D.Depot.state c.args.depot.now) (g.I.Source.state c.args.input.now) (g.O.Sink.state c.args.out.now) e' c.args.steps.now) (outcome_of result) in
     let is : c.from_residual.result ≡ Err (stop_of_words c.in_err-command.field-0.0) = search rules in
@@ -21,35 +23,35 @@ returns-in_err-command-clause-leaves g c = λ e e'.
 
 pub returns-in-Build-clause-leaves : goal.returns-in-Build-clause-leaves
 returns-in-Build-clause-leaves g c = λ e e'.
-    let P : Option Command → Type 0 = λ command. Leaves command
+    let P : Option Command → Type 0 = λ command. Leaves (Performs command) (Starts command)
     (outside (g.D.Depot.state c.args.depot.now) (g.I.Source.state c.args.input.now) (g.O.Sink.state c.args.out.now) e c.args.steps.now)
     (outside (g.D.Depot.state c.build.new.depot) (g.I.Source.state c.args.input.now) (g.O.Sink.state c.args.out.now) e' c.build.new.steps) (outcome_of c.build.result) in
     subst P (sym (ap (λ x. Some (asked x)) c.in-Build.is) ∙ c.in_ok-command.ensures.command) (c.build.ensures (g.I.Source.state c.args.input.now) (g.O.Sink.state c.args.out.now) e e')
 
 pub returns-in-Query-clause-leaves : goal.returns-in-Query-clause-leaves
 returns-in-Query-clause-leaves g c = λ e e'.
-    let P : Option Command → Type 0 = λ command. Leaves command
+    let P : Option Command → Type 0 = λ command. Leaves (Performs command) (Starts command)
     (outside (g.D.Depot.state c.args.depot.now) (g.I.Source.state c.args.input.now) (g.O.Sink.state c.args.out.now) e c.args.steps.now)
     (outside (g.D.Depot.state c.query.new.depot) (g.I.Source.state c.query.new.input) (g.O.Sink.state c.query.new.out) e' c.args.steps.now) (outcome_of c.query.result) in
     subst P (sym (ap (λ x. Some (asked x)) c.in-Query.is) ∙ c.in_ok-command.ensures.command) (c.query.ensures.leaves e e' c.args.steps.now)
 
 pub returns-in-Inspect-clause-leaves : goal.returns-in-Inspect-clause-leaves
 returns-in-Inspect-clause-leaves g c = λ e e'.
-    let P : Option Command → Type 0 = λ command. Leaves command
+    let P : Option Command → Type 0 = λ command. Leaves (Performs command) (Starts command)
     (outside (g.D.Depot.state c.args.depot.now) (g.I.Source.state c.args.input.now) (g.O.Sink.state c.args.out.now) e c.args.steps.now)
     (outside (g.D.Depot.state c.inspect.new.depot) (g.I.Source.state c.args.input.now) (g.O.Sink.state c.inspect.new.out) e' c.args.steps.now) (outcome_of c.inspect.result) in
     subst P (sym (ap (λ x. Some (asked x)) c.in-Inspect.is) ∙ c.in_ok-command.ensures.command) (c.inspect.ensures.leaves (g.I.Source.state c.args.input.now) e e' c.args.steps.now)
 
 pub returns-in-Answer-clause-leaves : goal.returns-in-Answer-clause-leaves
 returns-in-Answer-clause-leaves g c = λ e e'.
-    let P : Option Command → Type 0 = λ command. Leaves command
+    let P : Option Command → Type 0 = λ command. Leaves (Performs command) (Starts command)
     (outside (g.D.Depot.state c.args.depot.now) (g.I.Source.state c.args.input.now) (g.O.Sink.state c.args.out.now) e c.args.steps.now)
     (outside (g.D.Depot.state c.answer.new.depot) (g.I.Source.state c.answer.new.input) (g.O.Sink.state c.answer.new.out) e' c.answer.new.steps) (outcome_of c.answer.result) in
     subst P (sym (ap (λ x. Some (asked x)) c.in-Answer.is) ∙ c.in_ok-command.ensures.command) (c.answer.ensures.leaves e e')
 
 pub returns-in-Generate-clause-leaves : goal.returns-in-Generate-clause-leaves
 returns-in-Generate-clause-leaves g c = λ e e'.
-    let P : Option Command → Type 0 = λ command. Leaves command
+    let P : Option Command → Type 0 = λ command. Leaves (Performs command) (Starts command)
     (outside (g.D.Depot.state c.args.depot.now) (g.I.Source.state c.args.input.now) (g.O.Sink.state c.args.out.now) e c.args.steps.now)
     (outside (g.D.Depot.state c.args.depot.now) (g.I.Source.state c.args.input.now) (g.O.Sink.state c.generate.new.out) e' c.generate.new.steps) (outcome_of c.generate.result) in
     subst P (sym (ap (λ x. Some (asked x)) c.in-Generate.is) ∙ c.in_ok-command.ensures.command)
@@ -57,7 +59,7 @@ returns-in-Generate-clause-leaves g c = λ e e'.
 
 pub returns-in-Migrate-clause-leaves : goal.returns-in-Migrate-clause-leaves
 returns-in-Migrate-clause-leaves g c = λ e e'.
-    let P : Option Command → Type 0 = λ command. Leaves command
+    let P : Option Command → Type 0 = λ command. Leaves (Performs command) (Starts command)
     (outside (g.D.Depot.state c.args.depot.now) (g.I.Source.state c.args.input.now) (g.O.Sink.state c.args.out.now) e c.args.steps.now)
     (outside (g.D.Depot.state c.migrate.new.depot) (g.I.Source.state c.args.input.now) (g.O.Sink.state c.args.out.now) e' c.migrate.new.steps) (outcome_of c.migrate.result) in
     subst P (sym (ap (λ x. Some (asked x)) c.in-Migrate.is) ∙ c.in_ok-command.ensures.command)
@@ -65,14 +67,14 @@ returns-in-Migrate-clause-leaves g c = λ e e'.
 
 pub returns-in-Audit-clause-leaves : goal.returns-in-Audit-clause-leaves
 returns-in-Audit-clause-leaves g c = λ e e'.
-    let P : Option Command → Type 0 = λ command. Leaves command
+    let P : Option Command → Type 0 = λ command. Leaves (Performs command) (Starts command)
     (outside (g.D.Depot.state c.args.depot.now) (g.I.Source.state c.args.input.now) (g.O.Sink.state c.args.out.now) e c.args.steps.now)
     (outside (g.D.Depot.state c.audit.new.depot) (g.I.Source.state c.args.input.now) (g.O.Sink.state c.audit.new.out) e' c.audit.new.steps) (outcome_of c.audit.result) in
     subst P (sym (ap (λ x. Some (asked x)) c.in-Audit.is) ∙ c.in_ok-command.ensures.command) (c.audit.ensures.leaves (g.I.Source.state c.args.input.now) e e')
 
 pub returns-in-Blocks-clause-leaves : goal.returns-in-Blocks-clause-leaves
 returns-in-Blocks-clause-leaves g c = λ e e'.
-    let P : Option Command → Type 0 = λ command. Leaves command
+    let P : Option Command → Type 0 = λ command. Leaves (Performs command) (Starts command)
     (outside (g.D.Depot.state c.args.depot.now) (g.I.Source.state c.args.input.now) (g.O.Sink.state c.args.out.now) e c.args.steps.now)
     (outside (g.D.Depot.state c.write_blocks.new.depot) (g.I.Source.state c.args.input.now) (g.O.Sink.state c.args.out.now) e' c.args.steps.now) (outcome_of c.write_blocks.result) in
     subst P (sym (ap (λ x. Some (asked x)) c.in-Blocks.is) ∙ c.in_ok-command.ensures.command)
@@ -80,14 +82,14 @@ returns-in-Blocks-clause-leaves g c = λ e e'.
 
 pub returns-in-BlockQuery-clause-leaves : goal.returns-in-BlockQuery-clause-leaves
 returns-in-BlockQuery-clause-leaves g c = λ e e'.
-    let P : Option Command → Type 0 = λ command. Leaves command
+    let P : Option Command → Type 0 = λ command. Leaves (Performs command) (Starts command)
     (outside (g.D.Depot.state c.args.depot.now) (g.I.Source.state c.args.input.now) (g.O.Sink.state c.args.out.now) e c.args.steps.now)
     (outside (g.D.Depot.state c.query_blocks.new.depot) (g.I.Source.state c.query_blocks.new.input) (g.O.Sink.state c.query_blocks.new.out) e' c.args.steps.now) (outcome_of c.query_blocks.result) in
     subst P (sym (ap (λ x. Some (asked x)) c.in-BlockQuery.is) ∙ c.in_ok-command.ensures.command) (c.query_blocks.ensures.leaves e e' c.args.steps.now)
 
 pub returns-in-Remap-clause-leaves : goal.returns-in-Remap-clause-leaves
 returns-in-Remap-clause-leaves g c = λ e e'.
-    let P : Option Command → Type 0 = λ command. Leaves command
+    let P : Option Command → Type 0 = λ command. Leaves (Performs command) (Starts command)
     (outside (g.D.Depot.state c.args.depot.now) (g.I.Source.state c.args.input.now) (g.O.Sink.state c.args.out.now) e c.args.steps.now)
     (outside (g.D.Depot.state c.reorder.new.depot) (g.I.Source.state c.args.input.now) (g.O.Sink.state c.args.out.now) e' c.args.steps.now) (outcome_of c.reorder.result) in
     subst P (sym (ap (λ x. Some (asked x)) c.in-Remap.is) ∙ c.in_ok-command.ensures.command)
@@ -95,7 +97,7 @@ returns-in-Remap-clause-leaves g c = λ e e'.
 
 pub returns-in-Segments-clause-leaves : goal.returns-in-Segments-clause-leaves
 returns-in-Segments-clause-leaves g c = λ e e'.
-    let P : Option Command → Type 0 = λ command. Leaves command
+    let P : Option Command → Type 0 = λ command. Leaves (Performs command) (Starts command)
     (outside (g.D.Depot.state c.args.depot.now) (g.I.Source.state c.args.input.now) (g.O.Sink.state c.args.out.now) e c.args.steps.now)
     (outside (g.D.Depot.state c.answer_segments.new.depot) (g.I.Source.state c.answer_segments.new.input) (g.O.Sink.state c.answer_segments.new.out) e' c.args.steps.now) (outcome_of c.answer_segments.result) in
     subst P (sym (ap (λ x. Some (asked x)) c.in-Segments.is) ∙ c.in_ok-command.ensures.command) (c.answer_segments.ensures.leaves e e' c.args.steps.now)

@@ -1,6 +1,6 @@
 use Rattle.command_line.specs.Command.{command_of, texts}
 use Rattle.pef_top.specs.Uncalled.{Accepts}
-use Rattle.pef_top.specs.Private.Stops.{outcome_of}
+use Rattle.command_ends.specs.Steps.Stops.{outcome_of}
 use Rattle.pef_top.proofs.RunEnds.{run_ends, usage_reported, usage_uncalled, is_ok}
 use Rattle.pef_top.proofs.top.run.Goals as goal
 

@@ -1,0 +1,5 @@
+mod WordsBuilt
+mod BaseBuilt
+mod BaseAnswered
+mod GenerationPrinted
+mod ImageMoved

@@ -1,0 +1,35 @@
+use Rattle.std.specs.Prelude.{ℕ, List}
+use Rattle.collection_model.specs.Collection.{Collection}
+use Rattle.part_cost.specs.declared.formats.Format.{Format}
+use Rattle.part_cost.specs.declared.formats.Format.TheVariants.{Two}
+use Rattle.part_cost.specs.Formats.{numbers_of}
+use Rattle.pef_io.specs.DepotState.{DepotState, OnlyReads}
+use Rattle.collection_reader.specs.ReadCollection.{IsCollectionSlot}
+use Rattle.index_file.specs.FileWords.{ListParts}
+use Rattle.command_model.specs.Found.{FindsCollection}
+use Rattle.command_ends.specs.Outside.{Outside}
+use Rattle.command_ends.specs.Outcome.{Outcome}
+use Rattle.command_ends.specs.Built.{AreBuilt, BuildsWordsThen}
+use Rattle.command_ends.specs.ReadingCollection.{ReadsCollectionThen, RefusesBrokenCollection}
+use Rattle.command_ends.specs.AnsweredText.{AnswersInput, MustAnswer}
+
+-- the format with whose limits `answer` reads, and in which it builds
+abbrev pub answer_format : Format
+answer_format = Two
+
+-- A collection that `answer` accepts stands under the base.
+abbrev pub IsAnswerable : List ℕ → DepotState → Collection → Type 0
+IsAnswerable base depot c = FindsCollection (numbers_of answer_format) base depot c
+
+-- It is accepted, and its words were built, of which the costs were counted.
+abbrev pub IsBuiltFrom : List ℕ → Outside → Outside → Collection → Type 0
+IsBuiltFrom base old new c = (parts : List ListParts) × AreBuilt answer_format (IsAnswerable base old.depot) old.costs new.costs c parts
+
+-- `answer BASE` reads a collection, builds its words and answers the input; the three files are read, and no file is changed.
+pub record Answers (base : List ℕ) (old new : Outside) (outcome : Outcome) : Type 0 where
+  pub ends : ReadsCollectionThen (numbers_of answer_format) base old
+      (BuildsWordsThen answer_format (IsAnswerable base old.depot) old new
+      (AnswersInput (IsBuiltFrom base old new) old new)) outcome
+  pub refuses : RefusesBrokenCollection (numbers_of answer_format) base old outcome
+  pub answers : MustAnswer (IsAnswerable base old.depot) old new outcome
+  pub depot : OnlyReads IsCollectionSlot old.depot new.depot

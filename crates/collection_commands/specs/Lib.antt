@@ -1,0 +1,4 @@
+pub mod Build
+pub mod Answer
+pub mod Remap
+pub mod Generate

@@ -1,0 +1,34 @@
+ghost use Rattle.pef_io.specs.SourceState.{SourceState};
+ghost use Rattle.pef_io.specs.SinkState.{SinkState};
+ghost use Rattle.command_ends.specs.Outside.{outside};
+ghost use Rattle.command_ends.specs.Steps.Leaves.{Leaves};
+ghost use Rattle.command_ends.specs.Steps.Stops.{outcome_of};
+ghost use Rattle.command_ends.specs.Starts.{StartsOnly};
+ghost use Rattle.collection_commands.specs.Build.{Builds};
+ghost use Rattle.collection_reader.specs.ReadCollection.{IsCollectionSlot};
+
+use command_ends::{Stop, after_writing, words_fit};
+use command_steps::{build_words, write_words};
+use part_cost::Format;
+use pef_io::{Depot, Slot};
+use std::alloc::Global;
+use std::sync::ledger::Ledger;
+use step_count::Steps;
+
+/// Builds the index of the collection under the base, and writes it as the file of this name.
+pub fn build<D: Depot, L: Ledger>(
+    alloc: Global,
+    base: &str,
+    index: &str,
+    depot: &mut D,
+    format: Format,
+    steps: &mut Steps<L>,
+) -> Result<(), Stop>
+    ensures { (i : SourceState) (o e e' : SinkState) → Leaves (Builds format base.now index.now) (StartsOnly IsCollectionSlot)
+        (outside (D.state depot.old) i o e steps.old) (outside (D.state depot.new) i o e' steps.new) (outcome_of result) }
+{
+    let words = build_words(alloc, base, depot, format, steps)?;
+    words_fit(&words);
+    let written = write_words(alloc, &words, index, depot);
+    after_writing(Slot::Index, written)
+}

@@ -1,0 +1,37 @@
+ghost use Rattle.std.specs.Prelude.{◌≡◌, IsTrue};
+ghost use Rattle.pef_io.specs.DepotState.{DepotState};
+ghost use Rattle.pef_io.specs.SourceState.{SourceState};
+ghost use Rattle.pef_io.specs.SinkState.{SinkState};
+ghost use Rattle.command_ends.specs.Outside.{outside};
+ghost use Rattle.command_ends.specs.Outcome.{is_refusal};
+ghost use Rattle.command_ends.specs.Steps.Leaves.{Leaves};
+ghost use Rattle.command_ends.specs.Steps.Stops.{outcome_of};
+ghost use Rattle.command_ends.specs.Starts.{StartsOnly};
+ghost use Rattle.collection_commands.specs.Generate.{Generates};
+
+use command_ends::{Stop, after_printing};
+use command_steps::{generated_words, print_generated};
+use index_file::{Index, one_index};
+use pef_io::Sink;
+use std::alloc::Global;
+use std::sync::ledger::Ledger;
+use step_count::Steps;
+
+/// Builds the words of the generated collection of a seed, and prints what is told of it.
+pub fn generate<O: Sink, L: Ledger>(
+    alloc: Global,
+    seed: u32,
+    documents: u32,
+    terms: u32,
+    out: &mut O,
+    steps: &mut Steps<L>,
+) -> Result<(), Stop>
+    ensures leaves { (d : DepotState) (i : SourceState) (e e' : SinkState) → Leaves (Generates seed documents terms) (StartsOnly (λ slot. ⊥))
+        (outside d i (O.state out.old) e steps.old) (outside d i (O.state out.new) e' steps.new) (outcome_of result) }
+    ensures refused { IsTrue (is_refusal (outcome_of result)) → out.new ≡ out.old }
+{
+    one_index();
+    let words = generated_words(alloc, seed, documents, terms, steps)?;
+    let index = Index::known(&words);
+    after_printing(print_generated(alloc, &index, out))
+}

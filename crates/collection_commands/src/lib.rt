@@ -1,0 +1,12 @@
+//! The commands over the files of a collection, and over a generated one.
+#![tactic(auto)]
+
+mod answering;
+mod building;
+mod generating;
+mod reordering;
+
+pub use answering::answer;
+pub use building::build;
+pub use generating::generate;
+pub use reordering::reorder;

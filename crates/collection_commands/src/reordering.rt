@@ -1,0 +1,30 @@
+ghost use Rattle.std.specs.Prelude.{ℕ};
+ghost use Rattle.pef_io.specs.SourceState.{SourceState};
+ghost use Rattle.pef_io.specs.SinkState.{SinkState};
+ghost use Rattle.command_ends.specs.Outside.{outside};
+ghost use Rattle.command_ends.specs.Steps.Leaves.{Leaves};
+ghost use Rattle.command_ends.specs.Steps.Stops.{outcome_of};
+ghost use Rattle.collection_commands.specs.Remap.{Remaps, RemapStarts};
+
+use command_ends::Stop;
+use command_steps::{image_files, write_image};
+use pef_io::Depot;
+use remap::image_is_well_formed;
+use std::alloc::Global;
+
+/// Reads the collection under the base and an order of its documents, and writes the files of its image under a new base.
+pub fn reorder<D: Depot>(
+    alloc: Global,
+    base: &str,
+    map: &str,
+    to: &str,
+    depot: &mut D,
+) -> Result<(), Stop>
+    ensures { (i : SourceState) (o e e' : SinkState) (costs : ℕ) → Leaves (Remaps base.now map.now to.now) RemapStarts
+        (outside (D.state depot.old) i o e costs) (outside (D.state depot.new) i o e' costs) (outcome_of result) }
+{
+    image_is_well_formed();
+    let files = image_files(alloc, base, map, to, depot)?;
+    write_image(&files, depot)?;
+    Ok(())
+}

@@ -1,0 +1,154 @@
+-- What a run leaves that answers a text from a collection that it found.
+use Rattle.std.proofs.Common.{◌≡◌, ℕ, refl, List, inl, inr}
+use Rattle.std.specs.Prelude.{Some, None, ◌≢◌, IsTrue, Result, Ok, Err}
+use Rattle.collection_model.specs.Collection.{Collection}
+use Rattle.part_cost.specs.declared.formats.Format.{Format}
+use Rattle.part_cost.specs.Formats.{numbers_of}
+use Rattle.pef_io.specs.declared.fail.Slot.{Slot}
+use Rattle.pef_io.specs.declared.fail.Slot.TheVariants.{Index}
+use Rattle.collection_reader.specs.declared.fault.Fault.{Fault}
+use Rattle.index_file.specs.declared.fault.OpenFault.{OpenFault}
+use Rattle.command_steps.specs.declared.text.RunFault.{RunFault}
+use Rattle.command_steps.specs.declared.text.RunFault.TheVariants as answering
+use Rattle.command_steps.specs.AnswerText.{AnswersText}
+use Rattle.command_ends.specs.Outside.{Outside, OfFile, OfWriting, OfInput, OfOut}
+use Rattle.command_ends.specs.Outcome.{Outcome, Done, BrokenCollection, BrokenIndex, InputFault, OutFault, NoMemory, TooLarge, InputTooLarge, is_refusal, fault_of}
+use Rattle.command_ends.specs.Ends.{EndsByFault}
+use Rattle.command_ends.specs.Built.{BuildsWordsThen}
+use Rattle.command_ends.specs.ReadingCollection.{ReadsCollectionThen}
+use Rattle.command_ends.specs.ReadingIndex.{ReadsIndexThen}
+use Rattle.command_ends.specs.AnsweredText.{AnswersInput, MustAnswer, longest_text}
+use Rattle.command_ends.specs.Steps.Stops.{outcome_of_stop, stop_of_answering}
+use Rattle.command_ends.proofs.Counted.{stays, rises, second, not_true, not_both_lengths, longer_than, Of}
+
+abbrev pub Answer : Type 0
+Answer = Result (Unit {0}) RunFault
+
+-- how a run ends that answered its text or stopped at it
+abbrev pub text_outcome : Answer → Outcome
+text_outcome (Ok u) = Done
+text_outcome (Err e) = outcome_of_stop (stop_of_answering e)
+
+-- it ends by none of these
+pub not_broken : (r : Answer) (fault : Fault) → text_outcome r ≢ BrokenCollection fault
+not_broken (Ok u) fault h = let s : Done ≡ BrokenCollection fault = h in cc
+not_broken (Err answering.Read) fault h = let s : InputFault ≡ BrokenCollection fault = h in cc
+not_broken (Err answering.Write) fault h = let s : OutFault ≡ BrokenCollection fault = h in cc
+not_broken (Err answering.TooLarge) fault h = let s : InputTooLarge ≡ BrokenCollection fault = h in cc
+not_broken (Err answering.NoMemory) fault h = let s : NoMemory ≡ BrokenCollection fault = h in cc
+
+pub not_no_index : (r : Answer) (fault : OpenFault) → text_outcome r ≢ BrokenIndex fault
+not_no_index (Ok u) fault h = let s : Done ≡ BrokenIndex fault = h in cc
+not_no_index (Err answering.Read) fault h = let s : InputFault ≡ BrokenIndex fault = h in cc
+not_no_index (Err answering.Write) fault h = let s : OutFault ≡ BrokenIndex fault = h in cc
+not_no_index (Err answering.TooLarge) fault h = let s : InputTooLarge ≡ BrokenIndex fault = h in cc
+not_no_index (Err answering.NoMemory) fault h = let s : NoMemory ≡ BrokenIndex fault = h in cc
+
+pub not_too_large : (r : Answer) → text_outcome r ≢ TooLarge Index
+not_too_large (Ok u) h = let s : Done ≡ TooLarge Index = h in cc
+not_too_large (Err answering.Read) h = let s : InputFault ≡ TooLarge Index = h in cc
+not_too_large (Err answering.Write) h = let s : OutFault ≡ TooLarge Index = h in cc
+not_too_large (Err answering.TooLarge) h = let s : InputTooLarge ≡ TooLarge Index = h in cc
+not_too_large (Err answering.NoMemory) h = let s : NoMemory ≡ TooLarge Index = h in cc
+
+pub not_file : (r : Answer) (slot : Slot) → ¬ Of (fault_of (text_outcome r)) (OfFile slot)
+not_file (Ok u) slot h = let s : Of None (OfFile slot) = h in cc
+not_file (Err answering.Read) slot h = let s : Of (Some OfInput) (OfFile slot) = h in cc
+not_file (Err answering.Write) slot h = let s : Of (Some OfOut) (OfFile slot) = h in cc
+not_file (Err answering.TooLarge) slot h = let s : Of None (OfFile slot) = h in cc
+not_file (Err answering.NoMemory) slot h = let s : Of None (OfFile slot) = h in cc
+
+pub not_writing : (r : Answer) → ¬ Of (fault_of (text_outcome r)) OfWriting
+not_writing (Ok u) h = let s : Of None OfWriting = h in cc
+not_writing (Err answering.Read) h = let s : Of (Some OfInput) OfWriting = h in cc
+not_writing (Err answering.Write) h = let s : Of (Some OfOut) OfWriting = h in cc
+not_writing (Err answering.TooLarge) h = let s : Of None OfWriting = h in cc
+not_writing (Err answering.NoMemory) h = let s : Of None OfWriting = h in cc
+
+pub not_refusal : (r : Answer) → IsTrue (is_refusal (text_outcome r)) → ⊥
+not_refusal (Ok u) h = not_true h
+not_refusal (Err answering.Read) h = not_true h
+not_refusal (Err answering.Write) h = not_true h
+not_refusal (Err answering.TooLarge) h = not_true h
+not_refusal (Err answering.NoMemory) h = not_true h
+
+-- what comes behind the building of words, and behind the reading of an index
+pub behind_building : (format : Format) (base : List ℕ) (Is : Collection → Type 0) (old new : Outside) (Then : Outcome → Type 0) (r : Answer)
+    → Then (text_outcome r) → ReadsCollectionThen (numbers_of format) base old (BuildsWordsThen format Is old new Then) (text_outcome r)
+behind_building format base Is old new Then (Ok u) then = then
+behind_building format base Is old new Then (Err answering.Read) then = then
+behind_building format base Is old new Then (Err answering.Write) then = then
+behind_building format base Is old new Then (Err answering.TooLarge) then = then
+behind_building format base Is old new Then (Err answering.NoMemory) then = then
+
+pub behind_reading : (name : List ℕ) (old : Outside) (Then : Outcome → Type 0) (r : Answer)
+    → Then (text_outcome r) → ReadsIndexThen name old Then (text_outcome r)
+behind_reading name old Then (Ok u) then = then
+behind_reading name old Then (Err answering.Read) then = then
+behind_reading name old Then (Err answering.Write) then = then
+behind_reading name old Then (Err answering.TooLarge) then = then
+behind_reading name old Then (Err answering.NoMemory) then = then
+
+-- what `answer_text` promises over a collection that was found is what the run promises of its text
+pub answers_input : (Is : Collection → Type 0) (c : Collection) → Is c → (old new : Outside) (r : Answer)
+    → AnswersText c longest_text old.input new.input old.out new.out r → AnswersInput Is old new (text_outcome r)
+answers_input Is c is old new (Ok u) a = record {
+  replies = (c, is, λ t. a.all t);
+  read_to_end = λ t. (a.to_end t).0;
+  within = λ t. (a.to_end t).1;
+}
+answers_input Is c is old new (Err answering.Read) a = (c, is, λ t. a.read t refl)
+answers_input Is c is old new (Err answering.Write) a = record { replies = (c, is, λ t. (a.write t refl, a.limited t)); taken = λ t. a.taken t }
+answers_input Is c is old new (Err answering.TooLarge) a = record { replies = (c, is, λ t. a.too_large t refl); longer = λ t. a.longer t refl }
+answers_input Is c is old new (Err answering.NoMemory) a =
+    inr (record { replies = (c, is, λ t. (a.no_memory t refl, a.limited t)); taken = λ t. a.taken t })
+
+-- a text within the limit is answered whole, and a longer one is not
+pub must_answer : (Is : Collection → Type 0) (c : Collection) (old new : Outside) (r : Answer)
+    → AnswersText c longest_text old.input new.input old.out new.out r → MustAnswer Is old new (text_outcome r)
+must_answer Is c old new (Ok u) a = record {
+  complete = λ t x is none len. inl refl;
+  limited = λ t x is none len. absurd (not_both_lengths _ _ (a.to_end t.input).1 len);
+}
+must_answer Is c old new (Err answering.Read) a = record {
+  complete = λ t x is none len. absurd (none OfInput (a.read_only_where_it_rose refl));
+  limited = λ t x is none len. absurd (none OfInput (a.read_only_where_it_rose refl));
+}
+must_answer Is c old new (Err answering.Write) a = record {
+  complete = λ t x is none len. absurd (none OfOut (a.write_only_where_it_rose refl));
+  limited = λ t x is none len. absurd (none OfOut (a.write_only_where_it_rose refl));
+}
+must_answer Is c old new (Err answering.TooLarge) a = record {
+  complete = λ t x is none len. absurd (not_both_lengths _ _ len (longer_than old.input.left new.input.left longest_text (a.longer t.input refl)));
+  limited = λ t x is none len. inl refl;
+}
+must_answer Is c old new (Err answering.NoMemory) a = record {
+  complete = λ t x is none len. inr (inr refl);
+  limited = λ t x is none len. inr (inr refl);
+}
+
+-- the counts of the input and out
+abbrev Fails : Answer → RunFault → Type 0
+Fails r e = ◌≡◌ {A = Answer} r (Err e)
+
+pub input_ends : (c : Collection) (old new : Outside) (r : Answer) → AnswersText c longest_text old.input new.input old.out new.out r
+    → EndsByFault OfInput (text_outcome r) old.input.faults new.input.faults
+input_ends c old new (Ok u) a = stays OfInput Done _ _ (λ h. cc) (second a.input_count (λ h. let b : Fails (Ok u) answering.Read = h in cc))
+input_ends c old new (Err answering.Read) a = rises OfInput InputFault _ _ refl (a.read_only_where_it_rose refl) a.counts_never_fall.0
+input_ends c old new (Err answering.Write) a =
+    stays OfInput OutFault _ _ (λ h. cc) (second a.input_count (λ h. let b : Fails (Err answering.Write) answering.Read = h in cc))
+input_ends c old new (Err answering.TooLarge) a =
+    stays OfInput InputTooLarge _ _ (λ h. cc) (second a.input_count (λ h. let b : Fails (Err answering.TooLarge) answering.Read = h in cc))
+input_ends c old new (Err answering.NoMemory) a =
+    stays OfInput NoMemory _ _ (λ h. cc) (second a.input_count (λ h. let b : Fails (Err answering.NoMemory) answering.Read = h in cc))
+
+pub out_ends : (c : Collection) (old new : Outside) (r : Answer) → AnswersText c longest_text old.input new.input old.out new.out r
+    → EndsByFault OfOut (text_outcome r) old.out.faults new.out.faults
+out_ends c old new (Ok u) a = stays OfOut Done _ _ (λ h. cc) (second a.out_count (λ h. let b : Fails (Ok u) answering.Write = h in cc))
+out_ends c old new (Err answering.Read) a =
+    stays OfOut InputFault _ _ (λ h. cc) (second a.out_count (λ h. let b : Fails (Err answering.Read) answering.Write = h in cc))
+out_ends c old new (Err answering.Write) a = rises OfOut OutFault _ _ refl (a.write_only_where_it_rose refl) a.counts_never_fall.1
+out_ends c old new (Err answering.TooLarge) a =
+    stays OfOut InputTooLarge _ _ (λ h. cc) (second a.out_count (λ h. let b : Fails (Err answering.TooLarge) answering.Write = h in cc))
+out_ends c old new (Err answering.NoMemory) a =
+    stays OfOut NoMemory _ _ (λ h. cc) (second a.out_count (λ h. let b : Fails (Err answering.NoMemory) answering.Write = h in cc))

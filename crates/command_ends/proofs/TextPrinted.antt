@@ -1,0 +1,75 @@
+-- What a run leaves that prints a text.
+use Rattle.std.proofs.Common.{◌≡◌, ℕ, refl, List, inl, inr}
+use Rattle.std.specs.Prelude.{Some, None, ◌≢◌, IsTrue, Result, Ok, Err}
+use Rattle.pef_io.specs.declared.fail.IoFail.{IoFail}
+use Rattle.pef_io.specs.declared.fail.IoFail.TheVariants as call
+use Rattle.pef_io.specs.declared.fail.Slot.{Slot}
+use Rattle.pef_io.specs.declared.fail.Slot.TheVariants.{Index}
+use Rattle.index_file.specs.declared.fault.OpenFault.{OpenFault}
+use Rattle.command_steps.specs.PrintLine.{PrintsLine}
+use Rattle.command_ends.specs.Outside.{Outside, NoCallFailed, OfFile, OfWriting, OfInput, OfOut}
+use Rattle.command_ends.specs.Outcome.{Outcome, Done, BrokenIndex, OutFault, NoMemory, TooLarge, is_refusal, fault_of}
+use Rattle.command_ends.specs.Ends.{EndsByFault, OrNoMemory}
+use Rattle.command_ends.specs.ReadingIndex.{ReadsIndexThen}
+use Rattle.command_ends.specs.PrintedText.{PrintsText}
+use Rattle.command_ends.specs.Steps.Stops.{printed_outcome}
+use Rattle.command_ends.proofs.Counted.{stays, rises, second, not_true, Of}
+
+abbrev pub Printed : Type 0
+Printed = Result (Unit {0}) IoFail
+
+-- it ends by none of these
+pub not_no_index : (r : Printed) (fault : OpenFault) → printed_outcome r ≢ BrokenIndex fault
+not_no_index (Ok u) fault h = let s : Done ≡ BrokenIndex fault = h in cc
+not_no_index (Err call.Failed) fault h = let s : OutFault ≡ BrokenIndex fault = h in cc
+not_no_index (Err call.NoMemory) fault h = let s : NoMemory ≡ BrokenIndex fault = h in cc
+
+pub not_too_large : (r : Printed) → printed_outcome r ≢ TooLarge Index
+not_too_large (Ok u) h = let s : Done ≡ TooLarge Index = h in cc
+not_too_large (Err call.Failed) h = let s : OutFault ≡ TooLarge Index = h in cc
+not_too_large (Err call.NoMemory) h = let s : NoMemory ≡ TooLarge Index = h in cc
+
+pub not_file : (r : Printed) (slot : Slot) → ¬ Of (fault_of (printed_outcome r)) (OfFile slot)
+not_file (Ok u) slot h = let s : Of None (OfFile slot) = h in cc
+not_file (Err call.Failed) slot h = let s : Of (Some OfOut) (OfFile slot) = h in cc
+not_file (Err call.NoMemory) slot h = let s : Of None (OfFile slot) = h in cc
+
+pub not_writing : (r : Printed) → ¬ Of (fault_of (printed_outcome r)) OfWriting
+not_writing (Ok u) h = let s : Of None OfWriting = h in cc
+not_writing (Err call.Failed) h = let s : Of (Some OfOut) OfWriting = h in cc
+not_writing (Err call.NoMemory) h = let s : Of None OfWriting = h in cc
+
+pub not_input : (r : Printed) → ¬ Of (fault_of (printed_outcome r)) OfInput
+not_input (Ok u) h = let s : Of None OfInput = h in cc
+not_input (Err call.Failed) h = let s : Of (Some OfOut) OfInput = h in cc
+not_input (Err call.NoMemory) h = let s : Of None OfInput = h in cc
+
+pub no_print_refuses : (r : Printed) → IsTrue (is_refusal (printed_outcome r)) → ⊥
+no_print_refuses (Ok u) h = not_true h
+no_print_refuses (Err call.Failed) h = not_true h
+no_print_refuses (Err call.NoMemory) h = not_true h
+
+-- what comes behind the reading of an index
+pub behind_index : (name : List ℕ) (old : Outside) (Then : Outcome → Type 0) (r : Printed) → Then (printed_outcome r) → ReadsIndexThen name old Then (printed_outcome r)
+behind_index name old Then (Ok u) then = then
+behind_index name old Then (Err call.Failed) then = then
+behind_index name old Then (Err call.NoMemory) then = then
+
+-- what printing promises of a text is what the run promises of it
+pub prints : (Is : List ℕ → Type 0) (line : List ℕ) → Is line → (old new : Outside) (r : Printed) → PrintsLine line old.out new.out r → PrintsText Is old new (printed_outcome r)
+prints Is line is old new (Ok u) p = (line, is, λ t. p.whole t)
+prints Is line is old new (Err call.Failed) p = (line, is, λ t. p.front t)
+prints Is line is old new (Err call.NoMemory) p = inr (line, is, λ t. p.front t)
+
+pub complete : (line : List ℕ) (old new : Outside) (r : Printed) → PrintsLine line old.out new.out r → NoCallFailed old new → OrNoMemory Done (printed_outcome r)
+complete line old new (Ok u) p none = inl refl
+complete line old new (Err call.Failed) p none = absurd (none OfOut (p.write_only_where_it_rose refl))
+complete line old new (Err call.NoMemory) p none = inr refl
+
+-- the count of out
+pub out_ends : (line : List ℕ) (old new : Outside) (r : Printed) → PrintsLine line old.out new.out r → EndsByFault OfOut (printed_outcome r) old.out.faults new.out.faults
+out_ends line old new (Ok u) p =
+    stays OfOut Done _ _ (λ h. cc) (second p.count_rises_only_there (λ h. let b : ◌≡◌ {A = Printed} (Ok u) (Err call.Failed) = h in cc))
+out_ends line old new (Err call.Failed) p = rises OfOut OutFault _ _ refl (p.write_only_where_it_rose refl) p.counts_never_fall.0
+out_ends line old new (Err call.NoMemory) p =
+    stays OfOut NoMemory _ _ (λ h. cc) (second p.count_rises_only_there (λ h. let b : ◌≡◌ {A = Printed} (Err call.NoMemory) (Err call.Failed) = h in cc))

@@ -1,0 +1,123 @@
+-- The words of a file that a run loads from a slot, or does not.
+use Rattle.std.proofs.Common.{◌≡◌, ℕ, ◌*◌, ◌≤◌, arith, refl, sym, ◌∙◌, ap, subst, List, length, inl, inr}
+use Rattle.std.specs.Prelude.{Some, None, ◌%◌, Result, Ok, Err, Vec}
+use Rattle.std.specs.declared.alloc.Global.{Global}
+use Rattle.pef_io.specs.declared.fail.Slot.{Slot}
+use Rattle.pef_io.specs.SourceState.{SourceState}
+use Rattle.pef_io.specs.SinkState.{SinkState}
+use Rattle.pef_io.specs.DepotState.{DepotState}
+use Rattle.index_file.specs.Builder.{most_words}
+use Rattle.command_model.specs.Found.{AreOfWords, most_bytes}
+use Rattle.command_model.proofs.WordBytes.{word_bytes-length}
+use Rattle.command_steps.specs.declared.loading.LoadWordsError.{LoadWordsError}
+use Rattle.command_steps.specs.declared.loading.LoadWordsError.TheVariants as loading
+use Rattle.command_steps.specs.LoadWords.{LoadsWords, words_loaded}
+use Rattle.command_ends.specs.declared.stop.Stop.{Stop}
+use Rattle.command_ends.specs.Outside.{outside, Count, OfFile, OfWriting, OfInput, OfOut}
+use Rattle.command_ends.specs.Outcome.{Outcome, fault_of}
+use Rattle.command_ends.specs.Ends.{EndsByFault, FirstFaultEnds}
+use Rattle.command_ends.specs.Steps.Stops.{outcome_of_stop, stop_of_loading}
+use Rattle.command_ends.specs.Starts.{StartsOnly}
+use Rattle.command_ends.proofs.Started.{loaded_starts}
+use Rattle.command_ends.proofs.Counted.{stays, second, by_slot, Of, all_end}
+
+-- ---- bytes and words
+
+pub length_of : (bytes words : List ℕ) → AreOfWords bytes words → length bytes ≡ 8 * length words
+length_of bytes words of = ap length of.bytes_are ∙ word_bytes-length words
+
+pub even : (bytes words : List ℕ) → AreOfWords bytes words → length bytes % 8 ≡ 0
+even bytes words of = omega (arith, length_of bytes words of)
+
+-- words that are not too many have bytes that are not too many
+pub short : (bytes words : List ℕ) → AreOfWords bytes words → length words ≤ most_words → length bytes ≤ most_bytes
+short bytes words of le = omega (arith, length_of bytes words of, le)
+
+-- ---- words that are not loaded
+
+-- how a run ends whose words are not loaded from a slot
+abbrev pub unloaded : Slot → Stop → LoadWordsError → Outcome
+unloaded slot ragged e = outcome_of_stop (stop_of_loading slot ragged e)
+
+abbrev refused : LoadWordsError → Result (List ℕ) LoadWordsError
+refused e = Err e
+
+same_error : (e f : LoadWordsError) → refused e ≡ refused f → e ≡ f
+same_error e f h = cc
+
+-- Words that are no whole ones end the run without a failed call.
+module _ (slot : Slot) (ragged : Stop) (no_fault : (count : Count) → ¬ Of (fault_of (outcome_of_stop ragged)) count) where
+  is_read : (e : LoadWordsError) (other : Slot) → Of (fault_of (unloaded slot ragged e)) (OfFile other) → e ≡ loading.Read
+  is_read loading.Ragged other h = absurd (no_fault (OfFile other) h)
+  is_read loading.Read other h = refl
+  is_read loading.TooLarge other h = let s : Of None (OfFile other) = h in cc
+  is_read loading.NoMemory other h = let s : Of None (OfFile other) = h in cc
+
+  is_slot : (e : LoadWordsError) (other : Slot) → Of (fault_of (unloaded slot ragged e)) (OfFile other) → other ≡ slot
+  is_slot loading.Ragged other h = absurd (no_fault (OfFile other) h)
+  is_slot loading.Read other h = let s : Of (Some (OfFile slot)) (OfFile other) = h in cc
+  is_slot loading.TooLarge other h = let s : Of None (OfFile other) = h in cc
+  is_slot loading.NoMemory other h = let s : Of None (OfFile other) = h in cc
+
+  not_writing : (e : LoadWordsError) → ¬ Of (fault_of (unloaded slot ragged e)) OfWriting
+  not_writing loading.Ragged h = no_fault OfWriting h
+  not_writing loading.Read h = let s : Of (Some (OfFile slot)) OfWriting = h in cc
+  not_writing loading.TooLarge h = let s : Of None OfWriting = h in cc
+  not_writing loading.NoMemory h = let s : Of None OfWriting = h in cc
+
+  not_input : (e : LoadWordsError) → ¬ Of (fault_of (unloaded slot ragged e)) OfInput
+  not_input loading.Ragged h = no_fault OfInput h
+  not_input loading.Read h = let s : Of (Some (OfFile slot)) OfInput = h in cc
+  not_input loading.TooLarge h = let s : Of None OfInput = h in cc
+  not_input loading.NoMemory h = let s : Of None OfInput = h in cc
+
+  not_out : (e : LoadWordsError) → ¬ Of (fault_of (unloaded slot ragged e)) OfOut
+  not_out loading.Ragged h = no_fault OfOut h
+  not_out loading.Read h = let s : Of (Some (OfFile slot)) OfOut = h in cc
+  not_out loading.TooLarge h = let s : Of None OfOut = h in cc
+  not_out loading.NoMemory h = let s : Of None OfOut = h in cc
+
+  module _ (name : List ℕ) (d d' : DepotState) (error : LoadWordsError) (w : LoadsWords slot name d d' (Err error)) where
+    slots_unloaded : (other : Slot) → EndsByFault (OfFile other) (unloaded slot ragged error) (d.faults other) (d'.faults other)
+    slots_unloaded =
+        by_slot slot (λ other. EndsByFault (OfFile other) (unloaded slot ragged error) (d.faults other) (d'.faults other))
+        (record {
+          only_where_it_rose = λ h. w.read_only_where_it_rose (ap refused (is_read error slot h));
+          changes_only_there = elim w.count_rises_only_there [
+            | inl is ↦ inl (ap (λ e. fault_of (unloaded slot ragged e)) (same_error error loading.Read is))
+            | inr same ↦ inr same
+          ];
+          never_falls = w.reads.never_fall slot;
+        })
+        (λ other ne. stays (OfFile other) (unloaded slot ragged error) _ _ (λ h. ne (is_slot error other h)) (w.reads.other_counts other ne))
+
+    pub unloaded_faults : (i : SourceState) (o e e' : SinkState) (n : ℕ) → FirstFaultEnds (outside d i o e n) (outside d' i o e' n) (unloaded slot ragged error)
+    unloaded_faults i o e e' n = all_end _ _ _ (record {
+      slots = slots_unloaded;
+      writing = stays OfWriting (unloaded slot ragged error) _ _ (not_writing error) w.reads.writing_count;
+      input = stays OfInput (unloaded slot ragged error) _ _ (not_input error) refl;
+      out = stays OfOut (unloaded slot ragged error) _ _ (not_out error) refl;
+    })
+
+    pub unloaded_starts : StartsOnly (λ s. s ≡ slot) (unloaded slot ragged error) d d'
+    unloaded_starts = loaded_starts slot name d d' (refused error) (unloaded slot ragged error) w (λ is. ap (unloaded slot ragged) (same_error error loading.NoMemory is))
+
+-- ---- words that are loaded
+
+pub starts : (slot : Slot) (name : List ℕ) (d d' : DepotState) (words : List ℕ) → LoadsWords slot name d d' (Ok words) → (outcome : Outcome) → StartsOnly (λ s. s ≡ slot) outcome d d'
+starts slot name d d' words w outcome =
+    loaded_starts slot name d d' (Ok words) outcome w (λ is. let s : ◌≡◌ {A = Result (List ℕ) LoadWordsError} (Ok words) (Err loading.NoMemory) = is in cc)
+
+pub loaded_counts : (slot : Slot) (name : List ℕ) (d d' : DepotState) (words : List ℕ) → LoadsWords slot name d d' (Ok words) → (other : Slot) → d'.faults other ≡ d.faults other
+loaded_counts slot name d d' words w =
+    by_slot slot (λ other. d'.faults other ≡ d.faults other)
+    (second w.count_rises_only_there (λ h. let s : ◌≡◌ {A = Result (List ℕ) LoadWordsError} (Ok words) (Err loading.Read) = h in cc))
+    (λ other ne. w.reads.other_counts other ne)
+
+-- the words that were loaded, as they are lent
+pub lent_loaded : (slot : Slot) (name : List ℕ) (d d' : DepotState) (loaded : Result (Vec ℕ Global) LoadWordsError) (words : Vec ℕ Global) (lent : List ℕ)
+    → LoadsWords slot name d d' (words_loaded loaded) → loaded ≡ Ok words → lent ≡ words.items → LoadsWords slot name d d' (Ok lent)
+lent_loaded slot name d d' loaded words lent w was lends =
+    let W : Result (Vec ℕ Global) LoadWordsError → Type 0 = λ x. LoadsWords slot name d d' (words_loaded x) in
+    let V : List ℕ → Type 0 = λ ws. LoadsWords slot name d d' (Ok ws) in
+    subst V (sym lends) (subst W was w)

@@ -1,0 +1,16 @@
+pub mod StatusNumber
+pub mod ErrLines
+pub mod Outside
+pub mod Outcome
+pub mod Ends
+pub mod Starts
+pub mod FoundIndex
+pub mod Built
+pub mod ReadingCollection
+pub mod ReadingIndex
+pub mod AnsweredText
+pub mod PrintedText
+pub mod WrittenFile
+pub mod WrittenIndex
+pub mod Steps
+pub mod Private

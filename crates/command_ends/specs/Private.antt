@@ -1,0 +1,2 @@
+-- What contracts of private functions cite, and `run` does not.
+pub mod ErrPieces

@@ -1,0 +1,18 @@
+ghost use Rattle.std.specs.Prelude.{IfErr, IfOk};
+ghost use Rattle.command_ends.specs.Steps.LoadedIndex.{IsLoaded, IsUnloaded};
+
+use crate::stop::{Stop, stop_of_index};
+use command_steps::load_words;
+use index_file::Index;
+use pef_io::{Depot, Slot};
+use std::alloc::Global;
+
+/// The words of the file under the name, which are an index.
+pub fn load_index<D: Depot>(alloc: Global, name: &str, depot: &mut D) -> Result<Vec<u64>, Stop>
+    ensures loaded { IfOk result (λ words. IsLoaded name.now (D.state depot.old) (D.state depot.new) words.items) }
+    ensures refused { IfErr result (λ stop. IsUnloaded name.now (D.state depot.old) (D.state depot.new) stop) }
+{
+    let words = load_words(alloc, Slot::Index, name, depot).map_err(stop_of_index)?;
+    Index::view(&words)?;
+    Ok(words)
+}

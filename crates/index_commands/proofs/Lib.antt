@@ -1,0 +1,4 @@
+mod IndexAnswered
+mod SummaryPrinted
+mod AuditPrinted
+mod IndexMigrated

@@ -1,0 +1,4 @@
+pub mod Query
+pub mod Inspect
+pub mod Migrate
+pub mod Audit

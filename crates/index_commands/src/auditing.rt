@@ -1,0 +1,41 @@
+ghost use Rattle.std.specs.Prelude.{◌≡◌, IsTrue};
+ghost use Rattle.collection_model.specs.Collection.{Collection};
+ghost use Rattle.pef_io.specs.SourceState.{SourceState};
+ghost use Rattle.pef_io.specs.SinkState.{SinkState};
+ghost use Rattle.command_ends.specs.FoundIndex.{FindsIndexOf};
+ghost use Rattle.command_ends.specs.Outside.{outside};
+ghost use Rattle.command_ends.specs.Outcome.{is_refusal};
+ghost use Rattle.command_ends.specs.Steps.Leaves.{Leaves};
+ghost use Rattle.command_ends.specs.Steps.Stops.{outcome_of};
+ghost use Rattle.command_ends.specs.Starts.{StartsOnly};
+ghost use Rattle.index_commands.specs.Audit.{Audits};
+ghost use Rattle.command_model.specs.Found.{IsIndexSlot};
+
+use command_ends::{Stop, after_printing, load_index};
+use command_steps::print_audit;
+use index_file::{Index, one_broken_check, words_and_bytes_undo_each_other};
+use pef_io::{Depot, Sink};
+use std::alloc::Global;
+use std::sync::ledger::Ledger;
+use step_count::Steps;
+
+/// Reads the index under the name, and prints how close to the least costs each of its sequences is cut.
+pub fn audit<D: Depot, O: Sink, L: Ledger>(
+    alloc: Global,
+    index: &str,
+    depot: &mut D,
+    out: &mut O,
+    steps: &mut Steps<L>,
+) -> Result<(), Stop>
+    ensures leaves { (i : SourceState) (e e' : SinkState) → Leaves (Audits index.now) (StartsOnly IsIndexSlot)
+        (outside (D.state depot.old) i (O.state out.old) e steps.old)
+        (outside (D.state depot.new) i (O.state out.new) e' steps.new) (outcome_of result) }
+    ensures refused { IsTrue (is_refusal (outcome_of result)) → out.new ≡ out.old }
+    ensures unaccepted { ¬ ((c : Collection) × FindsIndexOf index.now (D.state depot.old) c) → out.new ≡ out.old }
+{
+    one_broken_check();
+    words_and_bytes_undo_each_other();
+    let words = load_index(alloc, index, depot)?;
+    let index = Index::known(&words);
+    after_printing(print_audit(alloc, &index, out, steps))
+}

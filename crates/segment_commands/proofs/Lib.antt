@@ -1,0 +1,4 @@
+mod SegmentLoaded
+mod SegmentsFound
+mod SegmentsRead
+mod SegmentsAnswered

@@ -1,0 +1,229 @@
+-- One segment at most is refused, and none where all are accepted.
+use Rattle.std.proofs.Common.{◌≡◌, refl, sym, ◌∙◌, ap, subst, ℕ, zero, suc, ◌+◌, ◌<◌, ◌≤◌, List, [], ◌∷◌, ◌++◌, length, take, get_or, inl, inr, arith}
+use Rattle.std.specs.Prelude.{◌%◌, ◌==◌, not, Bool, true, false, IsTrue, MatchBool}
+use Rattle.std.specs.List.{All}
+use Rattle.std.proofs.lemmas.Bool.{cases_lt}
+use Rattle.std.proofs.lemmas.List.{take-take, length-take, get_or-take, ext_get_or}
+use Rattle.std.proofs.lemmas.List.Elements.{All-get_or, All-take, All-nil}
+use Rattle.std.proofs.lemmas.List.Sums.{sum_by-take-le, sum_by_more}
+use Rattle.collection_model.specs.Collection.{Collection}
+use Rattle.part_cost.specs.Formats.{numbers_of}
+use Rattle.pef_io.specs.declared.fail.Slot.TheVariants.{Index}
+use Rattle.pef_io.specs.DepotState.{DepotState, bytes_under}
+use Rattle.index_file.specs.declared.fault.OpenFault.{OpenFault}
+use Rattle.index_file.specs.FileWords.{file_words}
+use Rattle.index_file.specs.FirstBroken.{IsFirstBroken}
+use Rattle.index_file.specs.Laws.{WordsAreRead, OneBrokenCheck, OneIndex}
+use Rattle.segments.specs.declared.pushed.SegRule.{SegRule}
+use Rattle.segments.specs.declared.pushed.SegRule.TheVariants.{G1, G2}
+use Rattle.segments.specs.Joined.{FitTogether, terms_in}
+use Rattle.command_model.specs.Found.{AreOfWords, most_bytes}
+use Rattle.command_ends.specs.Outcome.{Outcome, Done, Usage, BrokenCollection, BrokenIndex, BrokenMap, BrokenSegment, UnfitSegment, FileFault, InputFault, WriteFault, OutFault, NoMemory, TooLarge, InputTooLarge, BrokenSide}
+use Rattle.command_ends.specs.FoundIndex.{FindsIndexOf, IsFirstBrokenOfFile, HasBroken}
+use Rattle.segment_commands.specs.FoundSegments.{no_collection, FindsSegments, IsUnfit, IsRefusedAt}
+use Rattle.segment_commands.specs.SegmentStarts.{ComesTo}
+use Rattle.command_ends.specs.Steps.Stops.{ragged_index}
+use Rattle.command_ends.proofs.Counted.{not_both_lengths}
+use Rattle.command_ends.proofs.IndexLoaded.{index_words, index_is_short, words_broken}
+
+-- ---- collections that fit together
+
+-- the first of them fit together
+fits_front : (k : ℕ) (cs : List Collection) → FitTogether cs → FitTogether (take k cs)
+fits_front k cs fit = record {
+  terms = terms k cs (All-take (λ c. length c.lists ≡ terms_in cs) k cs fit.terms);
+  documents = omega (arith, fit.documents, sum_by-take-le (λ (c : Collection). c.documents) cs k);
+}
+  where
+    terms : (k : ℕ) (cs : List Collection) → All (λ c. length c.lists ≡ terms_in cs) (take k cs) → All (λ c. length c.lists ≡ terms_in (take k cs)) (take k cs)
+    terms zero cs all = All-nil (λ c. length c.lists ≡ terms_in (take zero cs))
+    terms (suc k) [] all = all
+    terms (suc k) (c ∷ cs) all = all
+
+-- as many terms as the first, which one more does not change
+terms_first : (cs : List Collection) (c : Collection) → 0 < length cs → terms_in (cs ++ c ∷ []) ≡ terms_in cs
+terms_first [] c some = absurd (omega arith)
+terms_first (x ∷ cs) c some = refl
+
+terms_taken : (cs : List Collection) (s : ℕ) → 0 < length (take s cs) → terms_in (take s cs) ≡ terms_in cs
+terms_taken cs zero some = absurd (omega arith)
+terms_taken [] (suc s) some = refl
+terms_taken (c ∷ cs) (suc s) some = refl
+
+-- none of them is unfit behind those before it
+fits : (cs : List Collection) (s : ℕ) (rule : SegRule) → FitTogether cs → s < length cs → IsUnfit (take s cs) (get_or cs s no_collection) rule → ⊥
+fits cs s G1 fit within (some, differ) = differ (All-get_or (λ c. length c.lists ≡ terms_in cs) cs s no_collection within fit.terms ∙ sym (terms_taken cs s some))
+fits cs s G2 fit within (same, many) =
+    omega (arith, fit.documents, many, sum_by_more (λ (c : Collection). c.documents) cs s no_collection within, sum_by-take-le (λ (c : Collection). c.documents) cs (s + 1))
+
+-- one rule is broken
+one_rule : (cs : List Collection) (c : Collection) (r q : SegRule) → IsUnfit cs c r → IsUnfit cs c q → r ≡ q
+one_rule cs c G1 G1 x y = refl
+one_rule cs c G1 G2 x y = absurd (x.1 (y.0 ∙ terms_first cs c x.0))
+one_rule cs c G2 G1 x y = absurd (y.1 (x.0 ∙ terms_first cs c y.0))
+one_rule cs c G2 G2 x y = refl
+
+-- ---- the first check that breaks
+
+one_first : WordsAreRead → OneBrokenCheck → (bytes : List ℕ) (f g : OpenFault) → IsFirstBrokenOfFile bytes f → IsFirstBrokenOfFile bytes g → f ≡ g
+one_first read one bytes f g = go (not (length bytes % 8 == 0))
+  where
+    Words : OpenFault → Type 0
+    Words fault = (words : List ℕ) × AreOfWords bytes words × IsFirstBroken words fault
+
+    Is : Bool → OpenFault → Type 0
+    Is b fault = MatchBool b (fault ≡ ragged_index) (Words fault)
+
+    go : (b : Bool) → Is b f → Is b g → f ≡ g
+    go true x y = x ∙ sym y
+    go false (v, a, x) (w, b, y) =
+        let same : w ≡ v = read w v b.fit a.fit (sym b.bytes_are ∙ a.bytes_are) in
+        one.one v f g x (subst (λ ws. IsFirstBroken ws g) same y)
+
+-- ---- the first of some files
+
+-- the first of some segments
+pub before : (names : List (List ℕ)) (depot : DepotState) (cs : List Collection) (s : ℕ) → FindsSegments names depot cs → s ≤ length names → FindsSegments (take s names) depot (take s cs)
+before names depot cs s f le = record {
+  as_many = omega (arith, length-take s names, length-take s cs, f.as_many);
+  each = λ k within.
+      let inside : k < s = omega (arith, within, length-take s names) in
+      subst (λ name. FindsIndexOf name depot (get_or (take s cs) k no_collection)) (sym (get_or-take s names k [] inside))
+      (subst (FindsIndexOf (get_or names k []) depot) (sym (get_or-take s cs k no_collection inside)) (f.each k (omega (arith, inside, le))));
+  fit = fits_front s cs f.fit;
+}
+
+-- each that is not behind the first k comes behind accepted ones
+pub come : (names : List (List ℕ)) (depot : DepotState) (cs : List Collection) (k n : ℕ) → FindsSegments (take k names) depot cs → n ≤ k + 1 → n ≤ length names → ComesTo names depot n
+come names depot cs k n f le few = λ s lt. (
+  omega (arith, lt, few),
+  (
+    take s cs,
+    subst (λ ns. FindsSegments ns depot (take s cs)) (take-take s k names (omega (arith, lt, le))) (before (take k names) depot cs s f (omega (arith, lt, le, few, length-take k names))),
+    tt,
+  ),
+)
+
+-- ---- how a segment is refused
+
+-- it is no index, or cannot be joined, or is too long
+data Way : Type 0 where
+  Broken : (fault : OpenFault) → Way
+  Unfit : (rule : SegRule) → Way
+  Long : Way
+
+abbrev outcome_in : Way → ℕ → Outcome
+outcome_in (Broken fault) s = BrokenSegment fault s
+outcome_in (Unfit rule) s = UnfitSegment rule s
+outcome_in Long s = TooLarge Index
+
+module _ (read : WordsAreRead) (one : OneBrokenCheck) (one_index : OneIndex) (depot : DepotState) (t : IsTrue depot.tells) where
+  -- ---- one file
+
+  same_index : (name : List ℕ) (c d : Collection) → FindsIndexOf name depot c → FindsIndexOf name depot d → c ≡ d
+  same_index name c d (v, e, f) (w, g, h) =
+      let a = f.bytes t in
+      let b = h.bytes t in
+      let same : file_words (numbers_of v) c e ≡ file_words (numbers_of w) d g = read (file_words (numbers_of v) c e) (file_words (numbers_of w) d g) a.fit b.fit (sym a.bytes_are ∙ b.bytes_are) in
+      (one_index v w (file_words (numbers_of v) c e) c d e g
+      (record { well_formed = f.well_formed; partitions = f.partitions; spelled = refl }) (record { well_formed = h.well_formed; partitions = h.partitions; spelled = same })).1
+
+  whole : (name : List ℕ) (c : Collection) (fault : OpenFault) → FindsIndexOf name depot c → HasBroken name depot fault → ⊥
+  whole name c fault found broken = go found
+    where
+      go : FindsIndexOf name depot c → ⊥
+      go (v, e, f) =
+          let words : List ℕ = file_words (numbers_of v) c e in
+          one.none_in_index words fault (index_words read name depot words c t (f.bytes t) found) (words_broken read (bytes_under depot name) words fault (f.bytes t) broken.first)
+
+  -- such a segment, where those before it have these collections
+  abbrev RefusedAs : List Collection → List ℕ → Way → Type 0
+  RefusedAs cs name (Broken fault) = HasBroken name depot fault
+  RefusedAs cs name (Unfit rule) = (c : Collection) × FindsIndexOf name depot c × IsUnfit cs c rule
+  RefusedAs cs name Long = most_bytes < length (bytes_under depot name)
+
+  one_way : (cs : List Collection) (name : List ℕ) (a b : Way) → RefusedAs cs name a → RefusedAs cs name b → a ≡ b
+  one_way cs name (Broken f) (Broken g) x y = ap Broken (one_first read one (bytes_under depot name) f g x.first y.first)
+  one_way cs name (Broken f) (Unfit q) x (c, found, y) = absurd (whole name c f found x)
+  one_way cs name (Broken f) Long x y = absurd (not_both_lengths _ _ x.within y)
+  one_way cs name (Unfit r) (Broken g) (c, found, x) y = absurd (whole name c g found y)
+  one_way cs name (Unfit r) (Unfit q) (c, found, x) (d, found', y) = ap Unfit (one_rule cs c r q x (subst (λ e. IsUnfit cs e q) (same_index name d c found' found) y))
+  one_way cs name (Unfit r) Long (c, found, x) y = absurd (not_both_lengths _ _ (index_is_short name depot c t found) y)
+  one_way cs name Long (Broken g) x y = absurd (not_both_lengths _ _ y.within x)
+  one_way cs name Long (Unfit q) x (d, found, y) = absurd (not_both_lengths _ _ (index_is_short name depot d t found) x)
+  one_way cs name Long Long x y = refl
+
+  -- ---- all files
+
+  same_collections : (names : List (List ℕ)) (cs ds : List Collection) → FindsSegments names depot cs → FindsSegments names depot ds → cs ≡ ds
+  same_collections names cs ds f g =
+      ext_get_or no_collection cs ds (f.as_many ∙ sym g.as_many)
+      (λ k lt. let within : k < length names = omega (arith, lt, f.as_many) in same_index (get_or names k []) (get_or cs k no_collection) (get_or ds k no_collection) (f.each k within) (g.each k within))
+
+  -- one of them is not refused
+  not_refused : (names : List (List ℕ)) (cs ds : List Collection) (s : ℕ) (way : Way) → FindsSegments names depot cs → s < length names → FindsSegments (take s names) depot ds
+      → RefusedAs ds (get_or names s []) way → ⊥
+  not_refused names cs ds s (Broken fault) f lt g broken = whole (get_or names s []) (get_or cs s no_collection) fault (f.each s lt) broken
+  not_refused names cs ds s (Unfit rule) f lt g (c, found, unfit) =
+      let this : c ≡ get_or cs s no_collection = same_index (get_or names s []) c (get_or cs s no_collection) found (f.each s lt) in
+      let these : ds ≡ take s cs = same_collections (take s names) ds (take s cs) g (before names depot cs s f (omega (arith, lt))) in
+      fits cs s rule f.fit (omega (arith, lt, f.as_many)) (subst (λ xs. IsUnfit xs (get_or cs s no_collection) rule) these (subst (λ x. IsUnfit ds x rule) this unfit))
+  not_refused names cs ds s Long f lt g long = not_both_lengths _ _ (index_is_short (get_or names s []) depot (get_or cs s no_collection) t (f.each s lt)) long
+
+  -- the segment that is refused
+  abbrev Refused : List (List ℕ) → Way → ℕ → Type 0
+  Refused names way s = (s < length names) × ((cs : List Collection) × FindsSegments (take s names) depot cs × RefusedAs cs (get_or names s []) way)
+
+  at_place : (names : List (List ℕ)) (outcome : Outcome) → IsRefusedAt names depot outcome → (s : ℕ) × (way : Way) × (outcome ≡ outcome_in way s) × Refused names way s
+  at_place names (BrokenSegment fault s) refused = (s, Broken fault, refl, refused)
+  at_place names (UnfitSegment rule s) refused = (s, Unfit rule, refl, refused)
+  at_place names (TooLarge slot) (is, (s, refused)) = (s, Long, ap TooLarge is, refused)
+  at_place names Done refused = absurd refused
+  at_place names Usage refused = absurd refused
+  at_place names (BrokenCollection fault) refused = absurd refused
+  at_place names (BrokenIndex fault) refused = absurd refused
+  at_place names (BrokenMap fault) refused = absurd refused
+  at_place names (BrokenSide fault) refused = absurd refused
+  at_place names (FileFault slot) refused = absurd refused
+  at_place names InputFault refused = absurd refused
+  at_place names (WriteFault slot) refused = absurd refused
+  at_place names OutFault refused = absurd refused
+  at_place names NoMemory refused = absurd refused
+  at_place names InputTooLarge refused = absurd refused
+
+  -- where all are accepted, none is refused
+  pub none_refused : (names : List (List ℕ)) (cs : List Collection) (outcome : Outcome) → FindsSegments names depot cs → IsRefusedAt names depot outcome → ⊥
+  none_refused names cs outcome f refused =
+      let at = at_place names outcome refused in
+      not_refused names cs at.3.1.0 at.0 at.1 f at.3.0 at.3.1.1 at.3.1.2
+
+  -- a later one is not refused where an earlier one is
+  not_later : (names : List (List ℕ)) (a b : Way) (s k : ℕ) → Refused names a s → Refused names b k → s < k → ⊥
+  not_later names a b s k (lt, (cs, f, why)) (within, (ds, g, other)) less =
+      let shorter : take s (take k names) ≡ take s names = take-take s k names (omega arith) in
+      let this : get_or (take k names) s [] ≡ get_or names s [] = get_or-take k names s [] less in
+      not_refused (take k names) ds cs s a g (omega (arith, length-take k names, within, less))
+      (subst (λ ns. FindsSegments ns depot cs) (sym shorter) f) (subst (λ name. RefusedAs cs name a) (sym this) why)
+
+  -- and one at most is, in one way
+  same_way : (names : List (List ℕ)) (a b : Way) (s k : ℕ) → Refused names a s → Refused names b k → outcome_in a s ≡ outcome_in b k
+  same_way names a b s k x y = elim (cases_lt s k) as (λ _. outcome_in a s ≡ outcome_in b k) [
+    | inl less ↦ absurd (not_later names a b s k x y less)
+    | inr more ↦ elim (cases_lt k s) as (λ _. outcome_in a s ≡ outcome_in b k) [
+      | inl less ↦ absurd (not_later names b a k s y x less)
+      | inr both ↦ here (omega arith) y
+    ]
+  ]
+    where
+      here : s ≡ k → Refused names b k → outcome_in a s ≡ outcome_in b k
+      here e y =
+          let at : Refused names b s = subst (Refused names b) (sym e) y in
+          let these : at.1.0 ≡ x.1.0 = same_collections (take s names) at.1.0 x.1.0 at.1.1 x.1.1 in
+          let ways : a ≡ b = one_way x.1.0 (get_or names s []) a b x.1.2 (subst (λ ds. RefusedAs ds (get_or names s []) b) these at.1.2) in
+          ap (λ way. outcome_in way s) ways ∙ ap (outcome_in b) e
+
+  pub one_refused : (names : List (List ℕ)) (a b : Outcome) → IsRefusedAt names depot a → IsRefusedAt names depot b → a ≡ b
+  one_refused names a b x y =
+      let p = at_place names a x in
+      let q = at_place names b y in
+      p.2 ∙ same_way names p.1 q.1 p.0 q.0 p.3 q.3 ∙ sym q.2

@@ -1,0 +1,5 @@
+pub mod FoundSegments
+pub mod SegmentStarts
+pub mod ReadingSegments
+pub mod AnswerSegments
+pub mod Private

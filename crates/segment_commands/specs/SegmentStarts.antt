@@ -1,0 +1,39 @@
+use Rattle.std.specs.Prelude.{◌≡◌, ◌⊎◌, ⊤, ℕ, zero, suc, ◌<◌, ◌≤◌, IsTrue, List, length}
+use Rattle.pef_io.specs.declared.fail.Slot.{Slot}
+use Rattle.pef_io.specs.declared.fail.Slot.TheVariants.{Index}
+use Rattle.pef_io.specs.Calls.{one_more}
+use Rattle.pef_io.specs.DepotState.{DepotState, bytes_under}
+use Rattle.command_model.specs.Found.{IsIndexSlot, most_bytes}
+use Rattle.command_ends.specs.Outcome.{Outcome, BrokenSegment, UnfitSegment, FileFault, NoMemory, TooLarge}
+use Rattle.segment_commands.specs.FoundSegments.{OnSegment}
+
+-- a count that was raised so often
+abbrev pub raised : ℕ → ℕ → ℕ
+raised zero n = n
+raised (suc k) n = one_more (raised k n)
+
+-- How often a run starts the slot of the index that reads the segments under these names and ends so: once for each segment that it reads.
+abbrev pub IsSegmentCount : List (List ℕ) → DepotState → Outcome → ℕ → Type 0
+IsSegmentCount names depot (BrokenSegment fault s) n = n ≡ suc s
+IsSegmentCount names depot (UnfitSegment rule s) n = n ≡ suc s
+IsSegmentCount names depot (FileFault slot) n = (1 ≤ n) × (n ≤ length names)
+IsSegmentCount names depot NoMemory n = n ≤ length names
+IsSegmentCount names depot (TooLarge slot) n =
+    (s : ℕ) × (n ≡ suc s) × (s < length names) × (IsTrue depot.tells → OnSegment names depot s (λ cs name. most_bytes < length (bytes_under depot name)))
+IsSegmentCount names depot outcome n = n ≡ length names
+
+-- The segments before each of the first n are accepted.
+abbrev pub ComesTo : List (List ℕ) → DepotState → ℕ → Type 0
+ComesTo names depot n = (s : ℕ) → s < n → OnSegment names depot s (λ cs name. ⊤)
+
+-- The slot of the index is started once for each segment that is read, and of each only once those before it are accepted.
+abbrev pub StartsInTurn : List (List ℕ) → Outcome → DepotState → DepotState → Type 0
+StartsInTurn names outcome old new = (n : ℕ) × IsSegmentCount names old outcome n × ComesTo names old n × (new.starts Index ≡ raised n (old.starts Index))
+
+-- What a run that reads the segments under these names starts, and what memory its depot is refused.
+pub record StartsEach (names : List (List ℕ)) (outcome : Outcome) (old new : DepotState) : Type 0 where
+  -- The slot of the index is started for each segment in turn, and no other is started.
+  pub in_turn : StartsInTurn names outcome old new
+  pub no_others : (slot : Slot) → ¬ IsIndexSlot slot → new.starts slot ≡ old.starts slot
+  -- The first memory that the depot is refused ends the run.
+  pub refusals : (outcome ≡ NoMemory) ⊎ (new.refusals ≡ old.refusals)

@@ -1,0 +1,5 @@
+mod SideLoaded
+mod SideWritten
+mod SideStarted
+mod SideRefused
+mod SideAnswered

@@ -1,0 +1,36 @@
+ghost use Rattle.std.specs.Prelude.{ℕ};
+ghost use Rattle.pef_io.specs.SourceState.{SourceState};
+ghost use Rattle.pef_io.specs.SinkState.{SinkState};
+ghost use Rattle.command_ends.specs.Outside.{outside};
+ghost use Rattle.command_ends.specs.Steps.Leaves.{Leaves};
+ghost use Rattle.command_ends.specs.Steps.Stops.{outcome_of};
+ghost use Rattle.command_ends.specs.Starts.{StartsOnly};
+ghost use Rattle.side_commands.specs.Blocks.{WritesBlocks};
+ghost use Rattle.command_model.specs.Found.{IsIndexSlot};
+
+use command_ends::{Stop, after_writing, load_index, words_fit};
+use command_steps::write_words;
+use index_blocks::index_side_words;
+use index_file::{Index, one_broken_check, words_and_bytes_undo_each_other};
+use pef_io::{Depot, Slot};
+use std::alloc::Global;
+
+/// Reads the index under a name, and writes its side file under another one.
+pub fn write_blocks<D: Depot>(
+    alloc: Global,
+    index: &str,
+    side: &str,
+    depot: &mut D,
+) -> Result<(), Stop>
+    ensures { (i : SourceState) (o e e' : SinkState) (costs : ℕ) → Leaves (WritesBlocks index.now side.now) (StartsOnly IsIndexSlot)
+        (outside (D.state depot.old) i o e costs) (outside (D.state depot.new) i o e' costs) (outcome_of result) }
+{
+    one_broken_check();
+    words_and_bytes_undo_each_other();
+    let words = load_index(alloc, index, depot)?;
+    let index = Index::known(&words);
+    let greatest = index_side_words(alloc, &index)?;
+    words_fit(&greatest);
+    let written = write_words(alloc, &greatest, side, depot);
+    after_writing(Slot::Side, written)
+}

@@ -1,0 +1,35 @@
+ghost use Rattle.std.specs.Prelude.{◌≡◌, IfErr, IfOk};
+ghost use Rattle.side_commands.specs.Private.LoadedSide.{IsLoadedSide, IsUnloadedSide, stop_of_side};
+
+use block_max::{BlockSource, Side, SideCheck, SideFault};
+use command_ends::{Stop, stop_of_loading};
+use command_steps::{LoadWordsError, load_words};
+use pef_io::{Depot, Slot};
+use std::alloc::Global;
+
+/// The words of the file under the name, which are the side file of some lists.
+pub(crate) fn load_side<D: Depot, S: BlockSource>(
+    alloc: Global,
+    name: &str,
+    source: &S,
+    depot: &mut D,
+) -> Result<Vec<u64>, Stop>
+    ensures loaded { IfOk result (λ words. IsLoadedSide (S.lists source.now) name.now (D.state depot.old) (D.state depot.new) words.items) }
+    ensures refused { IfErr result (λ stop. IsUnloadedSide (S.lists source.now) name.now (D.state depot.old) (D.state depot.new) stop) }
+{
+    let words = load_words(alloc, Slot::Side, name, depot).map_err(stop_of_side)?;
+    Side::view(&words, source)?;
+    Ok(words)
+}
+
+// Where a run stops that could not load the words of its side file: that they are whole words is the check S1.
+fn stop_of_side(error: LoadWordsError) -> Stop
+    ensures { result ≡ stop_of_side error }
+{
+    let ragged = SideFault {
+        check: SideCheck::S1,
+        term: 0,
+        part: 0,
+    };
+    stop_of_loading(Slot::Side, Stop::Side(ragged), error)
+}
