@@ -2,9 +2,9 @@
 use Rattle.std.proofs.Common.{◌≡◌, refl, sym, ap, inl, inr, ◌∙◌, subst, ℕ, ◌+◌, ◌-◌, ◌*◌, ◌/◌, ◌%◌, ◌^◌, ◌<◌, ◌≤◌, ◌≢◌, true, false, eqb, List, length, get_or, set, bit_and, arith}
 use Rattle.std.specs.Int.{w64, bit_at, bit_not, trailing_zeros}
 use Rattle.std.proofs.lemmas.Bool.{cases_lt, cases_eq, eq-eqb, ne_eqb, false≢true}
-use Rattle.std.proofs.lemmas.List.{length-set, get_or-set_same, get_or-set_other}
+use Rattle.std.proofs.lemmas.List.{length-set, get_or-set_same, get_or-set_other, set-set}
 use Rattle.std.proofs.lemmas.Nat.Bits.{bit_at_clear_same, bit_at_clear_other, bit_at-trailing_zeros, bit_at-zero}
-use Rattle.scan_plans.specs.Window.{is_marked, AreTakenBack}
+use Rattle.scan_plans.specs.Window.{is_marked, AreTakenBack, IsFirstCandidate}
 use Rattle.scan_plans.proofs.Marks.{marked-at, rest-all, rest-less}
 
 -- ---- a mark that is taken back
@@ -141,14 +141,7 @@ passed-one scores marks least at score is low so_far k lt marked = elim (cases_l
   | inr after ↦ (let same : at ≡ k = omega arith in subst (λ (j : ℕ). get_or scores j 0 < least) same (omega arith))
 ]
 
--- words that fit, one of them made less
-pub fits-less : (marks : List ℕ) (i w : ℕ) → i < length marks → w < get_or marks i 0 → ((k : ℕ) → get_or marks k 0 < 2 ^ 64) → (k : ℕ) → get_or (set marks i w) k 0 < 2 ^ 64
-fits-less marks i w within less fits k = elim (cases_eq k i) as (λ _. get_or (set marks i w) k 0 < 2 ^ 64) [
-  | inl same ↦ (let read = ap (λ (j : ℕ). get_or (set marks i w) j 0) same ∙ get_or-set_same marks i w 0 within in let bound = fits i in omega arith)
-  | inr other ↦ (let read = get_or-set_other marks i k w 0 other in let bound = fits k in omega arith)
-]
-
--- ---- one step: the lowest mark of a word is taken
+-- ---- one step: the lowest mark of a word is taken, of a word that is held beside the marks
 pub record IsStep (least at : ℕ) (scores marks ns nm news newm : List ℕ) : Type 0 where
   pub within : at < length scores
   pub marked : is_marked marks at ≡ true
@@ -156,23 +149,103 @@ pub record IsStep (least at : ℕ) (scores marks ns nm news newm : List ℕ) : T
   pub passed : (k : ℕ) → k < at → is_marked marks k ≡ true → get_or scores k 0 < least
   pub taken : AreTakenBack (at + 1) scores marks news newm
 
-pub lowest-step : (scores marks : List ℕ) → length scores ≤ 64 * length marks → ((k : ℕ) → k < length scores → is_marked marks k ≡ false → get_or scores k 0 ≡ 0) → (reached : ℕ) → reached ≤ length scores → ((k : ℕ) → reached ≤ k → k < 64 * length marks → is_marked marks k ≡ false)
-    → (least i low : ℕ) (ns nm : List ℕ) → i < length marks → 64 * i ≤ low → (some : 0 < get_or nm i 0) → (fits : get_or nm i 0 < 2 ^ 64) → ((k : ℕ) → k < low → is_marked marks k ≡ true → get_or scores k 0 < least) → AreTakenBack low scores marks ns nm
-    → IsStep least (64 * i + lowest-at nm i some fits) scores marks ns nm (set ns (64 * i + lowest-at nm i some fits) 0) (set nm i (without (get_or nm i 0) (lowest-at nm i some fits)))
-lowest-step scores marks wide unscored reached within behind least i low ns nm word start some fits so_far t =
-    let one : ℕ = lowest-at nm i some fits in
-    let at : ℕ = 64 * i + one in
-    let short = lowest-short nm i some fits in
-    let from : low ≤ at = lowest-from scores marks wide unscored i low ns nm word some fits t in
-    let room : at < 64 * length marks = omega arith in
-    let is : is_marked marks at ≡ true = sym (t.marked at from room) ∙ lowest-marked nm i some fits in
-    let inside : at < reached = elim (cases_lt at reached) as (λ _. at < reached) [ inl lt ↦ lt | inr ge ↦ absurd (false≢true (sym (behind at ge room) ∙ is)) ] in
-    let none : (k : ℕ) → low ≤ k → k < at → is_marked nm k ≡ false = λ k after before. none-before nm i some fits k (omega arith) before in
-    let here : AreTakenBack at scores marks ns nm = taken-skip scores marks wide unscored low at ns nm from (λ k after before room. none k after before) t in
+pub word-step : (scores marks : List ℕ) → length scores ≤ 64 * length marks → ((k : ℕ) → k < length scores → is_marked marks k ≡ false → get_or scores k 0 ≡ 0) → (least i low rest : ℕ) (ns : List ℕ) → i < length marks
+    → ((k : ℕ) → k < 64 * (i + 1) → is_marked marks k ≡ true → k < length scores) → 64 * i ≤ low → 0 < rest → rest < 2 ^ 64 → ((k : ℕ) → k < low → is_marked marks k ≡ true → get_or scores k 0 < least) → AreTakenBack low scores marks ns (set marks i rest)
+    → (one : ℕ) → one ≡ trailing_zeros w64 rest → IsStep least (64 * i + one) scores marks ns (set marks i rest) (set ns (64 * i + one) 0) (set marks i (without rest one)) × (one < 64) × (without rest one < rest)
+word-step scores marks wide unscored least i low rest ns word inside start more fits so_far t one is =
+    let nm : List ℕ = set marks i rest in
+    let read : get_or nm i 0 ≡ rest = get_or-set_same marks i rest 0 word in
+    let some : 0 < get_or nm i 0 = omega arith in
+    let small : get_or nm i 0 < 2 ^ 64 = omega arith in
+    let lowest : ℕ = lowest-at nm i some small in
+    let same : lowest ≡ one = ap (trailing_zeros w64) read ∙ sym is in
+    let count : length nm ≡ length marks = length-set marks i rest in
+    let short = lowest-short nm i some small in
+    let at : ℕ = 64 * i + lowest in
+    let from : low ≤ at = lowest-from scores marks wide unscored i low ns nm word some small t in
+    let marked : is_marked marks at ≡ true = sym (t.marked at from (omega arith)) ∙ lowest-marked nm i some small in
+    let here : at < length scores = inside at (omega arith) marked in
+    let none : (k : ℕ) → low ≤ k → k < at → is_marked nm k ≡ false = λ k after before. none-before nm i some small k (omega arith) before in
+    let before : AreTakenBack at scores marks ns nm = taken-skip scores marks wide unscored low at ns nm from (λ k after lt room. none k after lt) t in
+    let step : IsStep least at scores marks ns nm (set ns at 0) (set nm i (without (get_or nm i 0) lowest)) = record {
+      within = here;
+      marked = marked;
+      scored = t.scored at from here;
+      passed = passed-skip scores marks least low at (λ k after lt. sym (t.marked k after (omega arith)) ∙ none k after lt) so_far;
+      taken = taken-one scores marks wide unscored i lowest at ns nm short word refl here before;
+    } in
+    let less = lowest-less nm i some small in
+    let moved = subst (λ (ms : List ℕ). IsStep least at scores marks ns nm (set ns at 0) ms) (set-set marks i rest (without (get_or nm i 0) lowest)) step in
+    let held = subst (λ (w : ℕ). IsStep least at scores marks ns nm (set ns at 0) (set marks i (without w lowest)) × (lowest < 64) × (without w lowest < w)) read (moved, short, less) in
+    subst (λ (o : ℕ). IsStep least (64 * i + o) scores marks ns nm (set ns (64 * i + o) 0) (set marks i (without rest o)) × (o < 64) × (without rest o < rest)) same held
+
+-- what is taken back later
+pub taken-then : (low to : ℕ) (scores marks ns nm news newm : List ℕ) → low ≤ to → AreTakenBack low scores marks ns nm → AreTakenBack to ns nm news newm → AreTakenBack to scores marks news newm
+taken-then low to scores marks ns nm news newm le taken more =
+    let count = taken.count in
+    let words = taken.marks_count in
     record {
-      within = omega arith;
-      marked = is;
-      scored = t.scored at from (omega arith);
-      passed = passed-skip scores marks least low at (λ k after before. sym (t.marked k after (omega arith)) ∙ none k after before) so_far;
-      taken = taken-one scores marks wide unscored i one at ns nm short word refl (omega arith) here;
+      count = more.count ∙ count;
+      marks_count = more.marks_count ∙ words;
+      unmarked = λ k lt within. more.unmarked k lt (omega arith);
+      clear = λ k lt within. more.clear k lt (omega arith);
+      marked = λ k after within. more.marked k after (omega arith) ∙ taken.marked k (omega arith) within;
+      scored = λ k after within. more.scored k after (omega arith) ∙ taken.scored k (omega arith) within;
     }
+
+-- ---- the candidates of what is left
+module _ (scores marks ns nm : List ℕ) (low : ℕ) (wide : length scores ≤ 64 * length marks) (taken : AreTakenBack low scores marks ns nm) where
+  -- where nothing is marked the score is 0
+  pub left-unscored : ((k : ℕ) → k < length scores → is_marked marks k ≡ false → get_or scores k 0 ≡ 0) → (k : ℕ) → k < length ns → is_marked nm k ≡ false → get_or ns k 0 ≡ 0
+  left-unscored unscored k within is =
+      let count = taken.count in
+      elim (cases_lt k low) as (λ _. get_or ns k 0 ≡ 0) [
+        | inl before ↦ taken.clear k before (omega arith)
+        | inr after ↦ taken.scored k after (omega arith) ∙ unscored k (omega arith) (sym (taken.marked k after (omega arith)) ∙ is)
+      ]
+
+  -- what is marked lies in the window
+  pub left-inside : (reached to : ℕ) → reached ≤ length scores → to ≤ 64 * length marks → ((k : ℕ) → reached ≤ k → k < 64 * length marks → is_marked marks k ≡ false) → (k : ℕ) → k < to → is_marked nm k ≡ true → k < length ns
+  left-inside reached to within room behind k lt is =
+      let count = taken.count in
+      elim (cases_lt k reached) as (λ _. k < length ns) [
+        | inl inside ↦ omega arith
+        | inr past ↦ absurd (elim (cases_lt k low) as (λ _. ⊥) [
+          | inl before ↦ false≢true (sym (taken.unmarked k before (omega arith)) ∙ is)
+          | inr after ↦ false≢true (sym (behind k past (omega arith)) ∙ sym (taken.marked k after (omega arith)) ∙ is)
+        ])
+      ]
+
+  -- a place that is marked was not taken
+  pub left-after : (k : ℕ) → k < 64 * length marks → is_marked nm k ≡ true → low ≤ k
+  left-after k room is = elim (cases_lt k low) as (λ _. low ≤ k) [
+    | inl before ↦ absurd (false≢true (sym (taken.unmarked k before room) ∙ is))
+    | inr after ↦ after
+  ]
+
+  -- no candidate up to a place
+  pub left-passed : (least to : ℕ) → to ≤ 64 * length marks → ((k : ℕ) → k < to → is_marked nm k ≡ true → k < length ns) → ((k : ℕ) → k < low → is_marked marks k ≡ true → get_or scores k 0 < least) → ((k : ℕ) → k < to → is_marked nm k ≡ true → get_or ns k 0 < least)
+      → (k : ℕ) → k < to → is_marked marks k ≡ true → get_or scores k 0 < least
+  left-passed least to room inside passed none k lt is = elim (cases_lt k low) as (λ _. get_or scores k 0 < least) [
+    | inl before ↦ passed k before is
+    | inr after ↦ (let count = taken.count in
+        let now : is_marked nm k ≡ true = taken.marked k after (omega arith) ∙ is in
+        let here = inside k lt now in
+        let read = taken.scored k after (omega arith) in
+        let less = none k lt now in
+        omega arith)
+  ]
+
+  -- the first candidate of what is left is that of all
+  pub left-first : (least place score : ℕ) → ((k : ℕ) → k < low → is_marked marks k ≡ true → get_or scores k 0 < least) → IsFirstCandidate least ns nm place score → IsFirstCandidate least scores marks place score
+  left-first least place score passed first =
+      let count = taken.count in
+      let within = first.within in
+      let after = left-after place (omega arith) first.marked in
+      record {
+        within = omega arith;
+        marked = sym (taken.marked place after (omega arith)) ∙ first.marked;
+        scored = sym (taken.scored place after (omega arith)) ∙ first.scored;
+        enough = first.enough;
+        others = left-passed least place (omega arith) (λ k lt is. omega arith) passed first.others;
+      }

@@ -1,12 +1,12 @@
 -- Lemmas on how many documents some lists have.
-use Rattle.std.proofs.Common.{◌≡◌, refl, sym, ap, inl, inr, ◌∙◌, ℕ, zero, suc, ◌+◌, ◌<◌, ◌≤◌, Bool, true, false, cond, eqb, min, List, [], ◌∷◌, length, arith}
+use Rattle.std.proofs.Common.{◌≡◌, refl, ap, ◌∙◌, ℕ, zero, suc, ◌+◌, ◌<◌, ◌≤◌, Bool, true, false, cond, eqb, List, [], ◌∷◌, length, arith}
 use Rattle.std.specs.Prelude.{◌||◌}
 use Rattle.std.specs.List.{filter, list_any, range_with_len, sum_by}
-use Rattle.std.proofs.lemmas.Bool.{cases_Bool, eqb-true, ne_eqb}
+use Rattle.std.proofs.lemmas.Bool.{eqb-true, ne_eqb}
 use Rattle.std.proofs.lemmas.List.Sums.{sum_by-cons}
 use Rattle.collection_model.specs.Collection.{Posting}
 use Rattle.scan_plans.specs.Matches.{has_doc, in_any}
-use Rattle.scan_plans.specs.IsTop.{IsTop, TopOfPostings}
+use Rattle.scan_plans.specs.IsTop.{TopOfPostings}
 
 -- ---- what two tests keep
 either-step : {X : Type 0} (a b : Bool) (x : X) (all some others : List X) → length all ≤ length some + length others

@@ -197,21 +197,41 @@ pub fn take_candidate(
     let words = reached.div_ceil(64);
     let mut i = from / 64;
     while i < words {
-        let word = marks[i];
-        if word == 0 {
-            i += 1;
-        } else {
-            let one = word.trailing_zeros() as usize;
-            let at = 64 * i + one;
-            let score = scores[at];
-            // The lowest 1 is taken back.
-            marks[i] = word & !(1 << one);
-            scores[at] = 0;
-            if score >= least {
-                return Some((at, score));
-            }
+        if let Some(candidate) = take_in_word(i, least, scores, marks) {
+            return Some(candidate);
+        }
+        i += 1;
+    }
+    None
+}
+
+// Takes back the places of word i in the same way, up to the first marked one whose score is at least `least`, and gives that place with
+// its score. No place before the word is marked.
+fn take_in_word(i: usize, least: u64, scores: &mut [u64], marks: &mut [u64]) -> Option<(usize, u64)>
+    requires word { i < length marks.old }
+    requires wide { length scores.old ≤ 64 * length marks.old }
+    requires taken { (k : ℕ) → k < 64 * i → is_marked marks.old k ≡ false }
+    requires inside { (k : ℕ) → k < 64 * (i + 1) → is_marked marks.old k ≡ true → k < length scores.old }
+    requires marked { (k : ℕ) → k < length scores.old → is_marked marks.old k ≡ false → slice_index scores.old k ≡ 0 }
+    ensures some { IfSome result (λ e. IsFirstCandidate least scores.old marks.old e.0 e.1) }
+    ensures taken { IfSome result (λ e. AreTakenBack (e.0 + 1) scores.old marks.old scores.new marks.new) }
+    ensures none { IfNone result ((k : ℕ) → k < 64 * (i + 1) → is_marked marks.old k ≡ true → slice_index scores.old k < least) }
+    ensures all_taken { IfNone result (AreTakenBack (64 * (i + 1)) scores.old marks.old scores.new marks.new) }
+{
+    let mut rest = marks[i];
+    while rest != 0 {
+        let one = rest.trailing_zeros() as usize;
+        let at = 64 * i + one;
+        let score = scores[at];
+        scores[at] = 0;
+        // The lowest 1 is taken back.
+        rest &= !(1 << one);
+        if score >= least {
+            marks[i] = rest;
+            return Some((at, score));
         }
     }
+    marks[i] = 0;
     None
 }
 

@@ -18,6 +18,9 @@ use std::alloc::Global;
 // whose best documents come early ends early.
 const FIRST_WIDTH: usize = 8;
 
+// How many words mark the documents of a window, at most: the scores of so many documents take 32 KiB, which stay near the processor.
+const MOST_WORDS: usize = 64;
+
 // What the windows of documents of a query are scored with.
 #[derive(Drop)]
 pub(crate) struct Room {
@@ -37,7 +40,7 @@ impl Room {
     {
         let mut near = Vec::new(alloc);
         near.extend_from_slice(terms)?;
-        let words = scored_words(n);
+        let words = scored_words(n).min(MOST_WORDS);
         let scores = new_scores(alloc, words)?;
         let marks = new_marks(alloc, words)?;
         Ok(Room {

@@ -1,4 +1,4 @@
-use Rattle.std.proofs.Common.{◌≡◌, ℕ, ◌+◌, ◌*◌, ◌-◌, ◌^◌, ◌<◌, ◌≤◌, true, length, slice_index}
+use Rattle.std.proofs.Common.{◌≡◌, ℕ, ◌+◌, ◌*◌, ◌-◌, ◌<◌, ◌≤◌, true, slice_index}
 use Rattle.scan_plans.specs.Window.{is_marked, AreTakenBack}
 use Rattle.scan_plans.proofs.window.take_candidate.Given as goal
 
@@ -9,8 +9,7 @@ invariant-loop-i l = record {
   end : low ≤ 64 * (l.i + 1);
   taken : AreTakenBack low l.initial.scores l.initial.marks l.scores l.marks;
   passed : (k : ℕ) → k < low → is_marked l.initial.marks k ≡ true → slice_index l.initial.scores k < l.least;
-  fits : (k : ℕ) → slice_index l.marks k < 2 ^ 64;
 }
 
 abbrev pub decreases-loop-i : goal.decreases-loop-i
-decreases-loop-i l = 2 ^ 64 * (length l.marks - l.i) + slice_index l.marks l.i
+decreases-loop-i l = l.words - l.i
