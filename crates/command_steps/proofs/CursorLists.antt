@@ -1,6 +1,5 @@
 use Rattle.std.proofs.Common.{◌≡◌, refl, sym, ◌∙◌, ap, subst, ℕ, zero, suc, ◌+◌, ◌<◌, List, [], ◌∷◌, ◌++◌, length, get_or, take, map, arith}
-use Rattle.std.specs.Prelude.{Option, Some, None, option_map, Result, Ok, Err, IfOk, Vec}
-use Rattle.std.specs.declared.alloc.Global.{Global}
+use Rattle.std.specs.Prelude.{Option, Some, None, option_map}
 use Rattle.std.specs.List.{All, slice_get}
 use Rattle.std.proofs.lemmas.List.{map-append, length-map}
 use Rattle.std.proofs.lemmas.List.Elements.{All-get_or, All-weaker, All-map, All-append}
@@ -10,27 +9,14 @@ use Rattle.collection_model.specs.FormatNumbers.{FormatNumbers}
 use Rattle.collection_model.specs.Collection.{Posting, Collection, WellFormed, IsPostingList, docs_of, freqs_of, list_of, first_at_least}
 use Rattle.cursor_api.specs.NextGeq.{next_geq_place}
 use Rattle.cursor_api.proofs.FirstPosting.{first-is_next}
-use Rattle.scan_plans.specs.Matches.{AreBelow, in_all, in_any}
+use Rattle.scan_plans.specs.Matches.{AreBelow}
 use Rattle.segments.specs.Laws.{IsInRange}
-use Rattle.query_text.specs.declared.query.Query.{Query}
-use Rattle.query_text.specs.declared.query.Query.TheVariants.{Next, And, Or, Top}
-use Rattle.no_memory.specs.declared.NoMemory.{NoMemory}
-use Rattle.query_text.specs.Parse.{NamesTerms}
-use Rattle.query_text.specs.Texts.{list_text}
-use Rattle.command_model.specs.Replies.{IsAnswer, lists_of, terms_of}
-
--- ---- the terms that a line asks for
+use Rattle.command_model.specs.Replies.{lists_of}
 
 -- what holds of an element holds of each of it alone
 one-at : {X : Type 0} (P : X → Type 0) (x d : X) (k : ℕ) → k < 1 → P x → P (get_or (x ∷ []) k d)
 one-at P x d zero lt h = h
 one-at P x d (suc k) lt h = absurd (omega arith)
-
-terms-below : (n : ℕ) (query : Query) → NamesTerms n query → All (λ t. t < n) (terms_of query)
-terms-below n (Next t d) named = λ k d lt. one-at (λ t. t < n) t d k lt named
-terms-below n (And terms) named = named.below
-terms-below n (Or terms) named = named.below
-terms-below n (Top k terms) named = named.0.below
 
 -- the documents of their lists are those of the collection
 lists-below : (c : Collection) (terms : List ℕ) → IsInRange c → All (λ t. t < length c.lists) terms → AreBelow c.documents (lists_of c terms)
@@ -44,11 +30,10 @@ lists-below c terms in_range below =
     )
 
 -- and so are those of the cursors over them
-pub cursors-below : {C : Type 0} (list_at : C → List Posting) (c : Collection) (query : Query) (terms : List ℕ) (made cursors : List C) →
-    IsInRange c → NamesTerms (length c.lists) query → terms ≡ terms_of query → map list_at made ≡ lists_of c terms → cursors ≡ made → AreBelow c.documents (map list_at cursors)
-cursors-below list_at c query terms made cursors in_range named asked so same =
-    let lists : map list_at cursors ≡ lists_of c (terms_of query) = ap (map list_at) same ∙ so ∙ ap (lists_of c) asked in
-    subst (AreBelow c.documents) (sym lists) (lists-below c (terms_of query) in_range (terms-below (length c.lists) query named))
+pub cursors-below : {C : Type 0} (list_at : C → List Posting) (c : Collection) (terms : List ℕ) (made cursors : List C) →
+    IsInRange c → All (λ t. t < length c.lists) terms → map list_at made ≡ lists_of c terms → cursors ≡ made → AreBelow c.documents (map list_at cursors)
+cursors-below list_at c terms made cursors in_range below so same =
+    subst (AreBelow c.documents) (sym (ap (map list_at) same ∙ so)) (lists-below c terms in_range below)
 
 -- the documents of a well-formed collection are below their number
 pub well-in-range : (format : FormatNumbers) (c : Collection) → WellFormed format c → IsInRange c
@@ -107,21 +92,3 @@ found old new start place d doc freq at same went some of =
     some-mapped (first_at_least old d) doc freq
     (ap (option_map (λ p. p.doc)) (sym is) ∙ some)
     (ap (option_map (λ p. p.freq)) (sym is) ∙ sym (slice_get-map (λ p. p.freq) new place) ∙ of)
-
--- ---- the texts of replies
-
-pub and-text : (c : Collection) (query : Query) (terms : List ℕ) (lists : List (List Posting)) (r : Result (Vec ℕ Global) NoMemory) → query ≡ And terms →
-    lists ≡ lists_of c (terms_of query) → IfOk r (λ text. text.items ≡ list_text (in_all c.documents lists)) → IfOk r (λ text. IsAnswer c query text.items)
-and-text c query terms lists (Err e) is same text = tt
-and-text c query terms lists (Ok text) is same all =
-    let P : Query → Type 0 = λ q. IsAnswer c q text.items in
-    let of : lists ≡ lists_of c terms = same ∙ ap (λ q. lists_of c (terms_of q)) is in
-    subst P (sym is) (all ∙ ap (λ ls. list_text (in_all c.documents ls)) of)
-
-pub or-text : (c : Collection) (query : Query) (terms : List ℕ) (lists : List (List Posting)) (r : Result (Vec ℕ Global) NoMemory) → query ≡ Or terms →
-    lists ≡ lists_of c (terms_of query) → IfOk r (λ text. text.items ≡ list_text (in_any c.documents lists)) → IfOk r (λ text. IsAnswer c query text.items)
-or-text c query terms lists (Err e) is same text = tt
-or-text c query terms lists (Ok text) is same any =
-    let P : Query → Type 0 = λ q. IsAnswer c q text.items in
-    let of : lists ≡ lists_of c terms = same ∙ ap (λ q. lists_of c (terms_of q)) is in
-    subst P (sym is) (any ∙ ap (λ ls. list_text (in_any c.documents ls)) of)

@@ -1,19 +1,18 @@
 -- Files that are written one after the other: what is kept from file to file, and how the writing ends.
-use Rattle.std.proofs.Common.{◌≡◌, ◌≢◌, refl, sym, ap, ◌∙◌, subst, inl, inr, ◌⊎◌, ℕ, ◌+◌, ◌<◌, ◌≤◌, List, [], ◌∷◌, length, take, Some, IsTrue, Result, Ok, Err, arith}
-use Rattle.std.specs.Prelude.{false, OnErr}
+use Rattle.std.proofs.Common.{◌≡◌, ◌≢◌, refl, sym, ap, ◌∙◌, subst, inl, inr, ℕ, ◌+◌, ◌<◌, ◌≤◌, List, [], length, Some, IsTrue, Result, Ok, Err, arith}
+use Rattle.std.specs.Prelude.{false}
 use Rattle.std.specs.List.{All}
 use Rattle.std.proofs.lemmas.Bool.{cases_lt}
 use Rattle.std.proofs.lemmas.List.Elements.{All-get_or, All-from_get_or}
 use Rattle.pef_io.specs.declared.fail.IoFail.{IoFail}
 use Rattle.pef_io.specs.declared.fail.IoFail.TheVariants.{Failed, NoMemory}
 use Rattle.pef_io.specs.declared.fail.Slot.{Slot}
-use Rattle.pef_io.specs.declared.fail.Slot.TheVariants.{Docs, Freqs, Sizes}
 use Rattle.pef_io.specs.Calls.{Rose}
 use Rattle.pef_io.specs.DepotState.{DepotState, SameWriting}
 use Rattle.collection_reader.specs.ReadCollection.{IsCollectionSlot}
 use Rattle.collection_reader.specs.Starting.{turn}
 use Rattle.command_model.specs.Written.{IsUnwritten, IsBeingWritten}
-use Rattle.command_model.specs.FilesWritten.{NamedFile, nth_file, AreApart, SameOthers, AreWritten, AreWrittenUpTo, IsNotBegun, StopsAtFile, FileLeftByFault, OnlyCreates}
+use Rattle.command_model.specs.FilesWritten.{NamedFile, nth_file, AreApart, SameOthers, AreWritten, IsNotBegun, StopsAtFile, FileLeftByFault, OnlyCreates}
 use Rattle.command_steps.specs.declared.image.FileFail.{FileFail}
 use Rattle.command_steps.specs.WriteFile.{WritesBytes}
 use Rattle.command_steps.specs.WriteImage.{file_fail, WritesNamed, WritesFiles}

@@ -1,7 +1,7 @@
 -- What making the files of an image gives: at each refusal, and at the end.
-use Rattle.std.proofs.Common.{◌≡◌, ◌≢◌, refl, sym, ap, ◌∙◌, subst, inl, inr, ℕ, ◌^◌, ◌<◌, ◌≤◌, List, [], ◌++◌, length, IsTrue, Result, Ok, Err, unwrap_or, arith}
-use Rattle.std.specs.Prelude.{◌⊎◌, IfOk, codes}
-use Rattle.collection_model.specs.Collection.{Collection, WellFormed}
+use Rattle.std.proofs.Common.{◌≡◌, ◌≢◌, refl, sym, ap, ◌∙◌, subst, inl, inr, ℕ, List, [], IsTrue, Result, Ok, Err, unwrap_or, arith}
+use Rattle.std.specs.Prelude.{◌⊎◌, IfOk}
+use Rattle.collection_model.specs.Collection.{Collection}
 use Rattle.collection_model.specs.Laws.{OneCollection}
 use Rattle.collection_model.specs.Spelling.{spelled}
 use Rattle.pef_io.specs.declared.fail.Slot.{Slot}
@@ -22,7 +22,7 @@ use Rattle.remap.specs.MapFaults.{IsMapFault}
 use Rattle.remap.specs.ReadMap.{ReadsMap, OneMapFault}
 use Rattle.command_model.specs.Found.{FindsCollection, HasFault}
 use Rattle.command_model.specs.FilesWritten.{NamedFile}
-use Rattle.command_model.specs.FoundMap.{remap_numbers, IsCollectionOrMap, FindsMap, FindsBothOf, HasMapFault, OnImageFiles, files_under}
+use Rattle.command_model.specs.FoundMap.{remap_numbers, IsCollectionOrMap, FindsBothOf, HasMapFault, OnImageFiles, files_under}
 use Rattle.command_steps.specs.declared.image.ImageError.{ImageError}
 use Rattle.command_steps.specs.declared.image.ImageError.TheVariants.{Broken, BrokenMap, Read, NoMemory}
 use Rattle.command_steps.specs.MakeImage.{MakesImage, image_error, map_error}

@@ -14,6 +14,9 @@ const LISTED: usize = 11;
 // With its score: a colon and twenty digits more.
 const SCORED: usize = 32;
 
+// Room for two numbers, of at most twenty digits, with a space between and a newline.
+const POSTING: usize = 42;
+
 // The most bytes of a count and a newline.
 const COUNTED: usize = 21;
 
@@ -51,11 +54,10 @@ pub fn next_reply(alloc: Global, posting: Option<(u32, u32)>) -> Result<Vec<u8>,
     let Some((doc, freq)) = posting else {
         return Ok(Vec::from_slice(alloc, b"end\n")?);
     };
-    let mut room = reply_room(alloc, 1, SCORED)?;
-    let text = room.as_mut_slice();
+    let mut text = [b'\n'; POSTING];
     let end = text.len() - 1;
-    let middle = write_after(b' ', u64::from(freq), text, end);
-    let start = write_digits(u64::from(doc), text, middle);
+    let middle = write_after(b' ', u64::from(freq), &mut text, end);
+    let start = write_digits(u64::from(doc), &mut text, middle);
     Ok(Vec::from_slice(alloc, &text[start..])?)
 }
 

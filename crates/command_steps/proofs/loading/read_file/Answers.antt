@@ -1,8 +1,7 @@
-use Rattle.std.proofs.Common.{◌≡◌, ◌≢◌, ◌∙◌, ap, ℕ, ◌+◌, ◌*◌, ◌%◌, ◌<◌, ◌≤◌, ◌++◌, List, take, drop, length, arith}
+use Rattle.std.proofs.Common.{◌≡◌, ◌∙◌, ap, ℕ, ◌+◌, ◌*◌, ◌%◌, ◌≤◌, ◌++◌, List, take, drop, length, arith}
 use Rattle.std.proofs.lemmas.List.{length-append, length-take, take_at}
 use Rattle.std.proofs.lemmas.Result.{err_from_is_err_and}
 use Rattle.collection_model.specs.Bytes.{word_bytes}
-use Rattle.index_file.specs.Builder.{most_words}
 use Rattle.command_model.proofs.WordBytes.{word_bytes-length}
 use Rattle.command_steps.proofs.LoadedWords.{more-words, all-words, piece-too_large, words-refused}
 use Rattle.command_steps.proofs.loading.read_file.Goals as goal

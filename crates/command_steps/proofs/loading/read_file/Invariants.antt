@@ -1,4 +1,4 @@
-use Rattle.std.proofs.Common.{◌≡◌, ◌*◌, ◌-◌, ◌≤◌, length}
+use Rattle.std.proofs.Common.{◌≡◌, ◌-◌, ◌≤◌, length}
 use Rattle.index_file.specs.Builder.{most_words}
 use Rattle.command_steps.proofs.LoadedWords.{HasWords}
 use Rattle.command_steps.proofs.loading.read_file.Given as goal

@@ -1,4 +1,4 @@
-use Rattle.std.proofs.Common.{ap, ℕ, ◌+◌, ◌<◌, ◌≤◌, length, decimal, arith}
+use Rattle.std.proofs.Common.{◌≤◌, length, decimal, arith}
 use Rattle.std.proofs.lemmas.Fmt.{length-decimal-le}
 use Rattle.query_text.proofs.replies.next_reply.Goals as goal
 
@@ -6,8 +6,6 @@ pub write_after-middle-requires-clause-room : goal.write_after-middle-requires-c
 write_after-middle-requires-clause-room c =
     let freq = c.from.ensures in
     let digits : length (decimal c.from.result) ≤ 20 = length-decimal-le 20 c.from.result (omega arith) (omega arith) (omega arith) in
-    let size = c.in_ok-room.ensures.size in
-    let same = ap length c.as_mut_slice-text.ensures.value in
     omega arith
 
 pub write_digits-start-requires : goal.write_digits-start-requires
@@ -16,8 +14,6 @@ write_digits-start-requires c =
     let digits : length (decimal c.from.result) ≤ 20 = length-decimal-le 20 c.from.result (omega arith) (omega arith) (omega arith) in
     let doc = c.from-2.ensures in
     let more : length (decimal c.from-2.result) ≤ 20 = length-decimal-le 20 c.from-2.result (omega arith) (omega arith) (omega arith) in
-    let size = c.in_ok-room.ensures.size in
-    let same = ap length c.as_mut_slice-text.ensures.value in
     let start = c.write_after-middle.ensures.start in
     let count = c.write_after-middle.ensures.count in
     (omega arith, omega arith)
