@@ -12,7 +12,7 @@ use Rattle.index_file.specs.IndexView.{IndexView}
 use Rattle.index_file.specs.Laws.{OneIndex}
 use Rattle.command_steps.specs.declared.build.BuildError.{BuildError}
 use Rattle.command_steps.specs.declared.text.RunFault.{RunFault}
-use Rattle.command_steps.specs.BuildWords.{BuildsWords, words_built}
+use Rattle.command_steps.specs.WordsOfFiles.{BuildsWords, words_built}
 use Rattle.command_steps.specs.AnswerText.{AnswersText}
 use Rattle.command_ends.specs.declared.stop.Stop.{Stop}
 use Rattle.command_ends.specs.Outside.{Outside, outside, OfFile, OfWriting}
@@ -22,7 +22,7 @@ use Rattle.command_ends.specs.AnsweredText.{AnswersInput, longest_text}
 use Rattle.command_ends.specs.Steps.Leaves.{Leaves}
 use Rattle.command_ends.specs.Steps.Stops.{outcome_of, stop_of_building}
 use Rattle.command_ends.proofs.Counted.{stays, all_end}
-use Rattle.collection_commands.proofs.WordsBuilt.{unbuilt, unbuilt_ends, unbuilt_refuses, unbuilt_faults, unbuilt_starts, unbuilt_complete, Cut, cut_of, unbroken, same_counts, starts}
+use Rattle.collection_commands.proofs.BuildRefused.{unbuilt, unbuilt_ends, unbuilt_refuses, unbuilt_faults, unbuilt_starts, unbuilt_complete, Cut, cut_of, unbroken, same_counts, starts}
 use Rattle.command_ends.proofs.TextAnswered.{text_outcome, not_broken, not_file, not_writing, behind_building, answers_input, must_answer, input_ends, out_ends}
 use Rattle.command_ends.specs.Starts.{StartsOnly}
 use Rattle.collection_reader.specs.ReadCollection.{IsCollectionSlot}

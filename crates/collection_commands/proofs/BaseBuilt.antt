@@ -15,18 +15,18 @@ use Rattle.pef_io.specs.DepotState.{DepotState}
 use Rattle.collection_reader.specs.ReadCollection.{IsCollectionSlot}
 use Rattle.command_model.specs.Found.{FindsCollection}
 use Rattle.command_steps.specs.declared.build.BuildError.{BuildError}
-use Rattle.command_steps.specs.BuildWords.{BuildsWords, words_built}
+use Rattle.command_steps.specs.WordsOfFiles.{BuildsWords, words_built}
 use Rattle.command_steps.specs.WriteFile.{WritesWords}
 use Rattle.command_ends.specs.declared.stop.Stop.{Stop}
 use Rattle.command_ends.specs.Outside.{Outside, outside}
 use Rattle.command_ends.specs.Outcome.{Outcome, Done}
-use Rattle.command_ends.specs.Built.{BuildsWordsThen}
+use Rattle.command_ends.specs.WordsThen.{BuildsWordsThen}
 use Rattle.command_ends.specs.ReadingCollection.{ReadsCollectionThen}
 use Rattle.command_ends.specs.WrittenIndex.{WritesIndex}
 use Rattle.command_ends.specs.Steps.Leaves.{Leaves}
 use Rattle.command_ends.specs.Steps.Stops.{outcome_of, written_outcome, stop_of_building}
 use Rattle.command_ends.proofs.Started.{written_starts}
-use Rattle.collection_commands.proofs.WordsBuilt.{unbuilt, not_done, unbuilt_ends, unbuilt_refuses, unbuilt_faults, unbuilt_starts, unbuilt_complete, cut_of, unbroken, same_counts, starts}
+use Rattle.collection_commands.proofs.BuildRefused.{unbuilt, not_done, unbuilt_ends, unbuilt_refuses, unbuilt_faults, unbuilt_starts, unbuilt_complete, cut_of, unbroken, same_counts, starts}
 use Rattle.command_ends.proofs.FileWritten.{Written, not_broken, only_read}
 use Rattle.command_ends.proofs.IndexWritten.{left}
 use Rattle.command_ends.specs.Starts.{StartsOnly}

@@ -17,20 +17,20 @@ use Rattle.pef_report.specs.Generated.{generated}
 use Rattle.command_model.specs.GeneratedText.{IsGeneratedText}
 use Rattle.index_file.specs.declared.builder.FinishError.{FinishError}
 use Rattle.index_file.specs.declared.builder.FinishError.TheVariants as making
-use Rattle.command_steps.specs.MadeWords.{AreWordsOf, WouldBeTooMany}
+use Rattle.command_steps.specs.WordsOfCollection.{AreWordsOf, WouldBeTooMany}
 use Rattle.command_steps.specs.PrintLine.{PrintsLine}
 use Rattle.command_steps.specs.PrintText.{MakesAndPrints}
 use Rattle.command_ends.specs.declared.stop.Stop.{Stop}
 use Rattle.command_ends.specs.Outside.{Outside, outside, OfFile, OfWriting, OfInput, OfOut}
 use Rattle.command_ends.specs.Outcome.{Outcome, Done, NoMemory}
-use Rattle.command_ends.specs.Built.{BuildsWordsThen}
+use Rattle.command_ends.specs.WordsThen.{BuildsWordsThen}
 use Rattle.command_ends.specs.PrintedText.{PrintsText}
 use Rattle.collection_commands.specs.Generate.{IsGeneration, generate_format, Generates}
 use Rattle.command_ends.specs.Steps.Leaves.{Leaves}
 use Rattle.command_ends.specs.Steps.Stops.{outcome_of, stop_of_making, printed_outcome}
 use Rattle.command_ends.proofs.Counted.{stays, or_larger, all_end}
 use Rattle.command_ends.proofs.Started.{uncalled}
-use Rattle.command_ends.proofs.WordsMade.{unmade_words, unmade_faults}
+use Rattle.command_ends.proofs.WordsRefused.{unmade_words, unmade_faults}
 use Rattle.command_ends.proofs.TextPrinted.{Printed, not_file, not_writing, not_input, prints, complete, out_ends}
 use Rattle.command_ends.specs.Starts.{StartsOnly}
 

@@ -1,4 +1,4 @@
-mod WordsBuilt
+mod BuildRefused
 mod BaseBuilt
 mod BaseAnswered
 mod GenerationPrinted

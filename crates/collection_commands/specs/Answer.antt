@@ -9,7 +9,7 @@ use Rattle.index_file.specs.FileWords.{ListParts}
 use Rattle.command_model.specs.Found.{FindsCollection}
 use Rattle.command_ends.specs.Outside.{Outside}
 use Rattle.command_ends.specs.Outcome.{Outcome}
-use Rattle.command_ends.specs.Built.{AreBuilt, BuildsWordsThen}
+use Rattle.command_ends.specs.WordsThen.{AreBuilt, BuildsWordsThen}
 use Rattle.command_ends.specs.ReadingCollection.{ReadsCollectionThen, RefusesBrokenCollection}
 use Rattle.command_ends.specs.AnsweredText.{AnswersInput, MustAnswer}
 

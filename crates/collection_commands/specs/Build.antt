@@ -8,7 +8,7 @@ use Rattle.command_ends.specs.Outside.{Outside, NoCallFailed}
 use Rattle.command_ends.specs.Outcome.{Outcome, Done}
 use Rattle.command_ends.specs.Ends.{OrTooLarge}
 use Rattle.command_ends.specs.FoundIndex.{FindsIndexOf}
-use Rattle.command_ends.specs.Built.{BuildsWordsThen}
+use Rattle.command_ends.specs.WordsThen.{BuildsWordsThen}
 use Rattle.command_ends.specs.ReadingCollection.{ReadsCollectionThen, RefusesBrokenCollection}
 use Rattle.command_ends.specs.WrittenFile.{WritesOnlyAccepted}
 use Rattle.command_ends.specs.WrittenIndex.{WritesIndex}

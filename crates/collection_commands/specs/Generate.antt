@@ -9,7 +9,7 @@ use Rattle.command_model.specs.GeneratedText.{IsGeneratedText}
 use Rattle.command_ends.specs.Outside.{Outside, NoCallFailed}
 use Rattle.command_ends.specs.Outcome.{Outcome, Done}
 use Rattle.command_ends.specs.Ends.{OrTooLarge}
-use Rattle.command_ends.specs.Built.{AreBuilt, BuildsWordsThen}
+use Rattle.command_ends.specs.WordsThen.{AreBuilt, BuildsWordsThen}
 use Rattle.command_ends.specs.PrintedText.{PrintsText}
 
 -- the format in which a generated collection is built

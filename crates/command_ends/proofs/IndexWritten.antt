@@ -19,7 +19,7 @@ use Rattle.command_ends.specs.Outside.{Outside, NoCallFailed, outside}
 use Rattle.command_ends.specs.Outcome.{Outcome, Done}
 use Rattle.command_ends.specs.Ends.{FirstFaultEnds, OrTooLarge}
 use Rattle.command_ends.specs.FoundIndex.{FindsIndex}
-use Rattle.command_ends.specs.Built.{AreBuilt, BuildsWordsThen}
+use Rattle.command_ends.specs.WordsThen.{AreBuilt, BuildsWordsThen}
 use Rattle.command_ends.specs.WrittenFile.{WritesOnlyAccepted}
 use Rattle.command_ends.specs.WrittenIndex.{OnBuiltBytes, WritesIndex}
 use Rattle.command_ends.specs.Steps.Stops.{written_outcome}

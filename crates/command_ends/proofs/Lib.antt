@@ -1,7 +1,7 @@
 pub mod Counted
 pub mod Told
 pub mod Started
-pub mod WordsMade
+pub mod WordsRefused
 pub mod WordsLoaded
 pub mod TextAnswered
 pub mod TextPrinted

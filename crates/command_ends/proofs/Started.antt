@@ -12,7 +12,7 @@ use Rattle.command_steps.specs.declared.build.BuildError.{BuildError}
 use Rattle.command_steps.specs.declared.build.BuildError.TheVariants as building
 use Rattle.command_steps.specs.declared.loading.LoadWordsError.{LoadWordsError}
 use Rattle.command_steps.specs.declared.loading.LoadWordsError.TheVariants as loading
-use Rattle.command_steps.specs.BuildWords.{BuildsWords}
+use Rattle.command_steps.specs.WordsOfFiles.{BuildsWords}
 use Rattle.command_steps.specs.LoadWords.{LoadsWords}
 use Rattle.command_steps.specs.WriteFile.{WritesBytes}
 use Rattle.command_ends.specs.Outcome.{Outcome, FileFault, NoMemory}

@@ -14,7 +14,7 @@ use Rattle.command_steps.specs.AnswerText.{AnswersText}
 use Rattle.command_ends.specs.Outside.{Outside, OfFile, OfWriting, OfInput, OfOut}
 use Rattle.command_ends.specs.Outcome.{Outcome, Done, BrokenCollection, BrokenIndex, InputFault, OutFault, NoMemory, TooLarge, InputTooLarge, is_refusal, fault_of}
 use Rattle.command_ends.specs.Ends.{EndsByFault}
-use Rattle.command_ends.specs.Built.{BuildsWordsThen}
+use Rattle.command_ends.specs.WordsThen.{BuildsWordsThen}
 use Rattle.command_ends.specs.ReadingCollection.{ReadsCollectionThen}
 use Rattle.command_ends.specs.ReadingIndex.{ReadsIndexThen}
 use Rattle.command_ends.specs.AnsweredText.{AnswersInput, MustAnswer, longest_text}

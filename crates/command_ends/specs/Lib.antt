@@ -5,7 +5,7 @@ pub mod Outcome
 pub mod Ends
 pub mod Starts
 pub mod FoundIndex
-pub mod Built
+pub mod WordsThen
 pub mod ReadingCollection
 pub mod ReadingIndex
 pub mod AnsweredText

@@ -7,7 +7,7 @@ use Rattle.pef_io.specs.declared.fail.Slot.TheVariants.{Index}
 use Rattle.index_file.specs.FileWords.{ListParts, file_words}
 use Rattle.command_ends.specs.Outside.{Outside}
 use Rattle.command_ends.specs.Outcome.{Outcome}
-use Rattle.command_ends.specs.Built.{AreBuilt}
+use Rattle.command_ends.specs.WordsThen.{AreBuilt}
 use Rattle.command_ends.specs.WrittenFile.{WritesFile}
 
 -- The words of a collection of this property were built, and P holds of their bytes.

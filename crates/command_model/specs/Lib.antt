@@ -1,5 +1,5 @@
 pub mod Found
-pub mod Built
+pub mod CollectionCut
 pub mod Replies
 pub mod GotReplies
 pub mod Written

@@ -7,14 +7,14 @@ mod CursorLists
 mod Parsed
 mod TextEnds
 mod WholeText
-mod Building
+mod AddedFromFiles
 mod LoadedWords
 mod WrittenFile
 mod PrintedLine
 mod LeastCosts
 mod Auditing
 mod PartCosts
-mod Making
+mod AddedFromLists
 mod Generating
 mod Migrating
 mod AskedLines

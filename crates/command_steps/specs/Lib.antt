@@ -1,5 +1,5 @@
 -- contracts of the public calls
-pub mod BuildWords
+pub mod WordsOfFiles
 pub mod AnswerText
 pub mod AnswerJoined
 pub mod LoadWords
@@ -7,12 +7,12 @@ pub mod WriteFile
 pub mod PrintLine
 pub mod PrintText
 pub mod PrintAudit
-pub mod MadeWords
+pub mod WordsOfCollection
 pub mod MakeImage
 pub mod WriteImage
 -- what private functions and proofs cite
-pub mod Building
-pub mod Making
+pub mod AddedFromFiles
+pub mod AddedFromLists
 pub mod AnswersLines
 pub mod Unended
 pub mod AnswersEnded

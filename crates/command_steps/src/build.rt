@@ -1,6 +1,6 @@
 ghost use Rattle.std.specs.Prelude.{◌≡◌, ◌<◌, ◌^◌};
 ghost use Rattle.std.specs.List.{All};
-ghost use Rattle.command_steps.specs.BuildWords.{BuildsWords, words_built};
+ghost use Rattle.command_steps.specs.WordsOfFiles.{BuildsWords, words_built};
 
 use collection_reader::{
     CollError, Fault, ListReader, files_have_one_first_fault, lists_are_read_in_turn,
@@ -27,7 +27,7 @@ pub enum BuildError {
 }
 
 impl From<CollError> for BuildError {
-    ghost use Rattle.command_steps.specs.Building.{build_error};
+    ghost use Rattle.command_steps.specs.AddedFromFiles.{build_error};
 
     ghost from_gives = { λ e answer. answer ≡ build_error e };
 
@@ -51,7 +51,7 @@ impl From<NoMemory> for BuildError {
 }
 
 impl From<FinishError> for BuildError {
-    ghost use Rattle.command_steps.specs.Building.{finish_error};
+    ghost use Rattle.command_steps.specs.AddedFromFiles.{finish_error};
 
     ghost from_gives = { λ e answer. answer ≡ finish_error e };
 

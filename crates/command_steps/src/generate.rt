@@ -1,7 +1,7 @@
 ghost use Rattle.std.specs.Prelude.{◌≡◌, ℕ, IfOk};
 ghost use Rattle.pef_report.specs.Generated.{generated};
-ghost use Rattle.command_steps.specs.Building.{AreAdded};
-ghost use Rattle.command_steps.specs.MadeWords.{AreWordsOf, WouldBeTooMany};
+ghost use Rattle.command_steps.specs.AddedFromFiles.{AreAdded};
+ghost use Rattle.command_steps.specs.WordsOfCollection.{AreWordsOf, WouldBeTooMany};
 
 use index_file::{Builder, FinishError, files_spell_collections, lists_are_counted};
 use no_memory::NoMemory;

@@ -1,7 +1,7 @@
 ghost use Rattle.std.specs.Prelude.{◌≡◌, ℕ, length, IfOk, OnOk};
 ghost use Rattle.collection_model.specs.Collection.{postings_of};
-ghost use Rattle.command_steps.specs.Building.{AreAdded};
-ghost use Rattle.command_steps.specs.MadeWords.{AreWordsOf, WouldBeTooMany};
+ghost use Rattle.command_steps.specs.AddedFromFiles.{AreAdded};
+ghost use Rattle.command_steps.specs.WordsOfCollection.{AreWordsOf, WouldBeTooMany};
 
 use cursor_api::DocCursor;
 use index_file::{Builder, FinishError, Index, files_spell_collections, lists_are_counted};

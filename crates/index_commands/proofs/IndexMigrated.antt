@@ -16,17 +16,17 @@ use Rattle.index_file.specs.Builder.{most_words}
 use Rattle.index_file.specs.IndexView.{IndexView}
 use Rattle.index_file.specs.Laws.{WordsAreRead, OneBrokenCheck}
 use Rattle.command_model.specs.Found.{IsIndexSlot}
-use Rattle.command_model.specs.Built.{AreCut}
+use Rattle.command_model.specs.CollectionCut.{AreCut}
 use Rattle.index_file.specs.declared.builder.FinishError.{FinishError}
 use Rattle.index_file.specs.declared.builder.FinishError.TheVariants as making
 use Rattle.command_steps.specs.LoadWords.{LoadsWords}
-use Rattle.command_steps.specs.MadeWords.{AreWordsOf, WouldBeTooMany}
+use Rattle.command_steps.specs.WordsOfCollection.{AreWordsOf, WouldBeTooMany}
 use Rattle.command_steps.specs.WriteFile.{WritesWords}
 use Rattle.command_ends.specs.declared.stop.Stop.{Stop}
 use Rattle.command_ends.specs.Outside.{Outside, outside}
 use Rattle.command_ends.specs.Outcome.{Outcome, Done, Usage, BrokenCollection, BrokenIndex, BrokenSide, BrokenMap, FileFault, InputFault, WriteFault, OutFault, NoMemory, TooLarge, InputTooLarge, BrokenSegment, UnfitSegment}
 use Rattle.command_ends.specs.FoundIndex.{FindsIndexOf}
-use Rattle.command_ends.specs.Built.{AreBuilt, BuildsWordsThen}
+use Rattle.command_ends.specs.WordsThen.{AreBuilt, BuildsWordsThen}
 use Rattle.command_ends.specs.ReadingIndex.{ReadsIndexThen}
 use Rattle.command_ends.specs.WrittenIndex.{WritesIndex}
 use Rattle.index_commands.specs.Migrate.{ReadsOldThen, migrate_format, Migrates}
@@ -38,7 +38,7 @@ use Rattle.command_ends.proofs.WordsLoaded.{starts, loaded_counts}
 use Rattle.command_ends.proofs.IndexLoaded.{refuses_none, found_index, lent_index}
 use Rattle.command_ends.proofs.IndexRefused.{IsRefused}
 use Rattle.command_ends.proofs.Started.{written_starts}
-use Rattle.command_ends.proofs.WordsMade.{unmade_words, unmade_faults}
+use Rattle.command_ends.proofs.WordsRefused.{unmade_words, unmade_faults}
 use Rattle.command_ends.proofs.FileWritten.{Written, not_no_index, not_too_large, only_read}
 use Rattle.command_ends.proofs.IndexWritten.{left}
 use Rattle.command_ends.specs.Starts.{StartsOnly}

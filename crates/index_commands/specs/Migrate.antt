@@ -11,7 +11,7 @@ use Rattle.command_ends.specs.Outside.{Outside, NoCallFailed}
 use Rattle.command_ends.specs.Outcome.{Outcome, Done, TooLarge}
 use Rattle.command_ends.specs.Ends.{OrTooLarge}
 use Rattle.command_ends.specs.FoundIndex.{FindsIndex, FindsIndexOf}
-use Rattle.command_ends.specs.Built.{BuildsWordsThen}
+use Rattle.command_ends.specs.WordsThen.{BuildsWordsThen}
 use Rattle.command_ends.specs.ReadingIndex.{ReadsIndexThen, IsTooLong, RefusesBrokenIndex}
 use Rattle.command_ends.specs.WrittenFile.{WritesOnlyAccepted}
 use Rattle.command_ends.specs.WrittenIndex.{WritesIndex}

@@ -1,7 +1,7 @@
-use Rattle.std.proofs.Common.{◌≡◌, ℕ, zero, suc, ◌+◌, ◌-◌, ◌*◌, ◌/◌, ◌^◌, ◌<◌, ◌≤◌, ⊎_elim, arith}
+use Rattle.std.proofs.Common.{◌≡◌, inl, inr, ℕ, zero, suc, ◌+◌, ◌-◌, ◌*◌, ◌/◌, ◌^◌, ◌<◌, ◌≤◌, ⊎_elim, arith}
 use Rattle.std.proofs.lemmas.Nat.{leading_le, le-div, mul-le, pow_pos}
-use Rattle.std.proofs.Math.Nat.{div-mul-le_self, add-le-add, le_trans}
-use Rattle.std.proofs.lemmas.Bool.{cases_eq}
+use Rattle.std.proofs.Math.Nat.{div-eq_of_lt, div-mul-le_self, add-le-add, le_trans}
+use Rattle.std.proofs.lemmas.Bool.{cases_eq, cases_lt}
 use lib.Count.{count_leading_zeros}
 use Rattle.part_cost.specs.Laws.{OneNumberIsShort}
 use Rattle.part_cost.specs.Payload.{digits, least_through, widest_low, ef_bits_at, ef_payload, bitmap_payload, payload, ef_spacing}
@@ -64,18 +64,27 @@ least-last : (f : ℕ → ℕ) (n : ℕ) → least_through f n ≤ f n
 least-last f zero = omega arith
 least-last f (suc n) = omega arith
 
--- one number takes at most one bit more than the widest low width
-one-ef : (u : ℕ) → u ≤ 2 ^ widest_low → ef_payload u 1 ≤ widest_low + 1
+-- and at most what stands at any of them
+least-at : (f : ℕ → ℕ) (n w : ℕ) → w ≤ n → least_through f n ≤ f w
+least-at f zero w le = let same : w ≡ 0 = omega arith in rw same (omega arith)
+least-at f (suc n) w le = elim (cases_lt n w) as (λ _. least_through f (suc n) ≤ f w) [
+  | inl past ↦ (let same : w ≡ suc n = omega arith in rw same (least-last f (suc n)))
+  | inr before ↦ (let less = least-at f n w before in omega (arith, less))
+]
+
+-- one number takes at most one bit more than the power of two that bounds its universe
+one-ef : (w u : ℕ) → w ≤ widest_low → 1 ≤ u → u ≤ 2 ^ w → ef_payload u 1 ≤ w + 1
 unfolding ef_payload
-one-ef u fit =
-    let last : least_through (ef_bits_at u 1) widest_low ≤ widest_low + 1 = le_trans (least-last (ef_bits_at u 1) widest_low) (omega (arith, fit)) in
+one-ef w u narrow some fit =
+    let high : (u - 1) / 2 ^ w ≡ 0 = div-eq_of_lt (omega arith) in
+    let last : least_through (ef_bits_at u 1) widest_low ≤ w + 1 = le_trans (least-at (ef_bits_at u 1) widest_low w narrow) (omega (arith, high)) in
     let samples : (1 - 1) / ef_spacing * digits (3 * 1) ≤ 0 = omega arith in
-    add-le-add last samples
+    omega (arith, add-le-add last samples)
 
 pub one-number-is-short : OneNumberIsShort
-one-number-is-short u some fit = ⊎_elim
+one-number-is-short w u narrow some fit = ⊎_elim
     (λ full. omega (arith, payload-ones u 1 full))
-    (λ (ne : 1 ≡ u → ⊥). omega (arith, payload-packed u 1 ne, one-ef u fit))
+    (λ (ne : 1 ≡ u → ⊥). omega (arith, payload-packed u 1 ne, one-ef w u narrow some fit))
     (cases_eq 1 u)
 
 -- a payload is at most two bits for each place

@@ -105,7 +105,7 @@ single-is-allowed charge limit room xs up below i h =
     let fit = has-room xs up i (i + 1) (omega arith) (omega arith) in
     let within = is-within (2 ^ widest_low) xs below i (i + 1) (omega arith) (omega arith) in
     let one : 1 ≡ i + 1 - i = omega arith in
-    let short = one-number-is-short (universe xs i (i + 1)) (omega (arith, fit)) within in
+    let short = one-number-is-short widest_low (universe xs i (i + 1)) (omega arith) (omega (arith, fit)) within in
     omega (arith, room, short, ap (payload (universe xs i (i + 1))) one)
 
 -- rising numbers are the relative values of a part whose universe ends with the last

@@ -41,7 +41,7 @@ use Rattle.side_commands.proofs.SideRefused.{IsRefusedSide, is_refused_side}
 use Rattle.side_commands.proofs.SideStarted.{widened, as_answered, both_start, both_read}
 use Rattle.command_ends.proofs.TextAnswered.{Answer, text_outcome, not_no_index, not_too_large, not_file, not_writing, answers_input, must_answer, input_ends, out_ends}
 use Rattle.command_ends.proofs.WordsLoaded.{starts, loaded_counts}
-use Rattle.command_ends.proofs.WordsMade.{unmade_faults}
+use Rattle.command_ends.proofs.WordsRefused.{unmade_faults}
 
 -- ---- the index was refused
 

@@ -34,7 +34,7 @@ use Rattle.command_ends.proofs.WordsLoaded.{starts, loaded_counts}
 use Rattle.command_ends.proofs.IndexLoaded.{refuses_none, found_parts, lent_index}
 use Rattle.command_ends.proofs.IndexRefused.{IsRefused}
 use Rattle.command_ends.proofs.Started.{written_starts}
-use Rattle.command_ends.proofs.WordsMade.{unmade_faults}
+use Rattle.command_ends.proofs.WordsRefused.{unmade_faults}
 use Rattle.command_ends.proofs.FileWritten.{Written, left, not_no_index, not_too_large, only_read}
 use Rattle.command_ends.specs.Starts.{StartsOnly}
 

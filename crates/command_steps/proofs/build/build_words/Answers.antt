@@ -7,7 +7,7 @@ use Rattle.part_cost.specs.Formats.{numbers_of}
 use Rattle.cost_windows.specs.WindowBounds.{window_bounds}
 use Rattle.index_file.specs.FileWords.{words_of_file}
 use Rattle.index_file.specs.Builder.{AddsList}
-use Rattle.command_steps.proofs.Building.{build-begun, build-more, next-fits, next-has_room, build-refused, list-refused, memory-refused, build-ended, sizes-refused, words-finished, words-refused}
+use Rattle.command_steps.proofs.AddedFromFiles.{build-begun, build-more, next-fits, next-has_room, build-refused, list-refused, memory-refused, build-ended, sizes-refused, words-finished, words-refused}
 use Rattle.command_steps.proofs.build.build_words.Goals as goal
 
 pub returns-in_err-reader : goal.returns-in_err-reader

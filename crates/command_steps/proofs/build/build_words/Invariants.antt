@@ -1,5 +1,5 @@
 use Rattle.std.proofs.Common.{◌-◌}
-use Rattle.command_steps.specs.Building.{IsBuilding}
+use Rattle.command_steps.specs.AddedFromFiles.{IsBuilding}
 use Rattle.command_steps.proofs.build.build_words.Given as goal
 
 abbrev pub invariant-loop-freqs : goal.invariant-loop-freqs

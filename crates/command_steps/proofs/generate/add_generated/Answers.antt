@@ -7,7 +7,7 @@ use Rattle.part_cost.specs.Formats.{numbers_of}
 use Rattle.cost_windows.specs.WindowBounds.{window_bounds}
 use Rattle.pef_report.specs.Generated.{generated}
 use Rattle.index_file.specs.Builder.{AddsList}
-use Rattle.command_steps.proofs.Making.{making-begins, making-more, making-ends, next-fits, next-has_room}
+use Rattle.command_steps.proofs.AddedFromLists.{making-begins, making-more, making-ends, next-fits, next-has_room}
 use Rattle.command_steps.proofs.Generating.{generated-documents, generated-fits}
 use Rattle.command_steps.proofs.generate.add_generated.Goals as goal
 

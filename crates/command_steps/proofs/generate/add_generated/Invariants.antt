@@ -1,7 +1,7 @@
 use Rattle.std.proofs.Common.{◌≡◌, length}
 use Rattle.part_cost.specs.declared.formats.Format.TheVariants.{Two}
 use Rattle.pef_report.specs.Generated.{generated}
-use Rattle.command_steps.specs.Making.{IsMaking}
+use Rattle.command_steps.specs.AddedFromLists.{IsMaking}
 use Rattle.command_steps.proofs.generate.add_generated.Given as goal
 
 abbrev pub invariant-loop-freqs : goal.invariant-loop-freqs

@@ -2,8 +2,8 @@
 use Rattle.std.proofs.Common.{◌≡◌, sym, ap, ◌∙◌, rules, ℕ, length, List}
 use Rattle.part_cost.specs.declared.formats.Format.TheVariants.{Two}
 use Rattle.pef_report.specs.Generated.{generated}
-use Rattle.command_steps.specs.Building.{AreAdded}
-use Rattle.command_steps.proofs.Making.{made-or-not, made-too_many}
+use Rattle.command_steps.specs.AddedFromFiles.{AreAdded}
+use Rattle.command_steps.proofs.AddedFromLists.{made-or-not, made-too_many}
 use Rattle.command_steps.proofs.Generating.{generated-fits}
 use Rattle.command_steps.proofs.generate.generated_words.Goals as goal
 

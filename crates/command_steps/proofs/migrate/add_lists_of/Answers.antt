@@ -5,7 +5,7 @@ use Rattle.collection_model.specs.Collection.{postings_of}
 use Rattle.part_cost.specs.declared.formats.Format.TheVariants.{Two}
 use Rattle.cost_windows.specs.WindowBounds.{window_bounds}
 use Rattle.index_file.specs.Builder.{AddsList}
-use Rattle.command_steps.proofs.Making.{making-more, making-ends, next-has_room}
+use Rattle.command_steps.proofs.AddedFromLists.{making-more, making-ends, next-has_room}
 use Rattle.command_steps.proofs.Migrating.{next-list}
 use Rattle.command_steps.proofs.migrate.add_lists_of.Goals as goal
 

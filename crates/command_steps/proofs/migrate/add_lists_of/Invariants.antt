@@ -1,6 +1,6 @@
 use Rattle.std.proofs.Common.{drop}
 use Rattle.part_cost.specs.declared.formats.Format.TheVariants.{Two}
-use Rattle.command_steps.specs.Making.{IsMaking}
+use Rattle.command_steps.specs.AddedFromLists.{IsMaking}
 use Rattle.command_steps.proofs.migrate.add_lists_of.Given as goal
 
 abbrev pub invariant-loop-term : goal.invariant-loop-term

@@ -1,8 +1,8 @@
 -- All lists were added; the last words are the file's.
 use Rattle.std.proofs.Common.{◌≡◌, sym, ap, ◌∙◌, rules, ℕ, length, List}
 use Rattle.part_cost.specs.declared.formats.Format.TheVariants.{Two}
-use Rattle.command_steps.specs.Building.{AreAdded}
-use Rattle.command_steps.proofs.Making.{made-or-not, made-too_many}
+use Rattle.command_steps.specs.AddedFromFiles.{AreAdded}
+use Rattle.command_steps.proofs.AddedFromLists.{made-or-not, made-too_many}
 use Rattle.command_steps.proofs.Migrating.{collection-fits}
 use Rattle.command_steps.proofs.migrate.migrated_words.Goals as goal
 

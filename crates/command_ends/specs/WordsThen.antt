@@ -5,7 +5,7 @@ use Rattle.part_cost.specs.Formats.{numbers_of}
 use Rattle.pef_io.specs.declared.fail.Slot.TheVariants.{Index}
 use Rattle.index_file.specs.FileWords.{ListParts, file_words}
 use Rattle.index_file.specs.Builder.{most_words}
-use Rattle.command_model.specs.Built.{AreCut}
+use Rattle.command_model.specs.CollectionCut.{AreCut}
 use Rattle.command_ends.specs.Outside.{Outside}
 use Rattle.command_ends.specs.Outcome.{Outcome, TooLarge}
 

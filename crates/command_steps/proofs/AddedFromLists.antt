@@ -12,10 +12,10 @@ use Rattle.index_file.specs.declared.builder.FinishError.{FinishError}
 use Rattle.index_file.specs.FileWords.{CutList, words_of_file}
 use Rattle.index_file.specs.Builder.{Built, StandsFor, AddsList, lists_added, most_words}
 use Rattle.index_file.specs.Laws.{ListsAreCounted, FilesSpellCollections}
-use Rattle.command_steps.specs.Building.{AreAdded}
-use Rattle.command_steps.specs.Making.{IsMaking}
-use Rattle.command_steps.specs.MadeWords.{AreWordsOf, WouldBeTooMany}
-use Rattle.command_steps.proofs.Building.{none-added, one-added, all-added}
+use Rattle.command_steps.specs.AddedFromFiles.{AreAdded}
+use Rattle.command_steps.specs.AddedFromLists.{IsMaking}
+use Rattle.command_steps.specs.WordsOfCollection.{AreWordsOf, WouldBeTooMany}
+use Rattle.command_steps.proofs.AddedFromFiles.{none-added, one-added, all-added}
 
 -- no list is added yet, and one more is
 pub making-begins : (format : Format) (c : Collection) (lists : List (List Posting)) (b : Built) (steps : ℕ)

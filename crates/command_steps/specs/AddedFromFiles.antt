@@ -14,7 +14,7 @@ use Rattle.index_file.specs.FileWords.{CutList}
 use Rattle.index_file.specs.Builder.{Built, StandsFor}
 use Rattle.command_steps.specs.declared.build.BuildError.{BuildError}
 use Rattle.command_steps.specs.declared.build.BuildError.TheVariants.{Broken, Read, TooLarge, NoMemory}
-use Rattle.command_model.specs.Built.{AreCounted}
+use Rattle.command_model.specs.CollectionCut.{AreCounted}
 
 -- what a refusal of reading is to building
 abbrev pub build_error : CollError → BuildError

@@ -13,7 +13,7 @@ use Rattle.index_file.specs.Builder.{most_words}
 use Rattle.command_steps.specs.declared.build.BuildError.{BuildError}
 use Rattle.command_steps.specs.declared.build.BuildError.TheVariants.{Broken, Read, TooLarge, NoMemory}
 use Rattle.command_model.specs.Found.{FindsCollection, HasFault}
-use Rattle.command_model.specs.Built.{AreCut}
+use Rattle.command_model.specs.CollectionCut.{AreCut}
 
 -- the words of a vector that was built
 abbrev pub words_built : Result (Vec ℕ Global) BuildError → Result (List ℕ) BuildError

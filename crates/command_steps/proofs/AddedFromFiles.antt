@@ -32,9 +32,9 @@ use Rattle.index_file.specs.Laws.{ListsAreCounted, FilesSpellCollections}
 use Rattle.command_steps.specs.declared.build.BuildError.{BuildError}
 use Rattle.command_steps.specs.declared.build.BuildError.TheVariants.{Broken, Read, TooLarge, NoMemory}
 use Rattle.command_model.specs.Found.{FindsCollection, HasFault}
-use Rattle.command_model.specs.Built.{AreNear, AreCounted, AreCut}
-use Rattle.command_steps.specs.Building.{build_error, finish_error, AreAdded, IsBuilding}
-use Rattle.command_steps.specs.BuildWords.{words_built, BuildsWords}
+use Rattle.command_model.specs.CollectionCut.{AreNear, AreCounted, AreCut}
+use Rattle.command_steps.specs.AddedFromFiles.{build_error, finish_error, AreAdded, IsBuilding}
+use Rattle.command_steps.specs.WordsOfFiles.{words_built, BuildsWords}
 
 -- a partition of some numbers has a part
 some-part : (n : ℕ) (ends : List ℕ) → IsPartition n ends → 1 ≤ n → 1 ≤ length ends

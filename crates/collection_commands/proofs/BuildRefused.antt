@@ -14,11 +14,11 @@ use Rattle.index_file.specs.Builder.{most_words}
 use Rattle.command_model.specs.Found.{FindsCollection, HasFault}
 use Rattle.command_steps.specs.declared.build.BuildError.{BuildError}
 use Rattle.command_steps.specs.declared.build.BuildError.TheVariants as building
-use Rattle.command_steps.specs.BuildWords.{BuildsWords}
+use Rattle.command_steps.specs.WordsOfFiles.{BuildsWords}
 use Rattle.command_ends.specs.Outside.{Outside, NoCallFailed, OfFile, OfWriting, OfInput, OfOut}
 use Rattle.command_ends.specs.Outcome.{Outcome, Done, BrokenCollection, FileFault, NoMemory, TooLarge, fault_of}
 use Rattle.command_ends.specs.Ends.{EndsByFault, FirstFaultEnds, OrTooLarge}
-use Rattle.command_ends.specs.Built.{AreBuilt, BuildsWordsThen}
+use Rattle.command_ends.specs.WordsThen.{AreBuilt, BuildsWordsThen}
 use Rattle.command_ends.specs.ReadingCollection.{ReadsCollectionThen, RefusesBrokenCollection}
 use Rattle.command_ends.specs.Steps.Stops.{outcome_of_stop, stop_of_building}
 use Rattle.command_ends.specs.Starts.{StartsOnly}

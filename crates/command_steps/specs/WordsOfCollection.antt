@@ -4,7 +4,7 @@ use Rattle.part_cost.specs.declared.formats.Format.{Format}
 use Rattle.part_cost.specs.Formats.{numbers_of}
 use Rattle.index_file.specs.FileWords.{ListParts, file_words, Spells}
 use Rattle.index_file.specs.Builder.{most_words}
-use Rattle.command_model.specs.Built.{AreCut}
+use Rattle.command_model.specs.CollectionCut.{AreCut}
 
 -- The words are those of a collection in near-cheapest parts, each of which was counted, and at most so many.
 pub record AreWordsOf (format : Format) (c : Collection) (before after : ℕ) (words : List ℕ) : Type 0 where
