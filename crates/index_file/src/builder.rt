@@ -15,7 +15,7 @@ use crate::partitions::cut;
 use no_memory::NoMemory;
 use part_cost::{Format, formats_have_room};
 use partition_path::Cuts;
-use postings::{doc_values, freq_sums, sequences_of_a_list_rise, write_postings};
+use postings::{doc_values, freq_sums, sequences_of_a_list_rise, write_sequences};
 use std::alloc::Global;
 use std::marker::Model;
 use std::sync::ledger::Ledger;
@@ -121,7 +121,7 @@ impl Builder {
         formats_have_room();
         let first = self.words.len();
         let entry = spell_entry(first as u64, freqs, doc_cuts, freq_cuts);
-        write_postings(
+        write_sequences(
             self.alloc,
             docs,
             sums,

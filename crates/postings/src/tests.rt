@@ -10,14 +10,14 @@ use std::process::Abort;
 use std::test::Fail;
 use two_level::SeqView;
 
-// 0, 2 and the sums 0, 5 are appended to what is there, each in one part, and then an empty list is.
+// Documents 0, 2 of frequencies 1, 5 are appended to what is there, each sequence in one part, and then an empty list is.
 #[test]
 fn writes_two_postings(rt: HostRuntime) -> Result<(), Fail> {
     let one: &[u64] = &[7, 137_438_953_474, 0, 5, 137_438_953_477, 0, 33];
     let two: &[u64] = &[7, 2, 2, 0, 5, 5, 2, 0, 33];
     for (format, want) in [(Format::One, one), (Format::Two, two)] {
         let mut words = vec![in rt.alloc(); 7]?;
-        write_postings(rt.alloc(), &[0, 2], &[0, 5], &[2], &[2], format, &mut words).expect(
+        write_postings(rt.alloc(), &[0, 2], &[1, 5], &[2], &[2], format, &mut words).expect(
             &rt, "memory",
         );
         assert_eq!(rt; words.as_slice(), want);

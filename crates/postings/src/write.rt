@@ -1,6 +1,6 @@
 ghost use Rattle.std.specs.Prelude.{◌≡◌, ℕ, ◌^◌, ◌<◌, ◌≤◌, List, ◌++◌, sum, length, IfOk, OnOk, OnErr};
 ghost use Rattle.std.specs.List.{All};
-ghost use Rattle.collection_model.specs.Collection.{Posting, IsPostingList};
+ghost use Rattle.collection_model.specs.Collection.{Posting, IsPostingList, postings_of};
 ghost use Rattle.collection_model.specs.Sequences.{doc_sequence, freq_sequence, lessened, sums_from};
 ghost use Rattle.part_cost.specs.Formats.{numbers_of};
 ghost use Rattle.part_cost.specs.Partition.{IsPartition};
@@ -11,9 +11,33 @@ use part_cost::Format;
 use std::alloc::Global;
 use two_level::write_seq;
 
-/// Appends the words of the two sequences of a list in a format, each in its parts: first of the documents, then of the sums of
-/// the frequencies, as `doc_values` and `freq_sums` give them. A refusal leaves the words as they were.
+/// Appends the words of the two sequences of a list in a format, each in its parts: first of its documents, then of the sums of its
+/// frequencies. A refusal leaves the words as they were.
 pub fn write_postings(
+    alloc: Global,
+    docs: &[u32],
+    freqs: &[u32],
+    doc_ends: &[u64],
+    freq_ends: &[u64],
+    format: Format,
+    to: &mut Vec<u64>,
+) -> Result<(), NoMemory>
+    requires same_length { length docs.now ≡ length freqs.now }
+    requires list { IsPostingList (numbers_of format) (numbers_of format).most_documents (postings_of docs.now freqs.now) }
+    requires doc_parts { IsPartition (length docs.now) doc_ends.now }
+    requires freq_parts { IsPartition (length freqs.now) freq_ends.now }
+    ensures ok { OnOk result (to.new.items ≡ to.old.items
+        ++ sequence_words (numbers_of format) (doc_sequence (postings_of docs.now freqs.now)) doc_ends.now
+        ++ sequence_words (numbers_of format) (freq_sequence (postings_of docs.now freqs.now)) freq_ends.now) }
+    ensures err { OnErr result (to.new.items ≡ to.old.items) }
+{
+    let values = doc_values(alloc, docs)?;
+    let sums = freq_sums(alloc, freqs)?;
+    write_sequences(alloc, &values, &sums, doc_ends, freq_ends, format, to)
+}
+
+/// Appends the same words by the values of the two sequences, as `doc_values` and `freq_sums` give them.
+pub fn write_sequences(
     alloc: Global,
     docs: &[u64],
     sums: &[u64],

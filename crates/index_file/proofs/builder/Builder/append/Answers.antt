@@ -30,26 +30,26 @@ spell_entry-entry-requires-clause-freq_parts c =
     let are = postings-are (numbers_of c.args.self.now.format) c.args.self.now.documents c.args.docs.now c.args.freqs.now c.requires.same_length c.requires.list in
     omega (arith, (c.formats_have_room.ensures c.args.self.now.format).fit, are.few, are.count, parts-few (length (postings_of c.args.docs.now c.args.freqs.now)) c.args.freq_cuts.now.ends c.requires.near.freqs.allowed.partition)
 
-pub write_postings-requires-clause-doc_parts : goal.write_postings-requires-clause-doc_parts
-write_postings-requires-clause-doc_parts c =
+pub write_sequences-requires-clause-doc_parts : goal.write_sequences-requires-clause-doc_parts
+write_sequences-requires-clause-doc_parts c =
     let are = postings-are (numbers_of c.args.self.now.format) c.args.self.now.documents c.args.docs.now c.args.freqs.now c.requires.same_length c.requires.list in
     subst (IsPartition (length c.args.docs.now)) (sym c.ends.ensures) (subst (λ m. IsPartition m c.args.doc_cuts.now.ends) are.count c.requires.near.docs.allowed.partition)
 
-pub write_postings-requires-clause-freq_parts : goal.write_postings-requires-clause-freq_parts
-write_postings-requires-clause-freq_parts c =
+pub write_sequences-requires-clause-freq_parts : goal.write_sequences-requires-clause-freq_parts
+write_sequences-requires-clause-freq_parts c =
     let are = postings-are (numbers_of c.args.self.now.format) c.args.self.now.documents c.args.docs.now c.args.freqs.now c.requires.same_length c.requires.list in
     let count : length c.args.sums.now ≡ length c.args.freqs.now = ap length c.requires.sums ∙ sums-length 0 (freqs_of (postings_of c.args.docs.now c.args.freqs.now)) ∙ ap length are.freqs_are in
     subst (IsPartition (length c.args.sums.now)) (sym c.ends-2.ensures) (subst (λ m. IsPartition m c.args.freq_cuts.now.ends) (are.count ∙ c.requires.same_length ∙ sym count) c.requires.near.freqs.allowed.partition)
 
-pub write_postings-requires-clause-list : goal.write_postings-requires-clause-list
-write_postings-requires-clause-list c =
+pub write_sequences-requires-clause-list : goal.write_sequences-requires-clause-list
+write_sequences-requires-clause-list c =
     let s = c.self.inside in
     let list = postings_of c.args.docs.now c.args.freqs.now in
     let are = postings-are (numbers_of c.args.self.now.format) c.args.self.now.documents c.args.docs.now c.args.freqs.now c.requires.same_length c.requires.list in
     let good : IsPostingList (numbers_of s.format) s.documents list = subst (λ b. IsPostingList (numbers_of b.format) b.documents list) (sym c.self.view_is) c.requires.list in
     (list, list-within (numbers_of s.format) s.documents (numbers_of s.format).most_documents list c.self.invariant.documents good, sym are.docs_are, c.requires.sums)
 
-keeps : (c : goal.Else-is_err) → KeepsMore c.self.inside.format c.self.inside.documents c.self.inside.words.items c.self.inside.directory.items c.write_postings.new.to.items c.extend_from_slice.new.self.items
+keeps : (c : goal.Else-is_err) → KeepsMore c.self.inside.format c.self.inside.documents c.self.inside.words.items c.self.inside.directory.items c.write_sequences.new.to.items c.extend_from_slice.new.self.items
     (cut_list c.args.docs.now c.args.freqs.now c.args.doc_cuts.now.ends c.args.freq_cuts.now.ends)
 keeps c =
     let s = c.self.inside in
@@ -61,12 +61,12 @@ keeps c =
     let room : length s.directory.items / 4 < most_terms = subst (λ b. lists_added b < most_terms) (sym c.self.view_is) c.requires.room in
     let are = postings-are (numbers_of s.format) s.documents c.args.docs.now c.args.freqs.now c.requires.same_length good in
     let docs_are : c.args.docs.now ≡ doc_sequence list.list = sym are.docs_are in
-    let written : c.write_postings.new.to.items ≡ s.words.items ++ doc_words (numbers_of s.format) list ++ freq_words (numbers_of s.format) list = c.in_ok-write_postings.ensures.ok ∙ (λ t. s.words.items ++ sequence_words (numbers_of s.format) (docs_are t) (c.ends.ensures t) ++ sequence_words (numbers_of s.format) (c.requires.sums t) (c.ends-2.ensures t)) in
+    let written : c.write_sequences.new.to.items ≡ s.words.items ++ doc_words (numbers_of s.format) list ++ freq_words (numbers_of s.format) list = c.in_ok-write_sequences.ensures.ok ∙ (λ t. s.words.items ++ sequence_words (numbers_of s.format) (docs_are t) (c.ends.ensures t) ++ sequence_words (numbers_of s.format) (c.requires.sums t) (c.ends-2.ensures t)) in
     let place : c.len-first.result ≡ length s.words.items = search rules in
     let entry : c.spell_entry-entry.result ≡ list_entry (numbers_of s.format) (length s.words.items) list =
     c.spell_entry-entry.ensures ∙ entry-is (numbers_of s.format) (c.formats_have_room.ensures s.format) s.documents _ c.args.doc_cuts.now.total c.args.docs.now c.args.freqs.now c.args.doc_cuts.now.ends c.args.freq_cuts.now.ends (c.sequence_takes_its_cost.ensures s.format) c.requires.same_length c.self.invariant.documents good near total ∙ ap (λ p. list_entry (numbers_of s.format) p list) place in
     let entered : c.extend_from_slice.new.self.items ≡ s.directory.items ++ c.spell_entry-entry.result = search rules in
-    keeps-more s.format s.documents s.words.items s.directory.items c.write_postings.new.to.items c.extend_from_slice.new.self.items list c.self.invariant good near room written (entered ∙ ap (λ ws. s.directory.items ++ ws) entry)
+    keeps-more s.format s.documents s.words.items s.directory.items c.write_sequences.new.to.items c.extend_from_slice.new.self.items list c.self.invariant good near room written (entered ∙ ap (λ ws. s.directory.items ++ ws) entry)
 
 pub invariant_of-self-else-is_err : goal.invariant_of-self-else-is_err
 invariant_of-self-else-is_err c = (keeps c).kept
