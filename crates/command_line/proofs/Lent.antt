@@ -7,8 +7,8 @@ use Rattle.clap.specs.Walk.{Text}
 use Rattle.part_cost.specs.declared.formats.Format.{Format}
 use Rattle.part_cost.specs.declared.formats.Format.TheVariants.{Two}
 use Rattle.query_text.specs.Numbers.{number_of}
-use Rattle.command_line.specs.declared.plan.Plan.{Plan}
-use Rattle.command_line.specs.declared.plan.Plan.TheVariants.{Exhaustive}
+use Rattle.topk_pruning.specs.declared.plan.Plan.{Plan}
+use Rattle.topk_pruning.specs.declared.plan.Plan.TheVariants.{Exhaustive}
 use Rattle.command_line.specs.Command.{Command, Build, Query, Answer, Inspect, Generate, Migrate, Audit, Blocks, BlockQuery, Remap, Segments, command_of, build_command, build_in, format_of, option_in, plan_of, answering_command, answered_by, text_command, generate_command, generate_of, migrate_command, blocks_command, bquery_command, remap_command, segments_command, segments_by, texts, texts_before, words_behind, most_segments, is_text, is_file_of, takes_place}
 use Rattle.command_line.specs.Private.CommandLine.{AreLent}
 

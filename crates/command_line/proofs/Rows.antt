@@ -1,7 +1,7 @@
 use Rattle.std.proofs.Common.{◌≡◌, refl, [], ◌∷◌, Some, None}
 use Rattle.std.specs.Prelude.{codes}
 use Rattle.part_cost.specs.declared.formats.Format.TheVariants.{One, Two}
-use Rattle.command_line.specs.declared.plan.Plan.TheVariants.{Exhaustive, Wand, MaxScore}
+use Rattle.topk_pruning.specs.declared.plan.Plan.TheVariants.{Exhaustive, Wand, MaxScore}
 use Rattle.command_line.specs.Command.{command_of, Build, Query, Answer, Inspect, Generate, Migrate, Audit, Blocks, BlockQuery, Remap}
 
 name-alone : command_of (codes "pefidx" ∷ []) ≡ None

@@ -8,8 +8,8 @@ use Rattle.clap.specs.Walk.{Names, Rule, Text, Walk, nothing_held, positional, w
 use Rattle.clap.specs.Simple.{App, Shape, built, entered, names_of, subcommand_of}
 use Rattle.clap.specs.Takes.{takes, level_passes, entered_passes, settle_passes, default_passes, is_valid, walk_passes}
 use Rattle.clap.proofs.OnLiterals.{clap_on_literals}
-use Rattle.command_line.specs.declared.plan.Plan.{Plan}
-use Rattle.command_line.specs.declared.plan.Plan.TheVariants.{Exhaustive, Wand, MaxScore}
+use Rattle.topk_pruning.specs.declared.plan.Plan.{Plan}
+use Rattle.topk_pruning.specs.declared.plan.Plan.TheVariants.{Exhaustive, Wand, MaxScore}
 use Rattle.command_line.specs.Command.{Segments}
 use Rattle.command_line.specs.Private.CommandLine.{program_app, segments_app, asked_in, asked_of}
 use Rattle.command_line.proofs.PlainWalk.{walks_by, passes_by}

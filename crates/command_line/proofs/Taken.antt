@@ -9,8 +9,8 @@ use Rattle.clap.specs.Takes.{takes, level_passes, settle_passes, default_passes,
 use Rattle.clap.proofs.OnLiterals.{clap_on_literals}
 use Rattle.part_cost.specs.declared.formats.Format.{Format}
 use Rattle.part_cost.specs.declared.formats.Format.TheVariants.{One, Two}
-use Rattle.command_line.specs.declared.plan.Plan.{Plan}
-use Rattle.command_line.specs.declared.plan.Plan.TheVariants.{Exhaustive, Wand, MaxScore}
+use Rattle.topk_pruning.specs.declared.plan.Plan.{Plan}
+use Rattle.topk_pruning.specs.declared.plan.Plan.TheVariants.{Exhaustive, Wand, MaxScore}
 use Rattle.command_line.specs.Command.{Build, Query, Answer, Inspect, Migrate, Audit, Blocks, BlockQuery, Remap, generate_command}
 use Rattle.command_line.specs.Private.CommandLine.{program_app, build_app, query_app, answer_app, inspect_app, generate_app, migrate_app, audit_app, blocks_app, bquery_app, remap_app, asked_in, asked_of}
 use Rattle.command_line.proofs.PlainWalk.{at, walks, passes}

@@ -4,7 +4,7 @@ use Rattle.std.specs.Prelude.{List, map, Option, Some, None, codes, option_map, 
 use Rattle.std.specs.Borrow.{Bor}
 use Rattle.clap.specs.Words.{Row, Text, first_of}
 use Rattle.part_cost.specs.declared.formats.Format.{Format}
-use Rattle.command_line.specs.declared.plan.Plan.{Plan}
+use Rattle.topk_pruning.specs.declared.plan.Plan.{Plan}
 use Rattle.command_line.specs.Command.{Command, Build, Segments, format_of}
 use Rattle.command_line.specs.Private.CommandLine.{build_from, build_with, answering_from, segments_from}
 

@@ -10,8 +10,8 @@ use Rattle.clap.specs.Takes.{takes}
 use Rattle.part_cost.specs.declared.formats.Format.{Format}
 use Rattle.part_cost.specs.declared.formats.Format.TheVariants.{One, Two}
 use Rattle.query_text.specs.Numbers.{number_of}
-use Rattle.command_line.specs.declared.plan.Plan.{Plan}
-use Rattle.command_line.specs.declared.plan.Plan.TheVariants.{Exhaustive, Wand, MaxScore}
+use Rattle.topk_pruning.specs.declared.plan.Plan.{Plan}
+use Rattle.topk_pruning.specs.declared.plan.Plan.TheVariants.{Exhaustive, Wand, MaxScore}
 use Rattle.command_line.specs.Command.{Command, Build, Query, Answer, Inspect, Migrate, Audit, Blocks, BlockQuery, Remap, command_of, build_command, build_in, format_of, answering_command, answered_by, plan_of, text_command, generate_command, generate_of, migrate_command, blocks_command, bquery_command, remap_command, is_text, is_file_of, takes_place, Segments, segments_command, segments_by, texts_before, words_behind, most_segments, option_in}
 use Rattle.command_line.specs.Private.CommandLine.{program_app, asked_in}
 use Rattle.command_line.proofs.Taken.{format_name, format_words, plan_name, plan_words}

@@ -3,10 +3,8 @@
 
 mod error;
 mod parsing;
-mod plan;
 mod words;
 
 pub use error::WordsError;
 pub use parsing::parse_words;
-pub use plan::Plan;
 pub use words::Command;

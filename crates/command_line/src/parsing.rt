@@ -8,10 +8,10 @@ ghost use Rattle.command_line.specs.Private.CommandLine.{program_app, generate_a
 ghost use Rattle.command_line.specs.WordsErrors.{error_of_words};
 
 use crate::error::WordsError;
-use crate::plan::Plan;
 use crate::words::{Command, MOST_SEGMENTS, is_command, parse_format, parse_number, parse_plan};
 use clap::{Arg, ArgMatches};
 use std::alloc::{AllocError, Global};
+use topk_pruning::Plan;
 
 /// The command of the words, the program's name first. Words that are none are usage, and for them no memory is taken; of words that
 /// are one there is none only where memory is refused.

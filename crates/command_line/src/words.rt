@@ -1,14 +1,14 @@
 ghost use Rattle.std.specs.Prelude.{◌≡◌, ◌≤◌, nat_le, length, ◌&&◌, not, ℕ, List, ◌∷◌, ◌++◌, bytes_eq, codes, is_some};
 ghost use Rattle.query_text.specs.Numbers.{number_of};
-ghost use Rattle.command_line.specs.declared.plan.Plan as plan;
-ghost use Rattle.command_line.specs.declared.plan.Plan.TheVariants as plans;
+ghost use Rattle.topk_pruning.specs.declared.plan.Plan as plan;
+ghost use Rattle.topk_pruning.specs.declared.plan.Plan.TheVariants as plans;
 ghost use Rattle.part_cost.specs.declared.formats.Format.TheVariants as formats;
 ghost use Rattle.command_line.specs.Command as asked;
 ghost use Rattle.command_line.specs.Command.{answering_command, blocks_command, bquery_command, build_command, command_of, format_of, generate_command, is_file_of, is_text, migrate_command, option_in, plan_of, remap_command, takes_place, text_command, texts, most_segments, segments_command, texts_before};
 
-use crate::plan::Plan;
 use part_cost::Format;
 use query_text::number;
+use topk_pruning::Plan;
 
 /// The most indexes of a command.
 pub(crate) const MOST_SEGMENTS: usize = 64;

@@ -9,13 +9,13 @@ ghost use Rattle.command_steps.specs.PrintText.{MakesAndPrints};
 use crate::indexed::IndexLists;
 use crate::lines::reply_to;
 use crate::lists::TermLists;
-use crate::plan::Plan;
 use index_file::Index;
 use no_memory::NoMemory;
 use part_cost::{Kind, formats_have_room};
 use pef_io::{IoFail, Sink, write_all_own};
 use postings::sequences_of_a_list_rise;
 use std::alloc::{AllocError, Global};
+use topk_pruning::Plan;
 use two_level::sequence_takes_its_cost;
 
 /// The plans by which the first documents of a generated collection are asked for.

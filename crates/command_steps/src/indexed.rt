@@ -3,11 +3,11 @@ ghost use Rattle.std.specs.Prelude.{◌≡◌};
 ghost use Rattle.segments.specs.Laws.{IsInRange};
 
 use crate::lists::TermLists;
-use crate::plan::{Plan, plan_top};
 use index_file::Index;
 use no_memory::NoMemory;
 use postings::PostingCursor;
 use std::alloc::Global;
+use topk_pruning::{Plan, plan_top};
 
 /// The lists of the collection that an index stands for, and the plan of `top`.
 #[derive(Clone, Copy)]

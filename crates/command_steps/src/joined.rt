@@ -8,13 +8,13 @@ ghost use Rattle.command_steps.specs.AnswerJoined.{CanBeJoined, collections_of};
 ghost use Rattle.command_steps.specs.JoinedSegments.{AreSegments, collections_in, lists_in};
 
 use crate::lists::TermLists;
-use crate::plan::{Plan, plan_top};
 use cursor_api::DocCursor;
 use index_file::Index;
 use no_memory::NoMemory;
 use postings::PostingCursor;
 use segments::{JoinedCursor, joined_lists_follow};
 use std::alloc::Global;
+use topk_pruning::{Plan, plan_top};
 
 /// An index, and how many documents those before it have.
 #[derive(Drop)]

@@ -13,13 +13,13 @@ use crate::indexed::IndexLists;
 use crate::joined::JoinedLists;
 use crate::lines::{answer_line, answer_piece};
 use crate::lists::TermLists;
-use crate::plan::Plan;
 use block_max::Side;
 use index_blocks::IndexBlocks;
 use index_file::Index;
 use no_memory::NoMemory;
 use pef_io::{IoFail, Sink, Source};
 use std::alloc::Global;
+use topk_pruning::Plan;
 
 /// The most bytes that are read at once.
 const PIECE: usize = 8192;

@@ -6,7 +6,7 @@ use Rattle.clap.specs.declared.error.kind.ErrorKind.TheVariants.{OutOfMemory}
 use Rattle.clap.specs.declared.parser.matches.ArgMatches.{ArgMatches}
 use Rattle.part_cost.specs.declared.formats.Format.{Format}
 use Rattle.query_text.specs.Numbers.{number_of}
-use Rattle.command_line.specs.declared.plan.Plan.{Plan}
+use Rattle.topk_pruning.specs.declared.plan.Plan.{Plan}
 use Rattle.command_line.specs.declared.error.WordsError.{WordsError}
 use Rattle.command_line.specs.declared.error.WordsError.TheVariants as refused
 use Rattle.command_line.specs.Command.{Command, Build, Query, Answer, Inspect, Migrate, Audit, Blocks, BlockQuery, Remap, command_of, format_of, plan_of, generate_of, Segments, most_segments}

@@ -3,12 +3,23 @@ ghost use Rattle.std.specs.List.{All};
 ghost use Rattle.scan_plans.specs.IsTop.{IsTop};
 ghost use Rattle.scan_plans.specs.Matches.{AreBelow};
 
-pub use command_line::Plan;
+use crate::maxscore::top_maxscore;
+use crate::wand::top_wand;
 use cursor_api::DocCursor;
 use no_memory::NoMemory;
 use scan_plans::top_exhaustive;
 use std::alloc::Global;
-use topk_pruning::{top_maxscore, top_wand};
+
+/// How `top` is answered. The reply is the same by every plan.
+#[derive(Clone, Copy, Debug, PartialEq, Eq)]
+pub enum Plan {
+    /// Every document that a list has is scored.
+    Exhaustive,
+    /// WAND: the cursors go to the first document at which the bounds of their lists together beat the least score held.
+    Wand,
+    /// MaxScore: candidates come from the lists without which no document can beat the least score held.
+    MaxScore,
+}
 
 /// The first k of the documents that are in any of the lists, by score falling and then document rising, each with its score, by this
 /// plan. `n` is the number of documents. The weights are those of the cursors' lists, in the same order; a score stays below 2^58.
