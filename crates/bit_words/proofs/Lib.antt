@@ -1,5 +1,6 @@
 pub mod Value
 mod Words
+mod FieldRows
 pub mod Ranges
 mod WordRanges
 mod WordOnes

@@ -1,7 +1,8 @@
 use Rattle.std.proofs.Common.{◌≡◌, ℕ, zero, suc, ◌+◌, ◌-◌, ◌*◌, ◌/◌, ◌%◌, ◌^◌, ◌<◌, ◌≤◌, min, List, length, get_or, sym, ap, subst, ◌∙◌, arith, bit_and, inl, inr}
 use Rattle.std.specs.Int.{bit_at, w64, trailing_zeros}
 use Rattle.std.proofs.lemmas.Bool.{cases_lt}
-use Rattle.std.proofs.lemmas.Nat.Bits.{bit_at_lowest, bit_at-suc, bit_at-lt, bit_at_and, bit_at_above, bit_at_mask_inside, bit_at_mask_below, bit_at_mask_above, bit_at-trailing_zeros, ones_shl}
+use Rattle.std.proofs.lemmas.Nat.Bits.{bit_at_lowest, bit_at-suc, bit_at-lt, bit_at_and, bit_at_above, bit_at_mask_inside, bit_at_mask_below, bit_at_mask_above, bit_at_ones, bit_at_ones_above, bit_at-trailing_zeros, ones_shl}
+use Rattle.std.proofs.lemmas.Nat.{and_mask}
 use Rattle.bit_words.specs.Bits.{bits_of, IsFirstOne, HasNoOne, IsWordWithin}
 use Rattle.bit_words.specs.Ones.{IsReading}
 use Rattle.bit_words.proofs.WordRanges.{bit-of_word, first_one-word, no_one-word}
@@ -69,72 +70,75 @@ word-without_lowest bits i at to v some small within =
       behind = λ k late. omega (arith, bit k, within.behind k late);
     }
 
--- the lowest 1 of the word that is read
-pub lowest-read : (ws : List ℕ) (start rest at end : ℕ) → IsReading ws start rest at end → 0 < rest → rest < 2 ^ 64
-    → IsFirstOne (bits_of ws) at (start + 64) (start + trailing_zeros w64 rest)
-lowest-read ws start rest at end is some small =
-    let place : 64 * (start / 64) + trailing_zeros w64 rest ≡ start + trailing_zeros w64 rest = omega (arith, is.whole) in
-    subst (λ p. IsFirstOne (bits_of ws) at (start + 64) p) place
-    (first_one-word (bits_of ws) (start / 64) at (start + 64) rest some small is.word (λ q h g. is.passed q h (omega (arith, is.whole))))
+-- A word of a longer range, up to the end of this one.
+pub word-before : (bits : List ℕ) (i at end v : ℕ) → IsWordWithin bits i at (64 * i + 64) v → IsWordWithin bits i at end (v % 2 ^ (end - 64 * i))
+word-before bits i at end v within =
+    let n : ℕ = end - 64 * i in
+    let bit : (k : ℕ) → bit_at (v % 2 ^ n) k ≡ min (bit_at v k) (bit_at (2 ^ n - 1) k) =
+    λ k. ap (λ w. bit_at w k) (sym (and_mask v n)) ∙ bit_at_and v (2 ^ n - 1) k in
+    record {
+      inside = λ k below after before. omega (arith, bit k, bit_at_ones n k (omega arith), bit_at-lt v k, within.inside k below after (omega arith));
+      before = λ k early. omega (arith, bit k, within.before k early);
+      behind = λ k late. omega (arith, bit k, bit_at_ones_above n k (omega arith));
+    }
 
--- It is the first of the range, unless it lies at or behind the end.
-pub first-read : (ws : List ℕ) (start rest at end : ℕ) → IsReading ws start rest at end → 0 < rest → rest < 2 ^ 64 → start + trailing_zeros w64 rest < end
+-- The lowest 1 of the word that is read is the first of the range.
+pub first-read : (ws : List ℕ) (start rest at end : ℕ) → IsReading ws start rest at end → 0 < rest → rest < 2 ^ 64
     → IsFirstOne (bits_of ws) at end (start + trailing_zeros w64 rest)
-first-read ws start rest at end is some small inside =
-    let first = lowest-read ws start rest at end is some small in
-    record { at_or_after = first.at_or_after; before_end = inside; one = first.one; first = first.first }
+first-read ws start rest at end is some small =
+    let place : 64 * (start / 64) + trailing_zeros w64 rest ≡ start + trailing_zeros w64 rest = omega (arith, is.whole) in
+    subst (λ p. IsFirstOne (bits_of ws) at end p) place
+    (first_one-word (bits_of ws) (start / 64) at end rest some small is.word (λ q h g. is.passed q h (omega (arith, is.whole))))
 
-pub none-read : (ws : List ℕ) (start rest at end : ℕ) → IsReading ws start rest at end → 0 < rest → rest < 2 ^ 64 → end ≤ start + trailing_zeros w64 rest
-    → HasNoOne (bits_of ws) at end
-none-read ws start rest at end is some small behind q h g = (lowest-read ws start rest at end is some small).first q h (omega arith)
-
--- Behind its lowest 1 the word is read without it.
-pub reading-behind : (ws : List ℕ) (start rest at end : ℕ) → IsReading ws start rest at end → 0 < rest → rest < 2 ^ 64 → start + trailing_zeros w64 rest < end
+-- Behind it the word is read without it.
+pub reading-behind : (ws : List ℕ) (start rest at end : ℕ) → IsReading ws start rest at end → 0 < rest → rest < 2 ^ 64
     → IsReading ws start (bit_and rest (rest - 1)) (start + trailing_zeros w64 rest + 1) end
-reading-behind ws start rest at end is some small inside =
+reading-behind ws start rest at end is some small =
     let place : 64 * (start / 64) + trailing_zeros w64 rest + 1 ≡ start + trailing_zeros w64 rest + 1 = omega (arith, is.whole) in
     record {
       whole = is.whole;
       started = is.started;
-      reached = omega arith;
+      reached = omega (arith, (first-read ws start rest at end is some small).before_end);
       near = omega (arith, (bit_at-trailing_zeros w64 rest some small).0);
       range = is.range;
       passed = λ q h g. absurd (omega arith);
-      word = subst (λ a. IsWordWithin (bits_of ws) (start / 64) a (start + 64) (bit_and rest (rest - 1))) place
-          (word-without_lowest (bits_of ws) (start / 64) at (start + 64) rest some small is.word);
+      word = subst (λ a. IsWordWithin (bits_of ws) (start / 64) a end (bit_and rest (rest - 1))) place
+          (word-without_lowest (bits_of ws) (start / 64) at end rest some small is.word);
     }
 
--- A word that is read has none left: no 1 up to its end.
-passed-word : (ws : List ℕ) (start rest at end : ℕ) → IsReading ws start rest at end → rest ≡ 0 → HasNoOne (bits_of ws) at (start + 64)
+-- A word that is read has none left: no 1 of the range up to its end.
+passed-word : (ws : List ℕ) (start rest at end : ℕ) → IsReading ws start rest at end → rest ≡ 0 → HasNoOne (bits_of ws) at (min (start + 64) end)
 passed-word ws start rest at end is none q h g =
-    no_one-word (bits_of ws) (start / 64) at (start + 64) rest none is.word (λ p a b. is.passed p a (omega (arith, is.whole))) q h (omega (arith, is.whole))
+    no_one-word (bits_of ws) (start / 64) at end rest none is.word (λ p a b. is.passed p a (omega (arith, is.whole))) q h (omega (arith, is.whole))
 
 pub all-read : (ws : List ℕ) (start rest at end : ℕ) → IsReading ws start rest at end → rest ≡ 0 → end ≤ start + 64 → HasNoOne (bits_of ws) at end
 all-read ws start rest at end is none last q h g = passed-word ws start rest at end is none q h (omega arith)
 
 -- Then the word behind it is read.
-pub reading-next : (ws : List ℕ) (start rest at end : ℕ) → IsReading ws start rest at end → rest ≡ 0 → start + 64 < end
-    → get_or ws ((start + 64) / 64) 0 < 2 ^ 64 → IsReading ws (start + 64) (get_or ws ((start + 64) / 64) 0) at end
-reading-next ws start rest at end is none more small =
-    let whole : 64 * ((start + 64) / 64) ≡ start + 64 = omega (arith, is.whole) in
+pub reading-next : (ws : List ℕ) (start rest at end more : ℕ) → IsReading ws start rest at end → rest ≡ 0 → start + 64 < end
+    → get_or ws ((start + 64) / 64) 0 < 2 ^ 64 → more ≡ get_or ws ((start + 64) / 64) 0 % 2 ^ (end - (start + 64)) → IsReading ws (start + 64) more at end
+reading-next ws start rest at end more is none far small made =
+    let i : ℕ = (start + 64) / 64 in
+    let whole : 64 * i ≡ start + 64 = omega (arith, is.whole) in
     record {
       whole = whole;
       started = omega arith;
       reached = is.reached;
       near = omega (arith, is.near);
       range = is.range;
-      passed = passed-word ws start rest at end is none;
-      word = subst (λ t. IsWordWithin (bits_of ws) ((start + 64) / 64) at t (get_or ws ((start + 64) / 64) 0)) (ap (λ n. n + 64) whole)
-          (whole-word ws ((start + 64) / 64) at (omega (arith, is.near)) small);
+      passed = λ q h g. passed-word ws start rest at end is none q h (omega arith);
+      word = subst (λ v. IsWordWithin (bits_of ws) i at end v) (ap (λ n. get_or ws i 0 % 2 ^ (end - n)) whole ∙ sym made)
+          (word-before (bits_of ws) i at end (get_or ws i 0) (whole-word ws i at (omega (arith, is.near)) small));
     }
 
 -- A range begins within the word of its first place.
-pub reading-from : (ws : List ℕ) (from to : ℕ) → from ≤ to → to ≤ 64 * length ws
-    → IsReading ws (from / 64 * 64) (bit_and (get_or ws (from / 64) 0) ((2 ^ 64 - 1) * 2 ^ (from % 64) % 2 ^ 64)) from to
-reading-from ws from to h fit =
-    let v : ℕ = bit_and (get_or ws (from / 64) 0) ((2 ^ 64 - 1) * 2 ^ (from % 64) % 2 ^ 64) in
+pub reading-from : (ws : List ℕ) (from to rest : ℕ) → from ≤ to → to ≤ 64 * length ws
+    → rest ≡ bit_and (get_or ws (from / 64) 0) ((2 ^ 64 - 1) * 2 ^ (from % 64) % 2 ^ 64) % 2 ^ (to - from / 64 * 64) → IsReading ws (from / 64 * 64) rest from to
+reading-from ws from to rest h fit made =
+    let i : ℕ = from / 64 in
+    let v : ℕ = bit_and (get_or ws i 0) ((2 ^ 64 - 1) * 2 ^ (from % 64) % 2 ^ 64) in
     let word : from / 64 * 64 / 64 ≡ from / 64 = omega arith in
-    let end : 64 * (from / 64) + 64 ≡ from / 64 * 64 + 64 = omega arith in
+    let start : 64 * i ≡ from / 64 * 64 = omega arith in
     record {
       whole = omega arith;
       started = omega arith;
@@ -142,9 +146,31 @@ reading-from ws from to h fit =
       near = omega arith;
       range = fit;
       passed = λ q g l. absurd (omega arith);
-      word = subst (λ i. IsWordWithin (bits_of ws) i from (from / 64 * 64 + 64) v) (sym word)
-          (subst (λ t. IsWordWithin (bits_of ws) (from / 64) from t v) end (word-from ws from));
+      word = subst (λ n. IsWordWithin (bits_of ws) n from to rest) (sym word)
+          (subst (λ x. IsWordWithin (bits_of ws) i from to x) (ap (λ n. v % 2 ^ (to - n)) start ∙ sym made)
+          (word-before (bits_of ws) i from to v (word-from ws from)));
     }
+
+-- the lowest 1 of the word of a place from the place on
+lowest-from : (ws : List ℕ) (from v : ℕ) → v ≡ bit_and (get_or ws (from / 64) 0) ((2 ^ 64 - 1) * 2 ^ (from % 64) % 2 ^ 64) → 0 < v → v < 2 ^ 64
+    → IsFirstOne (bits_of ws) from (64 * (from / 64) + 64) (from / 64 * 64 + trailing_zeros w64 v)
+lowest-from ws from v made some small =
+    let i : ℕ = from / 64 in
+    let place : 64 * i + trailing_zeros w64 v ≡ from / 64 * 64 + trailing_zeros w64 v = omega arith in
+    subst (λ p. IsFirstOne (bits_of ws) from (64 * i + 64) p) place
+    (first_one-word (bits_of ws) i from (64 * i + 64) v some small (subst (λ x. IsWordWithin (bits_of ws) i from (64 * i + 64) x) (sym made) (word-from ws from)) (λ q h g. absurd (omega arith)))
+
+-- It is the first of a range that ends behind it,
+pub first-from : (ws : List ℕ) (from to v : ℕ) → v ≡ bit_and (get_or ws (from / 64) 0) ((2 ^ 64 - 1) * 2 ^ (from % 64) % 2 ^ 64) → 0 < v → v < 2 ^ 64
+    → from / 64 * 64 + trailing_zeros w64 v < to → IsFirstOne (bits_of ws) from to (from / 64 * 64 + trailing_zeros w64 v)
+first-from ws from to v made some small inside =
+    let first = lowest-from ws from v made some small in
+    record { at_or_after = first.at_or_after; before_end = inside; one = first.one; first = first.first }
+
+-- and there is none in one that ends before it.
+pub none-from : (ws : List ℕ) (from to v : ℕ) → v ≡ bit_and (get_or ws (from / 64) 0) ((2 ^ 64 - 1) * 2 ^ (from % 64) % 2 ^ 64) → 0 < v → v < 2 ^ 64
+    → to ≤ from / 64 * 64 + trailing_zeros w64 v → HasNoOne (bits_of ws) from to
+none-from ws from to v made some small behind q h g = (lowest-from ws from v made some small).first q h (omega arith)
 
 -- The same range under other names.
 pub same-none : {bits bits2 : List ℕ} {at at2 end end2 : ℕ} → bits ≡ bits2 → at ≡ at2 → end ≡ end2 → HasNoOne bits at end → HasNoOne bits2 at2 end2

@@ -7,7 +7,7 @@ pub record BitRange : Type 0 where
   pub at : ℕ
   pub end : ℕ
 
--- The word at this place is read: these of its ones are not passed, and none is between the place reached and the word.
+-- The word at this place is read: these of its ones are in the range and not passed, and none is between the place reached and the word.
 pub record IsReading (words : List ℕ) (start rest at end : ℕ) : Type 0 where
   pub whole : 64 * (start / 64) ≡ start
   pub started : start ≤ end
@@ -15,4 +15,4 @@ pub record IsReading (words : List ℕ) (start rest at end : ℕ) : Type 0 where
   pub near : at ≤ start + 64
   pub range : end ≤ 64 * length words
   pub passed : HasNoOne (bits_of words) at start
-  pub word : IsWordWithin (bits_of words) (start / 64) at (start + 64) rest
+  pub word : IsWordWithin (bits_of words) (start / 64) at end rest

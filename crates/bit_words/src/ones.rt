@@ -1,4 +1,4 @@
-ghost use Rattle.std.specs.Prelude.{◌≡◌, ◌≤◌, ◌+◌, ◌*◌, length, IfSome, IfNone};
+ghost use Rattle.std.specs.Prelude.{◌≡◌, ◌≤◌, ◌+◌, ◌*◌, ◌%◌, ◌^◌, length, IfSome, IfNone};
 ghost use Rattle.bit_words.specs.Bits.{bits_of, IsFirstOne, HasNoOne};
 
 use crate::Bits;
@@ -8,7 +8,7 @@ use std::marker::Model;
 #[derive(Drop)]
 pub struct Ones<'a> {
     words: &'a [u64],
-    // The place of the word that is read, and those of its ones that are not given yet.
+    // The place of the word that is read, and those of its ones in the range that are not given yet.
     start: u64,
     rest: u64,
     // The place reached, and the end of the range.
@@ -41,7 +41,7 @@ impl<'a> Bits<'a> {
         Ones {
             words: self.words,
             start: from / 64 * 64,
-            rest: word & (u64::MAX << (from % 64)),
+            rest: before(word & (u64::MAX << (from % 64)), to - from / 64 * 64),
             at: from,
             end: to,
         }
@@ -64,15 +64,26 @@ impl<'a> Ones<'a> {
                 return None;
             }
             self.start += 64;
-            self.rest = self.words[(self.start / 64) as usize];
+            self.rest = before(
+                self.words[(self.start / 64) as usize],
+                self.end - self.start,
+            );
         }
         let one = self.start + self.rest.trailing_zeros() as u64;
-        if one >= self.end {
-            return None;
-        }
         // The lowest 1 is cleared.
         self.rest &= self.rest - 1;
         self.at = one + 1;
         Some(one)
+    }
+}
+
+// A word with nothing but its lowest bits, so many of them, or all where there are no more.
+fn before(word: u64, end: u64) -> u64
+    ensures { result ≡ word % 2 ^ end }
+{
+    if end < 64 {
+        word & ((1 << end) - 1)
+    } else {
+        word
     }
 }

@@ -16,9 +16,12 @@ impl<'a> Bits<'a> {
         ensures { result ≡ field_at (bits_of self.now.words.now) at width }
     {
         let word = (at / 64) as usize;
-        let pair = (self.word(word + 1) as u128) << 64 | self.word(word) as u128;
-        let field = ((pair >> (at % 64)) & u64::MAX as u128) as u64;
-        field & lowest(width)
+        let rest = self.word(word) >> (at % 64);
+        if at % 64 + width as u64 <= 64 {
+            return rest & lowest(width);
+        }
+        // The field goes on in the next word.
+        rest | ((self.words[word + 1] << (64 - at % 64)) & lowest(width))
     }
 
     // A word, 0 where there is none.

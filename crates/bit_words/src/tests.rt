@@ -36,6 +36,22 @@ fn reads_what_was_written(rt: HostRuntime) -> Result<(), Fail> {
     Ok(())
 }
 
+// Three fields of each width that they have room for, from each place of a word on, as they are got one at a time.
+#[test]
+fn gives_fields_one_behind_another(rt: HostRuntime) {
+    let words = [pattern(64), 0x0123_4567_89ab_cdef, 0x8000_0000_0000_0006];
+    let bits = Bits { words: &words };
+    for width in 0..43_u32 {
+        for at in 0..65_u64 {
+            let wide = width as u64;
+            let mut fields = bits.fields_from(at, width);
+            assert_eq!(rt; fields.next(), bits.get(at, width));
+            assert_eq!(rt; fields.next(), bits.get(at + wide, width));
+            assert_eq!(rt; fields.next(), bits.get(at + 2 * wide, width));
+        }
+    }
+}
+
 // Padding fills a word that is begun, and appends none where a word is full.
 #[test]
 fn pads_to_a_word(rt: HostRuntime) -> Result<(), Fail> {

@@ -3,6 +3,7 @@ use Rattle.std.specs.List.Sorted.{IsStrictlyIncreasing}
 use Rattle.std.proofs.lemmas.Bool.{cases_lt}
 use Rattle.std.proofs.lemmas.List.{length_push, get_or_push, get_or_append_left}
 use Rattle.std.proofs.lemmas.Nat.{div-mul-add, mod-mul-add}
+use Rattle.std.proofs.Math.Nat.{mul-le-mul_left}
 use Rattle.bit_words.specs.Bits.{IsFirstOne}
 use Rattle.bit_words.proofs.Value.{EachBit}
 use Rattle.bit_words.proofs.Pieces.{field-fits, field-below}
@@ -130,4 +131,42 @@ begun-all bits place u m l q from ys each some any room h =
       sample = λ j lt.
           sym (field-fits bits (place + low_fields_at u m l + l * m + digits (3 * m) * j) (digits (3 * m)) each)
           ∙ ap (λ n. n % 2 ^ digits (3 * m)) (h.sample j (sampled-within q m j any some lt));
+    }
+
+-- A multiple of the spacing, with no other from number k on before it.
+pub record IsNextSampled (q k sampled : ℕ) : Type 0 where
+  pub multiple : (r : ℕ) × (sampled ≡ q * r)
+  pub some : q ≤ sampled
+  pub ahead : k ≤ sampled
+  pub between : (j : ℕ) → k ≤ q * (j + 1) → sampled ≤ q * (j + 1)
+
+-- Any other number has no sample,
+pub unsampled : (q k sampled : ℕ) → IsNextSampled q k sampled → (k ≡ sampled → ⊥) → (j : ℕ) → q * (j + 1) ≡ k → ⊥
+unsampled q k sampled is other j e = other (let same : k ≡ sampled = omega (arith, e, is.ahead, is.between j (omega (arith, e))) in same)
+
+-- and the next one stays the same behind it.
+pub sampled-same : (q k sampled : ℕ) → IsNextSampled q k sampled → (k ≡ sampled → ⊥) → IsNextSampled q (k + 1) sampled
+sampled-same q k sampled is other = record {
+  multiple = is.multiple;
+  some = is.some;
+  ahead = elim (cases_lt k sampled) [
+    | inl less ↦ omega arith
+    | inr more ↦ absurd (other (let same : k ≡ sampled = omega (arith, is.ahead) in same))
+  ];
+  between = λ j after. is.between j (omega arith);
+}
+
+-- Behind a number with a sample it is the next multiple.
+pub sampled-next : (q k sampled : ℕ) → 1 ≤ q → IsNextSampled q k sampled → k ≡ sampled → IsNextSampled q (k + 1) (sampled + q)
+sampled-next q k sampled any is here =
+    let r : ℕ = is.multiple.0 in
+    let at : sampled ≡ q * r = is.multiple.1 in
+    record {
+      multiple = (r + 1, omega (arith, at));
+      some = omega arith;
+      ahead = omega arith;
+      between = λ j after. elim (cases_lt r (j + 1)) [
+        | inl less ↦ omega (arith, at, mul-le-mul_left {m = r + 1} {n = j + 1} q (let e : r + 1 ≤ j + 1 = omega arith in e))
+        | inr more ↦ absurd (omega (arith, at, here, after, mul-le-mul_left {m = j + 1} {n = r} q more))
+      ];
     }

@@ -8,5 +8,7 @@ mod Views
 mod Passing
 mod Numbered
 mod Checking
+mod LowFields
+mod Steps
 mod Lookups
 mod Writing

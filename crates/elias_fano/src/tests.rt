@@ -30,6 +30,8 @@ fn reads_the_widest_number(rt: HostRuntime) -> Result<(), Fail> {
     assert_eq!(rt; words.as_slice(), [562_949_953_421_310].as_slice());
     let view = EfView::<128>::at(PlacedPart::at(Bits { words: &words }, 0, 1 << 48, 1));
     assert!(rt; view.check());
+    assert_eq!(rt; view.check_steps(), Some(281_474_976_710_656));
+    assert_eq!(rt; view.first(), 281_474_976_710_655);
     assert_eq!(rt; view.get(0), 281_474_976_710_655);
     for x in [0, 1 << 47, 281_474_976_710_655] {
         assert_eq!(rt; view.next_geq(x, 0), (0, 281_474_976_710_655), "{x}");
@@ -57,6 +59,8 @@ fn reads_the_widest_numbers(rt: HostRuntime) -> Result<(), Fail> {
     );
     let view = EfView::<128>::at(PlacedPart::at(Bits { words: &words }, 0, 1 << 48, 2));
     assert!(rt; view.check());
+    assert_eq!(rt; view.check_steps(), Some(281_474_976_710_655));
+    assert_eq!(rt; view.first(), 0);
     assert_eq!(rt; view.get(0), 0);
     assert_eq!(rt; view.get(1), 281_474_976_710_655);
     assert_eq!(rt; view.next_geq(1, 0), (1, 281_474_976_710_655));

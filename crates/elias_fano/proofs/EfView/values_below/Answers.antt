@@ -1,8 +1,11 @@
-use Rattle.std.proofs.Common.{◌≡◌, ◌+◌, ◌∙◌, ap, arith, slice_index, slice_set, subst, sym}
+use Rattle.std.proofs.Common.{◌≡◌, ◌+◌, ◌-◌, ◌*◌, ◌^◌, ◌<◌, ◌∙◌, length, ap, arith, slice_index, slice_set, subst, sym}
+use Rattle.bit_words.proofs.Value.{length-bits_of}
 use Rattle.std.proofs.lemmas.List.{length-set}
-use Rattle.elias_fano.specs.EfPlaces.{IsPast}
-use Rattle.collection_model.proofs.NextBelow.{given-all, given-more}
-use Rattle.elias_fano.proofs.Lookups.{number-got, place-below}
+use Rattle.collection_model.specs.NextBelow.{AreNextBelow}
+use Rattle.elias_fano.specs.EfPlaces.{low_fields_at, IsPast}
+use Rattle.collection_model.proofs.NextBelow.{given-none, given-all, given-more}
+use Rattle.elias_fano.proofs.Lookups.{number-got}
+use Rattle.elias_fano.proofs.LowFields.{next-field, field-within, field-read, low_field-below}
 use Rattle.elias_fano.proofs.Passing.{none-next, one-next, past-number}
 use Rattle.elias_fano.proofs.Views.{within-held}
 use Rattle.elias_fano.proofs.EfView.values_below.Goals as goal
@@ -17,16 +20,47 @@ returns-in_default-clause-values g c = λ ys h.
     (given-more ys a.k a.x c.loop-i.to c.loop-i.i c.loop-i.number (i.given ys h) (omega arith) (i.number ys h) (omega arith))
     (omega arith) (omega (arith, h.values.count)) (λ room more. absurd (omega (arith, h.values.count)))
 
-pub number-number-requires : goal.number-number-requires
-number-number-requires g c =
+pub fields_from-fields-requires : goal.fields_from-fields-requires
+fields_from-fields-requires g c = (omega arith, (within-held g.row.Q c.args.self.now c.requires.held.0 c.requires.held.1, omega arith))
+
+pub loop-i-init : goal.loop-i-init
+loop-i-init g c =
+    let v = c.args.self.now in
+    let k = c.args.k in
+    let next : k + 1 ≡ k + 0 + 1 = omega arith in
+    record {
+      within = omega (arith, c.requires.within);
+      number = λ ys h. c.requires.number ys h ∙ ap (λ n. slice_index ys n) (let e : k ≡ k + 0 = omega arith in e);
+      given = λ ys h. given-none ys k c.args.x c.args.to.now;
+      bits = c.ones_behind-ones.ensures.bits;
+      end = c.ones_behind-ones.ensures.end;
+      row = c.fields_from-fields.ensures.bits;
+      width = c.fields_from-fields.ensures.width;
+      field = c.fields_from-fields.ensures.at ∙ ap (λ n. v.part.place + low_fields_at v.part.u v.part.m v.low + v.low * n) next;
+      past = λ ys h. subst (λ n. IsPast v.part.place v.part.m v.low ys n c.ones_behind-ones.result.at) next (c.ones_behind-ones.ensures.past ys h);
+    }
+
+pub next-requires-in-loop-i : goal.next-requires-in-loop-i
+next-requires-in-loop-i g c =
+    let v = c.args.self.now in
+    let ys = c.requires.held.0 in
+    let h = c.requires.held.1 in
+    let i = c.loop-i.invariant in
+    let k = c.args.k + c.loop-i.i + 1 in
+    let next = one-next g.row.Q v ys h k i.bits i.end (i.past ys h) c.in-Some.ensures.first in
+    omega (arith, i.field, i.width, ap length i.row, length-bits_of v.part.bits.words.now, field-within g.row.Q v k (within-held g.row.Q v ys h) next.0)
+
+pub joined-number-requires : goal.joined-number-requires
+joined-number-requires g c =
     let v = c.args.self.now in
     let k = c.args.k + c.loop-i.i + 1 in
     let ys = c.requires.held.0 in
     let h = c.requires.held.1 in
     let i = c.loop-i.invariant in
     let next = one-next g.row.Q v ys h k i.bits i.end (i.past ys h) c.in-Some.ensures.first in
-    let below = place-below g.row.Q v ys k h next.0 in
-    (omega arith, (within-held g.row.Q v ys h, (next.0, (omega (arith, next.1), omega (arith, next.1)))))
+    let read = field-read g.row.Q v k i.row i.field i.width c.next-in-loop-i.ensures.value in
+    let small : c.next-in-loop-i.result < 2 ^ v.low = omega (arith, read, low_field-below g.row.Q v k) in
+    (omega arith, (omega (arith, next.1), (omega (arith, c.in-Some.ensures.first.before_end, i.end), small)))
 
 pub loop-i-preserved : goal.loop-i-preserved
 loop-i-preserved g c =
@@ -38,17 +72,35 @@ loop-i-preserved g c =
     let zs = c.requires.held.0 in
     let held = c.requires.held.1 in
     let next = one-next g.row.Q v zs held k i.bits i.end (i.past zs held) c.in-Some.ensures.first in
+    let read = field-read g.row.Q v k i.row i.field i.width c.next-in-loop-i.ensures.value in
     record {
       within = omega (arith, next.0);
       number = λ ys h.
           let one = one-next g.row.Q v ys h k i.bits i.end (i.past ys h) c.in-Some.ensures.first in
-          number-got g.row.Q v ys k c.in-Some.one c.number-number.result h one.0 one.1 c.number-number.ensures.value ∙ ap (λ n. slice_index ys n) same;
+          number-got g.row.Q v ys k c.in-Some.one c.joined-number.result h one.0 one.1 (c.joined-number.ensures.value ∙ ap (λ f. (c.in-Some.one - v.part.place - k) * 2 ^ v.low + f) read) ∙ ap (λ n. slice_index ys n) same;
       given = λ ys h. given-more ys a.k a.x c.loop-i.to c.loop-i.i c.loop-i.number (i.given ys h) (omega arith) (i.number ys h) (omega arith);
       bits = c.in-Some.ensures.bits ∙ i.bits;
       end = c.in-Some.ensures.end ∙ i.end;
+      row = c.next-in-loop-i.ensures.bits ∙ i.row;
+      width = c.next-in-loop-i.ensures.width ∙ i.width;
+      field = omega (arith, c.next-in-loop-i.ensures.behind, i.field, i.width, next-field (v.part.place + low_fields_at v.part.u v.part.m v.low) v.low k, ap (λ n. v.low * n) same);
       past = λ ys h.
           let one = one-next g.row.Q v ys h k i.bits i.end (i.past ys h) c.in-Some.ensures.first in
           subst (λ n. IsPast v.part.place v.part.m v.low ys (n + 1) c.next.new.self.at) same
           (subst (λ n. IsPast v.part.place v.part.m v.low ys (k + 1) n) (sym c.in-Some.ensures.behind)
           (past-number v.part.place v.part.m v.low ys h.values.rising h.values.count k c.in-Some.one one.0 one.1));
     }
+
+pub returns-then-number-x-clause-values : goal.returns-then-number-x-clause-values
+returns-then-number-x-clause-values g c = λ ys h.
+    let a = c.args in
+    let i = c.loop-i.invariant in
+    given-all ys a.k a.x c.loop-i.to c.loop-i.i (i.given ys h) (omega arith) (omega (arith, i.within, h.values.count)) (λ room more. omega (arith, i.number ys h, c.if-number-x.true))
+
+pub returns-clause-values : goal.returns-clause-values
+returns-clause-values g c = λ ys h.
+    let a = c.args in
+    let i = c.loop-i.invariant in
+    let all : c.loop-i.i ≡ length c.loop-i.to = omega (arith, c.loop-i-test.false, c.loop-i.auto.to, c.loop-i.auto.i-end) in
+    subst (λ n. AreNextBelow ys a.k a.x c.loop-i.to n) all
+    (given-all ys a.k a.x c.loop-i.to c.loop-i.i (i.given ys h) (omega arith) (omega (arith, i.within, h.values.count)) (λ room more. absurd (omega (arith, room, all))))

@@ -1,0 +1,158 @@
+use Rattle.std.proofs.Common.{◌≡◌, ℕ, suc, ◌+◌, ◌-◌, ◌*◌, ◌^◌, ◌<◌, ◌≤◌, [], ◌∷◌, ◌++◌, length, get_or, refl, ap, ◌∙◌, subst, sym, arith}
+use Rattle.std.proofs.Math.Nat.{mul-le-mul_left}
+use Rattle.bit_words.specs.Bits.{bits_of}
+use Rattle.bit_words.proofs.Value.{bits-bits_of, length-bits_of}
+use Rattle.part_cost.specs.Span.{past}
+use Rattle.elias_fano.specs.EfBits.{high_place}
+use Rattle.elias_fano.specs.EfPlaces.{low_fields_at, sample_at}
+use Rattle.part_cost.proofs.Parts.{past-number}
+use Rattle.elias_fano.proofs.Scanning.{sample-read}
+use Rattle.elias_fano.proofs.Views.{view-read-at, read-view-at, places-fit-at}
+use Rattle.elias_fano.proofs.Checking.{AreBegun, begun-none, begun-more, begun-all, past-last, IsNextSampled, unsampled, sampled-same, sampled-next}
+use Rattle.elias_fano.proofs.Lookups.{number-is, past-next}
+use Rattle.elias_fano.proofs.LowFields.{next-field, field-within, field-read, low_field-below}
+use Rattle.elias_fano.proofs.Passing.{none-next, one-next, past-exactly, same-range}
+use Rattle.elias_fano.proofs.Steps.{greatest-step}
+use Rattle.elias_fano.proofs.EfView.spelled_steps.Goals as goal
+use Rattle.elias_fano.proofs.EfView.spelled_steps.Goals.{then-k-sampled+else-not-is_sampled, else-k-sampled}
+
+pub returns-in_default-clause-none : goal.returns-in_default-clause-none
+returns-in_default-clause-none g c = λ zs h.
+    let v = c.args.self.now in
+    let from = c.loop-k.invariant.all zs h in
+    let all = none-next g.row.Q v zs h c.loop-k.k c.loop-k.invariant.bits c.loop-k.invariant.end (past-exactly g.row.Q v zs h c.loop-k.k c.loop-k.ones.at (omega arith) from.0) c.in_default.ensures.none in
+    omega arith
+
+-- each field lies within the words
+pub next-requires-in-loop-k : goal.next-requires-in-loop-k
+next-requires-in-loop-k g c =
+    let v = c.args.self.now in
+    let i = c.loop-k.invariant in
+    omega (arith, i.field, i.width, ap length i.row, length-bits_of v.part.bits.words.now, field-within g.row.Q v c.loop-k.k c.requires.bits c.loop-k-test.true)
+
+pub joined-number-requires : goal.joined-number-requires
+joined-number-requires g c =
+    let v = c.args.self.now in
+    let i = c.loop-k.invariant in
+    let k = c.loop-k.k in
+    let read = field-read g.row.Q v k i.row i.field i.width c.next-in-loop-k.ensures.value in
+    let small : c.next-in-loop-k.result < 2 ^ v.low = omega (arith, read, low_field-below g.row.Q v k) in
+    (omega arith, (omega (arith, c.in-Some.ensures.first.at_or_after, i.low), (omega (arith, c.in-Some.ensures.first.before_end, i.end), small)))
+
+-- what is read is the number of all that the bits can be
+pub returns-then-number-least-clause-none : goal.returns-then-number-least-clause-none
+returns-then-number-least-clause-none g c = λ zs h.
+    let v = c.args.self.now in
+    let i = c.loop-k.invariant in
+    let from = i.all zs h in
+    let within : c.loop-k.k < length zs = omega (arith, h.values.count, c.loop-k-test.true) in
+    let one = one-next g.row.Q v zs h c.loop-k.k i.bits i.end (past-exactly g.row.Q v zs h c.loop-k.k c.loop-k.ones.at (omega arith) from.0) c.in-Some.ensures.first in
+    let number = number-is g.row.Q v zs c.loop-k.k c.in-Some.one h one.0 one.1 in
+    let read = field-read g.row.Q v c.loop-k.k i.row i.field i.width c.next-in-loop-k.ensures.value in
+    omega (arith, c.joined-number.ensures.value, read, number, from.1, past-number zs h.values.rising c.loop-k.k within, c.if-number-least.true)
+
+pub returns-then-not-is_sampled-clause-none : goal.returns-then-not-is_sampled-clause-none
+returns-then-not-is_sampled-clause-none g c = λ zs h.
+    let v = c.args.self.now in
+    let from = c.loop-k.invariant.all zs h in
+    let one = one-next g.row.Q v zs h c.loop-k.k c.loop-k.invariant.bits c.loop-k.invariant.end (past-exactly g.row.Q v zs h c.loop-k.k c.loop-k.ones.at (omega arith) from.0) c.in-Some.ensures.first in
+    let sampled = c.if-not-is_sampled.ensures.1
+    (λ j e.
+    sample-read (bits_of v.part.bits.words.now) v.part.place v.part.u v.part.m v.low g.row.Q zs (view-read-at g.row.Q v zs h) v.spacing j (omega (arith, e, c.loop-k-test.true))
+    (places-fit-at c.places_fit_samples.ensures g.row.Q v zs h (g.row.Q * (j + 1)) (omega (arith, e, c.loop-k-test.true)))
+    ∙ ap (λ n. high_place v.low n (get_or zs n 0)) e
+    ∙ omega (arith, one.1)) in
+    cc
+
+pub loop-k-init : goal.loop-k-init
+loop-k-init g c =
+    let v = c.args.self.now in
+    record {
+      begun = ([], subst (λ n. AreBegun (bits_of v.part.bits.words.now) v.part.place v.part.u v.part.m v.low g.row.Q 0 n 0 []) (sym c.ones_from-ones.ensures.at) (begun-none (bits_of v.part.bits.words.now) v.part.place v.part.u v.part.m v.low g.row.Q), refl);
+      all = λ zs h. (omega (arith, c.ones_from-ones.ensures.at), refl);
+      bits = c.ones_from-ones.ensures.bits;
+      end = c.ones_from-ones.ensures.end ∙ c.low_fields.ensures;
+      multiple = (1, omega arith);
+      some = omega arith;
+      ahead = omega arith;
+      between = λ j after. omega (arith, mul-le-mul_left {m = 1} {n = j + 1} g.row.Q (let e : 1 ≤ j + 1 = omega arith in e));
+      row = c.fields_from-fields.ensures.bits;
+      width = c.fields_from-fields.ensures.width;
+      field = c.fields_from-fields.ensures.at;
+      low = omega (arith, c.ones_from-ones.ensures.at);
+    }
+
+pub loop-k-preserved : goal.loop-k-preserved
+loop-k-preserved g c =
+    let v = c.args.self.now in
+    let bits = bits_of v.part.bits.words.now in
+    let i = c.loop-k.invariant in
+    let k = c.loop-k.k in
+    let number = c.joined-number.result in
+    let begun = i.begun in
+    let read = field-read g.row.Q v k i.row i.field i.width c.next-in-loop-k.ensures.value in
+    let is = c.joined-number.ensures.value ∙ ap (λ f. (c.in-Some.one - v.part.place - k) * 2 ^ v.low + f) read in
+    let q = g.row.Q in
+    let now : IsNextSampled q k c.loop-k.sampled = record { multiple = i.multiple; some = i.some; ahead = i.ahead; between = i.between } in
+    let next : IsNextSampled q (k + 1) c.if-k-sampled.sampled × ((j : ℕ) → q * (j + 1) ≡ k → sample_at bits v.part.place v.part.u v.part.m v.low j ≡ c.in-Some.one - v.part.place) =
+    elim c.if-k-sampled.branch [
+      | then-k-sampled+else-not-is_sampled w ↦ (
+        subst (λ n. IsNextSampled q (k + 1) n) (sym w.sampled-is) (sampled-next q k c.loop-k.sampled v.spacing now w.if-k-sampled.true),
+        w.if-not-is_sampled.ensures.0 refl,
+      )
+      | else-k-sampled w ↦ (
+        subst (λ n. IsNextSampled q (k + 1) n) (sym w.sampled-is) (sampled-same q k c.loop-k.sampled now w.if-k-sampled.false),
+        λ j e. absurd (unsampled q k c.loop-k.sampled now w.if-k-sampled.false j e),
+      )
+    ] in
+    record {
+      begun = (
+        begun.0 ++ number ∷ [],
+        subst (λ n. AreBegun bits v.part.place v.part.u v.part.m v.low g.row.Q (k + 1) n (number + 1) (begun.0 ++ number ∷ [])) (sym c.in-Some.ensures.behind)
+            (begun-more bits v.part.place v.part.u v.part.m v.low g.row.Q k c.loop-k.ones.at c.loop-k.least
+            (v.part.place + low_fields_at v.part.u v.part.m v.low) c.in-Some.one number begun.0
+            (bits-bits_of v.part.bits.words.now) begun.1 (same-range i.bits i.end c.in-Some.ensures.first)
+            (omega (arith, c.in-Some.ensures.first.at_or_after, i.low))
+            is c.if-number-least.false next.1),
+        greatest-step begun.0 number k c.loop-k.least c.loop-k.steps c.max-steps.result begun.1.count begun.1.least_is begun.2 c.max-steps.ensures,
+      );
+      all = λ zs h.
+          let from = i.all zs h in
+          let one = one-next g.row.Q v zs h k i.bits i.end (past-exactly g.row.Q v zs h k c.loop-k.ones.at (omega arith) from.0) c.in-Some.ensures.first in
+          let number = number-is g.row.Q v zs k c.in-Some.one h one.0 one.1 in
+          (omega (arith, one.1, past-next v.low k zs, c.in-Some.ensures.behind), omega (arith, is, number, ap (λ n. past zs n) (let e : k + 1 ≡ suc k = omega arith in e)));
+      bits = c.in-Some.ensures.bits ∙ i.bits;
+      end = c.in-Some.ensures.end ∙ i.end;
+      multiple = next.0.multiple;
+      some = next.0.some;
+      ahead = next.0.ahead;
+      between = next.0.between;
+      row = c.next-in-loop-k.ensures.bits ∙ i.row;
+      width = c.next-in-loop-k.ensures.width ∙ i.width;
+      field = omega (arith, c.next-in-loop-k.ensures.behind, i.field, i.width, next-field (v.part.place + low_fields_at v.part.u v.part.m v.low) v.low k);
+      low = omega (arith, c.in-Some.ensures.first.at_or_after, i.low, c.in-Some.ensures.behind);
+    }
+
+pub returns-then-least-self-clause-some : goal.returns-then-least-self-clause-some
+returns-then-least-self-clause-some g c =
+    let v = c.args.self.now in
+    let bits = bits_of v.part.bits.words.now in
+    let i = c.loop-k.invariant in
+    let ys = i.begun.0 in
+    let all : c.loop-k.k ≡ v.part.m = omega (arith, c.loop-k-test.false, c.loop-k.auto.k-end) in
+    let begun : AreBegun bits v.part.place v.part.u v.part.m v.low g.row.Q v.part.m c.loop-k.ones.at v.part.u ys =
+    subst (λ n. AreBegun bits v.part.place v.part.u v.part.m v.low g.row.Q v.part.m c.loop-k.ones.at n ys) c.if-least-self.true
+    (subst (λ n. AreBegun bits v.part.place v.part.u v.part.m v.low g.row.Q n c.loop-k.ones.at c.loop-k.least ys) all i.begun.1) in (
+      ys,
+      read-view-at g.row.Q v ys
+          (begun-all bits v.part.place v.part.u v.part.m v.low g.row.Q c.loop-k.ones.at ys (bits-bits_of v.part.bits.words.now) v.part.some v.spacing
+          (omega (arith, c.requires.bits, length-bits_of v.part.bits.words.now)) begun),
+      i.begun.2,
+    )
+
+pub returns-else-least-self-clause-none : goal.returns-else-least-self-clause-none
+returns-else-least-self-clause-none g c = λ zs h.
+    let v = c.args.self.now in
+    let from = c.loop-k.invariant.all zs h in
+    let all : c.loop-k.k ≡ v.part.m = omega (arith, c.loop-k-test.false, c.loop-k.auto.k-end) in
+    c.if-least-self.false (from.1 ∙ ap (λ n. past zs n) all ∙ past-last zs v.part.m v.part.some ∙ h.values.last)
