@@ -1,4 +1,5 @@
 mod Rows
 pub mod Relative
 mod Parts
+mod Steps
 mod Values

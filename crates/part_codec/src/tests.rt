@@ -227,6 +227,9 @@ fn reads_back(alloc: Global, values: &[u64], u: u64) -> Result<bool, NoMemory>
     if !view.check() {
         return Ok(false);
     }
+    if view.first() != values[0] || view.check_steps().is_none() {
+        return Ok(false);
+    }
     for k in 0..values.len() {
         let value = view.get(k as u64);
         if value != values[k] {
@@ -295,6 +298,14 @@ fn accepts_each_part_and_nothing_else(rt: HostRuntime) {
     assert!(rt; check_part(PlacedPart::at(Bits { words: &[65] }, 0, 7, 2)));
     assert!(rt; check_part(PlacedPart::at(Bits { words: &[130] }, 1, 7, 2)));
     assert!(rt; !check_part(PlacedPart::at(Bits { words: &[130] }, 0, 7, 2)));
+    assert_eq!(rt;
+        check_part_steps(PlacedPart::at(Bits { words: &[65] }, 0, 7, 2)),
+        Some(6)
+    );
+    assert_eq!(rt;
+        check_part_steps(PlacedPart::at(Bits { words: &[130] }, 0, 7, 2)),
+        None
+    );
 }
 
 // Each form of a view, by itself and by its kind: from the first place and from the last, below a value and one more, with room

@@ -5,4 +5,5 @@ pub mod Reading
 pub mod OneList
 mod Views
 mod Following
+mod Steps
 mod Writing

@@ -1,4 +1,5 @@
-use Rattle.std.proofs.Common.{◌≡◌, ℕ, ◌+◌, ◌-◌, ◌*◌, ◌/◌, ◌<◌, ◌≤◌, List, length, get_or, refl, sym, ap, ◌∙◌, subst, arith}
+use Rattle.std.proofs.Common.{◌≡◌, ℕ, ◌+◌, ◌-◌, ◌*◌, ◌/◌, ◌<◌, ◌≤◌, List, length, get_or, refl, sym, ap, ◌∙◌, subst, arith, inl, inr}
+use Rattle.std.proofs.lemmas.Bool.{cases_lt}
 use Rattle.std.proofs.Math.Nat.{div-mul-le_self, mul-le-mul_right}
 use Rattle.std.proofs.lemmas.List.Elements.{All-append}
 use Rattle.bit_words.specs.Bits.{AreBits, bits_of, ones_between, IsFirstOne, IsNthOne, HasNoOne}
@@ -143,3 +144,19 @@ held-last q v ys h = last-set (bits_of v.part.bits.words.now) v.part.place v.par
 pub held-samples : DigitsHold → (q : ℕ) (v : MapView q) (ys : List ℕ) → Holds q v ys → AreSampled q (bits_of v.part.bits.words.now) v.part.place v.part.u v.part.m
 held-samples hold q v ys h =
     samples-read hold (bits_of v.part.bits.words.now) v.part.place v.part.u v.part.m q ys (bits-bits_of v.part.bits.words.now) v.spacing (omega (arith, v.part.fit, v.part.in_range)) (view-read q v ys h)
+
+-- the first one from a place on, in whatever range, lies in the part, whose last place has one
+pub first-within : (q : ℕ) (v : MapView q) (ys : List ℕ) → Holds q v ys → (least end p : ℕ) → least < v.part.u
+    → IsFirstOne (bits_of v.part.bits.words.now) (v.part.place + least) end p → IsFirstOne (bits_of v.part.bits.words.now) (v.part.place + least) (v.part.place + v.part.u) p
+first-within q v ys h least end p lt first = record {
+  at_or_after = first.at_or_after;
+  before_end = elim (cases_lt p (v.part.place + v.part.u)) [
+    | inl less ↦ less
+    | inr more ↦
+        let unset = first.first (v.part.place + (v.part.u - 1)) (omega arith) (omega arith) in
+        let set = held-last q v ys h in
+        absurd (omega arith)
+  ];
+  one = first.one;
+  first = first.first;
+}
