@@ -89,6 +89,28 @@ pub below-universe : (u m : ℕ) (ys : List ℕ) → AreRelative u m ys → (k :
 below-universe u m ys r k lt =
     omega (arith, rises ys r.rising k (m - 1) (omega (arith, lt, r.count)) (omega (arith, lt, r.count)), r.last)
 
+-- the last value of one part more is the one that its entry states
+pub begins-more : (format : FormatNumbers) (words : List ℕ) (parts m bound q : ℕ) (pre ys : List ℕ) → FollowsAt format words parts m bound q
+    → AreRelative (stated_universe format words 0 q) (stated_count format words 0 q) ys
+    → past (pre ++ map (λ y. y + past_before format words 0 q) ys) (length (pre ++ map (λ y. y + past_before format words 0 q) ys)) ≡ past_before format words 0 (suc q)
+begins-more format words parts m bound q pre ys k r =
+    let p : ℕ = past_before format words 0 q in
+    let zs : List ℕ = map (λ y. y + p) ys in
+    let n : ℕ = length pre in
+    let some : 0 < length ys = omega (arith, r.some, r.count) in
+    let long : length (pre ++ zs) ≡ n + length ys = omega (arith, length-append pre zs, length-map ys (λ y. y + p)) in
+    let back : length (pre ++ zs) - 1 - n ≡ length ys - 1 = omega (arith, long, some) in
+    omega (
+      arith,
+      past-at (pre ++ zs) (length (pre ++ zs)) (omega (arith, long, some)),
+      get_or-append_right pre zs n (length (pre ++ zs) - 1) 0 refl (omega (arith, long, some)),
+      ap (λ i. get_or zs i 0) back,
+      shifted-at p ys (length ys - 1) (omega (arith, some)),
+      ap (λ i. get_or ys (i - 1) 0) r.count,
+      r.last,
+      k.above,
+    )
+
 -- one part more
 pub front-more : (format : FormatNumbers) (words : List ℕ) (parts m bound q : ℕ) (pre ys : List ℕ) → Front format words bound q pre → FollowsAt format words parts m bound q
     → AreRelative (stated_universe format words 0 q) (stated_count format words 0 q) ys → Front format words bound (suc q) (pre ++ map (λ y. y + past_before format words 0 q) ys)
@@ -98,21 +120,9 @@ front-more format words parts m bound q pre ys f k r =
     let n : ℕ = length pre in
     let many : length zs ≡ stated_end format words 0 q - end_before format words 0 q = length-map ys (λ y. y + p) ∙ r.count in
     let whole : length (pre ++ zs) ≡ stated_end format words 0 q = omega (arith, length-append pre zs, many, f.count, k.up) in
-    let some : 0 < length ys = omega (arith, r.some, r.count) in
     record {
       count = whole;
-      begins =
-          let back : length (pre ++ zs) - 1 - n ≡ length ys - 1 = omega (arith, length-append pre zs, length-map ys (λ y. y + p), some) in
-          omega (
-            arith,
-            past-at (pre ++ zs) (length (pre ++ zs)) (omega (arith, whole, k.up)),
-            get_or-append_right pre zs n (length (pre ++ zs) - 1) 0 refl (omega (arith, length-append pre zs, length-map ys (λ y. y + p), some)),
-            ap (λ i. get_or zs i 0) back,
-            shifted-at p ys (length ys - 1) (omega (arith, some)),
-            ap (λ i. get_or ys (i - 1) 0) r.count,
-            r.last,
-            k.above,
-          );
+      begins = begins-more format words parts m bound q pre ys k r;
       rising = rises-append pre zs f.rising (shifted-rises p ys r.rising) (λ i lt. omega (arith, f.begins, shifted-at p ys i (omega (arith, lt, length-map ys (λ y. y + p)))));
       below =
           All-append (λ x. x < bound) pre zs f.below

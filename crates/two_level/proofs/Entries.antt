@@ -6,7 +6,7 @@ use Rattle.bit_words.specs.Bits.{bits_of}
 use Rattle.part_cost.specs.Payload.{payload}
 use Rattle.part_cost.specs.Stored.{HoldsPart}
 use Rattle.part_codec.specs.PartBits.{part_bits}
-use Rattle.two_level.specs.SequenceFault.{stated_last, stated_end, stated_offset, end_before, past_before, payload_before, stated_universe, stated_count, word_behind, first_bit, may_follow, entry_breaks, IsPartStored}
+use Rattle.two_level.specs.SequenceFault.{stated_last, stated_end, stated_offset, end_before, past_before, payload_before, stated_universe, stated_count, word_behind, first_bit, may_follow, entry_breaks}
 use Rattle.two_level.proofs.Follows.{follows-at}
 
 -- what stands before entry q, and the entry itself
@@ -78,11 +78,12 @@ place-fits format words parts m bound q offset lt h e within =
     omega (arith, most, e, k.offsets, within)
 
 -- and the values that stand there are those of its place
-pub stored-here : (format : FormatNumbers) (words : List ℕ) (parts m bound q before past last end offset : ℕ) (ys : List ℕ) → Reached format words q before past → EntryRead format words q last end offset
-    → entry_breaks format words 0 parts m bound q ≡ false → HoldsPart part_bits (bits_of words) (first_bit format 0 parts + offset) (last + 1 - past) (end - before) ys → IsPartStored format words 0 parts q
-stored-here format words parts m bound q before past last end offset ys r e h held =
+pub holds-here : (format : FormatNumbers) (words : List ℕ) (parts m bound q before past last end offset : ℕ) (ys : List ℕ) → Reached format words q before past → EntryRead format words q last end offset
+    → entry_breaks format words 0 parts m bound q ≡ false → HoldsPart part_bits (bits_of words) (first_bit format 0 parts + offset) (last + 1 - past) (end - before) ys
+    → HoldsPart part_bits (bits_of words) (first_bit format 0 parts + payload_before format words 0 q) (stated_universe format words 0 q) (stated_count format words 0 q) ys
+holds-here format words parts m bound q before past last end offset ys r e h held =
     let k = follows-at format words parts m bound q h in
     let place : first_bit format 0 parts + offset ≡ first_bit format 0 parts + payload_before format words 0 q = omega (arith, e.offset_is, k.offsets) in
     let universe_is : last + 1 - past ≡ stated_universe format words 0 q = ap (λ x. x + 1 - past) e.last_is ∙ ap (λ x. stated_last format words 0 q + 1 - x) r.past_is in
     let count_is : end - before ≡ stated_count format words 0 q = ap (λ x. x - before) e.end_is ∙ ap (λ x. stated_end format words 0 q - x) r.before_is in
-    (ys, held-as words words (first_bit format 0 parts + offset) _ (last + 1 - past) _ (end - before) _ ys refl place universe_is count_is held)
+    held-as words words (first_bit format 0 parts + offset) _ (last + 1 - past) _ (end - before) _ ys refl place universe_is count_is held

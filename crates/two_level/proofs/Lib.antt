@@ -15,3 +15,5 @@ mod Takes
 mod AtAWord
 mod Blocks
 mod Steps
+mod LongSteps
+mod PartSteps

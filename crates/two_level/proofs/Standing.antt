@@ -82,12 +82,16 @@ sought-behind held xs from x sought s before = record {
   value_there = s.number;
 }
 
+-- at its own place
+pub sought-own : (held : HeldPart) (xs : List ℕ) (from x : ℕ) (sought : Sought) (s : IsSought xs from x sought) → s.own < held.part.to → s.own ≡ place_at_least xs sought.place sought.number
+unfolding sought-behind
+sought-own held xs from x sought s before = place-behind held xs sought.place sought.number (sought-behind held xs from x sought s before)
+
 -- and is the first at or behind the place of the lesser value
 pub sought-place : (held : HeldPart) (xs : List ℕ) (from x value : ℕ) (sought : Sought) (s : IsSought xs from x sought) → s.own < held.part.to → value < x → IsValueBehind held xs from value
     → place_at_least xs sought.place sought.number ≡ place_at_least xs (place_at_least xs from value) x
-unfolding sought-behind
 sought-place held xs from x value sought s before less b =
-    let own : s.own ≡ place_at_least xs sought.place sought.number = place-behind held xs sought.place sought.number (sought-behind held xs from x sought s before) in
+    let own = sought-own held xs from x sought s before in
     let here : b.place ≡ place_at_least xs from value = place-behind held xs from value b in
     let ordered : b.place ≤ s.own =
     elim (cases_lt s.own b.place) as (λ _. b.place ≤ s.own) [

@@ -1,13 +1,18 @@
-ghost use Rattle.std.specs.Prelude.{◌≡◌, ℕ, ◌≤◌, ◌<◌, ◌+◌, ◌*◌, ◌^◌, true, false, length, IsTrue, ◌↔◌, IfOk, IfErr, OnOk};
+ghost use Rattle.std.specs.Prelude.{◌≡◌, ℕ, ◌≤◌, ◌<◌, ◌+◌, ◌*◌, ◌^◌, List, true, false, length, IfOk, IfErr, IfSome, IfNone, OnOk};
 ghost use Rattle.collection_model.specs.FormatNumbers.{entry_words};
+ghost use Rattle.collection_model.specs.Collection.{greatest};
+ghost use Rattle.collection_model.specs.Sequences.{steps_from};
 ghost use Rattle.bit_words.specs.Bits.{bits_of, HasNoOne};
 ghost use Rattle.part_cost.specs.Formats.{numbers_of};
+ghost use Rattle.part_cost.specs.Stored.{HoldsPart};
+ghost use Rattle.part_codec.specs.PartBits.{part_bits};
 ghost use Rattle.two_level.specs.SequenceFault.{payload_before, word_behind, first_bit, parts_fit, may_follow, entry_breaks, IsPartStored, PassChecks, IsSequenceFault};
+ghost use Rattle.two_level.specs.SequenceView.{sequence_stated};
 
 use crate::check::Check;
 use crate::entry::{Entry, directory_bits, directory_words, entry_at};
 use bit_words::Bits;
-use part_codec::check_part;
+use part_codec::{check_part, check_part_steps, one_list_at_place};
 use part_cost::{Format, PlacedPart, formats_have_room, payload_bits};
 
 /// The first check of a sequence's words that breaks, and its part.
@@ -17,18 +22,28 @@ pub struct SeqFault {
     pub part: u32,
 }
 
-// Looks for the first check that breaks, and answers how many words the sequence takes.
+// What a check finds out of words that begin with a sequence: how many they are, and, where it is asked for, the greatest step
+// of the values.
+#[derive(Clone, Copy)]
+pub(crate) struct Found {
+    pub(crate) used: u64,
+    pub(crate) greatest: u64,
+}
+
+// Looks for the first check that breaks, and answers what it finds out of the words.
 pub(crate) fn check_words(
     words: &[u64],
     parts: u32,
     m: u32,
     bound: u64,
     format: Format,
-) -> Result<u64, SeqFault>
+    with_steps: bool,
+) -> Result<Found, SeqFault>
     requires words { length words.now < 2 ^ 57 }
     requires bound { bound ≤ (numbers_of format).most_sum }
-    ensures ok { IfOk result (λ used. PassChecks (numbers_of format) words.now parts m bound) }
-    ensures used { IfOk result (λ used. used ≡ word_behind (numbers_of format) words.now 0 parts) }
+    ensures ok { IfOk result (λ found. PassChecks (numbers_of format) words.now parts m bound) }
+    ensures used { IfOk result (λ found. found.used ≡ word_behind (numbers_of format) words.now 0 parts) }
+    ensures step { IfOk result (λ found. with_steps ≡ true → found.greatest ≡ greatest (steps_from 0 (sequence_stated (numbers_of format) words.now parts).values)) }
     ensures first { IfErr result (λ f. IsSequenceFault (numbers_of format) words.now parts m bound f.check f.part) }
 {
     let directory = directory_words(parts, format);
@@ -46,9 +61,9 @@ pub(crate) fn check_words(
             part: parts,
         });
     }
-    check_parts(words, parts, format)?;
+    let greatest = check_parts(words, parts, format, with_steps)?;
     check_padding(words, parts, payload, format)?;
-    Ok(used)
+    Ok(Found { used, greatest })
 }
 
 /// Whether m values can have so many parts: from 1 to m, and none where there is no value.
@@ -127,21 +142,38 @@ fn check_directory(
     Ok(passed.bits)
 }
 
-// Goes through the parts of a directory whose entries stand.
-fn check_parts(words: &[u64], parts: u32, format: Format) -> Result<(), SeqFault>
+// The greatest step of a part's numbers, where it is asked for; None where its bits are those of none.
+fn check_step(part: PlacedPart<'_>, with_steps: bool) -> Option<u64>
+    ensures some { IfSome result (λ step. (ys : List ℕ) × HoldsPart part_bits (bits_of part.entry.bits.words.now) part.entry.place part.entry.u part.entry.m ys × (with_steps ≡ true → step ≡ greatest (steps_from 0 ys))) }
+    ensures none { IfNone result ((ys : List ℕ) → ¬ HoldsPart part_bits (bits_of part.entry.bits.words.now) part.entry.place part.entry.u part.entry.m ys) }
+{
+    if with_steps {
+        check_part_steps(part)
+    } else if check_part(part) {
+        Some(0)
+    } else {
+        None
+    }
+}
+
+// Goes through the parts of a directory whose entries stand, and answers the greatest step of their values where it is asked for.
+fn check_parts(words: &[u64], parts: u32, format: Format, with_steps: bool) -> Result<u64, SeqFault>
     requires words { length words.now < 2 ^ 57 }
     requires room { entry_words (numbers_of format) * parts ≤ length words.now }
     requires entries { (m bound : ℕ) × (bound ≤ (numbers_of format).most_sum) × ((q : ℕ) → q < parts → entry_breaks (numbers_of format) words.now 0 parts m bound q ≡ false) }
     requires within { word_behind (numbers_of format) words.now 0 parts ≤ length words.now }
     ensures ok { OnOk result ((q : ℕ) → q < parts → IsPartStored (numbers_of format) words.now 0 parts q) }
+    ensures step { IfOk result (λ most. with_steps ≡ true → most ≡ greatest (steps_from 0 (sequence_stated (numbers_of format) words.now parts).values)) }
     ensures check { IfErr result (λ f. f.check ≡ Check.K8) }
     ensures part { IfErr result (λ f. f.part < parts) }
     ensures breaks { IfErr result (λ f. ¬ IsPartStored (numbers_of format) words.now 0 parts f.part) }
     ensures first { IfErr result (λ f. (q : ℕ) → q < f.part → IsPartStored (numbers_of format) words.now 0 parts q) }
 {
     formats_have_room();
+    one_list_at_place();
     let mut before = 0;
     let mut past = 0;
+    let mut most = 0;
     for part in 0..parts {
         let entry = entry_at(words, part, format);
         let place = directory_bits(parts, format) + entry.offset;
@@ -151,16 +183,17 @@ fn check_parts(words: &[u64], parts: u32, format: Format) -> Result<(), SeqFault
             entry.last + 1 - past,
             entry.end - before,
         );
-        if !check_part(placed) {
+        let Some(step) = check_step(placed, with_steps) else {
             return Err(SeqFault {
                 check: Check::K8,
                 part,
             });
-        }
+        };
+        most = step.max(most);
         before = entry.end;
         past = entry.last + 1;
     }
-    Ok(())
+    Ok(most)
 }
 
 // Looks for a one behind the payload.

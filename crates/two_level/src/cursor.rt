@@ -98,7 +98,7 @@ impl<'a> SeqCursor<'a> {
             return self.counted;
         };
         if self.known < self.value {
-            held.first_from(self.counted, self.known, self.value).0
+            held.place_from(self.counted, self.known, self.value)
         } else {
             self.counted
         }
@@ -216,7 +216,7 @@ impl<'a> SeqCursor<'a> {
             self.value = sought.number;
         } else {
             let behind = held.index + 1;
-            (self.counted, self.held, self.value) = first_from_part(
+            (self.counted, self.held, self.known, self.value) = first_from_part(
                 self.words,
                 self.parts,
                 self.m,
@@ -224,7 +224,6 @@ impl<'a> SeqCursor<'a> {
                 x,
                 self.format,
             );
-            self.known = self.value;
         }
     }
 

@@ -1,14 +1,14 @@
-ghost use Rattle.std.specs.Prelude.{◌≡◌, ℕ, ◌≤◌, ◌<◌, ◌+◌, ◌^◌, IsTrue, ◌↔◌, List, length, slice_index, take};
+ghost use Rattle.std.specs.Prelude.{◌≡◌, ℕ, ◌≤◌, ◌<◌, ◌+◌, ◌-◌, ◌^◌, IsTrue, ◌↔◌, List, length, slice_index, take};
 ghost use Rattle.collection_model.specs.NextBelow.{AreNextBelow};
 ghost use Rattle.std.specs.List.Sorted.{IsStrictlyIncreasing};
-ghost use Rattle.part_cost.specs.Span.{past};
+ghost use Rattle.part_cost.specs.Span.{past, relative_values};
 ghost use Rattle.part_cost.specs.Stored.{IsFirstAtLeast};
 ghost use Rattle.part_codec.specs.PartView.{Holds, universe_of, count_of};
 ghost use Rattle.part_codec.specs.Sought.{IsSought};
 ghost use Rattle.part_cost.specs.Formats.{numbers_of};
 ghost use Rattle.two_level.specs.SequenceFault.{end_before};
 ghost use Rattle.two_level.specs.SequenceView.{BeginWith, sequence_stated, place_at_least};
-ghost use Rattle.two_level.specs.SequenceParts.{HoldsValues, IsHeldPart, LiesIn};
+ghost use Rattle.two_level.specs.SequenceParts.{HoldsValues, IsHeldPart, LiesIn, StandsBehind};
 
 use crate::directory::part_reaching;
 use crate::finding::{part_of_place, stated_part};
@@ -70,27 +70,6 @@ fn raise_first(numbers: &mut [u64], count: usize, more: u64)
     }
 }
 
-// Which number of a part that holds some is the first at or after number k that is at least x, and that number.
-fn first_in_part(view: &PartView, x: u64, k: u64) -> (u64, u64)
-    requires held { (ys : List ℕ) × Holds view.now ys }
-    requires reached { x < universe_of view.now }
-    requires within { k < count_of view.now }
-    ensures { (ys : List ℕ) → Holds view.now ys → IsFirstAtLeast ys k x result.0 × (result.1 ≡ slice_index ys result.0) }
-{
-    view.next_geq(x, k)
-}
-
-// Which number of a part that holds some is the first at or after number k that is at least x, by number k, and that number.
-fn first_from_number(view: &PartView, x: u64, k: u64, number: u64) -> (u64, u64)
-    requires held { (ys : List ℕ) × Holds view.now ys }
-    requires reached { x < universe_of view.now }
-    requires within { k < count_of view.now }
-    requires number { (ys : List ℕ) → Holds view.now ys → number ≡ slice_index ys k }
-    ensures { (ys : List ℕ) → Holds view.now ys → IsFirstAtLeast ys k x result.0 × (result.1 ≡ slice_index ys result.0) }
-{
-    view.first_from(k, number, x)
-}
-
 impl<'a> HeldPart<'a> {
     // Whether a place lies in the part.
     pub(crate) fn has(&self, place: u32) -> bool
@@ -129,7 +108,7 @@ impl<'a> HeldPart<'a> {
         requires some { self.now.part.from < self.now.part.to }
         ensures { (xs : List ℕ) → HoldsValues self.now xs → result ≡ slice_index xs self.now.part.from }
     {
-        first_in_part(&self.view, 0, 0).1 + self.past
+        self.view.first() + self.past
     }
 
     // The value behind a place in the part, by the value at that place.
@@ -159,38 +138,18 @@ impl<'a> HeldPart<'a> {
         count
     }
 
-    // The first place at or after one in the part whose value is at least x, and that value.
-    pub(crate) fn first_at_least(&self, place: u32, x: u64) -> (u32, u64)
-        requires values { (xs : List ℕ) × HoldsValues self.now xs }
-        requires after { self.now.part.from ≤ place }
-        requires before { place < self.now.part.to }
-        requires reached { x ≤ self.now.part.last }
-        ensures after { self.now.part.from ≤ result.0 }
-        ensures before { result.0 < self.now.part.to }
-        ensures first { (xs : List ℕ) → HoldsValues self.now xs → IsFirstAtLeast xs place x result.0 }
-        ensures value { (xs : List ℕ) → HoldsValues self.now xs → result.1 ≡ slice_index xs result.0 }
-    {
-        let least = x.saturating_sub(self.past);
-        let (k, number) = first_in_part(&self.view, least, (place - self.part.from) as u64);
-        (self.part.from + k as u32, number + self.past)
-    }
-
-    // The same, by the value at that place.
-    pub(crate) fn first_from(&self, place: u32, value: u64, x: u64) -> (u32, u64)
+    // The first place at or after one in the part whose value is at least x, by the value at that place, which is no more than x.
+    pub(crate) fn place_from(&self, place: u32, value: u64, x: u64) -> u32
         requires values { (xs : List ℕ) × HoldsValues self.now xs × (value ≡ slice_index xs place) }
         requires after { self.now.part.from ≤ place }
         requires before { place < self.now.part.to }
         requires reached { x ≤ self.now.part.last }
-        ensures after { self.now.part.from ≤ result.0 }
-        ensures before { result.0 < self.now.part.to }
-        ensures first { (xs : List ℕ) → HoldsValues self.now xs → value ≡ slice_index xs place → IsFirstAtLeast xs place x result.0 }
-        ensures value { (xs : List ℕ) → HoldsValues self.now xs → value ≡ slice_index xs place → result.1 ≡ slice_index xs result.0 }
+        requires below { value ≤ x }
+        ensures { (xs : List ℕ) → HoldsValues self.now xs → value ≡ slice_index xs place → IsFirstAtLeast xs place x result }
     {
-        let least = x.saturating_sub(self.past);
         let from = (place - self.part.from) as u64;
-        let number = value - self.past;
-        let (k, number) = first_from_number(&self.view, least, from, number);
-        (self.part.from + k as u32, number + self.past)
+        let k = self.view.place_from(from, value - self.past, x - self.past);
+        self.part.from + k as u32
     }
 
     // The first value of the part at or behind a place that is at least x, by the value at that place, which is no more than x; and
@@ -203,9 +162,26 @@ impl<'a> HeldPart<'a> {
         requires below { value ≤ x }
         ensures { (xs : List ℕ) → HoldsValues self.now xs → value ≡ slice_index xs place → (s : IsSought xs place x result) × (s.own < self.now.part.to) }
     {
-        let least = x.saturating_sub(self.past);
         let from = (place - self.part.from) as u64;
-        let sought = self.view.seek(from, value - self.past, least);
+        let sought = self.view.seek(from, value - self.past, x - self.past);
+        self.in_sequence(sought)
+    }
+
+    // The first value of the part that is at least x, and a place at or before its own with the value there.
+    fn seek_first(&self, x: u64) -> Sought
+        requires values { (xs : List ℕ) × HoldsValues self.now xs }
+        requires reached { x ≤ self.now.part.last }
+        ensures { (xs : List ℕ) → HoldsValues self.now xs → (s : IsSought xs self.now.part.from x result) × (s.own < self.now.part.to) }
+    {
+        let sought = self.view.seek_first(x.saturating_sub(self.past));
+        self.in_sequence(sought)
+    }
+
+    // What was found among the relative values of the part, as places and values of the sequence.
+    fn in_sequence(&self, sought: Sought) -> Sought
+        requires found { (xs : List ℕ) × HoldsValues self.now xs × ((k least : ℕ) × IsSought (relative_values xs self.now.part.from self.now.part.to) k least sought) }
+        ensures { (xs : List ℕ) → HoldsValues self.now xs → (place x : ℕ) → self.now.part.from ≤ place → IsSought (relative_values xs self.now.part.from self.now.part.to) (place - self.now.part.from) (x - self.now.past) sought → (s : IsSought xs place x result) × (s.own < self.now.part.to) }
+    {
         Sought {
             place: self.part.from as u64 + sought.place,
             there: sought.there + self.past,
@@ -215,6 +191,7 @@ impl<'a> HeldPart<'a> {
 }
 
 // Holds a part of the sequence with which the words begin.
+#[inline(always)]
 pub(crate) fn hold<'a>(words: &'a [u64], parts: u32, index: u32, format: Format) -> HeldPart<'a>
     requires words { length words.now < 2 ^ 57 }
     requires begun { (m : ℕ) × BeginWith words.now parts m (sequence_stated (numbers_of format) words.now parts) }
@@ -235,6 +212,7 @@ pub(crate) fn hold<'a>(words: &'a [u64], parts: u32, index: u32, format: Format)
 }
 
 // Holds a part of the sequence with which the words begin, and gives its first value; behind the last part it holds none.
+#[inline(always)]
 pub(crate) fn hold_if_any<'a>(
     words: &'a [u64],
     parts: u32,
@@ -304,7 +282,9 @@ pub(crate) fn hold_at<'a>(
     }
 }
 
-// The first place from the start of a part on whose value is at least x, with its part and that value; else the end.
+// The first value from the start of a part on that is at least x: a place at or before its own, its part, and the values at both
+// places; else the end.
+#[inline(never)]
 pub(crate) fn first_from_part<'a>(
     words: &'a [u64],
     parts: u32,
@@ -312,21 +292,22 @@ pub(crate) fn first_from_part<'a>(
     part: u32,
     x: u64,
     format: Format,
-) -> (u32, Option<HeldPart<'a>>, u64)
+) -> (u32, Option<HeldPart<'a>>, u64, u64)
     requires words { length words.now < 2 ^ 57 }
     requires begun { BeginWith words.now parts m (sequence_stated (numbers_of format) words.now parts) }
     requires within { part ≤ parts }
     ensures lies { LiesIn (numbers_of format) words.entry.now parts result.0 result.1 result.2 }
-    ensures first { result.0 ≡ place_at_least (sequence_stated (numbers_of format) words.entry.now parts).values (end_before (numbers_of format) words.entry.now 0 part) x }
+    ensures behind { StandsBehind result.1 (sequence_stated (numbers_of format) words.entry.now parts).values result.0 result.3 }
+    ensures first { let xs = (sequence_stated (numbers_of format) words.entry.now parts).values in place_at_least xs result.0 result.3 ≡ place_at_least xs (end_before (numbers_of format) words.entry.now 0 part) x }
 {
     directory_states_its_parts();
     let reaching = part_reaching(words, parts, part, x, format);
     if reaching < parts {
         let held = hold(words, parts, reaching, format);
-        let (place, value) = held.first_at_least(held.part.from, x);
-        (place, Some(held), value)
+        let sought = held.seek_first(x);
+        (sought.place as u32, Some(held), sought.there, sought.number)
     } else {
-        (m, None, 0)
+        (m, None, 0, 0)
     }
 }
 

@@ -9,7 +9,9 @@ mod entry;
 mod finding;
 mod galloping;
 mod held;
+mod kept_steps;
 mod laws;
+mod long_steps;
 mod part;
 mod stepping;
 #[cfg(test)]
@@ -26,5 +28,5 @@ pub use laws::{
     sequence_takes_its_cost, words_state_their_sequence,
 };
 pub use part::Part;
-pub use view::{Checked, SeqView};
+pub use view::{Checked, CheckedSteps, SeqView};
 pub use write::write_seq;

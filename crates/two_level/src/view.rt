@@ -1,21 +1,27 @@
-ghost use Rattle.std.specs.Prelude.{◌≡◌, ℕ, ◌≤◌, ◌<◌, ◌+◌, ◌^◌, List, length, slice_index, IfOk, IfErr};
+ghost use Rattle.std.specs.Prelude.{◌≡◌, ◌≢◌, ℕ, ◌≤◌, ◌<◌, ◌+◌, ◌^◌, true, List, length, slice_index, IfOk, IfErr};
 ghost use Rattle.collection_model.specs.FormatNumbers.{part_charge};
+ghost use Rattle.collection_model.specs.Collection.{greatest};
+ghost use Rattle.collection_model.specs.Sequences.{steps_from};
 ghost use Rattle.part_cost.specs.Formats.{numbers_of};
 ghost use Rattle.part_cost.specs.Span.{past, cost_of_part};
 ghost use Rattle.part_cost.specs.Partition.{partition_cost};
 ghost use Rattle.two_level.specs.SequenceWords.{BeginsSequence};
 ghost use Rattle.two_level.specs.SequenceFault.{IsSequenceFault};
-ghost use Rattle.two_level.specs.SequenceView.{SequenceView, BeginWith, words_used, IsPartOf};
+ghost use Rattle.two_level.specs.SequenceView.{SequenceView, BeginWith, words_used, IsPartOf, place_at_least};
 ghost use Rattle.two_level.specs.Steps.{greatest_step};
+ghost use Rattle.two_level.specs.LongSteps.{count_reaching};
+ghost use Rattle.collection_model.specs.Sequences.{steps_from};
 
 use crate::checking::{SeqFault, check_words};
 use crate::cursor::SeqCursor;
 use crate::finding::{bits_taken, last_of_part, part_at};
 use crate::held::value_at;
+use crate::kept_steps::common_step_of;
 use crate::laws::{
     checks_accept_a_sequence, checks_refuse_no_sequence, directory_states_its_parts,
     words_state_their_sequence,
 };
+use crate::long_steps::first_step_from;
 use crate::part::Part;
 use crate::stepping::step_between;
 use part_cost::Format;
@@ -35,6 +41,14 @@ pub struct SeqView<'a> {
 pub struct Checked<'a> {
     pub view: SeqView<'a>,
     pub used: u64,
+}
+
+/// A sequence whose words were checked, how many they are, and how far a value lies past the one before it at most.
+#[derive(Drop)]
+pub struct CheckedSteps<'a> {
+    pub view: SeqView<'a>,
+    pub used: u64,
+    pub greatest: u64,
 }
 
 impl<'a> Model for SeqView<'a> {
@@ -92,19 +106,72 @@ impl<'a> SeqView<'a> {
         ensures none { IfErr result (λ f. (xs ends : List ℕ) (used : ℕ) → ¬ BeginsSequence (numbers_of format) m bound parts xs ends words.entry.now used) }
         ensures first { IfErr result (λ f. IsSequenceFault (numbers_of format) words.entry.now parts m bound f.check f.part) }
     {
+        match SeqView::check_sequence(words, parts, m, bound, format, false) {
+            Ok(checked) => Ok(Checked {
+                view: checked.view,
+                used: checked.used,
+            }),
+            Err(fault) => Err(fault),
+        }
+    }
+
+    /// The same sequence, how many words it takes, and its greatest step, the first value counting from -1. The step is found
+    /// as the parts are checked.
+    pub fn check_steps(
+        words: &'a [u64],
+        parts: u32,
+        m: u32,
+        bound: u64,
+        format: Format,
+    ) -> Result<CheckedSteps<'a>, SeqFault>
+        requires words { length words.now < 2 ^ 57 }
+        requires bound { bound ≤ (numbers_of format).most_sum }
+        ensures format { IfOk result (λ c. c.view.format ≡ numbers_of format) }
+        ensures ok { IfOk result (λ c. (used : ℕ) × BeginsSequence (numbers_of format) m bound parts c.view.values c.view.ends words.entry.now used) }
+        ensures used { IfOk result (λ c. c.used ≡ words_used c.view) }
+        ensures step { IfOk result (λ c. c.greatest ≡ greatest (steps_from 0 c.view.values)) }
+        ensures count { IfOk result (λ c. length c.view.values ≡ m) }
+        ensures parts { IfOk result (λ c. length c.view.ends ≡ parts) }
+        ensures none { IfErr result (λ f. (xs ends : List ℕ) (used : ℕ) → ¬ BeginsSequence (numbers_of format) m bound parts xs ends words.entry.now used) }
+        ensures first { IfErr result (λ f. IsSequenceFault (numbers_of format) words.entry.now parts m bound f.check f.part) }
+    {
+        SeqView::check_sequence(words, parts, m, bound, format, true)
+    }
+
+    // The sequence with which the words begin, how many they are, and its greatest step where it is asked for.
+    fn check_sequence(
+        words: &'a [u64],
+        parts: u32,
+        m: u32,
+        bound: u64,
+        format: Format,
+        with_steps: bool,
+    ) -> Result<CheckedSteps<'a>, SeqFault>
+        requires words { length words.now < 2 ^ 57 }
+        requires bound { bound ≤ (numbers_of format).most_sum }
+        ensures format { IfOk result (λ c. c.view.format ≡ numbers_of format) }
+        ensures ok { IfOk result (λ c. (used : ℕ) × BeginsSequence (numbers_of format) m bound parts c.view.values c.view.ends words.entry.now used) }
+        ensures used { IfOk result (λ c. c.used ≡ words_used c.view) }
+        ensures step { IfOk result (λ c. with_steps ≡ true → c.greatest ≡ greatest (steps_from 0 c.view.values)) }
+        ensures count { IfOk result (λ c. length c.view.values ≡ m) }
+        ensures parts { IfOk result (λ c. length c.view.ends ≡ parts) }
+        ensures none { IfErr result (λ f. (xs ends : List ℕ) (used : ℕ) → ¬ BeginsSequence (numbers_of format) m bound parts xs ends words.entry.now used) }
+        ensures first { IfErr result (λ f. IsSequenceFault (numbers_of format) words.entry.now parts m bound f.check f.part) }
+    {
         checks_accept_a_sequence();
         checks_refuse_no_sequence();
         words_state_their_sequence();
         directory_states_its_parts();
-        let used = check_words(words, parts, m, bound, format)?;
-        Ok(Checked {
+        let found = check_words(words, parts, m, bound, format, with_steps)?;
+        Ok(CheckedSteps {
             view: SeqView {
                 words,
                 parts,
                 m,
                 format,
             },
-            used,
+            used: found.used,
+            greatest: found.greatest,
         })
     }
 
@@ -208,5 +275,23 @@ impl<'a> SeqView<'a> {
         ensures place { result.place ≡ k }
     {
         SeqCursor::at_place(self.words, self.parts, self.m, k, self.format)
+    }
+
+    /// The first place at or behind one whose value lies at least so far past the value before it, else the number of values; the
+    /// first value counts from -1. Parts whose numbers leave no room for such a step are not read.
+    pub fn first_step(&self, from: u32, least: u64) -> u32
+        requires within { from ≤ length self.now.values }
+        ensures { result ≡ place_at_least (steps_from 0 self.now.values) from least }
+    {
+        first_step_from(self.words, self.parts, self.m, from, least, self.format)
+    }
+
+    /// How far at least k of the values lie past the values before them, or farther: 0 where none is told. Parts whose steps are
+    /// short in the mean are not read, so it need not be the farthest such.
+    pub fn common_step(&self, k: u32) -> u64
+        requires some { 1 ≤ k }
+        ensures { result ≢ 0 → k ≤ count_reaching result (steps_from 0 self.now.values) }
+    {
+        common_step_of(self.words, self.parts, self.m, k, self.format)
     }
 }

@@ -44,15 +44,15 @@ padding-breaks format words parts (Err f) stored check part breaks = inr ((λ q 
 pub check_parts-requires-clause-entries : goal.check_parts-requires-clause-entries
 check_parts-requires-clause-entries c = (c.args.m, c.args.bound, c.requires.bound, c.in_ok-payload.ensures.entries)
 
-pub returns-in_err-check_parts-clause-first : goal.returns-in_err-check_parts-clause-first
-returns-in_err-check_parts-clause-first c =
+pub returns-in_err-greatest-clause-first : goal.returns-in_err-greatest-clause-first
+returns-in_err-greatest-clause-first c =
     let format = numbers_of c.args.format in
     let words = c.args.words.now in
-    let e : SeqFault = c.in_err-check_parts.field-0.0 in
+    let e : SeqFault = c.in_err-greatest.field-0.0 in
     let step : PartsStep format words c.args.parts e.check e.part =
     IfErr-at_err (λ f. PartsStep format words c.args.parts f.check f.part) (first_of (search rules, cc))
     (part-breaks format words c.args.parts c.check_parts.result c.check_parts.ensures.check c.check_parts.ensures.part c.check_parts.ensures.breaks c.check_parts.ensures.first) in
-    let is : c.from_residual-in_err-check_parts.result ≡ Err e = first_of (search rules, cc) in
+    let is : c.from_residual-in_err-greatest.result ≡ Err e = first_of (search rules, cc) in
     let fault : IsSequenceFault format words c.args.parts c.args.m c.args.bound e.check e.part =
     behind-entries format words c.args.parts c.args.m c.args.bound e.check e.part (search rules) (search rules) c.in_ok-payload.ensures.entries (search rules) step in
     rw is fault
@@ -64,7 +64,7 @@ returns-in_err-check_padding-clause-first c =
     let e : SeqFault = c.in_err-check_padding.field-0.0 in
     let step : PartsStep format words c.args.parts e.check e.part =
     IfErr-at_err (λ f. PartsStep format words c.args.parts f.check f.part) (first_of (search rules, cc))
-    (padding-breaks format words c.args.parts c.check_padding.result c.in_ok-check_parts.ensures.ok c.check_padding.ensures.check c.check_padding.ensures.part c.check_padding.ensures.breaks) in
+    (padding-breaks format words c.args.parts c.check_padding.result c.in_ok-greatest.ensures.ok c.check_padding.ensures.check c.check_padding.ensures.part c.check_padding.ensures.breaks) in
     let is : c.from_residual-in_err-check_padding.result ≡ Err e = first_of (search rules, cc) in
     let fault : IsSequenceFault format words c.args.parts c.args.m c.args.bound e.check e.part =
     behind-entries format words c.args.parts c.args.m c.args.bound e.check e.part (search rules) (search rules) c.in_ok-payload.ensures.entries (search rules) step in

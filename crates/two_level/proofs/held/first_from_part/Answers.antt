@@ -1,8 +1,9 @@
-use Rattle.std.proofs.Common.{◌≡◌, ℕ, ap, ◌∙◌, arith}
+use Rattle.std.proofs.Common.{◌≡◌, ℕ, ap, sym, ◌∙◌, arith}
 use Rattle.part_cost.specs.Formats.{numbers_of}
 use Rattle.two_level.specs.SequenceFault.{end_before}
 use Rattle.two_level.specs.SequenceView.{SequenceView, sequence_stated}
 use Rattle.two_level.proofs.Places.{found-place, found-first, later-place, below-reached, ends-rise}
+use Rattle.two_level.proofs.Standing.{place-at-end, sought-behind, sought-own}
 use Rattle.two_level.proofs.held.first_from_part.Goals as goal
 
 pub returns-then-reaching-parts-clause-first : goal.returns-then-reaching-parts-clause-first
@@ -15,8 +16,11 @@ returns-then-reaching-parts-clause-first c =
     let is = c.hold-held.ensures.held in
     let from : held.part.from ≡ end_before (numbers_of c.args.format) c.args.words.now 0 c.part_reaching-reaching.result = is.from ∙ ap (end_before (numbers_of c.args.format) c.args.words.now 0) c.hold-held.ensures.index in
     let rises = ends-rise (numbers_of c.args.format) c.args.words.now c.args.parts c.args.part c.part_reaching-reaching.result v d r.after r.within in
-    found-first v.values held.part.from c.first_at_least-place.result.0 c.args.x (c.first_at_least-place.ensures.first v.values is.values)
-    ∙ later-place v.values start held.part.from c.args.x (omega (arith, from, rises)) (omega (arith, c.first_at_least-place.ensures.after, c.first_at_least-place.ensures.before, is.values.within))
+    let found = c.seek_first-sought.ensures v.values is.values in
+    let s = found.0 in
+    sym (sought-own held v.values held.part.from c.args.x c.seek_first-sought.result s found.1)
+    ∙ found-first v.values held.part.from s.own c.args.x s.first
+    ∙ later-place v.values start held.part.from c.args.x (omega (arith, from, rises)) (omega (arith, s.first.at_or_after, s.first.within))
     (λ k after lt. below-reached (numbers_of c.args.format) c.args.words.now c.args.parts c.args.part c.part_reaching-reaching.result c.args.x v d r.after r.within r.before k after (omega (arith, lt, from)))
 
 pub returns-else-reaching-parts-clause-first : goal.returns-else-reaching-parts-clause-first
@@ -28,7 +32,15 @@ returns-else-reaching-parts-clause-first c =
     let count = c.requires.begun.3.sequence.count in
     let all = ap (end_before (numbers_of c.args.format) c.args.words.now 0) (let e : c.part_reaching-reaching.result ≡ c.args.parts = omega (arith, r.within, c.if-reaching-parts.false) in e) in
     let rises = ends-rise (numbers_of c.args.format) c.args.words.now c.args.parts c.args.part c.part_reaching-reaching.result v d r.after r.within in
-    found-place v.values start c.args.m c.args.x (omega (arith, rises, all, d.end, count)) (omega (arith, count))
+    sym (place-at-end v.values c.args.m 0 (omega (arith, count)))
+    ∙ found-place v.values start c.args.m c.args.x (omega (arith, rises, all, d.end, count)) (omega (arith, count))
     (λ k after lt.
     below-reached (numbers_of c.args.format) c.args.words.now c.args.parts c.args.part c.part_reaching-reaching.result c.args.x v d r.after r.within r.before k after (omega (arith, lt, all, d.end, count)))
     (λ lt. absurd (omega (arith, lt, count)))
+
+pub returns-then-reaching-parts-clause-behind : goal.returns-then-reaching-parts-clause-behind
+returns-then-reaching-parts-clause-behind c =
+    let v : SequenceView = sequence_stated (numbers_of c.args.format) c.args.words.now c.args.parts in
+    let held = c.hold-held.result in
+    let found = c.seek_first-sought.ensures v.values c.hold-held.ensures.held.values in
+    sought-behind held v.values held.part.from c.args.x c.seek_first-sought.result found.0 found.1

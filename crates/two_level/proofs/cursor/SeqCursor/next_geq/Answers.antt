@@ -1,4 +1,4 @@
-use Rattle.std.proofs.Common.{◌≡◌, ℕ, ◌+◌, ◌<◌, List, Some, ◌∙◌, sym, subst, arith}
+use Rattle.std.proofs.Common.{◌≡◌, ℕ, ◌+◌, ◌<◌, List, Some, ◌∙◌, subst, arith}
 use Rattle.part_cost.specs.Formats.{numbers_of}
 use Rattle.part_cost.proofs.Partitions.{few-parts}
 use Rattle.two_level.specs.SequenceFault.{stated_last, stated_end, end_before}
@@ -6,7 +6,7 @@ use Rattle.two_level.specs.SequenceView.{SequenceView, sequence_stated, place_at
 use Rattle.two_level.specs.SequenceParts.{LiesIn, StandsBehind}
 use Rattle.two_level.proofs.Parts.{end-before-next}
 use Rattle.two_level.proofs.Places.{later-place, below-last}
-use Rattle.two_level.proofs.Standing.{lies-there, place-here, place-stays, sought-place}
+use Rattle.two_level.proofs.Standing.{lies-there, place-stays, sought-place}
 use Rattle.two_level.proofs.cursor.SeqCursor.next_geq.Goals as goal
 
 pub overflow_add-behind : goal.overflow_add-behind
@@ -50,8 +50,7 @@ returns-else-x-held-clause-place c =
     let small : stated_last (numbers_of s.format) s.words.now 0 part.index < c.args.x = omega (arith, lies.0.last, c.if-x-held.false) in
     let end : end_before (numbers_of s.format) s.words.now 0 (part.index + 1) ≡ stated_end (numbers_of s.format) s.words.now 0 part.index = end-before-next (numbers_of s.format) s.words.now part.index in
     let next : ℕ = end_before (numbers_of s.format) s.words.now 0 (part.index + 1) in
-    let found = place-here (numbers_of s.format) s.words.now s.parts c.first_from_part.result.0 c.first_from_part.result.1 c.first_from_part.result.2 c.first_from_part.ensures.lies in
-    subst (λ p. place_at_least v.values c.first_from_part.result.0 c.first_from_part.result.2 ≡ place_at_least p.sequence.values p.place c.args.x) c.self.view_is
-    (sym found ∙ c.first_from_part.ensures.first
+    subst (λ p. place_at_least v.values c.first_from_part.result.0 c.first_from_part.result.3 ≡ place_at_least p.sequence.values p.place c.args.x) c.self.view_is
+    (c.first_from_part.ensures.first
     ∙ later-place v.values place next c.args.x (omega (arith, end, there.2, lies.0.to)) (omega (arith, end, lies.0.to, lies.0.values.within))
     (λ k after lt. below-last (numbers_of s.format) s.words.now s.parts part.index c.args.x v d lies.0.within small k (omega (arith, lt, end))))

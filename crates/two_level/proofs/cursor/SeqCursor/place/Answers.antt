@@ -6,8 +6,8 @@ use Rattle.two_level.specs.SequenceParts.{LiesIn, StandsBehind}
 use Rattle.two_level.proofs.Places.{found-first, below-last}
 use Rattle.two_level.proofs.cursor.SeqCursor.place.Goals as goal
 
-pub first_from-requires-clause-reached : goal.first_from-requires-clause-reached
-first_from-requires-clause-reached c =
+pub place_from-requires-clause-reached : goal.place_from-requires-clause-reached
+place_from-requires-clause-reached c =
     let s = c.self.inside in
     let part = c.in-Some.held in
     let v : SequenceView = sequence_stated (numbers_of s.format) s.words.now s.parts in
@@ -23,5 +23,5 @@ returns-then-self c =
     let s = c.self.inside in
     let xs : List ℕ = (sequence_stated (numbers_of s.format) s.words.now s.parts).values in
     let lies = subst (λ h. LiesIn (numbers_of s.format) s.words.now s.parts s.counted h s.known) c.in-Some.is c.self.invariant.2 in
-    subst (λ p. c.first_from.result.0 ≡ p.place) c.self.view_is
-    (found-first xs s.counted c.first_from.result.0 s.value (c.first_from.ensures.first xs lies.0.values lies.3))
+    subst (λ p. c.place_from.result ≡ p.place) c.self.view_is
+    (found-first xs s.counted c.place_from.result s.value (c.place_from.ensures xs lies.0.values lies.3))

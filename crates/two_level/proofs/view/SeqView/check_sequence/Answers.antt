@@ -9,7 +9,7 @@ use Rattle.two_level.specs.SequenceWords.{BeginsSequence}
 use Rattle.two_level.specs.SequenceFault.{word_behind, PassChecks, IsSequenceFault}
 use Rattle.two_level.specs.SequenceView.{sequence_stated}
 use Rattle.two_level.specs.Laws.{ChecksAcceptASequence, WordsState}
-use Rattle.two_level.proofs.view.SeqView.check_counting.Goals as goal
+use Rattle.two_level.proofs.view.SeqView.check_sequence.Goals as goal
 
 -- words are below 2^64
 words-below : (words : List ℕ) → ((k : ℕ) → Fits w64 (get_or words k 0)) → All (λ w. w < 2 ^ 64) words
@@ -24,10 +24,10 @@ stated-begins format accept state m bound parts words fits are pass =
     let used : ℕ = word_behind format words 0 parts in
     (used, subst (λ s. BeginsSequence format m bound parts s.values s.ends words used) (sym (state m bound parts used a.0 a.1 words fits a.2)) a.2)
 
-pub returns-in_err-used-clause-none : goal.returns-in_err-used-clause-none
-returns-in_err-used-clause-none c =
+pub returns-in_err-found-clause-none : goal.returns-in_err-found-clause-none
+returns-in_err-found-clause-none c =
     let words = c.args.words.now in
-    let e : SeqFault = c.in_err-used.field-0.0 in
+    let e : SeqFault = c.in_err-found.field-0.0 in
     let fault : IsSequenceFault (numbers_of c.args.format) words c.args.parts c.args.m c.args.bound e.check e.part =
     IfErr-at_err (λ f. IsSequenceFault (numbers_of c.args.format) words c.args.parts c.args.m c.args.bound f.check f.part) (first_of (search rules, cc)) c.check_words.ensures.first in
     let is : c.from_residual.result ≡ Err e = first_of (search rules, cc) in
@@ -38,7 +38,7 @@ returns-in_err-used-clause-none c =
 pub invariant_of-result : goal.invariant_of-result
 unfolding sequence_stated
 invariant_of-result c =
-    let s = stated-begins (numbers_of c.args.format) (c.checks_accept_a_sequence.ensures c.args.format) (c.words_state_their_sequence.ensures c.args.format) c.args.m c.args.bound c.args.parts c.args.words.now c.requires.bound (words-below c.args.words.now c.type_inv.words) c.in_ok-used.ensures.ok in
+    let s = stated-begins (numbers_of c.args.format) (c.checks_accept_a_sequence.ensures c.args.format) (c.words_state_their_sequence.ensures c.args.format) c.args.m c.args.bound c.args.parts c.args.words.now c.requires.bound (words-below c.args.words.now c.type_inv.words) c.in_ok-found.ensures.ok in
     ((c.args.bound, s.0, c.requires.bound, s.1), c.requires.words)
 
 pub returns-clause-format : goal.returns-clause-format
@@ -47,21 +47,21 @@ returns-clause-format c = refl
 
 pub returns-clause-ok : goal.returns-clause-ok
 returns-clause-ok c =
-    stated-begins (numbers_of c.args.format) (c.checks_accept_a_sequence.ensures c.args.format) (c.words_state_their_sequence.ensures c.args.format) c.args.m c.args.bound c.args.parts c.args.words.now c.requires.bound (words-below c.args.words.now c.type_inv.words) c.in_ok-used.ensures.ok
+    stated-begins (numbers_of c.args.format) (c.checks_accept_a_sequence.ensures c.args.format) (c.words_state_their_sequence.ensures c.args.format) c.args.m c.args.bound c.args.parts c.args.words.now c.requires.bound (words-below c.args.words.now c.type_inv.words) c.in_ok-found.ensures.ok
 
 pub returns-clause-count : goal.returns-clause-count
 returns-clause-count c =
-    let s = stated-begins (numbers_of c.args.format) (c.checks_accept_a_sequence.ensures c.args.format) (c.words_state_their_sequence.ensures c.args.format) c.args.m c.args.bound c.args.parts c.args.words.now c.requires.bound (words-below c.args.words.now c.type_inv.words) c.in_ok-used.ensures.ok in
+    let s = stated-begins (numbers_of c.args.format) (c.checks_accept_a_sequence.ensures c.args.format) (c.words_state_their_sequence.ensures c.args.format) c.args.m c.args.bound c.args.parts c.args.words.now c.requires.bound (words-below c.args.words.now c.type_inv.words) c.in_ok-found.ensures.ok in
     s.1.sequence.count
 
 pub returns-clause-parts : goal.returns-clause-parts
 returns-clause-parts c =
-    let s = stated-begins (numbers_of c.args.format) (c.checks_accept_a_sequence.ensures c.args.format) (c.words_state_their_sequence.ensures c.args.format) c.args.m c.args.bound c.args.parts c.args.words.now c.requires.bound (words-below c.args.words.now c.type_inv.words) c.in_ok-used.ensures.ok in
+    let s = stated-begins (numbers_of c.args.format) (c.checks_accept_a_sequence.ensures c.args.format) (c.words_state_their_sequence.ensures c.args.format) c.args.m c.args.bound c.args.parts c.args.words.now c.requires.bound (words-below c.args.words.now c.type_inv.words) c.in_ok-found.ensures.ok in
     s.1.sequence.parts_count
 
 pub returns-clause-used : goal.returns-clause-used
 unfolding sequence_stated
 returns-clause-used c =
-    let s = stated-begins (numbers_of c.args.format) (c.checks_accept_a_sequence.ensures c.args.format) (c.words_state_their_sequence.ensures c.args.format) c.args.m c.args.bound c.args.parts c.args.words.now c.requires.bound (words-below c.args.words.now c.type_inv.words) c.in_ok-used.ensures.ok in
+    let s = stated-begins (numbers_of c.args.format) (c.checks_accept_a_sequence.ensures c.args.format) (c.words_state_their_sequence.ensures c.args.format) c.args.m c.args.bound c.args.parts c.args.words.now c.requires.bound (words-below c.args.words.now c.type_inv.words) c.in_ok-found.ensures.ok in
     let d = c.directory_states_its_parts.ensures c.args.format c.args.words.now c.args.parts c.args.m (c.args.bound, s.0, c.requires.bound, s.1) in
-    c.in_ok-used.ensures.used ∙ sym d.used
+    c.in_ok-found.ensures.used ∙ sym d.used

@@ -1,0 +1,10 @@
+use Rattle.std.proofs.Common.{ℕ, ◌<◌, ◌≤◌, ◌+◌, length, drop}
+use Rattle.collection_model.specs.Sequences.{steps_from}
+use Rattle.two_level.specs.LongSteps.{count_reaching}
+use Rattle.two_level.proofs.kept_steps.keep_steps.Given as goal
+
+abbrev pub invariant-loop-value : goal.invariant-loop-value
+invariant-loop-value l = record {
+  within : l.least < length l.kept;
+  kept_few : (t : ℕ) → count_reaching t l.kept + count_reaching t (steps_from l.past (drop l.value-index l.values)) ≤ count_reaching t l.fn.kept + count_reaching t (steps_from l.first l.values);
+}

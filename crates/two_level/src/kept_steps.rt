@@ -1,0 +1,152 @@
+ghost use Rattle.std.specs.Prelude.{◌≡◌, ◌≢◌, ℕ, ◌≤◌, ◌<◌, ◌+◌, ◌-◌, ◌*◌, ◌^◌, ◌↔◌, IsTrue, List, length, slice_index, slice_range};
+ghost use Rattle.std.specs.List.Sorted.{IsStrictlyIncreasing};
+ghost use Rattle.collection_model.specs.Sequences.{steps_from};
+ghost use Rattle.part_cost.specs.Formats.{numbers_of};
+ghost use Rattle.part_cost.specs.Payload.{widest_low};
+ghost use Rattle.part_cost.specs.Span.{past};
+ghost use Rattle.two_level.specs.SequenceView.{BeginWith, sequence_stated};
+ghost use Rattle.two_level.specs.SequenceParts.{HoldsValues};
+ghost use Rattle.two_level.specs.LongSteps.{count_reaching};
+
+use crate::finding::stated_part;
+use crate::held::{HeldPart, hold};
+use crate::laws::directory_states_its_parts;
+use crate::long_steps::{BLOCK, read_block};
+use crate::part::Part;
+use part_cost::{Format, formats_have_room};
+
+// How many steps are kept at most.
+const MOST_KEPT: usize = 64;
+
+// The place of the least of some numbers.
+fn place_of_least(numbers: &[u64]) -> usize
+    requires some { 0 < length numbers.now }
+    ensures within { result < length numbers.now }
+    ensures least { (k : ℕ) → k < length numbers.now → slice_index numbers.now result ≤ slice_index numbers.now k }
+{
+    let mut least = 0;
+    for place in 1..numbers.len() {
+        if numbers[place] < numbers[least] {
+            least = place;
+        }
+    }
+    least
+}
+
+// Keeps the longest steps: one of these values that is longer than the least that is kept takes its place. The first value steps
+// from one past a value before them.
+fn keep_steps(values: &[u64], first: u64, kept: &mut [u64])
+    requires small { (k : ℕ) → k < length values.now → slice_index values.now k < 2 ^ widest_low }
+    requires some { 0 < length kept.old }
+    ensures room { length kept.new ≡ length kept.old }
+    ensures kept { (least : ℕ) → count_reaching least kept.new ≤ count_reaching least kept.old + count_reaching least (steps_from first values.now) }
+{
+    let mut past = first;
+    let mut least = place_of_least(kept);
+    for value in values {
+        let next = *value + 1;
+        let step = next.saturating_sub(past);
+        if kept[least] < step {
+            kept[least] = step;
+            least = place_of_least(kept);
+        }
+        past = next;
+    }
+}
+
+// The same of the next values of a part that is held, as many as have room, by one past the value before them; it gives the last.
+fn keep_block(
+    held: &HeldPart,
+    place: u32,
+    value: u64,
+    before: u64,
+    block: &mut [u64],
+    kept: &mut [u64],
+) -> u64
+    requires values { (xs : List ℕ) × HoldsValues held.now xs × (value ≡ slice_index xs place) }
+    requires after { held.now.part.from ≤ place }
+    requires some { 0 < length block.old }
+    requires within { place + length block.old ≤ held.now.part.to }
+    requires any { 0 < length kept.old }
+    ensures same_kept { length kept.new ≡ length kept.old }
+    ensures kept { (xs : List ℕ) → HoldsValues held.now xs → before ≡ past xs place → (least : ℕ) → count_reaching least kept.new ≤ count_reaching least kept.old + count_reaching least (slice_range (steps_from 0 xs) place (place + length block.old)) }
+    ensures last { (xs : List ℕ) → HoldsValues held.now xs → result + 1 ≡ past xs (place + length block.old) }
+    ensures fits { result < 2 ^ widest_low }
+    ensures room { length block.new ≡ length block.old }
+{
+    let last = read_block(held, place, value, block);
+    keep_steps(block, before, kept);
+    last
+}
+
+// The same of the values of a part that is held.
+fn keep_part(held: &HeldPart, kept: &mut [u64])
+    requires values { (xs : List ℕ) × HoldsValues held.now xs × IsStrictlyIncreasing xs }
+    requires some { held.now.part.from < held.now.part.to }
+    requires any { 0 < length kept.old }
+    ensures same_kept { length kept.new ≡ length kept.old }
+    ensures kept { (xs : List ℕ) → HoldsValues held.now xs → IsStrictlyIncreasing xs → (least : ℕ) → count_reaching least kept.new ≤ count_reaching least kept.old + count_reaching least (slice_range (steps_from 0 xs) held.now.part.from held.now.part.to) }
+{
+    let to = held.part.to;
+    let mut block = [0; BLOCK];
+    let mut place = held.part.from;
+    let mut past = held.past_before(place);
+    let mut value = held.value(place);
+    'read: while place < to {
+        let room = BLOCK.min((to - place) as usize);
+        let last = keep_block(held, place, value, past, &mut block[..room], kept);
+        past = last + 1;
+        place += room as u32;
+        if place < to {
+            value = held.value_after(place - 1, last);
+        }
+    }
+}
+
+// Whether the steps of a part are at least twice as long, in the mean, as those of m values in a universe.
+fn has_long_steps(part: Part, universe: u64, m: u32) -> bool
+    requires order { part.from ≤ part.to }
+    ensures { IsTrue result ↔ (2 * universe * (part.to - part.from) ≤ part.u * m) }
+{
+    let count = (part.to - part.from) as u128;
+    2 * universe as u128 * count <= part.u as u128 * m as u128
+}
+
+// Keeps the longest steps of the parts whose steps are long in the mean. The other parts are not read.
+fn keep_long_parts(words: &[u64], parts: u32, m: u32, kept: &mut [u64], format: Format)
+    requires words { length words.now < 2 ^ 57 }
+    requires begun { BeginWith words.now parts m (sequence_stated (numbers_of format) words.now parts) }
+    requires few { length (sequence_stated (numbers_of format) words.now parts).values < 2 ^ 32 }
+    requires some { 0 < parts }
+    requires any { 0 < length kept.old }
+    ensures same_kept { length kept.new ≡ length kept.old }
+    ensures kept { (least : ℕ) → count_reaching least kept.new ≤ count_reaching least kept.old + count_reaching least (steps_from 0 (sequence_stated (numbers_of format) words.now parts).values) }
+{
+    directory_states_its_parts();
+    formats_have_room();
+    let universe = stated_part(words, parts, parts - 1, format).0.last + 1;
+    'parts: for index in 0..parts {
+        let (part, _) = stated_part(words, parts, index, format);
+        if has_long_steps(part, universe, m) {
+            keep_part(&hold(words, parts, index, format), kept);
+        }
+    }
+}
+
+// A step that at least k of the steps reach of the sequence with which the words begin, 0 where none is told.
+pub(crate) fn common_step_of(words: &[u64], parts: u32, m: u32, k: u32, format: Format) -> u64
+    requires words { length words.now < 2 ^ 57 }
+    requires begun { BeginWith words.now parts m (sequence_stated (numbers_of format) words.now parts) }
+    requires few { length (sequence_stated (numbers_of format) words.now parts).values < 2 ^ 32 }
+    requires some { 1 ≤ k }
+    ensures { result ≢ 0 → k ≤ count_reaching result (steps_from 0 (sequence_stated (numbers_of format) words.now parts).values) }
+{
+    let count = k as usize;
+    if parts == 0 || MOST_KEPT < count {
+        return 0;
+    }
+    let mut room = [0; MOST_KEPT];
+    let kept = &mut room[..count];
+    keep_long_parts(words, parts, m, kept, format);
+    kept[place_of_least(kept)]
+}

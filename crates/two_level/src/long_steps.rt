@@ -1,0 +1,170 @@
+ghost use Rattle.std.specs.Prelude.{◌≡◌, ℕ, ◌≤◌, ◌<◌, ◌+◌, ◌^◌, nat_le, List, length, slice_index, slice_range};
+ghost use Rattle.std.specs.List.{position_or_len};
+ghost use Rattle.std.specs.List.Sorted.{IsStrictlyIncreasing};
+ghost use Rattle.collection_model.specs.Sequences.{steps_from};
+ghost use Rattle.part_cost.specs.Formats.{numbers_of};
+ghost use Rattle.part_cost.specs.Payload.{widest_low};
+ghost use Rattle.part_cost.specs.Span.{past};
+ghost use Rattle.two_level.specs.SequenceFault.{stated_end, end_before, stated_universe};
+ghost use Rattle.two_level.specs.SequenceView.{BeginWith, sequence_stated, place_at_least};
+ghost use Rattle.two_level.specs.SequenceParts.{HoldsValues};
+ghost use Rattle.two_level.specs.LongSteps.{IsFirstStep};
+
+use crate::finding::{part_of_place, stated_part};
+use crate::held::{HeldPart, hold};
+use crate::laws::directory_states_its_parts;
+use crate::part::Part;
+use part_cost::Format;
+
+// How many values are read at a time.
+pub(crate) const BLOCK: usize = 64;
+
+// Reads the next values of a part that is held, as many as have room, by the value at their place, and gives the last of them.
+pub(crate) fn read_block(held: &HeldPart, place: u32, value: u64, block: &mut [u64]) -> u64
+    requires values { (xs : List ℕ) × HoldsValues held.now xs × (value ≡ slice_index xs place) }
+    requires after { held.now.part.from ≤ place }
+    requires some { 0 < length block.old }
+    requires within { place + length block.old ≤ held.now.part.to }
+    ensures values { (xs : List ℕ) → HoldsValues held.now xs → block.new ≡ slice_range xs place (place + length block.old) }
+    ensures small { (k : ℕ) → k < length block.new → slice_index block.new k < 2 ^ widest_low }
+    ensures last { (xs : List ℕ) → HoldsValues held.now xs → result + 1 ≡ past xs (place + length block.old) }
+    ensures fits { result < 2 ^ widest_low }
+    ensures room { length block.new ≡ length block.old }
+{
+    held.values_below(place, value, u64::MAX, block);
+    block[block.len() - 1]
+}
+
+// Which of some values is the first whose step is at least so long, or how many they are; the first steps from one past a value
+// before them.
+fn first_long(values: &[u64], first: u64, least: u64) -> usize
+    requires small { (k : ℕ) → k < length values.now → slice_index values.now k < 2 ^ widest_low }
+    ensures within { result ≤ length values.now }
+    ensures first { result ≡ position_or_len (λ s. nat_le least s) (steps_from first values.now) }
+{
+    let mut past = first;
+    for (index, value) in values.iter().enumerate() {
+        let next = *value + 1;
+        if least <= next.saturating_sub(past) {
+            return index;
+        }
+        past = next;
+    }
+    values.len()
+}
+
+// The same of the next values of a part that is held, as many as have room, by one past the value before them; and the last of them.
+fn first_in_block(
+    held: &HeldPart,
+    place: u32,
+    value: u64,
+    before: u64,
+    least: u64,
+    block: &mut [u64],
+) -> (usize, u64)
+    requires values { (xs : List ℕ) × HoldsValues held.now xs × (value ≡ slice_index xs place) }
+    requires after { held.now.part.from ≤ place }
+    requires some { 0 < length block.old }
+    requires within { place + length block.old ≤ held.now.part.to }
+    ensures first { (xs : List ℕ) → HoldsValues held.now xs → before ≡ past xs place → IsFirstStep xs place (place + length block.old) least (place + result.0) }
+    ensures count { result.0 ≤ length block.old }
+    ensures last { (xs : List ℕ) → HoldsValues held.now xs → result.1 + 1 ≡ past xs (place + length block.old) }
+    ensures fits { result.1 < 2 ^ widest_low }
+    ensures room { length block.new ≡ length block.old }
+{
+    let last = read_block(held, place, value, block);
+    (first_long(block, before, least), last)
+}
+
+// The first place from one on of a part that is held whose step is at least so long, or the end of the part, value by value.
+fn first_in_values(held: &HeldPart, from: u32, least: u64) -> u32
+    requires values { (xs : List ℕ) × HoldsValues held.now xs × IsStrictlyIncreasing xs }
+    requires after { held.now.part.from ≤ from }
+    requires some { from < held.now.part.to }
+    ensures { (xs : List ℕ) → HoldsValues held.now xs → IsStrictlyIncreasing xs → IsFirstStep xs from held.now.part.to least result }
+{
+    let to = held.part.to;
+    let mut block = [0; BLOCK];
+    let mut past = held.past_before(from);
+    let mut value = held.value(from);
+    let mut place = from;
+    'read: while place < to {
+        let room = BLOCK.min((to - place) as usize);
+        let (count, last) = first_in_block(held, place, value, past, least, &mut block[..room]);
+        if count < room {
+            return place + count as u32;
+        }
+        past = last + 1;
+        place += room as u32;
+        if place < to {
+            value = held.value_after(place - 1, last);
+        }
+    }
+    to
+}
+
+// The first place from one on of a part of the sequence with which the words begin whose step is at least so long, or the end of
+// the part. A part whose numbers leave no room for such a step is not read, and the one step of one number is its universe.
+fn first_in_part(
+    words: &[u64],
+    parts: u32,
+    index: u32,
+    part: Part,
+    from: u32,
+    least: u64,
+    format: Format,
+) -> u32
+    requires words { length words.now < 2 ^ 57 }
+    requires begun { (m : ℕ) × BeginWith words.now parts m (sequence_stated (numbers_of format) words.now parts) }
+    requires few { length (sequence_stated (numbers_of format) words.now parts).values < 2 ^ 32 }
+    requires within { index < parts }
+    requires starts { part.from ≡ end_before (numbers_of format) words.now 0 index }
+    requires ends { part.to ≡ stated_end (numbers_of format) words.now 0 index }
+    requires universe { part.u ≡ stated_universe (numbers_of format) words.now 0 index }
+    requires after { part.from ≤ from }
+    requires some { from < part.to }
+    ensures { IsFirstStep (sequence_stated (numbers_of format) words.now parts).values from part.to least result }
+{
+    directory_states_its_parts();
+    let count = (part.to - part.from) as u64;
+    if part.u - count + 1 < least {
+        part.to
+    } else if count == 1 {
+        from
+    } else {
+        first_in_values(&hold(words, parts, index, format), from, least)
+    }
+}
+
+// The first place from one on of the sequence with which the words begin whose step is at least so long, or the end.
+pub(crate) fn first_step_from(
+    words: &[u64],
+    parts: u32,
+    m: u32,
+    from: u32,
+    least: u64,
+    format: Format,
+) -> u32
+    requires words { length words.now < 2 ^ 57 }
+    requires begun { BeginWith words.now parts m (sequence_stated (numbers_of format) words.now parts) }
+    requires within { from ≤ length (sequence_stated (numbers_of format) words.now parts).values }
+    requires count { m ≡ length (sequence_stated (numbers_of format) words.now parts).values }
+    ensures { result ≡ place_at_least (steps_from 0 (sequence_stated (numbers_of format) words.now parts).values) from least }
+{
+    directory_states_its_parts();
+    if least <= 1 || from == m {
+        return from;
+    }
+    let mut index = part_of_place(words, parts, from, format);
+    let mut place = from;
+    'parts: while place < m {
+        let (part, _) = stated_part(words, parts, index, format);
+        let found = first_in_part(words, parts, index, part, place, least, format);
+        if found < part.to {
+            return found;
+        }
+        place = part.to;
+        index += 1;
+    }
+    m
+}
