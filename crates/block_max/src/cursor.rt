@@ -117,6 +117,10 @@ impl<'a, C: DocCursor, S: BlockSource> DocCursor for SideCursor<'a, C, S> {
         self.cursor.next_geq(d);
     }
 
+    fn next_frequent(&mut self, f: u32) {
+        self.cursor.next_frequent(f);
+    }
+
     fn docs_below(&mut self, end: u64, docs: &mut [u64]) -> usize {
         self.cursor.docs_below(end, docs)
     }
@@ -127,6 +131,10 @@ impl<'a, C: DocCursor, S: BlockSource> DocCursor for SideCursor<'a, C, S> {
 
     fn max_freq(&self) -> u32 {
         self.cursor.max_freq()
+    }
+
+    fn common_freq(&self, k: u32) -> u32 {
+        self.cursor.common_freq(k)
     }
 
     fn len(&self) -> u32 {

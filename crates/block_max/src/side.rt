@@ -8,10 +8,10 @@ use crate::source::BlockSource;
 use no_memory::NoMemory;
 use std::alloc::Global;
 
-/// The first word of a side file: the bytes `PEFBLOCK`.
+// The first word of a side file: the bytes `PEFBLOCK`.
 const OPENING: u64 = 5_423_265_565_232_219_472;
 
-/// The last one: the bytes `KCOLBFEP`.
+// The last one: the bytes `KCOLBFEP`.
 const END: u64 = 5_784_106_546_989_318_987;
 
 /// The words of the side file of some lists: for each block its greatest frequency, between two words before them and two behind.

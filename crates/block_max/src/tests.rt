@@ -108,6 +108,11 @@ impl<C: BlockCursor> DocCursor for Counting<C> {
         self.cursor.next_geq(d);
     }
 
+    fn next_frequent(&mut self, f: u32) {
+        self.moves = self.moves.saturating_add(1);
+        self.cursor.next_frequent(f);
+    }
+
     fn docs_below(&mut self, end: u64, docs: &mut [u64]) -> usize {
         self.cursor.docs_below(end, docs)
     }
@@ -118,6 +123,10 @@ impl<C: BlockCursor> DocCursor for Counting<C> {
 
     fn max_freq(&self) -> u32 {
         self.cursor.max_freq()
+    }
+
+    fn common_freq(&self, k: u32) -> u32 {
+        self.cursor.common_freq(k)
     }
 
     fn len(&self) -> u32 {

@@ -1,4 +1,5 @@
 mod Rows
 mod Places
+mod Frequencies
 pub mod FirstPosting
 mod Lists

@@ -1,4 +1,5 @@
-ghost use Rattle.std.specs.Prelude.{◌≡◌, ◌≤◌, [], length};
+ghost use Rattle.std.specs.Prelude.{◌≡◌, ◌≤◌, nat_le, length};
+ghost use Rattle.std.specs.List.{position_or_len};
 ghost use Rattle.std.specs.List.Sorted.{IsNonDecreasingBy};
 ghost use Rattle.collection_model.specs.Collection.{postings_of};
 ghost use Rattle.cursor_api.specs.NextGeq.{IsCursorList, IsCursorAt, IsFirstFrom};
@@ -29,15 +30,6 @@ impl<'a> PlainCursor<'a> {
     }
 }
 
-/// At an empty list.
-impl<'a> Default for PlainCursor<'a> {
-    ghost is_default = { λ c. (postings_of c.docs.now c.freqs.now ≡ []) × (c.at ≡ 0) };
-
-    fn default() -> PlainCursor<'a> {
-        PlainCursor::new(&[], &[])
-    }
-}
-
 impl<'a> DocCursor for PlainCursor<'a> {
     ghost list = { λ c. postings_of c.docs.now c.freqs.now };
 
@@ -58,6 +50,11 @@ impl<'a> DocCursor for PlainCursor<'a> {
     fn next_geq(&mut self, d: u32) {
         let passed = gallop(&self.docs[self.at..], d);
         self.at += passed;
+    }
+
+    fn next_frequent(&mut self, f: u32) {
+        let skipped = first_reaching(&self.freqs[self.at..], f);
+        self.at += skipped;
     }
 
     fn docs_below(&mut self, end: u64, docs: &mut [u64]) -> usize {
@@ -85,6 +82,16 @@ impl<'a> DocCursor for PlainCursor<'a> {
         self.freqs.iter().max().copied().unwrap_or(0)
     }
 
+    // The least frequency of the first k postings, which they all reach.
+    fn common_freq(&self, k: u32) -> u32 {
+        let count = k as usize;
+        if count <= self.freqs.len() {
+            self.freqs[..count].iter().min().copied().unwrap_or(0)
+        } else {
+            0
+        }
+    }
+
     fn len(&self) -> u32 {
         self.docs.len() as u32
     }
@@ -103,4 +110,15 @@ fn gallop(docs: &[u32], d: u32) -> usize
     }
     let high = low + (docs.len() - low).min(low + 1);
     low + docs[low..high].partition_point(|doc| *doc < d)
+}
+
+// The place of the first number that is at least f, or how many they are.
+fn first_reaching(numbers: &[u32], f: u32) -> usize
+    ensures within { result ≤ length numbers.now }
+    ensures first { result ≡ position_or_len (λ x. nat_le f x) numbers.now }
+{
+    numbers
+        .iter()
+        .position(|number| f <= *number)
+        .unwrap_or(numbers.len())
 }

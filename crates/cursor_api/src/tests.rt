@@ -1,9 +1,27 @@
+ghost use Rattle.std.specs.Prelude.{◌≤◌};
+
 use super::*;
 
 // Where `next_geq` goes, through the trait's bound.
 fn next_of<C: DocCursor>(cursor: &mut C, d: u32) -> Option<u32> {
     cursor.next_geq(d);
     cursor.doc()
+}
+
+// The frequency and the document where `next_frequent` goes.
+fn frequent_of<C: DocCursor>(cursor: &mut C, f: u32) -> Option<(u32, u32)> {
+    cursor.next_frequent(f);
+    match cursor.doc() {
+        Some(doc) => Some((cursor.freq(), doc)),
+        None => None,
+    }
+}
+
+// What is told of k postings, through the trait's bound.
+fn common_to<C: DocCursor>(cursor: &C, k: u32) -> u32
+    requires some { 1 ≤ k }
+{
+    cursor.common_freq(k)
 }
 
 // How many postings below an end a cursor gives, at most two, and what it gives.
@@ -79,5 +97,25 @@ fn a_list_of_three(rt: HostRuntime) {
     }
     let empty = PlainCursor::new(&[], &[]);
     assert_eq!(rt; empty.max_freq(), 0);
-    assert_eq!(rt; PlainCursor::default().doc(), None);
+    assert_eq!(rt; empty.doc(), None);
+}
+
+#[test]
+fn postings_by_their_frequencies(rt: HostRuntime) {
+    let mut cursor = PlainCursor::new(&[1, 2, 4, 7, 9], &[2, 3, 1, 9, 3]);
+    for (f, found) in [
+        (0, Some((2, 1))),
+        (3, Some((3, 2))),
+        (3, Some((3, 2))),
+        (4, Some((9, 7))),
+        (1, Some((9, 7))),
+        (10, None),
+        (0, None),
+    ] {
+        assert_eq!(rt; frequent_of(&mut cursor, f), found, "at least {f}");
+    }
+    assert_eq!(rt; common_to(&cursor, 1), 2);
+    assert_eq!(rt; common_to(&cursor, 5), 1);
+    assert_eq!(rt; common_to(&cursor, 6), 0);
+    assert_eq!(rt; common_to(&PlainCursor::new(&[], &[]), 1), 0);
 }

@@ -1,20 +1,22 @@
 -- Lemmas on the postings in two sequences.
-use Rattle.std.proofs.Common.{◌≡◌, refl, sym, ap, subst, ◌∙◌, ℕ, ◌+◌, ◌^◌, ◌<◌, ◌≤◌, Bool, cond, not, List, [], ◌∷◌, map, drop, length, arith}
+use Rattle.std.proofs.Common.{◌≡◌, ◌≢◌, refl, sym, ap, subst, inl, inr, ◌∙◌, ℕ, ◌+◌, ◌^◌, ◌<◌, ◌≤◌, Bool, cond, not, List, [], ◌∷◌, map, drop, length, arith}
 use Rattle.std.specs.Prelude.{nat_le}
 use Rattle.std.specs.List.{All, sum, position_or_len, slice_get}
 use Rattle.std.specs.Option.{option_map}
 use Rattle.std.specs.List.Sorted.{IsStrictlyIncreasing}
 use Rattle.std.proofs.lemmas.Option.{slice_get-map}
 use Rattle.std.proofs.lemmas.List.{drop-map, length-drop}
-use Rattle.std.proofs.lemmas.List.Elements.{All-weaker}
-use Rattle.std.proofs.lemmas.List.Sums.{prefix_len-le-length}
+use Rattle.std.proofs.lemmas.Bool.{cases_lt, lt-leb}
+use Rattle.std.proofs.lemmas.List.Elements.{All-weaker, All-head, All-tail}
+use Rattle.std.proofs.lemmas.List.Sums.{prefix_len-le-length, sum_by-cons}
 use Rattle.collection_model.specs.FormatNumbers.{FormatNumbers}
 use Rattle.collection_model.specs.Collection.{Posting, docs_of, freqs_of, postings_of, IsPostingList}
 use Rattle.collection_model.specs.Sequences.{doc_sequence, freq_sequence, lessened, sums_from, steps_from, postings_in}
 use Rattle.collection_model.proofs.Sequences.{sums-length, same-steps}
 use Rattle.collection_model.proofs.Lists.{rising-length, postings-of_list, docs-of_postings, freqs-of_postings, docs_of-length, freqs_of-length}
 use Rattle.two_level.specs.SequenceView.{place_at_least}
-use Rattle.cursor_api.specs.NextGeq.{IsCursorList, next_geq_place}
+use Rattle.two_level.specs.LongSteps.{count_reaching}
+use Rattle.cursor_api.specs.NextGeq.{IsCursorList, next_geq_place, next_frequent_place}
 use Rattle.cursor_api.specs.Postings.{postings-length}
 use Rattle.postings.specs.Laws.{AreSequencesOf, IsListOf, CursorsStandInLists}
 use Rattle.postings.proofs.Steps.{steps-of_sums, sums-of_steps, rise-from_increasing, increasing-from_rise, rise-sums, sums-below, steps-not_zero, steps-sum}
@@ -65,6 +67,35 @@ next-among_docs docs sums place d same =
     let place_in : List ℕ → ℕ = λ xs. place + position_or_len (λ y. nat_le d y) (drop place xs) in
     let cut : drop place (docs_of list) ≡ map (λ p. p.doc) (drop place list) = drop-map (λ p. p.doc) place list in
     ap place_in (sym (in-docs docs sums same)) ∙ ap (λ xs. place + position_or_len (λ y. nat_le d y) xs) cut ∙ ap (λ n. place + n) (position-map (λ y. nat_le d y) (λ p. p.doc) (drop place list))
+
+-- the next posting that is frequent enough is found among the steps of the sums
+pub next-among_steps : (docs sums : List ℕ) (place f : ℕ) → length docs ≡ length sums → place_at_least (steps_from 0 sums) place f ≡ next_frequent_place (postings_in docs sums) place f
+next-among_steps docs sums place f same =
+    let list : List Posting = postings_in docs sums in
+    let place_in : List ℕ → ℕ = λ xs. place + position_or_len (λ y. nat_le f y) (drop place xs) in
+    let cut : drop place (freqs_of list) ≡ map (λ p. p.freq) (drop place list) = drop-map (λ p. p.freq) place list in
+    ap place_in (sym (in-freqs docs sums same)) ∙ ap (λ xs. place + position_or_len (λ y. nat_le f y) xs) cut ∙ ap (λ n. place + n) (position-map (λ y. nat_le f y) (λ p. p.freq) (drop place list))
+
+-- it lies in the list or at its end
+pub frequent-within : (list : List Posting) (place f : ℕ) → place ≤ length list → next_frequent_place list place f ≤ length list
+frequent-within list place f within = omega (arith, prefix_len-le-length (λ p. not (nat_le f p.freq)) (drop place list), length-drop place list)
+
+-- none of some numbers reaches what is more than each
+none-reach : (t : ℕ) (ns : List ℕ) → All (λ n. n < t) ns → count_reaching t ns ≡ 0
+none-reach t [] below = refl
+none-reach t (n ∷ ns) below =
+    let no : cond {A = ℕ} (nat_le t n) 1 0 ≡ 0 = ap (λ b. cond {A = ℕ} b 1 0) (lt-leb _ _ (All-head (λ m. m < t) n ns below)) in
+    omega (arith, no, none-reach t ns (All-tail (λ m. m < t) n ns below), sum_by-cons (λ m. cond {A = ℕ} (nat_le t m) 1 0) n ns)
+
+-- what some of the numbers reach fits where they do
+pub reached-fits : (t k bound : ℕ) (ns : List ℕ) → All (λ n. n < bound) ns → 0 < bound → 1 ≤ k → (t ≢ 0 → k ≤ count_reaching t ns) → t < bound
+reached-fits t k bound ns below some one reach =
+    elim (cases_lt t bound) [
+      | inl less ↦ less
+      | inr more ↦
+          let none = none-reach t ns (All-weaker (λ n. n < bound) (λ n. n < t) (λ n lt. omega (arith, lt, more)) ns below) in
+          absurd (omega (arith, none, reach (λ zero. omega (arith, zero, more, some)), one))
+    ]
 
 -- the next place lies in the list or at its end
 pub next-within : (list : List Posting) (place d : ℕ) → place ≤ length list → next_geq_place list place d ≤ length list

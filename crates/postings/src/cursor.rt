@@ -141,6 +141,11 @@ impl<'a> DocCursor for PostingCursor<'a> {
         self.docs.next_geq(u64::from(d));
     }
 
+    fn next_frequent(&mut self, f: u32) {
+        let place = self.sums.first_step(self.docs.place(), u64::from(f));
+        self.move_to(place);
+    }
+
     fn docs_below(&mut self, end: u64, docs: &mut [u64]) -> usize {
         self.take_docs(end, docs)
     }
@@ -157,6 +162,10 @@ impl<'a> DocCursor for PostingCursor<'a> {
 
     fn max_freq(&self) -> u32 {
         self.max
+    }
+
+    fn common_freq(&self, k: u32) -> u32 {
+        self.sums.common_step(k) as u32
     }
 
     fn len(&self) -> u32 {

@@ -1,6 +1,8 @@
-ghost use Rattle.std.specs.Prelude.{◌≡◌, ℕ, ◌≤◌, ◌<◌, ◌+◌, length, slice_index, Some};
+ghost use Rattle.std.specs.Prelude.{◌≡◌, ◌≢◌, ℕ, ◌≤◌, ◌<◌, ◌+◌, length, slice_index, Some};
 ghost use Rattle.collection_model.specs.NextBelow.{AreNextBelow};
-ghost use Rattle.two_level.specs.SequenceView.{SequencePlace};
+ghost use Rattle.collection_model.specs.Sequences.{steps_from};
+ghost use Rattle.two_level.specs.SequenceView.{SequencePlace, place_at_least};
+ghost use Rattle.two_level.specs.LongSteps.{count_reaching};
 ghost use Rattle.postings.specs.Sums.{place_of, IsOver};
 
 use std::marker::Model;
@@ -102,5 +104,21 @@ impl<'a> Sums<'a> {
             Some(cursor) => cursor.values_below(x, to),
             None => unreachable!(),
         }
+    }
+
+    // The first place from one on whose value lies at least so far past the value before it, or the end. The place stays.
+    pub(crate) fn first_step(&self, from: u32, least: u64) -> u32
+        requires within { from ≤ length self.now.sequence.values }
+        ensures { result ≡ place_at_least (steps_from 0 self.now.sequence.values) from least }
+    {
+        self.view.first_step(from, least)
+    }
+
+    // How far at least k of the values lie past the values before them, or farther: 0 where none is told.
+    pub(crate) fn common_step(&self, k: u32) -> u64
+        requires some { 1 ≤ k }
+        ensures { result ≢ 0 → k ≤ count_reaching result (steps_from 0 self.now.sequence.values) }
+    {
+        self.view.common_step(k)
     }
 }

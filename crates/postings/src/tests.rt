@@ -8,7 +8,7 @@ use cursor_api::DocCursor;
 use part_cost::Format;
 use std::process::Abort;
 use std::test::Fail;
-use two_level::SeqView;
+use two_level::{SeqView, write_seq};
 
 // Documents 0, 2 of frequencies 1, 5 are appended to what is there, each sequence in one part, and then an empty list is.
 #[test]
@@ -99,6 +99,13 @@ fn next_of<C: DocCursor>(cursor: &mut C, d: u32) -> Option<u32> {
     cursor.doc()
 }
 
+// The posting where `next_frequent` goes.
+fn frequent_of<C: DocCursor>(cursor: &mut C, f: u32) -> Option<(u32, u32)> {
+    cursor.next_frequent(f);
+    let doc = cursor.doc()?;
+    Some((doc, cursor.freq()))
+}
+
 // How many postings below an end a cursor gives, at most two, and what it gives.
 fn two_below<C: DocCursor>(cursor: &mut C, end: u64) -> (usize, [u64; 2], [u64; 2]) {
     let mut docs = [0; 2];
@@ -181,6 +188,46 @@ fn reads_on_from_a_document(rt: HostRuntime) {
         assert_eq!(rt; next_posting(&mut cursor), Some((2, 3)));
         assert_eq!(rt; next_posting(&mut cursor), None);
     }
+}
+
+// Documents 0, 1, 2 of frequencies 1, 2, 3 in one part and in two, by their frequencies, before and behind a document that was read.
+#[test]
+fn goes_to_a_frequency(rt: HostRuntime) {
+    let docs = [206_158_430_210, 0];
+    let one: &[u64] = &[206_158_430_213, 0, 37];
+    let two: &[u64] = &[68_719_476_736, 0, 206_158_430_213, 0, 18];
+    for (sums, parts) in [(one, 1), (two, 2)] {
+        assert!(rt; sums.len() <= 5);
+        let mut cursor = opened(&rt, Format::One, &docs, sums, 1, parts, 3);
+        for (f, found) in [
+            (0, Some((0, 1))),
+            (1, Some((0, 1))),
+            (2, Some((1, 2))),
+            (1, Some((1, 2))),
+            (3, Some((2, 3))),
+            (4, None),
+            (0, None),
+        ] {
+            assert_eq!(rt; frequent_of(&mut cursor, f), found, "at least {f}");
+        }
+        let mut cursor = opened(&rt, Format::One, &docs, sums, 1, parts, 3);
+        assert_eq!(rt; next_posting(&mut cursor), Some((0, 1)));
+        assert_eq!(rt; frequent_of(&mut cursor, 1), Some((1, 2)));
+        assert_eq!(rt; cursor.common_freq(1), 0);
+    }
+}
+
+// Frequencies 1, 1 in one part and 100 in another, which is told.
+#[test]
+fn tells_a_common_frequency(rt: HostRuntime) {
+    let docs = [206_158_430_210, 0];
+    let mut sums = Vec::new(rt.alloc());
+    write_seq(rt.alloc(), &[0, 1, 101], &[2, 3], Format::One, &mut sums).expect(&rt, "memory");
+    assert!(rt; sums.len() < 100);
+    let mut cursor = opened(&rt, Format::One, &docs, &sums, 1, 2, 3);
+    assert_eq!(rt; cursor.common_freq(1), 100);
+    assert_eq!(rt; cursor.common_freq(2), 0);
+    assert_eq!(rt; frequent_of(&mut cursor, 100), Some((2, 100)));
 }
 
 // Documents 0, 1, 2 of frequencies 1, 2, 3 in one part and in two: all by two, all behind the first document, and the last one.

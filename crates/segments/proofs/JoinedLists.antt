@@ -1,6 +1,6 @@
 -- Lemmas on the lists of joined collections.
 use Rattle.std.proofs.Common.{◌≡◌, refl, sym, ap, ◌∙◌, subst, ℕ, zero, suc, ◌+◌, ◌<◌, ◌≤◌, List, [], ◌∷◌, ◌++◌, length, get_or, inl, inr, arith}
-use Rattle.std.specs.List.{All, AllPairs}
+use Rattle.std.specs.List.{All}
 use Rattle.std.proofs.lemmas.Bool.{cases_lt}
 use Rattle.std.proofs.lemmas.List.{map-append, get_or_past}
 use Rattle.std.proofs.lemmas.List.Sums.{sum_by-cons}
@@ -9,7 +9,7 @@ use Rattle.std.proofs.lemmas.List.Elements.{All-append, All-cons, All-head, All-
 use Rattle.std.proofs.lemmas.List.FromFn.{get_or-map-range_with_len, length-map-range_with_len}
 use Rattle.collection_model.specs.Collection.{Posting, Collection, docs_of, list_of}
 use Rattle.collection_model.proofs.Lists.{docs_of-length}
-use Rattle.segments.specs.Joined.{ListPart, shifted, joined_list, parts_behind, documents_in, terms_in, joined, most_joined, FitTogether, EndsBelow, FollowInOrder}
+use Rattle.segments.specs.Joined.{ListPart, shifted, joined_list, parts_behind, documents_in, terms_in, joined, most_joined, EndsBelow, FollowInOrder}
 use Rattle.segments.specs.JoinedCursor.{no_part, part_of}
 use Rattle.segments.specs.Laws.{IsInRange, ListsFollow, ListsAreJoined, JoinedIsInRange}
 use Rattle.segments.proofs.Shifts.{shifted-doc, shifted-many}

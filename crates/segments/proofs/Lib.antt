@@ -1,6 +1,7 @@
 mod Rows
 mod Shifts
 mod Joins
+mod Frequencies
 mod Blocks
 mod Follow
 mod JoinedLists

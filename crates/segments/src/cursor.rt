@@ -6,7 +6,9 @@ ghost use Rattle.segments.specs.JoinedCursor.{parts_of, places_of, joined_place,
 ghost use Rattle.segments.specs.CursorPlaces.{joined-cursor};
 
 use crate::part::part_doc;
-use crate::parts::{count_all, docs_from, greatest_of, postings_from, seek, settled};
+use crate::parts::{
+    common_of, count_all, docs_from, greatest_of, postings_from, seek, seek_frequency, settled,
+};
 use cursor_api::DocCursor;
 
 /// A cursor over the lists of segments as one list: they stand one after the other, and the documents of each are counted on from the
@@ -62,6 +64,10 @@ impl<C: DocCursor> DocCursor for JoinedCursor<C> {
         self.at = seek(&mut self.parts, self.at, d);
     }
 
+    fn next_frequent(&mut self, f: u32) {
+        self.at = seek_frequency(&mut self.parts, self.at, f);
+    }
+
     fn docs_below(&mut self, end: u64, docs: &mut [u64]) -> usize {
         let (at, count) = docs_from(&mut self.parts, self.at, end, docs);
         self.at = at;
@@ -76,6 +82,10 @@ impl<C: DocCursor> DocCursor for JoinedCursor<C> {
 
     fn max_freq(&self) -> u32 {
         greatest_of(&self.parts)
+    }
+
+    fn common_freq(&self, k: u32) -> u32 {
+        common_of(&self.parts, k)
     }
 
     fn len(&self) -> u32 {

@@ -3,6 +3,7 @@ ghost use Rattle.std.specs.List.{All};
 ghost use Rattle.collection_model.specs.Collection.{docs_of, freqs_of};
 ghost use Rattle.collection_model.specs.NextBelow.{AreNextBelow};
 ghost use Rattle.cursor_api.specs.Laws.{IsNextGeq};
+ghost use Rattle.cursor_api.specs.NextGeq.{next_frequent_place};
 ghost use Rattle.segments.specs.Joined.{shifted};
 
 use cursor_api::{DocCursor, next_geq_is_first};
@@ -25,6 +26,18 @@ pub(crate) fn reaches<C: DocCursor>(part: &mut (u32, C), d: u32) -> bool
 {
     next_geq_is_first();
     part.1.next_geq(d.saturating_sub(part.0));
+    part.1.doc().is_some()
+}
+
+// Brings the cursor of a part to its first posting whose frequency is at least f, and tells whether there is one.
+pub(crate) fn reaches_frequency<C: DocCursor>(part: &mut (u32, C), f: u32) -> bool
+    ensures first { part.new.0 ≡ part.old.0 }
+    ensures list { C.list part.new.1 ≡ C.list part.old.1 }
+    ensures place { C.place part.new.1 ≡ next_frequent_place (C.list part.old.1) (C.place part.old.1) f }
+    ensures there { result ≡ true → C.place part.new.1 < length (C.list part.old.1) }
+    ensures ended { result ≡ false → C.place part.new.1 ≡ length (C.list part.old.1) }
+{
+    part.1.next_frequent(f);
     part.1.doc().is_some()
 }
 

@@ -1,11 +1,12 @@
-ghost use Rattle.std.specs.Prelude.{◌≡◌, ℕ, ◌+◌, ◌≤◌, ◌<◌, length, slice_index};
+ghost use Rattle.std.specs.Prelude.{◌≡◌, ◌≢◌, ℕ, ◌+◌, ◌≤◌, ◌<◌, nat_le, length, slice_index};
+ghost use Rattle.std.specs.List.{count_by};
 ghost use Rattle.collection_model.specs.Collection.{docs_of, freqs_of, greatest_freq};
 ghost use Rattle.collection_model.specs.NextBelow.{AreNextBelow};
-ghost use Rattle.cursor_api.specs.NextGeq.{IsCursorList, next_geq_place};
+ghost use Rattle.cursor_api.specs.NextGeq.{IsCursorList, next_geq_place, next_frequent_place};
 ghost use Rattle.segments.specs.Joined.{joined_list};
 ghost use Rattle.segments.specs.JoinedCursor.{parts_of, places_of, joined_place, StandsAt};
 
-use crate::part::{reaches, read_docs, read_postings};
+use crate::part::{reaches, reaches_frequency, read_docs, read_postings};
 use cursor_api::{DocCursor, next_geq_is_first};
 
 // The first part from this one on whose cursor is at a posting, or the number of parts. No part behind this one is read.
@@ -33,6 +34,22 @@ pub(crate) fn seek<C: DocCursor>(parts: &mut [(u32, C)], at: usize, d: u32) -> u
     next_geq_is_first();
     for i in at..parts.len() {
         if reaches(&mut parts[i], d) {
+            return i;
+        }
+    }
+    parts.len()
+}
+
+// Goes on from the part at which it stands to the first posting whose frequency is at least f, and gives the part that has it, or the
+// number of parts.
+pub(crate) fn seek_frequency<C: DocCursor>(parts: &mut [(u32, C)], at: usize, f: u32) -> usize
+    requires stands { StandsAt (parts_of C.list parts.old) (places_of C.place parts.old) at }
+    ensures parts { parts_of C.list parts.new ≡ parts_of C.list parts.old }
+    ensures stands { StandsAt (parts_of C.list parts.new) (places_of C.place parts.new) result }
+    ensures place { joined_place (parts_of C.list parts.new) (places_of C.place parts.new) result ≡ next_frequent_place (joined_list (parts_of C.list parts.old)) (joined_place (parts_of C.list parts.old) (places_of C.place parts.old) at) f }
+{
+    for i in at..parts.len() {
+        if reaches_frequency(&mut parts[i], f) {
             return i;
         }
     }
@@ -113,6 +130,18 @@ pub(crate) fn greatest_of<C: DocCursor>(parts: &[(u32, C)]) -> u32
     let mut most = 0;
     for part in parts {
         most = part.1.max_freq().max(most);
+    }
+    most
+}
+
+// The greatest frequency of which a part tells that k of its postings reach it, 0 where none is told.
+pub(crate) fn common_of<C: DocCursor>(parts: &[(u32, C)], k: u32) -> u32
+    requires some { 1 ≤ k }
+    ensures { result ≢ 0 → k ≤ count_by (λ f. nat_le result f) (freqs_of (joined_list (parts_of C.list parts.now))) }
+{
+    let mut most = 0;
+    for part in parts {
+        most = part.1.common_freq(k).max(most);
     }
     most
 }

@@ -45,6 +45,13 @@ fn next_of<C: DocCursor>(cursor: &mut C, d: u32) -> Option<u32> {
     cursor.doc()
 }
 
+// The posting where `next_frequent` goes.
+fn frequent_of<C: DocCursor>(cursor: &mut C, f: u32) -> Option<(u32, u32)> {
+    cursor.next_frequent(f);
+    let doc = cursor.doc()?;
+    Some((doc, cursor.freq()))
+}
+
 // How many postings below an end a cursor gives, at most three, and what it gives.
 fn three_below<C: DocCursor>(cursor: &mut C, end: u64) -> (usize, [u64; 3], [u64; 3]) {
     let mut docs = [0; 3];
@@ -67,6 +74,24 @@ fn passes_from_part_to_part(rt: HostRuntime) -> Result<(), Fail> {
     for posting in [Some((0, 1)), Some((2, 5)), Some((4, 1)), Some((6, 5)), None] {
         assert_eq!(rt; next_posting(&mut cursor), posting);
     }
+    Ok(())
+}
+
+#[test]
+fn goes_to_a_frequency_across_a_border(rt: HostRuntime) -> Result<(), Fail> {
+    let mut cursor = joined(rt.alloc())?;
+    for (f, found) in [
+        (1, Some((0, 1))),
+        (2, Some((2, 5))),
+        (1, Some((2, 5))),
+        (5, Some((2, 5))),
+    ] {
+        assert_eq!(rt; frequent_of(&mut cursor, f), found, "at least {f}");
+    }
+    assert_eq!(rt; next_posting(&mut cursor), Some((2, 5)));
+    assert_eq!(rt; frequent_of(&mut cursor, 5), Some((6, 5)));
+    assert_eq!(rt; frequent_of(&mut cursor, 6), None);
+    assert_eq!(rt; (cursor.common_freq(2), cursor.common_freq(3)), (1, 0));
     Ok(())
 }
 

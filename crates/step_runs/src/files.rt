@@ -7,10 +7,10 @@ use std::alloc::Global;
 use std::process::Abort;
 use std::test::Fail;
 
-/// The words of the file with no list over no document, in the second format.
+// The words of the file with no list over no document, in the second format.
 const NO_LISTS: &[u64] = &[6360565151758173520, 2, 0, 0, 2, 5784106577086924120];
 
-/// A depot with this file, of which each call moves at most `most` bytes, and where these calls fail.
+// A depot with this file, of which each call moves at most `most` bytes, and where these calls fail.
 fn depot_of(alloc: Global, bytes: &[u8], most: usize, fails: &[(Op, u64)]) -> Result<MemDepot, Fail>
     requires { 1 ≤ most }
 {
@@ -22,7 +22,7 @@ fn depot_of(alloc: Global, bytes: &[u8], most: usize, fails: &[(Op, u64)]) -> Re
     Ok(MemDepot::new(alloc, files, most, Vec::from_slice(alloc, fails)?)?)
 }
 
-/// The words that are loaded from a file.
+// The words that are loaded from a file.
 fn loaded(
     alloc: Global,
     bytes: &[u8],
@@ -65,7 +65,7 @@ fn missing_file_is_not_loaded(rt: HostRuntime) -> Result<(), Fail> {
     Ok(())
 }
 
-/// The bytes of some words.
+// The bytes of some words.
 fn bytes_of(alloc: Global, words: &[u64]) -> Result<Vec<u8>, Fail> {
     let mut bytes = Vec::new(alloc);
     for word in words {
@@ -96,7 +96,7 @@ fn words_are_written_and_loaded(rt: HostRuntime) -> Result<(), Fail> {
     Ok(())
 }
 
-/// Asserts that the words of no list are not written where this call fails, and what the file then has.
+// Asserts that the words of no list are not written where this call fails, and what the file then has.
 fn check_failing(
     rt: &impl Abort,
     alloc: Global,

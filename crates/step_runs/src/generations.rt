@@ -9,7 +9,7 @@ use std::marker::Brand;
 use std::sync::ledger::{Blank, Ledger};
 use step_count::Steps;
 
-/// The words of the generated collection of seed 1.
+// The words of the generated collection of seed 1.
 fn generated<L: Ledger>(alloc: Global, documents: u32, terms: u32, blank: Blank) -> Option<Vec<u64>>
     requires name { blank.name ≡ L.name }
     requires parts { blank.parts ≡ L.parts }
@@ -19,7 +19,7 @@ fn generated<L: Ledger>(alloc: Global, documents: u32, terms: u32, blank: Blank)
     generated_words(alloc, 1, documents, terms, &mut steps).ok()
 }
 
-/// Whether this text is printed of that collection.
+// Whether this text is printed of that collection.
 fn is_printed(alloc: Global, documents: u32, terms: u32, text: &str) -> Option<bool> {
     let words = generated::<Brand>(alloc, documents, terms, Blank::new(1))?;
     if words.len() > 10_000 {

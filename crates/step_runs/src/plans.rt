@@ -9,7 +9,7 @@ use std::alloc::Global;
 use std::marker::Brand;
 use std::sync::ledger::{Blank, Ledger};
 
-/// A cursor that counts how many moves it makes; one behind a block is as many as the block has postings.
+// A cursor that counts how many moves it makes; one behind a block is as many as the block has postings.
 #[derive(Drop)]
 struct Counting<C> {
     cursor: C,
@@ -47,6 +47,11 @@ impl<C: DocCursor> DocCursor for Counting<C> {
         self.cursor.next_geq(d);
     }
 
+    fn next_frequent(&mut self, f: u32) {
+        self.moves = self.moves.saturating_add(1);
+        self.cursor.next_frequent(f);
+    }
+
     fn docs_below(&mut self, end: u64, docs: &mut [u64]) -> usize {
         let count = self.cursor.docs_below(end, docs);
         self.moves = self.moves.saturating_add(count as u64);
@@ -63,6 +68,10 @@ impl<C: DocCursor> DocCursor for Counting<C> {
         self.cursor.max_freq()
     }
 
+    fn common_freq(&self, k: u32) -> u32 {
+        self.cursor.common_freq(k)
+    }
+
     fn len(&self) -> u32 {
         self.cursor.len()
     }
@@ -70,7 +79,7 @@ impl<C: DocCursor> DocCursor for Counting<C> {
     ghost well_formed = { λ c. C.well_formed c.cursor };
 }
 
-/// The words of the index of a list with the documents 0 to 999, once each, and one with document 0, five times.
+// The words of the index of a list with the documents 0 to 999, once each, and one with document 0, five times.
 fn long_list_and_short_list<L: Ledger>(alloc: Global, blank: Blank) -> Option<Vec<u64>>
     requires name { blank.name ≡ L.name }
     requires parts { blank.parts ≡ L.parts }
@@ -90,8 +99,8 @@ fn long_list_and_short_list<L: Ledger>(alloc: Global, blank: Blank) -> Option<Ve
     built::<L>(alloc, numbers, blank)
 }
 
-/// How often the cursors of both lists are moved to find the first document of both, which has the score 6; none where memory is
-/// wanting, or another is found.
+// How often the cursors of both lists are moved to find the first document of both, which has the score 6; none where memory is
+// wanting, or another is found.
 fn moves_by(alloc: Global, index: &Index<'_>, plan: Plan) -> Option<u64> {
     index.stands_for_a_collection();
     if index.terms() != 2 {

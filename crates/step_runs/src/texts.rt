@@ -10,10 +10,10 @@ use std::marker::Brand;
 use std::sync::ledger::{Blank, Ledger};
 use step_count::Steps;
 
-/// More than any text here has.
+// More than any text here has.
 const FAR: u64 = 1 << 40;
 
-/// The bytes of these numbers.
+// The bytes of these numbers.
 fn spelled(alloc: Global, numbers: &[u32]) -> Option<Vec<u8>> {
     let mut bytes = Vec::new(alloc);
     for number in numbers {
@@ -22,27 +22,27 @@ fn spelled(alloc: Global, numbers: &[u32]) -> Option<Vec<u8>> {
     Some(bytes)
 }
 
-/// The numbers of documents, of frequencies and of sizes.
+// The numbers of documents, of frequencies and of sizes.
 type Numbers<'a> = [&'a [u32]; 3];
 
-/// Three documents of sizes 4, 0 and 7, and the list (0,1)(2,5).
+// Three documents of sizes 4, 0 and 7, and the list (0,1)(2,5).
 const ONE_LIST: Numbers<'static> = [&[1, 3, 2, 0, 2], &[2, 1, 5], &[3, 4, 0, 7]];
 
-/// The same documents, that list, the list (0,1), and a list of nothing.
+// The same documents, that list, the list (0,1), and a list of nothing.
 const THREE_LISTS: Numbers<'static> = [
     &[1, 3, 2, 0, 2, 1, 0, 0],
     &[2, 1, 5, 1, 1, 0],
     &[3, 4, 0, 7],
 ];
 
-/// Five documents of size 1, and the lists (1,2)(4,3) and (1,1)(2,3)(4,1).
+// Five documents of size 1, and the lists (1,2)(4,3) and (1,1)(2,3)(4,1).
 const TWO_LISTS: Numbers<'static> = [
     &[1, 5, 2, 1, 4, 3, 1, 2, 4],
     &[2, 2, 3, 3, 1, 3, 1],
     &[5, 1, 1, 1, 1, 1],
 ];
 
-/// The words of the one list in the first format.
+// The words of the one list in the first format.
 const ONE_LIST_OF_ONE: &[u64] = &[
     6360565151758173520,
     1,
@@ -64,7 +64,7 @@ const ONE_LIST_OF_ONE: &[u64] = &[
     5784106577086924120,
 ];
 
-/// The same where the documents are cut into two parts.
+// The same where the documents are cut into two parts.
 const ONE_LIST_IN_TWO_PARTS: &[u64] = &[
     6360565151758173520,
     1,
@@ -88,7 +88,7 @@ const ONE_LIST_IN_TWO_PARTS: &[u64] = &[
     5784106577086924120,
 ];
 
-/// The words of the one list in the second format.
+// The words of the one list in the second format.
 const ONE_LIST_OF_TWO: &[u64] = &[
     6360565151758173520,
     2,
@@ -112,7 +112,7 @@ const ONE_LIST_OF_TWO: &[u64] = &[
     5784106577086924120,
 ];
 
-/// The words of the three lists in the first format.
+// The words of the three lists in the first format.
 const THREE_LISTS_OF_ONE: &[u64] = &[
     6360565151758173520,
     1,
@@ -146,7 +146,7 @@ const THREE_LISTS_OF_ONE: &[u64] = &[
     5784106577086924120,
 ];
 
-/// The words of the three lists in the second format.
+// The words of the three lists in the second format.
 const THREE_LISTS_OF_TWO: &[u64] = &[
     6360565151758173520,
     2,
@@ -184,7 +184,7 @@ const THREE_LISTS_OF_TWO: &[u64] = &[
     5784106577086924120,
 ];
 
-/// The words of an index of the collection of these numbers, in the first format; none where memory is wanting, or it is broken.
+// The words of an index of the collection of these numbers, in the first format; none where memory is wanting, or it is broken.
 pub(crate) fn built<L: Ledger>(alloc: Global, numbers: Numbers, blank: Blank) -> Option<Vec<u64>>
     requires name { blank.name ≡ L.name }
     requires parts { blank.parts ≡ L.parts }
@@ -200,7 +200,7 @@ pub(crate) fn built<L: Ledger>(alloc: Global, numbers: Numbers, blank: Blank) ->
     build_words(alloc, "x", &mut depot, Format::One, &mut steps).ok()
 }
 
-/// A text, how many bytes move at once, which reads and writes fail and what limit stands; how it ends, and what is written.
+// A text, how many bytes move at once, which reads and writes fail and what limit stands; how it ends, and what is written.
 #[derive(Clone, Copy)]
 struct Case {
     text: &'static str,
@@ -212,7 +212,7 @@ struct Case {
     out: &'static str,
 }
 
-/// A case where nothing fails and all is answered.
+// A case where nothing fails and all is answered.
 fn whole(text: &'static str, out: &'static str) -> Case {
     Case {
         text,
@@ -225,7 +225,7 @@ fn whole(text: &'static str, out: &'static str) -> Case {
     }
 }
 
-/// Whether a case ends as it should by a plan, from the index of at most ten thousand words.
+// Whether a case ends as it should by a plan, from the index of at most ten thousand words.
 fn ends_well(alloc: Global, words: &[u64], plan: Plan, case: Case) -> Option<bool> {
     if words.len() > 10_000 {
         return None;
@@ -241,7 +241,7 @@ fn ends_well(alloc: Global, words: &[u64], plan: Plan, case: Case) -> Option<boo
     Some(end == case.want && out.bytes() == case.out.as_bytes())
 }
 
-/// Whether a case ends as it should by each plan.
+// Whether a case ends as it should by each plan.
 fn ends_well_by_all(alloc: Global, words: &[u64], case: Case) -> Option<bool> {
     let exhaustive = ends_well(alloc, words, Plan::Exhaustive, case)?;
     let wand = ends_well(alloc, words, Plan::Wand, case)?;
@@ -249,7 +249,7 @@ fn ends_well_by_all(alloc: Global, words: &[u64], case: Case) -> Option<bool> {
     Some(exhaustive && wand && max_score)
 }
 
-/// Whether a case ends as it should, from the index that is built of the collection and from each of these indexes of it.
+// Whether a case ends as it should, from the index that is built of the collection and from each of these indexes of it.
 fn ends_well_from(alloc: Global, numbers: Numbers, indexes: &[&[u64]], case: Case) -> Option<bool> {
     let built = built::<Brand>(alloc, numbers, Blank::new(1))?;
     let mut right = ends_well_by_all(alloc, &built, case)?;
@@ -259,14 +259,14 @@ fn ends_well_from(alloc: Global, numbers: Numbers, indexes: &[&[u64]], case: Cas
     Some(right)
 }
 
-/// The indexes of the one list, and of the three.
+// The indexes of the one list, and of the three.
 const ONE_LIST_INDEXES: [&[u64]; 3] = [ONE_LIST_OF_ONE, ONE_LIST_IN_TWO_PARTS, ONE_LIST_OF_TWO];
 
 const THREE_LISTS_INDEXES: [&[u64]; 2] = [THREE_LISTS_OF_ONE, THREE_LISTS_OF_TWO];
 
 const FIVE_LINES: &str = "next 0 1\nnext 0 3\nand 0\n\ntop 1 0";
 
-/// Cases over the one list.
+// Cases over the one list.
 const CASES: [Case; 12] = [
     Case {
         text: FIVE_LINES,
@@ -386,7 +386,7 @@ fn texts_are_answered(rt: HostRuntime) {
     }
 }
 
-/// Lines over the one list, and their replies.
+// Lines over the one list, and their replies.
 const LINES: [(&str, &str); 6] = [
     (
         "next 0 1\nnext 0 3\nand 0\nor 0 0\ntop 1 0",
@@ -424,7 +424,7 @@ fn lines_are_answered(rt: HostRuntime) {
     }
 }
 
-/// Lines over the three lists, and their replies.
+// Lines over the three lists, and their replies.
 const LINES_OF_TERMS: [(&str, &str); 5] = [
     (
         "next 0 1\nnext 1 0\nnext 1 1\nnext 2 0\nnext 3 0\n",
@@ -455,7 +455,7 @@ fn lines_name_several_terms(rt: HostRuntime) {
     }
 }
 
-/// Lines over the two lists, and their replies.
+// Lines over the two lists, and their replies.
 const LINES_OF_WEIGHTS: [(&str, &str); 2] = [
     (
         "top 2 0 1\nand 1 0\nor 0 1\n",
@@ -475,7 +475,7 @@ fn terms_have_weights(rt: HostRuntime) {
     }
 }
 
-/// Whether a line of so many bytes and one line more are so answered.
+// Whether a line of so many bytes and one line more are so answered.
 fn is_answered(alloc: Global, length: usize, replies: &str) -> Option<bool> {
     let mut text = vec![in alloc; b'a'; length].ok()?;
     text.extend_from_slice(b"\nnext 0 0\n").ok()?;
