@@ -19,10 +19,10 @@ use std::alloc::Global;
 use std::sync::ledger::Ledger;
 use step_count::Steps;
 
-/// The most numbers of a sequence of which the least costs are found.
+// The most numbers of a sequence of which the least costs are found.
 const LONGEST: u32 = 256;
 
-/// How many sequences have a line, and how many are too long for one.
+// How many sequences have a line, and how many are too long for one.
 #[derive(Clone, Copy)]
 struct Tally {
     shown: u64,
@@ -52,7 +52,7 @@ pub fn print_audit<O: Sink, L: Ledger>(
     write_all_own(out, end.as_bytes())
 }
 
-/// Prints the lines of the sequences of list t, where they have some, and counts them.
+// Prints the lines of the sequences of list t, where they have some, and counts them.
 fn audit_list<O: Sink, L: Ledger>(
     alloc: Global,
     index: &Index<'_>,
@@ -85,7 +85,7 @@ fn audit_list<O: Sink, L: Ledger>(
     Ok(Tally { shown, ..tally })
 }
 
-/// Prints the two lines of list t, which is not empty and not longer than what is audited.
+// Prints the two lines of list t, which is not empty and not longer than what is audited.
 fn print_lines<O: Sink, L: Ledger>(
     alloc: Global,
     index: &Index<'_>,
@@ -107,7 +107,7 @@ fn print_lines<O: Sink, L: Ledger>(
     print_line(alloc, index, term, Which::Freqs, &sums, out, steps)
 }
 
-/// The documents and the sums of the frequencies of list t.
+// The documents and the sums of the frequencies of list t.
 fn sequences_of(
     alloc: Global,
     index: &Index<'_>,
@@ -125,7 +125,7 @@ fn sequences_of(
     Ok((doc_values(alloc, &docs)?, freq_sums(alloc, &freqs)?))
 }
 
-/// Prints the line of a sequence of list t, of which these are the values.
+// Prints the line of a sequence of list t, of which these are the values.
 fn print_line<O: Sink, L: Ledger>(
     alloc: Global,
     index: &Index<'_>,
@@ -148,7 +148,7 @@ fn print_line<O: Sink, L: Ledger>(
     write_all_own(out, line.as_bytes())
 }
 
-/// The line of a sequence of list t, of which these are the values.
+// The line of a sequence of list t, of which these are the values.
 fn line_of<L: Ledger>(
     alloc: Global,
     index: &Index<'_>,

@@ -13,7 +13,7 @@ use no_memory::NoMemory;
 use postings::PostingCursor;
 use std::alloc::Global;
 
-/// The lists of the collection that an index stands for, with its side file.
+// The lists of the collection that an index stands for, with its side file.
 #[derive(Clone, Copy)]
 pub(crate) struct SideLists<'i, 'a> {
     blocks: &'i IndexBlocks<'i, 'a>,

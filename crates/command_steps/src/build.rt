@@ -95,7 +95,7 @@ pub fn build_words<D: Depot, L: Ledger>(
     Ok(builder.finish(&sizes)?)
 }
 
-/// Sizes are numbers of 32 bits.
+// Sizes are numbers of 32 bits.
 fn sizes_fit(sizes: &[u32])
     ensures { All (λ s. s < 2 ^ 32) sizes.now }
 {}

@@ -32,7 +32,7 @@ pub fn generated_words<L: Ledger>(
     builder.finish(&sizes)
 }
 
-/// A builder with each list of the generated collection of a seed.
+// A builder with each list of the generated collection of a seed.
 fn add_generated<L: Ledger>(
     alloc: Global,
     seed: u32,

@@ -18,7 +18,7 @@ use std::alloc::{AllocError, Global};
 use topk_pruning::Plan;
 use two_level::sequence_takes_its_cost;
 
-/// The plans by which the first documents of a generated collection are asked for.
+// The plans by which the first documents of a generated collection are asked for.
 const PLANS: [Plan; 3] = [Plan::Exhaustive, Plan::Wand, Plan::MaxScore];
 
 /// Prints what is told of a generated collection, from an index of it, which is given to out as one piece: the line that counts it,
@@ -31,7 +31,7 @@ pub fn print_generated<O: Sink>(alloc: Global, index: &Index<'_>, out: &mut O) -
     write_all_own(out, text.as_slice())
 }
 
-/// What is told of a generated collection.
+// What is told of a generated collection.
 fn generated_text(alloc: Global, index: &Index<'_>) -> Result<Vec<u8>, NoMemory>
     requires few { word_count index.now ≤ most_words }
     ensures { IfOk result (λ text. IsGeneratedText (numbers_of index.now.format) index.now.collection index.now.parts text.items) }
@@ -47,7 +47,7 @@ fn generated_text(alloc: Global, index: &Index<'_>) -> Result<Vec<u8>, NoMemory>
     Ok(text)
 }
 
-/// The line that counts what a collection has.
+// The line that counts what a collection has.
 fn counts_line(alloc: Global, index: &Index<'_>) -> Result<String, AllocError>
     requires few { word_count index.now ≤ most_words }
     ensures { IfOk result (λ line. string_bytes line ≡ counts_line (numbers_of index.now.format) index.now.collection index.now.parts) }
@@ -59,7 +59,7 @@ fn counts_line(alloc: Global, index: &Index<'_>) -> Result<String, AllocError>
     format!(in alloc; "documents {documents} terms {terms} postings {postings} bits {bits}\n")
 }
 
-/// What all partitions cost, in bits: the payload of each part, and its charge.
+// What all partitions cost, in bits: the payload of each part, and its charge.
 fn cost_of_lists(index: &Index<'_>) -> u64
     requires few { word_count index.now ≤ most_words }
     ensures { result ≡ cost_of_lists (numbers_of index.now.format) index.now.collection index.now.parts }
@@ -71,7 +71,7 @@ fn cost_of_lists(index: &Index<'_>) -> u64
     index.payload_bits() + index.format().charge() * parts
 }
 
-/// All partitions cost no more bits than the words of the file have.
+// All partitions cost no more bits than the words of the file have.
 fn lists_cost_their_words(index: &Index<'_>)
     ensures { cost_of_lists (numbers_of index.now.format) index.now.collection index.now.parts ≤ 64 * word_count index.now }
 {
@@ -81,7 +81,7 @@ fn lists_cost_their_words(index: &Index<'_>)
     index.stands_for_a_collection();
 }
 
-/// The line that asks for the first posting of the last term from the middle document on.
+// The line that asks for the first posting of the last term from the middle document on.
 fn next_line(alloc: Global, index: &Index<'_>) -> Result<String, AllocError>
     requires some { 1 ≤ length index.now.collection.lists }
     ensures { IfOk result (λ line. string_bytes line ≡ next_line index.now.collection) }
@@ -91,7 +91,7 @@ fn next_line(alloc: Global, index: &Index<'_>) -> Result<String, AllocError>
     format!(in alloc; "next {last} {middle}")
 }
 
-/// The line that asks for the first ten documents of the first and the last term.
+// The line that asks for the first ten documents of the first and the last term.
 fn top_line(alloc: Global, index: &Index<'_>) -> Result<String, AllocError>
     requires some { 1 ≤ length index.now.collection.lists }
     ensures { IfOk result (λ line. string_bytes line ≡ top_line index.now.collection) }
@@ -100,7 +100,7 @@ fn top_line(alloc: Global, index: &Index<'_>) -> Result<String, AllocError>
     format!(in alloc; "top 10 0 {last}")
 }
 
-/// Appends the reply to a line.
+// Appends the reply to a line.
 fn push_reply<L: TermLists>(
     alloc: Global,
     lists: &L,
@@ -113,7 +113,7 @@ fn push_reply<L: TermLists>(
     Ok(text.extend_from_slice(&reply)?)
 }
 
-/// Appends the reply to a line by each of these plans.
+// Appends the reply to a line by each of these plans.
 fn push_replies(
     alloc: Global,
     index: &Index<'_>,

@@ -118,7 +118,7 @@ pub fn image_files<D: Depot>(
     Ok(files)
 }
 
-/// The files of a collection under a base.
+// The files of a collection under a base.
 fn spelled_files(alloc: Global, base: &str, collection: &Collection) -> Result<ImageFiles, NoMemory>
     requires { WellFormed remap_numbers collection.now }
     ensures { IfOk result (λ files. files_of files ≡ files_under base.now (spelled collection.now)) }
@@ -151,7 +151,7 @@ pub fn write_image<D: Depot>(files: &ImageFiles, depot: &mut D) -> Result<(), Fi
     Ok(())
 }
 
-/// Writes a file, of which a refusal tells the slot.
+// Writes a file, of which a refusal tells the slot.
 fn write_named<D: Depot>(slot: Slot, file: &NamedFile, depot: &mut D) -> Result<(), FileFail>
     ensures { WritesNamed slot (named file.now) (D.state depot.old) (D.state depot.new) result }
 {

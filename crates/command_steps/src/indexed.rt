@@ -9,7 +9,7 @@ use postings::PostingCursor;
 use std::alloc::Global;
 use topk_pruning::{Plan, plan_top};
 
-/// The lists of the collection that an index stands for, and the plan of `top`.
+// The lists of the collection that an index stands for, and the plan of `top`.
 #[derive(Clone, Copy)]
 pub(crate) struct IndexLists<'i, 'a> {
     index: &'i Index<'a>,
@@ -63,7 +63,7 @@ impl<'i, 'a> TermLists for IndexLists<'i, 'a> {
     ghost in_range = { λ lists. lists.in_range };
 }
 
-/// The documents of the lists are below their number.
+// The documents of the lists are below their number.
 pub(crate) fn documents_are_below(index: &Index<'_>)
     ensures { IsInRange index.now.collection }
 {

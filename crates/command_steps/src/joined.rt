@@ -16,14 +16,14 @@ use segments::{JoinedCursor, joined_lists_follow};
 use std::alloc::Global;
 use topk_pruning::{Plan, plan_top};
 
-/// An index, and how many documents those before it have.
+// An index, and how many documents those before it have.
 #[derive(Drop)]
 pub(crate) struct Segment<'a> {
     first: u32,
     index: Index<'a>,
 }
 
-/// The lists of the collection to which indexes are joined, and the plan of `top`.
+// The lists of the collection to which indexes are joined, and the plan of `top`.
 #[derive(Drop)]
 pub(crate) struct JoinedLists<'a> {
     segments: Vec<Segment<'a>>,
@@ -89,7 +89,7 @@ impl<'a> TermLists for JoinedLists<'a> {
     ghost in_range = { λ lists. lists.in_range };
 }
 
-/// How many terms each segment has, 0 where there is none.
+// How many terms each segment has, 0 where there is none.
 fn terms_of(segments: &[Segment<'_>]) -> u32
     ensures { result ≡ length (joined (collections_in segments.now)).lists }
 {
@@ -99,7 +99,7 @@ fn terms_of(segments: &[Segment<'_>]) -> u32
     }
 }
 
-/// The segment of each of these files, and how many documents all have.
+// The segment of each of these files, and how many documents all have.
 fn segments_of<'a>(
     alloc: Global,
     files: &'a [Vec<u64>],
@@ -120,7 +120,7 @@ fn segments_of<'a>(
     Ok((segments, documents))
 }
 
-/// A cursor at the start of a term's list in each segment, with the first document of the segment.
+// A cursor at the start of a term's list in each segment, with the first document of the segment.
 fn parts_at<'a>(
     alloc: Global,
     segments: &[Segment<'a>],

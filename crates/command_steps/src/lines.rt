@@ -15,13 +15,13 @@ use query_text::{ParseError, bad_reply, parse};
 use std::alloc::Global;
 use std::borrow::CowSlice;
 
-/// The byte that ends a line.
+// The byte that ends a line.
 const NEWLINE: u8 = b'\n';
 
-/// The most bytes of a line that are held: one more than a line may have, which tells that it is too long.
+// The most bytes of a line that are held: one more than a line may have, which tells that it is too long.
 const MOST_HELD: usize = 65_536;
 
-/// Takes the next bytes of a text. Each line that ends in them is answered, and what they leave unended is held.
+// Takes the next bytes of a text. Each line that ends in them is answered, and what they leave unended is held.
 pub(crate) fn answer_piece<L: TermLists, O: Sink>(
     alloc: Global,
     lists: &L,
@@ -40,7 +40,7 @@ pub(crate) fn answer_piece<L: TermLists, O: Sink>(
     hold(held, rest)
 }
 
-/// Takes the last bytes of a line, and answers it.
+// Takes the last bytes of a line, and answers it.
 fn end_line<L: TermLists, O: Sink>(
     alloc: Global,
     lists: &L,
@@ -58,7 +58,7 @@ fn end_line<L: TermLists, O: Sink>(
     Ok(())
 }
 
-/// Answers one line: its reply, with the newline, is one piece.
+// Answers one line: its reply, with the newline, is one piece.
 pub(crate) fn answer_line<L: TermLists, O: Sink>(
     alloc: Global,
     lists: &L,
@@ -71,7 +71,7 @@ pub(crate) fn answer_line<L: TermLists, O: Sink>(
     write_all_own(out, &reply)
 }
 
-/// The reply to one line, with its newline. That to a line which asks nothing is lent.
+// The reply to one line, with its newline. That to a line which asks nothing is lent.
 pub(crate) fn reply_to<L: TermLists>(
     alloc: Global,
     lists: &L,
@@ -86,7 +86,7 @@ pub(crate) fn reply_to<L: TermLists>(
     }
 }
 
-/// Holds the next bytes of a line, as many as there is room for.
+// Holds the next bytes of a line, as many as there is room for.
 fn hold(held: &mut Vec<u8>, bytes: &[u8]) -> Result<(), IoFail>
     ensures { MatchResult result (λ _. held.new.items ≡ held.old.items ++ take (MOST_HELD - length held.old.items) bytes.now) (λ fail. fail ≡ IoFail.NoMemory) }
 {
@@ -95,7 +95,7 @@ fn hold(held: &mut Vec<u8>, bytes: &[u8]) -> Result<(), IoFail>
         .map_err(|_| IoFail::NoMemory)
 }
 
-/// The place of the first newline.
+// The place of the first newline.
 fn next_newline(bytes: &[u8]) -> Option<usize>
     ensures { result ≡ position (λ b. b == newline) bytes.now }
 {

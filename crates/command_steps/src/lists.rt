@@ -11,29 +11,29 @@ use cursor_api::DocCursor;
 use no_memory::NoMemory;
 use std::alloc::Global;
 
-/// The posting lists of a collection, and how the best documents of some of them are found.
+// The posting lists of a collection, and how the best documents of some of them are found.
 pub(crate) trait TermLists {
-    /// A cursor over a list.
+    // A cursor over a list.
     type Cursor: DocCursor + Drop;
 
     ghost collection: { Self → Collection };
 
-    /// How many documents there are.
+    // How many documents there are.
     fn documents(&self) -> u32
         ensures { result ≡ (collection self.now).documents };
 
-    /// How many lists there are.
+    // How many lists there are.
     fn terms(&self) -> u32
         ensures { result ≡ length (collection self.now).lists };
 
-    /// A cursor at the start of a term's list.
+    // A cursor at the start of a term's list.
     fn cursor(&self, alloc: Global, term: u32) -> Result<Self::Cursor, NoMemory>
         requires { term < length (collection self.now).lists }
         ensures list { IfOk result (λ cursor. Self.Cursor.list cursor ≡ list_of (collection self.now) term) }
         ensures start { IfOk result (λ cursor. Self.Cursor.place cursor ≡ 0) };
 
-    /// The first k of the documents that are in any of the lists, by score falling and then document rising, each with its score. The
-    /// weights are those of the cursors' lists, in the same order; a score stays below 2^58.
+    // The first k of the documents that are in any of the lists, by score falling and then document rising, each with its score. The
+    // weights are those of the cursors' lists, in the same order; a score stays below 2^58.
     fn top(
         &self,
         alloc: Global,

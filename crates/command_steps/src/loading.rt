@@ -5,14 +5,14 @@ ghost use Rattle.index_file.specs.declared.bytes.WordsError.TheVariants.{Ragged,
 ghost use Rattle.command_steps.specs.LoadWords.{LoadsWords, words_loaded};
 ghost use Rattle.command_steps.specs.ReadWords.{ReadsWords};
 
-use index_file::{WordsError, read_words};
+use index_file::{WordsError, read_words_into};
 use pef_io::{Depot, IoFail, Slot, fill_piece};
 use std::alloc::Global;
 
-/// The most bytes of a file of words.
+// The most bytes of a file of words.
 const LONGEST_FILE: u64 = 1 << 40;
 
-/// How many bytes are read at once: whole words.
+// How many bytes are read at once: whole words.
 const PIECE_BYTES: usize = 65_536;
 
 /// Why no words of a file were loaded.
@@ -70,12 +70,12 @@ pub fn load_words<D: Depot>(
     Ok(words)
 }
 
-/// Words are numbers of 64 bits.
+// Words are numbers of 64 bits.
 fn words_fit(words: &[u64])
     ensures { All (λ w. w < 2 ^ 64) words.now }
 {}
 
-/// The words of all bytes that a started slot has left, at most 2^40, piece by piece.
+// The words of all bytes that a started slot has left, at most 2^40, piece by piece.
 fn read_file<D: Depot>(alloc: Global, slot: Slot, depot: &mut D) -> Result<Vec<u64>, LoadWordsError>
     requires { IsTrue ((D.state depot.old).started slot) }
     ensures { ReadsWords slot (D.state depot.old) (D.state depot.new) (words_loaded result) }
@@ -87,14 +87,14 @@ fn read_file<D: Depot>(alloc: Global, slot: Slot, depot: &mut D) -> Result<Vec<u
         if 8 * words.len() as u64 + count as u64 > LONGEST_FILE {
             return Err(LoadWordsError::TooLarge);
         }
-        add_words(alloc, &mut words, &piece[..count])?;
+        add_words(&mut words, &piece[..count])?;
         if count < PIECE_BYTES {
             return Ok(words);
         }
     }
 }
 
-/// Room for the bytes that are read at once.
+// Room for the bytes that are read at once.
 fn room_for_a_piece(alloc: Global) -> Result<Vec<u8>, WordsError>
     ensures room { IfOk result (λ piece. vec_len piece ≡ PIECE_BYTES) }
     ensures refused { IfErr result (λ e. e ≡ NoMemory) }
@@ -102,19 +102,16 @@ fn room_for_a_piece(alloc: Global) -> Result<Vec<u8>, WordsError>
     vec![in alloc; 0; PIECE_BYTES].map_err(|_| WordsError::NoMemory)
 }
 
-/// Appends the words of a piece of the file.
-fn add_words(alloc: Global, words: &mut Vec<u64>, piece: &[u8]) -> Result<(), WordsError>
+// Appends the words of a piece of the file.
+fn add_words(words: &mut Vec<u64>, piece: &[u8]) -> Result<(), WordsError>
     ensures added { OnOk result (word_bytes words.new.items ≡ word_bytes words.old.items ++ piece.now) }
     ensures ragged { IfErr result (λ e. e ≡ Ragged → length piece.now % 8 ≢ 0) }
 {
-    let more = read_words(alloc, piece)?;
-    make_room(words, more.len())?;
-    words
-        .extend_from_slice(&more)
-        .map_err(|_| WordsError::NoMemory)
+    make_room(words, piece.len() / 8)?;
+    read_words_into(piece, words)
 }
 
-/// Makes room for so many more words where there is too little: for a quarter of those that there are besides.
+// Makes room for so many more words where there is too little: for a quarter of those that there are besides.
 fn make_room(words: &mut Vec<u64>, more: usize) -> Result<(), WordsError>
     ensures words { words.new.items ≡ words.old.items }
     ensures room { vec_capacity words.new ≤ max (vec_capacity words.old) (length words.old.items + (more + length words.old.items / 4)) }

@@ -29,7 +29,7 @@ pub fn migrated_words<L: Ledger>(
     builder.finish(&sizes)
 }
 
-/// A builder with each list of an index.
+// A builder with each list of an index.
 fn add_lists_of<L: Ledger>(
     alloc: Global,
     index: &Index<'_>,
@@ -49,7 +49,7 @@ fn add_lists_of<L: Ledger>(
     Ok(builder)
 }
 
-/// Reads the list of a cursor that stands at its start, in place of what the vectors hold.
+// Reads the list of a cursor that stands at its start, in place of what the vectors hold.
 pub(crate) fn read_list<C: DocCursor>(
     cursor: &mut C,
     docs: &mut Vec<u32>,
@@ -69,7 +69,7 @@ pub(crate) fn read_list<C: DocCursor>(
     Ok(())
 }
 
-/// The size of each document.
+// The size of each document.
 fn sizes_of(alloc: Global, index: &Index<'_>) -> Result<Vec<u32>, AllocError>
     ensures { IfOk result (λ sizes. sizes.items ≡ index.now.collection.sizes) }
 {

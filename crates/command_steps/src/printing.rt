@@ -18,7 +18,7 @@ pub fn print_summary<O: Sink>(alloc: Global, index: &Index<'_>, out: &mut O) -> 
     write_all_own(out, line.as_bytes())
 }
 
-/// The line that sums an opened index up, with its newline.
+// The line that sums an opened index up, with its newline.
 fn summary_line(alloc: Global, index: &Index<'_>) -> Result<String, NoMemory>
     ensures { IfOk result (λ line. string_bytes line ≡ summary_line index.now) }
 {
@@ -28,7 +28,7 @@ fn summary_line(alloc: Global, index: &Index<'_>) -> Result<String, NoMemory>
     Ok(line)
 }
 
-/// What an opened index is summed up by.
+// What an opened index is summed up by.
 fn counts_of(index: &Index<'_>) -> Counts
     ensures { result ≡ counts_of index.now }
 {

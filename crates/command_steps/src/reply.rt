@@ -16,7 +16,7 @@ use query_text::{Query, list_reply, next_reply, top_reply};
 use scan_plans::{and_docs, or_docs};
 use std::alloc::Global;
 
-/// The reply to what a line asks.
+// The reply to what a line asks.
 pub(crate) fn answer<L: TermLists>(
     alloc: Global,
     lists: &L,
@@ -33,7 +33,7 @@ pub(crate) fn answer<L: TermLists>(
     }
 }
 
-/// The reply with the first posting of a term's list whose document is at least this one.
+// The reply with the first posting of a term's list whose document is at least this one.
 fn next_answer<L: TermLists>(
     alloc: Global,
     lists: &L,
@@ -47,7 +47,7 @@ fn next_answer<L: TermLists>(
     next_reply(alloc, first_posting(&mut cursor, doc))
 }
 
-/// The first posting of a list whose document is at least this one, as document and frequency.
+// The first posting of a list whose document is at least this one, as document and frequency.
 fn first_posting<C: DocCursor>(cursor: &mut C, doc: u32) -> Option<(u32, u32)>
     requires { C.place cursor.old ≡ 0 }
     ensures { result ≡ option_map (λ p. (p.doc, p.freq)) (first_at_least (C.list cursor.old) doc) }
@@ -57,7 +57,7 @@ fn first_posting<C: DocCursor>(cursor: &mut C, doc: u32) -> Option<(u32, u32)>
     Some((found, cursor.freq()))
 }
 
-/// The reply with the documents that are in the lists of all these terms.
+// The reply with the documents that are in the lists of all these terms.
 fn and_answer<L: TermLists>(alloc: Global, lists: &L, terms: &[u32]) -> Result<Vec<u8>, NoMemory>
     requires few { length terms.now ≤ 1024 }
     requires named { All (λ t. t < length (L.collection lists.now).lists) terms.now }
@@ -68,7 +68,7 @@ fn and_answer<L: TermLists>(alloc: Global, lists: &L, terms: &[u32]) -> Result<V
     list_reply(alloc, docs.as_slice())
 }
 
-/// The reply with the documents that are in the list of any of these terms.
+// The reply with the documents that are in the list of any of these terms.
 fn or_answer<L: TermLists>(alloc: Global, lists: &L, terms: &[u32]) -> Result<Vec<u8>, NoMemory>
     requires few { length terms.now ≤ 1024 }
     requires named { All (λ t. t < length (L.collection lists.now).lists) terms.now }
@@ -79,7 +79,7 @@ fn or_answer<L: TermLists>(alloc: Global, lists: &L, terms: &[u32]) -> Result<Ve
     list_reply(alloc, docs.as_slice())
 }
 
-/// The reply with the first k documents that are in the list of any of these terms, which have these weights.
+// The reply with the first k documents that are in the list of any of these terms, which have these weights.
 fn top_answer<L: TermLists>(
     alloc: Global,
     lists: &L,

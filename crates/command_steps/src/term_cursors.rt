@@ -7,7 +7,7 @@ use crate::lists::TermLists;
 use no_memory::NoMemory;
 use std::alloc::Global;
 
-/// A cursor at the start of each of these terms' lists.
+// A cursor at the start of each of these terms' lists.
 pub(crate) fn cursors_of<L: TermLists>(
     alloc: Global,
     lists: &L,

@@ -21,7 +21,7 @@ use pef_io::{IoFail, Sink, Source};
 use std::alloc::Global;
 use topk_pruning::Plan;
 
-/// The most bytes that are read at once.
+// The most bytes that are read at once.
 const PIECE: usize = 8192;
 
 /// Why a query text was not answered whole.
@@ -88,7 +88,7 @@ pub fn answer_joined<I: Source, O: Sink>(
     }
 }
 
-/// Answers the lines of the input from any lists.
+// Answers the lines of the input from any lists.
 pub(crate) fn answer_from<L: TermLists, I: Source, O: Sink>(
     alloc: Global,
     lists: &L,
@@ -105,7 +105,7 @@ pub(crate) fn answer_from<L: TermLists, I: Source, O: Sink>(
     answer_line(alloc, lists, last.as_slice(), out).map_err(out_fault)
 }
 
-/// Answers each line that a newline ends, and gives what is held of the line behind the last newline.
+// Answers each line that a newline ends, and gives what is held of the line behind the last newline.
 fn answer_ended_lines<L: TermLists, I: Source, O: Sink>(
     alloc: Global,
     lists: &L,
@@ -132,7 +132,7 @@ fn answer_ended_lines<L: TermLists, I: Source, O: Sink>(
     }
 }
 
-/// What a refusal of a read is to the text.
+// What a refusal of a read is to the text.
 fn input_fault(fail: IoFail) -> RunFault
     ensures { result ≡ input_fault fail }
 {
@@ -142,7 +142,7 @@ fn input_fault(fail: IoFail) -> RunFault
     }
 }
 
-/// What a refusal of a write is to the text.
+// What a refusal of a write is to the text.
 fn out_fault(fail: IoFail) -> RunFault
     ensures { result ≡ out_fault fail }
 {

@@ -8,10 +8,10 @@ use index_file::spell_into;
 use pef_io::{Depot, IoFail, depot_write_all};
 use std::alloc::Global;
 
-/// How many words are written at once.
+// How many words are written at once.
 const PIECE_WORDS: usize = 1024;
 
-/// How many bytes they have.
+// How many bytes they have.
 const PIECE_BYTES: usize = 8 * PIECE_WORDS;
 
 /// Writes the bytes as the file under the name. It takes no memory of its own. A file that was begun and is refused keeps what was
@@ -42,7 +42,7 @@ pub fn write_words<D: Depot>(
     depot.finish()
 }
 
-/// Room for the bytes of the words that are written at once.
+// Room for the bytes of the words that are written at once.
 fn room_for_a_piece(alloc: Global) -> Result<Vec<u8>, IoFail>
     ensures room { IfOk result (λ piece. length piece.items ≡ PIECE_BYTES) }
     ensures refused { IfErr result (λ fail. fail ≡ IoFail.NoMemory) }
@@ -50,7 +50,7 @@ fn room_for_a_piece(alloc: Global) -> Result<Vec<u8>, IoFail>
     vec![in alloc; 0; PIECE_BYTES].map_err(|_| IoFail::NoMemory)
 }
 
-/// Writes the words to the file that is being written, piece by piece.
+// Writes the words to the file that is being written, piece by piece.
 fn write_pieces<D: Depot>(words: &[u64], piece: &mut [u8], depot: &mut D) -> Result<(), IoFail>
     requires room { length piece.old ≡ PIECE_BYTES }
     requires created { IsTrue (D.state depot.old).created }

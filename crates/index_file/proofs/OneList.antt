@@ -1,6 +1,6 @@
 -- Lemmas on one list at its words.
-use Rattle.std.proofs.Common.{◌≡◌, ℕ, ◌+◌, ◌-◌, ◌^◌, ◌<◌, ◌≤◌, List, length, take, drop, refl, sym, ap, ◌∙◌, subst, arith}
-use Rattle.std.specs.Prelude.{◌∷◌, []}
+use Rattle.std.proofs.Common.{◌≡◌, ℕ, ◌+◌, ◌-◌, ◌^◌, ◌<◌, ◌≤◌, List, length, take, drop, Result, Ok, Err, refl, sym, ap, ◌∙◌, subst, arith}
+use Rattle.std.specs.Prelude.{◌∷◌, [], IfOk}
 use Rattle.std.specs.List.{All, slice_range}
 use Rattle.std.proofs.lemmas.List.{length-take-le, length-drop, take-take}
 use Rattle.std.proofs.lemmas.List.Elements.{All-nil, All-cons}
@@ -14,6 +14,7 @@ use Rattle.collection_model.proofs.Sequences.{same-steps}
 use Rattle.two_level.specs.SequenceWords.{sequence_words, BeginsSequence}
 use Rattle.two_level.specs.SequenceView.{SequenceView, words_used}
 use Rattle.two_level.specs.Laws.{OneSequence}
+use Rattle.two_level.specs.declared.checking.SeqFault.{SeqFault}
 use Rattle.two_level.specs.AtAWord.{StandsAtWord, SequenceStandsAtAWord}
 use Rattle.index_file.specs.FileWords.{CutList, doc_words, freq_words}
 use Rattle.index_file.specs.FirstBroken.{stated_documents, stated_sizes, term_word, stated_length, stated_doc_parts, stated_greatest, StatesWrongGreatest}
@@ -37,6 +38,16 @@ sequence-is words p s parts m bound used v stand small le within h =
       within = omega (arith, count, fit, le);
       passes = subst (λ n. StandsAtWord v.format words p s parts m bound n) (sym count) (stand m bound parts used p s v.values v.ends words small le h);
     }
+
+-- and so does each sequence that is found in these words
+pub found-is : {T : Type 0} (view : T → SequenceView) (format : FormatNumbers) → SequenceStandsAtAWord format → (words : List ℕ) (p s parts m bound : ℕ) (r : Result T SeqFault) → bound ≤ format.most_sum → p ≤ s → s ≤ length words
+    → IfOk r (λ w. (view w).format ≡ format) → IfOk r (λ w. (used : ℕ) × BeginsSequence format m bound parts (view w).values (view w).ends (slice_range words p s) used)
+    → IfOk r (λ w. IsSequenceAt words p s parts m bound (view w))
+found-is view format stand words p s parts m bound (Ok w) small le within e h =
+    let v : SequenceView = view w in
+    sequence-is words p s parts m bound h.0 v (subst SequenceStandsAtAWord (sym e) stand) (subst (λ x. bound ≤ x.most_sum) (sym e) small) le within
+    (subst (λ x. BeginsSequence x m bound parts v.values v.ends (slice_range words p s) h.0) (sym e) h.1)
+found-is view format stand words p s parts m bound (Err f) small le within e h = tt
 
 -- the words from p on begin with the sequence that stands there
 pub begins-at : (words : List ℕ) (p s parts m bound : ℕ) (v : SequenceView) → s ≤ length words → IsSequenceAt words p s parts m bound v

@@ -22,7 +22,7 @@ use std::sync::ledger::Ledger;
 use step_count::Steps;
 use two_level::sequence_takes_its_cost;
 
-/// The greatest number of words of a file.
+// The greatest number of words of a file.
 const MOST_WORDS: u64 = 1 << 37;
 
 /// Why there is no file.

@@ -1,4 +1,4 @@
-ghost use Rattle.std.specs.Prelude.{◌≡◌, ◌≢◌, ◌↔◌, ℕ, ◌*◌, ◌%◌, length, IfOk};
+ghost use Rattle.std.specs.Prelude.{◌≡◌, ◌≢◌, ◌↔◌, ℕ, ◌*◌, ◌%◌, ◌++◌, length, IfOk, OnOk, OnErr};
 ghost use Rattle.collection_model.specs.Bytes.{word_bytes};
 
 use byteorder::{ByteOrder, LittleEndian};
@@ -39,21 +39,36 @@ pub fn spell_into(words: &[u64], piece: &mut [u8])
     }
 }
 
+/// Appends the words of bytes, eight a word, the lowest first. Ragged is answered before memory is taken, and a refusal leaves the
+/// words as they were.
+pub fn read_words_into(bytes: &[u8], words: &mut Vec<u64>) -> Result<(), WordsError>
+    ensures words { OnOk result (word_bytes words.new.items ≡ word_bytes words.old.items ++ bytes.now) }
+    ensures whole { OnOk result (length bytes.now % 8 ≡ 0) }
+    ensures ragged { (result ≡ Err WordsError.Ragged) ↔ (length bytes.now % 8 ≢ 0) }
+    ensures refused { OnErr result (words.new.items ≡ words.old.items) }
+{
+    let (pieces, rest) = bytes.as_chunks::<8>();
+    if !rest.is_empty() {
+        return Err(WordsError::Ragged);
+    }
+    let held = words.len();
+    words
+        .resize(held + pieces.len(), 0)
+        .map_err(|_| WordsError::NoMemory)?;
+    let room = &mut words[held..];
+    for k in 0..pieces.len() {
+        room[k] = LittleEndian::read_u64(&pieces[k]);
+    }
+    Ok(())
+}
+
 /// The words of bytes, eight a word, the lowest first. Ragged is answered before memory is taken.
 pub fn read_words(alloc: Global, bytes: &[u8]) -> Result<Vec<u64>, WordsError>
     ensures words { IfOk result (λ words. bytes.now ≡ word_bytes words.items) }
     ensures whole { IfOk result (λ words. length bytes.now % 8 ≡ 0) }
     ensures ragged { (result ≡ Err WordsError.Ragged) ↔ (length bytes.now % 8 ≢ 0) }
 {
-    let (pieces, rest) = bytes.as_chunks::<8>();
-    if !rest.is_empty() {
-        return Err(WordsError::Ragged);
-    }
     let mut words = Vec::new(alloc);
-    for piece in pieces {
-        words
-            .push(LittleEndian::read_u64(piece))
-            .map_err(|_| WordsError::NoMemory)?;
-    }
+    read_words_into(bytes, &mut words)?;
     Ok(words)
 }

@@ -3,39 +3,40 @@ ghost use Rattle.part_cost.specs.declared.formats.Format.{Format};
 ghost use Rattle.part_cost.specs.Formats.{numbers_of};
 ghost use Rattle.index_file.specs.FileWords.{CutList, lists_words, IsIndex};
 ghost use Rattle.index_file.specs.FirstBroken.{stated_terms, IsFileFront, IsClosingFault, IsFirstBroken};
-ghost use Rattle.index_file.specs.ListAt.{HasFrame, IsFirstListFault, PassesClosing};
+ghost use Rattle.index_file.specs.ListAt.{HasFrame, StatesFrame, IsFirstListFault, PassesClosing};
 
 use crate::fault::OpenFault;
-use crate::frame::{WORDS_BEFORE, directory_of, format_of, frame_fault, frame_of};
+use crate::frame::{Frame, WORDS_BEFORE, directory_of, format_of, frame_fault, frame_of};
 use crate::laws::sequence_laws;
 use crate::lists::{HALF, check_list};
 use part_cost::Format;
 use two_level::Check;
 
 // Looks for the first check of the lists that breaks, and answers the word behind their sequences.
-fn check_lists(words: &[u64], format: Format) -> Result<u64, OpenFault>
+fn check_lists(words: &[u64], frame: Frame, format: Format) -> Result<u64, OpenFault>
     requires words { length words.now < 2 ^ 57 }
     requires frame { HasFrame (numbers_of format) words.now }
+    requires numbers { StatesFrame words.now frame }
     ensures ok { IfOk result (λ p. (cs : List CutList) × IsFileFront (numbers_of format) words.now cs × (length cs ≡ stated_terms words.now) × (p ≡ 2 + length (lists_words (numbers_of format) cs))) }
     ensures first { IfErr result (λ f. IsFirstListFault (numbers_of format) words.now f) }
 {
     sequence_laws();
-    let terms = frame_of(words).terms as u32;
+    let terms = frame.terms as u32;
     let mut p = WORDS_BEFORE;
     for t in 0..terms {
-        p = check_list(words, t, p, format)?;
+        p = check_list(words, frame, t, p, format)?;
     }
     Ok(p)
 }
 
 // The check behind all lists that breaks, where p is the next word.
-fn closing_fault(words: &[u64], p: u64) -> Option<OpenFault>
+fn closing_fault(words: &[u64], frame: Frame, p: u64) -> Option<OpenFault>
     requires words { length words.now < 2 ^ 57 }
     requires frame { (format : Format) × HasFrame (numbers_of format) words.now }
+    requires numbers { StatesFrame words.now frame }
     ensures some { IfSome result (λ f. IsClosingFault words.now p f) }
     ensures none { result ≡ None → PassesClosing words.now p }
 {
-    let frame = frame_of(words);
     if p != frame.sizes {
         return Some(OpenFault {
             check: Check::K6,
@@ -68,8 +69,9 @@ pub(crate) fn check_file(words: &[u64]) -> Result<(), OpenFault>
             part: 0,
         });
     }
-    let p = check_lists(words, format)?;
-    match closing_fault(words, p) {
+    let frame = frame_of(words);
+    let p = check_lists(words, frame, format)?;
+    match closing_fault(words, frame, p) {
         Some(fault) => Err(fault),
         None => Ok(()),
     }

@@ -5,7 +5,7 @@ ghost use Rattle.index_file.specs.FileWords.{sizes_words};
 use no_memory::NoMemory;
 use partition_path::Cuts;
 
-/// The bits of a word.
+// The bits of a word.
 const WORD_BITS: u64 = 64;
 
 // The word of two halves.

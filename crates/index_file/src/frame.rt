@@ -1,30 +1,31 @@
 ghost use Rattle.std.specs.Prelude.{◌≡◌, ◌≤◌, ◌<◌, ◌+◌, ◌/◌, ◌^◌, length};
 ghost use Rattle.part_cost.specs.Formats.{numbers_of};
 ghost use Rattle.index_file.specs.FileWords.{format_read};
-ghost use Rattle.index_file.specs.FirstBroken.{stated_documents, stated_terms, stated_sizes, numbers_break, frame_broken};
+ghost use Rattle.index_file.specs.FirstBroken.{numbers_break, frame_broken};
+ghost use Rattle.index_file.specs.ListAt.{StatesFrame};
 
 use part_cost::Format;
 use two_level::Check;
 
-/// The word at the beginning of a file, the bytes `PEFINDEX`.
+// The word at the beginning of a file, the bytes `PEFINDEX`.
 pub(crate) const OPENING_MAGIC: u64 = 6_360_565_151_758_173_520;
 
-/// The word at the end of a file, the bytes `XEDNIFEP`.
+// The word at the end of a file, the bytes `XEDNIFEP`.
 pub(crate) const END_MAGIC: u64 = 5_784_106_577_086_924_120;
 
-/// The greatest number of lists.
+// The greatest number of lists.
 pub(crate) const MOST_TERMS: u64 = 4_294_967_295;
 
-/// How many words stand before the lists.
+// How many words stand before the lists.
 pub(crate) const WORDS_BEFORE: u64 = 2;
 
-/// How many directory words a list has.
+// How many directory words a list has.
 pub(crate) const LIST_WORDS: u64 = 4;
 
-/// How many words stand behind the directory words.
+// How many words stand behind the directory words.
 pub(crate) const WORDS_BEHIND: u64 = 4;
 
-/// The numbers at the end of the words.
+// The numbers at the end of the words.
 #[derive(Clone, Copy)]
 pub(crate) struct Frame {
     pub(crate) documents: u64,
@@ -47,9 +48,7 @@ pub(crate) fn format_of(words: &[u64]) -> Format
 // The numbers at the end of the words.
 pub(crate) fn frame_of(words: &[u64]) -> Frame
     requires some { 4 ≤ length words.now }
-    ensures documents { result.documents ≡ stated_documents words.now }
-    ensures terms { result.terms ≡ stated_terms words.now }
-    ensures sizes { result.sizes ≡ stated_sizes words.now }
+    ensures { StatesFrame words.now result }
 {
     Frame {
         documents: words[words.len() - 4],

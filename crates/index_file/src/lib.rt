@@ -19,7 +19,7 @@ mod totals;
 mod views;
 
 pub use builder::{Builder, FinishError};
-pub use bytes::{WordsError, read_words, spell_into, spell_words};
+pub use bytes::{WordsError, read_words, read_words_into, spell_into, spell_words};
 pub use fault::OpenFault;
 pub use index::Index;
 pub use laws::{

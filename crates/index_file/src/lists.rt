@@ -5,17 +5,17 @@ ghost use Rattle.part_cost.specs.Formats.{numbers_of};
 ghost use Rattle.two_level.specs.SequenceView.{SequenceView, words_used};
 ghost use Rattle.two_level.specs.SequenceFault.{parts_fit};
 ghost use Rattle.index_file.specs.FileWords.{CutList};
-ghost use Rattle.index_file.specs.FirstBroken.{stated_terms, stated_sizes, term_word, stated_length, stated_doc_parts, stated_freq_parts, stated_greatest, cannot_begin, IsFreqsFault, IsTermFault};
-ghost use Rattle.index_file.specs.ListAt.{HasFrame, StandsAt, FreqsStandAt, word_after};
+ghost use Rattle.index_file.specs.FirstBroken.{stated_terms, stated_sizes, stated_length, stated_freq_parts, cannot_begin, IsFreqsFault, IsTermFault};
+ghost use Rattle.index_file.specs.ListAt.{HasFrame, StatesFrame, StatesList, StandsAt, FreqsStandAt, word_after};
 
 use crate::fault::OpenFault;
-use crate::frame::{Frame, LIST_WORDS, directory_of, frame_of};
-use crate::sequences::{Span, greatest_step, sequence_at};
+use crate::frame::{Frame, LIST_WORDS, directory_of};
+use crate::sequences::{Span, sequence_at, sums_at};
 use part_cost::Format;
 use postings::sequences_are_a_list;
 use two_level::{Check, SeqFault, one_sequence, parts_fit};
 
-/// A half of a word counts so many numbers.
+// A half of a word counts so many numbers.
 pub(crate) const HALF: u64 = 1 << 32;
 
 // The directory words of a list.
@@ -40,18 +40,14 @@ pub(crate) fn halves(word: u64) -> (u32, u32)
 }
 
 // The directory words of list t.
-pub(crate) fn list_entry(words: &[u64], t: u32) -> ListEntry
+pub(crate) fn list_entry(words: &[u64], frame: Frame, t: u32) -> ListEntry
     requires words { length words.now < 2 ^ 57 }
     requires frame { (format : Format) × HasFrame (numbers_of format) words.now }
+    requires numbers { StatesFrame words.now frame }
     requires within { t < stated_terms words.now }
-    ensures docs { result.docs ≡ term_word words.now t 0 }
-    ensures sums { result.sums ≡ term_word words.now t 1 }
-    ensures len { result.len ≡ stated_length words.now t }
-    ensures doc_parts { result.doc_parts ≡ stated_doc_parts words.now t }
-    ensures sum_parts { result.sum_parts ≡ stated_freq_parts words.now t }
-    ensures greatest { result.greatest ≡ stated_greatest words.now t }
+    ensures { StatesList words.now t result }
 {
-    let at = (directory_of(frame_of(words)) + LIST_WORDS * u64::from(t)) as usize;
+    let at = (directory_of(frame) + LIST_WORDS * u64::from(t)) as usize;
     let (len, doc_parts) = halves(words[at + 2]);
     let (sum_parts, greatest) = halves(words[at + 3]);
     ListEntry {
@@ -99,9 +95,18 @@ fn sums_cannot_begin(list: ListEntry, p: u64, frame: Frame, format: Format) -> b
 
 // Looks for the first check that breaks in the frequencies of list t, which are to begin at word p, and answers the word
 // behind them.
-fn check_sums(words: &[u64], t: u32, p: u64, format: Format) -> Result<u64, OpenFault>
+fn check_sums(
+    words: &[u64],
+    frame: Frame,
+    list: ListEntry,
+    t: u32,
+    p: u64,
+    format: Format,
+) -> Result<u64, OpenFault>
     requires words { length words.now < 2 ^ 57 }
     requires frame { HasFrame (numbers_of format) words.now }
+    requires numbers { StatesFrame words.now frame }
+    requires entry { StatesList words.now t list }
     requires within { t < stated_terms words.now }
     requires before { p ≤ stated_sizes words.now }
     requires fit { parts_fit (stated_length words.now t) (stated_freq_parts words.now t) ≡ true }
@@ -109,8 +114,6 @@ fn check_sums(words: &[u64], t: u32, p: u64, format: Format) -> Result<u64, Open
     ensures first { IfErr result (λ f. IsFreqsFault (numbers_of format) words.now t p f) }
 {
     one_sequence();
-    let frame = frame_of(words);
-    let list = list_entry(words, t);
     if sums_cannot_begin(list, p, frame, format) {
         return Err(OpenFault {
             check: Check::K6,
@@ -123,15 +126,8 @@ fn check_sums(words: &[u64], t: u32, p: u64, format: Format) -> Result<u64, Open
         to: frame.sizes,
     };
     let greatest = u64::from(list.greatest);
-    match sequence_at(
-        words,
-        span,
-        list.sum_parts,
-        list.len,
-        format.most_sum(),
-        format,
-    ) {
-        Ok(sums) if greatest_step(&sums.view) == greatest => Ok(p + sums.used),
+    match sums_at(words, span, list.sum_parts, list.len, format) {
+        Ok(sums) if sums.greatest == greatest => Ok(p + sums.used),
         Ok(_) => Err(OpenFault {
             check: Check::K10,
             term: t,
@@ -143,17 +139,23 @@ fn check_sums(words: &[u64], t: u32, p: u64, format: Format) -> Result<u64, Open
 
 // Looks for the first check that breaks for list t, whose sequences are to begin at word p, and answers where those of the
 // next list begin.
-pub(crate) fn check_list(words: &[u64], t: u32, p: u64, format: Format) -> Result<u64, OpenFault>
+pub(crate) fn check_list(
+    words: &[u64],
+    frame: Frame,
+    t: u32,
+    p: u64,
+    format: Format,
+) -> Result<u64, OpenFault>
     requires words { length words.now < 2 ^ 57 }
     requires frame { HasFrame (numbers_of format) words.now }
+    requires numbers { StatesFrame words.now frame }
     requires within { t < stated_terms words.now }
     requires before { p ≤ stated_sizes words.now }
     ensures ok { IfOk result (λ next. (c : CutList) × StandsAt (numbers_of format) words.now t p c × (next ≡ word_after (numbers_of format) p c)) }
     ensures first { IfErr result (λ f. IsTermFault (numbers_of format) words.now t p f) }
 {
     sequences_are_a_list();
-    let frame = frame_of(words);
-    let list = list_entry(words, t);
+    let list = list_entry(words, frame, t);
     if cannot_begin(list, p, frame, format) {
         return Err(OpenFault {
             check: Check::K6,
@@ -173,7 +175,7 @@ pub(crate) fn check_list(words: &[u64], t: u32, p: u64, format: Format) -> Resul
         frame.documents,
         format,
     ) {
-        Ok(docs) => check_sums(words, t, p + docs.used, format),
+        Ok(docs) => check_sums(words, frame, list, t, p + docs.used, format),
         Err(fault) => Err(fault_in(t, 0, fault)),
     }
 }

@@ -9,7 +9,7 @@ ghost use Rattle.two_level.specs.AtAWord.{IsFaultAt};
 ghost use Rattle.index_file.specs.ListAt.{IsSequenceAt};
 
 use part_cost::Format;
-use two_level::{Checked, SeqFault, SeqView, checks_stand_at_a_word};
+use two_level::{Checked, CheckedSteps, SeqFault, SeqView, checks_stand_at_a_word};
 
 // Where a sequence is to stand, from one word up to another.
 #[derive(Clone, Copy)]
@@ -47,6 +47,34 @@ pub(crate) fn sequence_at<'a>(
     )
 }
 
+// The sums of m frequencies in so many parts at a word, how many words they take, and the greatest frequency.
+pub(crate) fn sums_at<'a>(
+    words: &'a [u64],
+    span: Span,
+    parts: u32,
+    m: u32,
+    format: Format,
+) -> Result<CheckedSteps<'a>, SeqFault>
+    requires words { length words.now < 2 ^ 57 }
+    requires within { span.to ≤ length words.now }
+    requires fit { parts_fit m parts ≡ true }
+    requires room { span.from + entry_words (numbers_of format) * parts ≤ span.to }
+    ensures format { IfOk result (λ c. c.view.format ≡ numbers_of format) }
+    ensures ok { IfOk result (λ c. IsSequenceAt words.entry.now span.from span.to parts m (numbers_of format).most_sum c.view) }
+    ensures used { IfOk result (λ c. c.used ≡ words_used c.view) }
+    ensures step { IfOk result (λ c. c.greatest ≡ greatest (steps_from 0 c.view.values)) }
+    ensures first { IfErr result (λ f. IsFaultAt (numbers_of format) words.entry.now span.to span.from parts m (numbers_of format).most_sum f.check f.part) }
+{
+    checks_stand_at_a_word();
+    SeqView::check_steps(
+        &words[span.from as usize..span.to as usize],
+        parts,
+        m,
+        format.most_sum(),
+        format,
+    )
+}
+
 // The sequence of m values in so many parts with which the words from word p on begin.
 pub(crate) fn known_at<'a>(
     words: &'a [u64],
@@ -61,11 +89,4 @@ pub(crate) fn known_at<'a>(
     ensures same { (v : SequenceView) → v.format ≡ numbers_of format → BeginWith (drop p words.entry.now) parts m v → result ≡ v }
 {
     SeqView::known(&words[p as usize..], parts, m, format)
-}
-
-// The greatest step of a sequence.
-pub(crate) fn greatest_step(sums: &SeqView) -> u64
-    ensures { result ≡ greatest (steps_from 0 sums.now.values) }
-{
-    sums.greatest_step(0, sums.len())
 }

@@ -29,9 +29,9 @@ pub(crate) fn all_postings(words: &[u64]) -> u64
     ensures { result ≡ sum_by (stated_length words.now) (range_with_len 0 (stated_terms words.now)) }
 {
     let mut total = 0;
-    let terms = frame_of(words).terms as u32;
-    for t in 0..terms {
-        total += u64::from(list_entry(words, t).len);
+    let frame = frame_of(words);
+    for t in 0..frame.terms as u32 {
+        total += u64::from(list_entry(words, frame, t).len);
     }
     total
 }

@@ -4,6 +4,7 @@ ghost use Rattle.index_file.specs.FileWords.{IsIndexIn};
 ghost use Rattle.index_file.specs.FirstBroken.{stated_terms, stated_greatest};
 ghost use Rattle.index_file.specs.IndexView.{docs_stated, freqs_stated};
 
+use crate::frame::frame_of;
 use crate::laws::sequence_laws;
 use crate::lists::list_entry;
 use crate::sequences::known_at;
@@ -28,7 +29,7 @@ pub(crate) fn list_views<'a>(words: &'a [u64], t: u32, format: Format) -> ListVi
     ensures greatest { result.greatest ≡ stated_greatest words.entry.now t }
 {
     sequence_laws();
-    let list = list_entry(words, t);
+    let list = list_entry(words, frame_of(words), t);
     let docs = known_at(words, list.docs, list.doc_parts, list.len, format);
     let freqs = known_at(words, list.sums, list.sum_parts, list.len, format);
     ListViews {

@@ -22,7 +22,7 @@ returns-in_err-p-clause-first c =
     let r = c.loop-t.invariant in
     let laws = c.sequence_laws.ensures c.args.format in
     let same : c.check_list.result ≡ c.from_residual.result = first_of (search rules, cc) in
-    let within : c.loop-t.t < stated_terms c.args.words.now = omega (arith, c.loop-t-test.true, c.frame_of-terms.ensures.terms) in
+    let within : c.loop-t.t < stated_terms c.args.words.now = omega (arith, c.loop-t-test.true, c.requires.numbers.terms) in
     subst (λ x. IfErr x (λ f. IsFirstListFault (numbers_of c.args.format) c.args.words.now f)) same
     (IfErr-weaker c.check_list.result (λ f. IsTermFault (numbers_of c.args.format) c.args.words.now c.loop-t.t c.loop-t.p f) (λ f. IsFirstListFault (numbers_of c.args.format) c.args.words.now f)
     (λ f h. reached-fault (numbers_of c.args.format) (formats-have-room c.args.format) laws c.args.words.now c.loop-t.t c.loop-t.p r.0 f c.requires.frame within r.1 h)
@@ -31,5 +31,5 @@ returns-in_err-p-clause-first c =
 pub returns-clause-ok : goal.returns-clause-ok
 returns-clause-ok c =
     let r = c.loop-t.invariant in
-    let all : length c.loop-t.invariant.0 ≡ stated_terms c.args.words.now = omega (arith, r.1.count, c.loop-t-test.false, c.loop-t.auto.t-end, c.frame_of-terms.ensures.terms) in
+    let all : length c.loop-t.invariant.0 ≡ stated_terms c.args.words.now = omega (arith, r.1.count, c.loop-t-test.false, c.loop-t.auto.t-end, c.requires.numbers.terms) in
     (r.0, reached-front (numbers_of c.args.format) c.args.words.now c.loop-t.t c.loop-t.p r.0 c.requires.frame (omega (arith, r.1.count, all)) r.1, all, r.1.place)

@@ -15,12 +15,12 @@ returns-in-Ok-clause-ok c =
     let t = c.args.t in
     let p = c.args.p in
     let list = c.list_entry-list.result in
-    let frame = c.frame_of-frame.result in
+    let frame = c.args.frame in
     let v = c.in-Ok.docs.view in
-    let test = begin-test (numbers_of c.args.format) words t p list.docs frame.documents list.len list.doc_parts list.sum_parts frame.sizes c.cannot_begin.result false c.list_entry-list.ensures.docs c.frame_of-frame.ensures.documents
-    c.list_entry-list.ensures.len c.list_entry-list.ensures.doc_parts c.list_entry-list.ensures.sum_parts c.frame_of-frame.ensures.sizes c.cannot_begin.ensures c.if-cannot_begin.false in
+    let test = begin-test (numbers_of c.args.format) words t p list.docs frame.documents list.len list.doc_parts list.sum_parts frame.sizes c.cannot_begin.result false c.list_entry-list.ensures.docs c.requires.numbers.documents
+    c.list_entry-list.ensures.len c.list_entry-list.ensures.doc_parts c.list_entry-list.ensures.sum_parts c.requires.numbers.sizes c.cannot_begin.ensures c.if-cannot_begin.false in
     let stands = sequence-as words p frame.sizes list.doc_parts list.len frame.documents (stated_sizes words) (stated_doc_parts words t) (stated_length words t) (stated_documents words) v
-    c.frame_of-frame.ensures.sizes c.list_entry-list.ensures.doc_parts c.list_entry-list.ensures.len c.frame_of-frame.ensures.documents c.in-Ok.ensures.ok in
+    c.requires.numbers.sizes c.list_entry-list.ensures.doc_parts c.list_entry-list.ensures.len c.requires.numbers.documents c.in-Ok.ensures.ok in
     IfOk-weaker c.check_sums.result (λ behind. (w : SequenceView) × (w.format ≡ numbers_of c.args.format) × FreqsStandAt words t (p + c.in-Ok.docs.used) w × (behind ≡ p + c.in-Ok.docs.used + words_used w))
     (λ next. (x : CutList) × StandsAt (numbers_of c.args.format) words t p x × (next ≡ word_after (numbers_of c.args.format) p x))
     (λ next h.
@@ -35,12 +35,12 @@ returns-in-Ok-clause-first c =
     let t = c.args.t in
     let p = c.args.p in
     let list = c.list_entry-list.result in
-    let frame = c.frame_of-frame.result in
+    let frame = c.args.frame in
     let v = c.in-Ok.docs.view in
-    let test = begin-test (numbers_of c.args.format) words t p list.docs frame.documents list.len list.doc_parts list.sum_parts frame.sizes c.cannot_begin.result false c.list_entry-list.ensures.docs c.frame_of-frame.ensures.documents
-    c.list_entry-list.ensures.len c.list_entry-list.ensures.doc_parts c.list_entry-list.ensures.sum_parts c.frame_of-frame.ensures.sizes c.cannot_begin.ensures c.if-cannot_begin.false in
+    let test = begin-test (numbers_of c.args.format) words t p list.docs frame.documents list.len list.doc_parts list.sum_parts frame.sizes c.cannot_begin.result false c.list_entry-list.ensures.docs c.requires.numbers.documents
+    c.list_entry-list.ensures.len c.list_entry-list.ensures.doc_parts c.list_entry-list.ensures.sum_parts c.requires.numbers.sizes c.cannot_begin.ensures c.if-cannot_begin.false in
     let stands = sequence-as words p frame.sizes list.doc_parts list.len frame.documents (stated_sizes words) (stated_doc_parts words t) (stated_length words t) (stated_documents words) v
-    c.frame_of-frame.ensures.sizes c.list_entry-list.ensures.doc_parts c.list_entry-list.ensures.len c.frame_of-frame.ensures.documents c.in-Ok.ensures.ok in
+    c.requires.numbers.sizes c.list_entry-list.ensures.doc_parts c.list_entry-list.ensures.len c.requires.numbers.documents c.in-Ok.ensures.ok in
     IfErr-weaker c.check_sums.result (λ f. IsFreqsFault (numbers_of c.args.format) words t (p + c.in-Ok.docs.used) f) (λ f. IsTermFault (numbers_of c.args.format) words t p f)
     (λ f h. behind-breaks (numbers_of c.args.format) words t p v f c.in-Ok.ensures.format test stands (subst (λ k. IsFreqsFault (numbers_of c.args.format) c.args.words.now c.args.t (c.args.p + k) f) c.in-Ok.ensures.used h))
     c.check_sums.ensures.first
@@ -51,11 +51,11 @@ returns-in-Err-clause-first c =
     let t = c.args.t in
     let p = c.args.p in
     let list = c.list_entry-list.result in
-    let frame = c.frame_of-frame.result in
+    let frame = c.args.frame in
     let fault = c.in-Err.fault in
-    let test = begin-test (numbers_of c.args.format) words t p list.docs frame.documents list.len list.doc_parts list.sum_parts frame.sizes c.cannot_begin.result false c.list_entry-list.ensures.docs c.frame_of-frame.ensures.documents
-    c.list_entry-list.ensures.len c.list_entry-list.ensures.doc_parts c.list_entry-list.ensures.sum_parts c.frame_of-frame.ensures.sizes c.cannot_begin.ensures c.if-cannot_begin.false in
+    let test = begin-test (numbers_of c.args.format) words t p list.docs frame.documents list.len list.doc_parts list.sum_parts frame.sizes c.cannot_begin.result false c.list_entry-list.ensures.docs c.requires.numbers.documents
+    c.list_entry-list.ensures.len c.list_entry-list.ensures.doc_parts c.list_entry-list.ensures.sum_parts c.requires.numbers.sizes c.cannot_begin.ensures c.if-cannot_begin.false in
     docs-break (numbers_of c.args.format) words t p c.fault_in.result fault.check fault.part test
     (fault-as (numbers_of c.args.format) words p frame.sizes list.doc_parts list.len frame.documents (stated_sizes words) (stated_doc_parts words t) (stated_length words t) (stated_documents words) fault.check fault.part
-    c.frame_of-frame.ensures.sizes c.list_entry-list.ensures.doc_parts c.list_entry-list.ensures.len c.frame_of-frame.ensures.documents c.in-Err.ensures.first)
+    c.requires.numbers.sizes c.list_entry-list.ensures.doc_parts c.list_entry-list.ensures.len c.requires.numbers.documents c.in-Err.ensures.first)
     (fault-is c.fault_in.result fault.check t fault.part c.fault_in.ensures.check c.fault_in.ensures.term (omega (arith, c.fault_in.ensures.part)))

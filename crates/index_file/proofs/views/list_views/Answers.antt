@@ -6,6 +6,12 @@ use Rattle.index_file.specs.IndexView.{docs_view, freqs_view}
 use Rattle.index_file.proofs.Reading.{opened-list, has-frame, begin-as, docs-read, freqs-read}
 use Rattle.index_file.proofs.views.list_views.Goals as goal
 
+pub frame_of-requires : goal.frame_of-requires
+frame_of-requires c =
+    let i = c.requires.index in
+    let frame = has-frame (numbers_of c.args.format) c.args.words.now i.0 i.1 i.2 in
+    omega (arith, frame.some)
+
 pub list_entry-list-requires-clause-frame : goal.list_entry-list-requires-clause-frame
 list_entry-list-requires-clause-frame c = let i = c.requires.index in (c.args.format, has-frame (numbers_of c.args.format) c.args.words.now i.0 i.1 i.2)
 
