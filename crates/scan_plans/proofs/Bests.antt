@@ -8,7 +8,7 @@ use Rattle.std.proofs.lemmas.List.Elements.{All-contains, All-nil}
 use Rattle.std.proofs.lemmas.List.Sorted.{IsPermutation-reverse, IsPermutation-sym, Contains-permutation}
 use Rattle.collection_model.specs.Collection.{Posting}
 use Rattle.scan_plans.specs.Matches.{has_doc, in_any, score}
-use Rattle.scan_plans.specs.IsTop.{Before, IsTop}
+use Rattle.scan_plans.specs.IsTop.{Before, IsTop, IsTopOf}
 use Rattle.scan_plans.specs.Ranking.{Ranking, in_order, IsFirstK}
 use Rattle.scan_plans.specs.Best.{scored, pairs_of, IsBest, IsBar}
 use Rattle.scan_plans.specs.Window.{AreScored}
@@ -56,9 +56,8 @@ best-below k lists weights docs held d best below =
     let first = held-first k lists weights docs held best in
     all-contained (λ (x : Pair). x.0 < d) held (λ x c. All-contains (λ e. e < d) docs x.0 below (pairs-from lists weights docs x (All-contains (Contains (pairs_of lists weights docs)) held x first.of_them c)).0)
 
-pub best-top : (n : ℕ) (lists : List (List Posting)) (weights : List ℕ) (k : ℕ) (held : List Pair) → IsBest k lists weights (in_any n lists) held → IsTop n lists weights k held
-best-top n lists weights k held best =
-    let docs : List ℕ = in_any n lists in
+pub best-of : (docs : List ℕ) (lists : List (List Posting)) (weights : List ℕ) (k : ℕ) (held : List Pair) → IsBest k lists weights docs held → IsTopOf docs lists weights k held
+best-of docs lists weights k held best =
     let first = held-first k lists weights docs held best in
     let of : (x : Pair) → Contains held x → Contains docs x.0 × (x.1 ≡ score lists weights x.0) = λ x c. pairs-from lists weights docs x (All-contains (Contains (pairs_of lists weights docs)) held x first.of_them c) in
     record {
@@ -68,6 +67,9 @@ best-top n lists weights k held best =
       count = first.count ∙ ap (min k) (length-map (reverse docs) (scored lists weights) ∙ length-reverse docs);
       others_after = λ d c absent. first.others_after (scored lists weights d) (pairs-to lists weights docs d c) (λ h. absent (contains-map (λ (e : Pair). e.0) held (scored lists weights d) h));
     }
+
+pub best-top : (n : ℕ) (lists : List (List Posting)) (weights : List ℕ) (k : ℕ) (held : List Pair) → IsBest k lists weights (in_any n lists) held → IsTop n lists weights k held
+best-top n lists weights k held best = best-of (in_any n lists) lists weights k held best
 
 pub top-of-none : (n : ℕ) (lists : List (List Posting)) (weights : List ℕ) → IsTop n lists weights 0 []
 top-of-none n lists weights = record {
@@ -79,8 +81,8 @@ top-of-none n lists weights = record {
 }
 
 -- a top list is the first of the documents with their scores
-top-first : (n : ℕ) (lists : List (List Posting)) (weights : List ℕ) (k : ℕ) (r : List Pair) → IsTop n lists weights k r → IsFirstOf (λ (x : Pair). Contains (in_any n lists) x.0 × (x.1 ≡ score lists weights x.0)) r
-top-first n lists weights k r top = record {
+top-first : (docs : List ℕ) (lists : List (List Posting)) (weights : List ℕ) (k : ℕ) (r : List Pair) → IsTopOf docs lists weights k r → IsFirstOf (λ (x : Pair). Contains docs x.0 × (x.1 ≡ score lists weights x.0)) r
+top-first docs lists weights k r top = record {
   ordered = top.ordered;
   among = λ i d within. (top.found i d within, top.scored i d within);
   after = λ x is absent.
@@ -91,8 +93,11 @@ top-first n lists weights k r top = record {
       absent (subst (Contains r) (same-pair found.0 x found.2 (score_of ∙ ap (score lists weights) found.2 ∙ sym is.1)) found.1)));
 }
 
+pub one-of : (docs : List ℕ) (lists : List (List Posting)) (weights : List ℕ) (k : ℕ) (r s : List Pair) → IsTopOf docs lists weights k r → IsTopOf docs lists weights k s → r ≡ s
+one-of docs lists weights k r s t u = first-one (λ (x : Pair). Contains docs x.0 × (x.1 ≡ score lists weights x.0)) r s (t.count ∙ sym u.count) (top-first docs lists weights k r t) (top-first docs lists weights k s u)
+
 pub top-one : (n : ℕ) (lists : List (List Posting)) (weights : List ℕ) (k : ℕ) (r s : List Pair) → IsTop n lists weights k r → IsTop n lists weights k s → r ≡ s
-top-one n lists weights k r s t u = first-one (λ (x : Pair). Contains (in_any n lists) x.0 × (x.1 ≡ score lists weights x.0)) r s (t.count ∙ sym u.count) (top-first n lists weights k r t) (top-first n lists weights k s u)
+top-one n lists weights k r s t u = one-of (in_any n lists) lists weights k r s t u
 
 -- the documents found so far are below the next one
 pub any-below : (low d : ℕ) (lists : List (List Posting)) → low ≤ d → All (λ e. e < d) (in_any low lists)

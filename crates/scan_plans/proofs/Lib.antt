@@ -15,3 +15,4 @@ mod Skipping
 mod Candidates
 mod Shared
 mod Few
+mod Floors

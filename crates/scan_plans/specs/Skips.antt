@@ -4,29 +4,33 @@ use Rattle.std.specs.List.{All, list_any}
 use Rattle.collection_model.specs.Collection.{Posting, freqs_of}
 use Rattle.cursor_api.specs.NextGeq.{IsCursorAt, next_geq_place}
 use Rattle.scan_plans.specs.Matches.{AreBelow, has_doc, freq_of_doc, score}
-use Rattle.scan_plans.specs.IsTop.{IsTop}
+use Rattle.scan_plans.specs.IsTop.{IsTopFrom}
 use Rattle.scan_plans.specs.Ranking.{IsFirstK}
 use Rattle.scan_plans.specs.Scan.{doc_at, StandsFrom, HasPassed}
 
--- a document that would not be held after those before it: no list has it, or k are held and none of them has a lower score
-abbrev pub CannotEnter : List (List Posting) → List ℕ → ℕ → List (ℕ × ℕ) → ℕ → Type 0
-CannotEnter lists weights k held d = (list_any (has_doc d) lists ≡ false) ⊎ ((length held ≡ k) × All (λ e. score lists weights d ≤ e.1) held)
+-- a score with which a later document would not be held: it is below the floor, or k are held and none of them has a lower one
+abbrev pub IsBarred : ℕ → ℕ → List (ℕ × ℕ) → ℕ → Type 0
+IsBarred floor k held s = (s < floor) ⊎ ((length held ≡ k) × All (λ e. s ≤ e.1) held)
+
+-- a document that would not be held after those before it: no list has it, or its score is barred
+abbrev pub CannotEnter : List (List Posting) → List ℕ → ℕ → ℕ → List (ℕ × ℕ) → ℕ → Type 0
+CannotEnter lists weights floor k held d = (list_any (has_doc d) lists ≡ false) ⊎ IsBarred floor k held (score lists weights d)
 
 -- Before the first document nothing is held.
 abbrev pub TopOfNone : Type 0
-TopOfNone = (lists : List (List Posting)) (weights : List ℕ) (k : ℕ) → IsTop 0 lists weights k []
+TopOfNone = (floor : ℕ) (lists : List (List Posting)) (weights : List ℕ) (k : ℕ) → IsTopFrom floor 0 lists weights k []
 
--- The first k of what is held and the next document are the top list up to that document.
+-- The first k of what is held and the next document, whose score reaches the floor, are the top list up to that document.
 abbrev pub TopAfterOffer : Type 0
-TopAfterOffer = (d : ℕ) (lists : List (List Posting)) (weights : List ℕ) (k : ℕ) (held new : List (ℕ × ℕ)) → IsTop d lists weights k held → list_any (has_doc d) lists ≡ true → IsFirstK k ((d, score lists weights d) ∷ held) new → IsTop (d + 1) lists weights k new
+TopAfterOffer = (floor d : ℕ) (lists : List (List Posting)) (weights : List ℕ) (k : ℕ) (held new : List (ℕ × ℕ)) → IsTopFrom floor d lists weights k held → list_any (has_doc d) lists ≡ true → floor ≤ score lists weights d → IsFirstK k ((d, score lists weights d) ∷ held) new → IsTopFrom floor (d + 1) lists weights k new
 
 -- Documents that cannot enter are skipped, and the top list stays.
 abbrev pub TopAfterSkips : Type 0
-TopAfterSkips = (low high : ℕ) (lists : List (List Posting)) (weights : List ℕ) (k : ℕ) (held : List (ℕ × ℕ)) → low ≤ high → ((d : ℕ) → low ≤ d → d < high → CannotEnter lists weights k held d) → IsTop low lists weights k held → IsTop high lists weights k held
+TopAfterSkips = (floor low high : ℕ) (lists : List (List Posting)) (weights : List ℕ) (k : ℕ) (held : List (ℕ × ℕ)) → low ≤ high → ((d : ℕ) → low ≤ d → d < high → CannotEnter lists weights floor k held d) → IsTopFrom floor low lists weights k held → IsTopFrom floor high lists weights k held
 
 -- What is held are documents that were passed.
 abbrev pub TopIsBelow : Type 0
-TopIsBelow = (n : ℕ) (lists : List (List Posting)) (weights : List ℕ) (k : ℕ) (held : List (ℕ × ℕ)) → IsTop n lists weights k held → All (λ e. e.0 < n) held
+TopIsBelow = (floor n : ℕ) (lists : List (List Posting)) (weights : List ℕ) (k : ℕ) (held : List (ℕ × ℕ)) → IsTopFrom floor n lists weights k held → All (λ e. e.0 < n) held
 
 -- A document that one of the lists has is below n.
 abbrev pub HasOnlyBelow : Type 0

@@ -12,6 +12,9 @@ use cursor_api::{DocCursor, next_geq_is_first};
 use no_memory::NoMemory;
 use std::alloc::Global;
 
+// How many documents room is taken for at first, at most.
+const FIRST_ROOM: usize = 64;
+
 /// The documents that are in all the lists, rising; none where there is no list. It goes along the shortest list, whose documents
 /// the others are asked for by `next_geq`, and leaves the cursors in the order of their lists' lengths.
 pub fn and_docs<C: DocCursor>(alloc: Global, cursors: &mut [C]) -> Result<Vec<u32>, NoMemory>
@@ -37,7 +40,7 @@ fn shared_docs<C: DocCursor>(
     ensures { (n : ℕ) → AreBelow n (C.list shortest.old ∷ map C.list others.old) → IfOk result (λ r. r.items ≡ in_all n (C.list shortest.old ∷ map C.list others.old)) }
 {
     next_geq_is_first();
-    let mut docs = Vec::new(alloc);
+    let mut docs = Vec::with_capacity(alloc, FIRST_ROOM.min(shortest.len() as usize))?;
     while let Some(doc) = shortest.doc() {
         let Some(next) = catch_up(others, doc) else {
             return Ok(docs);

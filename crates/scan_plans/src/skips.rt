@@ -4,7 +4,8 @@ ghost use Rattle.scan_plans.specs.Skips.{HasWhereItStands, HasNotWhereItStands, 
 
 use cursor_api::next_geq_is_first;
 
-/// A top list is made document after document: each is offered in turn, or skipped where it cannot enter.
+/// The top list of the documents from a floor on is made document after document: each is offered in turn, or skipped where it cannot
+/// enter. With the floor 0 they are all documents.
 pub fn top_list_grows()
     ensures none { TopOfNone }
     ensures offered { TopAfterOffer }

@@ -45,11 +45,18 @@ pub fn top_exhaustive<C: DocCursor>(
 pub fn most_found<C: DocCursor>(cursors: &[C], k: u32) -> u32
     ensures { result ≡ min k (sum_by length (map C.list cursors.now)) }
 {
+    count_postings(cursors).min(u64::from(k)) as u32
+}
+
+/// How many postings the lists of some cursors have together, as far as a u64 counts.
+pub fn count_postings<C: DocCursor>(cursors: &[C]) -> u64
+    ensures { result ≡ min (sum_by length (map C.list cursors.now)) 18446744073709551615 }
+{
     let mut postings: u64 = 0;
     for cursor in cursors {
         postings = postings.saturating_add(u64::from(cursor.len()));
     }
-    postings.min(u64::from(k)) as u32
+    postings
 }
 
 // The same with room for k documents.

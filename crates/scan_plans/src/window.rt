@@ -13,7 +13,7 @@ use std::alloc::Global;
 // How many words mark the documents of a window that are scored, where there are so many: their scores take 64 KiB.
 const SCORED_WORDS: usize = 128;
 
-/// How many words mark the documents of a window of which no scores are wanted: it has 65,536 documents.
+// How many words mark the documents of a window of which no scores are wanted: it has 65,536 documents.
 pub(crate) const MARKED_WORDS: usize = 1024;
 
 // How many postings are read at once.
@@ -140,8 +140,8 @@ pub fn add_list<C: DocCursor>(
     reached
 }
 
-/// Scores and marks the documents of a window from `first` on that any of the lists has, and moves the cursors behind it. A score is
-/// below 2^58. It tells how many of the window's places were reached: from there on none is marked.
+// Scores and marks the documents of a window from `first` on that any of the lists has, and moves the cursors behind it. A score is
+// below 2^58. It tells how many of the window's places were reached: from there on none is marked.
 pub(crate) fn add_lists<C: DocCursor>(
     cursors: &mut [C],
     weights: &[u32],
@@ -275,8 +275,8 @@ fn mark_list<C: DocCursor>(
     reached
 }
 
-/// Marks the documents of a window from `first` on that any of the lists has, and moves the cursors behind it. It tells how many of
-/// the window's places were reached: from there on none is marked.
+// Marks the documents of a window from `first` on that any of the lists has, and moves the cursors behind it. It tells how many of
+// the window's places were reached: from there on none is marked.
 pub(crate) fn mark_lists<C: DocCursor>(
     cursors: &mut [C],
     first: u32,

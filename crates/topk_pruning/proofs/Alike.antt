@@ -85,8 +85,8 @@ alike-apart terms others alike apart i j d lt within =
 pub all-alike : (lists : List (List Posting)) (weights : List ℕ) (terms others : List Term) → AreAlike terms others → AreAllTerms lists weights terms → AreAllTerms lists weights others
 all-alike lists weights terms others alike all = record { each = all.each; all = IsPermutation-trans _ (keys terms) (keys others) all.all alike }
 
-pub follows-alike : (lists : List (List Posting)) (terms others : List Term) (k from to : ℕ) (held new : List (ℕ × ℕ)) → AreAlike terms others → FollowsTo lists others k from to held new → FollowsTo lists terms k from to held new
-follows-alike lists terms others k from to held new alike follows weights all top = follows weights (all-alike lists weights terms others alike all) top
+pub follows-alike : (lists : List (List Posting)) (terms others : List Term) (floor k from to : ℕ) (held new : List (ℕ × ℕ)) → AreAlike terms others → FollowsTo lists others floor k from to held new → FollowsTo lists terms floor k from to held new
+follows-alike lists terms others floor k from to held new alike follows weights all top = follows weights (all-alike lists weights terms others alike all) top
 
 -- ---- terms with bounds for a stretch of documents
 pub in-moved : (lists : List (List Posting)) (from to : ℕ) (terms others : List Term) → IsPermutation terms others → AreTermsIn lists from to terms → AreTermsIn lists from to others

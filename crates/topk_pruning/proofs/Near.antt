@@ -9,10 +9,11 @@ use Rattle.std.proofs.lemmas.List.Sorted.{IsPermutation-refl, sum_by-IsPermutati
 use Rattle.std.proofs.lemmas.List.Sums.{sum_by_more, sum_by_push, sum_by-drop_more, sum_by-take-drop}
 use Rattle.collection_model.specs.Collection.{Posting, greatest_freq}
 use Rattle.scan_plans.specs.Matches.{freq_of_doc}
-use Rattle.scan_plans.specs.Skips.{TopAfterSkips}
+use Rattle.scan_plans.specs.Skips.{IsBarred, TopAfterSkips}
 use Rattle.topk_pruning.specs.declared.term.Term.{Term}
 use Rattle.topk_pruning.specs.Terms.{list_of, share, bounds, keys, AreAlike, AreTerms, AreTermsIn, AreNear, AreSpared, FollowsTo}
 use Rattle.topk_pruning.proofs.Alike.{key, alike-all}
+use Rattle.topk_pruning.proofs.Bars.{barred-lower}
 use Rattle.topk_pruning.proofs.Scores.{share-within, spared-cannot}
 
 -- what a term adds is no more than its weight times a ceiling, and no more than its bound
@@ -92,20 +93,20 @@ swapped-less xs ys i j each le within swapped moved =
     omega arith
 
 -- more terms are essential, and the bounds of the others are no greater
-pub spared-less : (old new : List Term) (few many k : ℕ) (held : List (ℕ × ℕ)) → length new ≡ length old → few ≤ many → many ≤ length new → bounds (drop many new) ≤ bounds (drop few old) → AreSpared k held old few → AreSpared k held new many
-spared-less old new few many k held each le within less so_far = record {
+pub spared-less : (old new : List Term) (few many floor k : ℕ) (held : List (ℕ × ℕ)) → length new ≡ length old → few ≤ many → many ≤ length new → bounds (drop many new) ≤ bounds (drop few old) → AreSpared floor k held old few → AreSpared floor k held new many
+spared-less old new few many floor k held each le within less so_far = record {
   within = within;
-  spared = elim so_far.spared as (λ _. (many ≡ length new) ⊎ ((length held ≡ k) × All (λ e. bounds (drop many new) ≤ e.1) held)) [
+  spared = elim so_far.spared as (λ _. (many ≡ length new) ⊎ IsBarred floor k held (bounds (drop many new))) [
     | inl whole ↦ inl (omega arith)
-    | inr full ↦ inr (full.0, λ i e inside. let h = full.1 i e inside in omega arith)
+    | inr full ↦ inr (barred-lower floor k held (bounds (drop few old)) (bounds (drop many new)) less full)
   ];
 }
 
 -- ---- no term is essential
 -- documents of which none can be held are passed over
-pub follows-none : TopAfterSkips → (lists : List (List Posting)) (terms : List Term) (k from to essential : ℕ) (held : List (ℕ × ℕ)) → from ≤ to → AreTermsIn lists from to terms → essential ≡ 0 → AreSpared k held terms essential → FollowsTo lists terms k from to held held
-follows-none skips lists terms k from to essential held le are none spared weights all top =
-    skips from to lists weights k held le (λ d after before. spared-cannot lists weights terms k 0 d held all (are.bounded d after before) (subst (AreSpared k held terms) none spared) refl) top
+pub follows-none : TopAfterSkips → (lists : List (List Posting)) (terms : List Term) (floor k from to essential : ℕ) (held : List (ℕ × ℕ)) → from ≤ to → AreTermsIn lists from to terms → essential ≡ 0 → AreSpared floor k held terms essential → FollowsTo lists terms floor k from to held held
+follows-none skips lists terms floor k from to essential held le are none spared weights all top =
+    skips floor from to lists weights k held le (λ d after before. spared-cannot lists weights terms floor k 0 d held all (are.bounded d after before) (subst (AreSpared floor k held terms) none spared) refl) top
 
 -- ---- a list whose front was lent
 pub written-back : {X : Type 0} (len : ℕ) (new old : List X) → len ≡ length old → length new ≡ length old → take len (new ++ drop (length new) old) ≡ new

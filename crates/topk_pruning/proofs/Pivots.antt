@@ -1,21 +1,17 @@
 -- Lemmas on one step from pivot to pivot.
-use Rattle.std.proofs.Common.{◌≡◌, refl, sym, subst, ℕ, ◌+◌, ◌*◌, ◌<◌, ◌≤◌, List, ◌++◌, take, drop, length, Option, Some, None, arith}
+use Rattle.std.proofs.Common.{◌≡◌, refl, sym, subst, ℕ, ◌+◌, ◌*◌, ◌<◌, ◌≤◌, false, List, ◌++◌, take, drop, length, Option, Some, None, arith}
 use Rattle.std.specs.List.{All}
-use Rattle.std.specs.Option.{IfSome}
 use Rattle.std.proofs.lemmas.List.{length-map, drop_at}
 use Rattle.std.proofs.lemmas.List.Elements.{All-drop}
 use Rattle.std.proofs.lemmas.List.Sums.{sum_by-append}
 use Rattle.collection_model.specs.Collection.{Posting, greatest_freq}
-use Rattle.scan_plans.specs.Matches.{AreBelow}
-use Rattle.scan_plans.specs.IsTop.{IsTop}
-use Rattle.scan_plans.specs.Ranking.{IsLeastScore}
-use Rattle.scan_plans.specs.Skips.{TopAfterSkips, TopIsBelow, HasOnlyBelow}
+use Rattle.scan_plans.specs.Skips.{IsBarred}
 use Rattle.topk_pruning.specs.declared.term.Term.{Term}
 use Rattle.topk_pruning.specs.declared.order.Standing.{Standing}
-use Rattle.topk_pruning.specs.Terms.{list_of, AreTerms, AreAllTerms, IsFirstDoc}
+use Rattle.topk_pruning.specs.Terms.{list_of, beats, AreTerms, IsFirstDoc, IsNextDoc}
 use Rattle.topk_pruning.specs.Order.{terms_at, IsFalling, IsOrder, IsPivot}
-use Rattle.topk_pruning.proofs.Tops.{next-step, last-step, essential-spared}
-use Rattle.topk_pruning.proofs.Orders.{all-of, all-again, are-again, spared-order, pivot-first, no-pivot}
+use Rattle.topk_pruning.proofs.Tops.{next-of_first, essential-spared}
+use Rattle.topk_pruning.proofs.Orders.{all-of, are-again, spared-order, pivot-first, no-pivot}
 
 -- those that stand are some of the terms
 pub standing-are : (lists : List (List Posting)) (terms : List Term) (from : ℕ) (order : List Standing) → IsOrder lists terms from order → AreTerms lists terms → AreTerms lists (terms_at order)
@@ -37,32 +33,22 @@ pub caught-order : (now lists : List (List Posting)) (terms : List Term) (from :
 caught-order now lists terms from old new same caught is =
     subst (λ (ls : List (List Posting)). IsOrder ls terms from new) same (caught terms (subst (λ (ls : List (List Posting)). IsOrder ls terms from old) (sym same) is))
 
--- what is known at the document of a pivot
-pub record AtPivot (n : ℕ) (lists : List (List Posting)) (weights : List ℕ) (k from doc : ℕ) (held : List (ℕ × ℕ)) : Type 0 where
-  pub later : from ≤ doc
-  pub in_range : doc < n
-  pub top : IsTop doc lists weights k held
-  pub above : All (λ e. e.0 < doc) held
-
--- documents before the pivot's are skipped
-pub pivot-step : TopAfterSkips → TopIsBelow → HasOnlyBelow → (n : ℕ) (lists : List (List Posting)) (weights : List ℕ) (terms : List Term) (k from doc : ℕ) (order : List Standing) (o : Option ℕ) (held : List (ℕ × ℕ)) → AreBelow n lists → AreAllTerms lists weights terms → AreTerms lists terms
-    → IsOrder lists terms from order → IsFalling order → All (λ s. from ≤ s.doc) order → IfSome o (λ s. length held ≡ k) → IfSome o (IsLeastScore held) → IsPivot order o (Some doc) → IsTop from lists weights k held → AtPivot n lists weights k from doc held
-pivot-step skips is_below only n lists weights terms k from doc order o held below all are is falls caught full least pivot top =
-    let ts : List Term = terms_at order in
+-- the document of a pivot is the next that can be held
+pub pivot-step : (lists : List (List Posting)) (terms : List Term) (floor k from doc : ℕ) (order : List Standing) (o : Option ℕ) (held : List (ℕ × ℕ)) → AreTerms lists terms
+    → (is : IsOrder lists terms from order) → IsFalling order → All (λ s. from ≤ s.doc) order → ((s : ℕ) → beats o s ≡ false → IsBarred floor k held s) → IsPivot order o (Some doc) → IsNextDoc lists (all-of lists terms from order is) floor k held from (Some doc)
+pivot-step lists terms floor k from doc order o held are is falls caught bars pivot =
     let within = pivot.essential.within in
     let l = length-map order (λ (s : Standing). s.term) in
-    let step = next-step skips is_below only n lists weights (all-of lists terms from order is) k from doc (length is.ended + pivot.count) held below (all-again lists weights terms from order is all) (are-again lists terms from order is are)
-    (spared-order lists terms from k pivot.count order held is (essential-spared ts o pivot.count k held pivot.essential full least)) top
-    (pivot-first lists terms from pivot.count doc order is falls caught (omega arith) pivot.at) in
-    record { later = step.later; in_range = step.in_range; top = step.top; above = step.above }
+    next-of_first lists (all-of lists terms from order is) floor k (length is.ended + pivot.count) from held (Some doc) (are-again lists terms from order is are)
+    (spared-order lists terms from floor k pivot.count order held is (essential-spared (terms_at order) o pivot.count floor k held pivot.essential bars))
+    (pivot-first lists terms from pivot.count doc order is falls caught (omega arith) pivot.at)
 
--- there is no pivot: all other documents are skipped
-pub pivot-end : TopAfterSkips → (n : ℕ) (lists : List (List Posting)) (weights : List ℕ) (terms : List Term) (k from : ℕ) (order : List Standing) (o : Option ℕ) (held : List (ℕ × ℕ)) → AreAllTerms lists weights terms → AreTerms lists terms → IsOrder lists terms from order
-    → IfSome o (λ s. length held ≡ k) → IfSome o (IsLeastScore held) → IsPivot order o None → from ≤ n → IsTop from lists weights k held → IsTop n lists weights k held
-pivot-end skips n lists weights terms k from order o held all are is full least pivot le top =
-    let ts : List Term = terms_at order in
+-- where there is no pivot, none is left
+pub pivot-end : (lists : List (List Posting)) (terms : List Term) (floor k from : ℕ) (order : List Standing) (o : Option ℕ) (held : List (ℕ × ℕ)) → AreTerms lists terms
+    → (is : IsOrder lists terms from order) → ((s : ℕ) → beats o s ≡ false → IsBarred floor k held s) → IsPivot order o None → IsNextDoc lists (all-of lists terms from order is) floor k held from None
+pivot-end lists terms floor k from order o held are is bars pivot =
     let every : List Term = all-of lists terms from order is in
     let none : pivot.count ≡ 0 = pivot.none in
-    last-step skips n lists weights every k from (length is.ended + pivot.count) held (all-again lists weights terms from order is all) (are-again lists terms from order is are)
-    (spared-order lists terms from k pivot.count order held is (essential-spared ts o pivot.count k held pivot.essential full least)) le top
+    next-of_first lists every floor k (length is.ended + pivot.count) from held None (are-again lists terms from order is are)
+    (spared-order lists terms from floor k pivot.count order held is (essential-spared (terms_at order) o pivot.count floor k held pivot.essential bars))
     (subst (λ (count : ℕ). IsFirstDoc lists (take (length is.ended + count) every) from None) (sym none) (no-pivot lists terms from order is))

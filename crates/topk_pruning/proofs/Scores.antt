@@ -3,7 +3,7 @@ use Rattle.std.proofs.Common.{◌≡◌, refl, sym, ap, inl, inr, ◌∙◌, ℕ
 use Rattle.std.specs.Prelude.{◌||◌}
 use Rattle.std.specs.List.{All, sum_by, list_any, find, range_with_len, zip}
 use Rattle.std.specs.List.Sorted.{IsPermutation}
-use Rattle.std.specs.Option.{option_map, unwrap_or, IfSome}
+use Rattle.std.specs.Option.{option_map, unwrap_or}
 use Rattle.std.proofs.lemmas.Bool.{cases_Bool, false≢true, ltb-false, le-ltb}
 use Rattle.std.proofs.lemmas.List.{take_all}
 use Rattle.std.proofs.lemmas.Nat.{mul-le}
@@ -15,11 +15,11 @@ use Rattle.std.proofs.lemmas.List.Sums.{sum_by-cons, sum_by-take-drop}
 use Rattle.std.proofs.lemmas.Slice.Zip.{length-zip, get_or-zip}
 use Rattle.collection_model.specs.Collection.{Posting, greatest_freq}
 use Rattle.scan_plans.specs.Matches.{has_doc, freq_of_doc, score}
-use Rattle.scan_plans.specs.Ranking.{IsLeastScore}
-use Rattle.scan_plans.specs.Skips.{CannotEnter}
+use Rattle.scan_plans.specs.Skips.{IsBarred, CannotEnter}
 use Rattle.topk_pruning.specs.declared.term.Term.{Term}
 use Rattle.topk_pruning.specs.Terms.{term_of, terms_of, list_of, share, score_in, in_lists, bounds, beats, AreTerms, AreAllTerms, AreSpared}
 use Rattle.topk_pruning.proofs.Alike.{alike-moved, alike-score, alike-any}
+use Rattle.topk_pruning.proofs.Bars.{barred-lower}
 
 -- ---- one list
 absent-step : (b : Bool) (p : Posting) (l : List Posting) (d : ℕ) → (b || has_doc d l) ≡ false → (has_doc d l ≡ false → freq_of_doc d l ≡ 0) → unwrap_or (option_map (λ p. p.freq) (cond b (Some p) (find (λ p. eqb p.doc d) l))) 0 ≡ 0
@@ -142,25 +142,20 @@ few-bound lists d count terms bounded none =
     let whole = sum_by-take-drop (share lists d) terms count in
     omega arith
 
--- k are held and none has a lower score, where a score does not beat the least
-pub not-beaten : (o : Option ℕ) (k score : ℕ) (held : List (ℕ × ℕ)) → IfSome o (λ s. length held ≡ k) → IfSome o (IsLeastScore held) → beats o score ≡ false → (length held ≡ k) × All (λ e. score ≤ e.1) held
-not-beaten None k score held full least is = cc
-not-beaten (Some s) k score held full least is = let below : score ≤ s = ltb-false s score is in (full, λ i d within. let above : s ≤ (get_or held i d).1 = least.none_less i d within in omega arith)
-
 -- a lower score does not beat it either
 pub beats-lower : (o : Option ℕ) (low high : ℕ) → low ≤ high → beats o high ≡ false → beats o low ≡ false
 beats-lower None low high le is = is
 beats-lower (Some s) low high le is = let below : high ≤ s = ltb-false s high is in le-ltb s low (omega arith)
 
 -- a document that no essential term's list has cannot enter
-pub spared-cannot : (lists : List (List Posting)) (weights : List ℕ) (terms : List Term) (k essential d : ℕ) (held : List (ℕ × ℕ)) → AreAllTerms lists weights terms → All (λ t. share lists d t ≤ t.bound) terms → AreSpared k held terms essential → in_lists lists d (take essential terms) ≡ false → CannotEnter lists weights k held d
-spared-cannot lists weights terms k essential d held all bounded so none = elim so.spared as (λ _. CannotEnter lists weights k held d) [
+pub spared-cannot : (lists : List (List Posting)) (weights : List ℕ) (terms : List Term) (floor k essential d : ℕ) (held : List (ℕ × ℕ)) → AreAllTerms lists weights terms → All (λ t. share lists d t ≤ t.bound) terms → AreSpared floor k held terms essential → in_lists lists d (take essential terms) ≡ false → CannotEnter lists weights floor k held d
+spared-cannot lists weights terms floor k essential d held all bounded so none = elim so.spared as (λ _. CannotEnter lists weights floor k held d) [
   | inl whole ↦ (let same : take essential terms ≡ terms = take_all essential terms (omega arith) in inl (any-is lists weights terms d all ∙ ap (in_lists lists d) (sym same) ∙ none))
   | inr full ↦ (let le = few-bound lists d essential terms bounded none in
       let is = score-is lists weights terms d all in
-      inr (full.0, λ i e within. let h = full.1 i e within in omega arith))
+      inr (barred-lower floor k held (bounds (drop essential terms)) (score lists weights d) (omega arith) full))
 ]
 
--- a document whose score does not beat the least cannot either
-pub beaten-cannot : (lists : List (List Posting)) (weights : List ℕ) (terms : List Term) (k d : ℕ) (o : Option ℕ) (held : List (ℕ × ℕ)) → AreAllTerms lists weights terms → IfSome o (λ s. length held ≡ k) → IfSome o (IsLeastScore held) → beats o (score_in lists d terms) ≡ false → CannotEnter lists weights k held d
-beaten-cannot lists weights terms k d o held all full least is = inr (not-beaten o k (score lists weights d) held full least (ap (beats o) (score-is lists weights terms d all) ∙ is))
+-- a document whose score does not beat the bar cannot either
+pub beaten-cannot : (lists : List (List Posting)) (weights : List ℕ) (terms : List Term) (floor k d : ℕ) (o : Option ℕ) (held : List (ℕ × ℕ)) → AreAllTerms lists weights terms → ((s : ℕ) → beats o s ≡ false → IsBarred floor k held s) → beats o (score_in lists d terms) ≡ false → CannotEnter lists weights floor k held d
+beaten-cannot lists weights terms floor k d o held all bars is = inr (bars (score lists weights d) (ap (beats o) (score-is lists weights terms d all) ∙ is))

@@ -12,10 +12,10 @@ use Rattle.std.proofs.lemmas.List.Sorted.{All-permutation}
 use Rattle.std.proofs.lemmas.List.Sums.{get_or-le-sum_by, sum_by-take-drop}
 use Rattle.collection_model.specs.Collection.{Posting}
 use Rattle.scan_plans.specs.Matches.{has_doc}
-use Rattle.scan_plans.specs.IsTop.{IsTop}
-use Rattle.scan_plans.specs.Ranking.{IsFirstK, IsLeastScore}
+use Rattle.scan_plans.specs.IsTop.{IsTopFrom}
+use Rattle.scan_plans.specs.Ranking.{IsFirstK}
 use Rattle.scan_plans.specs.Scan.{HasPassed}
-use Rattle.scan_plans.specs.Skips.{CannotEnter, TopAfterOffer, TopAfterSkips}
+use Rattle.scan_plans.specs.Skips.{IsBarred, CannotEnter, TopAfterOffer, TopAfterSkips}
 use Rattle.scan_plans.specs.Window.{is_marked, IsFirstCandidate, NoneIsCandidate, AreTakenBack}
 use Rattle.topk_pruning.specs.declared.term.Term.{Term}
 use Rattle.topk_pruning.specs.Terms.{term_of, terms_of, list_of, share, score_in, in_lists, bounds, beats, AreApart, AreBefore, AreKept, AreTermsIn, AreQueryTerms, AreAllTerms, AreSpared, Considers, FollowsTo}
@@ -44,6 +44,15 @@ terms-small lists weights terms each light moved =
     let at = get_or-range_with_len 0 n k d (omega arith) in
     let le = get_or-le-sum_by (λ (w : ℕ). w) weights (get_or (range_with_len 0 n) k d) 0 (omega arith) in
     omega arith))
+
+pub terms-weighty : (lists : List (List Posting)) (weights : List ℕ) (terms : List Term) → length weights ≡ length lists → All (λ w. 1 ≤ w) weights → IsPermutation (terms_of lists weights) terms → All (λ t. 1 ≤ t.weight) terms
+terms-weighty lists weights terms each some moved =
+    let Weighty : Term → Type 0 = λ t. 1 ≤ t.weight in
+    let n : ℕ = length lists in
+    All-permutation Weighty (terms_of lists weights) terms moved (All-map Weighty (term_of lists weights) (range_with_len 0 n) (λ k d within.
+    let l = length-range_with_len 0 n in
+    let at = get_or-range_with_len 0 n k d (omega arith) in
+    some (get_or (range_with_len 0 n) k d) 0 (omega arith)))
 
 -- all that is known of them
 pub query-terms : (lists : List (List Posting)) (weights : List ℕ) (terms : List Term) → length weights ≡ length lists → sum weights < 2 ^ 26 → IsPermutation (terms_of lists weights) terms → bounds terms < 2 ^ 58 → AreQueryTerms lists terms
@@ -150,26 +159,12 @@ kept-more terms old now i t new within kept = record {
 }
 
 -- ---- what is held
--- what all k that were held reach, all that are held reach
-pub reached-kept : (k doc score b : ℕ) (o : Option ℕ) (held new : List (ℕ × ℕ)) → IfNone o (length held < k) → IfSome o (IsLeastScore held) → beats o score ≡ true → IsFirstK k ((doc, score) ∷ held) new → length held ≡ k → All (λ e. b ≤ e.1) held → (length new ≡ k) × All (λ e. b ≤ e.1) new
-reached-kept k doc score b None held new short least above first full all = absurd (omega arith)
-reached-kept k doc score b (Some s) held new short least above first full all =
-    let P : ℕ × ℕ → Type 0 = λ e. b ≤ e.1 in
-    let one = least.one_has_it in
-    let at = all one.0 one.1 one.2 in
-    let is = ap (λ (e : ℕ × ℕ). e.1) one.3 in
-    let score_of = one.4 in
-    let beaten : s < score = elim (cases_lt s score) as (λ _. s < score) [ inl lt ↦ lt | inr ge ↦ absurd (false≢true (sym (le-ltb s score ge) ∙ above)) ] in
-    let each : All P ((doc, score) ∷ held) = All-cons P (doc, score) held (omega arith) all in
-    let count = first.count in
-    (omega arith, λ i d within. All-contains P ((doc, score) ∷ held) (get_or new i d) each (first.of_them i d within))
-
-pub spared-kept : (terms : List Term) (k essential : ℕ) (held new : List (ℕ × ℕ)) → ((b : ℕ) → length held ≡ k → All (λ e. b ≤ e.1) held → (length new ≡ k) × All (λ e. b ≤ e.1) new) → AreSpared k held terms essential → AreSpared k new terms essential
-spared-kept terms k essential held new kept so_far = record {
+pub spared-kept : (terms : List Term) (floor k essential : ℕ) (held new : List (ℕ × ℕ)) → ((s : ℕ) → IsBarred floor k held s → IsBarred floor k new s) → AreSpared floor k held terms essential → AreSpared floor k new terms essential
+spared-kept terms floor k essential held new kept so_far = record {
   within = so_far.within;
-  spared = elim so_far.spared as (λ _. (essential ≡ length terms) ⊎ ((length new ≡ k) × All (λ e. bounds (drop essential terms) ≤ e.1) new)) [
+  spared = elim so_far.spared as (λ _. (essential ≡ length terms) ⊎ IsBarred floor k new (bounds (drop essential terms))) [
     | inl whole ↦ inl whole
-    | inr full ↦ inr (kept (bounds (drop essential terms)) full.0 full.1)
+    | inr barred ↦ inr (kept (bounds (drop essential terms)) barred)
   ];
 }
 
@@ -216,46 +211,46 @@ module _ (lists : List (List Posting)) (terms : List Term) (essential first : �
       list_any_at (has_doc (first + k)) lists some.1.list [] (omega arith) some.4
 
   -- a document that is not marked, or whose score is too low, cannot enter
-  pub passed-cannot : (weights : List ℕ) (k low : ℕ) (o : Option ℕ) (held : List (ℕ × ℕ)) → AreAllTerms lists weights terms → AreSpared k held terms essential → IfSome o (λ s. length held ≡ k) → IfSome o (IsLeastScore held) → IfNone o (low ≡ 0) → IfSome o (λ least. low ≡ min (least + 1) 18446744073709551615 - bounds (drop essential terms))
-      → (j : ℕ) → j < length scores → (is_marked marks j ≡ true → get_or scores j 0 < low) → CannotEnter lists weights k held (first + j)
-  passed-cannot weights k low o held all spared full least none some j within passed =
-      elim (cases_Bool (is_marked marks j)) as (λ _. CannotEnter lists weights k held (first + j)) [
+  pub passed-cannot : (weights : List ℕ) (floor k low : ℕ) (o : Option ℕ) (held : List (ℕ × ℕ)) → AreAllTerms lists weights terms → AreSpared floor k held terms essential → ((s : ℕ) → beats o s ≡ false → IsBarred floor k held s) → IfNone o (low ≡ 0) → IfSome o (λ least. low ≡ min (least + 1) 18446744073709551615 - bounds (drop essential terms))
+      → (j : ℕ) → j < length scores → (is_marked marks j ≡ true → get_or scores j 0 < low) → CannotEnter lists weights floor k held (first + j)
+  passed-cannot weights floor k low o held all spared bars none some j within passed =
+      elim (cases_Bool (is_marked marks j)) as (λ _. CannotEnter lists weights floor k held (first + j)) [
         | inl is ↦ (let others = shares-within lists (first + j) (drop essential terms) ((are-drop lists first (first + length scores) terms essential are).bounded (first + j) (omega arith) (omega arith)) in
             let whole = whole-score j within in
-            beaten-cannot lists weights terms k (first + j) o held all full least (unlifted o low (get_or scores j 0) (bounds (drop essential terms)) (score_in lists (first + j) terms) none some (passed is) (omega arith)))
-        | inr not ↦ spared-cannot lists weights terms k essential (first + j) held all (are.bounded (first + j) (omega arith) (omega arith)) spared (sym (marked j within) ∙ not)
+            beaten-cannot lists weights terms floor k (first + j) o held all bars (unlifted o low (get_or scores j 0) (bounds (drop essential terms)) (score_in lists (first + j) terms) none some (passed is) (omega arith)))
+        | inr not ↦ spared-cannot lists weights terms floor k essential (first + j) held all (are.bounded (first + j) (omega arith) (omega arith)) spared (sym (marked j within) ∙ not)
       ]
 
   -- documents that cannot enter are passed over
-  pub follows-passed : TopAfterSkips → (from to k low : ℕ) (o : Option ℕ) (old held : List (ℕ × ℕ)) → AreSpared k held terms essential → IfSome o (λ s. length held ≡ k) → IfSome o (IsLeastScore held) → IfNone o (low ≡ 0) → IfSome o (λ least. low ≡ min (least + 1) 18446744073709551615 - bounds (drop essential terms))
-      → first + from ≤ to → to ≤ first + length scores → ((j : ℕ) → from ≤ j → first + j < to → is_marked marks j ≡ true → get_or scores j 0 < low) → FollowsTo lists terms k first (first + from) old held → FollowsTo lists terms k first to old held
-  follows-passed skips from to k low o old held spared full least none some le end passed so_far weights all top =
-      skips (first + from) to lists weights k held le (λ d f lt.
+  pub follows-passed : TopAfterSkips → (from to floor k low : ℕ) (o : Option ℕ) (old held : List (ℕ × ℕ)) → AreSpared floor k held terms essential → ((s : ℕ) → beats o s ≡ false → IsBarred floor k held s) → IfNone o (low ≡ 0) → IfSome o (λ least. low ≡ min (least + 1) 18446744073709551615 - bounds (drop essential terms))
+      → first + from ≤ to → to ≤ first + length scores → ((j : ℕ) → from ≤ j → first + j < to → is_marked marks j ≡ true → get_or scores j 0 < low) → FollowsTo lists terms floor k first (first + from) old held → FollowsTo lists terms floor k first to old held
+  follows-passed skips from to floor k low o old held spared bars none some le end passed so_far weights all top =
+      skips floor (first + from) to lists weights k held le (λ d f lt.
       let j : ℕ = d - first in
       let at : first + j ≡ d = omega arith in
-      subst (CannotEnter lists weights k held) at (passed-cannot weights k low o held all spared full least none some j (omega arith) (passed j (omega arith) (omega arith)))) (so_far weights all top)
+      subst (CannotEnter lists weights floor k held) at (passed-cannot weights floor k low o held all spared bars none some j (omega arith) (passed j (omega arith) (omega arith)))) (so_far weights all top)
 
   -- the candidate is considered
-  pub follows-considered : TopAfterOffer → TopAfterSkips → (place k : ℕ) (old held new : List (ℕ × ℕ)) → place < length scores → is_marked marks place ≡ true → Considers k (first + place) (get_or scores place 0 + score_in lists (first + place) (drop essential terms)) held new
-      → FollowsTo lists terms k first (first + place) old held → FollowsTo lists terms k first (first + (place + 1)) old new
-  follows-considered offers skips place k old held new within is considered so_far weights all top =
+  pub follows-considered : TopAfterOffer → TopAfterSkips → (place floor k : ℕ) (old held new : List (ℕ × ℕ)) → place < length scores → is_marked marks place ≡ true → Considers floor k (first + place) (get_or scores place 0 + score_in lists (first + place) (drop essential terms)) held new
+      → FollowsTo lists terms floor k first (first + place) old held → FollowsTo lists terms floor k first (first + (place + 1)) old new
+  follows-considered offers skips place floor k old held new within is considered so_far weights all top =
       let doc : ℕ = first + place in
       let next : doc + 1 ≡ first + (place + 1) = omega arith in
       let score_of = whole-score place within ∙ sym (score-is lists weights terms doc all) in
       let before = so_far weights all top in
-      subst (λ (n : ℕ). IsTop n lists weights k new) next (elim considered as (λ _. IsTop (doc + 1) lists weights k new) [
-        | inl offered ↦ offers doc lists weights k held new before (marked-any place within is) (subst (λ (s : ℕ). IsFirstK k ((doc, s) ∷ held) new) score_of offered)
-        | inr passed ↦ subst (IsTop (doc + 1) lists weights k) (sym passed.0)
-            (skips doc (doc + 1) lists weights k held (omega arith) (λ d f lt. let same : doc ≡ d = omega arith in subst (CannotEnter lists weights k held) same (inr (passed.1, λ i e inside. let h = passed.2 i e inside in omega arith))) before)
+      subst (λ (n : ℕ). IsTopFrom floor n lists weights k new) next (elim considered as (λ _. IsTopFrom floor (doc + 1) lists weights k new) [
+        | inl offered ↦ offers floor doc lists weights k held new before (marked-any place within is) (subst (λ (s : ℕ). floor ≤ s) score_of offered.0) (subst (λ (s : ℕ). IsFirstK k ((doc, s) ∷ held) new) score_of offered.1)
+        | inr passed ↦ subst (λ (h : List (ℕ × ℕ)). IsTopFrom floor (doc + 1) lists weights k h) (sym passed.0)
+            (skips floor doc (doc + 1) lists weights k held (omega arith) (λ d f lt. let same : doc ≡ d = omega arith in subst (CannotEnter lists weights floor k held) same (inr (subst (IsBarred floor k held) score_of passed.1))) before)
       ])
 
 -- what is held after a document is considered are documents before the next
-pub considered-above : (k doc next score : ℕ) (held new : List (ℕ × ℕ)) → doc < next → Considers k doc score held new → All (λ e. e.0 < doc) held → All (λ e. e.0 < next) new
-considered-above k doc next score held new lt (inl offered) above =
+pub considered-above : (floor k doc next score : ℕ) (held new : List (ℕ × ℕ)) → doc < next → Considers floor k doc score held new → All (λ e. e.0 < doc) held → All (λ e. e.0 < next) new
+considered-above floor k doc next score held new lt (inl offered) above =
     let P : ℕ × ℕ → Type 0 = λ e. e.0 < next in
     let each : All P ((doc, score) ∷ held) = All-cons P (doc, score) held lt (λ i e within. let h = above i e within in omega arith) in
-    λ i d within. All-contains P ((doc, score) ∷ held) (get_or new i d) each (offered.of_them i d within)
-considered-above k doc next score held new lt (inr passed) above = subst (All (λ (e : ℕ × ℕ). e.0 < next)) (sym passed.0) (λ i e within. let h = above i e within in omega arith)
+    λ i d within. All-contains P ((doc, score) ∷ held) (get_or new i d) each (offered.1.of_them i d within)
+considered-above floor k doc next score held new lt (inr passed) above = subst (All (λ (e : ℕ × ℕ). e.0 < next)) (sym passed.0) (λ i e within. let h = above i e within in omega arith)
 
 -- ---- the candidates of a window, one after another
 pub record IsNextCandidate (low from place score : ℕ) (scores marks : List ℕ) : Type 0 where

@@ -1,3 +1,4 @@
 pub mod Terms
 pub mod Order
 pub mod Windows
+pub mod Held

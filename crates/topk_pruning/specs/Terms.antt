@@ -4,9 +4,10 @@ use Rattle.std.specs.List.{All, sum_by, list_any, range_with_len}
 use Rattle.std.specs.List.Sorted.{IsPermutation}
 use Rattle.collection_model.specs.Collection.{Posting, greatest_freq}
 use Rattle.scan_plans.specs.Matches.{has_doc, freq_of_doc, score}
-use Rattle.scan_plans.specs.IsTop.{IsTop}
+use Rattle.scan_plans.specs.IsTop.{IsTopFrom}
 use Rattle.scan_plans.specs.Ranking.{IsFirstK}
 use Rattle.scan_plans.specs.Scan.{HasPassed}
+use Rattle.scan_plans.specs.Skips.{IsBarred}
 use Rattle.topk_pruning.specs.declared.term.Term.{Term}
 
 -- the term of a list: its place among the lists, its weight, and the most that it adds to a score
@@ -45,10 +46,10 @@ AreAlike terms others = IsPermutation (keys terms) (keys others)
 abbrev pub bounds : List Term → ℕ
 bounds terms = sum_by (λ t. t.bound) terms
 
--- whether a score beats the least score held; any does while there is none
+-- whether a score beats the bar; any does while there is none
 abbrev pub beats : Option ℕ → ℕ → Bool
 beats None score = true
-beats (Some least) score = nat_lt least score
+beats (Some bar) score = nat_lt bar score
 
 -- terms of some of the lists, each with the bound of its list
 pub record AreTerms (lists : List (List Posting)) (terms : List Term) : Type 0 where
@@ -72,16 +73,21 @@ pub record IsFirstDoc (lists : List (List Posting)) (terms : List Term) (from : 
   pub none_before : (d : ℕ) → from ≤ d → IfSome found (λ doc. d < doc) → in_lists lists d terms ≡ false
   pub one_has_it : IfSome found (λ doc. (from ≤ doc) × (in_lists lists doc terms ≡ true))
 
--- so many first terms are essential: there are no others, or k are held and the others' bounds together beat none of their scores
-pub record AreSpared (k : ℕ) (held : List (ℕ × ℕ)) (terms : List Term) (essential : ℕ) : Type 0 where
-  pub within : essential ≤ length terms
-  pub spared : (essential ≡ length terms) ⊎ ((length held ≡ k) × All (λ e. bounds (drop essential terms) ≤ e.1) held)
+-- the next document that can be held: a list has it, and of those before it each that a list has has a barred score
+pub record IsNextDoc (lists : List (List Posting)) (terms : List Term) (floor k : ℕ) (held : List (ℕ × ℕ)) (from : ℕ) (found : Option ℕ) : Type 0 where
+  pub barred_before : (d : ℕ) → from ≤ d → IfSome found (λ doc. d < doc) → (in_lists lists d terms ≡ false) ⊎ IsBarred floor k held (score_in lists d terms)
+  pub one_has_it : IfSome found (λ doc. (from ≤ doc) × (in_lists lists doc terms ≡ true))
 
--- the terms after a number of first ones do not beat the least score held, and with one more they would
-pub record IsEssential (terms : List Term) (threshold : Option ℕ) (count : ℕ) : Type 0 where
+-- so many first terms are essential: there are no others, or a score of the others' bounds together is barred
+pub record AreSpared (floor k : ℕ) (held : List (ℕ × ℕ)) (terms : List Term) (essential : ℕ) : Type 0 where
+  pub within : essential ≤ length terms
+  pub spared : (essential ≡ length terms) ⊎ IsBarred floor k held (bounds (drop essential terms))
+
+-- the terms after a number of first ones do not beat the bar, and with one more they would
+pub record IsEssential (terms : List Term) (bar : Option ℕ) (count : ℕ) : Type 0 where
   pub within : count ≤ length terms
-  pub spared : (count ≡ length terms) ⊎ (beats threshold (bounds (drop count terms)) ≡ false)
-  pub needed : (i : ℕ) → i < count → beats threshold (bounds (drop i terms)) ≡ true
+  pub spared : (count ≡ length terms) ⊎ (beats bar (bounds (drop count terms)) ≡ false)
+  pub needed : (i : ℕ) → i < count → beats bar (bounds (drop i terms)) ≡ true
 
 -- terms of different lists
 abbrev pub AreApart : List Term → Type 0
@@ -106,10 +112,10 @@ pub record AreBefore {X : Type 0} (list : X → List Posting) (place : X → ℕ
 pub record AreKept {X : Type 0} (terms : List Term) (old new : List X) : Type 0 where
   pub same : (i : ℕ) → All (λ t. t.list ≢ i) terms → (c : X) → slice_index_or new i c ≡ slice_index_or old i c
 
--- a document is offered with its score, or k are held and none of them has a lower score
-abbrev pub Considers : ℕ → ℕ → ℕ → List (ℕ × ℕ) → List (ℕ × ℕ) → Type 0
-Considers k doc score held new = IsFirstK k ((doc, score) ∷ held) new ⊎ ((new ≡ held) × (length held ≡ k) × All (λ e. score ≤ e.1) held)
+-- a document is offered with its score, which reaches the floor, or its score is barred
+abbrev pub Considers : ℕ → ℕ → ℕ → ℕ → List (ℕ × ℕ) → List (ℕ × ℕ) → Type 0
+Considers floor k doc score held new = ((floor ≤ score) × IsFirstK k ((doc, score) ∷ held) new) ⊎ ((new ≡ held) × IsBarred floor k held score)
 
--- what is held is the top list up to a document, where what was held is that of the documents before an earlier one
-abbrev pub FollowsTo : List (List Posting) → List Term → ℕ → ℕ → ℕ → List (ℕ × ℕ) → List (ℕ × ℕ) → Type 0
-FollowsTo lists terms k from to held new = (weights : List ℕ) → AreAllTerms lists weights terms → IsTop from lists weights k held → IsTop to lists weights k new
+-- what is held is the top list from the floor on up to a document, where what was held is that of the documents before an earlier one
+abbrev pub FollowsTo : List (List Posting) → List Term → ℕ → ℕ → ℕ → ℕ → List (ℕ × ℕ) → List (ℕ × ℕ) → Type 0
+FollowsTo lists terms floor k from to held new = (weights : List ℕ) → AreAllTerms lists weights terms → IsTopFrom floor from lists weights k held → IsTopFrom floor to lists weights k new

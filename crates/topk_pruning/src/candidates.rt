@@ -2,13 +2,15 @@ ghost use Rattle.std.specs.Prelude.{◌≡◌, ℕ, ◌+◌, ◌-◌, ◌*◌, �
 ghost use Rattle.std.specs.List.{All};
 ghost use Rattle.scan_plans.specs.Matches.{AreBelow, has_doc, freq_of_doc};
 ghost use Rattle.scan_plans.specs.Scan.{HasPassed, StandsFrom};
+ghost use Rattle.scan_plans.specs.Skips.{IsBarred};
 ghost use Rattle.scan_plans.specs.Window.{is_marked};
 ghost use Rattle.topk_pruning.specs.Terms.{AreApart, AreBefore, AreKept, AreSpared, AreTermsIn, Considers, FollowsTo, beats, bounds, in_lists, score_in};
 
 use crate::probe::{doc_from, is_above, probe};
+use crate::shortlist::Shortlist;
 use crate::term::{Term, total_bound};
 use cursor_api::DocCursor;
-use scan_plans::{Block, TopK, add_list, take_candidate, top_list_grows};
+use scan_plans::{Block, add_list, take_candidate, top_list_grows};
 
 // Scores the documents of a window, so many from `first` on, that the lists of the essential terms have, and offers those that can be
 // held. The cursors are then behind the window, or before it where their lists were not asked.
@@ -21,7 +23,7 @@ pub(crate) fn score_window<C: DocCursor>(
     scores: &mut [u64],
     marks: &mut [u64],
     block: &mut Block,
-    top: &mut TopK,
+    top: &mut Shortlist,
 )
     requires terms { AreTermsIn (map C.list cursors.old) first (first + count) terms.now }
     requires apart { AreApart terms.now }
@@ -35,7 +37,7 @@ pub(crate) fn score_window<C: DocCursor>(
     requires narrow { top.old.n < 2 ^ 32 }
     requires in_range { first + count ≤ top.old.n }
     requires above { All (λ e. e.0 < first) top.old.held }
-    requires essential { AreSpared top.old.k top.old.held terms.now essential }
+    requires essential { AreSpared top.old.floor top.old.k top.old.held terms.now essential }
     ensures lists { map C.list cursors.new ≡ map C.list cursors.old }
     ensures passed { All (λ c. HasPassed (first + count) (C.list c) (C.place c)) cursors.new }
     ensures count { length scores.new ≡ length scores.old }
@@ -44,7 +46,8 @@ pub(crate) fn score_window<C: DocCursor>(
     ensures none { (k : ℕ) → k < 64 * length marks.old → is_marked marks.new k ≡ false }
     ensures k { top.new.k ≡ top.old.k }
     ensures n { top.new.n ≡ top.old.n }
-    ensures held { FollowsTo (map C.list cursors.old) terms.now top.old.k first (first + count) top.old.held top.new.held }
+    ensures floor { top.new.floor ≡ top.old.floor }
+    ensures held { FollowsTo (map C.list cursors.old) terms.now top.old.floor top.old.k first (first + count) top.old.held top.new.held }
 {
     let window = &mut scores[..count];
     let reached = add_terms(cursors, &terms[..essential], first, window, marks, block);
@@ -130,7 +133,7 @@ fn offer_candidates<C: DocCursor>(
     reached: usize,
     scores: &mut [u64],
     marks: &mut [u64],
-    top: &mut TopK,
+    top: &mut Shortlist,
 )
     requires terms { AreTermsIn (map C.list cursors.old) first (first + length scores.old) terms.now }
     requires before { AreBefore C.list C.place first (drop essential terms.now) cursors.old }
@@ -144,7 +147,7 @@ fn offer_candidates<C: DocCursor>(
     requires narrow { top.old.n < 2 ^ 32 }
     requires in_range { first ≤ top.old.n }
     requires above { All (λ e. e.0 < first) top.old.held }
-    requires essential { AreSpared top.old.k top.old.held terms.now essential }
+    requires essential { AreSpared top.old.floor top.old.k top.old.held terms.now essential }
     ensures lists { map C.list cursors.new ≡ map C.list cursors.old }
     ensures passed { All (λ c. HasPassed (first + length scores.old) (C.list c) (C.place c)) cursors.new }
     ensures count { length scores.new ≡ length scores.old }
@@ -153,7 +156,8 @@ fn offer_candidates<C: DocCursor>(
     ensures none { (k : ℕ) → k < 64 * length marks.old → is_marked marks.new k ≡ false }
     ensures k { top.new.k ≡ top.old.k }
     ensures n { top.new.n ≡ top.old.n }
-    ensures held { FollowsTo (map C.list cursors.old) terms.now top.old.k first (min (first + length scores.old) top.old.n) top.old.held top.new.held }
+    ensures floor { top.new.floor ≡ top.old.floor }
+    ensures held { FollowsTo (map C.list cursors.old) terms.now top.old.floor top.old.k first (min (first + length scores.old) top.old.n) top.old.held top.new.held }
 {
     top_list_grows();
     let others = &terms[essential..];
@@ -162,7 +166,7 @@ fn offer_candidates<C: DocCursor>(
     while let Some((place, score)) = take_candidate(
         from,
         reached,
-        least_score(top.threshold(), left),
+        least_score(top.bar(), left),
         scores,
         marks,
     ) {
@@ -172,13 +176,13 @@ fn offer_candidates<C: DocCursor>(
     }
 }
 
-// The least score that the bounds left can lift above the least score held.
-fn least_score(threshold: Option<u64>, left: u64) -> u64
-    ensures none { IfNone threshold (result ≡ 0) }
-    ensures some { IfSome threshold (λ least. result ≡ min (least + 1) 18446744073709551615 - left) }
+// The least score that the bounds left can lift above the bar.
+fn least_score(bar: Option<u64>, left: u64) -> u64
+    ensures none { IfNone bar (result ≡ 0) }
+    ensures some { IfSome bar (λ bar. result ≡ min (bar + 1) 18446744073709551615 - left) }
 {
-    match threshold {
-        Some(least) => least.saturating_add(1).saturating_sub(left),
+    match bar {
+        Some(bar) => bar.saturating_add(1).saturating_sub(left),
         None => 0,
     }
 }
@@ -190,7 +194,7 @@ fn consider<C: DocCursor>(
     left: u64,
     doc: u32,
     known: u64,
-    top: &mut TopK,
+    top: &mut Shortlist,
 )
     requires terms { AreTermsIn (map C.list cursors.old) doc (doc + 1) others.now }
     requires left { left ≡ bounds others.now }
@@ -203,23 +207,24 @@ fn consider<C: DocCursor>(
     ensures passed { (e : ℕ) → doc ≤ e → All (λ c. HasPassed e (C.list c) (C.place c)) cursors.old → All (λ c. HasPassed e (C.list c) (C.place c)) cursors.new }
     ensures k { top.new.k ≡ top.old.k }
     ensures n { top.new.n ≡ top.old.n }
-    ensures held { Considers top.old.k doc (known + score_in (map C.list cursors.old) doc others.now) top.old.held top.new.held }
-    ensures kept { (b : ℕ) → length top.old.held ≡ top.old.k → All (λ e. b ≤ e.1) top.old.held → (length top.new.held ≡ top.old.k) × All (λ e. b ≤ e.1) top.new.held }
+    ensures floor { top.new.floor ≡ top.old.floor }
+    ensures held { Considers top.old.floor top.old.k doc (known + score_in (map C.list cursors.old) doc others.now) top.old.held top.new.held }
+    ensures kept { (s : ℕ) → IsBarred top.old.floor top.old.k top.old.held s → IsBarred top.old.floor top.old.k top.new.held s }
 {
-    if let Some(score) = score_above(cursors, others, left, doc, known, top.threshold()) {
+    if let Some(score) = score_above(cursors, others, left, doc, known, top.bar()) {
         top.offer(doc, score);
     }
 }
 
-// The score of a document where it beats the least score held, else None. Of it, what some lists give is known; the others are probed
-// from the highest bound down, and no further than until the bounds that are left cannot lift the score above the least held.
+// The score of a document where it beats the bar, else None. Of it, what some lists give is known; the others are probed
+// from the highest bound down, and no further than until the bounds that are left cannot lift the score above the bar.
 fn score_above<C: DocCursor>(
     cursors: &mut [C],
     others: &[Term],
     bound: u64,
     doc: u32,
     known: u64,
-    threshold: Option<u64>,
+    bar: Option<u64>,
 ) -> Option<u64>
     requires terms { AreTermsIn (map C.list cursors.old) doc (doc + 1) others.now }
     requires bound { bound ≡ bounds others.now }
@@ -229,19 +234,19 @@ fn score_above<C: DocCursor>(
     ensures before { AreBefore C.list C.place doc others.now cursors.new }
     ensures passed { (e : ℕ) → doc ≤ e → All (λ c. HasPassed e (C.list c) (C.place c)) cursors.old → All (λ c. HasPassed e (C.list c) (C.place c)) cursors.new }
     ensures value { IfSome result (λ score. score ≡ known + score_in (map C.list cursors.old) doc others.now) }
-    ensures above { IfSome result (λ score. beats threshold score ≡ true) }
-    ensures dropped { IfNone result (beats threshold (known + score_in (map C.list cursors.old) doc others.now) ≡ false) }
+    ensures above { IfSome result (λ score. beats bar score ≡ true) }
+    ensures dropped { IfNone result (beats bar (known + score_in (map C.list cursors.old) doc others.now) ≡ false) }
 {
     let mut score = known;
     let mut left = bound;
     for term in others {
-        if !is_above(score + left, threshold) {
+        if !is_above(score + left, bar) {
             return None;
         }
         left -= term.bound;
         score += probe(&mut cursors[term.list], term.weight, doc);
     }
-    if is_above(score, threshold) {
+    if is_above(score, bar) {
         Some(score)
     } else {
         None

@@ -4,9 +4,9 @@ ghost use Rattle.std.specs.List.Sorted.{IsPermutation};
 ghost use Rattle.topk_pruning.specs.Terms.{AreSpared, IsEssential, bounds};
 
 use crate::probe::is_above;
+use crate::shortlist::Shortlist;
 use crate::term::{Term, total_bound};
 use cursor_api::DocCursor;
-use scan_plans::TopK;
 
 // How many lists are asked for a candidate, at most. Those of the highest bounds beyond are essential, so that no posting costs more than
 // so many questions.
@@ -15,28 +15,27 @@ const MOST_ASKED: usize = 8;
 // A list of no more postings is always read, and never asked for a candidate.
 const MOST_READ: u32 = 2_048;
 
-// How many terms are essential with what is held: none where all the bounds together do not beat the least score held, and all while
-// fewer than k are held.
-pub(crate) fn essential_now(terms: &[Term], top: &TopK) -> usize
+// How many terms are essential with what is held: none where all the bounds together do not beat the bar, and all while there is no bar.
+pub(crate) fn essential_now(terms: &[Term], top: &Shortlist) -> usize
     requires light { bounds terms.now < 2 ^ 58 }
-    ensures { AreSpared top.now.k top.now.held terms.now result }
+    ensures { AreSpared top.now.floor top.now.k top.now.held terms.now result }
 {
-    let count = essential_terms(terms, top.threshold());
+    let count = essential_terms(terms, top.bar());
     if count == 0 {
         return 0;
     }
     count.max(terms.len().saturating_sub(MOST_ASKED))
 }
 
-// How many terms are essential: the bounds of the others together do not beat the least score held, and those of one more would.
-fn essential_terms(terms: &[Term], threshold: Option<u64>) -> usize
+// How many terms are essential: the bounds of the others together do not beat the bar, and those of one more would.
+fn essential_terms(terms: &[Term], bar: Option<u64>) -> usize
     requires light { bounds terms.now < 2 ^ 58 }
-    ensures { IsEssential terms.now threshold result }
+    ensures { IsEssential terms.now bar result }
 {
     let mut left = total_bound(terms);
     let mut count = 0;
     for term in terms {
-        if !is_above(left, threshold) {
+        if !is_above(left, bar) {
             return count;
         }
         left -= term.bound;
@@ -55,7 +54,7 @@ pub(crate) fn with_short_lists<C: DocCursor>(
     requires within { All (λ t. t.list < length cursors.now) terms.old }
     requires few { essential ≤ length terms.old }
     ensures moved { IsPermutation terms.old terms.new }
-    ensures spared { (k : ℕ) (held : List (ℕ × ℕ)) → AreSpared k held terms.old essential → AreSpared k held terms.new result }
+    ensures spared { (floor k : ℕ) (held : List (ℕ × ℕ)) → AreSpared floor k held terms.old essential → AreSpared floor k held terms.new result }
 {
     let long = postings_in(cursors, &terms[..essential]);
     let mut count = essential;

@@ -1,28 +1,38 @@
-ghost use Rattle.std.specs.Prelude.{◌≡◌, ◌≤◌, ◌<◌, ◌^◌, ◌++◌, true, map, length, sum, min, option_to_list, IfOk};
+ghost use Rattle.std.specs.Prelude.{◌≡◌, ℕ, ◌≤◌, ◌<◌, ◌⊎◌, ◌^◌, ◌++◌, List, true, map, length, sum, min, option_to_list, IfOk, IfSome};
 ghost use Rattle.std.specs.List.{All, reduce};
-ghost use Rattle.scan_plans.specs.Matches.{AreBelow};
+ghost use Rattle.scan_plans.specs.Matches.{AreBelow, in_any_from};
 ghost use Rattle.scan_plans.specs.IsTop.{IsTop};
 ghost use Rattle.scan_plans.specs.Scan.{HasPassed};
-ghost use Rattle.topk_pruning.specs.Terms.{IsFirstDoc};
+ghost use Rattle.topk_pruning.specs.Terms.{AreAllTerms, AreTerms, IsFirstDoc, IsNextDoc};
 
+use crate::alone::{next_of_one, postings_between};
 use crate::ceilings::Greatest;
 use crate::essential::essential_now;
 use crate::probe::doc_from;
 use crate::room::{Room, score_from};
+use crate::shortlist::Shortlist;
 use crate::term::{Term, terms_by_bound};
 use cursor_api::DocCursor;
 use no_memory::NoMemory;
-use scan_plans::{TopK, cursors_tell, most_found, top_list_grows, top_list_is_short};
+use scan_plans::{
+    cursors_tell, frequent_postings_score, most_found, top_list_grows, top_list_has_a_floor,
+    top_list_is_short,
+};
 use std::alloc::Global;
+
+// A list of fewer postings is not asked for a frequency that many of them reach.
+const MANY_POSTINGS: u32 = 2_048;
 
 /// The first k of the documents that are in any of the lists, by score falling and then document rising, each with its score, as
 /// `top_exhaustive` gives them. `n` is the number of documents. The weights are those of the cursors' lists, in the same order; a
 /// score stays below 2^58.
 ///
-/// It is MaxScore: while the lists of the lowest bounds together cannot beat the least score held, candidates come from the others alone,
-/// the essential ones, which are scored window by window of documents, and from short lists. The other lists are asked for a candidate
-/// only as long as the bounds of those that are left can lift its score above the least held. A bound is the weight times the greatest
-/// frequency.
+/// It is MaxScore: while the lists of the lowest bounds together cannot beat the bar, candidates come from the others alone, the essential
+/// ones, which are scored window by window of documents, and from short lists. The other lists are asked for a candidate only as long as
+/// the bounds of those that are left can lift its score above the bar. A bound is the weight times the greatest frequency, and the bar is
+/// the least score held. From the start it is no lower than just below a score that k documents reach: where the list of the highest
+/// bound has at least 2,048 postings, it is asked for a frequency that k of them reach. While one list alone is essential, its postings
+/// are passed over whose frequencies cannot lift a document above the bar with the bounds of all the others.
 pub fn top_maxscore<C: DocCursor>(
     alloc: Global,
     cursors: &mut [C],
@@ -65,20 +75,62 @@ fn score_essential<C: DocCursor>(
         return Ok(Vec::new(alloc));
     }
     top_list_grows();
+    top_list_has_a_floor();
     let terms = terms_by_bound(alloc, cursors, weights)?;
-    let mut top = TopK::new(alloc, k, n)?;
+    let floor = common_score(cursors, &terms, k);
+    let mut top = Shortlist::new(alloc, k, n, floor)?;
     let mut room = Room::new(alloc, &terms, n)?;
-    let mut essential = terms.len();
     let mut from = 0;
-    while let Some(first) = next_candidate(cursors, &terms[..essential], from) {
+    while let Some(first) = next_candidate(cursors, &terms, &top, from) {
+        room.narrow_after(postings_between(cursors, &terms, from, first, n));
         from = score_from(cursors, &terms, &Greatest, first, n, &mut room, &mut top);
-        essential = essential_now(&terms, &top);
     }
     top.into_list()
 }
 
+// A score that at least k documents reach, 0 where none is told: what a frequency adds that many postings of the first list reach. A
+// short list is not asked.
+fn common_score<C: DocCursor>(cursors: &[C], terms: &[Term], k: u32) -> u64
+    requires within { All (λ t. t.list < length cursors.now) terms.now }
+    requires some { 1 ≤ k }
+    ensures { (n : ℕ) (weights : List ℕ) → AreBelow n (map C.list cursors.now) → AreAllTerms (map C.list cursors.now) weights terms.now → (result ≡ 0) ⊎ (k ≤ length (in_any_from result n (map C.list cursors.now) weights)) }
+{
+    frequent_postings_score();
+    let Some(first) = terms.first() else {
+        return 0;
+    };
+    let cursor = &cursors[first.list];
+    if cursor.len() < MANY_POSTINGS {
+        return 0;
+    }
+    u64::from(first.weight) * u64::from(cursor.common_freq(k))
+}
+
+// The next document from `from` on that can be held. No cursor has passed a document from `from` on, and none passes that document.
+fn next_candidate<C: DocCursor>(
+    cursors: &mut [C],
+    terms: &[Term],
+    top: &Shortlist,
+    from: u32,
+) -> Option<u32>
+    requires terms { AreTerms (map C.list cursors.old) terms.now }
+    requires weighty { All (λ t. 1 ≤ t.weight) terms.now }
+    requires passed { All (λ c. HasPassed from (C.list c) (C.place c)) cursors.old }
+    ensures lists { map C.list cursors.new ≡ map C.list cursors.old }
+    ensures passed { IfSome result (λ doc. All (λ c. HasPassed doc (C.list c) (C.place c)) cursors.new) }
+    ensures next { IsNextDoc (map C.list cursors.old) terms.now top.now.floor top.now.k top.now.held from result }
+{
+    let essential = essential_now(terms, top);
+    if essential == 1 {
+        if let Some(bar) = top.bar() {
+            return next_of_one(cursors, terms, bar, from);
+        }
+    }
+    first_doc(cursors, &terms[..essential], from)
+}
+
 // The first document from `from` on that the list of one of the terms has. No cursor has passed a document from `from` on.
-fn next_candidate<C: DocCursor>(cursors: &mut [C], terms: &[Term], from: u32) -> Option<u32>
+fn first_doc<C: DocCursor>(cursors: &mut [C], terms: &[Term], from: u32) -> Option<u32>
     requires within { All (λ t. t.list < length cursors.old) terms.now }
     requires passed { All (λ c. HasPassed from (C.list c) (C.place c)) cursors.old }
     ensures lists { map C.list cursors.new ≡ map C.list cursors.old }

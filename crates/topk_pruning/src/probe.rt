@@ -6,12 +6,12 @@ ghost use Rattle.topk_pruning.specs.Terms.{beats};
 use cursor_api::DocCursor;
 use scan_plans::{cursors_stand, cursors_tell};
 
-// Whether a score beats the least score held. Any score does while there is none.
-pub(crate) fn is_above(score: u64, threshold: Option<u64>) -> bool
-    ensures { result ≡ beats threshold score }
+// Whether a score beats the bar. Any score does while there is none.
+pub(crate) fn is_above(score: u64, bar: Option<u64>) -> bool
+    ensures { result ≡ beats bar score }
 {
-    match threshold {
-        Some(least) => least < score,
+    match bar {
+        Some(bar) => bar < score,
         None => true,
     }
 }

@@ -8,15 +8,19 @@ ghost use Rattle.topk_pruning.specs.Windows.{IsReady};
 use crate::candidates::score_window;
 use crate::ceilings::{Ceilings, bound_terms};
 use crate::essential::{essential_now, with_short_lists};
+use crate::shortlist::Shortlist;
 use crate::term::Term;
 use cursor_api::DocCursor;
 use no_memory::NoMemory;
-use scan_plans::{Block, TopK, new_marks, new_scores, scored_words, top_list_grows};
+use scan_plans::{Block, new_marks, new_scores, scored_words, top_list_grows};
 use std::alloc::Global;
 
 // How many documents the first window has. Each later one has sixteen times as many, as far as there is room for their scores: a query
 // whose best documents come early ends early.
 const FIRST_WIDTH: usize = 8;
+
+// After so many postings that were passed over a window is narrow again.
+const MANY_PASSED: u64 = 32;
 
 // How many words mark the documents of a window, at most: the scores of so many documents take 32 KiB, which stay near the processor.
 const MOST_WORDS: usize = 64;
@@ -51,6 +55,15 @@ impl Room {
             width: FIRST_WIDTH,
         })
     }
+
+    // Makes the next window no wider than the first where many postings were passed over before it: of those in it most would be too.
+    pub(crate) fn narrow_after(&mut self, passed: u64)
+        ensures ready { (count : ℕ) → IsReady count self.old → IsReady count self.new }
+    {
+        if passed >= MANY_PASSED {
+            self.width = self.width.min(FIRST_WIDTH);
+        }
+    }
 }
 
 // Scores the documents of a window from `first` on that can be held and offers them, or passes over documents of which none can, and
@@ -62,7 +75,7 @@ pub(crate) fn score_from<C: DocCursor, B: Ceilings<C>>(
     first: u32,
     n: u32,
     room: &mut Room,
-    top: &mut TopK,
+    top: &mut Shortlist,
 ) -> u32
     requires terms { AreQueryTerms (map C.list cursors.old) terms.now }
     requires passed { All (λ c. HasPassed first (C.list c) (C.place c)) cursors.old }
@@ -76,9 +89,10 @@ pub(crate) fn score_from<C: DocCursor, B: Ceilings<C>>(
     ensures ready { IsReady (length terms.now) room.new }
     ensures k { top.new.k ≡ top.old.k }
     ensures n { top.new.n ≡ top.old.n }
+    ensures floor { top.new.floor ≡ top.old.floor }
     ensures later { first < result }
     ensures in_range { result ≤ n }
-    ensures held { FollowsTo (map C.list cursors.old) terms.now top.old.k first result top.old.held top.new.held }
+    ensures held { FollowsTo (map C.list cursors.old) terms.now top.old.floor top.old.k first result top.old.held top.new.held }
 {
     let reach = bound_terms(
         cursors,
@@ -91,14 +105,14 @@ pub(crate) fn score_from<C: DocCursor, B: Ceilings<C>>(
     score_up_to(cursors, first, reach, room, top)
 }
 
-// The same with the terms of the room, whose bounds hold up to `reach`. Where all the bounds together do not beat the least score held,
+// The same with the terms of the room, whose bounds hold up to `reach`. Where all the bounds together do not beat the bar,
 // no document up to there can be held, and no cursor moves.
 fn score_up_to<C: DocCursor>(
     cursors: &mut [C],
     first: u32,
     reach: u32,
     room: &mut Room,
-    top: &mut TopK,
+    top: &mut Shortlist,
 ) -> u32
     requires terms { AreTermsIn (map C.list cursors.old) first reach room.old.terms.items }
     requires apart { AreApart room.old.terms.items }
@@ -115,9 +129,10 @@ fn score_up_to<C: DocCursor>(
     ensures ready { IsReady (length room.old.terms.items) room.new }
     ensures k { top.new.k ≡ top.old.k }
     ensures n { top.new.n ≡ top.old.n }
+    ensures floor { top.new.floor ≡ top.old.floor }
     ensures later { first < result }
     ensures in_range { result ≤ reach }
-    ensures held { FollowsTo (map C.list cursors.old) room.old.terms.items top.old.k first result top.old.held top.new.held }
+    ensures held { FollowsTo (map C.list cursors.old) room.old.terms.items top.old.floor top.old.k first result top.old.held top.new.held }
 {
     top_list_grows();
     let width = room.width;

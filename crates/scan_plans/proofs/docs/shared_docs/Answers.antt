@@ -15,7 +15,7 @@ loop-doc-init g c = record {
   lists = refl;
   stand = (let start = c.requires.at_start in record { passed = λ k lt. absurd (omega arith); left = λ k from within. omega arith });
   passed = starts-passed g.C.DocCursor.list g.C.DocCursor.place c.args.others.now c.requires.others_at_start;
-  docs = c.new-docs.ensures.items;
+  docs = c.in_ok-docs.ensures.items;
 }
 
 pub returns-in_default-catch_up : goal.returns-in_default-catch_up

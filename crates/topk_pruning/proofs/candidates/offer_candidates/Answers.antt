@@ -3,11 +3,13 @@ use Rattle.std.proofs.lemmas.Bool.{cases_lt}
 use Rattle.std.proofs.lemmas.List.{get_or_default}
 use Rattle.std.specs.Option.{IfSome}
 use Rattle.collection_model.specs.Collection.{Posting}
-use Rattle.scan_plans.specs.IsTop.{IsTop}
+use Rattle.scan_plans.specs.IsTop.{IsTopFrom}
 use Rattle.scan_plans.specs.Window.{is_marked}
+use Rattle.scan_plans.specs.Skips.{IsBarred}
 use Rattle.topk_pruning.specs.declared.term.Term.{Term}
 use Rattle.topk_pruning.specs.Terms.{AreBefore, AreTermsIn, Considers, bounds, score_in}
 use Rattle.topk_pruning.proofs.Alike.{in-narrower}
+use Rattle.topk_pruning.proofs.Bars.{bars-at}
 use Rattle.topk_pruning.proofs.Windows.{are-drop, behind-is, before-later, spared-kept, unmarked-none, light-score, marked-any, follows-passed, follows-considered, considered-above, candidate-there, none-there, taken-later}
 use Rattle.topk_pruning.proofs.candidates.offer_candidates.Goals as goal
 
@@ -23,9 +25,10 @@ loop-place-init g c =
       in_range = (let in_range = c.requires.in_range in omega arith);
       k = refl;
       n = refl;
+      floor = refl;
       above = λ i e within. let h = c.requires.above i e within in omega arith;
       spared = c.requires.essential;
-      held = λ weights all top. subst (λ (d : ℕ). IsTop d (map g.C.DocCursor.list c.args.cursors.now) weights c.args.top.now.k c.args.top.now.held) start top;
+      held = λ weights all top. subst (λ (d : ℕ). IsTopFrom c.args.top.now.floor d (map g.C.DocCursor.list c.args.cursors.now) weights c.args.top.now.k c.args.top.now.held) start top;
     }
 
 pub total_bound-left-requires : goal.total_bound-left-requires
@@ -152,20 +155,22 @@ loop-place-preserved g c =
     let new : List (ℕ × ℕ) = c.consider.new.top.held in
     let lent : take (length terms - c.args.essential) (drop c.args.essential terms) ≡ others = behind-is terms c.args.essential in
     let left : c.total_bound-left.result ≡ bounds others = c.total_bound-left.ensures ∙ ap bounds lent in
-    let low : IfSome c.threshold.result (λ least. c.least_score.result ≡ min (least + 1) 18446744073709551615 - bounds others) = subst (λ (b : ℕ). IfSome c.threshold.result (λ least. c.least_score.result ≡ min (least + 1) 18446744073709551615 - b)) left c.least_score.ensures.some in
-    let full : IfSome c.threshold.result (λ s. length held ≡ c.args.top.now.k) = subst (λ (j : ℕ). IfSome c.threshold.result (λ s. length held ≡ j)) k c.threshold.ensures.full in
-    let here = follows-passed lists terms c.args.essential c.args.first c.args.scores.now c.args.marks.now c.requires.terms c.requires.scores c.requires.marks c.top_list_grows.ensures.skipped c.loop-place.from (c.args.first + at) c.args.top.now.k c.least_score.result c.threshold.result c.args.top.now.held held
-    so_far.spared full c.threshold.ensures.least c.least_score.ensures.none low (omega arith) (omega arith) (λ j f lt is. next.passed j f (omega arith) is) so_far.held in
+    let low : IfSome c.bar.result (λ least. c.least_score.result ≡ min (least + 1) 18446744073709551615 - bounds others) = subst (λ (b : ℕ). IfSome c.bar.result (λ least. c.least_score.result ≡ min (least + 1) 18446744073709551615 - b)) left c.least_score.ensures.some in
+    let floor : ℕ = c.args.top.now.floor in
+    let bars = bars-at c.bar.result c.loop-place.top.floor floor c.loop-place.top.k c.args.top.now.k held so_far.floor k c.bar.ensures in
+    let here = follows-passed lists terms c.args.essential c.args.first c.args.scores.now c.args.marks.now c.requires.terms c.requires.scores c.requires.marks c.top_list_grows.ensures.skipped c.loop-place.from (c.args.first + at) floor c.args.top.now.k c.least_score.result c.bar.result c.args.top.now.held held
+    so_far.spared bars c.least_score.ensures.none low (omega arith) (omega arith) (λ j f lt is. next.passed j f (omega arith) is) so_far.held in
     let known : c.in-Some.score + score_in (map list c.loop-place.cursors) (c.from.result + at) (take (length terms - c.args.essential) (drop c.args.essential terms)) ≡ get_or c.args.scores.now at 0 + score_in lists (c.args.first + at) others =
     (let a = next.scored in
     let b = ap (λ (ls : List (List Posting)). score_in ls (c.from.result + at) (take (length terms - c.args.essential) (drop c.args.essential terms))) so_far.lists in
     let e = ap (λ (ts : List Term). score_in lists (c.from.result + at) ts) lent in
     let f = ap (λ (n : ℕ). score_in lists n others) doc in
     omega arith) in
-    let considered : Considers c.args.top.now.k (c.args.first + at) (get_or c.args.scores.now at 0 + score_in lists (c.args.first + at) others) held new =
-    subst (λ (s : ℕ). Considers c.args.top.now.k (c.args.first + at) s held new) known
-    (subst (λ (d : ℕ). Considers c.args.top.now.k d (c.in-Some.score + score_in (map list c.loop-place.cursors) (c.from.result + at) (take (length terms - c.args.essential) (drop c.args.essential terms))) held new) doc
-    (subst (λ (j : ℕ). Considers j (c.from.result + at) (c.in-Some.score + score_in (map list c.loop-place.cursors) (c.from.result + at) (take (length terms - c.args.essential) (drop c.args.essential terms))) held new) k kept.held)) in
+    let considered : Considers floor c.args.top.now.k (c.args.first + at) (get_or c.args.scores.now at 0 + score_in lists (c.args.first + at) others) held new =
+    subst (λ (s : ℕ). Considers floor c.args.top.now.k (c.args.first + at) s held new) known
+    (subst (λ (d : ℕ). Considers floor c.args.top.now.k d (c.in-Some.score + score_in (map list c.loop-place.cursors) (c.from.result + at) (take (length terms - c.args.essential) (drop c.args.essential terms))) held new) doc
+    (subst (λ (j : ℕ). Considers floor j (c.from.result + at) (c.in-Some.score + score_in (map list c.loop-place.cursors) (c.from.result + at) (take (length terms - c.args.essential) (drop c.args.essential terms))) held new) k
+    (subst (λ (f : ℕ). Considers f c.loop-place.top.k (c.from.result + at) (c.in-Some.score + score_in (map list c.loop-place.cursors) (c.from.result + at) (take (length terms - c.args.essential) (drop c.args.essential terms))) held new) so_far.floor kept.held))) in
     let later = taken-later c.args.scores.now c.args.marks.now c.loop-place.scores c.loop-place.marks c.loop-place.from c.requires.wide so_far.taken (at + 1) c.take_candidate.new.scores c.take_candidate.new.marks (omega arith) c.in-Some.ensures.taken in
     record {
       lists = kept.lists ∙ so_far.lists;
@@ -176,9 +181,10 @@ loop-place-preserved g c =
       in_range = omega arith;
       k = kept.k ∙ k;
       n = kept.n ∙ so_far.n;
-      above = (let top = c.top_list_grows.ensures in considered-above c.args.top.now.k (c.args.first + at) (c.args.first + (at + 1)) _ held new (omega arith) considered (λ i e within. let h = so_far.above i e within in omega arith));
-      spared = spared-kept terms c.args.top.now.k c.args.essential held new (λ b j all. let r = kept.kept b (j ∙ sym k) all in (r.0 ∙ k, r.1)) so_far.spared;
-      held = follows-considered lists terms c.args.essential c.args.first c.args.scores.now c.args.marks.now c.requires.terms c.requires.scores c.requires.marks c.top_list_grows.ensures.offered c.top_list_grows.ensures.skipped at c.args.top.now.k c.args.top.now.held held new inside next.marked considered here;
+      floor = kept.floor ∙ so_far.floor;
+      above = (let top = c.top_list_grows.ensures in considered-above floor c.args.top.now.k (c.args.first + at) (c.args.first + (at + 1)) _ held new (omega arith) considered (λ i e within. let h = so_far.above i e within in omega arith));
+      spared = spared-kept terms floor c.args.top.now.k c.args.essential held new (λ s. subst (λ (j : ℕ). IsBarred floor j held s → IsBarred floor j new s) k (subst (λ (f : ℕ). IsBarred f c.loop-place.top.k held s → IsBarred f c.loop-place.top.k new s) so_far.floor (kept.kept s))) so_far.spared;
+      held = follows-considered lists terms c.args.essential c.args.first c.args.scores.now c.args.marks.now c.requires.terms c.requires.scores c.requires.marks c.top_list_grows.ensures.offered c.top_list_grows.ensures.skipped at floor c.args.top.now.k c.args.top.now.held held new inside next.marked considered here;
     }
 
 pub returns-clause-clear : goal.returns-clause-clear
@@ -208,10 +214,11 @@ returns-clause-held g c =
     let held : List (ℕ × ℕ) = c.loop-place.top.held in
     let others : List Term = drop c.args.essential terms in
     let left : c.total_bound-left.result ≡ bounds others = c.total_bound-left.ensures ∙ ap bounds (behind-is terms c.args.essential) in
-    let low : IfSome c.threshold.result (λ least. c.least_score.result ≡ min (least + 1) 18446744073709551615 - bounds others) = subst (λ (b : ℕ). IfSome c.threshold.result (λ least. c.least_score.result ≡ min (least + 1) 18446744073709551615 - b)) left c.least_score.ensures.some in
-    let full : IfSome c.threshold.result (λ s. length held ≡ c.args.top.now.k) = subst (λ (j : ℕ). IfSome c.threshold.result (λ s. length held ≡ j)) k c.threshold.ensures.full in
+    let low : IfSome c.bar.result (λ least. c.least_score.result ≡ min (least + 1) 18446744073709551615 - bounds others) = subst (λ (b : ℕ). IfSome c.bar.result (λ least. c.least_score.result ≡ min (least + 1) 18446744073709551615 - b)) left c.least_score.ensures.some in
+    let floor : ℕ = c.args.top.now.floor in
+    let bars = bars-at c.bar.result c.loop-place.top.floor floor c.loop-place.top.k c.args.top.now.k held so_far.floor k c.bar.ensures in
     let within = so_far.within in
     let in_range = so_far.in_range in
     let none = none-there c.args.scores.now c.args.marks.now c.loop-place.scores c.loop-place.marks c.loop-place.from c.requires.wide so_far.taken c.least_score.result c.in_default.ensures.none in
-    follows-passed lists terms c.args.essential c.args.first c.args.scores.now c.args.marks.now c.requires.terms c.requires.scores c.requires.marks c.top_list_grows.ensures.skipped c.loop-place.from (min (c.args.first + length c.args.scores.now) c.args.top.now.n) c.args.top.now.k c.least_score.result c.threshold.result c.args.top.now.held held
-    so_far.spared full c.threshold.ensures.least c.least_score.ensures.none low (omega arith) (omega arith) (λ j f lt is. none j f (omega arith) is) so_far.held
+    follows-passed lists terms c.args.essential c.args.first c.args.scores.now c.args.marks.now c.requires.terms c.requires.scores c.requires.marks c.top_list_grows.ensures.skipped c.loop-place.from (min (c.args.first + length c.args.scores.now) c.args.top.now.n) floor c.args.top.now.k c.least_score.result c.bar.result c.args.top.now.held held
+    so_far.spared bars c.least_score.ensures.none low (omega arith) (omega arith) (λ j f lt is. none j f (omega arith) is) so_far.held

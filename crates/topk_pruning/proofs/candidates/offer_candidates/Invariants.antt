@@ -15,9 +15,10 @@ invariant-loop-place g l = record {
   in_range : l.first + l.from ≤ l.initial.top.n;
   k : l.top.k ≡ l.initial.top.k;
   n : l.top.n ≡ l.initial.top.n;
+  floor : l.top.floor ≡ l.initial.top.floor;
   above : All (λ e. e.0 < l.first + l.from) l.top.held;
-  spared : AreSpared l.initial.top.k l.top.held l.terms l.essential;
-  held : FollowsTo (map g.C.DocCursor.list l.initial.cursors) l.terms l.initial.top.k l.first (l.first + l.from) l.initial.top.held l.top.held;
+  spared : AreSpared l.initial.top.floor l.initial.top.k l.top.held l.terms l.essential;
+  held : FollowsTo (map g.C.DocCursor.list l.initial.cursors) l.terms l.initial.top.floor l.initial.top.k l.first (l.first + l.from) l.initial.top.held l.top.held;
 }
 
 abbrev pub decreases-loop-place : goal.decreases-loop-place

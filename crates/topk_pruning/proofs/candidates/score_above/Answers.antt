@@ -36,7 +36,7 @@ overflow_add-score g c =
 pub returns-then-not-is_above-clause-dropped : goal.returns-then-not-is_above-clause-dropped
 returns-then-not-is_above-clause-dropped g c =
     let lists : List (List Posting) = map g.C.DocCursor.list c.args.cursors.now in
-    beats-lower c.args.threshold (c.args.known + score_in lists c.args.doc c.args.others.now) (c.loop-term.score + c.loop-term.left)
+    beats-lower c.args.bar (c.args.known + score_in lists c.args.doc c.args.others.now) (c.loop-term.score + c.loop-term.left)
     (score-within lists c.args.others.now c.args.doc c.loop-term.term-index c.args.known c.loop-term.score c.loop-term.left c.requires.terms c.loop-term.invariant.so_far c.loop-term.invariant.left)
     (sym c.is_above.ensures ∙ search (c.if-not-is_above.true, rules, tests))
 

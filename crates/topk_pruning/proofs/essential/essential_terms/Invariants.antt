@@ -6,5 +6,5 @@ abbrev pub invariant-loop-term : goal.invariant-loop-term
 invariant-loop-term l = record {
   left : l.left ≡ bounds (drop l.term-index l.terms);
   count : l.count ≡ l.term-index;
-  needed : (i : ℕ) → i < l.count → beats l.threshold (bounds (drop i l.terms)) ≡ true;
+  needed : (i : ℕ) → i < l.count → beats l.bar (bounds (drop i l.terms)) ≡ true;
 }

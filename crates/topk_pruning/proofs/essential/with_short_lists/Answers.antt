@@ -23,9 +23,9 @@ loop-place-preserved g c =
     }
 
 pub returns-clause-spared : goal.returns-clause-spared
-returns-clause-spared g c = λ k held spared.
+returns-clause-spared g c = λ floor k held spared.
     let so_far = c.loop-place.invariant in
     let within = so_far.within in
     let each = so_far.each in
     let end = c.loop-place.auto.place-end in
-    spared-less c.args.terms.now c.loop-place.terms c.args.essential c.loop-place.count k held so_far.each so_far.more (omega arith) so_far.less spared
+    spared-less c.args.terms.now c.loop-place.terms c.args.essential c.loop-place.count floor k held so_far.each so_far.more (omega arith) so_far.less spared

@@ -1,41 +1,28 @@
-use Rattle.std.proofs.Common.{◌≡◌, sym, ap, ◌∙◌, subst, ℕ, ◌+◌, ◌<◌, ◌≤◌, List, map, take, length, get_or, true, false, arith}
-use Rattle.std.specs.Option.{IfSome}
-use Rattle.std.proofs.lemmas.List.{length-map}
-use Rattle.std.proofs.lemmas.List.Elements.{All-set}
-use Rattle.collection_model.specs.Collection.{Posting}
-use Rattle.scan_plans.specs.Matches.{has_doc}
-use Rattle.scan_plans.specs.Scan.{HasPassed}
-use Rattle.topk_pruning.specs.declared.term.Term.{Term}
-use Rattle.topk_pruning.specs.Terms.{list_of, IsFirstDoc}
-use Rattle.topk_pruning.proofs.Moves.{lists-set, list-read, tell-none, tell-has, first-more}
+use Rattle.std.proofs.Common.{map}
+use Rattle.topk_pruning.proofs.Tops.{next-alone, next-of_first, others-low, passed-some, within-now}
 use Rattle.topk_pruning.proofs.maxscore.next_candidate.Goals as goal
 
-pub loop-term-preserved : goal.loop-term-preserved
-loop-term-preserved g c =
-    let list = g.C.DocCursor.list in
-    let place = g.C.DocCursor.place in
-    let lists : List (List Posting) = map list c.args.cursors.now in
-    let from : ℕ = c.args.from in
-    let cs = c.loop-term.cursors in
-    let i : ℕ = c.loop-term.term-index in
-    let none : Term = record { list = 0; weight = 0; bound = 0 } in
-    let t : Term = get_or c.args.terms.now i none in
-    let d = c.index-cursors-term.result in
-    let new = c.doc_from.new.cursor in
-    let l = length-map cs list in
-    let m = length-map c.args.cursors.now list in
-    let same_count = ap length c.loop-term.invariant.lists in
-    let inside = c.requires.within i none c.loop-term-test.true in
-    let within : t.list < length cs = omega arith in
-    let same : list new ≡ list_of lists t = c.doc_from.ensures.list ∙ list-read list place cs lists t.list d c.loop-term.invariant.lists within in
-    let good = g.met.C.DocCursor.well_formed new in
-    let stand = c.doc_from.ensures.stand in
-    let before : (e : ℕ) → from ≤ e → IfSome c.doc_from.result (λ n. e < n) → has_doc e (list_of lists t) ≡ false = λ e after lt.
-    ap (has_doc e) (sym same) ∙ tell-none c.cursors_tell.ensures.between c.cursors_tell.ensures.left (list new) from (place new) c.doc_from.result good stand c.doc_from.ensures.doc e after lt in
-    let has : IfSome c.doc_from.result (λ n. (from ≤ n) × (has_doc n (list_of lists t) ≡ true)) =
-    subst (λ (l : List Posting). IfSome c.doc_from.result (λ n. (from ≤ n) × (has_doc n l ≡ true))) same (tell-has c.cursors_tell.ensures.at (list new) from (place new) c.doc_from.result good stand c.doc_from.ensures.doc) in
-    record {
-      lists = lists-set list place cs t.list new d within c.doc_from.ensures.list ∙ c.loop-term.invariant.lists;
-      passed = All-set (λ x. HasPassed from (list x) (place x)) cs t.list new (record { passed = stand.passed }) c.loop-term.invariant.passed;
-      first = subst (IsFirstDoc lists (take (i + 1) c.args.terms.now) from) (sym c.earlier-least.ensures) (first-more lists c.args.terms.now i from none c.loop-term.least c.doc_from.result c.loop-term-test.true before has c.loop-term.invariant.first);
-    }
+pub first_doc-requires-clause-within : goal.first_doc-requires-clause-within
+first_doc-requires-clause-within g c = within-now g.C.DocCursor.list c.args.cursors.now c.args.terms.now c.essential_now-essential.result c.requires.terms
+
+pub returns-clause-passed : goal.returns-clause-passed
+returns-clause-passed g c =
+    let lists = map g.C.DocCursor.list c.args.cursors.now in
+    passed-some g.C.DocCursor.list g.C.DocCursor.place c.first_doc.new.cursors lists _ c.args.from c.first_doc.result c.first_doc.ensures.first c.first_doc.ensures.passed
+
+pub returns-clause-next : goal.returns-clause-next
+returns-clause-next g c =
+    let lists = map g.C.DocCursor.list c.args.cursors.now in
+    let top = c.args.top.now in
+    next-of_first lists c.args.terms.now top.floor top.k c.essential_now-essential.result c.args.from top.held c.first_doc.result c.requires.terms c.essential_now-essential.ensures c.first_doc.ensures.first
+
+pub next_of_one-requires-clause-others : goal.next_of_one-requires-clause-others
+next_of_one-requires-clause-others g c =
+    let top = c.args.top.now in
+    others-low c.args.terms.now top.floor top.k c.essential_now-essential.result c.in-Some.bar top.held c.if-essential-eq1.true c.essential_now-essential.ensures c.in-Some.ensures
+
+pub returns-in-Some-clause-next : goal.returns-in-Some-clause-next
+returns-in-Some-clause-next g c =
+    let lists = map g.C.DocCursor.list c.args.cursors.now in
+    let top = c.args.top.now in
+    next-alone lists c.args.terms.now top.floor top.k c.in-Some.bar c.args.from top.held c.next_of_one.result c.in-Some.ensures c.next_of_one.ensures.before c.next_of_one.ensures.found

@@ -1,35 +1,33 @@
-use Rattle.std.proofs.Common.{◌≡◌, sym, ap, ◌∙◌, subst, ℕ, ◌<◌, ◌^◌, List, map, take, length, Some, None, arith}
+use Rattle.std.proofs.Common.{◌≡◌, sym, ap, ◌∙◌, subst, ℕ, ◌<◌, ◌≤◌, ◌^◌, List, map, length, Some, None, arith}
 use Rattle.std.specs.List.{All}
 use Rattle.std.proofs.lemmas.List.{length-map}
 use Rattle.std.proofs.lemmas.Result.{IfOk-weaker}
 use Rattle.collection_model.specs.Collection.{Posting}
-use Rattle.scan_plans.specs.Matches.{AreBelow}
+use Rattle.scan_plans.specs.Matches.{AreBelow, in_any}
 use Rattle.scan_plans.specs.IsTop.{IsTop}
 use Rattle.topk_pruning.specs.declared.term.Term.{Term}
 use Rattle.topk_pruning.specs.Terms.{AreQueryTerms, AreTerms, AreAllTerms, FollowsTo}
 use Rattle.topk_pruning.specs.Windows.{IsReady}
-use Rattle.topk_pruning.proofs.Moves.{later-passed}
 use Rattle.topk_pruning.proofs.Scores.{terms-are, all-terms}
-use Rattle.topk_pruning.proofs.Tops.{IsStep, next-step, last-step, scores-light, within-now, first-same, spared-same}
-use Rattle.topk_pruning.proofs.Windows.{query-terms}
+use Rattle.topk_pruning.proofs.Tops.{IsStep, next-step, next-same, last-step, scores-light, within-all}
+use Rattle.topk_pruning.proofs.Windows.{query-terms, terms-weighty}
 use Rattle.topk_pruning.proofs.maxscore.score_essential.Given as given
 use Rattle.topk_pruning.proofs.maxscore.score_essential.Goals as goal
 use Rattle.topk_pruning.proofs.maxscore.score_essential.Goals.{In-Some, In_default}
 
 -- what is known of the first document of a window
-first-step : (g : given.Over) (c : In-Some g) → IsStep c.args.n (map g.C.DocCursor.list c.args.cursors.now) c.args.weights.now c.in_ok-terms.terms.items c.args.k c.loop-first.from c.in-Some.first c.loop-first.top.held
+first-step : (g : given.Over) (c : In-Some g) → IsStep c.args.n (map g.C.DocCursor.list c.args.cursors.now) c.args.weights.now c.common_score-floor.result c.args.k c.loop-first.from c.in-Some.first c.loop-first.top.held
 first-step g c =
     let list = g.C.DocCursor.list in
     let lists : List (List Posting) = map list c.args.cursors.now in
     let weights : List ℕ = c.args.weights.now in
     let terms : List Term = c.in_ok-terms.terms.items in
-    let are : AreTerms lists terms = terms-are lists weights terms c.in_ok-terms.ensures.all c.in_ok-terms.ensures.light in
     let count = length-map c.args.cursors.now list in
     let all : AreAllTerms lists weights terms = all-terms lists weights terms (omega (arith, c.requires.each, count)) c.in_ok-terms.ensures.all in
     let so_far = c.loop-first.invariant in
-    let first = first-same (map list c.loop-first.cursors) lists c.deref-in-loop-first.result.now terms c.loop-first.essential c.loop-first.from (Some c.in-Some.first) so_far.lists c.deref-in-loop-first.ensures.value c.in-Some.ensures.first in
+    let next = next-same (map list c.loop-first.cursors) lists c.deref-in-loop-first.result.now terms c.loop-first.top.floor c.common_score-floor.result c.loop-first.top.k c.args.k c.loop-first.from c.loop-first.top.held (Some c.in-Some.first) so_far.lists c.deref-in-loop-first.ensures.value so_far.floor so_far.k c.in-Some.ensures.next in
     let grows = c.top_list_grows.ensures in
-    next-step grows.skipped grows.below grows.in_range c.args.n lists weights terms c.args.k c.loop-first.from c.in-Some.first c.loop-first.essential c.loop-first.top.held c.requires.in_range all are so_far.spared so_far.held first
+    next-step grows.skipped grows.below grows.in_range c.args.n lists weights terms c.common_score-floor.result c.args.k c.loop-first.from c.in-Some.first c.loop-first.top.held c.requires.in_range all so_far.held next
 
 -- what is held where no list has a further document
 top-of_none : (g : given.Over) (c : In_default g) → IsTop c.args.n (map g.C.DocCursor.list c.args.cursors.now) c.args.weights.now c.args.k c.loop-first.top.held
@@ -38,21 +36,44 @@ top-of_none g c =
     let lists : List (List Posting) = map list c.args.cursors.now in
     let weights : List ℕ = c.args.weights.now in
     let terms : List Term = c.in_ok-terms.terms.items in
-    let are : AreTerms lists terms = terms-are lists weights terms c.in_ok-terms.ensures.all c.in_ok-terms.ensures.light in
+    let floor : ℕ = c.common_score-floor.result in
     let count = length-map c.args.cursors.now list in
     let all : AreAllTerms lists weights terms = all-terms lists weights terms (omega (arith, c.requires.each, count)) c.in_ok-terms.ensures.all in
     let so_far = c.loop-first.invariant in
-    let first = first-same (map list c.loop-first.cursors) lists c.deref-in-loop-first.result.now terms c.loop-first.essential c.loop-first.from None so_far.lists c.deref-in-loop-first.ensures.value c.in_default.ensures.first in
-    last-step c.top_list_grows.ensures.skipped c.args.n lists weights terms c.args.k c.loop-first.from c.loop-first.essential c.loop-first.top.held all are so_far.spared so_far.in_range so_far.held first
+    let next = next-same (map list c.loop-first.cursors) lists c.deref-in-loop-first.result.now terms c.loop-first.top.floor floor c.loop-first.top.k c.args.k c.loop-first.from c.loop-first.top.held None so_far.lists c.deref-in-loop-first.ensures.value so_far.floor so_far.k c.in_default.ensures.next in
+    let top = last-step c.top_list_grows.ensures.skipped c.args.n lists weights terms floor c.args.k c.loop-first.from c.loop-first.top.held all so_far.in_range so_far.held next in
+    c.top_list_has_a_floor.ensures floor c.args.n lists weights c.args.k c.loop-first.top.held (c.common_score-floor.ensures c.args.n weights c.requires.in_range (subst (AreAllTerms lists weights) (sym c.deref.ensures.value) all)) top
 
-pub next_candidate-requires-clause-within : goal.next_candidate-requires-clause-within
-next_candidate-requires-clause-within g c =
+pub common_score-floor-requires-clause-within : goal.common_score-floor-requires-clause-within
+common_score-floor-requires-clause-within g c =
     let list = g.C.DocCursor.list in
     let lists : List (List Posting) = map list c.args.cursors.now in
     let terms : List Term = c.in_ok-terms.terms.items in
     let are : AreTerms lists terms = terms-are lists c.args.weights.now terms c.in_ok-terms.ensures.all c.in_ok-terms.ensures.light in
-    let so_far = c.loop-first.invariant in
-    subst (λ (ts : List Term). All (λ t. t.list < length c.loop-first.cursors) (take c.loop-first.essential ts)) (sym c.deref-in-loop-first.ensures.value) (within-now list c.loop-first.cursors lists terms c.loop-first.essential so_far.lists are)
+    subst (λ (ts : List Term). All (λ t. t.list < length c.args.cursors.now) ts) (sym c.deref.ensures.value) (within-all list c.args.cursors.now terms are)
+
+pub next_candidate-requires-clause-terms : goal.next_candidate-requires-clause-terms
+next_candidate-requires-clause-terms g c =
+    let list = g.C.DocCursor.list in
+    let lists : List (List Posting) = map list c.args.cursors.now in
+    let terms : List Term = c.in_ok-terms.terms.items in
+    let are : AreTerms lists terms = terms-are lists c.args.weights.now terms c.in_ok-terms.ensures.all c.in_ok-terms.ensures.light in
+    subst (λ (ls : List (List Posting)). AreTerms ls c.deref-in-loop-first.result.now) (sym c.loop-first.invariant.lists) (subst (AreTerms lists) (sym c.deref-in-loop-first.ensures.value) are)
+
+pub next_candidate-requires-clause-weighty : goal.next_candidate-requires-clause-weighty
+next_candidate-requires-clause-weighty g c =
+    let lists : List (List Posting) = map g.C.DocCursor.list c.args.cursors.now in
+    let count = length-map c.args.cursors.now g.C.DocCursor.list in
+    subst (λ (ts : List Term). All (λ t. 1 ≤ t.weight) ts) (sym c.deref-in-loop-first.ensures.value) (terms-weighty lists c.args.weights.now c.in_ok-terms.terms.items (omega (arith, c.requires.each, count)) c.requires.some c.in_ok-terms.ensures.all)
+
+pub postings_between-requires : goal.postings_between-requires
+postings_between-requires g c =
+    let list = g.C.DocCursor.list in
+    let lists : List (List Posting) = map list c.args.cursors.now in
+    let terms : List Term = c.in_ok-terms.terms.items in
+    let are : AreTerms lists terms = terms-are lists c.args.weights.now terms c.in_ok-terms.ensures.all c.in_ok-terms.ensures.light in
+    let same = c.in-Some.ensures.lists ∙ c.loop-first.invariant.lists in
+    record { within = subst (λ (ts : List Term). All (λ t. t.list < length c.next_candidate.new.cursors) ts) (sym c.deref-in-Some.ensures.value) (within-all list c.next_candidate.new.cursors terms (subst (λ (ls : List (List Posting)). AreTerms ls terms) (sym same) are)) }
 
 pub score_from-from-requires-clause-terms : goal.score_from-from-requires-clause-terms
 score_from-from-requires-clause-terms g c =
@@ -62,12 +83,11 @@ score_from-from-requires-clause-terms g c =
     let count = length-map c.args.cursors.now list in
     let same = c.in-Some.ensures.lists ∙ c.loop-first.invariant.lists in
     let query : AreQueryTerms lists terms = query-terms lists c.args.weights.now terms (omega (arith, c.requires.each, count)) c.requires.light c.in_ok-terms.ensures.all c.in_ok-terms.ensures.light in
-    subst (λ (ls : List (List Posting)). AreQueryTerms ls c.deref-in-Some.result.now) (sym same) (subst (AreQueryTerms lists) (sym c.deref-in-Some.ensures.value) query)
+    subst (λ (ls : List (List Posting)). AreQueryTerms ls c.deref-in-Some-2.result.now) (sym same) (subst (AreQueryTerms lists) (sym c.deref-in-Some-2.ensures.value) query)
 
 pub score_from-from-requires-clause-passed : goal.score_from-from-requires-clause-passed
 score_from-from-requires-clause-passed g c =
-    let step = first-step g (goal.at.score_from-from-requires-clause-passed g c).In-Some in
-    later-passed g.C.DocCursor.list g.C.DocCursor.place c.next_candidate.new.cursors c.loop-first.from c.in-Some.first step.later c.in-Some.ensures.passed
+    c.in-Some.ensures.passed
 
 pub score_from-from-requires-clause-below : goal.score_from-from-requires-clause-below
 score_from-from-requires-clause-below g c =
@@ -78,7 +98,7 @@ pub score_from-from-requires-clause-in_range : goal.score_from-from-requires-cla
 score_from-from-requires-clause-in_range g c = (first-step g (goal.at.score_from-from-requires-clause-in_range g c).In-Some).in_range
 
 pub score_from-from-requires-clause-ready : goal.score_from-from-requires-clause-ready
-score_from-from-requires-clause-ready g c = subst (λ (count : ℕ). IsReady count c.loop-first.room) (sym (ap length c.deref-in-Some.ensures.value)) c.loop-first.invariant.ready
+score_from-from-requires-clause-ready g c = subst (λ (count : ℕ). IsReady count c.narrow_after.new.self) (sym (ap length c.deref-in-Some-2.ensures.value)) (c.narrow_after.ensures.ready (length c.in_ok-terms.terms.items) c.loop-first.invariant.ready)
 
 pub score_from-from-requires-clause-above : goal.score_from-from-requires-clause-above
 score_from-from-requires-clause-above g c = (first-step g (goal.at.score_from-from-requires-clause-above g c).In-Some).above
@@ -102,21 +122,23 @@ loop-first-preserved g c =
     let scored = c.score_from-from.ensures in
     let first : ℕ = c.in-Some.first in
     let to : ℕ = c.score_from-from.result in
+    let floor : ℕ = c.common_score-floor.result in
     let held : List (ℕ × ℕ) = c.loop-first.top.held in
     let new : List (ℕ × ℕ) = c.score_from-from.new.top.held in
-    let follows : FollowsTo lists terms c.args.k first to held new =
-    subst (λ (j : ℕ). FollowsTo lists terms j first to held new) so_far.k
-    (subst (λ (ls : List (List Posting)). FollowsTo ls terms c.loop-first.top.k first to held new) same
-    (subst (λ (ts : List Term). FollowsTo (map list c.next_candidate.new.cursors) ts c.loop-first.top.k first to held new) c.deref-in-Some.ensures.value scored.held)) in
+    let follows : FollowsTo lists terms floor c.args.k first to held new =
+    subst (λ (j : ℕ). FollowsTo lists terms floor j first to held new) so_far.k
+    (subst (λ (f : ℕ). FollowsTo lists terms f c.loop-first.top.k first to held new) so_far.floor
+    (subst (λ (ls : List (List Posting)). FollowsTo ls terms c.loop-first.top.floor c.loop-first.top.k first to held new) same
+    (subst (λ (ts : List Term). FollowsTo (map list c.next_candidate.new.cursors) ts c.loop-first.top.floor c.loop-first.top.k first to held new) c.deref-in-Some-2.ensures.value scored.held))) in
     record {
       lists = scored.lists ∙ same;
       passed = scored.passed;
       in_range = scored.in_range;
-      ready = subst (λ (count : ℕ). IsReady count c.score_from-from.new.room) (ap length c.deref-in-Some.ensures.value) scored.ready;
+      ready = subst (λ (count : ℕ). IsReady count c.score_from-from.new.room) (ap length c.deref-in-Some-2.ensures.value) scored.ready;
       k = scored.k ∙ so_far.k;
       n = scored.n ∙ so_far.n;
+      floor = scored.floor ∙ so_far.floor;
       held = follows weights all step.top;
-      spared = spared-same c.deref-in-Some-2.result.now terms c.score_from-from.new.top.k c.args.k c.essential_now-essential.result new c.deref-in-Some-2.ensures.value (scored.k ∙ so_far.k) c.essential_now-essential.ensures;
     }
 
 pub returns-clause-first : goal.returns-clause-first
@@ -133,5 +155,5 @@ returns-clause-bound g c =
     let are : AreTerms lists terms = terms-are lists weights terms c.in_ok-terms.ensures.all c.in_ok-terms.ensures.light in
     let count = length-map c.args.cursors.now g.C.DocCursor.list in
     let all : AreAllTerms lists weights terms = all-terms lists weights terms (omega (arith, c.requires.each, count)) c.in_ok-terms.ensures.all in
-    let light = scores-light c.args.n lists weights terms c.args.k c.loop-first.top.held all are (top-of_none g (goal.at.returns-clause-bound g c).In_default) in
+    let light = scores-light (in_any c.args.n lists) lists weights terms c.args.k c.loop-first.top.held all are (top-of_none g (goal.at.returns-clause-bound g c).In_default) in
     IfOk-weaker c.into_list.result (λ r. r.items ≡ c.loop-first.top.held) (λ r. All (λ e. e.1 < 2 ^ 58) r.items) (λ r is. subst (λ (h : List (ℕ × ℕ)). All (λ e. e.1 < 2 ^ 58) h) (sym is) light) c.into_list.ensures

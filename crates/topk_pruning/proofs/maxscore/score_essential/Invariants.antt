@@ -1,8 +1,7 @@
 use Rattle.std.proofs.Common.{◌≡◌, ◌-◌, ◌≤◌, length, map}
 use Rattle.std.specs.List.{All}
-use Rattle.scan_plans.specs.IsTop.{IsTop}
+use Rattle.scan_plans.specs.IsTop.{IsTopFrom}
 use Rattle.scan_plans.specs.Scan.{HasPassed}
-use Rattle.topk_pruning.specs.Terms.{AreSpared}
 use Rattle.topk_pruning.specs.Windows.{IsReady}
 use Rattle.topk_pruning.proofs.maxscore.score_essential.Given as goal
 
@@ -14,8 +13,8 @@ invariant-loop-first g l = record {
   ready : IsReady (length l.terms.items) l.room;
   k : l.top.k ≡ l.fn.k;
   n : l.top.n ≡ l.fn.n;
-  held : IsTop l.from (map g.C.DocCursor.list l.initial.cursors) l.weights l.fn.k l.top.held;
-  spared : AreSpared l.fn.k l.top.held l.terms.items l.essential;
+  floor : l.top.floor ≡ l.floor;
+  held : IsTopFrom l.floor l.from (map g.C.DocCursor.list l.initial.cursors) l.weights l.fn.k l.top.held;
 }
 
 abbrev pub decreases-loop-first : goal.decreases-loop-first

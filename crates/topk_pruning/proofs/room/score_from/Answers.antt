@@ -30,10 +30,11 @@ pub returns-clause-held : goal.returns-clause-held
 returns-clause-held g c =
     let lists : List (List Posting) = map g.C.DocCursor.list c.args.cursors.now in
     let near : List Term = c.bound_terms-reach.new.near in
+    let floor : ℕ = c.args.top.now.floor in
     let k : ℕ = c.args.top.now.k in
     let first : ℕ = c.args.first in
     let to : ℕ = c.score_up_to.result in
     let held : List (ℕ × ℕ) = c.args.top.now.held in
     let new : List (ℕ × ℕ) = c.score_up_to.new.top.held in
     let same = written-back c.args.room.now.terms.len near c.args.room.now.terms.items c.args.room.now.terms.ok.0 (c.bound_terms-reach.ensures.each ∙ sym c.requires.ready.each) in
-    follows-alike lists c.args.terms.now near k first to held new c.bound_terms-reach.ensures.near.alike (subst (λ (ts : List Term). FollowsTo lists ts k first to held new) same c.score_up_to.ensures.held)
+    follows-alike lists c.args.terms.now near floor k first to held new c.bound_terms-reach.ensures.near.alike (subst (λ (ts : List Term). FollowsTo lists ts floor k first to held new) same c.score_up_to.ensures.held)

@@ -1,22 +1,22 @@
-use Rattle.std.proofs.Common.{◌≡◌, sym, ap, ◌∙◌, subst, ℕ, ◌<◌, ◌^◌, List, map, length, Some, None, arith}
+use Rattle.std.proofs.Common.{◌≡◌, refl, sym, ap, inl, ◌∙◌, subst, ℕ, ◌<◌, ◌^◌, List, map, length, Some, None, arith}
 use Rattle.std.specs.List.{All}
 use Rattle.std.proofs.lemmas.List.{length-map}
 use Rattle.std.proofs.lemmas.Result.{IfOk-weaker}
 use Rattle.collection_model.specs.Collection.{Posting}
-use Rattle.scan_plans.specs.Matches.{AreBelow}
-use Rattle.scan_plans.specs.IsTop.{IsTop}
-use Rattle.std.specs.Option.{IfSome}
-use Rattle.scan_plans.specs.Ranking.{Ranking}
+use Rattle.scan_plans.specs.Matches.{AreBelow, in_any}
+use Rattle.scan_plans.specs.IsTop.{IsTop, IsTopFrom}
 use Rattle.topk_pruning.specs.declared.term.Term.{Term}
 use Rattle.topk_pruning.specs.declared.order.Standing.{Standing}
+use Rattle.topk_pruning.specs.Held.{RankingFrom}
 use Rattle.topk_pruning.specs.Terms.{AreTerms, AreQueryTerms, AreAllTerms, FollowsTo, bounds}
 use Rattle.topk_pruning.specs.Windows.{IsReady}
 use Rattle.topk_pruning.specs.Order.{terms_at, IsOrder, IsPivot}
 use Rattle.topk_pruning.proofs.Moves.{later-passed}
 use Rattle.topk_pruning.proofs.Scores.{terms-are, all-terms}
-use Rattle.topk_pruning.proofs.Orders.{order-later}
-use Rattle.topk_pruning.proofs.Pivots.{AtPivot, caught-order, standing-are, pivot-step, pivot-end}
-use Rattle.topk_pruning.proofs.Tops.{scores-light}
+use Rattle.topk_pruning.proofs.Orders.{all-again, all-of, order-later}
+use Rattle.topk_pruning.proofs.Bars.{bars-at}
+use Rattle.topk_pruning.proofs.Pivots.{caught-order, standing-are, pivot-step, pivot-end}
+use Rattle.topk_pruning.proofs.Tops.{IsStep, next-step, last-step, scores-light}
 use Rattle.topk_pruning.proofs.Windows.{query-terms}
 use Rattle.topk_pruning.proofs.wand.score_from_pivots.Given as given
 use Rattle.topk_pruning.proofs.wand.score_from_pivots.Goals as goal
@@ -35,9 +35,10 @@ loop-room-init g c =
       lists = c.order_of.ensures.lists;
       passed = c.order_of.ensures.passed;
       in_range = omega arith;
-      k = ap (λ (t : Ranking). t.k) c.in_ok-top.ensures;
-      n = ap (λ (t : Ranking). t.n) c.in_ok-top.ensures;
-      held = subst (IsTop 0 lists c.args.weights.now c.args.k) (sym (ap (λ (t : Ranking). t.held) c.in_ok-top.ensures)) (c.top_list_grows.ensures.none lists c.args.weights.now c.args.k);
+      k = ap (λ (t : RankingFrom). t.k) c.in_ok-top.ensures;
+      n = ap (λ (t : RankingFrom). t.n) c.in_ok-top.ensures;
+      floor = ap (λ (t : RankingFrom). t.floor) c.in_ok-top.ensures;
+      held = subst (λ (h : List (ℕ × ℕ)). IsTopFrom 0 0 lists c.args.weights.now c.args.k h) (sym (ap (λ (t : RankingFrom). t.held) c.in_ok-top.ensures)) (c.top_list_grows.ensures.none 0 lists c.args.weights.now c.args.k);
       order = subst (λ (ts : List Term). IsOrder lists ts 0 c.in_ok-order.order.items) c.deref.ensures.value c.in_ok-order.ensures.order;
       falling = c.in_ok-order.ensures.falling;
       ready = subst (λ (count : ℕ). IsReady count c.in_ok-room.room) (ap length c.deref-2.ensures.value) c.in_ok-room.ensures;
@@ -70,7 +71,7 @@ pivot-requires g c =
     record { light = omega arith }
 
 -- what is known at a pivot
-pivot-known : (g : given.Over) (c : In-Some g) → AtPivot c.args.n (map g.C.DocCursor.list c.args.cursors.now) c.args.weights.now c.args.k c.loop-room.from c.in-Some.first c.loop-room.top.held
+pivot-known : (g : given.Over) (c : In-Some g) → IsStep c.args.n (map g.C.DocCursor.list c.args.cursors.now) c.args.weights.now 0 c.args.k c.loop-room.from c.in-Some.first c.loop-room.top.held
 pivot-known g c =
     let lists : List (List Posting) = map g.C.DocCursor.list c.args.cursors.now in
     let weights : List ℕ = c.args.weights.now in
@@ -78,12 +79,17 @@ pivot-known g c =
     let are : AreTerms lists terms = terms-are lists weights terms c.in_ok-terms.ensures.all c.in_ok-terms.ensures.light in
     let count = length-map c.args.cursors.now g.C.DocCursor.list in
     let all : AreAllTerms lists weights terms = all-terms lists weights terms (omega (arith, c.requires.each, count)) c.in_ok-terms.ensures.all in
+    let so_far = c.loop-room.invariant in
+    let from : ℕ = c.loop-room.from in
+    let k : ℕ = c.args.k in
+    let held : List (ℕ × ℕ) = c.loop-room.top.held in
     let order : List Standing = c.catch_up.new.order.items in
-    let caught : IsOrder lists terms c.loop-room.from order = caught-order (map g.C.DocCursor.list c.loop-room.cursors) lists terms c.loop-room.from c.loop-room.order.items order c.loop-room.invariant.lists c.in_ok-catch_up.ensures.order c.loop-room.invariant.order in
-    let full = subst (λ (k : ℕ). IfSome c.threshold.result (λ s. length c.loop-room.top.held ≡ k)) c.loop-room.invariant.k c.threshold.ensures.full in
-    let pivot : IsPivot order c.threshold.result (Some c.in-Some.first) = subst (λ (o : List Standing). IsPivot o c.threshold.result (Some c.in-Some.first)) c.deref-in-loop-room.ensures.value c.in-Some.ensures in
+    let caught : IsOrder lists terms from order = caught-order (map g.C.DocCursor.list c.loop-room.cursors) lists terms from c.loop-room.order.items order so_far.lists c.in_ok-catch_up.ensures.order so_far.order in
+    let bars = bars-at c.bar.result c.loop-room.top.floor 0 c.loop-room.top.k k held so_far.floor so_far.k c.bar.ensures in
+    let pivot : IsPivot order c.bar.result (Some c.in-Some.first) = subst (λ (o : List Standing). IsPivot o c.bar.result (Some c.in-Some.first)) c.deref-in-loop-room.ensures.value c.in-Some.ensures in
     let grows = c.top_list_grows.ensures in
-    pivot-step grows.skipped grows.below grows.in_range c.args.n lists weights terms c.args.k c.loop-room.from c.in-Some.first order c.threshold.result c.loop-room.top.held c.requires.in_range all are caught c.in_ok-catch_up.ensures.falling c.in_ok-catch_up.ensures.caught_up full c.threshold.ensures.least pivot c.loop-room.invariant.held
+    next-step grows.skipped grows.below grows.in_range c.args.n lists weights (all-of lists terms from order caught) 0 k from c.in-Some.first held c.requires.in_range (all-again lists weights terms from order caught all) so_far.held
+    (pivot-step lists terms 0 k from c.in-Some.first order c.bar.result held are caught c.in_ok-catch_up.ensures.falling c.in_ok-catch_up.ensures.caught_up bars pivot)
 
 -- what is held where there is none
 top-of_none : (g : given.Over) (c : In_default g) → IsTop c.args.n (map g.C.DocCursor.list c.args.cursors.now) c.args.weights.now c.args.k c.loop-room.top.held
@@ -94,10 +100,17 @@ top-of_none g c =
     let are : AreTerms lists terms = terms-are lists weights terms c.in_ok-terms.ensures.all c.in_ok-terms.ensures.light in
     let count = length-map c.args.cursors.now g.C.DocCursor.list in
     let all : AreAllTerms lists weights terms = all-terms lists weights terms (omega (arith, c.requires.each, count)) c.in_ok-terms.ensures.all in
+    let so_far = c.loop-room.invariant in
+    let from : ℕ = c.loop-room.from in
+    let k : ℕ = c.args.k in
+    let held : List (ℕ × ℕ) = c.loop-room.top.held in
     let order : List Standing = c.catch_up.new.order.items in
-    let full = subst (λ (k : ℕ). IfSome c.threshold.result (λ s. length c.loop-room.top.held ≡ k)) c.loop-room.invariant.k c.threshold.ensures.full in
-    let pivot : IsPivot order c.threshold.result None = subst (λ (o : List Standing). IsPivot o c.threshold.result None) c.deref-in-loop-room.ensures.value c.in_default.ensures in
-    pivot-end c.top_list_grows.ensures.skipped c.args.n lists weights terms c.args.k c.loop-room.from order c.threshold.result c.loop-room.top.held all are (caught-order (map g.C.DocCursor.list c.loop-room.cursors) (map g.C.DocCursor.list c.args.cursors.now) c.in_ok-terms.terms.items c.loop-room.from c.loop-room.order.items c.catch_up.new.order.items c.loop-room.invariant.lists c.in_ok-catch_up.ensures.order c.loop-room.invariant.order) full c.threshold.ensures.least pivot c.loop-room.invariant.in_range c.loop-room.invariant.held
+    let caught : IsOrder lists terms from order = caught-order (map g.C.DocCursor.list c.loop-room.cursors) lists terms from c.loop-room.order.items order so_far.lists c.in_ok-catch_up.ensures.order so_far.order in
+    let bars = bars-at c.bar.result c.loop-room.top.floor 0 c.loop-room.top.k k held so_far.floor so_far.k c.bar.ensures in
+    let pivot : IsPivot order c.bar.result None = subst (λ (o : List Standing). IsPivot o c.bar.result None) c.deref-in-loop-room.ensures.value c.in_default.ensures in
+    let top = last-step c.top_list_grows.ensures.skipped c.args.n lists weights (all-of lists terms from order caught) 0 k from held (all-again lists weights terms from order caught all) so_far.in_range so_far.held
+    (pivot-end lists terms 0 k from order c.bar.result held are caught bars pivot) in
+    c.top_list_has_a_floor.ensures 0 c.args.n lists weights k held (inl refl) top
 
 pub returns-in_default-clause-first : goal.returns-in_default-clause-first
 returns-in_default-clause-first g c =
@@ -113,7 +126,7 @@ returns-in_default-clause-bound g c =
     let are : AreTerms lists terms = terms-are lists weights terms c.in_ok-terms.ensures.all c.in_ok-terms.ensures.light in
     let count = length-map c.args.cursors.now g.C.DocCursor.list in
     let all : AreAllTerms lists weights terms = all-terms lists weights terms (omega (arith, c.requires.each, count)) c.in_ok-terms.ensures.all in
-    let light = scores-light c.args.n lists weights terms c.args.k c.loop-room.top.held all are (top-of_none g (goal.at.returns-in_default-clause-bound g c).In_default) in
+    let light = scores-light (in_any c.args.n lists) lists weights terms c.args.k c.loop-room.top.held all are (top-of_none g (goal.at.returns-in_default-clause-bound g c).In_default) in
     IfOk-weaker c.into_list.result (λ r. r.items ≡ c.loop-room.top.held) (λ r. All (λ e. e.1 < 2 ^ 58) r.items) (λ r is. subst (λ (h : List (ℕ × ℕ)). All (λ e. e.1 < 2 ^ 58) h) (sym is) light) c.into_list.ensures
 
 pub score_from-from-requires-clause-terms : goal.score_from-from-requires-clause-terms
@@ -166,10 +179,11 @@ loop-room-preserved g c =
     let new : List (ℕ × ℕ) = c.score_from-from.new.top.held in
     let after = known.later in
     let later = scored.later in
-    let follows : FollowsTo lists terms c.args.k first to held new =
-    subst (λ (j : ℕ). FollowsTo lists terms j first to held new) so_far.k
-    (subst (λ (ls : List (List Posting)). FollowsTo ls terms c.loop-room.top.k first to held new) same
-    (subst (λ (ts : List Term). FollowsTo (map g.C.DocCursor.list c.catch_up.new.cursors) ts c.loop-room.top.k first to held new) c.deref-in-loop-room-2.ensures.value scored.held)) in
+    let follows : FollowsTo lists terms 0 c.args.k first to held new =
+    subst (λ (j : ℕ). FollowsTo lists terms 0 j first to held new) so_far.k
+    (subst (λ (f : ℕ). FollowsTo lists terms f c.loop-room.top.k first to held new) so_far.floor
+    (subst (λ (ls : List (List Posting)). FollowsTo ls terms c.loop-room.top.floor c.loop-room.top.k first to held new) same
+    (subst (λ (ts : List Term). FollowsTo (map g.C.DocCursor.list c.catch_up.new.cursors) ts c.loop-room.top.floor c.loop-room.top.k first to held new) c.deref-in-loop-room-2.ensures.value scored.held))) in
     record {
       lists = scored.lists ∙ same;
       passed = scored.passed;
@@ -177,6 +191,7 @@ loop-room-preserved g c =
       ready = subst (λ (count : ℕ). IsReady count c.score_from-from.new.room) (ap length c.deref-in-loop-room-2.ensures.value) scored.ready;
       k = scored.k ∙ so_far.k;
       n = scored.n ∙ so_far.n;
+      floor = scored.floor ∙ so_far.floor;
       held = follows weights all known.top;
       order = order-later lists terms c.loop-room.from to c.catch_up.new.order.items (omega arith) (caught-order (map g.C.DocCursor.list c.loop-room.cursors) lists terms c.loop-room.from c.loop-room.order.items c.catch_up.new.order.items so_far.lists c.in_ok-catch_up.ensures.order so_far.order);
       falling = c.in_ok-catch_up.ensures.falling;

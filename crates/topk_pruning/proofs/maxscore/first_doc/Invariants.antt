@@ -2,7 +2,7 @@ use Rattle.std.proofs.Common.{◌≡◌, map, take}
 use Rattle.std.specs.List.{All}
 use Rattle.scan_plans.specs.Scan.{HasPassed}
 use Rattle.topk_pruning.specs.Terms.{IsFirstDoc}
-use Rattle.topk_pruning.proofs.maxscore.next_candidate.Given as goal
+use Rattle.topk_pruning.proofs.maxscore.first_doc.Given as goal
 
 abbrev pub invariant-loop-term : goal.invariant-loop-term
 invariant-loop-term g l = record {
