@@ -22,8 +22,8 @@ pub fn number(field: &[u8]) -> Option<u32>
     Some(value)
 }
 
-/// The number that the first field of a text spells and the text behind it, None where there is no field or it is no
-/// number.
+// The number that the first field of a text spells and the text behind it, None where there is no field or it is no
+// number.
 pub(crate) fn next_number(text: &[u8]) -> Option<(u32, &[u8])>
     ensures first { MatchOption result
         ((numbers_of (fields text.now) ≡ Some []) ⊎ (numbers_of (fields text.now) ≡ None))

@@ -34,6 +34,18 @@ fn reply_room(alloc: Global, count: usize, each: usize) -> Result<Vec<u8>, NoMem
     Ok(vec![in alloc; b'\n'; room]?)
 }
 
+// A text without so many bytes at its front.
+fn without_front(text: Vec<u8>, front: usize) -> Vec<u8>
+    requires { front ≤ length text.items }
+    ensures { result.items ≡ drop front text.items }
+{
+    let mut text = text;
+    let left = text.len() - front;
+    text.copy_within(front.., 0);
+    text.truncate(left);
+    text
+}
+
 // Writes a byte and then a number's decimal digits, which end at a place, and gives where they begin.
 fn write_after(byte: u8, number: u64, text: &mut [u8], end: usize) -> usize
     requires room { length (decimal number) + 1 ≤ end }
@@ -74,7 +86,7 @@ pub fn list_reply(alloc: Global, docs: &[u32]) -> Result<Vec<u8>, NoMemory>
         at = write_after(b' ', u64::from(docs[left]), text, at);
     }
     let start = write_digits(docs.len() as u64, text, at);
-    Ok(Vec::from_slice(alloc, &text[start..])?)
+    Ok(without_front(room, start))
 }
 
 /// The reply to `top`: how many documents, and each with its score. It is written from its end on.
@@ -92,7 +104,7 @@ pub fn top_reply(alloc: Global, top: &[(u32, u64)]) -> Result<Vec<u8>, NoMemory>
         at = write_after(b' ', u64::from(doc), text, middle);
     }
     let start = write_digits(top.len() as u64, text, at);
-    Ok(Vec::from_slice(alloc, &text[start..])?)
+    Ok(without_front(room, start))
 }
 
 /// The reply to a line that breaks a rule.

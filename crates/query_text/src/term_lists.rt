@@ -49,7 +49,7 @@ fn written_numbers(alloc: Global, text: &[u8]) -> Result<NumberList, AllocError>
     Ok(numbers)
 }
 
-/// The distinct terms that numbers name over so many terms, or the first rule that they break.
+// The distinct terms that numbers name over so many terms, or the first rule that they break.
 pub(crate) fn read_terms(alloc: Global, arguments: &[u8], terms: u32) -> Result<Terms, ParseError>
     ensures { Parses result (terms_named terms (numbers_of (fields arguments.now))) }
 {

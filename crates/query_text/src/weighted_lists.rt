@@ -98,7 +98,7 @@ fn written_fields(alloc: Global, text: &[u8]) -> Result<FieldList, AllocError>
     Ok(found)
 }
 
-/// The distinct terms that weighted fields name over so many terms, or the first rule that they break.
+// The distinct terms that weighted fields name over so many terms, or the first rule that they break.
 pub(crate) fn read_weighted(
     alloc: Global,
     arguments: &[u8],

@@ -35,7 +35,7 @@ impl Weighted {
     ghost use Rattle.query_text.specs.TermSet.{most_query_terms};
     ghost use Rattle.query_text.specs.Weights.{is_weight, weighted_set, AreWeights};
 
-    /// The distinct terms of some fields, each with the sum of the weights of its fields.
+    // The distinct terms of some fields, each with the sum of the weights of its fields.
     pub(crate) fn from_fields(alloc: Global, fields: &[(u32, u32)]) -> Result<Weighted, AllocError>
         requires few { length fields.now ≤ most_query_terms }
         requires weights { All (λ f. IsTrue (is_weight f.1)) fields.now }
