@@ -7,7 +7,7 @@ use no_memory::NoMemory;
 use std::alloc::Global;
 use topk_pruning::top_maxscore;
 
-/// How many documents are wanted.
+// How many documents are wanted.
 const WANTED: u32 = 10;
 
 /// The first ten documents that have either of two terms, by score falling and then document rising, each with its score: the sum of

@@ -36,7 +36,7 @@ pub fn index_of_list<L: Ledger>(
     builder.finish(sizes)
 }
 
-/// Sizes are numbers of 32 bits.
+// Sizes are numbers of 32 bits.
 fn sizes_fit(sizes: &[u32])
     ensures { All (λ s. s < 2 ^ 32) sizes.now }
 {}

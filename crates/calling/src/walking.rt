@@ -13,7 +13,7 @@ pub fn occurrences(index: &Index<'_>, term: u32) -> u64
     total(&mut index.cursor(term))
 }
 
-/// The sum of the frequencies of a list, which its cursor walks from the start to the end.
+// The sum of the frequencies of a list, which its cursor walks from the start to the end.
 fn total<C: DocCursor>(cursor: &mut C) -> u64
     requires start { C.place cursor.old ≡ 0 }
     requires within { sum_by (λ p. p.freq) (C.list cursor.old) < 2 ^ 64 }

@@ -59,7 +59,7 @@ pub enum CollError {
 impl CollError {
     ghost use Rattle.collection_reader.specs.OneFile.{call_error};
 
-    /// The refusal where a call on this slot was refused.
+    // The refusal where a call on this slot was refused.
     pub(crate) fn of_call(slot: Slot, fail: IoFail) -> CollError
         ensures { result ≡ call_error slot fail }
     {

@@ -9,10 +9,10 @@ use pef_io::{Depot, Slot};
 use std::alloc::{AllocError, Global};
 use std::marker::Model;
 
-/// The most bytes of a file that are read at once.
+// The most bytes of a file that are read at once.
 const PIECE_BYTES: usize = 8_192;
 
-/// A piece of a file, of which the bytes from `used` to `end` are still to be used.
+// A piece of a file, of which the bytes from `used` to `end` are still to be used.
 #[derive(Drop)]
 pub(crate) struct Held {
     piece: Vec<u8>,
@@ -31,7 +31,7 @@ impl Model for Held {
 }
 
 impl Held {
-    /// Takes the room of one piece.
+    // Takes the room of one piece.
     pub(crate) fn new(alloc: Global) -> Result<Held, AllocError>
         ensures { IfOk result (λ held. held ≡ []) }
     {
@@ -42,7 +42,7 @@ impl Held {
         })
     }
 
-    /// Whether the file has a byte left. Reads a piece where none is held.
+    // Whether the file has a byte left. Reads a piece where none is held.
     pub(crate) fn has_byte<D: Depot>(
         &mut self,
         slot: Slot,
@@ -64,7 +64,7 @@ impl Held {
         }
     }
 
-    /// The next byte of the file at this position.
+    // The next byte of the file at this position.
     pub(crate) fn byte<D: Depot>(&mut self, at: Position, depot: &mut D) -> Result<u8, CollError>
         requires { IsTrue ((D.state depot.old).started at.file) }
         ensures { TakesByte at self.old self.new (D.state depot.old) (D.state depot.new) result }
@@ -77,7 +77,7 @@ impl Held {
         Ok(byte)
     }
 
-    /// The next number of the file, which stands at this position.
+    // The next number of the file, which stands at this position.
     pub(crate) fn number<D: Depot>(&mut self, at: Position, depot: &mut D) -> Result<u32, CollError>
         requires { IsTrue ((D.state depot.old).started at.file) }
         ensures { TakesNumber at self.old self.new (D.state depot.old) (D.state depot.new) result }
@@ -92,7 +92,7 @@ impl Held {
         Ok(number_at(&bytes, 0))
     }
 
-    /// The number that the next four bytes held are.
+    // The number that the next four bytes held are.
     fn held_number(&mut self) -> u32
         requires { 4 ≤ length self.old }
         ensures { self.old ≡ le32 result ++ self.new }

@@ -4,7 +4,7 @@ ghost use Rattle.collection_reader.specs.declared.fault.CollError.TheVariants.{B
 use crate::fault::{CollError, Fault, Rule};
 use pef_io::Slot;
 
-/// A place in a sequence of a term's file, counted from 0.
+// A place in a sequence of a term's file, counted from 0.
 #[derive(Clone, Copy)]
 pub(crate) struct Position {
     pub(crate) file: Slot,
@@ -13,7 +13,7 @@ pub(crate) struct Position {
 }
 
 impl Position {
-    /// The refusal of a collection that breaks this rule here.
+    // The refusal of a collection that breaks this rule here.
     pub(crate) fn breaks(self, rule: Rule) -> CollError
         ensures { result ≡ Broken (record { rule = rule; file = self.file; term = self.term; place = self.place }) }
     {

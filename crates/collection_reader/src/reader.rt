@@ -123,7 +123,7 @@ impl ListReader {
         result
     }
 
-    /// What `next_list` does while no refusal is kept. A refusal may leave a part of the list in the vectors.
+    // What `next_list` does while no refusal is kept. A refusal may leave a part of the list in the vectors.
     fn try_list<D: Depot>(
         &mut self,
         depot: &mut D,
@@ -180,7 +180,7 @@ impl ListReader {
         result
     }
 
-    /// What `finish` does while no refusal is kept. A refusal may leave some of the sizes in the vector.
+    // What `finish` does while no refusal is kept. A refusal may leave some of the sizes in the vector.
     fn try_end<D: Depot>(&mut self, depot: &mut D, sizes: &mut Vec<u32>) -> Result<(), CollError>
         requires started { AreStarted (D.state depot.old) }
         requires empty { sizes.old.items ≡ [] }

@@ -9,7 +9,7 @@ use crate::position::Position;
 use part_cost::Format;
 use pef_io::{Depot, Slot};
 
-/// Reads the number of documents at the head of the file of documents, at most as many as the format has room for.
+// Reads the number of documents at the head of the file of documents, at most as many as the format has room for.
 pub(crate) fn read_head<D: Depot>(
     held: &mut Held,
     depot: &mut D,
@@ -33,7 +33,7 @@ pub(crate) fn read_head<D: Depot>(
     Ok(documents)
 }
 
-/// Reads the documents of a term, which lie below `documents`.
+// Reads the documents of a term, which lie below `documents`.
 pub(crate) fn read_documents<D: Depot>(
     held: &mut Held,
     depot: &mut D,
@@ -67,7 +67,7 @@ pub(crate) fn read_documents<D: Depot>(
     Ok(())
 }
 
-/// Reads the frequencies of a term, as many as it has documents, whose sum is within the format's greatest.
+// Reads the frequencies of a term, as many as it has documents, whose sum is within the format's greatest.
 pub(crate) fn read_frequencies<D: Depot>(
     held: &mut Held,
     depot: &mut D,
@@ -105,7 +105,7 @@ pub(crate) fn read_frequencies<D: Depot>(
     Ok(())
 }
 
-/// Reads the sizes of all documents, behind the lists of `terms` terms, to the end of their file.
+// Reads the sizes of all documents, behind the lists of `terms` terms, to the end of their file.
 pub(crate) fn read_sizes<D: Depot>(
     held: &mut Held,
     depot: &mut D,

@@ -5,7 +5,7 @@ use crate::fault::CollError;
 use pef_io::{Depot, Slot};
 use std::alloc::Global;
 
-/// Starts the file whose name is `base` with this ending.
+// Starts the file whose name is `base` with this ending.
 fn start_file<D: Depot>(
     alloc: Global,
     base: &str,
@@ -22,7 +22,7 @@ fn start_file<D: Depot>(
     }
 }
 
-/// Starts the three files of a collection.
+// Starts the three files of a collection.
 pub(crate) fn start_files<D: Depot>(
     alloc: Global,
     base: &str,

@@ -6,7 +6,7 @@ use pef_io::{Depot, MemDepot, Op, Slot, SteadyDepot};
 use std::alloc::{AllocError, Global};
 use std::test::Fail;
 
-/// The numbers of the three files of a collection.
+// The numbers of the three files of a collection.
 #[derive(Clone, Copy)]
 struct Numbers<'a> {
     docs: &'a [u32],
@@ -14,19 +14,19 @@ struct Numbers<'a> {
     sizes: &'a [u32],
 }
 
-/// Three documents of sizes 4, 0 and 7, and one list: document 0 once, document 2 five times.
+// Three documents of sizes 4, 0 and 7, and one list: document 0 once, document 2 five times.
 const ONE_LIST: Numbers<'static> = Numbers {
     docs: &[1, 3, 2, 0, 2],
     freqs: &[2, 1, 5],
     sizes: &[3, 4, 0, 7],
 };
 
-/// The numbers of three files.
+// The numbers of three files.
 fn in_files<'a>(docs: &'a [u32], freqs: &'a [u32], sizes: &'a [u32]) -> Numbers<'a> {
     Numbers { docs, freqs, sizes }
 }
 
-/// The bytes of these numbers.
+// The bytes of these numbers.
 fn bytes(alloc: Global, numbers: &[u32]) -> Result<Vec<u8>, AllocError> {
     let mut all = Vec::new(alloc);
     for n in numbers {
@@ -35,12 +35,12 @@ fn bytes(alloc: Global, numbers: &[u32]) -> Result<Vec<u8>, AllocError> {
     Ok(all)
 }
 
-/// The three files, under `small`.
+// The three files, under `small`.
 fn files(alloc: Global, numbers: &Numbers) -> Result<Vec<(String, Vec<u8>)>, AllocError> {
     cut_files(alloc, numbers, Slot::Index, 0)
 }
 
-/// The three files, under `small`, the one of this slot cut to so many bytes.
+// The three files, under `small`, the one of this slot cut to so many bytes.
 fn cut_files(
     alloc: Global,
     numbers: &Numbers,
@@ -62,12 +62,12 @@ fn cut_files(
     Ok(files)
 }
 
-/// A depot of these files, of which a read gives at most five bytes.
+// A depot of these files, of which a read gives at most five bytes.
 fn depot(alloc: Global, numbers: &Numbers) -> Result<SteadyDepot, Fail> {
     Ok(SteadyDepot::new(alloc, files(alloc, numbers)?, 5)?)
 }
 
-/// Whether these are the lists wanted.
+// Whether these are the lists wanted.
 fn are(lists: &[Vec<u32>], wanted: &[&[u32]]) -> bool {
     lists.len() == wanted.len()
         && lists
@@ -76,7 +76,7 @@ fn are(lists: &[Vec<u32>], wanted: &[&[u32]]) -> bool {
             .all(|(list, want)| list.as_slice() == *want)
 }
 
-/// Whether these numbers are read as a collection of so many documents, with these lists and sizes.
+// Whether these numbers are read as a collection of so many documents, with these lists and sizes.
 fn are_read_as(
     alloc: Global,
     numbers: &Numbers,
@@ -111,12 +111,12 @@ fn small_collections_are_read(rt: HostRuntime) -> Result<(), Fail> {
     Ok(())
 }
 
-/// Whether these are the documents and the frequencies wanted.
+// Whether these are the documents and the frequencies wanted.
 fn is_list(docs: &[u32], freqs: &[u32], wanted: (&[u32], &[u32])) -> bool {
     docs == wanted.0 && freqs == wanted.1
 }
 
-/// Whether the one list is given, and then none, into vectors that held other numbers.
+// Whether the one list is given, and then none, into vectors that held other numbers.
 fn gives_its_list(
     reader: &mut ListReader,
     depot: &mut SteadyDepot,
@@ -162,7 +162,7 @@ fn readers_keep_a_failed_call(rt: HostRuntime) -> Result<(), Fail> {
     Ok(())
 }
 
-/// The number of documents of a collection in a depot, or why there is none.
+// The number of documents of a collection in a depot, or why there is none.
 fn documents_read(
     alloc: Global,
     depot: &mut SteadyDepot,
@@ -172,7 +172,7 @@ fn documents_read(
     Ok(read.documents)
 }
 
-/// The refusal of a collection that breaks this rule there.
+// The refusal of a collection that breaks this rule there.
 fn broken(rule: Rule, file: Slot, term: u32, place: u32) -> Result<u32, CollError> {
     Err(CollError::Broken(Fault {
         rule,
@@ -283,8 +283,8 @@ fn the_first_format_has_fewer_documents(rt: HostRuntime) -> Result<(), Fail> {
     Ok(())
 }
 
-/// One list of so many documents, all of them and each of size 0, in which every frequency but the last is
-/// 4,294,967,295.
+// One list of so many documents, all of them and each of size 0, in which every frequency but the last is
+// 4,294,967,295.
 fn list_of_all(alloc: Global, documents: u32, last: u32) -> Result<SteadyDepot, Fail> {
     let mut docs = vec![in alloc; 1, documents, documents]?;
     let mut freqs = vec![in alloc; documents]?;

@@ -12,7 +12,7 @@ use part_cost::{Format, formats_have_room};
 use pef_io::Depot;
 use std::alloc::Global;
 
-/// The documents and the frequencies of each list.
+// The documents and the frequencies of each list.
 #[derive(Drop)]
 struct Lists {
     docs: Vec<Vec<u32>>,
@@ -20,7 +20,7 @@ struct Lists {
 }
 
 impl Lists {
-    /// The collection of these lists and sizes.
+    // The collection of these lists and sizes.
     fn into_collection(self, documents: u32, sizes: Vec<u32>) -> Collection
         requires { AreAligned self.docs.items self.freqs.items }
         ensures parts { result ≡ record { documents = documents; lists = lists_held self.docs.items self.freqs.items; sizes = sizes.items } }
@@ -56,7 +56,7 @@ pub fn read_collection<D: Depot>(
     Ok(lists.into_collection(reader.documents(), sizes))
 }
 
-/// Reads the lists up to the last.
+// Reads the lists up to the last.
 fn read_lists<D: Depot>(
     alloc: Global,
     reader: &mut ListReader,

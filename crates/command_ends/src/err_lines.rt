@@ -15,7 +15,7 @@ use remap::{MapFault, MapRule};
 use segments::SegRule;
 use two_level::Check;
 
-/// The line of words that are no command.
+// The line of words that are no command.
 const USAGE: &[u8] =
     b"usage: pefidx build BASE INDEX [--format FORMAT] | query INDEX [--plan PLAN] | answer BASE [--plan PLAN] | inspect INDEX | generate SEED N T | migrate OLD NEW | audit INDEX | blocks INDEX SIDE | bquery INDEX SIDE | remap BASE MAP NEW | segments INDEX.. [--plan PLAN]\n";
 
@@ -41,7 +41,7 @@ pub fn write_line<E: Sink>(err: &mut E, stop: Stop) -> Result<(), IoFail>
     }
 }
 
-/// Writes the line of a broken collection.
+// Writes the line of a broken collection.
 fn write_fault<E: Sink>(err: &mut E, fault: Fault) -> Result<(), IoFail>
     ensures { WritesAll (E.state err.old) (E.state err.new) (fault_line fault) result }
 {
@@ -63,7 +63,7 @@ fn write_fault<E: Sink>(err: &mut E, fault: Fault) -> Result<(), IoFail>
     )
 }
 
-/// Writes the line of a file that is no index.
+// Writes the line of a file that is no index.
 fn write_index_fault<E: Sink>(err: &mut E, fault: OpenFault) -> Result<(), IoFail>
     ensures { WritesAll (E.state err.old) (E.state err.new) (index_line fault) result }
 {
@@ -83,7 +83,7 @@ fn write_index_fault<E: Sink>(err: &mut E, fault: OpenFault) -> Result<(), IoFai
     )
 }
 
-/// Writes the line of a file that is no side file of the index.
+// Writes the line of a file that is no side file of the index.
 fn write_side_fault<E: Sink>(err: &mut E, fault: SideFault) -> Result<(), IoFail>
     ensures { WritesAll (E.state err.old) (E.state err.new) (side_line fault) result }
 {
@@ -103,7 +103,7 @@ fn write_side_fault<E: Sink>(err: &mut E, fault: SideFault) -> Result<(), IoFail
     )
 }
 
-/// Writes the line of a file that is no order of the documents.
+// Writes the line of a file that is no order of the documents.
 fn write_map_fault<E: Sink>(err: &mut E, fault: MapFault) -> Result<(), IoFail>
     ensures { WritesAll (E.state err.old) (E.state err.new) (map_line fault) result }
 {
@@ -120,7 +120,7 @@ fn write_map_fault<E: Sink>(err: &mut E, fault: MapFault) -> Result<(), IoFail>
     )
 }
 
-/// Writes the line of a segment that is no index.
+// Writes the line of a segment that is no index.
 fn write_segment_fault<E: Sink>(err: &mut E, fault: OpenFault, s: u64) -> Result<(), IoFail>
     ensures { WritesAll (E.state err.old) (E.state err.new) (segment_line fault s) result }
 {
@@ -143,7 +143,7 @@ fn write_segment_fault<E: Sink>(err: &mut E, fault: OpenFault, s: u64) -> Result
     )
 }
 
-/// Writes the line of a segment that cannot be joined to those before it.
+// Writes the line of a segment that cannot be joined to those before it.
 fn write_unfit<E: Sink>(err: &mut E, rule: SegRule, s: u64) -> Result<(), IoFail>
     ensures { WritesAll (E.state err.old) (E.state err.new) (unfit_line rule s) result }
 {
@@ -160,7 +160,7 @@ fn write_unfit<E: Sink>(err: &mut E, rule: SegRule, s: u64) -> Result<(), IoFail
     )
 }
 
-/// Writes some pieces, one after the other.
+// Writes some pieces, one after the other.
 fn write_pieces<E: Sink>(err: &mut E, pieces: &[&[u8]]) -> Result<(), IoFail>
     ensures { WritesAll (E.state err.old) (E.state err.new) (joined pieces.now) result }
 {

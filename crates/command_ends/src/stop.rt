@@ -196,7 +196,7 @@ pub fn stop_of_loading(slot: Slot, ragged: Stop, error: LoadWordsError) -> Stop
     }
 }
 
-/// Where a run stops that could not load the words of its index: that they are whole words is the check K1.
+// Where a run stops that could not load the words of its index: that they are whole words is the check K1.
 pub(crate) fn stop_of_index(error: LoadWordsError) -> Stop
     ensures { result ≡ stop_of_index error }
 {
@@ -208,7 +208,7 @@ pub(crate) fn stop_of_index(error: LoadWordsError) -> Stop
     stop_of_loading(Slot::Index, Stop::Index(ragged), error)
 }
 
-/// Where a run stops that could not write the file of this slot.
+// Where a run stops that could not write the file of this slot.
 fn stop_of_writing(slot: Slot, fail: IoFail) -> Stop
     ensures { result ≡ stop_of_writing slot fail }
 {
@@ -228,7 +228,7 @@ pub fn after_writing(slot: Slot, written: Result<(), IoFail>) -> Result<(), Stop
     }
 }
 
-/// Where a run stops that could not print.
+// Where a run stops that could not print.
 fn stop_of_printing(fail: IoFail) -> Stop
     ensures { result ≡ stop_of_printing fail }
 {

@@ -26,7 +26,7 @@ pub fn parse_words<'a>(alloc: Global, words: &'a [String]) -> Result<Command<'a>
     read_command(words, &matches).ok_or(WordsError::Usage)
 }
 
-/// The matches of the words. Of words that are a command there are none only where memory is refused.
+// The matches of the words. Of words that are a command there are none only where memory is refused.
 fn match_words<'a>(alloc: Global, words: &'a [String]) -> Result<ArgMatches<'a>, clap::Error>
     ensures matches { IfOk result (AreRead (texts words.entry.now)) }
     ensures error { IfErr result (FailsForMemory (texts words.entry.now)) }
@@ -34,7 +34,7 @@ fn match_words<'a>(alloc: Global, words: &'a [String]) -> Result<ArgMatches<'a>,
     program(alloc)?.try_get_matches_from(words)
 }
 
-/// What the matches of the words ask for.
+// What the matches of the words ask for.
 fn read_command<'a>(words: &'a [String], matches: &ArgMatches<'a>) -> Option<Command<'a>>
     requires { AreLent (line.texts words.now) (asked_in (subcommand_rows_of matches.now)) }
     ensures { option_map asked result ≡ asked_in (subcommand_rows_of matches.now) }
@@ -43,7 +43,7 @@ fn read_command<'a>(words: &'a [String], matches: &ArgMatches<'a>) -> Option<Com
     read_subcommand(words, verb, texts)
 }
 
-/// What a subcommand asks for with these texts.
+// What a subcommand asks for with these texts.
 fn read_subcommand<'a>(
     words: &'a [String],
     verb: &str,
@@ -81,7 +81,7 @@ fn read_subcommand<'a>(
     }
 }
 
-/// What `build` asks for with these texts.
+// What `build` asks for with these texts.
 fn read_build<'a>(texts: &ArgMatches<'a>) -> Option<Command<'a>>
     ensures { option_map asked result ≡ build_with (rows_of (found_of texts.now)) }
 {
@@ -95,7 +95,7 @@ fn read_build<'a>(texts: &ArgMatches<'a>) -> Option<Command<'a>>
     })
 }
 
-/// What `query` asks for with these texts.
+// What `query` asks for with these texts.
 fn read_query<'a>(texts: &ArgMatches<'a>) -> Option<Command<'a>>
     ensures { option_map asked result ≡ query_with (rows_of (found_of texts.now)) }
 {
@@ -104,7 +104,7 @@ fn read_query<'a>(texts: &ArgMatches<'a>) -> Option<Command<'a>>
     Some(Command::Query { index, plan })
 }
 
-/// What `answer` asks for with these texts.
+// What `answer` asks for with these texts.
 fn read_answer<'a>(texts: &ArgMatches<'a>) -> Option<Command<'a>>
     ensures { option_map asked result ≡ answer_with (rows_of (found_of texts.now)) }
 {
@@ -113,7 +113,7 @@ fn read_answer<'a>(texts: &ArgMatches<'a>) -> Option<Command<'a>>
     Some(Command::Answer { base, plan })
 }
 
-/// What `generate` asks for with these texts.
+// What `generate` asks for with these texts.
 fn read_generate<'a>(texts: &ArgMatches<'a>) -> Option<Command<'a>>
     ensures { option_map asked result ≡ generate_with (rows_of (found_of texts.now)) }
 {
@@ -127,7 +127,7 @@ fn read_generate<'a>(texts: &ArgMatches<'a>) -> Option<Command<'a>>
     })
 }
 
-/// What `migrate` asks for with these texts.
+// What `migrate` asks for with these texts.
 fn read_migrate<'a>(texts: &ArgMatches<'a>) -> Option<Command<'a>>
     ensures { option_map asked result ≡ migrate_with (rows_of (found_of texts.now)) }
 {
@@ -136,7 +136,7 @@ fn read_migrate<'a>(texts: &ArgMatches<'a>) -> Option<Command<'a>>
     Some(Command::Migrate { from, to })
 }
 
-/// What `blocks` asks for with these texts.
+// What `blocks` asks for with these texts.
 fn read_blocks<'a>(texts: &ArgMatches<'a>) -> Option<Command<'a>>
     ensures { option_map asked result ≡ blocks_with (rows_of (found_of texts.now)) }
 {
@@ -145,7 +145,7 @@ fn read_blocks<'a>(texts: &ArgMatches<'a>) -> Option<Command<'a>>
     Some(Command::Blocks { index, side })
 }
 
-/// What `bquery` asks for with these texts.
+// What `bquery` asks for with these texts.
 fn read_bquery<'a>(texts: &ArgMatches<'a>) -> Option<Command<'a>>
     ensures { option_map asked result ≡ bquery_with (rows_of (found_of texts.now)) }
 {
@@ -154,7 +154,7 @@ fn read_bquery<'a>(texts: &ArgMatches<'a>) -> Option<Command<'a>>
     Some(Command::BlockQuery { index, side })
 }
 
-/// What `remap` asks for with these texts.
+// What `remap` asks for with these texts.
 fn read_remap<'a>(texts: &ArgMatches<'a>) -> Option<Command<'a>>
     ensures { option_map asked result ≡ remap_with (rows_of (found_of texts.now)) }
 {
@@ -164,7 +164,7 @@ fn read_remap<'a>(texts: &ArgMatches<'a>) -> Option<Command<'a>>
     Some(Command::Remap { base, map, to })
 }
 
-/// What `segments` asks for with these texts, which are the words behind the verb.
+// What `segments` asks for with these texts, which are the words behind the verb.
 fn read_segments<'a>(words: &'a [String], texts: &ArgMatches<'a>) -> Option<Command<'a>>
     requires { AreLent (line.texts words.now) (segments_with (rows_of (found_of texts.now))) }
     ensures { option_map asked result ≡ segments_with (rows_of (found_of texts.now)) }
@@ -175,7 +175,7 @@ fn read_segments<'a>(words: &'a [String], texts: &ArgMatches<'a>) -> Option<Comm
     Some(Command::Segments { indexes, plan })
 }
 
-/// The first so many words behind the verb.
+// The first so many words behind the verb.
 fn behind_verb<'a>(words: &'a [String], count: usize) -> &'a [String]
     requires { 2 + count ≤ length words.now }
     ensures { result.now ≡ take count (drop 2 words.entry.now) }
@@ -183,28 +183,28 @@ fn behind_verb<'a>(words: &'a [String], count: usize) -> &'a [String]
     &words[2..2 + count]
 }
 
-/// The number of this name among these texts.
+// The number of this name among these texts.
 fn read_number(texts: &ArgMatches<'_>, id: &str) -> Option<u32>
     ensures { result ≡ number_in (rows_of (found_of texts.now)) id.now }
 {
     parse_number(text_of(texts, id)?)
 }
 
-/// The plan that these texts name.
+// The plan that these texts name.
 fn read_plan(texts: &ArgMatches<'_>) -> Option<Plan>
     ensures { result ≡ option_and_then plan_of (first_of (codes "plan") (rows_of (found_of texts.now))) }
 {
     parse_plan(text_of(texts, "plan")?)
 }
 
-/// The text of the argument of this name.
+// The text of the argument of this name.
 fn text_of<'a>(texts: &ArgMatches<'a>, id: &str) -> Option<&'a str>
     ensures { option_map (λ text. text.now) result ≡ first_of id.now (rows_of (found_of texts.now)) }
 {
     texts.get_str(id)
 }
 
-/// The command line of the program: one level of subcommands, whose arguments are texts.
+// The command line of the program: one level of subcommands, whose arguments are texts.
 fn program<'a>(alloc: Global) -> Result<clap::Command<'a>, AllocError>
     ensures { IfOk result (λ command. app_of command ≡ program_app) }
 {
@@ -212,7 +212,7 @@ fn program<'a>(alloc: Global) -> Result<clap::Command<'a>, AllocError>
     single(alloc)?.subcommand(segments)
 }
 
-/// The same without `segments`.
+// The same without `segments`.
 fn single<'a>(alloc: Global) -> Result<clap::Command<'a>, AllocError>
     ensures { IfOk result (λ command. app_of command ≡ single_app) }
 {
@@ -223,7 +223,7 @@ fn single<'a>(alloc: Global) -> Result<clap::Command<'a>, AllocError>
         .subcommand(remap)
 }
 
-/// The same without `audit`, `blocks` and `remap`.
+// The same without `audit`, `blocks` and `remap`.
 fn blockwise<'a>(alloc: Global) -> Result<clap::Command<'a>, AllocError>
     ensures { IfOk result (λ command. app_of command ≡ blockwise_app) }
 {
@@ -231,7 +231,7 @@ fn blockwise<'a>(alloc: Global) -> Result<clap::Command<'a>, AllocError>
     telling(alloc)?.subcommand(bquery)
 }
 
-/// The same without `bquery`.
+// The same without `bquery`.
 fn telling<'a>(alloc: Global) -> Result<clap::Command<'a>, AllocError>
     ensures { IfOk result (λ command. app_of command ≡ telling_app) }
 {
@@ -242,7 +242,7 @@ fn telling<'a>(alloc: Global) -> Result<clap::Command<'a>, AllocError>
         .subcommand(migrate)
 }
 
-/// The same without `inspect`, `generate` and `migrate`.
+// The same without `inspect`, `generate` and `migrate`.
 fn answering<'a>(alloc: Global) -> Result<clap::Command<'a>, AllocError>
     ensures { IfOk result (λ command. app_of command ≡ answering_app) }
 {
@@ -253,7 +253,7 @@ fn answering<'a>(alloc: Global) -> Result<clap::Command<'a>, AllocError>
         .subcommand(answer)
 }
 
-/// `build BASE INDEX [--format FORMAT]`
+// `build BASE INDEX [--format FORMAT]`
 fn build<'a>(alloc: Global) -> Result<clap::Command<'a>, AllocError>
     ensures app { IfOk result (λ command. app_of command ≡ build_app) }
     ensures local { IfOk result (λ command. (out-Command command).has_globals ≡ false) }
@@ -267,7 +267,7 @@ fn build<'a>(alloc: Global) -> Result<clap::Command<'a>, AllocError>
         .arg(format)
 }
 
-/// `query INDEX [--plan PLAN]`
+// `query INDEX [--plan PLAN]`
 fn query<'a>(alloc: Global) -> Result<clap::Command<'a>, AllocError>
     ensures app { IfOk result (λ command. app_of command ≡ query_app) }
     ensures local { IfOk result (λ command. (out-Command command).has_globals ≡ false) }
@@ -278,7 +278,7 @@ fn query<'a>(alloc: Global) -> Result<clap::Command<'a>, AllocError>
         .arg(plan(alloc))
 }
 
-/// `answer BASE [--plan PLAN]`
+// `answer BASE [--plan PLAN]`
 fn answer<'a>(alloc: Global) -> Result<clap::Command<'a>, AllocError>
     ensures app { IfOk result (λ command. app_of command ≡ answer_app) }
     ensures local { IfOk result (λ command. (out-Command command).has_globals ≡ false) }
@@ -289,7 +289,7 @@ fn answer<'a>(alloc: Global) -> Result<clap::Command<'a>, AllocError>
         .arg(plan(alloc))
 }
 
-/// `--plan PLAN`
+// `--plan PLAN`
 fn plan<'a>(alloc: Global) -> Arg<'a>
     ensures rule { rule_of result ≡ plan_option }
     ensures local { result.global ≡ false }
@@ -299,7 +299,7 @@ fn plan<'a>(alloc: Global) -> Arg<'a>
         .default_value("exhaustive")
 }
 
-/// `inspect INDEX`
+// `inspect INDEX`
 fn inspect<'a>(alloc: Global) -> Result<clap::Command<'a>, AllocError>
     ensures app { IfOk result (λ command. app_of command ≡ inspect_app) }
     ensures local { IfOk result (λ command. (out-Command command).has_globals ≡ false) }
@@ -308,7 +308,7 @@ fn inspect<'a>(alloc: Global) -> Result<clap::Command<'a>, AllocError>
     clap::Command::new(alloc, "inspect").arg(index)
 }
 
-/// `generate SEED N T`
+// `generate SEED N T`
 fn generate<'a>(alloc: Global) -> Result<clap::Command<'a>, AllocError>
     ensures app { IfOk result (λ command. app_of command ≡ generate_app) }
     ensures local { IfOk result (λ command. (out-Command command).has_globals ≡ false) }
@@ -322,7 +322,7 @@ fn generate<'a>(alloc: Global) -> Result<clap::Command<'a>, AllocError>
         .arg(terms)
 }
 
-/// `migrate OLD NEW`
+// `migrate OLD NEW`
 fn migrate<'a>(alloc: Global) -> Result<clap::Command<'a>, AllocError>
     ensures app { IfOk result (λ command. app_of command ≡ migrate_app) }
     ensures local { IfOk result (λ command. (out-Command command).has_globals ≡ false) }
@@ -332,7 +332,7 @@ fn migrate<'a>(alloc: Global) -> Result<clap::Command<'a>, AllocError>
     clap::Command::new(alloc, "migrate").arg(from)?.arg(to)
 }
 
-/// `audit INDEX`
+// `audit INDEX`
 fn audit<'a>(alloc: Global) -> Result<clap::Command<'a>, AllocError>
     ensures app { IfOk result (λ command. app_of command ≡ audit_app) }
     ensures local { IfOk result (λ command. (out-Command command).has_globals ≡ false) }
@@ -341,7 +341,7 @@ fn audit<'a>(alloc: Global) -> Result<clap::Command<'a>, AllocError>
     clap::Command::new(alloc, "audit").arg(index)
 }
 
-/// `blocks INDEX SIDE`
+// `blocks INDEX SIDE`
 fn blocks<'a>(alloc: Global) -> Result<clap::Command<'a>, AllocError>
     ensures app { IfOk result (λ command. app_of command ≡ blocks_app) }
     ensures local { IfOk result (λ command. (out-Command command).has_globals ≡ false) }
@@ -351,7 +351,7 @@ fn blocks<'a>(alloc: Global) -> Result<clap::Command<'a>, AllocError>
     clap::Command::new(alloc, "blocks").arg(index)?.arg(side)
 }
 
-/// `bquery INDEX SIDE`
+// `bquery INDEX SIDE`
 fn bquery<'a>(alloc: Global) -> Result<clap::Command<'a>, AllocError>
     ensures app { IfOk result (λ command. app_of command ≡ bquery_app) }
     ensures local { IfOk result (λ command. (out-Command command).has_globals ≡ false) }
@@ -361,7 +361,7 @@ fn bquery<'a>(alloc: Global) -> Result<clap::Command<'a>, AllocError>
     clap::Command::new(alloc, "bquery").arg(index)?.arg(side)
 }
 
-/// `remap BASE MAP NEW`
+// `remap BASE MAP NEW`
 fn remap<'a>(alloc: Global) -> Result<clap::Command<'a>, AllocError>
     ensures app { IfOk result (λ command. app_of command ≡ remap_app) }
     ensures local { IfOk result (λ command. (out-Command command).has_globals ≡ false) }
@@ -375,7 +375,7 @@ fn remap<'a>(alloc: Global) -> Result<clap::Command<'a>, AllocError>
         .arg(to)
 }
 
-/// `segments INDEX.. [--plan PLAN]`
+// `segments INDEX.. [--plan PLAN]`
 fn segments<'a>(alloc: Global) -> Result<clap::Command<'a>, AllocError>
     ensures app { IfOk result (λ command. app_of command ≡ segments_app) }
     ensures local { IfOk result (λ command. (out-Command command).has_globals ≡ false) }
@@ -385,7 +385,7 @@ fn segments<'a>(alloc: Global) -> Result<clap::Command<'a>, AllocError>
         .arg(plan(alloc))
 }
 
-/// `INDEX..`
+// `INDEX..`
 fn indexes<'a>(alloc: Global) -> Arg<'a>
     ensures rule { rule_of result ≡ indexes_argument }
     ensures local { result.global ≡ false }

@@ -10,7 +10,7 @@ use part_cost::Format;
 use query_text::number;
 use topk_pruning::Plan;
 
-/// The most indexes of a command.
+// The most indexes of a command.
 pub(crate) const MOST_SEGMENTS: usize = 64;
 
 /// What the words of the command line ask for.
@@ -64,7 +64,7 @@ pub enum Command<'a> {
     },
 }
 
-/// Whether the words are a command, the program's name first. The others are refused as usage.
+// Whether the words are a command, the program's name first. The others are refused as usage.
 pub(crate) fn is_command(words: &[String]) -> bool
     ensures { result ≡ is_some (command_of (texts words.now)) }
 {
@@ -74,7 +74,7 @@ pub(crate) fn is_command(words: &[String]) -> bool
     }
 }
 
-/// Whether a verb and the words behind it are a command.
+// Whether a verb and the words behind it are a command.
 fn asks(verb: &str, args: &[String]) -> bool
     ensures { (name : List ℕ) → result ≡ is_some (command_of (name ∷ verb.now ∷ texts args.now)) }
 {
@@ -99,7 +99,7 @@ fn asks(verb: &str, args: &[String]) -> bool
     }
 }
 
-/// Whether words are a base and an index that is none of its files, and then the option with a format, or nothing.
+// Whether words are a base and an index that is none of its files, and then the option with a format, or nothing.
 fn is_build(args: &[String]) -> bool
     ensures { result ≡ is_some (build_command (texts args.now)) }
 {
@@ -111,14 +111,14 @@ fn is_build(args: &[String]) -> bool
     }
 }
 
-/// Whether two words are a base and an index that is none of its files.
+// Whether two words are a base and an index that is none of its files.
 fn can_be_built(base: &str, index: &str) -> bool
     ensures { result ≡ (is_text base.now && is_text index.now && not (is_file_of base.now index.now)) }
 {
     can_be_text(base) && can_be_text(index) && !is_file_of(base, index)
 }
 
-/// Whether words are the option with a format, or nothing.
+// Whether words are the option with a format, or nothing.
 fn names_format(words: &[String]) -> bool
     ensures { result ≡ is_some (option_in (codes "--format") format_of formats.Two (texts words.now)) }
 {
@@ -129,7 +129,7 @@ fn names_format(words: &[String]) -> bool
     }
 }
 
-/// Whether words are a text, and then the option with a plan, or nothing.
+// Whether words are a text, and then the option with a plan, or nothing.
 fn is_answering(args: &[String]) -> bool
     ensures { (make : List ℕ → plan.Plan → asked.Command) → result ≡ is_some (answering_command make (texts args.now)) }
 {
@@ -139,7 +139,7 @@ fn is_answering(args: &[String]) -> bool
     }
 }
 
-/// Whether words are the option with a plan, or nothing.
+// Whether words are the option with a plan, or nothing.
 fn names_plan(words: &[String]) -> bool
     ensures { result ≡ is_some (option_in (codes "--plan") plan_of plans.Exhaustive (texts words.now)) }
 {
@@ -150,7 +150,7 @@ fn names_plan(words: &[String]) -> bool
     }
 }
 
-/// Whether words are one text.
+// Whether words are one text.
 fn is_text_alone(args: &[String]) -> bool
     ensures { (make : List ℕ → asked.Command) → result ≡ is_some (text_command make (texts args.now)) }
 {
@@ -160,7 +160,7 @@ fn is_text_alone(args: &[String]) -> bool
     }
 }
 
-/// Whether words are three numbers.
+// Whether words are three numbers.
 fn is_generate(args: &[String]) -> bool
     ensures { result ≡ is_some (generate_command (texts args.now)) }
 {
@@ -172,7 +172,7 @@ fn is_generate(args: &[String]) -> bool
     }
 }
 
-/// Whether words are two texts, of which the second is not the first.
+// Whether words are two texts, of which the second is not the first.
 fn is_name_and_another(args: &[String]) -> bool
     ensures migrate { result ≡ is_some (migrate_command (texts args.now)) }
     ensures blocks { result ≡ is_some (blocks_command (texts args.now)) }
@@ -183,14 +183,14 @@ fn is_name_and_another(args: &[String]) -> bool
     }
 }
 
-/// Whether two words are texts, of which the second is not the first.
+// Whether two words are texts, of which the second is not the first.
 fn are_other_texts(from: &str, to: &str) -> bool
     ensures { result ≡ (is_text from.now && is_text to.now && not (bytes_eq from.now to.now)) }
 {
     can_be_text(from) && can_be_text(to) && from != to
 }
 
-/// Whether words are two texts, which may be the same.
+// Whether words are two texts, which may be the same.
 fn are_two_texts(args: &[String]) -> bool
     ensures { result ≡ is_some (bquery_command (texts args.now)) }
 {
@@ -200,7 +200,7 @@ fn are_two_texts(args: &[String]) -> bool
     }
 }
 
-/// Whether words are a base, a map, and a new base whose files are none of theirs.
+// Whether words are a base, a map, and a new base whose files are none of theirs.
 fn is_remap(args: &[String]) -> bool
     ensures { result ≡ is_some (remap_command (texts args.now)) }
 {
@@ -210,21 +210,21 @@ fn is_remap(args: &[String]) -> bool
     }
 }
 
-/// Whether three words are a base, a map, and a new base whose files are none of theirs.
+// Whether three words are a base, a map, and a new base whose files are none of theirs.
 fn can_be_moved(base: &str, map: &str, to: &str) -> bool
     ensures { result ≡ (is_text base.now && is_text map.now && is_text to.now && not (takes_place base.now map.now to.now)) }
 {
     can_be_text(base) && can_be_text(map) && can_be_text(to) && !takes_place(base, map, to)
 }
 
-/// Whether a collection under a new base would take the place of the map, or of a file of the collection.
+// Whether a collection under a new base would take the place of the map, or of a file of the collection.
 fn takes_place(base: &str, map: &str, to: &str) -> bool
     ensures { result ≡ takes_place base.now map.now to.now }
 {
     to == base || is_file_of(to, map)
 }
 
-/// Whether words are one text or more, at most as many as may be, and then the option with a plan, or nothing.
+// Whether words are one text or more, at most as many as may be, and then the option with a plan, or nothing.
 fn is_segments(args: &[String]) -> bool
     ensures { result ≡ is_some (segments_command (texts args.now)) }
 {
@@ -232,14 +232,14 @@ fn is_segments(args: &[String]) -> bool
     is_count(count) && names_plan(&args[count..])
 }
 
-/// Whether a command may have so many indexes.
+// Whether a command may have so many indexes.
 fn is_count(count: usize) -> bool
     ensures { result ≡ (nat_le 1 count && nat_le count most_segments) }
 {
     1 <= count && count <= MOST_SEGMENTS
 }
 
-/// How many words stand before the first that can be no text of a command.
+// How many words stand before the first that can be no text of a command.
 fn texts_before(words: &[String]) -> usize
     ensures count { result ≡ length (texts_before (texts words.now)) }
     ensures within { result ≤ length words.now }
@@ -254,21 +254,21 @@ fn texts_before(words: &[String]) -> usize
     count
 }
 
-/// Whether a word is a number.
+// Whether a word is a number.
 fn is_number(word: &str) -> bool
     ensures { result ≡ is_some (number_of word.now) }
 {
     parse_number(word).is_some()
 }
 
-/// The number that a word is: decimal digits alone, with any leading zeros.
+// The number that a word is: decimal digits alone, with any leading zeros.
 pub(crate) fn parse_number(word: &str) -> Option<u32>
     ensures { result ≡ number_of word.now }
 {
     number(word.as_bytes())
 }
 
-/// The plan of this name.
+// The plan of this name.
 pub(crate) fn parse_plan(name: &str) -> Option<Plan>
     ensures { result ≡ plan_of name.now }
 {
@@ -283,7 +283,7 @@ pub(crate) fn parse_plan(name: &str) -> Option<Plan>
     }
 }
 
-/// The format of this name.
+// The format of this name.
 pub(crate) fn parse_format(name: &str) -> Option<Format>
     ensures { result ≡ format_of name.now }
 {
@@ -296,7 +296,7 @@ pub(crate) fn parse_format(name: &str) -> Option<Format>
     }
 }
 
-/// Whether an index under this name would take the place of a file of the collection.
+// Whether an index under this name would take the place of a file of the collection.
 fn is_file_of(base: &str, name: &str) -> bool
     ensures { result ≡ is_file_of base.now name.now }
 {
@@ -306,7 +306,7 @@ fn is_file_of(base: &str, name: &str) -> bool
         || is_joined(name, base, b".sizes")
 }
 
-/// Whether a name is a text and then an ending.
+// Whether a name is a text and then an ending.
 fn is_joined(name: &[u8], text: &[u8], ending: &[u8]) -> bool
     ensures { result ≡ bytes_eq name.now (text.now ++ ending.now) }
 {
@@ -317,7 +317,7 @@ fn is_joined(name: &[u8], text: &[u8], ending: &[u8]) -> bool
     front == text && back == ending
 }
 
-/// Whether a word can be a text of a command: it is not empty, is not `help`, and begins with no minus sign.
+// Whether a word can be a text of a command: it is not empty, is not `help`, and begins with no minus sign.
 fn can_be_text(word: &str) -> bool
     ensures { result ≡ is_text word.now }
 {

@@ -6,7 +6,7 @@ use part_cost::SpanCost;
 use std::sync::ledger::Ledger;
 use step_count::Steps;
 
-/// The part from a place to an end, and what is known of its cost and of that of the part that is one number longer.
+// The part from a place to an end, and what is known of its cost and of that of the part that is one number longer.
 #[derive(Clone, Copy)]
 pub(crate) struct Edge {
     /// Where the part ends; at the place itself there is no part yet.
@@ -18,7 +18,7 @@ pub(crate) struct Edge {
 }
 
 impl Edge {
-    /// The part to this end, nothing known of its cost.
+    // The part to this end, nothing known of its cost.
     pub(crate) fn at(end: u64) -> Edge
         ensures { result ≡ record { end = end; cost = None; next = None } }
     {
@@ -29,7 +29,7 @@ impl Edge {
         }
     }
 
-    /// The part to the longest end under the bound, by asking for one number more at a time.
+    // The part to the longest end under the bound, by asking for one number more at a time.
     fn lengthened<C: SpanCost, L: Ledger>(
         self,
         i: u64,
@@ -69,7 +69,7 @@ impl Edge {
         edge
     }
 
-    /// The part to the longest end under the bound, from the position where the bound's window stood.
+    // The part to the longest end under the bound, from the position where the bound's window stood.
     pub(crate) fn stretched<C: SpanCost, L: Ledger>(
         self,
         i: u64,

@@ -13,7 +13,7 @@ use std::sync::ledger::{Blank, Ledger};
 use std::test::Fail;
 use step_count::Steps;
 
-/// Parts that cost the charge, and six bits more for each number after the first.
+// Parts that cost the charge, and six bits more for each number after the first.
 #[derive(Clone, Copy)]
 struct Sloping {
     format: Format,
@@ -51,7 +51,7 @@ impl SpanCost for Sloping {
     ghost one_within_limit = { λ c i h. Prim.omega (arith, c.room) };
 }
 
-/// The end of a window, with what the part up to there costs.
+// The end of a window, with what the part up to there costs.
 fn edge(windows: &Windows, k: usize) -> Option<(u64, u64)>
     requires { k < length windows.now.bounds }
 {
@@ -61,7 +61,7 @@ fn edge(windows: &Windows, k: usize) -> Option<(u64, u64)>
     }
 }
 
-/// The edges of the first three windows and of the last.
+// The edges of the first three windows and of the last.
 fn edges(windows: &Windows) -> [Option<(u64, u64)>; 4]
     requires { 3 ≤ length windows.now.bounds }
 {
@@ -73,7 +73,7 @@ fn edges(windows: &Windows) -> [Option<(u64, u64)>; 4]
     ]
 }
 
-/// The edges at both places of two numbers.
+// The edges at both places of two numbers.
 fn moved<L: Ledger>(
     alloc: Global,
     blank: Blank,

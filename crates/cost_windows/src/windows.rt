@@ -130,7 +130,7 @@ impl Windows {
         self.costs[self.held(k)]
     }
 
-    /// The widest window that is kept and stands where window k stands.
+    // The widest window that is kept and stands where window k stands.
     fn held(&self, k: usize) -> usize
         requires window { k < length self.now.bounds }
         ensures within { result < self.now.distinct }
@@ -141,7 +141,7 @@ impl Windows {
     }
 }
 
-/// A zero for each bound of a format.
+// A zero for each bound of a format.
 fn zeros(alloc: Global, format: Format) -> Result<Vec<u64>, NoMemory>
     ensures { IfOk result (λ v. v.items ≡ replicate (length (window_bounds format)) 0) }
 {

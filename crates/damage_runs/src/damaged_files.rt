@@ -8,8 +8,8 @@ use run_tables::{
 };
 use std::alloc::Global;
 
-/// Nine documents without sizes and one list in the first format: document 0 twice, 2 once, 3 and 7 three times each. The documents are
-/// in two parts of two, whose payloads have 3 and 5 bits; the frequencies in parts of one, two and one, of 2, 4 and 3 bits.
+// Nine documents without sizes and one list in the first format: document 0 twice, 2 once, 3 and 7 three times each. The documents are
+// in two parts of two, whose payloads have 3 and 5 bits; the frequencies in parts of one, two and one, of 2, 4 and 3 bits.
 const SEVERAL_PARTS: [u64; 27] = [
     OPENING,
     1,
@@ -40,7 +40,7 @@ const SEVERAL_PARTS: [u64; 27] = [
     CLOSING,
 ];
 
-/// The same in the second format.
+// The same in the second format.
 const SEVERAL_PARTS_OF_TWO: [u64; 32] = [
     OPENING,
     2,
@@ -76,13 +76,13 @@ const SEVERAL_PARTS_OF_TWO: [u64; 32] = [
     CLOSING,
 ];
 
-/// One more as an end, in an entry of the first format.
+// One more as an end, in an entry of the first format.
 const END: u64 = 1 << 36;
 
-/// One more in the high half of a word.
+// One more in the high half of a word.
 const HIGH: u64 = 1 << 32;
 
-/// What `query` writes on err over the words with the one at a place moved up by so much, and with it moved down by as much.
+// What `query` writes on err over the words with the one at a place moved up by so much, and with it moved down by as much.
 fn refusals(alloc: Global, words: &[u64], at: usize, by: u64) -> Option<(SteadySink, SteadySink)> {
     let word = *words.get(at)?;
     let up = changed(alloc, words, at, word.wrapping_add(by))?;
@@ -90,7 +90,7 @@ fn refusals(alloc: Global, words: &[u64], at: usize, by: u64) -> Option<(SteadyS
     Some((refusal(alloc, &up)?, refusal(alloc, &down)?))
 }
 
-/// All these words, in order.
+// All these words, in order.
 fn joined(alloc: Global, pieces: &[&[u64]]) -> Option<Vec<u64>> {
     let mut words = Vec::new(alloc);
     for piece in pieces {
@@ -99,7 +99,7 @@ fn joined(alloc: Global, pieces: &[&[u64]]) -> Option<Vec<u64>> {
     Some(words)
 }
 
-/// The words of so many bits, of which these are ones.
+// The words of so many bits, of which these are ones.
 fn words_of_bits(alloc: Global, count: usize, ones: &[usize]) -> Option<Vec<u64>> {
     let mut words = vec![in alloc; 0; count.div_ceil(64)].ok()?;
     for place in ones {
@@ -108,8 +108,8 @@ fn words_of_bits(alloc: Global, count: usize, ones: &[usize]) -> Option<Vec<u64>
     Some(words)
 }
 
-/// The payload of the 129 numbers 0, 10, .., 1280 as one Elias-Fano part, of low width 3: 289 high places, 387 bits of low fields, and
-/// the sample 288.
+// The payload of the 129 numbers 0, 10, .., 1280 as one Elias-Fano part, of low width 3: 289 high places, 387 bits of low fields, and
+// the sample 288.
 fn sampled_elias_fano(alloc: Global) -> Option<Vec<u64>> {
     let mut ones = Vec::new(alloc);
     for k in 0..129 {
@@ -125,7 +125,7 @@ fn sampled_elias_fano(alloc: Global) -> Option<Vec<u64>> {
     words_of_bits(alloc, 685, &ones)
 }
 
-/// The payload of the 599 numbers from 0 to 599 without 300 as one bitmap, with the sample 511.
+// The payload of the 599 numbers from 0 to 599 without 300 as one bitmap, with the sample 511.
 fn sampled_bitmap(alloc: Global) -> Option<Vec<u64>> {
     let mut ones = Vec::new(alloc);
     for place in 0..609 {
@@ -136,7 +136,7 @@ fn sampled_bitmap(alloc: Global) -> Option<Vec<u64>> {
     words_of_bits(alloc, 610, &ones)
 }
 
-/// A file of one list whose two sequences have the same values, in one part each, which has one sample. The sizes are zero.
+// A file of one list whose two sequences have the same values, in one part each, which has one sample. The sizes are zero.
 #[derive(Clone, Copy)]
 struct Sampled<'a> {
     version: u64,
@@ -155,7 +155,7 @@ struct Sampled<'a> {
 }
 
 impl Sampled<'_> {
-    /// The words of the file.
+    // The words of the file.
     fn words(&self, alloc: Global) -> Option<Vec<u64>> {
         let opening = [OPENING, self.version];
         let zeros = vec![in alloc; 0; self.sizes].ok()?;
@@ -300,8 +300,8 @@ fn entries_that_are_one_off_are_refused(rt: HostRuntime) {
     }
 }
 
-/// The check that breaks where a bit of the documents' last word is flipped, and where one of the frequencies' is: of a part, or of
-/// what is behind the payload.
+// The check that breaks where a bit of the documents' last word is flipped, and where one of the frequencies' is: of a part, or of
+// what is behind the payload.
 fn checks_of_bit(bit: u32) -> (&'static str, &'static str) {
     let docs = match bit {
         0..=2 => "K8 term 0 part 0",

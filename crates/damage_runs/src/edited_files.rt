@@ -5,7 +5,7 @@ use run_tables::{
     AUDIT, BLOCKS, BQUERY, MIGRATE, ONE_LIST_WORDS, QUERY, bytes_of, only_index, steady_run,
 };
 
-/// The words of a run that answers from the index `y` as the only segment.
+// The words of a run that answers from the index `y` as the only segment.
 const ONE_SEGMENT: [&str; 3] = ["pefidx", "segments", "y"];
 
 #[test]

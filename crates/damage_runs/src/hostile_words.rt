@@ -6,10 +6,10 @@ use run_tables::{
 };
 use std::alloc::Global;
 
-/// A place, the word that is put there, and the check that breaks then.
+// A place, the word that is put there, and the check that breaks then.
 type Edit = (usize, u64, &'static str);
 
-/// Edits of the words of the one list in the first format.
+// Edits of the words of the one list in the first format.
 const EDITS: [Edit; 14] = [
     (15, 2, "K5 term 0 part 0"),
     (15, 4294967296, "K5 term 0 part 0"),
@@ -27,7 +27,7 @@ const EDITS: [Edit; 14] = [
     (5, 68719476741, "K7 term 0 part 1"),
 ];
 
-/// Edits of the words of the one list in the second format, where a last value and an end are words of their own.
+// Edits of the words of the one list in the second format, where a last value and an end are words of their own.
 const EDITS_OF_TWO: [Edit; 35] = [
     (0, 0, "K2 term 0 part 0"),
     (1, 0, "K3 term 0 part 0"),
@@ -66,15 +66,15 @@ const EDITS_OF_TWO: [Edit; 35] = [
     (11, 4294967303, "K11 term 0 part 0"),
 ];
 
-/// Runs `query` over the file of these words and this text.
+// Runs `query` over the file of these words and this text.
 pub(crate) fn query(alloc: Global, words: &[u64], text: &[u8]) -> Option<Outcome> {
     let bytes = bytes_of(alloc, words)?;
     let files = only_index(alloc, bytes.as_slice())?;
     steady_run(alloc, &QUERY, files, text)
 }
 
-/// What `query` writes on err over the file of these words; none where it is not refused as no index, calls the input or out, or
-/// creates a file.
+// What `query` writes on err over the file of these words; none where it is not refused as no index, calls the input or out, or
+// creates a file.
 pub(crate) fn refusal(alloc: Global, words: &[u64]) -> Option<SteadySink> {
     let Outcome {
         status,
@@ -89,21 +89,21 @@ pub(crate) fn refusal(alloc: Global, words: &[u64]) -> Option<SteadySink> {
     (status == Status::Index).then_some(err)
 }
 
-/// The words, with another word at a place.
+// The words, with another word at a place.
 pub(crate) fn changed(alloc: Global, words: &[u64], at: usize, word: u64) -> Option<Vec<u64>> {
     let mut words = Vec::from_slice(alloc, words).ok()?;
     *words.get_mut(at)? = word;
     Some(words)
 }
 
-/// The words, one bit of one of them flipped.
+// The words, one bit of one of them flipped.
 pub(crate) fn flipped(alloc: Global, words: &[u64], at: usize, bit: u32) -> Option<Vec<u64>> {
     let word = *words.get(at)?;
     changed(alloc, words, at, word ^ 1_u64.checked_shl(bit)?)
 }
 
-/// The words from 0 up to a place, so many zeros behind them, and the words from a place on; in the file the sizes begin behind
-/// the zeros.
+// The words from 0 up to a place, so many zeros behind them, and the words from a place on; in the file the sizes begin behind
+// the zeros.
 pub(crate) fn with_sizes_moved(
     alloc: Global,
     words: &[u64],

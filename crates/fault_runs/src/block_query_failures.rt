@@ -4,7 +4,7 @@ use pef_io::{Op, Slot};
 use pef_top::Status;
 use run_tables::{BQUERY, ONE_LIST_WORDS, index_and_side};
 
-/// The words of the side file of the one list.
+// The words of the side file of the one list.
 const SIDE_WORDS: [u64; 5] = [
     5_423_265_565_232_219_472,
     1,
@@ -13,7 +13,7 @@ const SIDE_WORDS: [u64; 5] = [
     5_784_106_546_989_318_987,
 ];
 
-/// Two lines over the one list, and their replies.
+// Two lines over the one list, and their replies.
 const TEXT: &[u8] = b"next 0 1\ntop 1 0";
 
 const REPLIES: &[u8] = b"2 5\n1 2:5\n";

@@ -5,7 +5,7 @@ use pef_top::Status;
 use run_tables::{ANSWER, BUILD, BUILD_ONE, THREE_LISTS, cut_files, run_words};
 use std::alloc::Global;
 
-/// The fault of the collection whose file of this slot is cut to so many bytes.
+// The fault of the collection whose file of this slot is cut to so many bytes.
 fn fault_of_cut(cut: Slot, length: usize) -> &'static str {
     match (cut, length) {
         (Slot::Docs, 8) => "collection C10 freqs term 0 place 0\n",
@@ -22,8 +22,8 @@ fn fault_of_cut(cut: Slot, length: usize) -> &'static str {
     }
 }
 
-/// Runs the words over the cut collection, where the write on err of this number fails: the status and err. None where anything
-/// was called on input or out, or a file was created.
+// Runs the words over the cut collection, where the write on err of this number fails: the status and err. None where anything
+// was called on input or out, or a file was created.
 fn run_cut(
     alloc: Global,
     words: &[&str],
@@ -43,7 +43,7 @@ fn run_cut(
     Some((status, err))
 }
 
-/// Runs of the words over the collection whose file of this slot is cut to so many bytes, where writes on err fail.
+// Runs of the words over the collection whose file of this slot is cut to so many bytes, where writes on err fail.
 #[derive(Drop)]
 struct Cut {
     words: &'static [&'static str],
@@ -65,7 +65,7 @@ impl Turns for Cut {
     }
 }
 
-/// The words of runs, and a file of the collection with its length in bytes.
+// The words of runs, and a file of the collection with its length in bytes.
 const CASES: [(&[&str], Slot, usize); 9] = [
     (&ANSWER, Slot::Docs, 28),
     (&ANSWER, Slot::Freqs, 20),

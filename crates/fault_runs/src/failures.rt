@@ -10,12 +10,12 @@ use run_tables::{
 };
 use std::alloc::Global;
 
-/// Four lines over the three lists, and their replies.
+// Four lines over the three lists, and their replies.
 pub(crate) const TEXT: &[u8] = b"next 1 0\nor 0 1 2\nand 0\nnext 0 0";
 
 pub(crate) const REPLIES: &[u8] = b"end\n2 0 1\n1 0\n0 1\n";
 
-/// What stands after a run where calls fail.
+// What stands after a run where calls fail.
 #[derive(Drop)]
 pub(crate) struct Failed {
     pub(crate) status: Status,
@@ -26,7 +26,7 @@ pub(crate) struct Failed {
 }
 
 impl Failed {
-    /// Whether the run ended with this status and this line on err, and called neither the input nor out.
+    // Whether the run ended with this status and this line on err, and called neither the input nor out.
     pub(crate) fn ends(&self, status: Status, line: &str) -> bool {
         self.status == status
             && self.err.bytes() == line.as_bytes()
@@ -34,28 +34,28 @@ impl Failed {
             && self.out.calls() == 0
     }
 
-    /// Whether the run did all, with this text on out, and did not call err.
+    // Whether the run did all, with this text on out, and did not call err.
     pub(crate) fn prints(&self, text: &[u8]) -> bool {
         self.status == Status::Done && self.out.bytes() == text && self.err.calls() == 0
     }
 }
 
-/// Which calls fail: of the depot, reads of the input, writes on out.
+// Which calls fail: of the depot, reads of the input, writes on out.
 pub(crate) type Fails = (Vec<(Op, u64)>, Vec<u64>, Vec<u64>);
 
-/// No call fails.
+// No call fails.
 pub(crate) fn no_fails(alloc: Global) -> Fails {
     (Vec::new(alloc), Vec::new(alloc), Vec::new(alloc))
 }
 
-/// This call of the depot fails.
+// This call of the depot fails.
 pub(crate) fn failing_call(alloc: Global, op: Op, failing: u64) -> Option<Fails> {
     let calls = vec![in alloc; (op, failing)].ok()?;
     Some((calls, Vec::new(alloc), Vec::new(alloc)))
 }
 
-/// Runs the words over the text where each call moves at most `most` bytes, and the calls with these numbers
-/// fail: of the depot, reads of the input, writes on out.
+// Runs the words over the text where each call moves at most `most` bytes, and the calls with these numbers
+// fail: of the depot, reads of the input, writes on out.
 pub(crate) fn run_failing(
     alloc: Global,
     words: &[&str],
@@ -80,7 +80,7 @@ pub(crate) fn run_failing(
     })
 }
 
-/// The files of the three lists, and the file `y` of these words.
+// The files of the three lists, and the file `y` of these words.
 fn with_index(alloc: Global, words: &[u64]) -> Option<FileList> {
     let mut held = files_of(alloc, THREE_LISTS)?;
     let name = String::from_str(alloc, "y").ok()?;
@@ -88,7 +88,7 @@ fn with_index(alloc: Global, words: &[u64]) -> Option<FileList> {
     Some(held)
 }
 
-/// The line of a run where a call of this kind failed, and at least how often it is made.
+// The line of a run where a call of this kind failed, and at least how often it is made.
 pub(crate) fn line_of(op: Op) -> (&'static str, u64) {
     match op {
         Op::Start(Slot::Docs) => ("read fault: docs\n", 1),
@@ -101,7 +101,7 @@ pub(crate) fn line_of(op: Op) -> (&'static str, u64) {
     }
 }
 
-/// Runs that answer from the three lists, where calls of a kind fail.
+// Runs that answer from the three lists, where calls of a kind fail.
 #[derive(Drop)]
 struct Answering {
     op: Op,
@@ -130,14 +130,14 @@ fn calls_on_the_files_fail_in_turn(rt: HostRuntime) {
     }
 }
 
-/// How a run ends where a read of the input fails, where a write on out does, and where nothing fails.
+// How a run ends where a read of the input fails, where a write on out does, and where nothing fails.
 const READ: (Status, &str) = (Status::Read, "read fault: input\n");
 
 const WRITE: (Status, &str) = (Status::Write, "write fault: out\n");
 
 const DONE: (Status, &str) = (Status::Done, "");
 
-/// The read of the input and the write on out that fail, how the run ends, and what is written on out.
+// The read of the input and the write on out that fail, how the run ends, and what is written on out.
 const STREAMS: [(u64, u64, (Status, &str), &str); 16] = [
     (1, 0, READ, ""),
     (2, 0, READ, ""),
@@ -157,15 +157,15 @@ const STREAMS: [(u64, u64, (Status, &str), &str); 16] = [
     (0, 6, DONE, "end\n2 0 1\n1 0\n0 1\n"),
 ];
 
-/// The words of runs over the three lists, and those of the file `y`.
+// The words of runs over the three lists, and those of the file `y`.
 const OVER: [(&[&str], &[u64]); 3] = [
     (&ANSWER, &[]),
     (&QUERY, &THREE_LISTS_WORDS),
     (&QUERY, &THREE_LISTS_WORDS_OF_TWO),
 ];
 
-/// Whether a run of these words over the three lists and the file `y` ends so, where this read of the input and this write on out
-/// fail.
+// Whether a run of these words over the three lists and the file `y` ends so, where this read of the input and this write on out
+// fail.
 fn ends_so(
     alloc: Global,
     over: (&[&str], &[u64]),
@@ -211,7 +211,7 @@ fn the_second_write_of_two_bytes_fails(rt: HostRuntime) {
     assert_eq!(rt; run.out.bytes(), b"2 ".as_slice());
 }
 
-/// Whether a run of these words over the one list without this one of its files ends with this line, and creates nothing.
+// Whether a run of these words over the one list without this one of its files ends with this line, and creates nothing.
 fn misses(alloc: Global, words: &[&str], missing: usize, line: &str) -> Option<bool> {
     let mut held = files_of(alloc, ONE_LIST)?;
     if held.len() <= missing {

@@ -9,7 +9,7 @@ use run_tables::{
 };
 use std::alloc::Global;
 
-/// The line of a fault on the error output.
+// The line of a fault on the error output.
 fn line_of(alloc: Global, fault: Fault) -> Option<String> {
     let Fault {
         rule,
@@ -28,18 +28,18 @@ fn line_of(alloc: Global, fault: Fault) -> Option<String> {
     format!(in alloc; "collection {rule:?} {file} term {term} place {place}\n").ok()
 }
 
-/// The numbers of the one list.
+// The numbers of the one list.
 const DOCS: &[u32] = &[1, 3, 2, 0, 2];
 
 const FREQS: &[u32] = &[2, 1, 5];
 
 const SIZES: &[u32] = &[3, 4, 0, 7];
 
-/// No file is cut.
+// No file is cut.
 const WHOLE: (Slot, usize) = (Slot::Index, 0);
 
-/// The numbers of the three files of a broken collection, the file that is cut and to how many bytes, and the line of its first
-/// fault.
+// The numbers of the three files of a broken collection, the file that is cut and to how many bytes, and the line of its first
+// fault.
 const BROKEN: [([&[u32]; 3], (Slot, usize), &str); 14] = [
     (
         [&[1, 268_435_455], &[], &[]],
@@ -113,18 +113,18 @@ const BROKEN: [([&[u32]; 3], (Slot, usize), &str); 14] = [
     ),
 ];
 
-/// The numbers of three files.
+// The numbers of three files.
 fn numbers<'a>(docs: &'a [u32], freqs: &'a [u32], sizes: &'a [u32]) -> Numbers<'a> {
     Numbers { docs, freqs, sizes }
 }
 
-/// Whether the run of these words over these files ends with this line, and creates no file.
+// Whether the run of these words over these files ends with this line, and creates no file.
 fn is_named(alloc: Global, words: &[&str], files: FileList, line: &str) -> Option<bool> {
     let run = steady_run(alloc, words, files, b"next 0 1")?;
     Some(run.ends(Status::Collection, line) && run.depot.calls(Op::Create) == 0)
 }
 
-/// The line of the fault for which no words are built of these files; none where they are, or for another cause.
+// The line of the fault for which no words are built of these files; none where they are, or for another cause.
 fn line_of_build(alloc: Global, files: FileList) -> Option<String> {
     match built(alloc, files, Format::One)? {
         Err(BuildError::Broken(fault)) => line_of(alloc, fault),
@@ -148,7 +148,7 @@ fn broken_collections_are_named(rt: HostRuntime) {
     }
 }
 
-/// Whether a run of these words over these numbers, and its replies to two lines, end so: with this line, or well where it is empty.
+// Whether a run of these words over these numbers, and its replies to two lines, end so: with this line, or well where it is empty.
 fn end_so(
     alloc: Global,
     words: &[&str],
@@ -167,8 +167,8 @@ fn end_so(
     Some(told && run.status == status)
 }
 
-/// More documents than a format has room for, or than there are sizes for: the numbers of documents and of sizes, the words of a
-/// run, and its line.
+// More documents than a format has room for, or than there are sizes for: the numbers of documents and of sizes, the words of a
+// run, and its line.
 const MANY: [([&[u32]; 2], &[&str], &str); 6] = [
     ([&[1, 268_435_456], &[]], &ANSWER, NO_SIZES),
     ([&[1, 268_435_456], &[]], &BUILD, NO_SIZES),
@@ -182,8 +182,8 @@ const NO_SIZES: &str = "collection C1 sizes term 0 place 0\n";
 
 const MANY_DOCUMENTS: &str = "collection C3 docs term 0 place 0\n";
 
-/// Full lists whose sums are 2^36, 2^48, and one more than each: the last document and how often it is there, the words of a run, its
-/// line and its replies.
+// Full lists whose sums are 2^36, 2^48, and one more than each: the last document and how often it is there, the words of a run, its
+// line and its replies.
 const SUMS: [(u32, u32, &[&str], &str, &str); 8] = [
     (16, 16, &BUILD_ONE, "", "16 16\nend\n"),
     (16, 17, &ANSWER, "", "16 17\nend\n"),

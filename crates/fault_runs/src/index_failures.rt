@@ -10,7 +10,7 @@ use run_tables::{
 };
 use std::alloc::Global;
 
-/// How a build ends where a call of this kind fails.
+// How a build ends where a call of this kind fails.
 fn ending_of(op: Op) -> (Status, &'static str) {
     match op {
         Op::Create | Op::Write | Op::Finish => (Status::Write, "write fault: index\n"),
@@ -18,7 +18,7 @@ fn ending_of(op: Op) -> (Status, &'static str) {
     }
 }
 
-/// How often a call of this kind is made at least by a build of an index of so many words.
+// How often a call of this kind is made at least by a build of an index of so many words.
 fn least_of(op: Op, words: usize) -> u64 {
     match op {
         Op::Create | Op::Finish => 1,
@@ -27,7 +27,7 @@ fn least_of(op: Op, words: usize) -> u64 {
     }
 }
 
-/// The front of an index that stands where this call of its build fails; none where no file is created.
+// The front of an index that stands where this call of its build fails; none where no file is created.
 fn front_at(bytes: &[u8], op: Op, failing: u64) -> Option<&[u8]> {
     match op {
         Op::Write => bytes.get(..(failing as usize).checked_sub(1)?.checked_mul(4)?),
@@ -36,7 +36,7 @@ fn front_at(bytes: &[u8], op: Op, failing: u64) -> Option<&[u8]> {
     }
 }
 
-/// Runs that build the index of these words of the three lists, where calls of a kind fail.
+// Runs that build the index of these words of the three lists, where calls of a kind fail.
 #[derive(Drop)]
 struct Building {
     words: &'static [&'static str],
@@ -77,7 +77,7 @@ fn calls_of_a_build_fail_in_turn(rt: HostRuntime) {
     }
 }
 
-/// Runs over the index of these words that print this text, where calls of a kind fail.
+// Runs over the index of these words that print this text, where calls of a kind fail.
 #[derive(Drop)]
 struct Printing {
     words: &'static [&'static str],
@@ -102,7 +102,7 @@ impl Turns for Printing {
     }
 }
 
-/// How often a call of this kind is made at least by a run over an index of so many words.
+// How often a call of this kind is made at least by a run over an index of so many words.
 fn least_over(op: Op, words: usize) -> u64 {
     match op {
         Op::Start(Slot::Index) => 1,

@@ -4,8 +4,8 @@ use pef_top::Status;
 use run_tables::{FileList, MAP, Numbers, ONE_LIST, REMAP, steady_run, with_map};
 use std::alloc::Global;
 
-/// How the move of a collection by a map ends that breaks a rule; none where a file was created, or the map was not
-/// started once.
+// How the move of a collection by a map ends that breaks a rule; none where a file was created, or the map was not
+// started once.
 fn refused(alloc: Global, files: FileList) -> Option<(Status, Vec<u8>)> {
     let run = steady_run(alloc, &REMAP, files, b"")?;
     let untouched = run.input.calls() == 0 && run.out.calls() == 0;

@@ -6,7 +6,7 @@ use pef_top::Status;
 use run_tables::{MIGRATE, ONE_LIST_WORDS, ONE_LIST_WORDS_OF_TWO, bytes_of, only_index};
 use std::alloc::Global;
 
-/// What stands under the name of the new file where the call of this number failed, of calls that move eight bytes each.
+// What stands under the name of the new file where the call of this number failed, of calls that move eight bytes each.
 pub(crate) fn left_by(op: Op, failing: u64, whole: &[u8]) -> Option<&[u8]> {
     match op {
         Op::Write => {
@@ -18,7 +18,7 @@ pub(crate) fn left_by(op: Op, failing: u64, whole: &[u8]) -> Option<&[u8]> {
     }
 }
 
-/// Runs that make the file `z` of the index of the one list, where calls of a kind fail, and how they then end.
+// Runs that make the file `z` of the index of the one list, where calls of a kind fail, and how they then end.
 #[derive(Drop)]
 struct Making {
     words: &'static [&'static str],
@@ -47,8 +47,8 @@ impl Turns for Making {
     }
 }
 
-/// The first kind of call, and its number, that fails otherwise than it should in runs of these words that make the file `z` of
-/// the index of the one list, with this line where it is not written; none where there is no such call.
+// The first kind of call, and its number, that fails otherwise than it should in runs of these words that make the file `z` of
+// the index of the one list, with this line where it is not written; none where there is no such call.
 pub(crate) fn wrong_making(
     alloc: Global,
     words: &'static [&'static str],

@@ -8,10 +8,10 @@ use run_tables::{
 };
 use std::alloc::Global;
 
-/// The words of a run that tells of a generated collection.
+// The words of a run that tells of a generated collection.
 const GENERATE: [&str; 5] = ["pefidx", "generate", "1", "3", "2"];
 
-/// Runs that print a text over the index of these words, where a write on out takes at most `most` bytes, and writes fail.
+// Runs that print a text over the index of these words, where a write on out takes at most `most` bytes, and writes fail.
 #[derive(Drop)]
 struct Printing {
     words: &'static [&'static str],

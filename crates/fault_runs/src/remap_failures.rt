@@ -6,20 +6,20 @@ use pef_top::Status;
 use run_tables::{MAP, ONE_LIST, REMAP, files_of, spelled, with_map};
 use std::alloc::Global;
 
-/// The numbers of the files of the one list where documents 0, 1 and 2 have the new ids 2, 0 and 1.
+// The numbers of the files of the one list where documents 0, 1 and 2 have the new ids 2, 0 and 1.
 const MOVED: [(&str, &[u32]); 3] = [
     ("y.docs", &[1, 3, 2, 1, 2]),
     ("y.freqs", &[2, 5, 1]),
     ("y.sizes", &[3, 0, 7, 4]),
 ];
 
-/// The bytes that are written where the write of this number fails, of writes of four bytes from that of number `first` on.
+// The bytes that are written where the write of this number fails, of writes of four bytes from that of number `first` on.
 fn written(first: u64, failing: u64) -> Option<usize> {
     (failing.checked_sub(first)? as usize).checked_mul(4)
 }
 
-/// Which of the three files is being written where the call of this number fails, of calls that move four bytes each, and how
-/// many of its bytes are there; none where it is not begun.
+// Which of the three files is being written where the call of this number fails, of calls that move four bytes each, and how
+// many of its bytes are there; none where it is not begun.
 fn stop_at(op: Op, failing: u64) -> (usize, Option<usize>) {
     match (op, failing) {
         (Op::Write, 1..=5) => (0, written(1, failing)),
@@ -35,7 +35,7 @@ fn stop_at(op: Op, failing: u64) -> (usize, Option<usize>) {
     }
 }
 
-/// The line of a run where this call of a kind failed.
+// The line of a run where this call of a kind failed.
 fn line_of(op: Op, failing: u64) -> (Status, &'static str) {
     match op {
         Op::Start(Slot::Docs) | Op::Read(Slot::Docs) => (Status::Read, "read fault: docs\n"),
@@ -50,7 +50,7 @@ fn line_of(op: Op, failing: u64) -> (Status, &'static str) {
     }
 }
 
-/// Whether the files before the one at which a run stopped are whole, that one has so many of its bytes, and those behind it are not there.
+// Whether the files before the one at which a run stopped are whole, that one has so many of its bytes, and those behind it are not there.
 fn are_left(alloc: Global, depot: &MemDepot, stop: (usize, Option<usize>)) -> Option<bool> {
     let (at, count) = stop;
     let mut right = true;
@@ -68,7 +68,7 @@ fn are_left(alloc: Global, depot: &MemDepot, stop: (usize, Option<usize>)) -> Op
     Some(right)
 }
 
-/// Moves of the one list, where calls of a kind fail that move four bytes each.
+// Moves of the one list, where calls of a kind fail that move four bytes each.
 #[derive(Drop)]
 struct Moving {
     op: Op,

@@ -6,7 +6,7 @@ use pef_top::Status;
 use run_tables::{ONE_LIST_WORDS, ONE_LIST_WORDS_OF_TWO, indexes_of};
 use std::alloc::Global;
 
-/// Runs over three indexes where a call of this kind fails.
+// Runs over three indexes where a call of this kind fails.
 #[derive(Clone, Copy)]
 struct OverThree(Op);
 
@@ -32,7 +32,7 @@ impl Turns for OverThree {
     }
 }
 
-/// How many files are started where the call of this number fails: the first takes 37 reads, the second 41 and the third 37.
+// How many files are started where the call of this number fails: the first takes 37 reads, the second 41 and the third 37.
 fn starts_at(op: Op, failing: u64) -> u64 {
     match op {
         Op::Start(_) => failing,

@@ -2,7 +2,7 @@
 use crate::migration_failures::wrong_making;
 use run_tables::BLOCKS;
 
-/// The words of the side file of the one list.
+// The words of the side file of the one list.
 const SIDE_WORDS: [u64; 5] = [
     5_423_265_565_232_219_472,
     1,

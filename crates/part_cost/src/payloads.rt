@@ -35,7 +35,7 @@ pub fn low_width(u: u64, m: u64) -> u32
     if greatest >> low > most { low + 1 } else { low }
 }
 
-/// The bits of a part in Elias-Fano form.
+// The bits of a part in Elias-Fano form.
 fn ef_payload_bits(u: u64, m: u64) -> u64
     requires some { 1 ≤ m }
     requires fit { m ≤ u }
@@ -47,7 +47,7 @@ fn ef_payload_bits(u: u64, m: u64) -> u64
     m * low as u64 + m + ((u - 1) >> low) + samples
 }
 
-/// The bits of a part as a bitmap.
+// The bits of a part as a bitmap.
 fn bitmap_payload_bits(u: u64, m: u64) -> u64
     requires some { 1 ≤ m }
     requires fit { m ≤ u }

@@ -83,7 +83,7 @@ fn low_widths(rt: HostRuntime) {
     }
 }
 
-/// What a part costs, learned through the bound.
+// What a part costs, learned through the bound.
 fn cost_by<C: SpanCost, L: Ledger>(costs: &C, i: u64, j: u64, steps: &mut Steps<L>) -> u64
     requires some { i < j }
     requires within { j ≤ C.count costs.now }
@@ -93,7 +93,7 @@ fn cost_by<C: SpanCost, L: Ledger>(costs: &C, i: u64, j: u64, steps: &mut Steps<
     costs.cost(i, j, steps)
 }
 
-/// What the part from i to j of a list of values costs.
+// What the part from i to j of a list of values costs.
 fn cost_of<L: Ledger>(blank: Blank, values: &[u64], format: Format, i: u64, j: u64) -> u64
     requires name { blank.name ≡ L.name }
     requires parts { blank.parts ≡ L.parts }

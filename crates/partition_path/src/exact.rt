@@ -35,7 +35,7 @@ pub fn exact_cost<C: SpanCost, L: Ledger>(
     Ok(rests[0])
 }
 
-/// The least cost of the parts from place i on, where it is known from each place behind.
+// The least cost of the parts from place i on, where it is known from each place behind.
 fn cheapest_from<C: SpanCost, L: Ledger>(
     cost: &C,
     limited: bool,

@@ -15,14 +15,14 @@ use std::marker::Model;
 use std::sync::ledger::Ledger;
 use step_count::Steps;
 
-/// A route to a place: what it costs, in bits, and where its last part starts.
+// A route to a place: what it costs, in bits, and where its last part starts.
 #[derive(Clone, Copy)]
 struct Route {
     cost: u64,
     start: u64,
 }
 
-/// For each place of a sequence the cheapest route to it that is known, if any.
+// For each place of a sequence the cheapest route to it that is known, if any.
 #[derive(Drop)]
 pub(crate) struct Routes {
     known: Vec<Option<Route>>,
@@ -37,7 +37,7 @@ impl Model for Routes {
 }
 
 impl Routes {
-    /// The routes that parts to the ends of the windows give, from each place that is worth it, in order.
+    // The routes that parts to the ends of the windows give, from each place that is worth it, in order.
     pub(crate) fn found<C: SpanCost, L: Ledger>(
         alloc: Global,
         cost: &C,
@@ -71,7 +71,7 @@ impl Routes {
         Ok(routes)
     }
 
-    /// Routes of a sequence of so many numbers, of which only its start is reached.
+    // Routes of a sequence of so many numbers, of which only its start is reached.
     fn new(alloc: Global, count: usize) -> Result<Routes, NoMemory>
         requires { count < 2 ^ 32 }
         ensures { IfOk result (λ t. t ≡ new_table count) }
@@ -81,8 +81,8 @@ impl Routes {
         Ok(Routes { known })
     }
 
-    /// What the route to place i costs, where parts from there on are worth a try: it is reached, and not passed over for
-    /// its rival.
+    // What the route to place i costs, where parts from there on are worth a try: it is reached, and not passed over for
+    // its rival.
     fn open(&self, i: u64, rival: Rival) -> Option<u64>
         requires { i < length self.now }
         ensures open { IfSome result (λ c. (c ≡ cost_to self.now i) × (c < unreached)) }
@@ -96,8 +96,8 @@ impl Routes {
         }
     }
 
-    /// Whether the route to the last place costs no more than one to a place, at this cost, with two parts more: each costs at
-    /// least the charge.
+    // Whether the route to the last place costs no more than one to a place, at this cost, with two parts more: each costs at
+    // least the charge.
     fn is_outdone(&self, here: u64, charge: u64) -> bool
         requires some { 0 < length self.now }
         requires room { here + 2 * charge < unreached }
@@ -109,7 +109,7 @@ impl Routes {
         }
     }
 
-    /// Tries the part from place i, whose route costs so much, to the last place, where it is allowed.
+    // Tries the part from place i, whose route costs so much, to the last place, where it is allowed.
     fn offer_rest<C: SpanCost, L: Ledger>(
         &mut self,
         i: u64,
@@ -132,8 +132,8 @@ impl Routes {
         }
     }
 
-    /// Takes the route to a place by a part from another, at this total, where it is cheaper than the one that is known;
-    /// gives what the route there costs.
+    // Takes the route to a place by a part from another, at this total, where it is cheaper than the one that is known;
+    // gives what the route there costs.
     fn offer(&mut self, start: u64, end: u64, total: u64) -> u64
         requires { end < length self.old }
         ensures offered { IsOffered start end total self.old self.new }
@@ -148,8 +148,8 @@ impl Routes {
         }
     }
 
-    /// Tries the parts from place i, whose route costs so much, to the ends of the windows, and gives the rival of the places
-    /// behind i: no end costs less.
+    // Tries the parts from place i, whose route costs so much, to the ends of the windows, and gives the rival of the places
+    // behind i: no end costs less.
     fn extend(&mut self, i: u64, here: u64, windows: &Windows, rival: Rival) -> Rival
         requires place { windows.now.place ≡ i }
         requires here { here ≡ cost_to self.old i }
@@ -176,7 +176,7 @@ impl Routes {
         rival
     }
 
-    /// The route to a place.
+    // The route to a place.
     fn to(&self, place: usize) -> Route
         requires within { place < length self.now }
         requires reached { IsReached self.now place }
@@ -186,7 +186,7 @@ impl Routes {
         self.known[place].unwrap()
     }
 
-    /// What the route to the last place costs.
+    // What the route to the last place costs.
     pub(crate) fn total(&self) -> u64
         requires some { 0 < length self.now }
         requires reached { IsReached self.now (length self.now - 1) }
@@ -195,7 +195,7 @@ impl Routes {
         self.to(self.known.len() - 1).cost
     }
 
-    /// The ends of the parts of the route to the last place.
+    // The ends of the parts of the route to the last place.
     pub(crate) fn ends(&self, alloc: Global) -> Result<Vec<u64>, NoMemory>
         requires some { 0 < length self.now }
         requires reached { IsReached self.now (length self.now - 1) }

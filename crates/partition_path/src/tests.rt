@@ -12,7 +12,7 @@ use std::sync::ledger::{Blank, Ledger};
 use std::test::Fail;
 use step_count::Steps;
 
-/// The numbers below a count but for one, and then a last one.
+// The numbers below a count but for one, and then a last one.
 fn numbers(
     alloc: Global,
     count: u64,
@@ -31,7 +31,7 @@ fn numbers(
     Ok(values)
 }
 
-/// Whether the values are a sequence of this format: they rise, and lie below its greatest sum.
+// Whether the values are a sequence of this format: they rise, and lie below its greatest sum.
 fn is_sequence(values: &[u64], format: Format) -> bool
     ensures rising { IsTrue result → IsStrictlyIncreasing values.now }
     ensures below { IsTrue result → All (λ x. x < (numbers_of format).most_sum) values.now }
@@ -45,7 +45,7 @@ fn is_sequence(values: &[u64], format: Format) -> bool
     values.len() < 1 << 32
 }
 
-/// The cuts of a sequence of values.
+// The cuts of a sequence of values.
 fn cuts<L: Ledger>(
     alloc: Global,
     blank: Blank,
@@ -63,7 +63,7 @@ fn cuts<L: Ledger>(
     partition(alloc, &ListCost::new(values, format), &mut steps)
 }
 
-/// The cheapest cost of a sequence of values.
+// The cheapest cost of a sequence of values.
 fn cheapest<L: Ledger>(
     alloc: Global,
     blank: Blank,
@@ -82,7 +82,7 @@ fn cheapest<L: Ledger>(
     exact_cost(alloc, &ListCost::new(values, format), limited, &mut steps)
 }
 
-/// The numbers before the first so many multiples of 2^20.
+// The numbers before the first so many multiples of 2^20.
 fn far_apart(alloc: Global, count: u64) -> Result<Vec<u64>, AllocError>
     requires { count ≤ 256 }
 {

@@ -22,7 +22,7 @@ pub enum Op {
     Finish,
 }
 
-/// How often each kind of call was made.
+// How often each kind of call was made.
 #[derive(Drop)]
 pub(crate) struct Calls {
     starts: PerSlot<u64>,

@@ -63,7 +63,7 @@ impl MemDepot {
         self.depot.calls(op)
     }
 
-    /// Whether the next call of this kind is one of those that fail.
+    // Whether the next call of this kind is one of those that fail.
     fn fails_next(&self, op: Op) -> bool
         ensures { IsTrue result ↔ FailsNext (mem_depot self.now) op }
     {
@@ -71,7 +71,7 @@ impl MemDepot {
         self.fails.contains(&(op, number))
     }
 
-    /// Counts a call of this kind and its fault.
+    // Counts a call of this kind and its fault.
     fn fail(&mut self, op: Op) -> IoFail
         ensures failed { result ≡ IoFail.Failed }
         ensures unchanged { SameButCounts (mem_depot self.old).state (mem_depot self.new).state }

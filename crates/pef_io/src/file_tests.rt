@@ -6,13 +6,13 @@ use std::os::unix::fs::{FileTypeExt, PermissionsExt, symlink};
 use std::test::Fail;
 use std::{fs, io};
 
-/// Makes a folder of this name with a file `x` in it, which has these three bytes.
+// Makes a folder of this name with a file `x` in it, which has these three bytes.
 fn make_old(rt: &HostRuntime, folder: &str, file: &str) -> io::Result<()> {
     fs::create_dir(rt, folder)?;
     fs::write(rt, file, b"old".as_slice())
 }
 
-/// Whether this is all that the file has.
+// Whether this is all that the file has.
 fn holds(rt: &HostRuntime, file: &str, text: &str) -> io::Result<bool> {
     Ok(fs::read(rt, file)?.as_slice() == text.as_bytes())
 }
@@ -34,7 +34,7 @@ fn a_file_is_replaced_whole(rt: HostRuntime) -> Result<(), Fail> {
     Ok(())
 }
 
-/// Creates the file of this name, writes to it, and leaves it so.
+// Creates the file of this name, writes to it, and leaves it so.
 fn leave_unfinished(rt: HostRuntime, file: &str) -> Result<(), IoFail> {
     let mut depot = StdDepot::new(rt);
     depot.create(file)?;

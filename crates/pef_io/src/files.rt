@@ -5,21 +5,21 @@ ghost use Rattle.pef_io.specs.Files.{has_name, name_at, IsFirst, Puts};
 
 use std::alloc::{AllocError, Global};
 
-/// Files under names; of two with one name the first counts.
+// Files under names; of two with one name the first counts.
 #[derive(Drop)]
 pub(crate) struct Files {
     pub(crate) list: Vec<(String, Vec<u8>)>,
 }
 
 impl Files {
-    /// The place of the first file of this name.
+    // The place of the first file of this name.
     pub(crate) fn place_of(&self, name: &str) -> Option<usize>
         ensures { result ≡ position (has_name name.now) self.now.list.items }
     {
         self.list.iter().position(|file| file.0.as_str() == name)
     }
 
-    /// The bytes under a name.
+    // The bytes under a name.
     pub(crate) fn bytes_of(&self, name: &str) -> Option<&[u8]>
         ensures { option_map (λ bytes. bytes.now) result ≡ file_in self.now.list.items name.now }
     {
@@ -27,7 +27,7 @@ impl Files {
         Some(self.list[at].1.as_slice())
     }
 
-    /// A copy of the bytes under a name, none where there is no such file.
+    // A copy of the bytes under a name, none where there is no such file.
     pub(crate) fn copy_of(&self, alloc: Global, name: &str) -> Result<Vec<u8>, AllocError>
         ensures { IfOk result (λ bytes. bytes.items ≡ unwrap_or (file_in self.now.list.items name.now) []) }
     {
@@ -37,7 +37,7 @@ impl Files {
         }
     }
 
-    /// Makes the file of this name empty, and gives its place.
+    // Makes the file of this name empty, and gives its place.
     pub(crate) fn make_empty(&mut self, alloc: Global, name: &str) -> Result<usize, AllocError>
         ensures put { IfOk result (λ at. Puts self.old.list.items self.new.list.items at name.now []) }
         ensures unchanged { OnErr result (self.new.list.items ≡ self.old.list.items) }
@@ -57,7 +57,7 @@ impl Files {
         }
     }
 
-    /// Puts the piece at the end of the file at this place.
+    // Puts the piece at the end of the file at this place.
     pub(crate) fn append(&mut self, at: usize, piece: &[u8]) -> Result<(), AllocError>
         requires { IsFirst self.old.list.items at }
         ensures first { IsFirst self.new.list.items at }

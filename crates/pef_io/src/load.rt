@@ -5,7 +5,7 @@ use crate::fail::{IoFail, Slot};
 use crate::traits::Depot;
 use std::alloc::{AllocError, Global};
 
-/// The room, in bytes, that is taken before any byte has come.
+// The room, in bytes, that is taken before any byte has come.
 const FIRST_ROOM: usize = 8_192;
 
 /// Why a file was not loaded.
@@ -70,7 +70,7 @@ pub fn load_bytes<D: Depot>(
     Err(LoadError::TooLarge)
 }
 
-/// Makes room behind the bytes held, where there is none: as much again, and at least the first room.
+// Makes room behind the bytes held, where there is none: as much again, and at least the first room.
 fn make_room(bytes: &mut Vec<u8>, held: usize) -> Result<(), AllocError>
     requires { held ≤ vec_len bytes.old }
     ensures front { OnOk result (take held bytes.new.items ≡ take held bytes.old.items) }

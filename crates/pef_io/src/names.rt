@@ -8,10 +8,10 @@ use std::path::{Path, PathBuf};
 use std::rt::Files;
 use std::{fs, io};
 
-/// How many symbolic links a name may lead through.
+// How many symbolic links a name may lead through.
 const MOST_LINKS: u32 = 40;
 
-/// What is known of the file to which this name leads, none where there is no file.
+// What is known of the file to which this name leads, none where there is no file.
 pub(crate) fn found_at<R: Files>(rt: &R, name: &str) -> io::Result<Option<Metadata>> {
     match fs::metadata(rt, name) {
         Ok(found) => Ok(Some(found)),
@@ -20,7 +20,7 @@ pub(crate) fn found_at<R: Files>(rt: &R, name: &str) -> io::Result<Option<Metada
     }
 }
 
-/// The name behind all symbolic links that this one leads through, also where there is no file.
+// The name behind all symbolic links that this one leads through, also where there is no file.
 pub(crate) fn behind_links<R: Files + AllocGlobal>(rt: &R, name: &str) -> io::Result<PathBuf> {
     let mut path = PathBuf::from_str(rt.alloc(), name)?;
     for _ in 0..MOST_LINKS {
@@ -33,7 +33,7 @@ pub(crate) fn behind_links<R: Files + AllocGlobal>(rt: &R, name: &str) -> io::Re
     Err(ErrorKind::FilesystemLoop.into())
 }
 
-/// Whether a symbolic link stands under this name.
+// Whether a symbolic link stands under this name.
 fn is_link<R: Files>(rt: &R, path: Path<'_>) -> io::Result<bool> {
     match fs::symlink_metadata(rt, path) {
         Ok(found) => Ok(found.is_symlink()),
@@ -42,7 +42,7 @@ fn is_link<R: Files>(rt: &R, path: Path<'_>) -> io::Result<bool> {
     }
 }
 
-/// The folder of this file.
+// The folder of this file.
 pub(crate) fn folder_of<'a>(path: Path<'a>) -> Path<'a>
     ensures { path_bytes result ≡ folder_path (path_bytes path.entry) }
 {

@@ -1,6 +1,6 @@
 ghost use Rattle.std.specs.Prelude.{◌≡◌, ℕ, ◌≤◌, ◌<◌, length, take, drop, ◌++◌, ◌↔◌, [], vec_len, min};
 
-/// Bytes that are read from the front.
+// Bytes that are read from the front.
 #[derive(Drop)]
 pub(crate) struct Opened {
     bytes: Vec<u8>,
@@ -17,7 +17,7 @@ impl Opened {
         Opened { bytes, at: 0 }
     }
 
-    /// Moves the next bytes into the front of the buffer, at most so many.
+    // Moves the next bytes into the front of the buffer, at most so many.
     pub(crate) fn read(&mut self, buf: &mut [u8], most: usize) -> usize
         requires { 1 ≤ most }
         ensures moved { result ≡ min (min (length (rest self.old)) (length buf.old)) most }

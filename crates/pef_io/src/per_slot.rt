@@ -7,7 +7,7 @@ ghost use Rattle.pef_io.specs.declared.fail.Slot.{Slot};
 
 use crate::fail::Slot;
 
-/// One value for each slot.
+// One value for each slot.
 #[derive(Drop)]
 pub(crate) struct PerSlot<T> {
     pub(crate) docs: T,
@@ -19,7 +19,7 @@ pub(crate) struct PerSlot<T> {
 }
 
 impl PerSlot<u64> {
-    /// The same number for each slot.
+    // The same number for each slot.
     pub(crate) fn all(number: u64) -> PerSlot<u64>
         ensures { (slot : Slot) → at_slot result slot ≡ number }
     {
@@ -33,7 +33,7 @@ impl PerSlot<u64> {
         }
     }
 
-    /// Raises the number at the slot, which stays at its type's last value.
+    // Raises the number at the slot, which stays at its type's last value.
     pub(crate) fn raise(&mut self, slot: Slot)
         ensures this { at_slot self.new slot ≡ one_more (at_slot self.old slot) }
         ensures never_falls { at_slot self.old slot ≤ at_slot self.new slot }

@@ -14,16 +14,16 @@ use std::path::PathBuf;
 use std::rt::Files;
 use std::{fs, io};
 
-/// How many temporaries may stand in one folder.
+// How many temporaries may stand in one folder.
 const MOST_TEMPORARIES: u32 = 1000;
 
-/// The bits of a mode that say who may read, write and run a file.
+// The bits of a mode that say who may read, write and run a file.
 const PERMISSION_BITS: u32 = 0o777;
 
-/// The permissions of a file that replaces none, before the system takes its mask off.
+// The permissions of a file that replaces none, before the system takes its mask off.
 const NEW_FILE: u32 = 0o666;
 
-/// A file that is written under a name of its own, and then takes the place of its target whole.
+// A file that is written under a name of its own, and then takes the place of its target whole.
 #[derive(Drop)]
 pub(crate) struct Replacement<R: Files> {
     file: R::File,
@@ -32,7 +32,7 @@ pub(crate) struct Replacement<R: Files> {
 }
 
 impl<R: Files + AllocGlobal> Replacement<R> {
-    /// Opens a new file beside the one to which the name leads, of which `found` is known.
+    // Opens a new file beside the one to which the name leads, of which `found` is known.
     pub(crate) fn begin(rt: &R, name: &str, found: Option<&Metadata>) -> io::Result<Replacement<R>>
         ensures beside { IfOk result (λ r. IsTemporaryOf (path_buf_bytes r.target) (path_buf_bytes r.temporary)) }
     {
@@ -55,7 +55,7 @@ impl<R: Files + AllocGlobal> Replacement<R> {
         }
     }
 
-    /// Writes the front of a piece, at least one byte of one that has any.
+    // Writes the front of a piece, at least one byte of one that has any.
     pub(crate) fn write(&mut self, piece: &[u8]) -> Option<usize>
         ensures within { IfSome result (λ n. n ≤ length piece.now) }
         ensures not_nothing { 0 < length piece.now → IfSome result (λ n. 0 < n) }
@@ -64,7 +64,7 @@ impl<R: Files + AllocGlobal> Replacement<R> {
         write_some(&mut self.file, piece)
     }
 
-    /// Makes what was written durable, and puts it in the place of the target.
+    // Makes what was written durable, and puts it in the place of the target.
     pub(crate) fn finish(&self, rt: &R) -> io::Result<()> {
         self.file.sync_all()?;
         fs::rename(rt, self.temporary.as_path(), self.target.as_path())?;
@@ -73,13 +73,13 @@ impl<R: Files + AllocGlobal> Replacement<R> {
         Ok(())
     }
 
-    /// Removes what was written.
+    // Removes what was written.
     pub(crate) fn discard(self, rt: &R) {
         let _ = fs::remove_file(rt, self.temporary.as_path());
     }
 }
 
-/// The permissions of the target, which has to be the file that was found, and one that may be written.
+// The permissions of the target, which has to be the file that was found, and one that may be written.
 fn mode_of_target<R: Files>(rt: &R, target: &PathBuf, found: &Metadata) -> io::Result<u32> {
     let file = OpenOptions::new().write(true).open(rt, target.as_path())?;
     if FileId::of(&file.metadata()?) == FileId::of(found) {
@@ -89,8 +89,8 @@ fn mode_of_target<R: Files>(rt: &R, target: &PathBuf, found: &Metadata) -> io::R
     }
 }
 
-/// Gives the new file what it keeps of the one that it replaces: its permissions, and its group and its
-/// owner where the system lets them be given. Its descriptor is none of those of the standard streams.
+// Gives the new file what it keeps of the one that it replaces: its permissions, and its group and its
+// owner where the system lets them be given. Its descriptor is none of those of the standard streams.
 fn prepare<R: Files>(
     rt: &R,
     temporary: &PathBuf,
@@ -105,7 +105,7 @@ fn prepare<R: Files>(
     file.try_clone()
 }
 
-/// Makes a new file of this mode beside the target, under the first name that is free.
+// Makes a new file of this mode beside the target, under the first name that is free.
 fn open_temporary<R: Files + AllocGlobal>(
     rt: &R,
     target: &PathBuf,
@@ -128,7 +128,7 @@ fn open_temporary<R: Files + AllocGlobal>(
     Err(ErrorKind::AlreadyExists.into())
 }
 
-/// The temporary of this number, none where its name is the target's own.
+// The temporary of this number, none where its name is the target's own.
 fn temporary_of(alloc: Global, target: &PathBuf, number: u32) -> Result<Option<PathBuf>, AllocError>
     requires { number < 1000 }
     ensures other { IfOk result (λ made. IfSome made (λ path. IsTemporaryOf (path_buf_bytes target.now) (path_buf_bytes path))) }
@@ -143,7 +143,7 @@ fn temporary_of(alloc: Global, target: &PathBuf, number: u32) -> Result<Option<P
     Ok(Some(path))
 }
 
-/// Makes the names in the target's folder durable.
+// Makes the names in the target's folder durable.
 fn sync_folder<R: Files>(rt: &R, target: &PathBuf) -> io::Result<()> {
     fs::open(rt, folder_of(target.as_path()))?.sync_all()
 }

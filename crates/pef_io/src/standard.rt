@@ -78,7 +78,7 @@ impl<W: Write> Sink for StdSink<W> {
     }
 }
 
-/// Writes and flushes the front of a piece, at least one byte of one that has any.
+// Writes and flushes the front of a piece, at least one byte of one that has any.
 pub(crate) fn write_some<W: Write>(writer: &mut W, piece: &[u8]) -> Option<usize>
     ensures within { IfSome result (λ n. n ≤ length piece.now) }
     ensures not_nothing { 0 < length piece.now → IfSome result (λ n. 0 < n) }
@@ -92,7 +92,7 @@ pub(crate) fn write_some<W: Write>(writer: &mut W, piece: &[u8]) -> Option<usize
     Some(n)
 }
 
-/// What is created and not finished.
+// What is created and not finished.
 #[derive(Drop)]
 enum Created<R: Files> {
     /// A device, a pipe or the like, which is written where it is.
@@ -104,7 +104,7 @@ enum Created<R: Files> {
 impl<R: Files + AllocGlobal> Created<R> {
     ghost use Rattle.pef_io.specs.Created.{file_of};
 
-    /// Creates what stands under the name, unless it leads to a file that was started.
+    // Creates what stands under the name, unless it leads to a file that was started.
     fn begin(rt: &R, started: &Started, name: &str) -> io::Result<Created<R>> {
         let found = found_at(rt, name)?;
         match &found {
@@ -206,15 +206,15 @@ impl<R: Files + AllocGlobal + Drop> Drop for StdDepot<R> {
     }
 }
 
-/// Removes what is created and not finished.
+// Removes what is created and not finished.
 fn discard<R: Files + AllocGlobal>(rt: &R, created: Option<Created<R>>) {
     if let Some(created) = created {
         created.discard(rt);
     }
 }
 
-/// Opens the file of this name, and notes which it is. Its descriptor is none of the three of the standard
-/// streams, one of which may have been closed when the program started.
+// Opens the file of this name, and notes which it is. Its descriptor is none of the three of the standard
+// streams, one of which may have been closed when the program started.
 fn open_file<R: Files>(rt: &R, known: &mut Started, name: &str) -> io::Result<R::File> {
     let file = fs::open(rt, name)?.try_clone()?;
     known.add(FileId::of(&file.metadata()?))?;

@@ -5,8 +5,8 @@ use std::alloc::{AllocError, Global};
 use std::fs::Metadata;
 use std::os::unix::fs::MetadataExt;
 
-/// Which file of the system this is, whatever name leads to it: the device that it is on, and its
-/// inode there.
+// Which file of the system this is, whatever name leads to it: the device that it is on, and its
+// inode there.
 #[derive(Clone, Copy, Debug, PartialEq, Eq)]
 pub(crate) struct FileId {
     device: u64,
@@ -22,7 +22,7 @@ impl FileId {
     }
 }
 
-/// The files that were started.
+// The files that were started.
 #[derive(Drop)]
 pub(crate) struct Started {
     files: Vec<FileId>,
@@ -37,14 +37,14 @@ impl Started {
         }
     }
 
-    /// Whether this file was started.
+    // Whether this file was started.
     pub(crate) fn has(&self, file: FileId) -> bool
         ensures { IsTrue result ↔ Contains self.now.files.items file }
     {
         self.files.contains(&file)
     }
 
-    /// Notes that this file was started.
+    // Notes that this file was started.
     pub(crate) fn add(&mut self, file: FileId) -> Result<(), AllocError>
         ensures added { OnOk result ((other : FileId) → Contains self.new.files.items other ↔ (Contains self.old.files.items other ⊎ (other ≡ file))) }
         ensures unchanged { OnErr result (self.new.files.items ≡ self.old.files.items) }

@@ -51,7 +51,7 @@ impl SteadySource {
         self.calls
     }
 
-    /// Counts a read.
+    // Counts a read.
     pub(crate) fn count_call(&mut self)
         ensures counted { ReadOnce self.old self.new }
         ensures unread { self.new.state ≡ self.old.state }
@@ -124,7 +124,7 @@ impl SteadySink {
         self.calls
     }
 
-    /// Counts a write.
+    // Counts a write.
     pub(crate) fn count_call(&mut self)
         ensures counted { WrittenOnce self.old self.new }
         ensures unwritten { self.new.state ≡ self.old.state }

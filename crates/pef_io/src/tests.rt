@@ -6,12 +6,12 @@ use crate::{
 use std::alloc::{AllocError, Global};
 use std::{fs, io};
 
-/// The bytes of this text.
+// The bytes of this text.
 fn bytes(alloc: Global, text: &str) -> Result<Vec<u8>, AllocError> {
     Vec::from_slice(alloc, text.as_bytes())
 }
 
-/// Files of these names and texts.
+// Files of these names and texts.
 fn files(alloc: Global, all: &[(&str, &str)]) -> Result<Vec<(String, Vec<u8>)>, AllocError> {
     let mut list = Vec::new(alloc);
     for (name, text) in all {
@@ -58,7 +58,7 @@ fn sinks_keep_what_is_written(rt: HostRuntime) {
     assert_eq!(rt; failing.calls(), 3);
 }
 
-/// Starts the name and reads it by two calls, the first into three bytes.
+// Starts the name and reads it by two calls, the first into three bytes.
 fn read_twice<D: Depot>(depot: &mut D, name: &str, buf: &mut [u8; 8]) -> Result<usize, IoFail> {
     depot.start(Slot::Docs, name)?;
     let first = depot.read(Slot::Docs, &mut buf[..3])?;
@@ -66,14 +66,14 @@ fn read_twice<D: Depot>(depot: &mut D, name: &str, buf: &mut [u8; 8]) -> Result<
     Ok(first + second)
 }
 
-/// Writes a file of this name.
+// Writes a file of this name.
 pub(crate) fn put<D: Depot>(depot: &mut D, name: &str, text: &[u8]) -> Result<(), IoFail> {
     depot.create(name)?;
     depot_write_all(depot, text)?;
     depot.finish()
 }
 
-/// Reads the file `a` and writes the file `b`.
+// Reads the file `a` and writes the file `b`.
 fn read_and_put<D: Depot>(depot: &mut D) -> Result<(), IoFail> {
     let mut buf = [0u8; 8];
     read_twice(depot, "a", &mut buf)?;
@@ -120,7 +120,7 @@ fn depots_fail_where_they_are_told_to(rt: HostRuntime) {
     }
 }
 
-/// So many bytes, of which no two neighbours are equal.
+// So many bytes, of which no two neighbours are equal.
 fn counted(alloc: Global, count: usize) -> Result<Vec<u8>, AllocError> {
     let mut list = Vec::new(alloc);
     for i in 0..count {
@@ -129,14 +129,14 @@ fn counted(alloc: Global, count: usize) -> Result<Vec<u8>, AllocError> {
     Ok(list)
 }
 
-/// A file `a` of so many bytes, and a file `b`.
+// A file `a` of so many bytes, and a file `b`.
 fn counted_file(alloc: Global, count: usize) -> Result<Vec<(String, Vec<u8>)>, AllocError> {
     let mut list = files(alloc, &[("b", "abcde")])?;
     list.push((String::from_str(alloc, "a")?, counted(alloc, count)?))?;
     Ok(list)
 }
 
-/// Starts the name and loads it.
+// Starts the name and loads it.
 fn load<D: Depot>(
     alloc: Global,
     depot: &mut D,
@@ -182,7 +182,7 @@ fn files_are_loaded_up_to_a_limit(rt: HostRuntime) {
     }
 }
 
-/// Loads the file `a` between two reads of the file `b`, and then reads on in both.
+// Loads the file `a` between two reads of the file `b`, and then reads on in both.
 fn load_between<D: Depot>(
     alloc: Global,
     depot: &mut D,
@@ -220,7 +220,7 @@ fn a_load_reads_its_slot_alone(rt: HostRuntime) {
     }
 }
 
-/// Starts the file `a` and fills two pieces.
+// Starts the file `a` and fills two pieces.
 fn fill_two<D: Depot>(
     depot: &mut D,
     one: &mut [u8; 4],
@@ -242,7 +242,7 @@ fn a_piece_is_filled_by_several_reads(rt: HostRuntime) {
     assert_eq!(rt; (one, two), (*b"abcd", *b"e\0\0\0"));
 }
 
-/// A writer that takes at most two bytes of a piece, and counts how often it is flushed.
+// A writer that takes at most two bytes of a piece, and counts how often it is flushed.
 #[derive(Drop)]
 struct ShortWriter {
     taken: Vec<u8>,

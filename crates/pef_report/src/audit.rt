@@ -21,7 +21,7 @@ pub fn audit_line(
     Ok(format!(in alloc; "{term} {name} {cost} {allowed} {any}\n")?)
 }
 
-/// The name of a sequence of a list.
+// The name of a sequence of a list.
 fn which_name(which: Which) -> &'static str
     ensures { result.now ≡ which_text which }
 {

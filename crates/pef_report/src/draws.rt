@@ -4,10 +4,10 @@ ghost use Rattle.pef_report.specs.Generated.{next_state, list_drawn, state_behin
 
 use no_memory::NoMemory;
 
-/// What a state is multiplied by.
+// What a state is multiplied by.
 const FACTOR: u32 = 69069;
 
-/// What is then added.
+// What is then added.
 const SUMMAND: u32 = 12345;
 
 // Numbers drawn one after the other, each from the state behind the one before it.

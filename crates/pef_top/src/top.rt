@@ -73,7 +73,7 @@ pub fn run_uncounted<D: Depot, I: Source, O: Sink, E: Sink>(
     run_counted::<_, _, _, _, Brand>(alloc, words, depot, input, out, err, Blank::new(1))
 }
 
-/// Runs the command of the words with a counter of its own.
+// Runs the command of the words with a counter of its own.
 fn run_counted<D: Depot, I: Source, O: Sink, E: Sink, L: Ledger>(
     alloc: Global,
     words: &[String],
@@ -95,7 +95,7 @@ fn run_counted<D: Depot, I: Source, O: Sink, E: Sink, L: Ledger>(
     run(alloc, words, depot, input, out, err, &mut steps)
 }
 
-/// Carries out the command of the words.
+// Carries out the command of the words.
 fn perform<D: Depot, I: Source, O: Sink, L: Ledger>(
     alloc: Global,
     words: &[String],
@@ -137,7 +137,7 @@ fn perform<D: Depot, I: Source, O: Sink, L: Ledger>(
     }
 }
 
-/// The status of an ending, whose line is written on err. An err that fails changes no status.
+// The status of an ending, whose line is written on err. An err that fails changes no status.
 fn report<E: Sink>(err: &mut E, ending: Result<(), Stop>) -> Status
     ensures ending { Reports (E.state err.old) (E.state err.new) (outcome_of ending) result }
     ensures done { IsOk ending → err.new ≡ err.old }

@@ -26,8 +26,8 @@ fn main(rt: HostRuntime) -> ExitCode {
     )
 }
 
-/// The words of the command line, the program's name first. There are none where one is no UTF-8,
-/// which is refused as usage.
+// The words of the command line, the program's name first. There are none where one is no UTF-8,
+// which is refused as usage.
 fn words<R: Env + AllocGlobal>(rt: &R) -> Result<Vec<String>, NoMemory> {
     match env::args(rt) {
         Ok(args) => Ok(args.collect(rt.alloc())?),

@@ -12,8 +12,8 @@ use pef_top::{Status, run_uncounted};
 use std::alloc::Global;
 use std::process::ExitCode;
 
-/// What the process does: it runs the command of its words, the program's name first, and ends with the number of the status. Where
-/// memory was refused for the words, it says so on err and calls nothing else.
+// What the process does: it runs the command of its words, the program's name first, and ends with the number of the status. Where
+// memory was refused for the words, it says so on err and calls nothing else.
 pub(crate) fn process<D: Depot, I: Source, O: Sink, E: Sink>(
     alloc: Global,
     words: Result<Vec<String>, NoMemory>,
@@ -30,7 +30,7 @@ pub(crate) fn process<D: Depot, I: Source, O: Sink, E: Sink>(
     exit_code(run_words(alloc, words, depot, input, out, err))
 }
 
-/// Runs the command of the words, and says how it ended.
+// Runs the command of the words, and says how it ended.
 fn run_words<D: Depot, I: Source, O: Sink, E: Sink>(
     alloc: Global,
     words: Result<Vec<String>, NoMemory>,
@@ -53,7 +53,7 @@ fn run_words<D: Depot, I: Source, O: Sink, E: Sink>(
     }
 }
 
-/// The code with which the process ends: the number of the status.
+// The code with which the process ends: the number of the status.
 fn exit_code(status: Status) -> ExitCode
     ensures { exit_status result ≡ status_number status }
 {

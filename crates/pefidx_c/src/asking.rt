@@ -112,7 +112,7 @@ pub extern "C" fn pefidx_postings(
     Status::Done.number()
 }
 
-/// Puts the postings from the cursor's place on into a room, as many as it holds, and tells how many they are.
+// Puts the postings from the cursor's place on into a room, as many as it holds, and tells how many they are.
 fn take_postings<C: DocCursor>(cursor: &mut C, room: &mut [Posting]) -> usize
     ensures count { result ≡ min (length room.old) (length (drop (C.place cursor.old) (C.list cursor.old))) }
     ensures postings { map posting_of room.new ≡ put_in (map posting_of room.old) (drop (C.place cursor.old) (C.list cursor.old)) }

@@ -62,7 +62,7 @@ pub extern "C" fn pefidx_build(
     }
 }
 
-/// The words, of which the part costs are counted for nobody.
+// The words, of which the part costs are counted for nobody.
 fn built(
     alloc: Global,
     lengths: &[u32],
@@ -81,7 +81,7 @@ fn built(
     built_counted::<Brand>(alloc, lengths, docs, freqs, sizes, Blank::new(1))
 }
 
-/// The words, with a counter of their own.
+// The words, with a counter of their own.
 fn built_counted<L: Ledger>(
     alloc: Global,
     lengths: &[u32],
@@ -108,7 +108,7 @@ fn built_counted<L: Ledger>(
     }
 }
 
-/// The words, of a builder that has no list yet.
+// The words, of a builder that has no list yet.
 fn words_of<L: Ledger>(
     mut builder: Builder,
     lengths: &[u32],

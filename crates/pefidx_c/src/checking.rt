@@ -9,7 +9,7 @@ use crate::status::Status;
 use index_file::{Index, OpenFault};
 use two_level::Check;
 
-/// An index has fewer words.
+// An index has fewer words.
 const TOO_MANY_WORDS: usize = 1 << 57;
 
 /// The first check of some words that breaks: its number, 1 to 11, and the term and the part at which it breaks.
@@ -45,7 +45,7 @@ pub extern "C" fn pefidx_check(words: &[u64], fault: &mut Fault) -> u32
     }
 }
 
-/// A broken check as it is told.
+// A broken check as it is told.
 fn told(broken: OpenFault) -> Fault
     ensures { result ≡ fault_of broken }
 {
@@ -56,7 +56,7 @@ fn told(broken: OpenFault) -> Fault
     }
 }
 
-/// The number of a check.
+// The number of a check.
 fn check_number(check: Check) -> u32
     ensures { result ≡ check_number check }
 {

@@ -11,17 +11,17 @@ use no_memory::NoMemory;
 use postings::PostingCursor;
 use std::alloc::Global;
 
-/// The most terms that are asked together.
+// The most terms that are asked together.
 pub(crate) const MOST_TERMS: usize = 1024;
 
-/// Whether all of these numbers are below another.
+// Whether all of these numbers are below another.
 pub(crate) fn all_below(numbers: &[u32], end: u32) -> bool
     ensures { result ≡ list_all (λ n. nat_lt n end) numbers.now }
 {
     numbers.iter().all(|number| *number < end)
 }
 
-/// How a question to these terms is refused.
+// How a question to these terms is refused.
 pub(crate) fn refusal(index: &Index<'_>, terms: &[u32]) -> Option<Status>
     ensures { result ≡ refusal index.now.collection terms.now }
 {
@@ -34,7 +34,7 @@ pub(crate) fn refusal(index: &Index<'_>, terms: &[u32]) -> Option<Status>
     None
 }
 
-/// A cursor at the start of each of these terms' lists.
+// A cursor at the start of each of these terms' lists.
 pub(crate) fn cursors_of<'a>(
     alloc: Global,
     index: &Index<'a>,

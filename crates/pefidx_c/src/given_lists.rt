@@ -8,7 +8,7 @@ ghost use Rattle.pefidx_c.specs.GivenLists.{lists_given, build_refusal, IsFirstB
 use crate::status::Status;
 use part_cost::Format;
 
-/// The most lists, and the most documents.
+// The most lists, and the most documents.
 const MOST: usize = 4_294_967_295;
 
 /// A posting that cannot stand in its list: the term, and how many postings stand before it.
@@ -19,7 +19,7 @@ pub struct BadPosting {
     pub place: u64,
 }
 
-/// How what is to be built is refused before a posting is looked at.
+// How what is to be built is refused before a posting is looked at.
 pub(crate) fn build_refusal(
     lengths: &[u32],
     docs: &[u32],
@@ -37,7 +37,7 @@ pub(crate) fn build_refusal(
     None
 }
 
-/// The sum of some lengths.
+// The sum of some lengths.
 fn total(lengths: &[u32]) -> u64
     requires { length lengths.now < 2 ^ 32 }
     ensures { result ≡ sum lengths.now }
@@ -49,7 +49,7 @@ fn total(lengths: &[u32]) -> u64
     total
 }
 
-/// The first posting that cannot stand in its list, of lists that stand one after the other.
+// The first posting that cannot stand in its list, of lists that stand one after the other.
 pub(crate) fn first_bad(
     lengths: &[u32],
     docs: &[u32],
@@ -79,7 +79,7 @@ pub(crate) fn first_bad(
     None
 }
 
-/// So many of some numbers, from a place on.
+// So many of some numbers, from a place on.
 pub(crate) fn part(numbers: &[u32], from: usize, count: usize) -> &[u32]
     requires { from + count ≤ length numbers.now }
     ensures { result.now ≡ take count (drop from numbers.now) }
@@ -87,7 +87,7 @@ pub(crate) fn part(numbers: &[u32], from: usize, count: usize) -> &[u32]
     &numbers[from..from + count]
 }
 
-/// How many postings the longest front has that is a posting list.
+// How many postings the longest front has that is a posting list.
 fn good_front(docs: &[u32], freqs: &[u32], documents: u32) -> usize
     requires same_length { length docs.now ≡ length freqs.now }
     ensures within { result ≤ length docs.now }

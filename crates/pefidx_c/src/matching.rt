@@ -72,7 +72,7 @@ pub extern "C" fn pefidx_or(
     }
 }
 
-/// The documents that are in the lists of all these terms.
+// The documents that are in the lists of all these terms.
 fn docs_of_all(alloc: Global, index: &Index<'_>, terms: &[u32]) -> Result<Vec<u32>, NoMemory>
     requires { refusal index.now.collection terms.now ≡ None }
     ensures { IfOk result (λ r. r.items ≡ in_all index.now.collection.documents (lists_of index.now.collection terms.now)) }
@@ -81,7 +81,7 @@ fn docs_of_all(alloc: Global, index: &Index<'_>, terms: &[u32]) -> Result<Vec<u3
     and_docs(alloc, cursors.as_mut_slice())
 }
 
-/// The documents that are in the list of any of these terms.
+// The documents that are in the list of any of these terms.
 fn docs_of_any(alloc: Global, index: &Index<'_>, terms: &[u32]) -> Result<Vec<u32>, NoMemory>
     requires { refusal index.now.collection terms.now ≡ None }
     ensures { IfOk result (λ r. r.items ≡ in_any index.now.collection.documents (lists_of index.now.collection terms.now)) }

@@ -24,7 +24,7 @@ pub struct Scored {
     pub score: u64,
 }
 
-/// The number of the plan that scores every document, and of WAND; the other is MaxScore, of number 2.
+// The number of the plan that scores every document, and of WAND; the other is MaxScore, of number 2.
 const EXHAUSTIVE: u32 = 0;
 
 const WAND: u32 = 1;
@@ -65,7 +65,7 @@ pub extern "C" fn pefidx_top(
     }
 }
 
-/// How the question for the best documents is refused.
+// How the question for the best documents is refused.
 fn top_refusal(index: &Index<'_>, plan: u32, terms: &[u32], weights: &[u32]) -> Option<Status>
     ensures { result ≡ top_refusal index.now.collection plan terms.now weights.now }
 {
@@ -81,7 +81,7 @@ fn top_refusal(index: &Index<'_>, plan: u32, terms: &[u32], weights: &[u32]) -> 
     None
 }
 
-/// Whether these are the weights of so many terms.
+// Whether these are the weights of so many terms.
 fn are_weights(count: usize, weights: &[u32]) -> bool
     requires { count ≤ 1024 }
     ensures { result ≡ are_weights count weights.now }
@@ -95,14 +95,14 @@ fn are_weights(count: usize, weights: &[u32]) -> bool
     total(weights) < 1 << 26
 }
 
-/// Whether no number is 0.
+// Whether no number is 0.
 fn all_above_zero(numbers: &[u32]) -> bool
     ensures { result ≡ list_all (λ n. nat_lt 0 n) numbers.now }
 {
     numbers.iter().all(|number| *number > 0)
 }
 
-/// The sum of some weights.
+// The sum of some weights.
 fn total(weights: &[u32]) -> u64
     requires { length weights.now ≤ 1024 }
     ensures { result ≡ sum weights.now }
@@ -114,7 +114,7 @@ fn total(weights: &[u32]) -> u64
     total
 }
 
-/// The first k documents by a plan.
+// The first k documents by a plan.
 fn best_by(
     alloc: Global,
     index: &Index<'_>,
@@ -136,7 +136,7 @@ fn best_by(
     }
 }
 
-/// Gives documents with their scores in a room, as many as it holds, with the count of all.
+// Gives documents with their scores in a room, as many as it holds, with the count of all.
 fn give_best(found: &[(u32, u64)], room: &mut [Scored], count: &mut usize) -> u32
     ensures status { result ≡ number_of (given_in (length room.old) (length found.now)) }
     ensures room { map pair_of room.new ≡ put_in (map pair_of room.old) found.now }
@@ -147,7 +147,7 @@ fn give_best(found: &[(u32, u64)], room: &mut [Scored], count: &mut usize) -> u3
     given_in(room.len(), found.len()).number()
 }
 
-/// Puts documents with their scores in from the start of a room on, as many as it holds.
+// Puts documents with their scores in from the start of a room on, as many as it holds.
 fn put_best(room: &mut [Scored], found: &[(u32, u64)])
     ensures { map pair_of room.new ≡ put_in (map pair_of room.old) found.now }
 {

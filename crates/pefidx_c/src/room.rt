@@ -5,7 +5,7 @@ ghost use Rattle.pefidx_c.specs.StatusNumber.{number_of};
 
 use crate::status::Status;
 
-/// Gives items in a room, as many as it holds, with the count of all.
+// Gives items in a room, as many as it holds, with the count of all.
 pub(crate) fn give<T: Copy>(items: &[T], room: &mut [T], count: &mut usize) -> u32
     ensures status { result ≡ number_of (given_in (length room.old) (length items.now)) }
     ensures room { room.new ≡ put_in room.old items.now }
@@ -16,7 +16,7 @@ pub(crate) fn give<T: Copy>(items: &[T], room: &mut [T], count: &mut usize) -> u
     given_in(room.len(), items.len()).number()
 }
 
-/// Puts items in from the start of a room on, as many as it holds.
+// Puts items in from the start of a room on, as many as it holds.
 fn put<T: Copy>(room: &mut [T], items: &[T])
     ensures { room.new ≡ put_in room.old items.now }
 {
@@ -24,7 +24,7 @@ fn put<T: Copy>(room: &mut [T], items: &[T])
     room[..count].copy_from_slice(&items[..count]);
 }
 
-/// How it ends where so many are to be given and there is so much room.
+// How it ends where so many are to be given and there is so much room.
 pub(crate) fn given_in(room: usize, count: usize) -> Status
     ensures { result ≡ given_in room count }
 {

@@ -1,7 +1,7 @@
 ghost use Rattle.std.specs.Prelude.{◌≡◌};
 ghost use Rattle.pefidx_c.specs.StatusNumber.{number_of};
 
-/// How a call ended. A caller sees its number.
+// How a call ended. A caller sees its number.
 #[derive(Clone, Copy, Debug, PartialEq, Eq)]
 pub(crate) enum Status {
     /// All was given.
@@ -35,7 +35,7 @@ pub(crate) enum Status {
 }
 
 impl Status {
-    /// The number that stands for it.
+    // The number that stands for it.
     pub(crate) fn number(self) -> u32
         ensures { result ≡ number_of self }
     {

@@ -42,7 +42,7 @@ pub enum MapError {
 impl MapError {
     ghost use Rattle.remap.specs.declared.fault.MapError.TheVariants.{Broken};
 
-    /// The refusal of a map that breaks this rule there.
+    // The refusal of a map that breaks this rule there.
     pub(crate) fn broken(rule: MapRule, place: u32) -> MapError
         ensures { result ≡ Broken (record { rule = rule; place = place }) }
     {

@@ -8,10 +8,10 @@ use pef_io::{Depot, IoFail, Slot};
 use std::alloc::{AllocError, Global};
 use std::marker::Model;
 
-/// The most bytes of the map that are read at once.
+// The most bytes of the map that are read at once.
 const PIECE_BYTES: usize = 8_192;
 
-/// A piece of the map, of which the bytes from `used` to `end` are still to be used.
+// A piece of the map, of which the bytes from `used` to `end` are still to be used.
 #[derive(Drop)]
 pub(crate) struct Held {
     piece: Vec<u8>,
@@ -30,7 +30,7 @@ impl Model for Held {
 }
 
 impl Held {
-    /// Takes the room of one piece.
+    // Takes the room of one piece.
     pub(crate) fn new(alloc: Global) -> Result<Held, AllocError>
         ensures { IfOk result (λ held. held ≡ []) }
     {
@@ -41,7 +41,7 @@ impl Held {
         })
     }
 
-    /// Whether the map has a byte left. Reads a piece where none is held.
+    // Whether the map has a byte left. Reads a piece where none is held.
     pub(crate) fn has_byte<D: Depot>(&mut self, depot: &mut D) -> Result<bool, IoFail>
         requires { IsTrue ((D.state depot.old).started Map) }
         ensures { LooksAhead self.old self.new (D.state depot.old) (D.state depot.new) result }
@@ -59,7 +59,7 @@ impl Held {
         }
     }
 
-    /// The next byte of the map, where there is one.
+    // The next byte of the map, where there is one.
     fn byte<D: Depot>(&mut self, depot: &mut D) -> Result<Option<u8>, IoFail>
         requires { IsTrue ((D.state depot.old).started Map) }
         ensures { TakesByte self.old self.new (D.state depot.old) (D.state depot.new) result }
@@ -72,7 +72,7 @@ impl Held {
         Ok(Some(byte))
     }
 
-    /// The next number of the map, where four bytes are left.
+    // The next number of the map, where four bytes are left.
     pub(crate) fn number<D: Depot>(&mut self, depot: &mut D) -> Result<Option<u32>, IoFail>
         requires { IsTrue ((D.state depot.old).started Map) }
         ensures { TakesNumber self.old self.new (D.state depot.old) (D.state depot.new) result }
@@ -90,7 +90,7 @@ impl Held {
         Ok(Some(number_at(&bytes, 0)))
     }
 
-    /// The number that the next four bytes held are.
+    // The number that the next four bytes held are.
     fn held_number(&mut self) -> u32
         requires { 4 ≤ length self.old }
         ensures { self.old ≡ le32 result ++ self.new }

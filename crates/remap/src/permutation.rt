@@ -57,7 +57,7 @@ impl Permutation {
     }
 }
 
-/// Each document at its new id.
+// Each document at its new id.
 fn undone(alloc: Global, ids: &[u32]) -> Result<Vec<u32>, AllocError>
     requires new_ids { AreNewIds ids.now }
     requires few { length ids.now < 2 ^ 32 }

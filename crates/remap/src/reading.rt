@@ -27,7 +27,7 @@ pub fn read_map<D: Depot>(
     Ok(Permutation::new(ids))
 }
 
-/// Reads the length and the ids of `n` documents, to the end of the map.
+// Reads the length and the ids of `n` documents, to the end of the map.
 fn read_ids<D: Depot>(
     alloc: Global,
     n: u32,
@@ -57,7 +57,7 @@ fn read_ids<D: Depot>(
     Ok(ids)
 }
 
-/// Reads the length, which has to be `n`.
+// Reads the length, which has to be `n`.
 fn read_length<D: Depot>(n: u32, held: &mut Held, depot: &mut D) -> Result<(), MapError>
     requires { IsTrue ((D.state depot.old).started Map) }
     ensures { ReadsLength n held.old held.new (D.state depot.old) (D.state depot.new) result }
@@ -68,7 +68,7 @@ fn read_length<D: Depot>(n: u32, held: &mut Held, depot: &mut D) -> Result<(), M
     Ok(())
 }
 
-/// Reads the next number, before which so many ids were read.
+// Reads the next number, before which so many ids were read.
 fn read_number<D: Depot>(place: u32, held: &mut Held, depot: &mut D) -> Result<u32, MapError>
     requires { IsTrue ((D.state depot.old).started Map) }
     ensures { ReadsNumber place held.old held.new (D.state depot.old) (D.state depot.new) result }

@@ -41,7 +41,7 @@ pub fn spell_sizes(alloc: Global, collection: &Collection) -> Result<Vec<u8>, No
     Ok(bytes)
 }
 
-/// Appends a sequence for each of these vectors.
+// Appends a sequence for each of these vectors.
 fn push_sequences(bytes: &mut Vec<u8>, vectors: &[Vec<u32>]) -> Result<(), AllocError>
     requires { AreShort vectors.now }
     ensures { OnOk result (bytes.new.items ≡ bytes.old.items ++ vectors_bytes vectors.now) }
@@ -52,7 +52,7 @@ fn push_sequences(bytes: &mut Vec<u8>, vectors: &[Vec<u32>]) -> Result<(), Alloc
     Ok(())
 }
 
-/// Appends a sequence: how many numbers there are, then the numbers.
+// Appends a sequence: how many numbers there are, then the numbers.
 fn push_sequence(bytes: &mut Vec<u8>, numbers: &[u32]) -> Result<(), AllocError>
     requires { length numbers.now < 2 ^ 32 }
     ensures { OnOk result (bytes.new.items ≡ bytes.old.items ++ number_sequence numbers.now) }
@@ -64,7 +64,7 @@ fn push_sequence(bytes: &mut Vec<u8>, numbers: &[u32]) -> Result<(), AllocError>
     Ok(())
 }
 
-/// Appends a number.
+// Appends a number.
 fn push_number(bytes: &mut Vec<u8>, number: u32) -> Result<(), AllocError>
     ensures { OnOk result (bytes.new.items ≡ bytes.old.items ++ le32 number) }
 {

@@ -13,10 +13,10 @@ use pef_io::SteadyDepot;
 use std::alloc::{AllocError, Global};
 use std::test::Fail;
 
-/// The bytes of three files: of documents, of frequencies and of sizes.
+// The bytes of three files: of documents, of frequencies and of sizes.
 type Files = (Vec<u8>, Vec<u8>, Vec<u8>);
 
-/// The bytes of these numbers.
+// The bytes of these numbers.
 fn bytes(alloc: Global, numbers: &[u32]) -> Result<Vec<u8>, AllocError> {
     let mut all = Vec::new(alloc);
     for n in numbers {
@@ -25,8 +25,8 @@ fn bytes(alloc: Global, numbers: &[u32]) -> Result<Vec<u8>, AllocError> {
     Ok(all)
 }
 
-/// Three documents of sizes 4, 0 and 7, and two lists: document 0 once and document 2 five times, and document 1
-/// three times and document 2 four times.
+// Three documents of sizes 4, 0 and 7, and two lists: document 0 once and document 2 five times, and document 1
+// three times and document 2 four times.
 fn depot(alloc: Global) -> Result<SteadyDepot, Fail> {
     let mut files = Vec::new(alloc);
     for (name, numbers) in [
@@ -39,14 +39,14 @@ fn depot(alloc: Global) -> Result<SteadyDepot, Fail> {
     Ok(SteadyDepot::new(alloc, files, 8_192)?)
 }
 
-/// The order in which documents 0, 1 and 2 have the new ids 2, 0 and 1.
+// The order in which documents 0, 1 and 2 have the new ids 2, 0 and 1.
 fn order(alloc: Global) -> Result<Permutation, AllocError>
     ensures { IfOk result (λ order. order ≡ 2 ∷ 0 ∷ 1 ∷ []) }
 {
     Ok(Permutation::new([2, 0, 1].to_vec(alloc)?))
 }
 
-/// The files of the image of a collection.
+// The files of the image of a collection.
 fn image_files(
     alloc: Global,
     collection: &Collection,
@@ -88,14 +88,14 @@ fn orders_are_undone(rt: HostRuntime) -> Result<(), Fail> {
     Ok(())
 }
 
-/// A depot of one file, of which a read gives at most five bytes.
+// A depot of one file, of which a read gives at most five bytes.
 fn map_depot(alloc: Global, map: Vec<u8>) -> Result<SteadyDepot, Fail> {
     let mut files = Vec::new(alloc);
     files.push((String::from_str(alloc, "small.map")?, map))?;
     Ok(SteadyDepot::new(alloc, files, 5)?)
 }
 
-/// What breaks in a map of these bytes, for three documents.
+// What breaks in a map of these bytes, for three documents.
 fn map_fault(alloc: Global, map: Vec<u8>) -> Result<Option<MapFault>, Fail> {
     match read_map(alloc, "small.map", 3, &mut map_depot(alloc, map)?) {
         Err(MapError::Broken(fault)) => Ok(Some(fault)),

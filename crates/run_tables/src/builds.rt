@@ -20,7 +20,7 @@ pub fn built(
     Some(built_in(alloc, &mut depot, format))
 }
 
-/// The words of the index of the files under the base `x` in a depot.
+// The words of the index of the files under the base `x` in a depot.
 fn built_in<D: Depot>(
     alloc: Global,
     depot: &mut D,
@@ -30,7 +30,7 @@ fn built_in<D: Depot>(
     built_counted::<_, Brand>(alloc, depot, format, blank)
 }
 
-/// Builds the words with a counter of their own.
+// Builds the words with a counter of their own.
 fn built_counted<D: Depot, L: Ledger>(
     alloc: Global,
     depot: &mut D,

@@ -200,7 +200,7 @@ pub fn documents_from(
     Some(ManyNumbers { docs, freqs, sizes })
 }
 
-/// The numbers from 0 up to a last one, between some others.
+// The numbers from 0 up to a last one, between some others.
 fn counted(alloc: Global, before: &[u32], count: u32, behind: &[u32]) -> Option<Vec<u32>> {
     let mut numbers = Vec::from_slice(alloc, before).ok()?;
     for x in 0..count {
@@ -210,7 +210,7 @@ fn counted(alloc: Global, before: &[u32], count: u32, behind: &[u32]) -> Option<
     Some(numbers)
 }
 
-/// So many times the same number, between some others.
+// So many times the same number, between some others.
 fn repeated(
     alloc: Global,
     before: &[u32],

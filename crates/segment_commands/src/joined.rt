@@ -42,7 +42,7 @@ pub fn answer_segments<D: Depot, I: Source, O: Sink>(
     Ok(())
 }
 
-/// The words of the indexes under the names, each of which is accepted before the next is read.
+// The words of the indexes under the names, each of which is accepted before the next is read.
 fn load_segments<D: Depot>(
     alloc: Global,
     names: &[String],
@@ -60,7 +60,7 @@ fn load_segments<D: Depot>(
     Ok(files)
 }
 
-/// The words of the index under the name, which is accepted as segment s behind those that are joined.
+// The words of the index under the name, which is accepted as segment s behind those that are joined.
 fn load_segment<D: Depot>(
     alloc: Global,
     name: &str,

@@ -7,7 +7,7 @@ use command_steps::{LoadWordsError, load_words};
 use pef_io::{Depot, Slot};
 use std::alloc::Global;
 
-/// The words of the file under the name, which are the side file of some lists.
+// The words of the file under the name, which are the side file of some lists.
 pub(crate) fn load_side<D: Depot, S: BlockSource>(
     alloc: Global,
     name: &str,

@@ -10,7 +10,7 @@ use std::alloc::Global;
 const USAGE: &str =
     "usage: pefidx build BASE INDEX [--format FORMAT] | query INDEX [--plan PLAN] | answer BASE [--plan PLAN] | inspect INDEX | generate SEED N T | migrate OLD NEW | audit INDEX | blocks INDEX SIDE | bquery INDEX SIDE | remap BASE MAP NEW | segments INDEX.. [--plan PLAN]\n";
 
-/// Words that are no command.
+// Words that are no command.
 const NO_COMMANDS: [&[&str]; 43] = [
     &[],
     &["pefidx"],
@@ -59,7 +59,7 @@ const NO_COMMANDS: [&[&str]; 43] = [
     &["pefidx", "remap", "x", "y.docs", "y"],
 ];
 
-/// Collections, lines over them, and the replies.
+// Collections, lines over them, and the replies.
 const LINES: [(Numbers<'static>, &str, &str); 9] = [
     (ONE_LIST, "", ""),
     (
@@ -96,7 +96,7 @@ const LINES: [(Numbers<'static>, &str, &str); 9] = [
     (NO_LIST, "next 0 0", "bad term\n"),
 ];
 
-/// The same for verbs over several terms.
+// The same for verbs over several terms.
 const TERMS: [(Numbers<'static>, &str, &str); 8] = [
     (
         ONE_LIST,
@@ -140,10 +140,10 @@ const TERMS: [(Numbers<'static>, &str, &str); 8] = [
     ),
 ];
 
-/// The words of the runs that answer a collection: at once, and from an index in each format.
+// The words of the runs that answer a collection: at once, and from an index in each format.
 const WAYS: [&[&str]; 3] = [&ANSWER, &BUILD, &BUILD_ONE];
 
-/// Whether all is done, these are the replies to the text by these words, and err is not called.
+// Whether all is done, these are the replies to the text by these words, and err is not called.
 pub(crate) fn are_replies(
     alloc: Global,
     words: &[&str],
@@ -177,7 +177,7 @@ fn documents_of_terms_are_found(rt: HostRuntime) {
     }
 }
 
-/// A line of a verb and so many times a field, and one line more.
+// A line of a verb and so many times a field, and one line more.
 fn line_of(alloc: Global, verb: &str, field: &str, fields: usize) -> Option<Vec<u8>> {
     let mut text = Vec::from_slice(alloc, verb.as_bytes()).ok()?;
     for _ in 0..fields {
@@ -215,7 +215,7 @@ fn a_line_is_at_most_65535_bytes(rt: HostRuntime) {
     }
 }
 
-/// Whether no kind of call of a depot was made.
+// Whether no kind of call of a depot was made.
 pub(crate) fn is_uncalled(depot: &SteadyDepot) -> bool {
     let mut uncalled = true;
     for op in OPS {
@@ -224,7 +224,7 @@ pub(crate) fn is_uncalled(depot: &SteadyDepot) -> bool {
     uncalled
 }
 
-/// Whether a run of these words ends in the usage line, and calls nothing.
+// Whether a run of these words ends in the usage line, and calls nothing.
 fn is_no_command(alloc: Global, words: &[&str]) -> Option<bool> {
     let files = files_of(alloc, ONE_LIST)?;
     let run = steady_run(alloc, words, files, b"next 0 1")?;

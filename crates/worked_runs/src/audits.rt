@@ -8,7 +8,7 @@ use run_tables::{
 };
 use std::alloc::Global;
 
-/// The words of indexes, their audits, and in how many pieces these are printed.
+// The words of indexes, their audits, and in how many pieces these are printed.
 const AUDITS: [(&[u64], &str, u64); 5] = [
     (
         &ONE_LIST_WORDS,
@@ -37,7 +37,7 @@ fn sequences_are_audited(rt: HostRuntime) {
     }
 }
 
-/// Whether this is the audit of the index that these words build of the collection.
+// Whether this is the audit of the index that these words build of the collection.
 fn is_audited(alloc: Global, words: &[&str], numbers: Numbers<'_>, text: &str) -> Option<bool> {
     let built = steady_run(alloc, words, files_of(alloc, numbers)?, b"")?;
     let run = run_over(alloc, &AUDIT, built.depot, b"")?;

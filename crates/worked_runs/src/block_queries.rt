@@ -5,12 +5,12 @@ use run_tables::{
     files_of, index_and_side, run_over, steady_run,
 };
 
-/// The first and the last word of a side file, the bytes `PEFBLOCK` and `KCOLBFEP`.
+// The first and the last word of a side file, the bytes `PEFBLOCK` and `KCOLBFEP`.
 const FIRST: u64 = 5_423_265_565_232_219_472;
 
 const LAST: u64 = 5_784_106_546_989_318_987;
 
-/// Five lines over the one list, and their replies.
+// Five lines over the one list, and their replies.
 const TEXT: &[u8] = b"next 0 1\nnext 0 3\nand 0\nor 0 0\ntop 1 0";
 
 const REPLIES: &[u8] = b"2 5\nend\n2 0 2\n2 0 2\n1 2:5\n";

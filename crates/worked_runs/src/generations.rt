@@ -4,7 +4,7 @@ use pef_top::Status;
 use run_tables::{GENERATED_TEXT, ONE_LIST, files_of, steady_run};
 use std::alloc::Global;
 
-/// Whether `generate` with these numbers prints this text, and calls nothing but out.
+// Whether `generate` with these numbers prints this text, and calls nothing but out.
 fn is_told(alloc: Global, numbers: [&str; 3], text: &str) -> Option<bool> {
     let [seed, documents, terms] = numbers;
     let words = ["pefidx", "generate", seed, documents, terms];

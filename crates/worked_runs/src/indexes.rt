@@ -11,7 +11,7 @@ use run_tables::{
 };
 use std::alloc::Global;
 
-/// Words with so many zeros between them.
+// Words with so many zeros between them.
 fn around_zeros(alloc: Global, before: &[u64], zeros: usize, behind: &[u64]) -> Option<Vec<u64>> {
     let mut words = Vec::from_slice(alloc, before).ok()?;
     for _ in 0..zeros {
@@ -21,7 +21,7 @@ fn around_zeros(alloc: Global, before: &[u64], zeros: usize, behind: &[u64]) -> 
     Some(words)
 }
 
-/// The words of a run that builds in a format.
+// The words of a run that builds in a format.
 fn build_of(format: Format) -> &'static [&'static str] {
     match format {
         Format::One => &BUILD_ONE,
@@ -29,7 +29,7 @@ fn build_of(format: Format) -> &'static [&'static str] {
     }
 }
 
-/// Collections, formats and the words of their indexes.
+// Collections, formats and the words of their indexes.
 const WORDS: [(Numbers<'static>, Format, &[u64]); 6] = [
     (NO_LIST, Format::One, &[OPENING, 1, 0, 0, 2, CLOSING]),
     (NO_LIST, Format::Two, &[OPENING, 2, 0, 0, 2, CLOSING]),
@@ -39,8 +39,8 @@ const WORDS: [(Numbers<'static>, Format, &[u64]); 6] = [
     (THREE_LISTS, Format::Two, &THREE_LISTS_WORDS_OF_TWO),
 ];
 
-/// The words before and behind 500 zeros of the index of a thousand documents in one list, each once: both sequences are one part
-/// without payload.
+// The words before and behind 500 zeros of the index of a thousand documents in one list, each once: both sequences are one part
+// without payload.
 const THOUSAND_WORDS: [(Format, &[u64], &[u64]); 2] = [
     (
         Format::One,
@@ -54,7 +54,7 @@ const THOUSAND_WORDS: [(Format, &[u64], &[u64]); 2] = [
     ),
 ];
 
-/// Whether the index of a collection has these words by `build_words`.
+// Whether the index of a collection has these words by `build_words`.
 fn has_words(alloc: Global, numbers: Numbers<'_>, format: Format, want: &[u64]) -> Option<bool> {
     match built(alloc, files_of(alloc, numbers)?, format)? {
         Ok(words) => Some(words.as_slice() == want),
@@ -62,7 +62,7 @@ fn has_words(alloc: Global, numbers: Numbers<'_>, format: Format, want: &[u64]) 
     }
 }
 
-/// Whether `build` leaves these words in the file, and does not call err.
+// Whether `build` leaves these words in the file, and does not call err.
 fn leaves_words(alloc: Global, numbers: Numbers<'_>, format: Format, want: &[u64]) -> Option<bool> {
     let run = steady_run(alloc, build_of(format), files_of(alloc, numbers)?, b"")?;
     let bytes = bytes_of(alloc, want)?;
@@ -100,8 +100,8 @@ fn a_thousand_documents_have_their_words(rt: HostRuntime) {
     }
 }
 
-/// Whether an index of two lists says of the first that its documents are the words from 2 on, its frequencies those from here on,
-/// and both are cut in two.
+// Whether an index of two lists says of the first that its documents are the words from 2 on, its frequencies those from here on,
+// and both are cut in two.
 fn is_cut(words: &[u64], freqs: u64) -> bool {
     let entry = [2, freqs, 100_001 + (2 << 32), 2 + (900_001 << 32)];
     match words.len().checked_sub(12) {
@@ -110,7 +110,7 @@ fn is_cut(words: &[u64], freqs: u64) -> bool {
     }
 }
 
-/// Whether the index of the far document in a format is cut so, and has its replies.
+// Whether the index of the far document in a format is cut so, and has its replies.
 fn is_cut_off(alloc: Global, numbers: Numbers<'_>, format: Format, freqs: u64) -> Option<bool> {
     let build = steady_run(alloc, build_of(format), files_of(alloc, numbers)?, b"")?;
     let words = read_words(alloc, build.depot.file("y")?).ok()?;

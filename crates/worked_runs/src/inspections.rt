@@ -8,11 +8,11 @@ use run_tables::{
 };
 use std::alloc::Global;
 
-/// The line of the one list in the first format.
+// The line of the one list in the first format.
 const ONE_LIST_LINE: &str =
     "{\"bitmap_parts\":2,\"documents\":3,\"ef_parts\":0,\"ones_parts\":0,\"payload_bits\":9,\"postings\":2,\"size_total\":11,\"terms\":1,\"version\":1,\"words\":18}\n";
 
-/// The words of indexes, and their lines.
+// The words of indexes, and their lines.
 const LINES: [(&[u64], &str); 5] = [
     (&ONE_LIST_WORDS, ONE_LIST_LINE),
     (
@@ -27,13 +27,13 @@ const LINES: [(&[u64], &str); 5] = [
     (&THREE_LISTS_WORDS_OF_TWO, THREE_LISTS_LINE_OF_TWO),
 ];
 
-/// What stands after a run of these words over the file of these words of an index.
+// What stands after a run of these words over the file of these words of an index.
 fn run_over_words(alloc: Global, words: &[&str], index: &[u64], text: &[u8]) -> Option<Outcome> {
     let bytes = bytes_of(alloc, index)?;
     steady_run(alloc, words, only_index(alloc, bytes.as_slice())?, text)
 }
 
-/// Whether a run of these words over an index prints this text in so many pieces, and neither reads, creates nor calls err.
+// Whether a run of these words over an index prints this text in so many pieces, and neither reads, creates nor calls err.
 pub(crate) fn prints(
     alloc: Global,
     words: &[&str],

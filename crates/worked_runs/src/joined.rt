@@ -7,10 +7,10 @@ use run_tables::{
 };
 use std::alloc::Global;
 
-/// The names of the plans.
+// The names of the plans.
 const PLANS: [&str; 3] = ["exhaustive", "wand", "maxscore"];
 
-/// The words of a run that answers from the indexes `y` and `z`.
+// The words of a run that answers from the indexes `y` and `z`.
 const BOTH: [&str; 4] = ["pefidx", "segments", "y", "z"];
 
 // Twice the one list: three documents, and three more behind them.
@@ -147,14 +147,14 @@ fn words_of_no_segments_are_usage(rt: HostRuntime) {
     }
 }
 
-/// The bytes of the index of these numbers, that the words build.
+// The bytes of the index of these numbers, that the words build.
 fn index_of(alloc: Global, build: &[&str], numbers: Numbers<'_>) -> Option<Vec<u8>> {
     let run = steady_run(alloc, build, files_of(alloc, numbers)?, b"")?;
     Vec::from_slice(alloc, run.depot.file("y")?).ok()
 }
 
-/// The indexes of a collection of 5,000 documents that is cut at 1,700 and at 3,001, with nothing between two cuts at 1,700; the last
-/// does not have the second list.
+// The indexes of a collection of 5,000 documents that is cut at 1,700 and at 3,001, with nothing between two cuts at 1,700; the last
+// does not have the second list.
 fn cut_indexes(alloc: Global, whole: Numbers<'_>) -> Option<FileList> {
     let mut files = Vec::new(alloc);
     for (name, first, end, build) in [

@@ -3,10 +3,10 @@ use pef_top::Status;
 use run_tables::{ANSWER, BUILD, BUILD_ONE, files_of, run_to_replies, two_long_lists};
 use std::alloc::Global;
 
-/// One line for each kind of reply, and two for places behind the last document of a list and at it.
+// One line for each kind of reply, and two for places behind the last document of a list and at it.
 const LINES: &str = "and 0 1\nor 0 1\ntop 4 0 1\nnext 0 4991\nnext 1 2997\nnext 1 2998\n";
 
-/// Adds the documents below 5,000 that are in one of the lists, or in both.
+// Adds the documents below 5,000 that are in one of the lists, or in both.
 fn push_documents(text: &mut String, both: bool) -> Option<()> {
     for doc in 0..5_000_u32 {
         let in_first = doc % 5 == 0;
@@ -19,7 +19,7 @@ fn push_documents(text: &mut String, both: bool) -> Option<()> {
     Some(())
 }
 
-/// Adds a number of at most four digits.
+// Adds a number of at most four digits.
 fn push_number(text: &mut String, number: u32) -> Option<()> {
     for unit in [1_000, 100, 10, 1] {
         if number >= unit || unit == 1 {
@@ -30,7 +30,7 @@ fn push_number(text: &mut String, number: u32) -> Option<()> {
     Some(())
 }
 
-/// The replies: 200 documents are in both lists, and 1,800 in one of them.
+// The replies: 200 documents are in both lists, and 1,800 in one of them.
 fn replies(alloc: Global) -> Option<String> {
     let mut text = String::from_str(alloc, "200").ok()?;
     push_documents(&mut text, true)?;

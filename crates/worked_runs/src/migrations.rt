@@ -8,23 +8,23 @@ use run_tables::{
 };
 use std::alloc::Global;
 
-/// The words of a run that answers from the new index.
+// The words of a run that answers from the new index.
 const QUERY_NEW: [&str; 3] = ["pefidx", "query", "z"];
 
-/// Lines over the one list, and their replies.
+// Lines over the one list, and their replies.
 const ONE_LIST_TEXT: (&str, &str) = (
     "next 0 1\nnext 0 3\nand 0\nor 0 0\ntop 1 0",
     "2 5\nend\n2 0 2\n2 0 2\n1 2:5\n",
 );
 
-/// Lines over the three lists, and their replies.
+// Lines over the three lists, and their replies.
 const THREE_LISTS_TEXT: (&str, &str) = (
     "next 1 0\nor 0 1 2\nand 0\nnext 0 0",
     "end\n2 0 1\n1 0\n0 1\n",
 );
 
-/// The words of indexes and of the migrated ones, and lines and replies of both. The words in which the documents are needlessly cut
-/// in two become the words of one part.
+// The words of indexes and of the migrated ones, and lines and replies of both. The words in which the documents are needlessly cut
+// in two become the words of one part.
 const MIGRATED: [(&[u64], &[u64], (&str, &str)); 6] = [
     (
         &[OPENING, 1, 0, 0, 2, CLOSING],
@@ -54,7 +54,7 @@ const MIGRATED: [(&[u64], &[u64], (&str, &str)); 6] = [
     ),
 ];
 
-/// Whether an index is migrated to these words and stays, and err is not called; the files that then are there.
+// Whether an index is migrated to these words and stays, and err is not called; the files that then are there.
 fn migrated(alloc: Global, old: &[u64], new: &[u64], text: &str) -> Option<(bool, SteadyDepot)> {
     let old = bytes_of(alloc, old)?;
     let new = bytes_of(alloc, new)?;
@@ -66,7 +66,7 @@ fn migrated(alloc: Global, old: &[u64], new: &[u64], text: &str) -> Option<(bool
     Some((right, run.depot))
 }
 
-/// Whether an index is migrated to these words, and both have these replies to the text.
+// Whether an index is migrated to these words, and both have these replies to the text.
 fn are_migrated(
     alloc: Global,
     old: &[u64],
@@ -91,7 +91,7 @@ fn migrated_indexes_have_their_words_and_replies(rt: HostRuntime) {
     }
 }
 
-/// A migration of the one list, and the bytes that its new index is to have.
+// A migration of the one list, and the bytes that its new index is to have.
 fn one_list_migrated(alloc: Global) -> Option<(Outcome, Vec<u8>)> {
     let old = bytes_of(alloc, &ONE_LIST_WORDS)?;
     let new = bytes_of(alloc, &ONE_LIST_WORDS_OF_TWO)?;

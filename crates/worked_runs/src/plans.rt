@@ -3,10 +3,10 @@ use pef_top::Status;
 use run_tables::{BUILD, NINE_LISTS, Numbers, ONE_LIST, TWO_LISTS, files_of, run_over, steady_run};
 use std::alloc::Global;
 
-/// The names of the plans.
+// The names of the plans.
 const PLANS: [&str; 3] = ["exhaustive", "wand", "maxscore"];
 
-/// Collections, lines over them, and the replies.
+// Collections, lines over them, and the replies.
 const LINES: [(Numbers<'static>, &str, &str); 4] = [
     (
         ONE_LIST,
@@ -26,7 +26,7 @@ const LINES: [(Numbers<'static>, &str, &str); 4] = [
     (NINE_LISTS, "top 2 0 1 2 3 4 5 6 7 8", "1 1:9\n"),
 ];
 
-/// Whether these are the replies by a plan, at once and from an index.
+// Whether these are the replies by a plan, at once and from an index.
 fn are_replies(
     alloc: Global,
     numbers: Numbers<'_>,

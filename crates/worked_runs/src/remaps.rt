@@ -6,24 +6,24 @@ use run_tables::{
 };
 use std::alloc::Global;
 
-/// The words of a run that answers from the new collection.
+// The words of a run that answers from the new collection.
 const ANSWER_NEW: [&str; 3] = ["pefidx", "answer", "y"];
 
-/// The one list where documents 0, 1 and 2 have the new ids 2, 0 and 1.
+// The one list where documents 0, 1 and 2 have the new ids 2, 0 and 1.
 const MOVED: Numbers<'static> = Numbers {
     docs: &[1, 3, 2, 1, 2],
     freqs: &[2, 5, 1],
     sizes: &[3, 0, 7, 4],
 };
 
-/// The two lists in the reverse order of their documents.
+// The two lists in the reverse order of their documents.
 const REVERSED: Numbers<'static> = Numbers {
     docs: &[1, 5, 2, 0, 3, 3, 0, 2, 3],
     freqs: &[2, 3, 2, 3, 1, 3, 1],
     sizes: &[5, 1, 1, 1, 1, 1],
 };
 
-/// Collections, orders of their documents, the collections that are moved there, and the replies to `or 0`.
+// Collections, orders of their documents, the collections that are moved there, and the replies to `or 0`.
 const MOVES: [(Numbers<'static>, &[u32], Numbers<'static>, &str); 5] = [
     (ONE_LIST, &MAP, MOVED, "2 1 2\n"),
     (MOVED, &[3, 1, 2, 0], ONE_LIST, "2 0 2\n"),
@@ -32,7 +32,7 @@ const MOVES: [(Numbers<'static>, &[u32], Numbers<'static>, &str); 5] = [
     (NO_LIST, &[0], NO_LIST, "bad term\n"),
 ];
 
-/// Whether the files of this name are those of the collection.
+// Whether the files of this name are those of the collection.
 fn has_files(
     alloc: Global,
     depot: &SteadyDepot,
@@ -50,7 +50,7 @@ fn has_files(
     Some(right)
 }
 
-/// Whether a collection is moved, it and the map stay, and the moved one has these replies.
+// Whether a collection is moved, it and the map stay, and the moved one has these replies.
 fn is_moved(
     alloc: Global,
     old: Numbers<'_>,

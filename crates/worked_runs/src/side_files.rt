@@ -6,7 +6,7 @@ use run_tables::{
 };
 use std::alloc::Global;
 
-/// The words at the beginning and at the end of a side file, the bytes `PEFBLOCK` and `KCOLBFEP`.
+// The words at the beginning and at the end of a side file, the bytes `PEFBLOCK` and `KCOLBFEP`.
 const SIDE_OPENING: u64 = 5_423_265_565_232_219_472;
 
 const SIDE_CLOSING: u64 = 5_784_106_546_989_318_987;
@@ -15,7 +15,7 @@ const SIDE_OF_ONE: &[u64] = &[SIDE_OPENING, 1, 5, 1, SIDE_CLOSING];
 
 const SIDE_OF_THREE: &[u64] = &[SIDE_OPENING, 1, 1, 3, 2, SIDE_CLOSING];
 
-/// The words of indexes, and of their side files. A list in two parts has two blocks; an empty one has none.
+// The words of indexes, and of their side files. A list in two parts has two blocks; an empty one has none.
 const SIDES: [(&[u64], &[u64]); 6] = [
     (
         &[OPENING, 1, 0, 0, 2, CLOSING],
@@ -31,7 +31,7 @@ const SIDES: [(&[u64], &[u64]); 6] = [
     (&THREE_LISTS_WORDS_OF_TWO, SIDE_OF_THREE),
 ];
 
-/// Whether the side file of an index has these words, the index stays, and err is not called.
+// Whether the side file of an index has these words, the index stays, and err is not called.
 fn has_side(alloc: Global, index: &[u64], side: &[u64]) -> Option<bool> {
     let index = bytes_of(alloc, index)?;
     let side = bytes_of(alloc, side)?;
