@@ -1,5 +1,6 @@
 use Rattle.std.proofs.Common.{◌≡◌, refl, sym, ◌∙◌, ap, subst, ℕ, zero, suc, ◌+◌, ◌<◌, List, [], ◌∷◌, ◌++◌, length, get_or, take, map, arith}
-use Rattle.std.specs.Prelude.{Option, Some, None, option_map}
+use Rattle.std.specs.Prelude.{Option, Some, None, option_map, Result, Ok, Err, IfOk, Vec}
+use Rattle.std.specs.declared.alloc.Global.{Global}
 use Rattle.std.specs.List.{All, slice_get}
 use Rattle.std.proofs.lemmas.List.{map-append, length-map}
 use Rattle.std.proofs.lemmas.List.Elements.{All-get_or, All-weaker, All-map, All-append}
@@ -10,8 +11,13 @@ use Rattle.collection_model.specs.Collection.{Posting, Collection, WellFormed, I
 use Rattle.cursor_api.specs.NextGeq.{next_geq_place}
 use Rattle.cursor_api.proofs.FirstPosting.{first-is_next}
 use Rattle.scan_plans.specs.Matches.{AreBelow}
+use Rattle.scan_plans.specs.IsTop.{IsTop}
 use Rattle.segments.specs.Laws.{IsInRange}
-use Rattle.command_model.specs.Replies.{lists_of}
+use Rattle.query_text.specs.declared.query.Query.{Query}
+use Rattle.query_text.specs.declared.query.Query.TheVariants.{Top}
+use Rattle.no_memory.specs.declared.NoMemory.{NoMemory}
+use Rattle.query_text.specs.Texts.{top_text}
+use Rattle.command_model.specs.Replies.{IsAnswer, IsTopText, lists_of}
 
 -- what holds of an element holds of each of it alone
 one-at : {X : Type 0} (P : X → Type 0) (x d : X) (k : ℕ) → k < 1 → P x → P (get_or (x ∷ []) k d)
@@ -92,3 +98,20 @@ found old new start place d doc freq at same went some of =
     some-mapped (first_at_least old d) doc freq
     (ap (option_map (λ p. p.doc)) (sym is) ∙ some)
     (ap (option_map (λ p. p.freq)) (sym is) ∙ sym (slice_get-map (λ p. p.freq) new place) ∙ of)
+
+-- ---- the reply to top
+
+-- the text of a top list, from cursors over the lists that are asked for
+pub top-text : (n : ℕ) (lists asked : List (List Posting)) (weights : List ℕ) (k : ℕ) (found lent : List (ℕ × ℕ)) (r : Result (Vec ℕ Global) NoMemory) → lists ≡ asked → IsTop n lists weights k found → lent ≡ found →
+    IfOk r (λ text. text.items ≡ top_text lent) → IfOk r (λ text. IsTopText n asked weights k text.items)
+top-text n lists asked weights k found lent (Err e) same top lend text = tt
+top-text n lists asked weights k found lent (Ok text) same top lend is = (found, subst (λ (ls : List (List Posting)). IsTop n ls weights k found) same top, is ∙ ap top_text lend)
+
+-- it answers the line that asks for it
+pub top-answer : (c : Collection) (query : Query) (k : ℕ) (terms : List (ℕ × ℕ)) (ts ws : List ℕ) (r : Result (Vec ℕ Global) NoMemory) → query ≡ Top k terms → ts ≡ map (λ t. t.0) terms → ws ≡ map (λ t. t.1) terms →
+    IfOk r (λ text. IsTopText c.documents (lists_of c ts) ws k text.items) → IfOk r (λ text. IsAnswer c query text.items)
+top-answer c query k terms ts ws (Err e) is named weighted text = tt
+top-answer c query k terms ts ws (Ok text) is named weighted top =
+    let P : Query → Type 0 = λ q. IsAnswer c q text.items in
+    let of_weights = subst (λ (xs : List ℕ). IsTopText c.documents (lists_of c ts) xs k text.items) weighted top in
+    subst P (sym is) (subst (λ (xs : List ℕ). IsTopText c.documents (lists_of c xs) (map (λ t. t.1) terms) k text.items) named of_weights)
