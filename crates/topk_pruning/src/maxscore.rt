@@ -1,13 +1,14 @@
-ghost use Rattle.std.specs.Prelude.{◌≡◌, ℕ, ◌≤◌, ◌<◌, ◌⊎◌, ◌^◌, ◌++◌, List, true, map, length, sum, min, option_to_list, IfOk, IfSome};
+ghost use Rattle.std.specs.Prelude.{◌≡◌, ◌≤◌, ◌<◌, ◌^◌, ◌++◌, true, map, length, sum, min, option_to_list, IfOk, IfSome};
 ghost use Rattle.std.specs.List.{All, reduce};
-ghost use Rattle.scan_plans.specs.Matches.{AreBelow, in_any_from};
+ghost use Rattle.scan_plans.specs.Matches.{AreBelow};
 ghost use Rattle.scan_plans.specs.IsTop.{IsTop};
 ghost use Rattle.scan_plans.specs.Scan.{HasPassed};
-ghost use Rattle.topk_pruning.specs.Terms.{AreAllTerms, AreTerms, IsFirstDoc, IsNextDoc};
+ghost use Rattle.topk_pruning.specs.Terms.{AreTerms, IsFirstDoc, IsNextDoc};
 
 use crate::alone::{next_of_one, postings_between};
 use crate::ceilings::Greatest;
 use crate::essential::essential_now;
+use crate::floor::common_score;
 use crate::probe::doc_from;
 use crate::room::{Room, score_from};
 use crate::shortlist::Shortlist;
@@ -15,13 +16,9 @@ use crate::term::{Term, terms_by_bound};
 use cursor_api::DocCursor;
 use no_memory::NoMemory;
 use scan_plans::{
-    cursors_tell, frequent_postings_score, most_found, top_list_grows, top_list_has_a_floor,
-    top_list_is_short,
+    cursors_tell, most_found, top_list_grows, top_list_has_a_floor, top_list_is_short,
 };
 use std::alloc::Global;
-
-// A list of fewer postings is not asked for a frequency that many of them reach.
-const MANY_POSTINGS: u32 = 2_048;
 
 /// The first k of the documents that are in any of the lists, by score falling and then document rising, each with its score, as
 /// `top_exhaustive` gives them. `n` is the number of documents. The weights are those of the cursors' lists, in the same order; a
@@ -86,24 +83,6 @@ fn score_essential<C: DocCursor>(
         from = score_from(cursors, &terms, &Greatest, first, n, &mut room, &mut top);
     }
     top.into_list()
-}
-
-// A score that at least k documents reach, 0 where none is told: what a frequency adds that many postings of the first list reach. A
-// short list is not asked.
-fn common_score<C: DocCursor>(cursors: &[C], terms: &[Term], k: u32) -> u64
-    requires within { All (λ t. t.list < length cursors.now) terms.now }
-    requires some { 1 ≤ k }
-    ensures { (n : ℕ) (weights : List ℕ) → AreBelow n (map C.list cursors.now) → AreAllTerms (map C.list cursors.now) weights terms.now → (result ≡ 0) ⊎ (k ≤ length (in_any_from result n (map C.list cursors.now) weights)) }
-{
-    frequent_postings_score();
-    let Some(first) = terms.first() else {
-        return 0;
-    };
-    let cursor = &cursors[first.list];
-    if cursor.len() < MANY_POSTINGS {
-        return 0;
-    }
-    u64::from(first.weight) * u64::from(cursor.common_freq(k))
 }
 
 // The next document from `from` on that can be held. No cursor has passed a document from `from` on, and none passes that document.

@@ -216,13 +216,14 @@ impl<'a> SeqCursor<'a> {
             self.value = sought.number;
         } else {
             let behind = held.index + 1;
-            (self.counted, self.held, self.known, self.value) = first_from_part(
+            (self.counted, self.known, self.value) = first_from_part(
                 self.words,
                 self.parts,
                 self.m,
                 behind,
                 x,
                 self.format,
+                &mut self.held,
             );
         }
     }

@@ -282,8 +282,8 @@ pub(crate) fn hold_at<'a>(
     }
 }
 
-// The first value from the start of a part on that is at least x: a place at or before its own, its part, and the values at both
-// places; else the end.
+// The first value from the start of a part on that is at least x: a place at or before its own, and the values at both places, with
+// its part, which is put where it is to be held; else the end.
 #[inline(never)]
 pub(crate) fn first_from_part<'a>(
     words: &'a [u64],
@@ -292,22 +292,25 @@ pub(crate) fn first_from_part<'a>(
     part: u32,
     x: u64,
     format: Format,
-) -> (u32, Option<HeldPart<'a>>, u64, u64)
+    into: &mut Option<HeldPart<'a>>,
+) -> (u32, u64, u64)
     requires words { length words.now < 2 ^ 57 }
     requires begun { BeginWith words.now parts m (sequence_stated (numbers_of format) words.now parts) }
     requires within { part ≤ parts }
-    ensures lies { LiesIn (numbers_of format) words.entry.now parts result.0 result.1 result.2 }
-    ensures behind { StandsBehind result.1 (sequence_stated (numbers_of format) words.entry.now parts).values result.0 result.3 }
-    ensures first { let xs = (sequence_stated (numbers_of format) words.entry.now parts).values in place_at_least xs result.0 result.3 ≡ place_at_least xs (end_before (numbers_of format) words.entry.now 0 part) x }
+    ensures lies { LiesIn (numbers_of format) words.entry.now parts result.0 into.new result.1 }
+    ensures behind { StandsBehind into.new (sequence_stated (numbers_of format) words.entry.now parts).values result.0 result.2 }
+    ensures first { let xs = (sequence_stated (numbers_of format) words.entry.now parts).values in place_at_least xs result.0 result.2 ≡ place_at_least xs (end_before (numbers_of format) words.entry.now 0 part) x }
 {
     directory_states_its_parts();
     let reaching = part_reaching(words, parts, part, x, format);
     if reaching < parts {
         let held = hold(words, parts, reaching, format);
         let sought = held.seek_first(x);
-        (sought.place as u32, Some(held), sought.there, sought.number)
+        *into = Some(held);
+        (sought.place as u32, sought.there, sought.number)
     } else {
-        (m, None, 0, 0)
+        *into = None;
+        (m, 0, 0)
     }
 }
 

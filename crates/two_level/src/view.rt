@@ -10,7 +10,6 @@ ghost use Rattle.two_level.specs.SequenceFault.{IsSequenceFault};
 ghost use Rattle.two_level.specs.SequenceView.{SequenceView, BeginWith, words_used, IsPartOf, place_at_least};
 ghost use Rattle.two_level.specs.Steps.{greatest_step};
 ghost use Rattle.two_level.specs.LongSteps.{count_reaching};
-ghost use Rattle.collection_model.specs.Sequences.{steps_from};
 
 use crate::checking::{SeqFault, check_words};
 use crate::cursor::SeqCursor;

@@ -1,4 +1,4 @@
-use Rattle.std.proofs.Common.{◌≡◌, refl, sym, ap, inl, ◌∙◌, subst, ℕ, ◌<◌, ◌^◌, List, map, length, Some, None, arith}
+use Rattle.std.proofs.Common.{◌≡◌, sym, ap, ◌∙◌, subst, ℕ, ◌<◌, ◌^◌, List, map, length, Some, None, arith}
 use Rattle.std.specs.List.{All}
 use Rattle.std.proofs.lemmas.List.{length-map}
 use Rattle.std.proofs.lemmas.Result.{IfOk-weaker}
@@ -16,7 +16,7 @@ use Rattle.topk_pruning.proofs.Scores.{terms-are, all-terms}
 use Rattle.topk_pruning.proofs.Orders.{all-again, all-of, order-later}
 use Rattle.topk_pruning.proofs.Bars.{bars-at}
 use Rattle.topk_pruning.proofs.Pivots.{caught-order, standing-are, pivot-step, pivot-end}
-use Rattle.topk_pruning.proofs.Tops.{IsStep, next-step, last-step, scores-light}
+use Rattle.topk_pruning.proofs.Tops.{IsStep, next-step, last-step, scores-light, within-all}
 use Rattle.topk_pruning.proofs.Windows.{query-terms}
 use Rattle.topk_pruning.proofs.wand.score_from_pivots.Given as given
 use Rattle.topk_pruning.proofs.wand.score_from_pivots.Goals as goal
@@ -26,7 +26,15 @@ pub order_of-requires-clause-terms : goal.order_of-requires-clause-terms
 order_of-requires-clause-terms g c =
     let lists : List (List Posting) = map g.C.DocCursor.list c.args.cursors.now in
     let are : AreTerms lists c.in_ok-terms.terms.items = terms-are lists c.args.weights.now c.in_ok-terms.terms.items c.in_ok-terms.ensures.all c.in_ok-terms.ensures.light in
-    subst (AreTerms lists) (sym c.deref.ensures.value) are
+    subst (AreTerms lists) (sym c.deref-2.ensures.value) are
+
+pub common_score-floor-requires-clause-within : goal.common_score-floor-requires-clause-within
+common_score-floor-requires-clause-within g c =
+    let list = g.C.DocCursor.list in
+    let lists : List (List Posting) = map list c.args.cursors.now in
+    let terms : List Term = c.in_ok-terms.terms.items in
+    let are : AreTerms lists terms = terms-are lists c.args.weights.now terms c.in_ok-terms.ensures.all c.in_ok-terms.ensures.light in
+    subst (λ (ts : List Term). All (λ t. t.list < length c.args.cursors.now) ts) (sym c.deref.ensures.value) (within-all list c.args.cursors.now terms are)
 
 pub loop-room-init : goal.loop-room-init
 loop-room-init g c =
@@ -38,10 +46,10 @@ loop-room-init g c =
       k = ap (λ (t : RankingFrom). t.k) c.in_ok-top.ensures;
       n = ap (λ (t : RankingFrom). t.n) c.in_ok-top.ensures;
       floor = ap (λ (t : RankingFrom). t.floor) c.in_ok-top.ensures;
-      held = subst (λ (h : List (ℕ × ℕ)). IsTopFrom 0 0 lists c.args.weights.now c.args.k h) (sym (ap (λ (t : RankingFrom). t.held) c.in_ok-top.ensures)) (c.top_list_grows.ensures.none 0 lists c.args.weights.now c.args.k);
-      order = subst (λ (ts : List Term). IsOrder lists ts 0 c.in_ok-order.order.items) c.deref.ensures.value c.in_ok-order.ensures.order;
+      held = subst (λ (h : List (ℕ × ℕ)). IsTopFrom c.common_score-floor.result 0 lists c.args.weights.now c.args.k h) (sym (ap (λ (t : RankingFrom). t.held) c.in_ok-top.ensures)) (c.top_list_grows.ensures.none c.common_score-floor.result lists c.args.weights.now c.args.k);
+      order = subst (λ (ts : List Term). IsOrder lists ts 0 c.in_ok-order.order.items) c.deref-2.ensures.value c.in_ok-order.ensures.order;
       falling = c.in_ok-order.ensures.falling;
-      ready = subst (λ (count : ℕ). IsReady count c.in_ok-room.room) (ap length c.deref-2.ensures.value) c.in_ok-room.ensures;
+      ready = subst (λ (count : ℕ). IsReady count c.in_ok-room.room) (ap length c.deref-3.ensures.value) c.in_ok-room.ensures;
     }
 
 pub catch_up-requires-clause-within : goal.catch_up-requires-clause-within
@@ -71,7 +79,7 @@ pivot-requires g c =
     record { light = omega arith }
 
 -- what is known at a pivot
-pivot-known : (g : given.Over) (c : In-Some g) → IsStep c.args.n (map g.C.DocCursor.list c.args.cursors.now) c.args.weights.now 0 c.args.k c.loop-room.from c.in-Some.first c.loop-room.top.held
+pivot-known : (g : given.Over) (c : In-Some g) → IsStep c.args.n (map g.C.DocCursor.list c.args.cursors.now) c.args.weights.now c.common_score-floor.result c.args.k c.loop-room.from c.in-Some.first c.loop-room.top.held
 pivot-known g c =
     let lists : List (List Posting) = map g.C.DocCursor.list c.args.cursors.now in
     let weights : List ℕ = c.args.weights.now in
@@ -85,11 +93,11 @@ pivot-known g c =
     let held : List (ℕ × ℕ) = c.loop-room.top.held in
     let order : List Standing = c.catch_up.new.order.items in
     let caught : IsOrder lists terms from order = caught-order (map g.C.DocCursor.list c.loop-room.cursors) lists terms from c.loop-room.order.items order so_far.lists c.in_ok-catch_up.ensures.order so_far.order in
-    let bars = bars-at c.bar.result c.loop-room.top.floor 0 c.loop-room.top.k k held so_far.floor so_far.k c.bar.ensures in
+    let bars = bars-at c.bar.result c.loop-room.top.floor c.common_score-floor.result c.loop-room.top.k k held so_far.floor so_far.k c.bar.ensures in
     let pivot : IsPivot order c.bar.result (Some c.in-Some.first) = subst (λ (o : List Standing). IsPivot o c.bar.result (Some c.in-Some.first)) c.deref-in-loop-room.ensures.value c.in-Some.ensures in
     let grows = c.top_list_grows.ensures in
-    next-step grows.skipped grows.below grows.in_range c.args.n lists weights (all-of lists terms from order caught) 0 k from c.in-Some.first held c.requires.in_range (all-again lists weights terms from order caught all) so_far.held
-    (pivot-step lists terms 0 k from c.in-Some.first order c.bar.result held are caught c.in_ok-catch_up.ensures.falling c.in_ok-catch_up.ensures.caught_up bars pivot)
+    next-step grows.skipped grows.below grows.in_range c.args.n lists weights (all-of lists terms from order caught) c.common_score-floor.result k from c.in-Some.first held c.requires.in_range (all-again lists weights terms from order caught all) so_far.held
+    (pivot-step lists terms c.common_score-floor.result k from c.in-Some.first order c.bar.result held are caught c.in_ok-catch_up.ensures.falling c.in_ok-catch_up.ensures.caught_up bars pivot)
 
 -- what is held where there is none
 top-of_none : (g : given.Over) (c : In_default g) → IsTop c.args.n (map g.C.DocCursor.list c.args.cursors.now) c.args.weights.now c.args.k c.loop-room.top.held
@@ -106,11 +114,11 @@ top-of_none g c =
     let held : List (ℕ × ℕ) = c.loop-room.top.held in
     let order : List Standing = c.catch_up.new.order.items in
     let caught : IsOrder lists terms from order = caught-order (map g.C.DocCursor.list c.loop-room.cursors) lists terms from c.loop-room.order.items order so_far.lists c.in_ok-catch_up.ensures.order so_far.order in
-    let bars = bars-at c.bar.result c.loop-room.top.floor 0 c.loop-room.top.k k held so_far.floor so_far.k c.bar.ensures in
+    let bars = bars-at c.bar.result c.loop-room.top.floor c.common_score-floor.result c.loop-room.top.k k held so_far.floor so_far.k c.bar.ensures in
     let pivot : IsPivot order c.bar.result None = subst (λ (o : List Standing). IsPivot o c.bar.result None) c.deref-in-loop-room.ensures.value c.in_default.ensures in
-    let top = last-step c.top_list_grows.ensures.skipped c.args.n lists weights (all-of lists terms from order caught) 0 k from held (all-again lists weights terms from order caught all) so_far.in_range so_far.held
-    (pivot-end lists terms 0 k from order c.bar.result held are caught bars pivot) in
-    c.top_list_has_a_floor.ensures 0 c.args.n lists weights k held (inl refl) top
+    let top = last-step c.top_list_grows.ensures.skipped c.args.n lists weights (all-of lists terms from order caught) c.common_score-floor.result k from held (all-again lists weights terms from order caught all) so_far.in_range so_far.held
+    (pivot-end lists terms c.common_score-floor.result k from order c.bar.result held are caught bars pivot) in
+    c.top_list_has_a_floor.ensures c.common_score-floor.result c.args.n lists weights k held (c.common_score-floor.ensures c.args.n weights c.requires.in_range (subst (AreAllTerms lists weights) (sym c.deref.ensures.value) all)) top
 
 pub returns-in_default-clause-first : goal.returns-in_default-clause-first
 returns-in_default-clause-first g c =
@@ -179,8 +187,8 @@ loop-room-preserved g c =
     let new : List (ℕ × ℕ) = c.score_from-from.new.top.held in
     let after = known.later in
     let later = scored.later in
-    let follows : FollowsTo lists terms 0 c.args.k first to held new =
-    subst (λ (j : ℕ). FollowsTo lists terms 0 j first to held new) so_far.k
+    let follows : FollowsTo lists terms c.common_score-floor.result c.args.k first to held new =
+    subst (λ (j : ℕ). FollowsTo lists terms c.common_score-floor.result j first to held new) so_far.k
     (subst (λ (f : ℕ). FollowsTo lists terms f c.loop-room.top.k first to held new) so_far.floor
     (subst (λ (ls : List (List Posting)). FollowsTo ls terms c.loop-room.top.floor c.loop-room.top.k first to held new) same
     (subst (λ (ts : List Term). FollowsTo (map g.C.DocCursor.list c.catch_up.new.cursors) ts c.loop-room.top.floor c.loop-room.top.k first to held new) c.deref-in-loop-room-2.ensures.value scored.held))) in

@@ -5,7 +5,7 @@ use Rattle.topk_pruning.specs.declared.term.Term.{Term}
 use Rattle.topk_pruning.specs.Terms.{list_of}
 use Rattle.topk_pruning.proofs.Floors.{first-there, floor-reached}
 use Rattle.topk_pruning.proofs.Moves.{list-read}
-use Rattle.topk_pruning.proofs.maxscore.common_score.Goals as goal
+use Rattle.topk_pruning.proofs.floor.common_score.Goals as goal
 
 pub returns : goal.returns
 returns g c = λ n weights below all.
