@@ -1,7 +1,7 @@
 use Rattle.std.proofs.Common.{◌≡◌, ℕ, zero, suc, ◌+◌, ◌-◌, ◌*◌, ◌<◌, ◌≤◌, List, [], ◌∷◌, length, take, drop, get_or, slice_index, Option, Some, None, refl, sym, ap, ◌∙◌, subst, arith, add-one}
-use Rattle.std.specs.List.{slice_range}
+use Rattle.std.specs.List.{slice_range, range_with_len}
 use Rattle.std.proofs.lemmas.List.{length-take-le, length-drop, length-map, get_or-take, get_or-drop, get_or-map}
-use Rattle.std.proofs.lemmas.List.FromFn.{get_or-map-range_with_len}
+use Rattle.std.proofs.lemmas.List.FromFn.{length-range_with_len, get_or-map-range_with_len}
 use Rattle.collection_model.specs.FormatNumbers.{FormatNumbers, entry_words, part_charge}
 use Rattle.bit_words.specs.Bits.{bits_of}
 use Rattle.bit_words.specs.Laws.{BitsOfAppended, BitsOfWords}
@@ -102,6 +102,11 @@ states-part format room laws appended filled m bound parts used xs ends words fi
 pub stated-ends : (format : FormatNumbers) (words : List ℕ) (parts q : ℕ) → q < parts → slice_index (sequence_stated format words parts).ends q ≡ stated_end format words 0 q
 unfolding sequence_stated
 stated-ends format words parts q lt = get_or-map-range_with_len (stated_end format words 0) 0 parts q q 0 lt (omega arith)
+
+-- how many ends they state
+pub count-ends : (format : FormatNumbers) (words : List ℕ) (parts : ℕ) → length (sequence_stated format words parts).ends ≡ parts
+unfolding sequence_stated
+count-ends format words parts = length-map (range_with_len 0 parts) (stated_end format words 0) ∙ length-range_with_len 0 parts
 
 pub stated-start : (format : FormatNumbers) (words : List ℕ) (parts q : ℕ) → q < parts → start_of_part (sequence_stated format words parts).ends q ≡ end_before format words 0 q
 stated-start format words parts zero lt = refl

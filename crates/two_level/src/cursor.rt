@@ -2,9 +2,8 @@ ghost use Rattle.std.specs.Prelude.{◌≡◌, ℕ, ◌≤◌, ◌<◌, ◌+◌,
 ghost use Rattle.collection_model.specs.NextBelow.{AreNextBelow};
 ghost use Rattle.two_level.specs.SequenceView.{place_at_least};
 
-use crate::held::{HeldPart, first_from_part, hold_at, hold_if_any};
-use crate::laws::directory_states_its_parts;
-use part_cost::Format;
+use crate::directory::Directory;
+use crate::held::HeldPart;
 use std::marker::Model;
 
 /// A place in a sequence, which may be its end. The part of the place and the value there are held, so that the values of a
@@ -12,10 +11,7 @@ use std::marker::Model;
 /// bitmap finds a value without its place, which is counted only where it is asked.
 #[derive(Drop)]
 pub struct SeqCursor<'a> {
-    words: &'a [u64],
-    parts: u32,
-    m: u32,
-    format: Format,
+    directory: Directory<'a>,
     // A place of the part at or before the cursor's, and the value there: the cursor's is counted from it.
     counted: u32,
     known: u64,
@@ -24,37 +20,30 @@ pub struct SeqCursor<'a> {
 }
 
 impl<'a> Model for SeqCursor<'a> {
-    ghost use Rattle.std.specs.Prelude.{◌<◌, ◌^◌, length};
     ghost use Rattle.part_cost.specs.Formats.{numbers_of};
-    ghost use Rattle.two_level.specs.SequenceView.{SequencePlace, BeginWith, sequence_stated, place_at_least};
+    ghost use Rattle.two_level.specs.SequenceView.{SequencePlace, place_at_least};
     ghost use Rattle.two_level.specs.SequenceParts.{LiesIn, StandsBehind};
+    ghost use Rattle.two_level.specs.DirectorySequence.{sequence_of};
 
     ghost Value = { SequencePlace };
 
-    ghost view = { λ c. let v = sequence_stated (numbers_of c.format) c.words.now c.parts in record { sequence = v; place = place_at_least v.values c.counted c.value } };
+    ghost view = { λ c. let v = sequence_of c.directory in record { sequence = v; place = place_at_least v.values c.counted c.value } };
 
-    ghost invariant = { λ c. let v = sequence_stated (numbers_of c.format) c.words.now c.parts in
-        BeginWith c.words.now c.parts c.m v × (length c.words.now < 2 ^ 57) × LiesIn (numbers_of c.format) c.words.now c.parts c.counted c.held c.known × StandsBehind c.held v.values c.counted c.value };
+    ghost invariant = { λ c. let d = c.directory in
+        LiesIn (numbers_of d.format) d.words.now d.parts c.counted c.held c.known × StandsBehind c.held (sequence_of d).values c.counted c.value };
 }
 
 impl<'a> SeqCursor<'a> {
-    ghost use Rattle.std.specs.Prelude.{◌^◌};
-    ghost use Rattle.part_cost.specs.Formats.{numbers_of};
-    ghost use Rattle.two_level.specs.SequenceView.{BeginWith, sequence_stated};
+    ghost use Rattle.two_level.specs.DirectorySequence.{sequence_of};
 
-    // A cursor at the start of the sequence with which the words begin.
-    pub(crate) fn at_start(words: &'a [u64], parts: u32, m: u32, format: Format) -> SeqCursor<'a>
-        requires words { length words.now < 2 ^ 57 }
-        requires begun { BeginWith words.now parts m (sequence_stated (numbers_of format) words.now parts) }
-        ensures sequence { result.sequence ≡ sequence_stated (numbers_of format) words.entry.now parts }
+    // A cursor at the start of a sequence.
+    pub(crate) fn at_start(directory: Directory<'a>) -> SeqCursor<'a>
+        ensures sequence { result.sequence ≡ sequence_of directory.entry }
         ensures start { result.place ≡ 0 }
     {
-        let (held, value) = hold_if_any(words, parts, 0, format);
+        let (held, value) = directory.hold_if_any(0);
         SeqCursor {
-            words,
-            parts,
-            m,
-            format,
+            directory,
             counted: 0,
             known: value,
             held,
@@ -62,26 +51,15 @@ impl<'a> SeqCursor<'a> {
         }
     }
 
-    // A cursor at place k of the sequence with which the words begin, which may be its end.
-    pub(crate) fn at_place(
-        words: &'a [u64],
-        parts: u32,
-        m: u32,
-        k: u32,
-        format: Format,
-    ) -> SeqCursor<'a>
-        requires words { length words.now < 2 ^ 57 }
-        requires begun { BeginWith words.now parts m (sequence_stated (numbers_of format) words.now parts) }
-        requires within { k ≤ length (sequence_stated (numbers_of format) words.now parts).values }
-        ensures sequence { result.sequence ≡ sequence_stated (numbers_of format) words.entry.now parts }
+    // A cursor at place k of a sequence, which may be its end.
+    pub(crate) fn at_place(directory: Directory<'a>, k: u32) -> SeqCursor<'a>
+        requires within { k ≤ length (sequence_of directory).values }
+        ensures sequence { result.sequence ≡ sequence_of directory.entry }
         ensures place { result.place ≡ k }
     {
-        let (held, value) = hold_at(words, parts, m, k, format);
+        let (held, value) = directory.hold_at(k);
         SeqCursor {
-            words,
-            parts,
-            m,
-            format,
+            directory,
             counted: k,
             known: value,
             held,
@@ -93,7 +71,6 @@ impl<'a> SeqCursor<'a> {
     pub fn place(&self) -> u32
         ensures { result ≡ self.now.place }
     {
-        directory_states_its_parts();
         let Some(held) = &self.held else {
             return self.counted;
         };
@@ -145,7 +122,7 @@ impl<'a> SeqCursor<'a> {
             self.counted = place + 1;
         } else {
             let behind = held.index + 1;
-            (self.held, self.value) = hold_if_any(self.words, self.parts, behind, self.format);
+            (self.held, self.value) = self.directory.hold_if_any(behind);
             self.known = self.value;
             self.counted = place + 1;
         }
@@ -159,7 +136,7 @@ impl<'a> SeqCursor<'a> {
         ensures room { length to.new ≡ length to.old }
         ensures values { AreNextBelow self.old.sequence.values self.old.place x to.new result }
     {
-        let most = to.len().min((self.m - self.place()) as usize);
+        let most = to.len().min((self.directory.m - self.place()) as usize);
         let mut count = 0;
         'given: while count < most && self.value() < x {
             count += self.pass_below(x, &mut to[count..]);
@@ -199,7 +176,6 @@ impl<'a> SeqCursor<'a> {
         ensures sequence { self.new.sequence ≡ self.old.sequence }
         ensures place { self.new.place ≡ place_at_least self.old.sequence.values self.old.place x }
     {
-        directory_states_its_parts();
         let counted = self.counted;
         let known = self.known;
         let value = self.value;
@@ -216,15 +192,9 @@ impl<'a> SeqCursor<'a> {
             self.value = sought.number;
         } else {
             let behind = held.index + 1;
-            (self.counted, self.known, self.value) = first_from_part(
-                self.words,
-                self.parts,
-                self.m,
-                behind,
-                x,
-                self.format,
-                &mut self.held,
-            );
+            (self.counted, self.known, self.value) = self
+                .directory
+                .first_from_part(behind, x, &mut self.held);
         }
     }
 
@@ -255,7 +225,7 @@ impl<'a> SeqCursor<'a> {
                 self.value = value;
             }
             _ => {
-                (self.held, self.value) = hold_at(self.words, self.parts, self.m, k, self.format);
+                (self.held, self.value) = self.directory.hold_at(k);
                 self.known = self.value;
             }
         }

@@ -1,11 +1,10 @@
-ghost use Rattle.std.specs.Prelude.{◌≡◌, ℕ, ◌≤◌, ◌<◌, ◌-◌, ◌*◌, length};
+ghost use Rattle.std.specs.Prelude.{◌≡◌, ◌≤◌, ◌<◌, ◌-◌, ◌^◌, length};
 ghost use Rattle.std.specs.List.Sorted.{IsStrictlyIncreasing};
-ghost use Rattle.collection_model.specs.FormatNumbers.{entry_words};
 ghost use Rattle.part_cost.specs.Formats.{numbers_of};
-ghost use Rattle.two_level.specs.SequenceFault.{stated_last};
-ghost use Rattle.two_level.specs.SequenceView.{BeginWith, sequence_stated, lasts_stated, place_at_least};
+ghost use Rattle.two_level.specs.SequenceView.{sequence_stated, lasts_stated, place_at_least};
+ghost use Rattle.two_level.specs.SequenceParts.{StatesParts};
 
-use crate::entry::entry_at;
+use crate::entry::{Entry, entry_at};
 use crate::galloping::{Lasts, gallop};
 use crate::laws::directory_states_its_parts;
 use part_cost::Format;
@@ -13,13 +12,18 @@ use std::marker::Brand;
 use std::sync::ledger::{Blank, Ledger};
 use step_count::Steps;
 
-// The parts of the sequence with which the words begin, by the last values that its directory states.
+// The directory of a sequence of m values in so many parts, at the front of lent words that begin with the sequence.
 #[derive(Clone, Copy)]
-struct Directory<'a> {
-    words: &'a [u64],
-    parts: u32,
-    format: Format,
-    ghost room: { entry_words (numbers_of format) * parts ≤ length words.now },
+pub(crate) struct Directory<'a> {
+    pub(crate) words: &'a [u64],
+    pub(crate) parts: u32,
+    pub(crate) m: u32,
+    pub(crate) format: Format,
+    ghost few_words: { length words.now < 2 ^ 57 },
+    ghost stated: { StatesParts (numbers_of format) words.now parts (sequence_stated (numbers_of format) words.now parts) },
+    ghost count: { m ≡ length (sequence_stated (numbers_of format) words.now parts).values },
+    ghost few: { length (sequence_stated (numbers_of format) words.now parts).values < 2 ^ 32 },
+    ghost few_parts: { parts ≤ m },
     ghost rising: { IsStrictlyIncreasing (lasts_stated (numbers_of format) words.now parts) },
 }
 
@@ -32,7 +36,7 @@ impl<'a> Lasts for Directory<'a> {
 
     fn last<L: Ledger>(&self, q: u32, probes: &mut Steps<L>) -> u64 {
         probes.tick();
-        entry_at(self.words, q, self.format).last
+        self.entry(q).last
     }
 
     ghost rising = { λ d. d.rising };
@@ -51,20 +55,44 @@ fn galloped<L: Ledger>(directory: &Directory<'_>, part: u32, x: u64, blank: Blan
     gallop(directory, part, x, &mut probes)
 }
 
-// The first part at or after one whose last value is at least x, else the number of parts.
-pub(crate) fn part_reaching(words: &[u64], parts: u32, part: u32, x: u64, format: Format) -> u32
-    requires begun { (m : ℕ) × BeginWith words.now parts m (sequence_stated (numbers_of format) words.now parts) }
-    requires within { part ≤ parts }
-    ensures after { part ≤ result }
-    ensures within { result ≤ parts }
-    ensures before { part < result → stated_last (numbers_of format) words.now 0 (result - 1) < x }
-    ensures reached { result < parts → x ≤ stated_last (numbers_of format) words.now 0 result }
-{
-    directory_states_its_parts();
-    let directory = Directory {
-        words,
-        parts,
-        format,
-    };
-    galloped::<Brand>(&directory, part, x, Blank::new(1))
+impl<'a> Directory<'a> {
+    ghost use Rattle.two_level.specs.SequenceFault.{stated_last, stated_end, stated_offset};
+    ghost use Rattle.two_level.specs.SequenceView.{BeginWith};
+    ghost use Rattle.two_level.specs.DirectorySequence.{sequence_of};
+
+    // The directory of the sequence with which the words begin.
+    pub(crate) fn at_front(words: &'a [u64], parts: u32, m: u32, format: Format) -> Directory<'a>
+        requires words { length words.now < 2 ^ 57 }
+        requires begun { BeginWith words.now parts m (sequence_stated (numbers_of format) words.now parts) }
+        ensures { sequence_of result ≡ sequence_stated (numbers_of format) words.entry.now parts }
+    {
+        directory_states_its_parts();
+        Directory {
+            words,
+            parts,
+            m,
+            format,
+        }
+    }
+
+    // The entry of a part.
+    pub(crate) fn entry(&self, part: u32) -> Entry
+        requires within { part < self.now.parts }
+        ensures last { result.last ≡ stated_last (numbers_of self.now.format) self.now.words.now 0 part }
+        ensures end { result.end ≡ stated_end (numbers_of self.now.format) self.now.words.now 0 part }
+        ensures offset { result.offset ≡ stated_offset (numbers_of self.now.format) self.now.words.now 0 part }
+    {
+        entry_at(self.words, part, self.format)
+    }
+
+    // The first part at or after one whose last value is at least x, else the number of parts.
+    pub(crate) fn part_reaching(&self, part: u32, x: u64) -> u32
+        requires within { part ≤ self.now.parts }
+        ensures after { part ≤ result }
+        ensures within { result ≤ self.now.parts }
+        ensures before { part < result → stated_last (numbers_of self.now.format) self.now.words.now 0 (result - 1) < x }
+        ensures reached { result < self.now.parts → x ≤ stated_last (numbers_of self.now.format) self.now.words.now 0 result }
+    {
+        galloped::<Brand>(self, part, x, Blank::new(1))
+    }
 }

@@ -1,21 +1,24 @@
-ghost use Rattle.std.specs.Prelude.{◌≡◌, ℕ, ◌≤◌, ◌<◌, ◌+◌, ◌-◌, ◌^◌, IsTrue, ◌↔◌, List, length, slice_index, take};
+ghost use Rattle.std.specs.Prelude.{◌≡◌, ℕ, ◌≤◌, ◌<◌, ◌+◌, ◌-◌, ◌^◌, IsTrue, ◌↔◌, List, length, slice_index, slice_range, take};
 ghost use Rattle.collection_model.specs.NextBelow.{AreNextBelow};
 ghost use Rattle.std.specs.List.Sorted.{IsStrictlyIncreasing};
+ghost use Rattle.part_cost.specs.Payload.{widest_low};
 ghost use Rattle.part_cost.specs.Span.{past, relative_values};
 ghost use Rattle.part_cost.specs.Stored.{IsFirstAtLeast};
 ghost use Rattle.part_codec.specs.PartView.{Holds, universe_of, count_of};
 ghost use Rattle.part_codec.specs.Sought.{IsSought};
 ghost use Rattle.part_cost.specs.Formats.{numbers_of};
 ghost use Rattle.two_level.specs.SequenceFault.{end_before};
-ghost use Rattle.two_level.specs.SequenceView.{BeginWith, sequence_stated, place_at_least};
+ghost use Rattle.two_level.specs.SequenceView.{place_at_least};
 ghost use Rattle.two_level.specs.SequenceParts.{HoldsValues, IsHeldPart, LiesIn, StandsBehind};
+ghost use Rattle.two_level.specs.DirectorySequence.{sequence_of};
 
-use crate::directory::part_reaching;
-use crate::finding::{part_of_place, stated_part};
-use crate::laws::directory_states_its_parts;
+use crate::directory::Directory;
 use crate::part::Part;
 use part_codec::{PartCodec, PartView, Sought};
-use part_cost::{Format, formats_have_room};
+use part_cost::formats_have_room;
+
+// How many values are read at a time.
+pub(crate) const BLOCK: usize = 64;
 
 // A part of a sequence that is held to be read: which part it is, what is said of it, one past the value before it, and the
 // view of its relative values.
@@ -37,6 +40,7 @@ fn number_in_part(view: &PartView, k: u64) -> u64
 }
 
 // Number k + 1 of a part that holds some numbers, by number k.
+#[inline(always)]
 fn number_after(view: &PartView, k: u64, number: u64) -> u64
     requires held { (ys : List ℕ) × Holds view.now ys }
     requires within { k + 1 < count_of view.now }
@@ -112,6 +116,7 @@ impl<'a> HeldPart<'a> {
     }
 
     // The value behind a place in the part, by the value at that place.
+    #[inline(always)]
     pub(crate) fn value_after(&self, place: u32, value: u64) -> u64
         requires values { (xs : List ℕ) × HoldsValues self.now xs × (value ≡ slice_index xs place) }
         requires after { self.now.part.from ≤ place }
@@ -136,6 +141,22 @@ impl<'a> HeldPart<'a> {
         let count = numbers_below(&self.view, k, number, x.saturating_sub(self.past), to);
         raise_first(to, count, self.past);
         count
+    }
+
+    // Reads the next values of the part, as many as have room, by the value at their place, and gives the last of them.
+    pub(crate) fn read_block(&self, place: u32, value: u64, block: &mut [u64]) -> u64
+        requires values { (xs : List ℕ) × HoldsValues self.now xs × (value ≡ slice_index xs place) }
+        requires after { self.now.part.from ≤ place }
+        requires some { 0 < length block.old }
+        requires within { place + length block.old ≤ self.now.part.to }
+        ensures values { (xs : List ℕ) → HoldsValues self.now xs → block.new ≡ slice_range xs place (place + length block.old) }
+        ensures small { (k : ℕ) → k < length block.new → slice_index block.new k < 2 ^ widest_low }
+        ensures last { (xs : List ℕ) → HoldsValues self.now xs → result + 1 ≡ past xs (place + length block.old) }
+        ensures fits { result < 2 ^ widest_low }
+        ensures room { length block.new ≡ length block.old }
+    {
+        self.values_below(place, value, u64::MAX, block);
+        block[block.len() - 1]
     }
 
     // The first place at or after one in the part whose value is at least x, by the value at that place, which is no more than x.
@@ -190,137 +211,94 @@ impl<'a> HeldPart<'a> {
     }
 }
 
-// Holds a part of the sequence with which the words begin.
-#[inline(always)]
-pub(crate) fn hold<'a>(words: &'a [u64], parts: u32, index: u32, format: Format) -> HeldPart<'a>
-    requires words { length words.now < 2 ^ 57 }
-    requires begun { (m : ℕ) × BeginWith words.now parts m (sequence_stated (numbers_of format) words.now parts) }
-    requires few { length (sequence_stated (numbers_of format) words.now parts).values < 2 ^ 32 }
-    requires within { index < parts }
-    ensures index { result.index ≡ index }
-    ensures held { IsHeldPart (numbers_of format) words.entry.now parts result }
-{
-    directory_states_its_parts();
-    formats_have_room();
-    let (part, placed) = stated_part(words, parts, index, format);
-    HeldPart {
-        index,
-        part,
-        past: part.last + 1 - part.u,
-        view: PartView::at(placed),
+impl<'a> Directory<'a> {
+    // Holds a part of the sequence.
+    #[inline(always)]
+    pub(crate) fn hold(&self, index: u32) -> HeldPart<'a>
+        requires within { index < self.now.parts }
+        ensures index { result.index ≡ index }
+        ensures held { IsHeldPart (numbers_of self.now.format) self.now.words.now self.now.parts result }
+    {
+        formats_have_room();
+        let (part, placed) = self.stated_part(index);
+        HeldPart {
+            index,
+            part,
+            past: part.last + 1 - part.u,
+            view: PartView::at(placed),
+        }
     }
-}
 
-// Holds a part of the sequence with which the words begin, and gives its first value; behind the last part it holds none.
-#[inline(always)]
-pub(crate) fn hold_if_any<'a>(
-    words: &'a [u64],
-    parts: u32,
-    part: u32,
-    format: Format,
-) -> (Option<HeldPart<'a>>, u64)
-    requires words { length words.now < 2 ^ 57 }
-    requires begun { (m : ℕ) × BeginWith words.now parts m (sequence_stated (numbers_of format) words.now parts) }
-    requires few { length (sequence_stated (numbers_of format) words.now parts).values < 2 ^ 32 }
-    requires within { part ≤ parts }
-    ensures lies { LiesIn (numbers_of format) words.entry.now parts (end_before (numbers_of format) words.entry.now 0 part) result.0 result.1 }
-{
-    directory_states_its_parts();
-    if part < parts {
-        let held = hold(words, parts, part, format);
-        let value = held.first();
-        (Some(held), value)
-    } else {
-        (None, 0)
+    // Holds a part of the sequence, and gives its first value; behind the last part it holds none.
+    #[inline(always)]
+    pub(crate) fn hold_if_any(&self, part: u32) -> (Option<HeldPart<'a>>, u64)
+        requires within { part ≤ self.now.parts }
+        ensures lies { LiesIn (numbers_of self.now.format) self.now.words.now self.now.parts (end_before (numbers_of self.now.format) self.now.words.now 0 part) result.0 result.1 }
+    {
+        if part < self.parts {
+            let held = self.hold(part);
+            let value = held.first();
+            (Some(held), value)
+        } else {
+            (None, 0)
+        }
     }
-}
 
-// Holds the part of a place of the sequence with which the words begin.
-pub(crate) fn hold_place<'a>(
-    words: &'a [u64],
-    parts: u32,
-    place: u32,
-    format: Format,
-) -> HeldPart<'a>
-    requires words { length words.now < 2 ^ 57 }
-    requires begun { (m : ℕ) × BeginWith words.now parts m (sequence_stated (numbers_of format) words.now parts) }
-    requires few { length (sequence_stated (numbers_of format) words.now parts).values < 2 ^ 32 }
-    requires within { place < length (sequence_stated (numbers_of format) words.now parts).values }
-    ensures held { IsHeldPart (numbers_of format) words.entry.now parts result }
-    ensures after { result.part.from ≤ place }
-    ensures before { place < result.part.to }
-{
-    directory_states_its_parts();
-    hold(
-        words,
-        parts,
-        part_of_place(words, parts, place, format),
-        format,
-    )
-}
-
-// Holds the part of a place of the sequence with which the words begin, and gives the value there; at the end it holds none.
-pub(crate) fn hold_at<'a>(
-    words: &'a [u64],
-    parts: u32,
-    m: u32,
-    place: u32,
-    format: Format,
-) -> (Option<HeldPart<'a>>, u64)
-    requires words { length words.now < 2 ^ 57 }
-    requires begun { BeginWith words.now parts m (sequence_stated (numbers_of format) words.now parts) }
-    requires within { place ≤ length (sequence_stated (numbers_of format) words.now parts).values }
-    ensures lies { LiesIn (numbers_of format) words.entry.now parts place result.0 result.1 }
-{
-    directory_states_its_parts();
-    if place < m {
-        let held = hold_place(words, parts, place, format);
-        let value = held.value(place);
-        (Some(held), value)
-    } else {
-        (None, 0)
+    // Holds the part of a place of the sequence.
+    pub(crate) fn hold_place(&self, place: u32) -> HeldPart<'a>
+        requires within { place < length (sequence_of self.now).values }
+        ensures held { IsHeldPart (numbers_of self.now.format) self.now.words.now self.now.parts result }
+        ensures after { result.part.from ≤ place }
+        ensures before { place < result.part.to }
+    {
+        self.hold(self.part_of_place(place))
     }
-}
 
-// The first value from the start of a part on that is at least x: a place at or before its own, and the values at both places, with
-// its part, which is put where it is to be held; else the end.
-#[inline(never)]
-pub(crate) fn first_from_part<'a>(
-    words: &'a [u64],
-    parts: u32,
-    m: u32,
-    part: u32,
-    x: u64,
-    format: Format,
-    into: &mut Option<HeldPart<'a>>,
-) -> (u32, u64, u64)
-    requires words { length words.now < 2 ^ 57 }
-    requires begun { BeginWith words.now parts m (sequence_stated (numbers_of format) words.now parts) }
-    requires within { part ≤ parts }
-    ensures lies { LiesIn (numbers_of format) words.entry.now parts result.0 into.new result.1 }
-    ensures behind { StandsBehind into.new (sequence_stated (numbers_of format) words.entry.now parts).values result.0 result.2 }
-    ensures first { let xs = (sequence_stated (numbers_of format) words.entry.now parts).values in place_at_least xs result.0 result.2 ≡ place_at_least xs (end_before (numbers_of format) words.entry.now 0 part) x }
-{
-    directory_states_its_parts();
-    let reaching = part_reaching(words, parts, part, x, format);
-    if reaching < parts {
-        let held = hold(words, parts, reaching, format);
-        let sought = held.seek_first(x);
-        *into = Some(held);
-        (sought.place as u32, sought.there, sought.number)
-    } else {
-        *into = None;
-        (m, 0, 0)
+    // Holds the part of a place of the sequence, and gives the value there; at the end it holds none.
+    pub(crate) fn hold_at(&self, place: u32) -> (Option<HeldPart<'a>>, u64)
+        requires within { place ≤ length (sequence_of self.now).values }
+        ensures lies { LiesIn (numbers_of self.now.format) self.now.words.now self.now.parts place result.0 result.1 }
+    {
+        if place < self.m {
+            let held = self.hold_place(place);
+            let value = held.value(place);
+            (Some(held), value)
+        } else {
+            (None, 0)
+        }
     }
-}
 
-// A value of the sequence with which the words begin.
-pub(crate) fn value_at(words: &[u64], parts: u32, place: u32, format: Format) -> u64
-    requires words { length words.now < 2 ^ 57 }
-    requires begun { (m : ℕ) × BeginWith words.now parts m (sequence_stated (numbers_of format) words.now parts) }
-    requires few { length (sequence_stated (numbers_of format) words.now parts).values < 2 ^ 32 }
-    requires within { place < length (sequence_stated (numbers_of format) words.now parts).values }
-    ensures { result ≡ slice_index (sequence_stated (numbers_of format) words.now parts).values place }
-{
-    hold_place(words, parts, place, format).value(place)
+    // The first value from the start of a part on that is at least x: a place at or before its own, and the values at both places,
+    // with its part, which is put where it is to be held; else the end.
+    #[inline(never)]
+    pub(crate) fn first_from_part(
+        &self,
+        part: u32,
+        x: u64,
+        into: &mut Option<HeldPart<'a>>,
+    ) -> (u32, u64, u64)
+        requires within { part ≤ self.now.parts }
+        ensures lies { LiesIn (numbers_of self.now.format) self.now.words.now self.now.parts result.0 into.new result.1 }
+        ensures behind { StandsBehind into.new (sequence_of self.now).values result.0 result.2 }
+        ensures first { let xs = (sequence_of self.now).values in place_at_least xs result.0 result.2 ≡ place_at_least xs (end_before (numbers_of self.now.format) self.now.words.now 0 part) x }
+    {
+        let reaching = self.part_reaching(part, x);
+        if reaching < self.parts {
+            let held = self.hold(reaching);
+            let sought = held.seek_first(x);
+            *into = Some(held);
+            (sought.place as u32, sought.there, sought.number)
+        } else {
+            *into = None;
+            (self.m, 0, 0)
+        }
+    }
+
+    // The value at a place of the sequence.
+    pub(crate) fn value_at(&self, place: u32) -> u64
+        requires within { place < length (sequence_of self.now).values }
+        ensures { result ≡ slice_index (sequence_of self.now).values place }
+    {
+        self.hold_place(place).value(place)
+    }
 }

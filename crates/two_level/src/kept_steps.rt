@@ -4,16 +4,14 @@ ghost use Rattle.collection_model.specs.Sequences.{steps_from};
 ghost use Rattle.part_cost.specs.Formats.{numbers_of};
 ghost use Rattle.part_cost.specs.Payload.{widest_low};
 ghost use Rattle.part_cost.specs.Span.{past};
-ghost use Rattle.two_level.specs.SequenceView.{BeginWith, sequence_stated};
 ghost use Rattle.two_level.specs.SequenceParts.{HoldsValues};
 ghost use Rattle.two_level.specs.LongSteps.{count_reaching};
+ghost use Rattle.two_level.specs.DirectorySequence.{sequence_of};
 
-use crate::finding::stated_part;
-use crate::held::{HeldPart, hold};
-use crate::laws::directory_states_its_parts;
-use crate::long_steps::{BLOCK, read_block};
+use crate::directory::Directory;
+use crate::held::{BLOCK, HeldPart};
 use crate::part::Part;
-use part_cost::{Format, formats_have_room};
+use part_cost::formats_have_room;
 
 // How many steps are kept at most.
 const MOST_KEPT: usize = 64;
@@ -74,7 +72,7 @@ fn keep_block(
     ensures fits { result < 2 ^ widest_low }
     ensures room { length block.new ≡ length block.old }
 {
-    let last = read_block(held, place, value, block);
+    let last = held.read_block(place, value, block);
     keep_steps(block, before, kept);
     last
 }
@@ -112,41 +110,36 @@ fn has_long_steps(part: Part, universe: u64, m: u32) -> bool
     2 * universe as u128 * count <= part.u as u128 * m as u128
 }
 
-// Keeps the longest steps of the parts whose steps are long in the mean. The other parts are not read.
-fn keep_long_parts(words: &[u64], parts: u32, m: u32, kept: &mut [u64], format: Format)
-    requires words { length words.now < 2 ^ 57 }
-    requires begun { BeginWith words.now parts m (sequence_stated (numbers_of format) words.now parts) }
-    requires few { length (sequence_stated (numbers_of format) words.now parts).values < 2 ^ 32 }
-    requires some { 0 < parts }
-    requires any { 0 < length kept.old }
-    ensures same_kept { length kept.new ≡ length kept.old }
-    ensures kept { (least : ℕ) → count_reaching least kept.new ≤ count_reaching least kept.old + count_reaching least (steps_from 0 (sequence_stated (numbers_of format) words.now parts).values) }
-{
-    directory_states_its_parts();
-    formats_have_room();
-    let universe = stated_part(words, parts, parts - 1, format).0.last + 1;
-    'parts: for index in 0..parts {
-        let (part, _) = stated_part(words, parts, index, format);
-        if has_long_steps(part, universe, m) {
-            keep_part(&hold(words, parts, index, format), kept);
+impl<'a> Directory<'a> {
+    // Keeps the longest steps of the parts whose steps are long in the mean. The other parts are not read.
+    fn keep_long_parts(&self, kept: &mut [u64])
+        requires some { 0 < self.now.parts }
+        requires any { 0 < length kept.old }
+        ensures same_kept { length kept.new ≡ length kept.old }
+        ensures kept { (least : ℕ) → count_reaching least kept.new ≤ count_reaching least kept.old + count_reaching least (steps_from 0 (sequence_of self.now).values) }
+    {
+        formats_have_room();
+        let universe = self.entry(self.parts - 1).last + 1;
+        'parts: for index in 0..self.parts {
+            let (part, _) = self.stated_part(index);
+            if has_long_steps(part, universe, self.m) {
+                keep_part(&self.hold(index), kept);
+            }
         }
     }
-}
 
-// A step that at least k of the steps reach of the sequence with which the words begin, 0 where none is told.
-pub(crate) fn common_step_of(words: &[u64], parts: u32, m: u32, k: u32, format: Format) -> u64
-    requires words { length words.now < 2 ^ 57 }
-    requires begun { BeginWith words.now parts m (sequence_stated (numbers_of format) words.now parts) }
-    requires few { length (sequence_stated (numbers_of format) words.now parts).values < 2 ^ 32 }
-    requires some { 1 ≤ k }
-    ensures { result ≢ 0 → k ≤ count_reaching result (steps_from 0 (sequence_stated (numbers_of format) words.now parts).values) }
-{
-    let count = k as usize;
-    if parts == 0 || MOST_KEPT < count {
-        return 0;
+    // A step that at least k of the steps of the sequence reach, 0 where none is told.
+    pub(crate) fn common_step_of(&self, k: u32) -> u64
+        requires some { 1 ≤ k }
+        ensures { result ≢ 0 → k ≤ count_reaching result (steps_from 0 (sequence_of self.now).values) }
+    {
+        let count = k as usize;
+        if self.parts == 0 || MOST_KEPT < count {
+            return 0;
+        }
+        let mut room = [0; MOST_KEPT];
+        let kept = &mut room[..count];
+        self.keep_long_parts(kept);
+        kept[place_of_least(kept)]
     }
-    let mut room = [0; MOST_KEPT];
-    let kept = &mut room[..count];
-    keep_long_parts(words, parts, m, kept, format);
-    kept[place_of_least(kept)]
 }

@@ -6,34 +6,14 @@ ghost use Rattle.part_cost.specs.Formats.{numbers_of};
 ghost use Rattle.part_cost.specs.Payload.{widest_low};
 ghost use Rattle.part_cost.specs.Span.{past};
 ghost use Rattle.two_level.specs.SequenceFault.{stated_end, end_before, stated_universe};
-ghost use Rattle.two_level.specs.SequenceView.{BeginWith, sequence_stated, place_at_least};
+ghost use Rattle.two_level.specs.SequenceView.{place_at_least};
 ghost use Rattle.two_level.specs.SequenceParts.{HoldsValues};
 ghost use Rattle.two_level.specs.LongSteps.{IsFirstStep};
+ghost use Rattle.two_level.specs.DirectorySequence.{sequence_of};
 
-use crate::finding::{part_of_place, stated_part};
-use crate::held::{HeldPart, hold};
-use crate::laws::directory_states_its_parts;
+use crate::directory::Directory;
+use crate::held::{BLOCK, HeldPart};
 use crate::part::Part;
-use part_cost::Format;
-
-// How many values are read at a time.
-pub(crate) const BLOCK: usize = 64;
-
-// Reads the next values of a part that is held, as many as have room, by the value at their place, and gives the last of them.
-pub(crate) fn read_block(held: &HeldPart, place: u32, value: u64, block: &mut [u64]) -> u64
-    requires values { (xs : List ℕ) × HoldsValues held.now xs × (value ≡ slice_index xs place) }
-    requires after { held.now.part.from ≤ place }
-    requires some { 0 < length block.old }
-    requires within { place + length block.old ≤ held.now.part.to }
-    ensures values { (xs : List ℕ) → HoldsValues held.now xs → block.new ≡ slice_range xs place (place + length block.old) }
-    ensures small { (k : ℕ) → k < length block.new → slice_index block.new k < 2 ^ widest_low }
-    ensures last { (xs : List ℕ) → HoldsValues held.now xs → result + 1 ≡ past xs (place + length block.old) }
-    ensures fits { result < 2 ^ widest_low }
-    ensures room { length block.new ≡ length block.old }
-{
-    held.values_below(place, value, u64::MAX, block);
-    block[block.len() - 1]
-}
 
 // Which of some values is the first whose step is at least so long, or how many they are; the first steps from one past a value
 // before them.
@@ -72,7 +52,7 @@ fn first_in_block(
     ensures fits { result.1 < 2 ^ widest_low }
     ensures room { length block.new ≡ length block.old }
 {
-    let last = read_block(held, place, value, block);
+    let last = held.read_block(place, value, block);
     (first_long(block, before, least), last)
 }
 
@@ -103,68 +83,48 @@ fn first_in_values(held: &HeldPart, from: u32, least: u64) -> u32
     to
 }
 
-// The first place from one on of a part of the sequence with which the words begin whose step is at least so long, or the end of
-// the part. A part whose numbers leave no room for such a step is not read, and the one step of one number is its universe.
-fn first_in_part(
-    words: &[u64],
-    parts: u32,
-    index: u32,
-    part: Part,
-    from: u32,
-    least: u64,
-    format: Format,
-) -> u32
-    requires words { length words.now < 2 ^ 57 }
-    requires begun { (m : ℕ) × BeginWith words.now parts m (sequence_stated (numbers_of format) words.now parts) }
-    requires few { length (sequence_stated (numbers_of format) words.now parts).values < 2 ^ 32 }
-    requires within { index < parts }
-    requires starts { part.from ≡ end_before (numbers_of format) words.now 0 index }
-    requires ends { part.to ≡ stated_end (numbers_of format) words.now 0 index }
-    requires universe { part.u ≡ stated_universe (numbers_of format) words.now 0 index }
-    requires after { part.from ≤ from }
-    requires some { from < part.to }
-    ensures { IsFirstStep (sequence_stated (numbers_of format) words.now parts).values from part.to least result }
-{
-    directory_states_its_parts();
-    let count = (part.to - part.from) as u64;
-    if part.u - count + 1 < least {
-        part.to
-    } else if count == 1 {
-        from
-    } else {
-        first_in_values(&hold(words, parts, index, format), from, least)
-    }
-}
-
-// The first place from one on of the sequence with which the words begin whose step is at least so long, or the end.
-pub(crate) fn first_step_from(
-    words: &[u64],
-    parts: u32,
-    m: u32,
-    from: u32,
-    least: u64,
-    format: Format,
-) -> u32
-    requires words { length words.now < 2 ^ 57 }
-    requires begun { BeginWith words.now parts m (sequence_stated (numbers_of format) words.now parts) }
-    requires within { from ≤ length (sequence_stated (numbers_of format) words.now parts).values }
-    requires count { m ≡ length (sequence_stated (numbers_of format) words.now parts).values }
-    ensures { result ≡ place_at_least (steps_from 0 (sequence_stated (numbers_of format) words.now parts).values) from least }
-{
-    directory_states_its_parts();
-    if least <= 1 || from == m {
-        return from;
-    }
-    let mut index = part_of_place(words, parts, from, format);
-    let mut place = from;
-    'parts: while place < m {
-        let (part, _) = stated_part(words, parts, index, format);
-        let found = first_in_part(words, parts, index, part, place, least, format);
-        if found < part.to {
-            return found;
+impl<'a> Directory<'a> {
+    // The first place from one on of a part of the sequence whose step is at least so long, or the end of the part. A part whose
+    // numbers leave no room for such a step is not read, and the one step of one number is its universe.
+    fn first_in_part(&self, index: u32, part: Part, from: u32, least: u64) -> u32
+        requires within { index < self.now.parts }
+        requires starts { part.from ≡ end_before (numbers_of self.now.format) self.now.words.now 0 index }
+        requires ends { part.to ≡ stated_end (numbers_of self.now.format) self.now.words.now 0 index }
+        requires universe { part.u ≡ stated_universe (numbers_of self.now.format) self.now.words.now 0 index }
+        requires after { part.from ≤ from }
+        requires some { from < part.to }
+        ensures { IsFirstStep (sequence_of self.now).values from part.to least result }
+    {
+        let count = (part.to - part.from) as u64;
+        if part.u - count + 1 < least {
+            part.to
+        } else if count == 1 {
+            from
+        } else {
+            first_in_values(&self.hold(index), from, least)
         }
-        place = part.to;
-        index += 1;
     }
-    m
+
+    // The first place from one on of the sequence whose step is at least so long, or the end.
+    pub(crate) fn first_step_from(&self, from: u32, least: u64) -> u32
+        requires within { from ≤ length (sequence_of self.now).values }
+        ensures { result ≡ place_at_least (steps_from 0 (sequence_of self.now).values) from least }
+    {
+        let m = self.m;
+        if least <= 1 || from == m {
+            return from;
+        }
+        let mut index = self.part_of_place(from);
+        let mut place = from;
+        'parts: while place < m {
+            let (part, _) = self.stated_part(index);
+            let found = self.first_in_part(index, part, place, least);
+            if found < part.to {
+                return found;
+            }
+            place = part.to;
+            index += 1;
+        }
+        m
+    }
 }

@@ -6,18 +6,13 @@ ghost use Rattle.part_cost.specs.Formats.{numbers_of};
 ghost use Rattle.part_cost.specs.Payload.{widest_low};
 ghost use Rattle.part_cost.specs.Span.{past};
 ghost use Rattle.two_level.specs.SequenceFault.{stated_end, end_before, stated_universe};
-ghost use Rattle.two_level.specs.SequenceView.{BeginWith, sequence_stated};
 ghost use Rattle.two_level.specs.SequenceParts.{HoldsValues};
 ghost use Rattle.two_level.specs.Steps.{greatest_step};
+ghost use Rattle.two_level.specs.DirectorySequence.{sequence_of};
 
-use crate::finding::{part_of_place, stated_part};
-use crate::held::{HeldPart, hold};
-use crate::laws::directory_states_its_parts;
+use crate::directory::Directory;
+use crate::held::{BLOCK, HeldPart};
 use crate::part::Part;
-use part_cost::Format;
-
-// How many values are read at a time.
-const BLOCK: usize = 64;
 
 // The greatest step of some values, the first from one past a value before them.
 fn step_of(values: &[u64], first: u64) -> u64
@@ -52,8 +47,8 @@ fn step_of_block(
     ensures small { result.1 < 2 ^ widest_low }
     ensures room { length block.new ≡ length block.old }
 {
-    held.values_below(place, value, u64::MAX, block);
-    (step_of(block, before), block[block.len() - 1])
+    let last = held.read_block(place, value, block);
+    (step_of(block, before), last)
 }
 
 // The greatest step from one place up to another of a part that is held, value by value.
@@ -82,59 +77,45 @@ fn step_of_values(held: &HeldPart, from: u32, to: u32) -> u64
     most
 }
 
-// The greatest step from one place up to another within a part of the sequence with which the words begin. Where all places of
-// the part are taken each step is 1, and one number alone lies as far as the universe: such a part is not read.
-fn step_in_part(
-    words: &[u64],
-    parts: u32,
-    index: u32,
-    part: Part,
-    from: u32,
-    to: u32,
-    format: Format,
-) -> u64
-    requires words { length words.now < 2 ^ 57 }
-    requires begun { (m : ℕ) × BeginWith words.now parts m (sequence_stated (numbers_of format) words.now parts) }
-    requires few { length (sequence_stated (numbers_of format) words.now parts).values < 2 ^ 32 }
-    requires within { index < parts }
-    requires starts { part.from ≡ end_before (numbers_of format) words.now 0 index }
-    requires ends { part.to ≡ stated_end (numbers_of format) words.now 0 index }
-    requires universe { part.u ≡ stated_universe (numbers_of format) words.now 0 index }
-    requires after { part.from ≤ from }
-    requires some { from < to }
-    requires before { to ≤ part.to }
-    ensures { result ≡ greatest_step (sequence_stated (numbers_of format) words.now parts).values from to }
-{
-    directory_states_its_parts();
-    let count = (part.to - part.from) as u64;
-    if part.u == count {
-        1
-    } else if count == 1 {
-        part.u
-    } else {
-        step_of_values(&hold(words, parts, index, format), from, to)
+impl<'a> Directory<'a> {
+    // The greatest step from one place up to another within a part of the sequence. Where all places of the part are taken each
+    // step is 1, and one number alone lies as far as the universe: such a part is not read.
+    fn step_in_part(&self, index: u32, part: Part, from: u32, to: u32) -> u64
+        requires within { index < self.now.parts }
+        requires starts { part.from ≡ end_before (numbers_of self.now.format) self.now.words.now 0 index }
+        requires ends { part.to ≡ stated_end (numbers_of self.now.format) self.now.words.now 0 index }
+        requires universe { part.u ≡ stated_universe (numbers_of self.now.format) self.now.words.now 0 index }
+        requires after { part.from ≤ from }
+        requires some { from < to }
+        requires before { to ≤ part.to }
+        ensures { result ≡ greatest_step (sequence_of self.now).values from to }
+    {
+        let count = (part.to - part.from) as u64;
+        if part.u == count {
+            1
+        } else if count == 1 {
+            part.u
+        } else {
+            step_of_values(&self.hold(index), from, to)
+        }
     }
-}
 
-// The greatest step from one place up to another of the sequence with which the words begin.
-pub(crate) fn step_between(words: &[u64], parts: u32, from: u32, to: u32, format: Format) -> u64
-    requires words { length words.now < 2 ^ 57 }
-    requires begun { (m : ℕ) × BeginWith words.now parts m (sequence_stated (numbers_of format) words.now parts) }
-    requires few { length (sequence_stated (numbers_of format) words.now parts).values < 2 ^ 32 }
-    requires some { from < to }
-    requires within { to ≤ length (sequence_stated (numbers_of format) words.now parts).values }
-    ensures { result ≡ greatest_step (sequence_stated (numbers_of format) words.now parts).values from to }
-{
-    directory_states_its_parts();
-    let mut index = part_of_place(words, parts, from, format);
-    let mut place = from;
-    let mut most = 0;
-    'parts: while place < to {
-        let (part, _) = stated_part(words, parts, index, format);
-        let end = part.to.min(to);
-        most = step_in_part(words, parts, index, part, place, end, format).max(most);
-        place = end;
-        index += 1;
+    // The greatest step from one place up to another of the sequence.
+    pub(crate) fn step_between(&self, from: u32, to: u32) -> u64
+        requires some { from < to }
+        requires within { to ≤ length (sequence_of self.now).values }
+        ensures { result ≡ greatest_step (sequence_of self.now).values from to }
+    {
+        let mut index = self.part_of_place(from);
+        let mut place = from;
+        let mut most = 0;
+        'parts: while place < to {
+            let (part, _) = self.stated_part(index);
+            let end = part.to.min(to);
+            most = self.step_in_part(index, part, place, end).max(most);
+            place = end;
+            index += 1;
+        }
+        most
     }
-    most
 }

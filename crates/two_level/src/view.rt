@@ -13,26 +13,19 @@ ghost use Rattle.two_level.specs.LongSteps.{count_reaching};
 
 use crate::checking::{SeqFault, check_words};
 use crate::cursor::SeqCursor;
-use crate::finding::{bits_taken, last_of_part, part_at};
-use crate::held::value_at;
-use crate::kept_steps::common_step_of;
+use crate::directory::Directory;
 use crate::laws::{
     checks_accept_a_sequence, checks_refuse_no_sequence, directory_states_its_parts,
     words_state_their_sequence,
 };
-use crate::long_steps::first_step_from;
 use crate::part::Part;
-use crate::stepping::step_between;
 use part_cost::Format;
 use std::marker::Model;
 
 /// A sequence of m values in parts, at the front of lent words.
 #[derive(Drop)]
 pub struct SeqView<'a> {
-    words: &'a [u64],
-    parts: u32,
-    m: u32,
-    format: Format,
+    directory: Directory<'a>,
 }
 
 /// A sequence whose words were checked, and how many they are.
@@ -51,15 +44,12 @@ pub struct CheckedSteps<'a> {
 }
 
 impl<'a> Model for SeqView<'a> {
-    ghost use Rattle.std.specs.Prelude.{◌<◌, ◌^◌, length};
-    ghost use Rattle.part_cost.specs.Formats.{numbers_of};
-    ghost use Rattle.two_level.specs.SequenceView.{SequenceView, BeginWith, sequence_stated};
+    ghost use Rattle.two_level.specs.SequenceView.{SequenceView};
+    ghost use Rattle.two_level.specs.DirectorySequence.{sequence_of};
 
     ghost Value = { SequenceView };
 
-    ghost view = { λ v. sequence_stated (numbers_of v.format) v.words.now v.parts };
-
-    ghost invariant = { λ v. BeginWith v.words.now v.parts v.m (sequence_stated (numbers_of v.format) v.words.now v.parts) × (length v.words.now < 2 ^ 57) };
+    ghost view = { λ v. sequence_of v.directory };
 }
 
 impl<'a> SeqView<'a> {
@@ -164,10 +154,7 @@ impl<'a> SeqView<'a> {
         let found = check_words(words, parts, m, bound, format, with_steps)?;
         Ok(CheckedSteps {
             view: SeqView {
-                words,
-                parts,
-                m,
-                format,
+                directory: Directory::at_front(words, parts, m, format),
             },
             used: found.used,
             greatest: found.greatest,
@@ -184,10 +171,7 @@ impl<'a> SeqView<'a> {
     {
         words_state_their_sequence();
         SeqView {
-            words,
-            parts,
-            m,
-            format,
+            directory: Directory::at_front(words, parts, m, format),
         }
     }
 
@@ -195,23 +179,21 @@ impl<'a> SeqView<'a> {
     pub fn used(&self) -> u64
         ensures { result ≡ words_used self.now }
     {
-        directory_states_its_parts();
-        bits_taken(self.words, self.parts, self.format).div_ceil(64)
+        self.directory.bits_taken().div_ceil(64)
     }
 
     /// What the parts cost, in bits. It looks at the last entry alone.
     pub fn cost(&self) -> u64
         ensures { result ≡ partition_cost (cost_of_part (part_charge self.now.format) self.now.values) self.now.ends }
     {
-        directory_states_its_parts();
-        bits_taken(self.words, self.parts, self.format)
+        self.directory.bits_taken()
     }
 
     /// How many values there are.
     pub fn len(&self) -> u32
         ensures { result ≡ length self.now.values }
     {
-        self.m
+        self.directory.m
     }
 
     /// Value k.
@@ -219,14 +201,14 @@ impl<'a> SeqView<'a> {
         requires within { k < length self.now.values }
         ensures { result ≡ slice_index self.now.values k }
     {
-        value_at(self.words, self.parts, k, self.format)
+        self.directory.value_at(k)
     }
 
     /// How many parts there are.
     pub fn parts(&self) -> u32
         ensures { result ≡ length self.now.ends }
     {
-        self.parts
+        self.directory.parts
     }
 
     /// Part i.
@@ -234,7 +216,7 @@ impl<'a> SeqView<'a> {
         requires within { i < length self.now.ends }
         ensures { IsPartOf self.now i result }
     {
-        part_at(self.words, self.parts, i, self.format)
+        self.directory.part_at(i)
     }
 
     /// The last value of part i. It looks at one entry.
@@ -242,7 +224,7 @@ impl<'a> SeqView<'a> {
         requires within { i < length self.now.ends }
         ensures { result + 1 ≡ past self.now.values (slice_index self.now.ends i) }
     {
-        last_of_part(self.words, self.parts, i, self.format)
+        self.directory.last_of_part(i)
     }
 
     /// How far a value from one place up to another lies past the value before it, at most; the first value counts from -1. It
@@ -253,7 +235,7 @@ impl<'a> SeqView<'a> {
         ensures { result ≡ greatest_step self.now.values from to }
     {
         if from < to {
-            step_between(self.words, self.parts, from, to, self.format)
+            self.directory.step_between(from, to)
         } else {
             0
         }
@@ -264,7 +246,7 @@ impl<'a> SeqView<'a> {
         ensures sequence { result.sequence ≡ self.now }
         ensures start { result.place ≡ 0 }
     {
-        SeqCursor::at_start(self.words, self.parts, self.m, self.format)
+        SeqCursor::at_start(self.directory)
     }
 
     /// A cursor at place k, which may be the end. No other part is looked at.
@@ -273,7 +255,7 @@ impl<'a> SeqView<'a> {
         ensures sequence { result.sequence ≡ self.now }
         ensures place { result.place ≡ k }
     {
-        SeqCursor::at_place(self.words, self.parts, self.m, k, self.format)
+        SeqCursor::at_place(self.directory, k)
     }
 
     /// The first place at or behind one whose value lies at least so far past the value before it, else the number of values; the
@@ -282,7 +264,7 @@ impl<'a> SeqView<'a> {
         requires within { from ≤ length self.now.values }
         ensures { result ≡ place_at_least (steps_from 0 self.now.values) from least }
     {
-        first_step_from(self.words, self.parts, self.m, from, least, self.format)
+        self.directory.first_step_from(from, least)
     }
 
     /// How far at least k of the values lie past the values before them, or farther: 0 where none is told. Parts whose steps are
@@ -291,6 +273,6 @@ impl<'a> SeqView<'a> {
         requires some { 1 ≤ k }
         ensures { result ≢ 0 → k ≤ count_reaching result (steps_from 0 self.now.values) }
     {
-        common_step_of(self.words, self.parts, self.m, k, self.format)
+        self.directory.common_step_of(k)
     }
 }

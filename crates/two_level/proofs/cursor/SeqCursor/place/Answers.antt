@@ -9,19 +9,20 @@ use Rattle.two_level.proofs.cursor.SeqCursor.place.Goals as goal
 pub place_from-requires-clause-reached : goal.place_from-requires-clause-reached
 place_from-requires-clause-reached c =
     let s = c.self.inside in
+    let d = s.directory in
     let part = c.in-Some.held in
-    let v : SequenceView = sequence_stated (numbers_of s.format) s.words.now s.parts in
-    let lies = subst (λ h. LiesIn (numbers_of s.format) s.words.now s.parts s.counted h s.known) c.in-Some.is c.self.invariant.2 in
-    let behind = subst (λ h. StandsBehind h v.values s.counted s.value) c.in-Some.is c.self.invariant.3 in
-    let d = c.directory_states_its_parts.ensures s.format s.words.now s.parts s.m c.self.invariant.0 in
-    let most = below-last (numbers_of s.format) s.words.now s.parts part.index (stated_last (numbers_of s.format) s.words.now 0 part.index + 1) v d lies.0.within (omega arith)
+    let v : SequenceView = sequence_stated (numbers_of d.format) d.words.now d.parts in
+    let lies = subst (λ h. LiesIn (numbers_of d.format) d.words.now d.parts s.counted h s.known) c.in-Some.is c.self.invariant.0 in
+    let behind = subst (λ h. StandsBehind h v.values s.counted s.value) c.in-Some.is c.self.invariant.1 in
+    let most = below-last (numbers_of d.format) d.words.now d.parts part.index (stated_last (numbers_of d.format) d.words.now 0 part.index + 1) v d.stated lies.0.within (omega arith)
     behind.place (omega (arith, behind.before, lies.0.to)) in
     omega (arith, most, behind.value_there, lies.0.last)
 
 pub returns-then-self : goal.returns-then-self
 returns-then-self c =
     let s = c.self.inside in
-    let xs : List ℕ = (sequence_stated (numbers_of s.format) s.words.now s.parts).values in
-    let lies = subst (λ h. LiesIn (numbers_of s.format) s.words.now s.parts s.counted h s.known) c.in-Some.is c.self.invariant.2 in
+    let d = s.directory in
+    let xs : List ℕ = (sequence_stated (numbers_of d.format) d.words.now d.parts).values in
+    let lies = subst (λ h. LiesIn (numbers_of d.format) d.words.now d.parts s.counted h s.known) c.in-Some.is c.self.invariant.0 in
     subst (λ p. c.place_from.result ≡ p.place) c.self.view_is
     (found-first xs s.counted c.place_from.result s.value (c.place_from.ensures xs lies.0.values lies.3))

@@ -7,6 +7,7 @@ use Rattle.two_level.proofs.cursor.SeqCursor.value.Goals as goal
 pub returns : goal.returns
 returns c =
     let s = c.self.inside in
+    let d = s.directory in
     let within = subst (λ p. p.place < length p.sequence.values) (sym c.self.view_is) c.requires.within in
     subst (λ p. s.value ≡ slice_index p.sequence.values p.place) c.self.view_is
-    (value-there (numbers_of s.format) s.words.now s.parts s.counted s.held s.known s.value c.self.invariant.2 c.self.invariant.3 within)
+    (value-there (numbers_of d.format) d.words.now d.parts s.counted s.held s.known s.value c.self.invariant.0 c.self.invariant.1 within)

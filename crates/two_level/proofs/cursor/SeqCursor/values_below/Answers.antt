@@ -11,17 +11,19 @@ use Rattle.two_level.proofs.cursor.SeqCursor.values_below.Goals as goal
 pub overflow_sub-self-inside : goal.overflow_sub-self-inside
 overflow_sub-self-inside c =
     let s = c.self.inside in
-    let there = lies-there (numbers_of s.format) s.words.now s.parts s.counted s.held s.known s.value c.self.invariant.2 c.self.invariant.3 in
-    let within = lies-within (numbers_of s.format) s.words.now s.parts _ s.held s.value there in
-    let fit : c.args.self.now.place ≤ s.m = subst (λ p. p.place ≤ s.m) c.self.view_is (omega (arith, within, c.self.invariant.0.3.sequence.count)) in
+    let d = s.directory in
+    let there = lies-there (numbers_of d.format) d.words.now d.parts s.counted s.held s.known s.value c.self.invariant.0 c.self.invariant.1 in
+    let within = lies-within (numbers_of d.format) d.words.now d.parts _ s.held s.value there in
+    let fit : c.args.self.now.place ≤ d.m = subst (λ p. p.place ≤ d.m) c.self.view_is (omega (arith, within, d.count)) in
     omega (arith, fit, c.place.ensures)
 
 pub given-init : goal.given-init
 given-init c =
     let s = c.self.inside in
-    let there = lies-there (numbers_of s.format) s.words.now s.parts s.counted s.held s.known s.value c.self.invariant.2 c.self.invariant.3 in
-    let within = subst (λ p. p.place ≤ length p.sequence.values) c.self.view_is (lies-within (numbers_of s.format) s.words.now s.parts _ s.held s.value there) in
-    let count = subst (λ p. length p.sequence.values ≡ s.m) c.self.view_is c.self.invariant.0.3.sequence.count in
+    let d = s.directory in
+    let there = lies-there (numbers_of d.format) d.words.now d.parts s.counted s.held s.known s.value c.self.invariant.0 c.self.invariant.1 in
+    let within = subst (λ p. p.place ≤ length p.sequence.values) c.self.view_is (lies-within (numbers_of d.format) d.words.now d.parts _ s.held s.value there) in
+    let count = subst (λ p. d.m ≡ length p.sequence.values) c.self.view_is d.count in
     record {
       sequence = refl;
       place = omega arith;

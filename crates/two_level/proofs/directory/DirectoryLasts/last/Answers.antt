@@ -1,17 +1,15 @@
 use Rattle.std.proofs.Common.{◌<◌, sym, ◌∙◌, arith}
 use Rattle.part_cost.specs.Formats.{numbers_of}
-use Rattle.two_level.proofs.Lengths.{entry-within}
 use Rattle.two_level.proofs.Probes.{count-lasts, last-stated}
 use Rattle.two_level.proofs.directory.DirectoryLasts.last.Goals as goal
 
-pub entry_at-requires : goal.entry_at-requires
-entry_at-requires g c =
+pub entry-requires : goal.entry-requires
+entry-requires g c =
     let s = c.args.self.now in
-    let lt : c.args.q < s.parts = omega (arith, c.requires, count-lasts (numbers_of s.format) s.words.now s.parts) in
-    omega (arith, s.room, entry-within (numbers_of s.format) c.args.q s.parts lt)
+    omega (arith, c.requires, count-lasts (numbers_of s.format) s.words.now s.parts)
 
 pub returns-clause-value : goal.returns-clause-value
 returns-clause-value g c =
     let s = c.args.self.now in
     let lt : c.args.q < s.parts = omega (arith, c.requires, count-lasts (numbers_of s.format) s.words.now s.parts) in
-    c.entry_at.ensures.last ∙ sym (last-stated (numbers_of s.format) s.words.now s.parts c.args.q lt)
+    c.entry.ensures.last ∙ sym (last-stated (numbers_of s.format) s.words.now s.parts c.args.q lt)

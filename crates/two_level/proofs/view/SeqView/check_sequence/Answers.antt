@@ -1,4 +1,4 @@
-use Rattle.std.proofs.Common.{◌≡◌, ℕ, ◌<◌, ◌≤◌, ◌^◌, List, get_or, Fits, w64, Err, refl, sym, ◌∙◌, subst, arith, rules}
+use Rattle.std.proofs.Common.{◌≡◌, ℕ, ◌<◌, ◌≤◌, ◌^◌, List, get_or, length, Fits, w64, Err, ap, sym, ◌∙◌, subst, arith, rules}
 use Rattle.std.specs.List.{All}
 use Rattle.std.proofs.lemmas.Result.{IfErr-at_err}
 use Rattle.std.proofs.lemmas.List.{get_or_default}
@@ -7,7 +7,7 @@ use Rattle.part_cost.specs.Formats.{numbers_of}
 use Rattle.two_level.specs.declared.checking.SeqFault.{SeqFault}
 use Rattle.two_level.specs.SequenceWords.{BeginsSequence}
 use Rattle.two_level.specs.SequenceFault.{word_behind, PassChecks, IsSequenceFault}
-use Rattle.two_level.specs.SequenceView.{sequence_stated}
+use Rattle.two_level.specs.SequenceView.{sequence_stated, words_used}
 use Rattle.two_level.specs.Laws.{ChecksAcceptASequence, WordsState}
 use Rattle.two_level.proofs.view.SeqView.check_sequence.Goals as goal
 
@@ -35,33 +35,34 @@ returns-in_err-found-clause-none c =
     λ xs ends used b. c.checks_refuse_no_sequence.ensures c.args.format c.args.m c.args.bound c.args.parts used e.part e.check xs ends words c.requires.bound b fault in
     rw is none
 
-pub invariant_of-result : goal.invariant_of-result
+pub at_front-requires-clause-begun : goal.at_front-requires-clause-begun
 unfolding sequence_stated
-invariant_of-result c =
+at_front-requires-clause-begun c =
     let s = stated-begins (numbers_of c.args.format) (c.checks_accept_a_sequence.ensures c.args.format) (c.words_state_their_sequence.ensures c.args.format) c.args.m c.args.bound c.args.parts c.args.words.now c.requires.bound (words-below c.args.words.now c.type_inv.words) c.in_ok-found.ensures.ok in
-    ((c.args.bound, s.0, c.requires.bound, s.1), c.requires.words)
+    (c.args.bound, s.0, c.requires.bound, s.1)
 
 pub returns-clause-format : goal.returns-clause-format
 unfolding sequence_stated
-returns-clause-format c = refl
+returns-clause-format c = ap (λ v. v.format) c.at_front.ensures
 
 pub returns-clause-ok : goal.returns-clause-ok
 returns-clause-ok c =
-    stated-begins (numbers_of c.args.format) (c.checks_accept_a_sequence.ensures c.args.format) (c.words_state_their_sequence.ensures c.args.format) c.args.m c.args.bound c.args.parts c.args.words.now c.requires.bound (words-below c.args.words.now c.type_inv.words) c.in_ok-found.ensures.ok
+    let s = stated-begins (numbers_of c.args.format) (c.checks_accept_a_sequence.ensures c.args.format) (c.words_state_their_sequence.ensures c.args.format) c.args.m c.args.bound c.args.parts c.args.words.now c.requires.bound (words-below c.args.words.now c.type_inv.words) c.in_ok-found.ensures.ok in
+    subst (λ v. (used : ℕ) × BeginsSequence (numbers_of c.args.format) c.args.m c.args.bound c.args.parts v.values v.ends c.args.words.now used) (sym c.at_front.ensures) s
 
 pub returns-clause-count : goal.returns-clause-count
 returns-clause-count c =
     let s = stated-begins (numbers_of c.args.format) (c.checks_accept_a_sequence.ensures c.args.format) (c.words_state_their_sequence.ensures c.args.format) c.args.m c.args.bound c.args.parts c.args.words.now c.requires.bound (words-below c.args.words.now c.type_inv.words) c.in_ok-found.ensures.ok in
-    s.1.sequence.count
+    ap (λ v. length v.values) c.at_front.ensures ∙ s.1.sequence.count
 
 pub returns-clause-parts : goal.returns-clause-parts
 returns-clause-parts c =
     let s = stated-begins (numbers_of c.args.format) (c.checks_accept_a_sequence.ensures c.args.format) (c.words_state_their_sequence.ensures c.args.format) c.args.m c.args.bound c.args.parts c.args.words.now c.requires.bound (words-below c.args.words.now c.type_inv.words) c.in_ok-found.ensures.ok in
-    s.1.sequence.parts_count
+    ap (λ v. length v.ends) c.at_front.ensures ∙ s.1.sequence.parts_count
 
 pub returns-clause-used : goal.returns-clause-used
 unfolding sequence_stated
 returns-clause-used c =
     let s = stated-begins (numbers_of c.args.format) (c.checks_accept_a_sequence.ensures c.args.format) (c.words_state_their_sequence.ensures c.args.format) c.args.m c.args.bound c.args.parts c.args.words.now c.requires.bound (words-below c.args.words.now c.type_inv.words) c.in_ok-found.ensures.ok in
     let d = c.directory_states_its_parts.ensures c.args.format c.args.words.now c.args.parts c.args.m (c.args.bound, s.0, c.requires.bound, s.1) in
-    c.in_ok-found.ensures.used ∙ sym d.used
+    c.in_ok-found.ensures.used ∙ sym d.used ∙ sym (ap words_used c.at_front.ensures)

@@ -9,5 +9,5 @@ pub returns : goal.returns
 unfolding sequence_stated
 returns c =
     let s = c.self.inside in
-    let d = c.directory_states_its_parts.ensures s.format s.words.now s.parts s.m c.self.invariant.0 in
+    let d = s.directory.stated in
     subst (λ v. c.bits_taken.result ≡ partition_cost (cost_of_part (part_charge v.format) v.values) v.ends) c.self.view_is (c.bits_taken.ensures ∙ sym d.cost)

@@ -5,5 +5,5 @@ use Rattle.two_level.proofs.view.SeqView.used.Goals as goal
 pub returns : goal.returns
 returns c =
     let s = c.self.inside in
-    let d = c.directory_states_its_parts.ensures s.format s.words.now s.parts s.m c.self.invariant.0 in
+    let d = s.directory.stated in
     subst (λ v. c.div_ceil.result ≡ words_used v) c.self.view_is (omega (arith, c.div_ceil.ensures, c.bits_taken.ensures, d.used))

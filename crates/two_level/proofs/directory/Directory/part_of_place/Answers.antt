@@ -1,0 +1,38 @@
+use Rattle.std.proofs.Common.{◌≡◌, ℕ, suc, ◌+◌, ◌-◌, ◌/◌, ◌<◌, inl, inr, refl, ap, arith}
+use Rattle.std.proofs.lemmas.Bool.{cases_lt}
+use Rattle.part_cost.specs.Formats.{numbers_of}
+use Rattle.two_level.specs.SequenceFault.{end_before}
+use Rattle.two_level.proofs.Parts.{end-before-next}
+use Rattle.two_level.proofs.directory.Directory.part_of_place.Goals as goal
+
+pub loop-low-init : goal.loop-low-init
+loop-low-init c =
+    let d = c.args.self.now in
+    let format = numbers_of d.format in
+    let words = d.words.now in
+    let none : end_before format words 0 0 ≡ 0 = refl in
+    let some : 0 < d.parts =
+    elim (cases_lt 0 d.parts) [
+      | inl less ↦ less
+      | inr more ↦ absurd (omega (arith, c.requires.within, d.stated.end, none, ap (end_before format words 0) (let e : d.parts ≡ 0 = omega (arith, more) in e)))
+    ] in
+    let last : ℕ = d.parts - 1 in
+    let all = ap (end_before format words 0) (let e : suc last ≡ d.parts = omega (arith, some) in e) in
+    record {
+      up = omega arith;
+      within = omega (arith, some);
+      from = omega (arith, none);
+      to = omega (arith, c.requires.within, d.stated.end, all);
+    }
+
+pub loop-low-preserved : goal.loop-low-preserved
+loop-low-preserved c =
+    let d = c.args.self.now in
+    let so_far = c.loop-low.invariant in
+    let middle : ℕ = c.loop-low.low + (c.loop-low.high - c.loop-low.low) / 2 in
+    record {
+      up = omega (arith, c.loop-low-test.true, so_far.up);
+      within = so_far.within;
+      from = omega (arith, end-before-next (numbers_of d.format) d.words.now middle, c.entry.ensures.end, c.if-place-entry.false);
+      to = so_far.to;
+    }
