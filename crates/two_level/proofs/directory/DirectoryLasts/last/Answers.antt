@@ -1,4 +1,4 @@
-use Rattle.std.proofs.Common.{◌<◌, sym, ◌∙◌, arith}
+use Rattle.std.proofs.Common.{◌<◌, arith}
 use Rattle.part_cost.specs.Formats.{numbers_of}
 use Rattle.two_level.proofs.Probes.{count-lasts, last-stated}
 use Rattle.two_level.proofs.directory.DirectoryLasts.last.Goals as goal
@@ -12,4 +12,4 @@ pub returns-clause-value : goal.returns-clause-value
 returns-clause-value g c =
     let s = c.args.self.now in
     let lt : c.args.q < s.parts = omega (arith, c.requires, count-lasts (numbers_of s.format) s.words.now s.parts) in
-    c.entry.ensures.last ∙ sym (last-stated (numbers_of s.format) s.words.now s.parts c.args.q lt)
+    omega (arith, c.entry.ensures.last, last-stated (numbers_of s.format) s.words.now s.parts c.args.q lt)

@@ -1,6 +1,6 @@
 use Rattle.std.proofs.Common.{ℕ, ◌+◌, ◌<◌, get_or}
 use Rattle.part_cost.specs.Formats.{numbers_of}
-use Rattle.two_level.proofs.tests.is_sequence.Given as goal
+use Rattle.two_level.proofs.tests.reading.is_sequence.Given as goal
 
 abbrev pub invariant-loop-i : goal.invariant-loop-i
 invariant-loop-i l =

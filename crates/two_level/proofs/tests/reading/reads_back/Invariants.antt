@@ -1,5 +1,5 @@
 use Rattle.std.proofs.Common.{◌≡◌}
-use Rattle.two_level.proofs.tests.reads_back.Given as goal
+use Rattle.two_level.proofs.tests.reading.reads_back.Given as goal
 
 abbrev pub invariant-loop-k : goal.invariant-loop-k
 invariant-loop-k g l = record {
