@@ -1,12 +1,12 @@
 -- Lemmas on two first checks of the same words.
-use Rattle.std.proofs.Common.{◌≡◌, ℕ, ◌<◌, Bool, true, false, List, inl, inr, sym, subst, arith}
+use Rattle.std.proofs.Common.{◌≡◌, ℕ, ◌<◌, Bool, true, false, List, length, inl, inr, sym, subst, arith}
 use Rattle.std.specs.Prelude.{◌⊎◌, MatchBool}
 use Rattle.std.proofs.lemmas.Bool.{cases_lt}
 use Rattle.collection_model.specs.FormatNumbers.{FormatNumbers}
 use Rattle.two_level.specs.declared.check.Check.{Check}
 use Rattle.two_level.specs.declared.check.Check.TheVariants.{K7, K8, K9}
-use Rattle.two_level.specs.SequenceFault.{OrElse, FirstOf, FirstInSequence}
-use Rattle.two_level.specs.AtAWord.{NoneBreaks}
+use Rattle.two_level.specs.SequenceFault.{OrElse, FirstOf, FirstInSequence, PassChecks}
+use Rattle.two_level.proofs.FirstChecks.{passed}
 
 same-by : (q r : ℕ) → (q < r → ⊥) → (r < q → ⊥) → q ≡ r
 same-by q r a b =
@@ -58,11 +58,10 @@ first-agree format words s p parts m bound F G L M h k =
     (λ h3 k3. from-here F G K9 0 L M L M (or-else-agree _ _ _ _ _ h3 k3) (λ l m. inr (l, m)))))
 
 -- where none breaks, what comes later holds
-pub later-of : (format : FormatNumbers) (words : List ℕ) (s p parts m bound : ℕ) (F : Check → ℕ → Type 0) (L : Type 0) → NoneBreaks format words s p parts m bound
-    → FirstInSequence format words s p parts m bound F L → L
-later-of format words s p parts m bound F L none h =
-    elim (first-agree format words s p parts m bound F (λ k q. ⊥) L (Unit {0}) h none) [ inl (k, q, f, no_fault) ↦ absurd no_fault | inr (l, m) ↦ l ]
-
-pub match-now : (a : Bool) (P Q : Type 0) → a ≡ true → MatchBool a P Q → P
-match-now true P Q e h = h
-match-now false P Q e h = absurd (cc)
+pub later-of : (format : FormatNumbers) (words : List ℕ) (parts m bound : ℕ) (F : Check → ℕ → Type 0) (L : Type 0) → PassChecks format words parts m bound
+    → FirstInSequence format words (length words) 0 parts m bound F L → L
+later-of format words parts m bound F L pass h =
+    elim (first-agree format words (length words) 0 parts m bound F (λ k q. ⊥) L (Unit {0}) h (passed format words parts m bound (λ k q. ⊥) (Unit {0}) pass tt)) [
+      | inl (k, q, f, no_fault) ↦ absurd no_fault
+      | inr (l, m) ↦ l
+    ]

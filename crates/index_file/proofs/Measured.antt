@@ -9,26 +9,28 @@ use Rattle.collection_model.specs.FormatNumbers.{FormatNumbers, part_charge}
 use Rattle.collection_model.specs.Collection.{Collection}
 use Rattle.collection_model.specs.Sequences.{doc_sequence, freq_sequence}
 use Rattle.part_cost.specs.declared.kinds.Kind.{Kind}
-use Rattle.part_cost.specs.Formats.{HasRoom}
+use Rattle.part_cost.specs.declared.formats.Format.{Format}
+use Rattle.part_cost.specs.Formats.{numbers_of, HasRoom}
+use Rattle.part_cost.proofs.Rooms.{formats-have-room}
 use Rattle.part_cost.specs.Payload.{payload, kind_of, widest_low}
 use Rattle.part_cost.specs.Span.{universe, cost_of_part}
 use Rattle.part_cost.specs.Partition.{IsPartition, IsPartitionFrom, cost_from, partition_cost}
 use Rattle.postings.specs.Laws.{SequencesRise}
 use Rattle.two_level.specs.Laws.{TakesItsCost}
 use Rattle.two_level.specs.SequenceWords.{sequence_words}
-use Rattle.two_level.specs.SequenceView.{start_of_part}
+use Rattle.two_level.specs.SequenceView.{SequenceView, start_of_part}
 use Rattle.part_cost.proofs.Partitions.{few-parts}
 use Rattle.index_file.specs.declared.measures.Measure.{Measure}
 use Rattle.index_file.specs.declared.measures.Measure.TheVariants.{PartsOf, Payload}
 use Rattle.index_file.specs.FileWords.{CutList, ListParts, with_parts, doc_words, freq_words, lists_words, Spells}
 use Rattle.index_file.specs.FirstBroken.{stated_documents, stated_terms}
-use Rattle.index_file.specs.IndexView.{same_kind, kinds_from, kinds_of_list, docs_view, freqs_view}
+use Rattle.index_file.specs.IndexView.{index_stated, cut_lists, docs_stated, freqs_stated, same_kind, kinds_from, kinds_of_list, docs_view, freqs_view}
 use Rattle.index_file.specs.ListAt.{HasFrame, StandsAt, StandFrom, word_after}
 use Rattle.index_file.specs.Measures.{measure_at, measure_of_part, measure_of_list, IsMeasured}
 use Rattle.index_file.specs.Laws.{SequenceLaws}
 use Rattle.index_file.proofs.Fronts.{stand-from, front-pieces, length-lists}
 use Rattle.index_file.proofs.StatedIndex.{opened}
-use Rattle.index_file.proofs.Reading.{OpenedList, opened-stand}
+use Rattle.index_file.proofs.Reading.{OpenedList, opened-stand, docs-read, freqs-read}
 
 -- a part adds at most one more than its payload
 one-at_most : (b : Bool) (p : ℕ) → cond b 1 0 ≤ 1 + p
@@ -156,6 +158,31 @@ measured-at format room laws takes words c parts h few measure t lt =
         adds = s.3 (measure_of_list measure);
       },
     )
+
+-- the two sequences that are read of a list of an index can be measured, and add together what the list adds
+pub record MeasuredViews (measure : Measure) (v w : SequenceView) (added : ℕ) : Type 0 where
+  pub docs : IsMeasured measure v
+  pub freqs : IsMeasured measure w
+  pub adds : partition_cost (measure_of_part measure v.values) v.ends + partition_cost (measure_of_part measure w.values) w.ends ≡ added
+
+pub views-measured : {words : List ℕ} {t : ℕ} {v w : SequenceView} (measure : Measure) (format : Format)
+    → ((each : Format) → SequenceLaws (numbers_of each)) → ((each : Format) → TakesItsCost (numbers_of each)) → length words < 2 ^ 57
+    → Spells (numbers_of format) words (index_stated words).collection (index_stated words).parts → t < stated_terms words
+    → v ≡ docs_stated (numbers_of format) words t → w ≡ freqs_stated (numbers_of format) words t
+    → MeasuredViews measure v w (slice_index (map (measure_of_list measure) (cut_lists (index_stated words))) t)
+views-measured {words} {t} {v} {w} measure format each_laws each_takes few h lt ev ew =
+    let laws = each_laws format in
+    let takes = each_takes format in
+    let numbers = numbers_of format in
+    let l = measured-at numbers (formats-have-room format) laws takes words (index_stated words).collection (index_stated words).parts h few measure t lt in
+    let docs : v ≡ docs_view (numbers_of format) l.0 = ev ∙ docs-read numbers laws words t l.0 l.1.list in
+    let freqs : w ≡ freqs_view (numbers_of format) l.0 = ew ∙ freqs-read numbers laws words t l.0 l.1.list in
+    record {
+      docs = subst (IsMeasured measure) (sym docs) l.1.measured.docs;
+      freqs = subst (IsMeasured measure) (sym freqs) l.1.measured.freqs;
+      adds = ap (λ x. partition_cost (measure_of_part measure x.values) x.ends + partition_cost (measure_of_part measure w.values) w.ends) docs
+          ∙ ap (λ x. partition_cost (measure_of_part measure (doc_sequence l.0.list)) l.0.parts.doc_ends + partition_cost (measure_of_part measure x.values) x.ends) freqs ∙ sym l.1.adds;
+    }
 
 pub terms-count : (format : FormatNumbers) (words : List ℕ) (c : Collection) (parts : List ListParts) → Spells format words c parts → stated_terms words ≡ length (with_parts c.lists parts)
 terms-count format words c parts h = (opened format words c parts h).laid.terms

@@ -1,7 +1,7 @@
 -- Lemmas on the one index and the one first broken check of some words.
-use Rattle.std.proofs.Common.{◌≡◌, ℕ, ◌+◌, ◌*◌, ◌/◌, ◌%◌, ◌^◌, ◌-◌, List, length, refl, inl, inr, sym, ◌∙◌, subst, arith}
-use Rattle.std.specs.Prelude.{◌⊎◌, ◌≢◌, ◌||◌, ◌==◌, not, nat_lt, slice_index, Option, Some, None, MatchBool, MatchOption}
-use Rattle.collection_model.specs.FormatNumbers.{FormatNumbers, entry_words}
+use Rattle.std.proofs.Common.{◌≡◌, ℕ, ◌+◌, ◌/◌, ◌%◌, ◌^◌, ◌-◌, List, length, refl, inl, inr, sym, ◌∙◌, subst, arith}
+use Rattle.std.specs.Prelude.{◌⊎◌, ◌≢◌, ◌==◌, not, nat_lt, slice_index, Option, Some, None, MatchBool, MatchOption}
+use Rattle.collection_model.specs.FormatNumbers.{FormatNumbers}
 use Rattle.part_cost.specs.Formats.{HasRoom}
 use Rattle.two_level.specs.declared.check.Check.{Check}
 use Rattle.two_level.specs.declared.check.Check.TheVariants.{K6, K11}
@@ -9,10 +9,10 @@ use Rattle.two_level.specs.Laws.{WordsState}
 use Rattle.two_level.specs.SequenceFault.{word_behind}
 use Rattle.index_file.specs.declared.fault.OpenFault.{OpenFault}
 use Rattle.index_file.specs.FileWords.{lists_words}
-use Rattle.index_file.specs.FirstBroken.{stated_documents, stated_terms, stated_sizes, directory_word, term_word, stated_length, stated_doc_parts, stated_freq_parts, cannot_begin, frame_broken, IsFreqsFault, IsTermFault, IsClosingFault, IsFirstBrokenIn}
+use Rattle.index_file.specs.FirstBroken.{stated_documents, stated_terms, stated_sizes, directory_word, stated_length, stated_doc_parts, stated_freq_parts, up_to_sizes, frame_broken, IsFreqsFault, IsTermFault, IsClosingFault, IsFirstBrokenIn}
 use Rattle.index_file.specs.Laws.{OneIndexIn, OneBrokenCheckIn, SequenceLaws}
 use Rattle.index_file.proofs.Agree.{match-agree, first-agree}
-use Rattle.index_file.proofs.TermFaults.{IsAt, InDocs, InFreqs, PassButGreatest}
+use Rattle.index_file.proofs.TermFaults.{IsAt, docs_cannot_begin, freqs_cannot_begin, InDocs, InFreqs, PassButGreatest}
 use Rattle.index_file.proofs.Fronts.{stand-from, front-pieces, stand-same}
 use Rattle.index_file.proofs.Frames.{BreaksBehind, frame-stands}
 use Rattle.index_file.proofs.StatedIndex.{collection-is, parts-are, none-in-index}
@@ -23,10 +23,11 @@ both f g t k q a b = a ∙ sym b
 freqs-one : (format : FormatNumbers) (words : List ℕ) (t p : ℕ) (f g : OpenFault) → IsFreqsFault format words t p f → IsFreqsFault format words t p g → f ≡ g
 freqs-one format words t p f g h k =
     let before : ℕ = stated_doc_parts words t in
-    elim (match-agree (not (term_word words t 1 == p) || nat_lt (stated_sizes words) (p + entry_words format * stated_freq_parts words t)) (IsAt f t K6 before) (InFreqs format words t p f) (IsAt g t K6 before) (InFreqs format words t p g) h k) [
+    let rest : List ℕ = up_to_sizes words p in
+    elim (match-agree (freqs_cannot_begin format words t p) (IsAt f t K6 before) (InFreqs format words t p f) (IsAt g t K6 before) (InFreqs format words t p g) h k) [
       | inl (a, b) ↦ both f g t K6 before a b
       | inr (a, b) ↦
-          elim (first-agree format words (stated_sizes words) p (stated_freq_parts words t) (stated_length words t) format.most_sum (λ check q. IsAt f t check (before + q)) (λ check q. IsAt g t check (before + q)) (PassButGreatest format words t p f) (PassButGreatest format words t p g) a b) [
+          elim (first-agree format rest (length rest) 0 (stated_freq_parts words t) (stated_length words t) format.most_sum (λ check q. IsAt f t check (before + q)) (λ check q. IsAt g t check (before + q)) (PassButGreatest format words t p f) (PassButGreatest format words t p g) a b) [
             | inl (check, q, x, y) ↦ both f g t check (before + q) x y
             | inr (x, y) ↦ x.1 ∙ sym y.1
           ]
@@ -34,11 +35,12 @@ freqs-one format words t p f g h k =
 
 term-one : (format : FormatNumbers) (words : List ℕ) (t p : ℕ) (f g : OpenFault) → IsTermFault format words t p f → IsTermFault format words t p g → f ≡ g
 term-one format words t p f g h k =
-    let next : ℕ = word_behind format words p (stated_doc_parts words t) in
-    elim (match-agree (cannot_begin format (term_word words t 0) p (stated_documents words) (stated_length words t) (stated_doc_parts words t) (stated_freq_parts words t) (stated_sizes words)) (IsAt f t K6 0) (InDocs format words t p f) (IsAt g t K6 0) (InDocs format words t p g) h k) [
+    let rest : List ℕ = up_to_sizes words p in
+    let next : ℕ = p + word_behind format rest 0 (stated_doc_parts words t) in
+    elim (match-agree (docs_cannot_begin format words t p) (IsAt f t K6 0) (InDocs format words t p f) (IsAt g t K6 0) (InDocs format words t p g) h k) [
       | inl (a, b) ↦ both f g t K6 0 a b
       | inr (a, b) ↦
-          elim (first-agree format words (stated_sizes words) p (stated_doc_parts words t) (stated_length words t) (stated_documents words) (IsAt f t) (IsAt g t) (IsFreqsFault format words t next f) (IsFreqsFault format words t next g) a b) [
+          elim (first-agree format rest (length rest) 0 (stated_doc_parts words t) (stated_length words t) (stated_documents words) (IsAt f t) (IsAt g t) (IsFreqsFault format words t next f) (IsFreqsFault format words t next g) a b) [
             | inl (check, q, x, y) ↦ both f g t check q x y
             | inr (x, y) ↦ freqs-one format words t next f g x y
           ]

@@ -10,13 +10,12 @@ use Rattle.part_cost.specs.Formats.{numbers_of, HasRoom}
 use Rattle.two_level.specs.Laws.{WordsState}
 use Rattle.cursor_api.specs.NextGeq.{IsCursorList}
 use Rattle.two_level.specs.SequenceView.{SequenceView, BeginWith, words_used}
-use Rattle.index_file.specs.FileWords.{CutList, ListParts, with_parts, doc_words, Spells, IsIndex}
+use Rattle.index_file.specs.FileWords.{CutList, ListParts, with_parts, Spells, IsIndex}
 use Rattle.index_file.specs.FirstBroken.{stated_documents, stated_terms, stated_sizes, term_word, stated_length, stated_doc_parts, stated_freq_parts, stated_greatest}
 use Rattle.index_file.specs.IndexView.{IndexView, index_stated, docs_stated, freqs_stated, docs_view, freqs_view}
 use Rattle.index_file.specs.ListAt.{HasFrame, StandsAt, StandFrom, word_after}
-use Rattle.index_file.proofs.OneList.{begins-at}
 use Rattle.index_file.specs.Laws.{SequenceLaws}
-use Rattle.index_file.proofs.Standing.{counts, docs-at, freqs-at}
+use Rattle.index_file.proofs.Standing.{counts, docs-from, freqs-from}
 use Rattle.index_file.proofs.Fronts.{stand-from, front-pieces}
 use Rattle.index_file.proofs.FilePieces.{half_of}
 use Rattle.index_file.proofs.CutLists.{lists_in, parts_in}
@@ -80,9 +79,9 @@ opened-stand format room laws words t p x frame at =
     let few : stated_documents words ≤ format.most_documents = frame.documents in
     record {
       docs = subst (λ k. BeginWith (drop k words) (stated_doc_parts words t) (stated_length words t) (docs_view format x)) (sym at.docs_word)
-          (stated_documents words, words_used (docs_view format x), omega (arith, few, room.documents), begins-at words p (stated_sizes words) (stated_doc_parts words t) (stated_length words t) (stated_documents words) (docs_view format x) within (docs-at format room laws words t p x frame at));
+          (stated_documents words, words_used (docs_view format x), omega (arith, few, room.documents), docs-from format room words t p x frame at);
       freqs = subst (λ k. BeginWith (drop k words) (stated_freq_parts words t) (stated_length words t) (freqs_view format x)) (sym at.freqs_word)
-          (format.most_sum, words_used (freqs_view format x), omega arith, begins-at words (p + length (doc_words format x)) (stated_sizes words) (stated_freq_parts words t) (stated_length words t) format.most_sum (freqs_view format x) within (freqs-at format room laws words t p x frame at));
+          (format.most_sum, words_used (freqs_view format x), omega arith, freqs-from format room laws words t p x frame at);
       docs_within = omega (arith, at.docs_word, at.within, within);
       freqs_within = omega (arith, at.freqs_word, at.within, within);
       cursor = record {

@@ -20,10 +20,9 @@ use Rattle.index_file.specs.FileWords.{CutList, ListParts, with_parts, doc_words
 use Rattle.index_file.specs.FirstBroken.{stated_documents, stated_terms, stated_sizes, directory_word, stated_length, stated_doc_parts, stated_freq_parts, IsFileFront, IsTermFault, IsClosingFault, IsFirstBrokenIn}
 use Rattle.index_file.specs.IndexView.{size_stated, docs_stated, freqs_stated, collection_stated, parts_stated, index_stated, docs_view, freqs_view}
 use Rattle.index_file.specs.ListAt.{HasFrame, StandsAt, StandFrom, word_after}
-use Rattle.index_file.proofs.OneList.{begins-at}
 use Rattle.two_level.proofs.Choices.{unmatch}
 use Rattle.index_file.specs.Laws.{SequenceLaws}
-use Rattle.index_file.proofs.Standing.{docs-at, freqs-at}
+use Rattle.index_file.proofs.Standing.{docs-from, freqs-from}
 use Rattle.index_file.proofs.Fronts.{HasDocParts, HasFreqParts, stand-from, front-pieces, stand-same}
 use Rattle.index_file.proofs.Lengths.{sizes-length}
 use Rattle.index_file.proofs.FilePieces.{Laid, half_of, sizes-back, sizes-filled, laid-of}
@@ -103,14 +102,14 @@ docs-stated format room laws state words t p c frame h =
     let n : ℕ = stated_documents words in
     ap (λ i. sequence_stated format (drop i words) (stated_doc_parts words t)) h.docs_word
     ∙ state (stated_length words t) n (stated_doc_parts words t) (words_used (docs_view format c)) (doc_sequence c.list) c.parts.doc_ends (drop p words) (omega (arith, frame.documents, room.documents))
-    (begins-at words p (stated_sizes words) (stated_doc_parts words t) (stated_length words t) n (docs_view format c) (omega (arith, frame.whole)) (docs-at format room laws words t p c frame h))
+    (docs-from format room words t p c frame h)
 
 freqs-stated : (format : FormatNumbers) (room : HasRoom format) → SequenceLaws format → WordsState format → (words : List ℕ) (t p : ℕ) (c : CutList) → HasFrame format words → StandsAt format words t p c → freqs_stated format words t ≡ freqs_view format c
 freqs-stated format room laws state words t p c frame h =
     let q : ℕ = p + length (doc_words format c) in
     ap (λ i. sequence_stated format (drop i words) (stated_freq_parts words t)) h.freqs_word
     ∙ state (stated_length words t) format.most_sum (stated_freq_parts words t) (words_used (freqs_view format c)) (freq_sequence c.list) c.parts.freq_ends (drop q words) (omega arith)
-    (begins-at words q (stated_sizes words) (stated_freq_parts words t) (stated_length words t) format.most_sum (freqs_view format c) (omega (arith, frame.whole)) (freqs-at format room laws words t p c frame h))
+    (freqs-from format room laws words t p c frame h)
 
 -- the list and the parts that words state of a term
 abbrev pub list_stated : FormatNumbers → List ℕ → ℕ → List Posting

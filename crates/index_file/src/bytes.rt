@@ -1,4 +1,4 @@
-ghost use Rattle.std.specs.Prelude.{◌≡◌, ◌≢◌, ◌↔◌, ℕ, ◌*◌, ◌%◌, ◌++◌, length, IfOk, OnOk, OnErr};
+ghost use Rattle.std.specs.Prelude.{◌≡◌, ◌≢◌, ◌↔◌, ◌*◌, ◌%◌, ◌++◌, length, IfOk, OnOk, OnErr};
 ghost use Rattle.collection_model.specs.Bytes.{word_bytes};
 
 use byteorder::{ByteOrder, LittleEndian};

@@ -3,7 +3,7 @@ ghost use Rattle.part_cost.specs.Formats.{numbers_of};
 ghost use Rattle.index_file.specs.Laws.{BytesAreSpelled, FilesSpellCollections, IndexIsRead, ListsAreCounted, NoVersionBreaks, OneBrokenCheck, OneIndex, SequenceLaws, WordsAreRead};
 
 use postings::{sequences_give_their_list, sequences_of_a_list_rise};
-use two_level::{checks_stand_at_a_word, one_sequence, words_state_their_sequence};
+use two_level::{one_sequence, sequences_pass_checks, words_state_their_sequence};
 
 /// Words and their bytes undo each other: words of 64 bits are all that their bytes can be read as, and bytes in whole eights are
 /// those of such words.
@@ -50,9 +50,9 @@ pub fn no_version_breaks()
 pub(crate) fn sequence_laws()
     ensures { (format : Format) → SequenceLaws (numbers_of format) }
 {
-    checks_stand_at_a_word();
     one_sequence();
     sequences_of_a_list_rise();
     sequences_give_their_list();
+    sequences_pass_checks();
     words_state_their_sequence();
 }

@@ -12,7 +12,6 @@ mod laws;
 mod lists;
 mod measures;
 mod partitions;
-mod sequences;
 #[cfg(test)]
 mod tests;
 mod totals;

@@ -1,8 +1,7 @@
-ghost use Rattle.std.specs.Prelude.{◌≡◌, ℕ, ◌≤◌, ◌<◌, ◌+◌, ◌*◌, ◌/◌, ◌%◌, ◌^◌, ◌==◌, ◌||◌, not, nat_lt, true, length, IfOk, IfErr};
+ghost use Rattle.std.specs.Prelude.{◌≡◌, ℕ, ◌≤◌, ◌<◌, ◌+◌, ◌*◌, ◌/◌, ◌%◌, ◌^◌, ◌==◌, ◌||◌, not, nat_lt, true, List, length, IfOk, IfErr};
 ghost use Rattle.collection_model.specs.FormatNumbers.{entry_words};
 ghost use Rattle.part_cost.specs.declared.formats.Format.{Format};
 ghost use Rattle.part_cost.specs.Formats.{numbers_of};
-ghost use Rattle.two_level.specs.SequenceView.{SequenceView, words_used};
 ghost use Rattle.two_level.specs.SequenceFault.{parts_fit};
 ghost use Rattle.index_file.specs.FileWords.{CutList};
 ghost use Rattle.index_file.specs.FirstBroken.{stated_terms, stated_sizes, stated_length, stated_freq_parts, cannot_begin, IsFreqsFault, IsTermFault};
@@ -10,10 +9,10 @@ ghost use Rattle.index_file.specs.ListAt.{HasFrame, StatesFrame, StatesList, Sta
 
 use crate::fault::OpenFault;
 use crate::frame::{Frame, LIST_WORDS, directory_of};
-use crate::sequences::{Span, sequence_at, sums_at};
+use crate::laws::sequence_laws;
 use part_cost::Format;
 use postings::sequences_are_a_list;
-use two_level::{Check, SeqFault, one_sequence, parts_fit};
+use two_level::{Check, SeqFault, SeqView, parts_fit};
 
 // A half of a word counts so many numbers.
 pub(crate) const HALF: u64 = 1 << 32;
@@ -110,10 +109,10 @@ fn check_sums(
     requires within { t < stated_terms words.now }
     requires before { p ≤ stated_sizes words.now }
     requires fit { parts_fit (stated_length words.now t) (stated_freq_parts words.now t) ≡ true }
-    ensures ok { IfOk result (λ behind. (v : SequenceView) × (v.format ≡ numbers_of format) × FreqsStandAt words.now t p v × (behind ≡ p + words_used v)) }
+    ensures ok { IfOk result (λ behind. (xs : List ℕ) × (ends : List ℕ) × (used : ℕ) × FreqsStandAt (numbers_of format) words.now t p xs ends used × (behind ≡ p + used)) }
     ensures first { IfErr result (λ f. IsFreqsFault (numbers_of format) words.now t p f) }
 {
-    one_sequence();
+    sequence_laws();
     if sums_cannot_begin(list, p, frame, format) {
         return Err(OpenFault {
             check: Check::K6,
@@ -121,12 +120,9 @@ fn check_sums(
             part: u64::from(list.doc_parts),
         });
     }
-    let span = Span {
-        from: p,
-        to: frame.sizes,
-    };
+    let rest = &words[p as usize..frame.sizes as usize];
     let greatest = u64::from(list.greatest);
-    match sums_at(words, span, list.sum_parts, list.len, format) {
+    match SeqView::check_steps(rest, list.sum_parts, list.len, format.most_sum(), format) {
         Ok(sums) if sums.greatest == greatest => Ok(p + sums.used),
         Ok(_) => Err(OpenFault {
             check: Check::K10,
@@ -154,6 +150,7 @@ pub(crate) fn check_list(
     ensures ok { IfOk result (λ next. (c : CutList) × StandsAt (numbers_of format) words.now t p c × (next ≡ word_after (numbers_of format) p c)) }
     ensures first { IfErr result (λ f. IsTermFault (numbers_of format) words.now t p f) }
 {
+    sequence_laws();
     sequences_are_a_list();
     let list = list_entry(words, frame, t);
     if cannot_begin(list, p, frame, format) {
@@ -163,18 +160,8 @@ pub(crate) fn check_list(
             part: 0,
         });
     }
-    let span = Span {
-        from: p,
-        to: frame.sizes,
-    };
-    match sequence_at(
-        words,
-        span,
-        list.doc_parts,
-        list.len,
-        frame.documents,
-        format,
-    ) {
+    let rest = &words[p as usize..frame.sizes as usize];
+    match SeqView::check_counting(rest, list.doc_parts, list.len, frame.documents, format) {
         Ok(docs) => check_sums(words, frame, list, t, p + docs.used, format),
         Err(fault) => Err(fault_in(t, 0, fault)),
     }

@@ -1,5 +1,6 @@
-ghost use Rattle.std.specs.Prelude.{◌≡◌, ◌<◌, ◌^◌, length};
+ghost use Rattle.std.specs.Prelude.{◌≡◌, ◌≤◌, ◌<◌, ◌^◌, length, drop};
 ghost use Rattle.part_cost.specs.Formats.{numbers_of};
+ghost use Rattle.two_level.specs.SequenceView.{SequenceView, BeginWith};
 ghost use Rattle.index_file.specs.FileWords.{IsIndexIn};
 ghost use Rattle.index_file.specs.FirstBroken.{stated_terms, stated_greatest};
 ghost use Rattle.index_file.specs.IndexView.{docs_stated, freqs_stated};
@@ -7,7 +8,6 @@ ghost use Rattle.index_file.specs.IndexView.{docs_stated, freqs_stated};
 use crate::frame::frame_of;
 use crate::laws::sequence_laws;
 use crate::lists::list_entry;
-use crate::sequences::known_at;
 use part_cost::Format;
 use two_level::SeqView;
 
@@ -37,4 +37,14 @@ pub(crate) fn list_views<'a>(words: &'a [u64], t: u32, format: Format) -> ListVi
         freqs,
         greatest: list.greatest,
     }
+}
+
+// The sequence of m values in so many parts with which the words from word p on begin.
+fn known_at<'a>(words: &'a [u64], p: u64, parts: u32, m: u32, format: Format) -> SeqView<'a>
+    requires words { length words.now < 2 ^ 57 }
+    requires within { p ≤ length words.now }
+    requires checked { (v : SequenceView) × (v.format ≡ numbers_of format) × BeginWith (drop p words.now) parts m v }
+    ensures same { (v : SequenceView) → v.format ≡ numbers_of format → BeginWith (drop p words.entry.now) parts m v → result ≡ v }
+{
+    SeqView::known(&words[p as usize..], parts, m, format)
 }

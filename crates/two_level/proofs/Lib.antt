@@ -12,7 +12,6 @@ mod Places
 mod Standing
 mod Probes
 mod Takes
-mod AtAWord
 mod Blocks
 mod Steps
 mod LongSteps

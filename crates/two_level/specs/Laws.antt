@@ -29,6 +29,12 @@ ChecksRefuseNoSequence format =
     (m bound parts used part : ℕ) (check : Check) (xs ends words : List ℕ) → bound ≤ format.most_sum
     → BeginsSequence format m bound parts xs ends words used → ¬ IsSequenceFault format words parts m bound check part
 
+-- Words that begin with a sequence pass every check, and the word behind their payload is that behind the sequence.
+abbrev pub SequencesPassChecks : FormatNumbers → Type 0
+SequencesPassChecks format =
+    (m bound parts used : ℕ) (xs ends words : List ℕ) → bound ≤ format.most_sum
+    → BeginsSequence format m bound parts xs ends words used → PassChecks format words parts m bound × (word_behind format words 0 parts ≡ used)
+
 -- Words of 64 bits that pass every check begin with a sequence.
 abbrev pub ChecksAcceptASequence : FormatNumbers → Type 0
 ChecksAcceptASequence format =

@@ -1,7 +1,6 @@
 ghost use Rattle.part_cost.specs.Formats.{numbers_of};
 ghost use Rattle.part_cost.specs.declared.formats.Format.{Format};
-ghost use Rattle.two_level.specs.Laws.{ChecksAcceptASequence, ChecksRefuseNoSequence, DirectoryStates, OneSequence, TakesItsCost, WordsState};
-ghost use Rattle.two_level.specs.AtAWord.{ChecksStandAtAWord, FaultStandsAtAWord, SequenceStandsAtAWord};
+ghost use Rattle.two_level.specs.Laws.{ChecksAcceptASequence, ChecksRefuseNoSequence, DirectoryStates, OneSequence, SequencesPassChecks, TakesItsCost, WordsState};
 
 use bit_words::words_are_bits;
 use part_codec::{one_list_at_place, part_takes_its_payload};
@@ -58,11 +57,9 @@ pub fn words_state_their_sequence()
     part_is_relative();
 }
 
-/// The checks of a sequence at a word, up to another word, are those of the words between, whether they accept it or refuse it.
-pub fn checks_stand_at_a_word()
-    ensures checks { (format : Format) → ChecksStandAtAWord (numbers_of format) }
-    ensures sequence { (format : Format) → SequenceStandsAtAWord (numbers_of format) }
-    ensures fault { (format : Format) → FaultStandsAtAWord (numbers_of format) }
+/// Words that begin with a sequence pass every check, and their payload ends where the sequence does.
+pub fn sequences_pass_checks()
+    ensures { (format : Format) → SequencesPassChecks (numbers_of format) }
 {
     formats_have_room();
     words_are_bits();

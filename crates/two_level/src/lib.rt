@@ -24,8 +24,8 @@ pub use checking::{SeqFault, parts_fit};
 pub use cursor::SeqCursor;
 pub use galloping::{Lasts, gallop};
 pub use laws::{
-    checks_accept_a_sequence, checks_refuse_no_sequence, checks_stand_at_a_word, one_sequence,
-    sequence_takes_its_cost, words_state_their_sequence,
+    checks_accept_a_sequence, checks_refuse_no_sequence, one_sequence, sequence_takes_its_cost,
+    sequences_pass_checks, words_state_their_sequence,
 };
 pub use part::Part;
 pub use view::{Checked, CheckedSteps, SeqView};

@@ -2,7 +2,7 @@ use Rattle.index_file.proofs.laws.sequence_laws.Goals as goal
 
 pub returns : goal.returns
 returns c v = record {
-  stand = c.checks_stand_at_a_word.ensures.sequence v;
+  pass = c.sequences_pass_checks.ensures v;
   one = c.one_sequence.ensures v;
   state = c.words_state_their_sequence.ensures v;
   rise = c.sequences_of_a_list_rise.ensures;

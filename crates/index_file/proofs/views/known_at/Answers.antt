@@ -1,7 +1,7 @@
 use Rattle.std.proofs.Common.{sym, subst}
 use Rattle.std.proofs.lemmas.List.{take_rest}
 use Rattle.two_level.specs.SequenceView.{BeginWith}
-use Rattle.index_file.proofs.sequences.known_at.Goals as goal
+use Rattle.index_file.proofs.views.known_at.Goals as goal
 
 pub known-requires-clause-checked : goal.known-requires-clause-checked
 known-requires-clause-checked c =
