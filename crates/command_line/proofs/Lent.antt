@@ -2,14 +2,14 @@
 use Rattle.std.proofs.Common.{◌≡◌, refl, sym, ap, ◌∙◌, arith, ℕ, suc, ◌+◌, ◌<◌, ◌≤◌, List, [], ◌∷◌, ◌++◌, length, take, drop, get_or}
 use Rattle.std.specs.declared.alloc.Global.{Global}
 use Rattle.std.proofs.lemmas.List.{drop_more, drop_all, drop-map, take-map, get_or-map, length-map}
-use Rattle.std.specs.Prelude.{◌==◌, ◌&&◌, not, nat_le, Bool, true, false, codes, bytes_eq, if◌then◌else◌, Option, Some, None, is_some, String, string_bytes}
+use Rattle.std.specs.Prelude.{◌&&◌, not, nat_le, Bool, true, false, codes, bytes_eq, if◌then◌else◌, Option, Some, None, is_some, String, string_bytes}
 use Rattle.clap.specs.Walk.{Text}
 use Rattle.part_cost.specs.declared.formats.Format.{Format}
 use Rattle.part_cost.specs.declared.formats.Format.TheVariants.{Two}
 use Rattle.query_text.specs.Numbers.{number_of}
 use Rattle.topk_pruning.specs.declared.plan.Plan.{Plan}
 use Rattle.topk_pruning.specs.declared.plan.Plan.TheVariants.{Exhaustive}
-use Rattle.command_line.specs.Command.{Command, Build, Query, Answer, Inspect, Generate, Migrate, Audit, Blocks, BlockQuery, Remap, Segments, command_of, build_command, build_in, format_of, option_in, plan_of, answering_command, answered_by, text_command, generate_command, generate_of, migrate_command, blocks_command, bquery_command, remap_command, segments_command, segments_by, texts, texts_before, words_behind, most_segments, is_text, is_file_of, takes_place}
+use Rattle.command_line.specs.Command.{Command, Build, Query, Answer, Inspect, Migrate, Audit, Blocks, BlockQuery, Remap, Segments, command_of, build_command, build_in, format_of, option_in, plan_of, answering_command, answered_by, text_command, generate_command, generate_of, migrate_command, blocks_command, bquery_command, remap_command, segments_command, segments_by, texts, texts_before, words_behind, most_segments, is_text, is_file_of, takes_place}
 use Rattle.command_line.specs.Private.CommandLine.{AreLent}
 
 -- ---- the texts before the first word that is none

@@ -2,7 +2,7 @@
 use Rattle.std.proofs.Common.{◌≡◌, refl, sym, ap, ap₂, ◌∙◌, subst, append_assoc, arith}
 use Rattle.std.proofs.lemmas.List.{append-nil}
 use Rattle.std.proofs.lemmas.Bool.{le-leb}
-use Rattle.std.specs.Prelude.{◌==◌, ◌&&◌, ℕ, nat_le, length, Bool, true, false, List, [], ◌∷◌, ◌++◌, codes, Some, None, fold, is_some}
+use Rattle.std.specs.Prelude.{◌==◌, ◌&&◌, nat_le, length, Bool, true, false, List, [], ◌∷◌, ◌++◌, codes, Some, None, fold, is_some}
 use Rattle.std.specs.List.{list_all}
 use Rattle.clap.specs.Walk.{Names, Rule, Text, Walk, nothing_held, positional, walked, walk_from, finished, rows_after}
 use Rattle.clap.specs.Simple.{App, Shape, built, entered, names_of, subcommand_of}

@@ -1,6 +1,6 @@
 -- What `audit` leaves.
 use Rattle.std.proofs.Common.{◌≡◌, ℕ, refl, sym, subst, List, inl, inr}
-use Rattle.std.specs.Prelude.{Result, Ok, Err, Some, OnOk}
+use Rattle.std.specs.Prelude.{Result, Ok, Err, OnOk}
 use Rattle.part_cost.specs.Formats.{numbers_of}
 use Rattle.pef_io.specs.declared.fail.IoFail.TheVariants as call
 use Rattle.pef_io.specs.declared.fail.Slot.TheVariants.{Index}

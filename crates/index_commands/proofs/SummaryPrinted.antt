@@ -1,6 +1,6 @@
 -- What `inspect` leaves.
 use Rattle.std.proofs.Common.{◌≡◌, ℕ, refl, sym, subst, List, inl}
-use Rattle.std.specs.Prelude.{Result, Ok, Some}
+use Rattle.std.specs.Prelude.{Result, Ok}
 use Rattle.part_cost.specs.Formats.{numbers_of}
 use Rattle.pef_io.specs.SourceState.{SourceState}
 use Rattle.pef_io.specs.SinkState.{SinkState}

@@ -1,6 +1,6 @@
 -- What `bquery` leaves.
 use Rattle.std.proofs.Common.{◌≡◌, ℕ, refl, sym, ◌∙◌, subst, List, inl, inr}
-use Rattle.std.specs.Prelude.{◌≢◌, IsTrue, Result, Ok, Err, Some}
+use Rattle.std.specs.Prelude.{◌≢◌, IsTrue, Result, Ok, Err}
 use Rattle.collection_model.specs.Collection.{Collection}
 use Rattle.part_cost.specs.Formats.{numbers_of}
 use Rattle.pef_io.specs.SourceState.{SourceState}
@@ -28,7 +28,7 @@ use Rattle.side_commands.specs.ReadingSide.{ReadsSideThen}
 use Rattle.command_ends.specs.Ends.{IsStopped}
 use Rattle.command_ends.specs.AnsweredText.{AnswersInput, longest_text}
 use Rattle.command_ends.specs.Starts.{StartsOnly}
-use Rattle.side_commands.specs.BlockQuery.{StartedByBlockQuery, BlockQueryStarts, QueriesBlocks}
+use Rattle.side_commands.specs.BlockQuery.{BlockQueryStarts, QueriesBlocks}
 use Rattle.command_ends.specs.Steps.Leaves.{Leaves}
 use Rattle.command_ends.specs.Steps.LoadedIndex.{IsLoaded}
 use Rattle.side_commands.specs.Private.LoadedSide.{IsLoadedSide, IsUnloadedSide}

@@ -1,6 +1,6 @@
 -- What a run leaves that does not come to its side file: the words are not loaded, or they are none.
 use Rattle.std.proofs.Common.{◌≡◌, ℕ, ◌≤◌, ◌<◌, refl, sym, ap, subst, List, length, inl, inr}
-use Rattle.std.specs.Prelude.{◌≢◌, ◌%◌, IsTrue, Some, Err, Ok}
+use Rattle.std.specs.Prelude.{◌≢◌, ◌%◌, IsTrue, Err, Ok}
 use Rattle.collection_model.specs.Collection.{Collection}
 use Rattle.pef_io.specs.Calls.{Rose}
 use Rattle.pef_io.specs.SourceState.{SourceState}
@@ -25,7 +25,7 @@ use Rattle.command_ends.specs.Ends.{FirstFaultEnds, OrNoMemory}
 use Rattle.side_commands.specs.FoundSide.{FindsWithSide, IsIndexOrSide}
 use Rattle.side_commands.specs.ReadingSide.{ReadsSideThen, RefusesBrokenSide}
 use Rattle.command_ends.specs.Starts.{StartsOnly}
-use Rattle.side_commands.specs.BlockQuery.{StartedByBlockQuery, BlockQueryStarts}
+use Rattle.side_commands.specs.BlockQuery.{BlockQueryStarts}
 use Rattle.side_commands.specs.Private.LoadedSide.{IsUnloadedSide, ragged_side, stop_of_side}
 use Rattle.command_ends.specs.Steps.Stops.{outcome_of_stop}
 use Rattle.command_ends.proofs.Counted.{not_both_lengths, stays, all_end, Of}

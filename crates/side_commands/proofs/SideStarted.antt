@@ -1,6 +1,6 @@
 -- What a run starts and reads that loads an index and then its side file.
 use Rattle.std.proofs.Common.{◌≡◌, ℕ, ◌≤◌, refl, sym, ◌∙◌, ap, subst, List, inl, inr}
-use Rattle.std.specs.Prelude.{◌≢◌, ◌⊎◌, Some, Ok, Err}
+use Rattle.std.specs.Prelude.{◌≢◌, ◌⊎◌, Ok, Err}
 use Rattle.pef_io.specs.declared.fail.Slot.{Slot}
 use Rattle.pef_io.specs.declared.fail.Slot.TheVariants.{Index, Side}
 use Rattle.pef_io.specs.Calls.{one_more}
@@ -16,7 +16,7 @@ use Rattle.command_ends.specs.Outcome.{Outcome, Done, FileFault, NoMemory}
 use Rattle.command_ends.specs.Ends.{FirstFaultEnds}
 use Rattle.side_commands.specs.FoundSide.{IsIndexOrSide, IsSideSlot}
 use Rattle.command_ends.specs.Starts.{StartsOnly}
-use Rattle.side_commands.specs.BlockQuery.{StartedByBlockQuery, BlockQueryStarts}
+use Rattle.side_commands.specs.BlockQuery.{StartedByBlockQuery}
 use Rattle.command_ends.proofs.Counted.{by_slot, faults_before, second}
 use Rattle.command_ends.proofs.TextAnswered.{Answer, text_outcome}
 use Rattle.command_ends.proofs.WordsLoaded.{starts, loaded_counts}

@@ -1,6 +1,6 @@
 -- What `blocks` leaves.
 use Rattle.std.proofs.Common.{◌≡◌, ℕ, ◌<◌, ◌^◌, refl, sym, ap, subst, List, [], inl, inr}
-use Rattle.std.specs.Prelude.{Result, Ok, Err, Some, unwrap_or}
+use Rattle.std.specs.Prelude.{Result, Ok, Err, unwrap_or}
 use Rattle.std.specs.List.{All}
 use Rattle.collection_model.specs.Bytes.{word_bytes}
 use Rattle.collection_model.specs.Collection.{Collection}

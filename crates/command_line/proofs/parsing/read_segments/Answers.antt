@@ -1,12 +1,12 @@
 use Rattle.std.proofs.Common.{rules, ◌≡◌, ◌∙◌, sym, ap, subst, List, length, map}
-use Rattle.std.specs.Prelude.{Some, None, Option, codes, option_map, option_and_then}
+use Rattle.std.specs.Prelude.{Some, None, codes, option_map, option_and_then}
 use Rattle.std.proofs.lemmas.List.{length-map}
 use Rattle.clap.specs.Words.{Text, found_of, rows_of, all_of, first_of}
 use Rattle.clap.proofs.WalkLemmas.{raw_values-rows}
-use Rattle.command_line.specs.Command.{Command, Segments, plan_of, texts}
+use Rattle.command_line.specs.Command.{Segments, plan_of, texts}
 use Rattle.command_line.specs.Asked.{asked}
-use Rattle.command_line.specs.Private.CommandLine.{AreLent, segments_from, segments_with}
-use Rattle.command_line.proofs.TextsRead.{no_indexes, no_segments, names_and_plan, many_read, none_read}
+use Rattle.command_line.specs.Private.CommandLine.{AreLent, segments_with}
+use Rattle.command_line.proofs.TextsRead.{no_indexes, names_and_plan, many_read, none_read}
 use Rattle.command_line.proofs.Lent.{lent_words, lent_count}
 use Rattle.command_line.proofs.parsing.read_segments.Goals as goal
 
