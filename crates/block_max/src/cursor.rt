@@ -137,6 +137,10 @@ impl<'a, C: DocCursor, S: BlockSource> DocCursor for SideCursor<'a, C, S> {
         self.cursor.common_freq(k)
     }
 
+    fn keep_in_words(&self, first: u32, marks: &mut [u64]) -> usize {
+        self.cursor.keep_in_words(first, marks)
+    }
+
     fn len(&self) -> u32 {
         self.cursor.len()
     }

@@ -2,4 +2,5 @@ mod Rows
 pub mod Relative
 mod Parts
 mod Steps
+mod Kept
 mod Values

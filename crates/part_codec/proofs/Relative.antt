@@ -10,8 +10,8 @@ use Rattle.ranked_bitmap.proofs.OneList as bitmap
 use Rattle.part_codec.specs.declared.views.PartView.{PartView}
 use Rattle.part_codec.specs.declared.forms.Form.{Form}
 use Rattle.part_codec.specs.declared.forms.Form.TheVariants.{Ones, Bitmap, Ef}
-use Rattle.part_codec.specs.Forms.{HoldsIn, all_ones}
-use Rattle.part_codec.specs.PartView.{Holds}
+use Rattle.part_codec.specs.Forms.{HoldsIn, universe_in, count_in, all_ones}
+use Rattle.part_codec.specs.PartView.{Holds, universe_of, count_of}
 
 -- value k of all ones is k
 pub at-all_ones : (u k : ℕ) → k < u → slice_index (all_ones u) k ≡ k
@@ -29,3 +29,12 @@ one_list-in (Ef v) xs ys h g = elias_fano.one-list ef_spacing v xs ys h g
 
 pub one_list-held : (v : PartView) (xs ys : List ℕ) → Holds v xs → Holds v ys → xs ≡ ys
 one_list-held v xs ys h g = one_list-in v.form xs ys h g
+
+-- what a view holds are relative values
+relative-in : (f : Form) (ys : List ℕ) → HoldsIn f ys → AreRelative (universe_in f) (count_in f) ys
+relative-in (Ones v) ys h = AreRelative-all_ones v.u ys v.some h
+relative-in (Bitmap v) ys h = h.values
+relative-in (Ef v) ys h = h.values
+
+pub relative-held : (v : PartView) (ys : List ℕ) → Holds v ys → AreRelative (universe_of v) (count_of v) ys
+relative-held v ys h = relative-in v.form ys h

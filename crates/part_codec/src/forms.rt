@@ -1,4 +1,4 @@
-ghost use Rattle.std.specs.Prelude.{◌≡◌, ℕ, ◌≤◌, ◌^◌};
+ghost use Rattle.std.specs.Prelude.{◌≡◌, ℕ, ◌≤◌, ◌-◌, ◌/◌, ◌^◌, min};
 ghost use Rattle.part_cost.specs.Payload.{widest_low};
 
 use elias_fano::EfView;
@@ -20,6 +20,13 @@ impl OnesView {
         ensures { result.u ≡ u }
     {
         OnesView { u }
+    }
+
+    // How many whole words of its places lie in the part from one on, `most` at most.
+    pub(crate) fn whole_words(&self, from: u64, most: usize) -> usize
+        ensures { result ≡ min most ((self.now.u - from) / 64) }
+    {
+        most.min((self.u.saturating_sub(from) / 64) as usize)
     }
 }
 

@@ -382,3 +382,36 @@ fn gives_numbers_below(rt: HostRuntime) {
         );
     }
 }
+
+// How many words a view tells of two words of marks, and what is left of them.
+fn kept(view: &PartView, from: u64) -> (usize, [u64; 2]) {
+    let mut marks = [u64::MAX; 2];
+    if !view.check() {
+        return (3, marks);
+    }
+    let words = view.keep_in_words(from, &mut marks);
+    (words, marks)
+}
+
+// All of 130 places, three of every four of 128, and two numbers in Elias-Fano form.
+#[test]
+fn keeps_marks_in_whole_words(rt: HostRuntime) {
+    let all = u64::MAX;
+    let some = 0xeeee_eeee_eeee_eeee;
+    let words = [some, some];
+    let bits = Bits { words: &words };
+    let full = PartView::at(PlacedPart::at(bits, 0, 130, 130));
+    let most = PartView::at(PlacedPart::at(bits, 0, 128, 96));
+    for (from, of_full, of_most) in [
+        (0, (2, [all, all]), (2, [some, some])),
+        (2, (2, [all, all]), (1, [0xbbbb_bbbb_bbbb_bbbb, all])),
+        (66, (1, [all, all]), (0, [all, all])),
+        (67, (0, [all, all]), (0, [all, all])),
+        (u64::MAX, (0, [all, all]), (0, [all, all])),
+    ] {
+        assert_eq!(rt; kept(&full, from), of_full, "from {from}");
+        assert_eq!(rt; kept(&most, from), of_most, "from {from}");
+    }
+    let far = PartView::at(PlacedPart::at(Bits { words: &[770_105] }, 0, 701, 2));
+    assert_eq!(rt; kept(&far, 0), (0, [all, all]));
+}

@@ -168,6 +168,10 @@ impl<'a> DocCursor for PostingCursor<'a> {
         self.sums.common_step(k) as u32
     }
 
+    fn keep_in_words(&self, first: u32, marks: &mut [u64]) -> usize {
+        self.docs.keep_in_words(u64::from(first), marks)
+    }
+
     fn len(&self) -> u32 {
         self.len
     }

@@ -66,7 +66,7 @@ fn greatest_step(sums: &SeqView, m: u32) -> Option<u32>
     Some(most as u32)
 }
 
-// A cursor over m documents below 3 whose two sequences these words of a format are, in so many parts.
+// A cursor over m documents below 1000 whose two sequences these words of a format are, in so many parts.
 fn opened<'a>(
     rt: &impl Abort,
     format: Format,
@@ -79,7 +79,7 @@ fn opened<'a>(
     requires docs { length docs.now < 2 ^ 57 }
     requires sums { length sums.now < 2 ^ 57 }
 {
-    let docs = SeqView::check(docs, doc_parts, m, 3, format).expect(rt, "documents");
+    let docs = SeqView::check(docs, doc_parts, m, 1000, format).expect(rt, "documents");
     let sums = SeqView::check(sums, sum_parts, m, format.most_sum(), format).expect(rt, "sums");
     let max = greatest_step(&sums, m).expect(rt, "frequencies that fit");
     PostingCursor::new(docs, sums, max)
@@ -271,5 +271,47 @@ fn an_empty_list_is_at_its_end(rt: HostRuntime) {
         assert_eq!(rt; next_of(&mut cursor, 0), None);
         assert_eq!(rt; two_below(&mut cursor, 9), (0, [0, 0], [0, 0]));
         assert_eq!(rt; next_posting(&mut cursor), None);
+    }
+}
+
+// How many words a cursor tells of two words of marks, and what is left of them, through the trait's bound.
+fn kept_of<C: DocCursor>(cursor: &C, first: u32) -> (usize, [u64; 2]) {
+    let mut marks = [u64::MAX; 2];
+    let words = cursor.keep_in_words(first, &mut marks);
+    (words, marks)
+}
+
+// Documents 0 to 127 in a part of which all places are taken, and then, in a bitmap, those up to 383 that are no multiples of four.
+#[test]
+fn keeps_marks_in_whole_words(rt: HostRuntime) {
+    let all = u64::MAX;
+    let some = 0xeeee_eeee_eeee_eeee;
+    let two_on = 0xbbbb_bbbb_bbbb_bbbb;
+    let docs = [
+        (128 << 36) + 127,
+        0,
+        (320 << 36) + 383,
+        0,
+        some,
+        some,
+        some,
+        some,
+    ];
+    let sums = [(320 << 36) + 319, 0];
+    let mut cursor = opened(&rt, Format::One, &docs, &sums, 2, 1, 320);
+    for (doc, first, words, marks) in [
+        (0, 0, 2, [all, all]),
+        (0, 64, 1, [all, all]),
+        (0, 65, 0, [all, all]),
+        (0, u32::MAX, 0, [all, all]),
+        (129, 127, 0, [all, all]),
+        (129, 128, 2, [some, some]),
+        (129, 130, 2, [two_on, two_on]),
+        (129, 320, 1, [some, all]),
+        (129, 321, 0, [all, all]),
+        (384, 320, 0, [all, all]),
+    ] {
+        next_of(&mut cursor, doc);
+        assert_eq!(rt; kept_of(&cursor, first), (words, marks), "from {first}");
     }
 }

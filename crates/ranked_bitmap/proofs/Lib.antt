@@ -6,4 +6,5 @@ pub mod OneList
 mod Views
 mod Following
 mod Steps
+mod Kept
 mod Writing

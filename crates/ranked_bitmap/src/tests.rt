@@ -53,6 +53,37 @@ fn reads_many_numbers(rt: HostRuntime) -> Result<(), Fail> {
     Ok(())
 }
 
+// How many words a view of 600 places tells of two words of marks, and what is left of them.
+fn kept(view: &MapView<'_, 512>, from: u64) -> (usize, [u64; 2]) {
+    let mut marks = [u64::MAX; 2];
+    if !view.check() {
+        return (3, marks);
+    }
+    let words = view.keep_in_words(from, &mut marks);
+    (words, marks)
+}
+
+// The same numbers: the marks of whole words of places.
+#[test]
+fn keeps_marks_in_whole_words(rt: HostRuntime) {
+    let all = u64::MAX;
+    let mut words = [all; 10];
+    words[4] = !(1 << 44);
+    words[9] = (511 << 24) | ((1 << 24) - 1);
+    let view = MapView::<512>::at(PlacedPart::at(Bits { words: &words }, 0, 600, 599));
+    for (from, count, marks) in [
+        (0, 2, [all, all]),
+        (250, 2, [!(1 << 50), all]),
+        (200, 2, [all, !(1 << 36)]),
+        (472, 2, [all, all]),
+        (473, 1, [all, all]),
+        (537, 0, [all, all]),
+        (u64::MAX, 0, [all, all]),
+    ] {
+        assert_eq!(rt; kept(&view, from), (count, marks), "from {from}");
+    }
+}
+
 // The same with another sample, and with fewer words.
 #[test]
 fn refuses_other_bits(rt: HostRuntime) -> Result<(), Fail> {

@@ -14,5 +14,6 @@ mod Found
 mod Skipping
 mod Candidates
 mod Shared
+mod AtOnce
 mod Few
 mod Floors

@@ -1,15 +1,13 @@
 -- Lemmas on marked documents, a bit for each.
-use Rattle.std.proofs.Common.{◌≡◌, refl, sym, ap, inl, inr, ◌∙◌, subst, ℕ, ◌+◌, ◌-◌, ◌*◌, ◌/◌, ◌%◌, ◌^◌, ◌<◌, ◌≤◌, ◌≢◌, true, false, eqb, List, [], ◌∷◌, ◌++◌, length, get_or, set, bit_and, bit_or, arith}
+use Rattle.std.proofs.Common.{◌≡◌, refl, sym, ap, inl, inr, ◌∙◌, subst, ℕ, ◌+◌, ◌-◌, ◌*◌, ◌/◌, ◌%◌, ◌^◌, ◌<◌, ◌≤◌, ◌≢◌, Bool, true, false, eqb, List, [], ◌∷◌, ◌++◌, length, get_or, set, bit_and, bit_or, arith}
 use Rattle.std.specs.Int.{w64, bit_at, bit_not, trailing_zeros}
-use Rattle.std.specs.List.{All, list_any}
+use Rattle.std.specs.List.{All}
 use Rattle.std.proofs.lemmas.Bool.{cases_lt, cases_eq, eq-eqb, eqb-false, ne_eqb}
 use Rattle.std.proofs.lemmas.List.{get_or-set_same, get_or-set_other}
-use Rattle.std.proofs.lemmas.Nat.Bits.{bit_at_set_same, bit_at_set_other, bit_at_clear_same, bit_at_clear_other, bit_at-trailing_zeros, bit_at-lt, bit_at-zero, bit_at_above, same_from_bits}
+use Rattle.std.proofs.lemmas.Nat.Bits.{bit_at_ones, bit_at_set_same, bit_at_set_other, bit_at_clear_same, bit_at_clear_other, bit_at-trailing_zeros, bit_at-lt, bit_at-zero, bit_at_above, same_from_bits}
 use Rattle.std.proofs.lemmas.Nat.{and_le_l}
-use Rattle.collection_model.specs.Collection.{Posting}
-use Rattle.scan_plans.specs.Matches.{has_doc, in_any}
-use Rattle.scan_plans.specs.Window.{is_marked, AreMarked, IsMarkedWord}
-use Rattle.scan_plans.proofs.Scans.{filter-skip, any-next}
+use Rattle.scan_plans.specs.Window.{is_marked, passing, AreMarkedBy, IsMarkedWord, AllAreMarked}
+use Rattle.scan_plans.proofs.Scans.{filter-skip, filter-yes}
 
 -- ---- a mark that is set
 module _ (marks : List ℕ) (at : ℕ) where
@@ -109,28 +107,28 @@ module _ (word low rest : ℕ) (some : 0 < rest) (fits : rest < 2 ^ 64) (so_far 
 
 -- the documents of the ones below a place were added
 pub record IsTaken (base low word : ℕ) (old now : List ℕ) : Type 0 where
-  pub docs : (lists : List (List Posting)) → IsMarkedWord lists base word → old ≡ in_any base lists → now ≡ in_any (base + low) lists
+  pub docs : (test : ℕ → Bool) → IsMarkedWord test base word → old ≡ passing test base → now ≡ passing test (base + low)
 
 pub taken-none : (base word : ℕ) (old : List ℕ) → IsTaken base 0 word old old
-taken-none base word old = record { docs = λ lists marked is. let start : base ≡ base + 0 = omega arith in is ∙ ap (λ (n : ℕ). in_any n lists) start }
+taken-none base word old = record { docs = λ test marked is. let start : base ≡ base + 0 = omega arith in is ∙ ap (passing test) start }
 
 taken-skip : (base low high word : ℕ) (old now : List ℕ) → low ≤ high → high ≤ 64 → ((k : ℕ) → low ≤ k → k < high → bit_at word k ≡ 0) → IsTaken base low word old now → IsTaken base high word old now
 taken-skip base low high word old now le within none so_far = record {
-  docs = λ lists marked is.
-      let nothing : (e : ℕ) → base + low ≤ e → e < base + high → list_any (has_doc e) lists ≡ false = λ e from lt.
+  docs = λ test marked is.
+      let nothing : (e : ℕ) → base + low ≤ e → e < base + high → test e ≡ false = λ e from lt.
       let k : ℕ = e - base in
       let at : base + k ≡ e = omega arith in
-      subst (λ (d : ℕ). list_any (has_doc d) lists ≡ false) at (sym (marked k (omega arith)) ∙ ne_eqb _ 1 (λ one. let zero = none k (omega arith) (omega arith) in absurd (omega arith))) in
-      so_far.docs lists marked is ∙ sym (filter-skip (λ d. list_any (has_doc d) lists) (base + low) (base + high) (omega arith) nothing);
+      subst (λ (d : ℕ). test d ≡ false) at (sym (marked k (omega arith)) ∙ ne_eqb _ 1 (λ one. let zero = none k (omega arith) (omega arith) in absurd (omega arith))) in
+      so_far.docs test marked is ∙ sym (filter-skip test (base + low) (base + high) (omega arith) nothing);
 }
 
 pub taken-more : (base low one word : ℕ) (old now new : List ℕ) → low ≤ one → one < 64 → ((k : ℕ) → low ≤ k → k < one → bit_at word k ≡ 0) → bit_at word one ≡ 1 → new ≡ now ++ (base + one) ∷ [] → IsTaken base low word old now → IsTaken base (one + 1) word old new
 taken-more base low one word old now new le within none is_one adds so_far =
     let skipped = taken-skip base low one word old now le (omega arith) none so_far in
     record {
-      docs = λ lists marked is.
+      docs = λ test marked is.
           let next : base + one + 1 ≡ base + (one + 1) = omega arith in
-          adds ∙ ap (λ (l : List ℕ). l ++ (base + one) ∷ []) (skipped.docs lists marked is) ∙ sym (any-next (base + one) (base + (one + 1)) lists next (sym (marked one within) ∙ eq-eqb _ 1 is_one));
+          adds ∙ ap (λ (l : List ℕ). l ++ (base + one) ∷ []) (skipped.docs test marked is) ∙ sym (filter-yes test (base + one) (base + (one + 1)) next (sym (marked one within) ∙ eq-eqb _ 1 is_one));
     }
 
 pub taken-all : (base low word : ℕ) (old now : List ℕ) → IsRest word low 0 → IsTaken base low word old now → IsTaken base 64 word old now
@@ -138,27 +136,31 @@ taken-all base low word old now rest so_far = taken-skip base low 64 word old no
 
 -- ---- the marked documents of a window, one word after another
 pub record IsAppended (first at : ℕ) (marks old now : List ℕ) : Type 0 where
-  pub docs : (lists : List (List Posting)) → AreMarked lists first marks → old ≡ in_any first lists → now ≡ in_any (first + at) lists
+  pub docs : (test : ℕ → Bool) → AreMarkedBy test first marks → old ≡ passing test first → now ≡ passing test (first + at)
 
 pub appended-none : (first : ℕ) (marks old : List ℕ) → IsAppended first 0 marks old old
-appended-none first marks old = record { docs = λ lists marked is. let start : first ≡ first + 0 = omega arith in is ∙ ap (λ (n : ℕ). in_any n lists) start }
+appended-none first marks old = record { docs = λ test marked is. let start : first ≡ first + 0 = omega arith in is ∙ ap (passing test) start }
 
 pub appended-more : (first i : ℕ) (marks old now new : List ℕ) → i < length marks → IsTaken (first + 64 * i) 64 (get_or marks i 0) now new → IsAppended first (64 * i) marks old now → IsAppended first (64 * (i + 1)) marks old new
 appended-more first i marks old now new within taken so_far = record {
-  docs = λ lists marked is.
+  docs = λ test marked is.
       let next : first + 64 * i + 64 ≡ first + 64 * (i + 1) = omega arith in
-      let word : IsMarkedWord lists (first + 64 * i) (get_or marks i 0) = λ k lt.
+      let word : IsMarkedWord test (first + 64 * i) (get_or marks i 0) = λ k lt.
       let at : first + (64 * i + k) ≡ first + 64 * i + k = omega arith in
-      sym (marked-at marks i k lt) ∙ marked (64 * i + k) (omega arith) ∙ ap (λ (d : ℕ). list_any (has_doc d) lists) at in
-      taken.docs lists word (so_far.docs lists marked is) ∙ ap (λ (n : ℕ). in_any n lists) next;
+      sym (marked-at marks i k lt) ∙ marked (64 * i + k) (omega arith) ∙ ap test at in
+      taken.docs test word (so_far.docs test marked is) ∙ ap (passing test) next;
 }
 
 -- behind the places that were reached nothing is marked
 pub appended-all : (first at : ℕ) (marks old now : List ℕ) → at ≤ 64 * length marks → ((k : ℕ) → at ≤ k → k < 64 * length marks → is_marked marks k ≡ false) → IsAppended first at marks old now
-    → (lists : List (List Posting)) → AreMarked lists first marks → old ≡ in_any first lists → now ≡ in_any (first + 64 * length marks) lists
-appended-all first at marks old now within behind so_far lists marked is =
-    let none : (e : ℕ) → first + at ≤ e → e < first + 64 * length marks → list_any (has_doc e) lists ≡ false = λ e from lt.
+    → (test : ℕ → Bool) → AreMarkedBy test first marks → old ≡ passing test first → now ≡ passing test (first + 64 * length marks)
+appended-all first at marks old now within behind so_far test marked is =
+    let none : (e : ℕ) → first + at ≤ e → e < first + 64 * length marks → test e ≡ false = λ e from lt.
     let k : ℕ = e - first in
     let here : first + k ≡ e = omega arith in
-    subst (λ (d : ℕ). list_any (has_doc d) lists ≡ false) here (sym (marked k (omega arith)) ∙ behind k (omega arith) (omega arith)) in
-    so_far.docs lists marked is ∙ sym (filter-skip (λ d. list_any (has_doc d) lists) (first + at) (first + 64 * length marks) (omega arith) none)
+    subst (λ (d : ℕ). test d ≡ false) here (sym (marked k (omega arith)) ∙ behind k (omega arith) (omega arith)) in
+    so_far.docs test marked is ∙ sym (filter-skip test (first + at) (first + 64 * length marks) (omega arith) none)
+
+-- every place is marked in words of ones
+pub all-marked : (marks : List ℕ) → ((j : ℕ) → j < length marks → get_or marks j 0 ≡ 2 ^ 64 - 1) → AllAreMarked marks
+all-marked marks ones k lt = eq-eqb _ 1 (ap (λ (w : ℕ). bit_at w (k % 64)) (ones (k / 64) (omega arith)) ∙ bit_at_ones 64 (k % 64) (omega arith))

@@ -1,7 +1,8 @@
-use Rattle.std.specs.Prelude.{◌≡◌, ◌≢◌, ℕ, ◌+◌, ◌-◌, ◌*◌, ◌/◌, ◌%◌, ◌<◌, ◌≤◌, ◌↔◌, ◌==◌, Bool, true, false, List, length, slice_index}
+use Rattle.std.specs.Prelude.{◌≡◌, ◌≢◌, ℕ, ◌+◌, ◌-◌, ◌*◌, ◌<◌, ◌≤◌, ◌↔◌, ◌==◌, Bool, true, false, List, length, slice_index}
 use Rattle.std.specs.Int.{bit_at}
-use Rattle.std.specs.List.{All, list_any}
+use Rattle.std.specs.List.{All, filter, list_any, range_with_len}
 use Rattle.collection_model.specs.Collection.{Posting}
+pub use Rattle.collection_model.specs.Marks.{is_marked}
 use Rattle.scan_plans.specs.Matches.{has_doc, score}
 
 -- the scores of the documents from one on, which are above 0 exactly where a list has the document
@@ -9,17 +10,25 @@ pub record AreScored (lists : List (List Posting)) (weights : List ℕ) (first :
   pub scored : (k : ℕ) → k < length scores → slice_index scores k ≡ score lists weights (first + k)
   pub found : (k : ℕ) → k < length scores → (0 < slice_index scores k) ↔ (list_any (has_doc (first + k)) lists ≡ true)
 
--- whether a place is marked: bit k mod 64 of word k div 64 is 1
-abbrev pub is_marked : List ℕ → ℕ → Bool
-is_marked marks k = bit_at (slice_index marks (k / 64)) (k % 64) == 1
+-- the documents below n that pass a test
+abbrev pub passing : (ℕ → Bool) → ℕ → List ℕ
+passing test n = filter test (range_with_len 0 n)
+
+-- The documents from one on that are marked are those that pass a test.
+abbrev pub AreMarkedBy : (ℕ → Bool) → ℕ → List ℕ → Type 0
+AreMarkedBy test first marks = (k : ℕ) → k < 64 * length marks → is_marked marks k ≡ test (first + k)
 
 -- whether any list has the documents from one on
 abbrev pub AreMarked : List (List Posting) → ℕ → List ℕ → Type 0
-AreMarked lists first marks = (k : ℕ) → k < 64 * length marks → is_marked marks k ≡ list_any (has_doc (first + k)) lists
+AreMarked lists first marks = AreMarkedBy (λ d. list_any (has_doc d) lists) first marks
 
--- whether any list has each of the 64 documents from one on, as the bits of a word say
-abbrev pub IsMarkedWord : List (List Posting) → ℕ → ℕ → Type 0
-IsMarkedWord lists base word = (k : ℕ) → k < 64 → (bit_at word k == 1) ≡ list_any (has_doc (base + k)) lists
+-- whether each of the 64 documents from one on passes a test, as the bits of a word say
+abbrev pub IsMarkedWord : (ℕ → Bool) → ℕ → ℕ → Type 0
+IsMarkedWord test base word = (k : ℕ) → k < 64 → (bit_at word k == 1) ≡ test (base + k)
+
+-- Each place of a window is marked.
+abbrev pub AllAreMarked : List ℕ → Type 0
+AllAreMarked marks = (k : ℕ) → k < 64 * length marks → is_marked marks k ≡ true
 
 -- documents that lie in a window of so many from one on
 abbrev pub AreInside : ℕ → ℕ → List ℕ → Type 0

@@ -1,10 +1,11 @@
-ghost use Rattle.std.specs.Prelude.{◌≡◌, ℕ, ◌+◌, ◌*◌, ◌^◌, ◌≤◌, ◌<◌, true, false, List, ◌∷◌, map, length, IfOk, OnOk};
+ghost use Rattle.std.specs.Prelude.{◌≡◌, ℕ, ◌+◌, ◌*◌, ◌^◌, ◌≤◌, ◌<◌, ◌&&◌, Bool, true, false, List, ◌∷◌, map, length, IfOk, OnOk};
 ghost use Rattle.std.specs.Int.{bit_at};
 ghost use Rattle.std.specs.List.{All};
 ghost use Rattle.std.specs.List.Sorted.{IsPermutation, IsNonDecreasingBy};
 ghost use Rattle.collection_model.specs.Collection.{Posting};
 ghost use Rattle.scan_plans.specs.Matches.{AreBelow, in_all, in_any};
-ghost use Rattle.scan_plans.specs.Window.{AreMarked, IsMarkedWord, is_marked};
+ghost use Rattle.scan_plans.specs.Scan.{in_each};
+ghost use Rattle.scan_plans.specs.Window.{AllAreMarked, AreMarkedBy, IsMarkedWord, is_marked, passing};
 
 use crate::scan::{catch_up, least_doc};
 use crate::window::{Block, MARKED_WORDS, mark_lists, new_marks};
@@ -15,8 +16,14 @@ use std::alloc::Global;
 // How many documents room is taken for at first, at most.
 const FIRST_ROOM: usize = 64;
 
+// How many words of marks are told at once, at most.
+const WORDS_AT_ONCE: usize = 64;
+
+// How many documents lie between two tries to tell words, at least.
+const UNTRIED: u32 = 256;
+
 /// The documents that are in all the lists, rising; none where there is no list. It goes along the shortest list, whose documents
-/// the others are asked for by `next_geq`, and leaves the cursors in the order of their lists' lengths.
+/// the others are asked for by `next_geq`, or by whole words of marks, and leaves the cursors in the order of their lists' lengths.
 pub fn and_docs<C: DocCursor>(alloc: Global, cursors: &mut [C]) -> Result<Vec<u32>, NoMemory>
     requires few { length cursors.old ≤ 1024 }
     requires at_start { All (λ c. C.place c ≡ 0) cursors.old }
@@ -29,7 +36,8 @@ pub fn and_docs<C: DocCursor>(alloc: Global, cursors: &mut [C]) -> Result<Vec<u3
     }
 }
 
-// The documents that a list and all the others have, rising, from the starts of the lists on.
+// The documents that a list and all the others have, rising, from the starts of the lists on. Where all of them tell whole words of
+// marks, the documents of these words are told at once.
 fn shared_docs<C: DocCursor>(
     alloc: Global,
     shortest: &mut C,
@@ -41,18 +49,81 @@ fn shared_docs<C: DocCursor>(
 {
     next_geq_is_first();
     let mut docs = Vec::with_capacity(alloc, FIRST_ROOM.min(shortest.len() as usize))?;
+    let mut marks = [u64::MAX; WORDS_AT_ONCE];
+    let mut next_try = 0;
     while let Some(doc) = shortest.doc() {
         let Some(next) = catch_up(others, doc) else {
             return Ok(docs);
         };
-        if next == doc {
+        if next != doc {
+            shortest.next_geq(next);
+            continue;
+        }
+        let words = append_words(&mut docs, doc, shortest, others, &mut marks, &mut next_try)?;
+        if words > 0 {
+            shortest.next_geq(doc.saturating_add(64 * words as u32));
+        } else {
             docs.push(doc)?;
             shortest.advance();
-        } else {
-            shortest.next_geq(next);
         }
     }
     Ok(docs)
+}
+
+// Adds the documents from one on that a list and all the others have, in as many whole words of marks as all of them tell, and tells
+// how many words these are. Where a try was made not long before, it makes none. All places are marked, and are so again in the end.
+fn append_words<C: DocCursor>(
+    docs: &mut Vec<u32>,
+    first: u32,
+    shortest: &C,
+    others: &[C],
+    marks: &mut [u64],
+    next_try: &mut u32,
+) -> Result<usize, NoMemory>
+    requires small { length marks.old ≤ 1024 }
+    requires marked { AllAreMarked marks.old }
+    ensures within { IfOk result (λ words. words ≤ length marks.old) }
+    ensures docs { IfOk result (λ words. docs.old.items ≡ passing (λ d. in_each d (C.list shortest.now ∷ map C.list others.now)) first → docs.new.items ≡ passing (λ d. in_each d (C.list shortest.now ∷ map C.list others.now)) (first + 64 * words)) }
+    ensures count { length marks.new ≡ length marks.old }
+    ensures marked { OnOk result (AllAreMarked marks.new) }
+{
+    if first < *next_try {
+        return Ok(0);
+    }
+    *next_try = first.saturating_add(UNTRIED);
+    let told = shortest.keep_in_words(first, marks);
+    if told == 0 {
+        return Ok(0);
+    }
+    let words = keep_in_all(others, first, told, marks);
+    append_marked(docs, first, 64 * words, &mut marks[..words])?;
+    mark_all(marks);
+    Ok(words)
+}
+
+// Takes back the marks of documents that any of the lists does not have, in as many of the first words, `most` at most, as all the
+// cursors tell. It tells how many words these are.
+fn keep_in_all<C: DocCursor>(cursors: &[C], first: u32, most: usize, marks: &mut [u64]) -> usize
+    requires room { most ≤ length marks.old }
+    ensures within { result ≤ most }
+    ensures count { length marks.new ≡ length marks.old }
+    ensures kept { (k : ℕ) → k < 64 * result → is_marked marks.new k ≡ (is_marked marks.old k && in_each (first + k) (map C.list cursors.now)) }
+{
+    let mut words = most;
+    for cursor in cursors {
+        words = cursor.keep_in_words(first, &mut marks[..words]);
+    }
+    words
+}
+
+// Marks all places.
+fn mark_all(marks: &mut [u64])
+    ensures count { length marks.new ≡ length marks.old }
+    ensures marked { AllAreMarked marks.new }
+{
+    for i in 0..marks.len() {
+        marks[i] = u64::MAX;
+    }
 }
 
 // Puts the cursors into the order of their lists' lengths.
@@ -92,7 +163,7 @@ fn append_marked(
     requires within { reached ≤ 64 * length marks.old }
     requires behind { (k : ℕ) → reached ≤ k → k < 64 * length marks.old → is_marked marks.old k ≡ false }
     requires fit { (k : ℕ) → k < 64 * length marks.old → is_marked marks.old k ≡ true → first + k < 2 ^ 32 }
-    ensures docs { OnOk result ((lists : List (List Posting)) → AreMarked lists first marks.old → docs.old.items ≡ in_any first lists → docs.new.items ≡ in_any (first + 64 * length marks.old) lists) }
+    ensures docs { OnOk result ((test : ℕ → Bool) → AreMarkedBy test first marks.old → docs.old.items ≡ passing test first → docs.new.items ≡ passing test (first + 64 * length marks.old)) }
     ensures count { length marks.new ≡ length marks.old }
     ensures clear { OnOk result (All (λ w. w ≡ 0) marks.new) }
 {
@@ -106,7 +177,7 @@ fn append_marked(
 // Adds the documents that the bits of a word mark, of which the lowest stands for document `base` and each for the one after.
 fn append_word(docs: &mut Vec<u32>, base: u64, word: u64) -> Result<(), NoMemory>
     requires fit { (k : ℕ) → k < 64 → bit_at word k ≡ 1 → base + k < 2 ^ 32 }
-    ensures docs { OnOk result ((lists : List (List Posting)) → IsMarkedWord lists base word → docs.old.items ≡ in_any base lists → docs.new.items ≡ in_any (base + 64) lists) }
+    ensures docs { OnOk result ((test : ℕ → Bool) → IsMarkedWord test base word → docs.old.items ≡ passing test base → docs.new.items ≡ passing test (base + 64)) }
 {
     let mut rest = word;
     while rest != 0 {

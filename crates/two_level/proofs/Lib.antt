@@ -16,3 +16,4 @@ mod Blocks
 mod Steps
 mod LongSteps
 mod PartSteps
+mod Kept

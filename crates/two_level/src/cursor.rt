@@ -1,4 +1,5 @@
 ghost use Rattle.std.specs.Prelude.{◌≡◌, ℕ, ◌≤◌, ◌<◌, ◌+◌, length, slice_index, take, IfSome, IfNone};
+ghost use Rattle.collection_model.specs.Marks.{AreKept};
 ghost use Rattle.collection_model.specs.NextBelow.{AreNextBelow};
 ghost use Rattle.two_level.specs.SequenceView.{place_at_least};
 
@@ -195,6 +196,17 @@ impl<'a> SeqCursor<'a> {
             (self.counted, self.known, self.value) = self
                 .directory
                 .first_from_part(behind, x, &mut self.held);
+        }
+    }
+
+    /// Takes back the marks of numbers that are no values, in as many whole words of marks as it tells: bit k of the words stands for
+    /// `first` + k. The others are left.
+    pub fn keep_in_words(&self, first: u64, marks: &mut [u64]) -> usize
+        ensures { AreKept self.now.sequence.values first marks.old marks.new result }
+    {
+        match &self.held {
+            Some(held) => held.keep_in_words(first, marks),
+            None => 0,
         }
     }
 

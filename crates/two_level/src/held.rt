@@ -26,8 +26,8 @@ pub(crate) const BLOCK: usize = 64;
 pub(crate) struct HeldPart<'a> {
     pub(crate) index: u32,
     pub(crate) part: Part,
-    past: u64,
-    view: PartView<'a>,
+    pub(crate) past: u64,
+    pub(crate) view: PartView<'a>,
 }
 
 // Number k of a part that holds some numbers.

@@ -17,6 +17,7 @@ mod stepping;
 #[cfg(test)]
 mod tests;
 mod view;
+mod words_kept;
 mod write;
 
 pub use check::Check;

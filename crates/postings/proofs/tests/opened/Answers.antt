@@ -15,18 +15,18 @@ use Rattle.postings.proofs.tests.opened.Goals as goal
 
 -- two sequences of one length with steps that fit are those of a cursor's list
 cursor-list : (format : FormatNumbers) (docs sums doc_ends sum_ends doc_words sum_words : List ℕ) (m doc_parts sum_parts : ℕ)
-    → (used : ℕ) × BeginsSequence format m 3 doc_parts docs doc_ends doc_words used → (used : ℕ) × BeginsSequence format m format.most_sum sum_parts sums sum_ends sum_words used
+    → (used : ℕ) × BeginsSequence format m 1000 doc_parts docs doc_ends doc_words used → (used : ℕ) × BeginsSequence format m format.most_sum sum_parts sums sum_ends sum_words used
     → All (λ f. f < 2 ^ 32) (steps_from 0 sums) → IsCursorList (postings_in docs sums)
 cursor-list format docs sums doc_ends sum_ends doc_words sum_words m doc_parts sum_parts d s fit =
-    let list = list-of_sequences format 3 docs sums d.1.sequence.rising d.1.sequence.below s.1.sequence.rising s.1.sequence.below (d.1.sequence.count ∙ sym s.1.sequence.count) fit in
-    list-of_cursor format 3 (postings_in docs sums) (omega arith) list.well_formed
+    let list = list-of_sequences format 1000 docs sums d.1.sequence.rising d.1.sequence.below s.1.sequence.rising s.1.sequence.below (d.1.sequence.count ∙ sym s.1.sequence.count) fit in
+    list-of_cursor format 1000 (postings_in docs sums) (omega arith) list.well_formed
 
 pub new-requires-clause-list : goal.new-requires-clause-list
 new-requires-clause-list g c =
     let docs : SequenceView = c.expect-docs.result in
     let sums : SequenceView = c.expect-sums.result in
-    let d : (used : ℕ) × BeginsSequence (numbers_of c.args.format) c.args.m 3 c.args.doc_parts docs.values docs.ends c.args.docs.now used =
-    IfOk-at_ok (λ v. (used : ℕ) × BeginsSequence (numbers_of c.args.format) c.args.m 3 c.args.doc_parts v.values v.ends c.args.docs.now used) c.expect-docs.ensures c.check.ensures.ok in
+    let d : (used : ℕ) × BeginsSequence (numbers_of c.args.format) c.args.m 1000 c.args.doc_parts docs.values docs.ends c.args.docs.now used =
+    IfOk-at_ok (λ v. (used : ℕ) × BeginsSequence (numbers_of c.args.format) c.args.m 1000 c.args.doc_parts v.values v.ends c.args.docs.now used) c.expect-docs.ensures c.check.ensures.ok in
     let s : (used : ℕ) × BeginsSequence (numbers_of c.args.format) c.args.m (numbers_of c.args.format).most_sum c.args.sum_parts sums.values sums.ends c.args.sums.now used =
     IfOk-at_ok (λ v. (used : ℕ) × BeginsSequence (numbers_of c.args.format) c.args.m (numbers_of c.args.format).most_sum c.args.sum_parts v.values v.ends c.args.sums.now used) c.expect-sums.ensures
     (subst (λ bound. IfOk c.check-2.result (λ v. (used : ℕ) × BeginsSequence (numbers_of c.args.format) c.args.m bound c.args.sum_parts v.values v.ends c.args.sums.now used)) c.most_sum.ensures c.check-2.ensures.ok) in

@@ -1,9 +1,14 @@
-use Rattle.std.proofs.Common.{◌≡◌, refl, sym, ap, ◌∙◌, subst, ℕ, ◌+◌, ◌<◌, ◌≤◌, true, false, List, ◌∷◌, length, map, Some, arith}
+use Rattle.std.proofs.Common.{◌≡◌, refl, sym, ap, ◌∙◌, subst, ℕ, ◌+◌, ◌-◌, ◌*◌, ◌^◌, ◌<◌, ◌≤◌, true, false, List, ◌∷◌, length, map, replicate, Some, arith}
+use Rattle.std.proofs.lemmas.List.{get_or-replicate}
 use Rattle.collection_model.specs.Collection.{Posting}
 use Rattle.cursor_api.specs.NextGeq.{IsCursorAt}
 use Rattle.scan_plans.specs.Scan.{doc_at, StandsFrom, in_each}
+use Rattle.scan_plans.specs.Window.{passing}
 use Rattle.scan_plans.proofs.Postings.{doc_at-some}
 use Rattle.scan_plans.proofs.Shared.{turn, in-both, skip-to, none-later, none-left, farther}
+use Rattle.scan_plans.proofs.AtOnce.{stands-capped}
+use Rattle.scan_plans.proofs.Marks.{all-marked}
+use Rattle.scan_plans.proofs.Scans.{filter-skip}
 use Rattle.scan_plans.proofs.Skipping.{stands-one_later}
 use Rattle.scan_plans.proofs.Steps.{and-step, and-end, moved-stands, starts-passed, later-passed}
 use Rattle.scan_plans.proofs.docs.shared_docs.Goals as goal
@@ -16,7 +21,26 @@ loop-doc-init g c = record {
   stand = (let start = c.requires.at_start in record { passed = λ k lt. absurd (omega arith); left = λ k from within. omega arith });
   passed = starts-passed g.C.DocCursor.list g.C.DocCursor.place c.args.others.now c.requires.others_at_start;
   docs = c.in_ok-docs.ensures.items;
+  room = refl;
+  marked = all-marked (replicate 64 (2 ^ 64 - 1)) (λ j lt. get_or-replicate 64 j (2 ^ 64 - 1) 0 lt);
 }
+
+pub catch_up-requires : goal.catch_up-requires
+catch_up-requires g c =
+    let list = g.C.DocCursor.list in
+    let place = g.C.DocCursor.place in
+    let so_far = c.loop-doc.invariant in
+    let low : ℕ = so_far.low in
+    let doc : ℕ = c.in-Some.doc in
+    let first : List Posting = list c.args.shortest.now in
+    let others : List (List Posting) = map list c.args.others.now in
+    let at : ℕ = place c.loop-doc.shortest in
+    let good = subst (λ (l : List Posting). IsCursorAt l at) so_far.list (g.met.C.DocCursor.well_formed c.loop-doc.shortest) in
+    let stand = subst (λ (l : List Posting). StandsFrom low l at) so_far.list so_far.stand in
+    let is : doc_at first at ≡ Some doc = ap (λ (l : List Posting). doc_at l at) (sym so_far.list) ∙ sym c.doc.ensures ∙ c.in-Some.is in
+    let turn = turn first others low doc at good stand is in
+    let later = turn.later in
+    record { passed = later-passed list place c.loop-doc.others low doc later so_far.passed }
 
 pub returns-in_default-catch_up : goal.returns-in_default-catch_up
 returns-in_default-catch_up g c = λ n below.
@@ -36,38 +60,8 @@ returns-in_default-catch_up g c = λ n below.
     and-end (first ∷ others) (first ∷ others) c.loop-doc.docs.items low n refl (omega arith) so_far.docs
     (none-later first others low doc turn.none (λ d from. ap (in_each d) (sym so_far.lists) ∙ c.in_default-catch_up.ensures.ends d from)) below
 
-pub advance-requires : goal.advance-requires
-advance-requires g c = (doc_at-some (g.C.DocCursor.list c.loop-doc.shortest) (g.C.DocCursor.place c.loop-doc.shortest) c.in-Some.doc (sym c.doc.ensures ∙ c.in-Some.is)).0
-
-pub loop-doc-preserved-then-next-doc : goal.loop-doc-preserved-then-next-doc
-loop-doc-preserved-then-next-doc g c =
-    let list = g.C.DocCursor.list in
-    let place = g.C.DocCursor.place in
-    let so_far = c.loop-doc.invariant in
-    let low : ℕ = so_far.low in
-    let doc : ℕ = c.in-Some.doc in
-    let first : List Posting = list c.args.shortest.now in
-    let others : List (List Posting) = map list c.args.others.now in
-    let at : ℕ = place c.loop-doc.shortest in
-    let good = subst (λ (l : List Posting). IsCursorAt l at) so_far.list (g.met.C.DocCursor.well_formed c.loop-doc.shortest) in
-    let stand = subst (λ (l : List Posting). StandsFrom low l at) so_far.list so_far.stand in
-    let is : doc_at first at ≡ Some doc = ap (λ (l : List Posting). doc_at l at) (sym so_far.list) ∙ sym c.doc.ensures ∙ c.in-Some.is in
-    let turn = turn first others low doc at good stand is in
-    let later = turn.later in
-    let all : in_each doc (first ∷ others) ≡ true = in-both first others doc turn.has (ap (in_each doc) (sym so_far.lists) ∙ c.in-Some-catch_up.ensures.agreed (ap Some c.if-next-doc.true)) in
-    let here : doc_at (list c.loop-doc.shortest) at ≡ Some doc = sym c.doc.ensures ∙ c.in-Some.is in
-    let moved : StandsFrom (doc + 1) (list c.loop-doc.shortest) (at + 1) = stands-one_later (list c.loop-doc.shortest) doc at (g.met.C.DocCursor.well_formed c.loop-doc.shortest) here in
-    record {
-      low = doc + 1;
-      list = c.advance.ensures.list ∙ so_far.list;
-      lists = c.in-Some-catch_up.ensures.lists ∙ so_far.lists;
-      stand = subst (λ (p : ℕ). StandsFrom (doc + 1) (list c.advance.new.self) p) (sym c.advance.ensures.place) (subst (λ (l : List Posting). StandsFrom (doc + 1) l (at + 1)) (sym c.advance.ensures.list) moved);
-      passed = later-passed list place c.catch_up.new.cursors doc (doc + 1) (omega arith) c.in-Some-catch_up.ensures.passed;
-      docs = and-step (first ∷ others) (first ∷ others) c.loop-doc.docs.items _ low doc refl c.in_ok-push.ensures.items so_far.docs later turn.none all;
-    }
-
-pub loop-doc-smaller : goal.loop-doc-smaller
-loop-doc-smaller g c =
+pub loop-doc-smaller-then-next-doc : goal.loop-doc-smaller-then-next-doc
+loop-doc-smaller-then-next-doc g c =
     let list = g.C.DocCursor.list in
     let place = g.C.DocCursor.place in
     let so_far = c.loop-doc.invariant in
@@ -84,7 +78,7 @@ loop-doc-smaller g c =
     let far = c.in-Some-catch_up.ensures.later.0 in
     let none : (d : ℕ) → doc ≤ d → d < c.in-Some-catch_up.next → in_each d others ≡ false = λ d from before. ap (in_each d) (sym so_far.lists) ∙ c.in-Some-catch_up.ensures.later.1 d from before in
     let next : ℕ = c.in-Some-catch_up.next in
-    let other = c.if-next-doc.false in
+    let other = c.if-next-doc.true in
     let here : doc_at (list c.loop-doc.shortest) at ≡ Some doc = sym c.doc.ensures ∙ c.in-Some.is in
     let now = so_far.stand in
     let moved = moved-stands list place c.next_geq_is_first.ensures.first next c.loop-doc.shortest c.next_geq.new.self (g.met.C.DocCursor.well_formed c.loop-doc.shortest) (record { passed = λ j lt. let h = now.passed j lt in omega arith }) c.next_geq.ensures.list c.next_geq.ensures.place in
@@ -93,8 +87,8 @@ loop-doc-smaller g c =
     let count = ap length c.next_geq.ensures.list in
     omega arith
 
-pub loop-doc-preserved : goal.loop-doc-preserved
-loop-doc-preserved g c =
+pub loop-doc-preserved-then-next-doc : goal.loop-doc-preserved-then-next-doc
+loop-doc-preserved-then-next-doc g c =
     let list = g.C.DocCursor.list in
     let place = g.C.DocCursor.place in
     let so_far = c.loop-doc.invariant in
@@ -120,6 +114,122 @@ loop-doc-preserved g c =
       stand = moved;
       passed = later-passed list place c.catch_up.new.cursors doc next far c.in-Some-catch_up.ensures.passed;
       docs = skip-to first others c.loop-doc.docs.items low doc next later far turn.none none so_far.docs;
+      room = so_far.room;
+      marked = so_far.marked;
+    }
+
+pub loop-doc-smaller-then-words-gt0 : goal.loop-doc-smaller-then-words-gt0
+loop-doc-smaller-then-words-gt0 g c =
+    let list = g.C.DocCursor.list in
+    let place = g.C.DocCursor.place in
+    let so_far = c.loop-doc.invariant in
+    let low : ℕ = so_far.low in
+    let doc : ℕ = c.in-Some.doc in
+    let first : List Posting = list c.args.shortest.now in
+    let others : List (List Posting) = map list c.args.others.now in
+    let at : ℕ = place c.loop-doc.shortest in
+    let good = subst (λ (l : List Posting). IsCursorAt l at) so_far.list (g.met.C.DocCursor.well_formed c.loop-doc.shortest) in
+    let stand = subst (λ (l : List Posting). StandsFrom low l at) so_far.list so_far.stand in
+    let is : doc_at first at ≡ Some doc = ap (λ (l : List Posting). doc_at l at) (sym so_far.list) ∙ sym c.doc.ensures ∙ c.in-Some.is in
+    let turn = turn first others low doc at good stand is in
+    let later = turn.later in
+    let words : ℕ = c.in_ok-words.words in
+    let told = c.in_ok-words.ensures in
+    let some = c.if-words-gt0.true in
+    let room = so_far.room in
+    let next : ℕ = doc + 64 * words in
+    let capped : ℕ = c.saturating_add.result in
+    let now = so_far.stand in
+    let moved = stands-capped (list c.next_geq-then-words-gt0.new.self) next capped (place c.next_geq-then-words-gt0.new.self) (g.met.C.DocCursor.well_formed c.next_geq-then-words-gt0.new.self).well_formed (omega (arith, c.saturating_add.ensures, told.within))
+    (moved-stands list place c.next_geq_is_first.ensures.first capped c.loop-doc.shortest c.next_geq-then-words-gt0.new.self (g.met.C.DocCursor.well_formed c.loop-doc.shortest)
+    (record { passed = λ j lt. let h = now.passed j lt in omega (arith, c.saturating_add.ensures, told.within) }) c.next_geq-then-words-gt0.ensures.list c.next_geq-then-words-gt0.ensures.place) in
+    let here : doc_at (list c.loop-doc.shortest) at ≡ Some doc = sym c.doc.ensures ∙ c.in-Some.is in
+    let on = farther (list c.loop-doc.shortest) doc next at (place c.next_geq-then-words-gt0.new.self) here (omega arith) (subst (λ (l : List Posting). StandsFrom next l (place c.next_geq-then-words-gt0.new.self)) c.next_geq-then-words-gt0.ensures.list moved) in
+    let within = (doc_at-some (list c.loop-doc.shortest) at doc here).0 in
+    let count = ap length c.next_geq-then-words-gt0.ensures.list in
+    omega arith
+
+pub loop-doc-preserved-then-words-gt0 : goal.loop-doc-preserved-then-words-gt0
+loop-doc-preserved-then-words-gt0 g c =
+    let list = g.C.DocCursor.list in
+    let place = g.C.DocCursor.place in
+    let so_far = c.loop-doc.invariant in
+    let low : ℕ = so_far.low in
+    let doc : ℕ = c.in-Some.doc in
+    let first : List Posting = list c.args.shortest.now in
+    let others : List (List Posting) = map list c.args.others.now in
+    let at : ℕ = place c.loop-doc.shortest in
+    let good = subst (λ (l : List Posting). IsCursorAt l at) so_far.list (g.met.C.DocCursor.well_formed c.loop-doc.shortest) in
+    let stand = subst (λ (l : List Posting). StandsFrom low l at) so_far.list so_far.stand in
+    let is : doc_at first at ≡ Some doc = ap (λ (l : List Posting). doc_at l at) (sym so_far.list) ∙ sym c.doc.ensures ∙ c.in-Some.is in
+    let turn = turn first others low doc at good stand is in
+    let later = turn.later in
+    let words : ℕ = c.in_ok-words.words in
+    let told = c.in_ok-words.ensures in
+    let some = c.if-words-gt0.true in
+    let room = so_far.room in
+    let next : ℕ = doc + 64 * words in
+    let capped : ℕ = c.saturating_add.result in
+    let now = so_far.stand in
+    let moved = stands-capped (list c.next_geq-then-words-gt0.new.self) next capped (place c.next_geq-then-words-gt0.new.self) (g.met.C.DocCursor.well_formed c.next_geq-then-words-gt0.new.self).well_formed (omega (arith, c.saturating_add.ensures, told.within))
+    (moved-stands list place c.next_geq_is_first.ensures.first capped c.loop-doc.shortest c.next_geq-then-words-gt0.new.self (g.met.C.DocCursor.well_formed c.loop-doc.shortest)
+    (record { passed = λ j lt. let h = now.passed j lt in omega (arith, c.saturating_add.ensures, told.within) }) c.next_geq-then-words-gt0.ensures.list c.next_geq-then-words-gt0.ensures.place) in
+    let same : list c.loop-doc.shortest ∷ map list c.catch_up.new.cursors ≡ first ∷ others =
+    ap (λ (l : List Posting). l ∷ map list c.catch_up.new.cursors) so_far.list ∙ ap (λ (ls : List (List Posting)). first ∷ ls) (c.in-Some-catch_up.ensures.lists ∙ so_far.lists) in
+    let skipped : c.loop-doc.docs.items ≡ passing (λ d. in_each d (list c.loop-doc.shortest ∷ map list c.catch_up.new.cursors)) doc =
+    so_far.docs ∙ sym (filter-skip (λ d. in_each d (first ∷ others)) low doc later turn.none) ∙ ap (λ (ls : List (List Posting)). passing (λ d. in_each d ls) doc) (sym same) in
+    let added : c.append_words.new.docs.items ≡ passing (λ d. in_each d (first ∷ others)) (doc + 64 * c.in_ok-words.words) =
+    c.in_ok-words.ensures.docs skipped ∙ ap (λ (ls : List (List Posting)). passing (λ d. in_each d ls) (doc + 64 * c.in_ok-words.words)) same in
+    record {
+      low = next;
+      list = c.next_geq-then-words-gt0.ensures.list ∙ so_far.list;
+      lists = c.in-Some-catch_up.ensures.lists ∙ so_far.lists;
+      stand = moved;
+      passed = later-passed list place c.catch_up.new.cursors doc next (omega arith) c.in-Some-catch_up.ensures.passed;
+      docs = added;
+      room = told.count ∙ so_far.room;
+      marked = told.marked;
+    }
+
+pub advance-requires : goal.advance-requires
+advance-requires g c = (doc_at-some (g.C.DocCursor.list c.loop-doc.shortest) (g.C.DocCursor.place c.loop-doc.shortest) c.in-Some.doc (sym c.doc.ensures ∙ c.in-Some.is)).0
+
+pub loop-doc-preserved : goal.loop-doc-preserved
+loop-doc-preserved g c =
+    let list = g.C.DocCursor.list in
+    let place = g.C.DocCursor.place in
+    let so_far = c.loop-doc.invariant in
+    let low : ℕ = so_far.low in
+    let doc : ℕ = c.in-Some.doc in
+    let first : List Posting = list c.args.shortest.now in
+    let others : List (List Posting) = map list c.args.others.now in
+    let at : ℕ = place c.loop-doc.shortest in
+    let good = subst (λ (l : List Posting). IsCursorAt l at) so_far.list (g.met.C.DocCursor.well_formed c.loop-doc.shortest) in
+    let stand = subst (λ (l : List Posting). StandsFrom low l at) so_far.list so_far.stand in
+    let is : doc_at first at ≡ Some doc = ap (λ (l : List Posting). doc_at l at) (sym so_far.list) ∙ sym c.doc.ensures ∙ c.in-Some.is in
+    let turn = turn first others low doc at good stand is in
+    let later = turn.later in
+    let all : in_each doc (first ∷ others) ≡ true = in-both first others doc turn.has (ap (in_each doc) (sym so_far.lists) ∙ c.in-Some-catch_up.ensures.agreed (ap Some (omega (arith, c.if-next-doc.false)))) in
+    let here : doc_at (list c.loop-doc.shortest) at ≡ Some doc = sym c.doc.ensures ∙ c.in-Some.is in
+    let moved : StandsFrom (doc + 1) (list c.loop-doc.shortest) (at + 1) = stands-one_later (list c.loop-doc.shortest) doc at (g.met.C.DocCursor.well_formed c.loop-doc.shortest) here in
+    let same : list c.loop-doc.shortest ∷ map list c.catch_up.new.cursors ≡ first ∷ others =
+    ap (λ (l : List Posting). l ∷ map list c.catch_up.new.cursors) so_far.list ∙ ap (λ (ls : List (List Posting)). first ∷ ls) (c.in-Some-catch_up.ensures.lists ∙ so_far.lists) in
+    let skipped : c.loop-doc.docs.items ≡ passing (λ d. in_each d (list c.loop-doc.shortest ∷ map list c.catch_up.new.cursors)) doc =
+    so_far.docs ∙ sym (filter-skip (λ d. in_each d (first ∷ others)) low doc later turn.none) ∙ ap (λ (ls : List (List Posting)). passing (λ d. in_each d ls) doc) (sym same) in
+    let added : c.append_words.new.docs.items ≡ passing (λ d. in_each d (first ∷ others)) (doc + 64 * c.in_ok-words.words) =
+    c.in_ok-words.ensures.docs skipped ∙ ap (λ (ls : List (List Posting)). passing (λ d. in_each d ls) (doc + 64 * c.in_ok-words.words)) same in
+    let none : c.in_ok-words.words ≡ 0 = (let zero = c.if-words-gt0.false in omega arith) in
+    let start : doc + 64 * c.in_ok-words.words ≡ doc = omega arith in
+    let there : c.append_words.new.docs.items ≡ passing (λ d. in_each d (first ∷ others)) doc = added ∙ ap (passing (λ d. in_each d (first ∷ others))) start in
+    record {
+      low = doc + 1;
+      list = c.advance.ensures.list ∙ so_far.list;
+      lists = c.in-Some-catch_up.ensures.lists ∙ so_far.lists;
+      stand = subst (λ (p : ℕ). StandsFrom (doc + 1) (list c.advance.new.self) p) (sym c.advance.ensures.place) (subst (λ (l : List Posting). StandsFrom (doc + 1) l (at + 1)) (sym c.advance.ensures.list) moved);
+      passed = later-passed list place c.catch_up.new.cursors doc (doc + 1) (omega arith) c.in-Some-catch_up.ensures.passed;
+      docs = and-step (first ∷ others) (first ∷ others) c.append_words.new.docs.items _ doc doc refl c.in_ok-push.ensures.items there (omega arith) (λ d from before. absurd (omega arith)) all;
+      room = c.in_ok-words.ensures.count ∙ so_far.room;
+      marked = c.in_ok-words.ensures.marked;
     }
 
 pub returns : goal.returns
