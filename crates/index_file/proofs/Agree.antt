@@ -1,5 +1,5 @@
 -- Lemmas on two first checks of the same words.
-use Rattle.std.proofs.Common.{◌≡◌, ℕ, ◌<◌, Bool, true, false, List, length, inl, inr, sym, subst, arith}
+use Rattle.std.proofs.Common.{◌≡◌, ℕ, ◌<◌, Bool, true, false, List, inl, inr, sym, subst, arith}
 use Rattle.std.specs.Prelude.{◌⊎◌, MatchBool}
 use Rattle.std.proofs.lemmas.Bool.{cases_lt}
 use Rattle.collection_model.specs.FormatNumbers.{FormatNumbers}
@@ -49,9 +49,9 @@ from-found F G k L M X Y h more = elim h [ inl (q, f, g) ↦ inl (k, q, f, g) | 
 from-here : (F G : Check → ℕ → Type 0) (k : Check) (q : ℕ) (L M X Y : Type 0) → (F k q × G k q) ⊎ (L × M) → (L → M → Both F G ⊎ (X × Y)) → Both F G ⊎ (X × Y)
 from-here F G k q L M X Y h more = elim h [ inl (f, g) ↦ inl (k, q, f, g) | inr (l, m) ↦ more l m ]
 
-pub first-agree : (format : FormatNumbers) (words : List ℕ) (s p parts m bound : ℕ) (F G : Check → ℕ → Type 0) (L M : Type 0)
-    → FirstInSequence format words s p parts m bound F L → FirstInSequence format words s p parts m bound G M → Both F G ⊎ (L × M)
-first-agree format words s p parts m bound F G L M h k =
+pub first-agree : (format : FormatNumbers) (words : List ℕ) (parts m bound : ℕ) (F G : Check → ℕ → Type 0) (L M : Type 0)
+    → FirstInSequence format words parts m bound F L → FirstInSequence format words parts m bound G M → Both F G ⊎ (L × M)
+first-agree format words parts m bound F G L M h k =
     from-found F G K7 _ _ L M (first-of-agree _ (F K7) (G K7) parts _ _ h k)
     (λ h1 k1. from-here F G K7 parts _ _ L M (match-agree _ _ _ _ _ h1 k1)
     (λ h2 k2. from-found F G K8 _ _ L M (first-of-agree _ (F K8) (G K8) parts _ _ h2 k2)
@@ -59,9 +59,9 @@ first-agree format words s p parts m bound F G L M h k =
 
 -- where none breaks, what comes later holds
 pub later-of : (format : FormatNumbers) (words : List ℕ) (parts m bound : ℕ) (F : Check → ℕ → Type 0) (L : Type 0) → PassChecks format words parts m bound
-    → FirstInSequence format words (length words) 0 parts m bound F L → L
+    → FirstInSequence format words parts m bound F L → L
 later-of format words parts m bound F L pass h =
-    elim (first-agree format words (length words) 0 parts m bound F (λ k q. ⊥) L (Unit {0}) h (passed format words parts m bound (λ k q. ⊥) (Unit {0}) pass tt)) [
+    elim (first-agree format words parts m bound F (λ k q. ⊥) L (Unit {0}) h (passed format words parts m bound (λ k q. ⊥) (Unit {0}) pass tt)) [
       | inl (k, q, f, no_fault) ↦ absurd no_fault
       | inr (l, m) ↦ l
     ]

@@ -27,7 +27,7 @@ freqs-one format words t p f g h k =
     elim (match-agree (freqs_cannot_begin format words t p) (IsAt f t K6 before) (InFreqs format words t p f) (IsAt g t K6 before) (InFreqs format words t p g) h k) [
       | inl (a, b) ↦ both f g t K6 before a b
       | inr (a, b) ↦
-          elim (first-agree format rest (length rest) 0 (stated_freq_parts words t) (stated_length words t) format.most_sum (λ check q. IsAt f t check (before + q)) (λ check q. IsAt g t check (before + q)) (PassButGreatest format words t p f) (PassButGreatest format words t p g) a b) [
+          elim (first-agree format rest (stated_freq_parts words t) (stated_length words t) format.most_sum (λ check q. IsAt f t check (before + q)) (λ check q. IsAt g t check (before + q)) (PassButGreatest format words t p f) (PassButGreatest format words t p g) a b) [
             | inl (check, q, x, y) ↦ both f g t check (before + q) x y
             | inr (x, y) ↦ x.1 ∙ sym y.1
           ]
@@ -36,11 +36,11 @@ freqs-one format words t p f g h k =
 term-one : (format : FormatNumbers) (words : List ℕ) (t p : ℕ) (f g : OpenFault) → IsTermFault format words t p f → IsTermFault format words t p g → f ≡ g
 term-one format words t p f g h k =
     let rest : List ℕ = up_to_sizes words p in
-    let next : ℕ = p + word_behind format rest 0 (stated_doc_parts words t) in
+    let next : ℕ = p + word_behind format rest (stated_doc_parts words t) in
     elim (match-agree (docs_cannot_begin format words t p) (IsAt f t K6 0) (InDocs format words t p f) (IsAt g t K6 0) (InDocs format words t p g) h k) [
       | inl (a, b) ↦ both f g t K6 0 a b
       | inr (a, b) ↦
-          elim (first-agree format rest (length rest) 0 (stated_doc_parts words t) (stated_length words t) (stated_documents words) (IsAt f t) (IsAt g t) (IsFreqsFault format words t next f) (IsFreqsFault format words t next g) a b) [
+          elim (first-agree format rest (stated_doc_parts words t) (stated_length words t) (stated_documents words) (IsAt f t) (IsAt g t) (IsFreqsFault format words t next f) (IsFreqsFault format words t next g) a b) [
             | inl (check, q, x, y) ↦ both f g t check q x y
             | inr (x, y) ↦ freqs-one format words t next f g x y
           ]

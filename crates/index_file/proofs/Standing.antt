@@ -101,7 +101,7 @@ greatest-step format laws n list h =
 abbrev pub DocsPass : FormatNumbers → List ℕ → ℕ → ℕ → CutList → Type 0
 DocsPass format words t p c =
     PassChecks format (up_to_sizes words p) (stated_doc_parts words t) (stated_length words t) (stated_documents words)
-    × (word_behind format (up_to_sizes words p) 0 (stated_doc_parts words t) ≡ length (doc_words format c))
+    × (word_behind format (up_to_sizes words p) (stated_doc_parts words t) ≡ length (doc_words format c))
 
 docs-pass : (format : FormatNumbers) (room : HasRoom format) → SequenceLaws format → (words : List ℕ) (t p : ℕ) (c : CutList) → HasFrame format words → StandsAt format words t p c → DocsPass format words t p c
 docs-pass format room laws words t p c frame h =
@@ -151,7 +151,7 @@ no-fault format room laws words t p c f frame h fault =
     let n = counts format room words t p c frame h in
     let q : ℕ = p + length (doc_words format c) in
     let docs = docs-pass format room laws words t p c frame h in
-    let behind : ℕ = p + word_behind format (up_to_sizes words p) 0 (stated_doc_parts words t) in
+    let behind : ℕ = p + word_behind format (up_to_sizes words p) (stated_doc_parts words t) in
     let one : InDocs format words t p f = unmatch (docs_cannot_begin format words t p) (IsAt f t K6 0) (InDocs format words t p f) (docs-can-begin format room laws words t p c frame h) fault in
     let two : IsFreqsFault format words t behind f =
     later-of format (up_to_sizes words p) (stated_doc_parts words t) (stated_length words t) (stated_documents words) (IsAt f t) (IsFreqsFault format words t behind f) docs.0 one in

@@ -49,12 +49,12 @@ PassButGreatest format words t p f = StatesWrongGreatest format (up_to_sizes wor
 -- the first check that breaks behind the front of the documents, and of the frequencies
 abbrev pub InDocs : FormatNumbers → List ℕ → ℕ → ℕ → OpenFault → Type 0
 InDocs format words t p f =
-    FirstInSequence format (up_to_sizes words p) (length (up_to_sizes words p)) 0 (stated_doc_parts words t) (stated_length words t) (stated_documents words) (IsAt f t)
-    (IsFreqsFault format words t (p + word_behind format (up_to_sizes words p) 0 (stated_doc_parts words t)) f)
+    FirstInSequence format (up_to_sizes words p) (stated_doc_parts words t) (stated_length words t) (stated_documents words) (IsAt f t)
+    (IsFreqsFault format words t (p + word_behind format (up_to_sizes words p) (stated_doc_parts words t)) f)
 
 abbrev pub InFreqs : FormatNumbers → List ℕ → ℕ → ℕ → OpenFault → Type 0
 InFreqs format words t p f =
-    FirstInSequence format (up_to_sizes words p) (length (up_to_sizes words p)) 0 (stated_freq_parts words t) (stated_length words t) format.most_sum (λ check q. IsAt f t check (stated_doc_parts words t + q))
+    FirstInSequence format (up_to_sizes words p) (stated_freq_parts words t) (stated_length words t) format.most_sum (λ check q. IsAt f t check (stated_doc_parts words t + q))
     (PassButGreatest format words t p f)
 
 -- numbers that were read are those that the words state
@@ -171,7 +171,7 @@ docs-break format words t p f k q within test h found =
     let begin = can-begin format words t p test in
     let rest : List ℕ = up_to_sizes words p in
     match-false (docs_cannot_begin format words t p) (IsAt f t K6 0) (InDocs format words t p f) test
-    (faulty format rest (stated_doc_parts words t) (stated_length words t) (stated_documents words) k q (IsAt f t) (IsFreqsFault format words t (p + word_behind format rest 0 (stated_doc_parts words t)) f)
+    (faulty format rest (stated_doc_parts words t) (stated_length words t) (stated_documents words) k q (IsAt f t) (IsFreqsFault format words t (p + word_behind format rest (stated_doc_parts words t)) f)
     begin.doc_parts (has-room words p (entry_words format * stated_doc_parts words t) within begin.room) h found)
 
 -- its documents stand, but a check behind them breaks
@@ -183,5 +183,5 @@ behind-breaks format room laws words t p xs ends used f frame test h fault =
     let rest : List ℕ = up_to_sizes words p in
     let pass = laws.pass (stated_length words t) n parts used xs ends rest (omega (arith, frame.documents, room.documents)) h in
     match-false (docs_cannot_begin format words t p) (IsAt f t K6 0) (InDocs format words t p f) test
-    (passed format rest parts (stated_length words t) n (IsAt f t) (IsFreqsFault format words t (p + word_behind format rest 0 parts) f) pass.0
+    (passed format rest parts (stated_length words t) n (IsAt f t) (IsFreqsFault format words t (p + word_behind format rest parts) f) pass.0
     (subst (λ k. IsFreqsFault format words t (p + k) f) (sym pass.1) fault))

@@ -1,4 +1,4 @@
-ghost use Rattle.std.specs.Prelude.{◌≡◌, ◌≤◌, ◌<◌, ◌+◌, ◌*◌, ◌^◌, length, IfOk};
+ghost use Rattle.std.specs.Prelude.{◌≡◌, ◌≤◌, ◌<◌, ◌+◌, ◌*◌, ◌^◌, length};
 ghost use Rattle.std.specs.List.{range_with_len};
 ghost use Rattle.part_cost.specs.Formats.{numbers_of};
 ghost use Rattle.cost_windows.specs.WindowBounds.{window_bounds};

@@ -79,8 +79,8 @@ past-take (suc n) xs = ap (λ x. x + 1) (get_or-take (suc n) xs n 0 (omega arith
 
 -- values that stand before part q
 pub record Front (format : FormatNumbers) (words : List ℕ) (bound q : ℕ) (pre : List ℕ) : Type 0 where
-  pub count : length pre ≡ end_before format words 0 q
-  pub begins : past pre (length pre) ≡ past_before format words 0 q
+  pub count : length pre ≡ end_before format words q
+  pub begins : past pre (length pre) ≡ past_before format words q
   pub rising : IsStrictlyIncreasing pre
   pub below : All (λ x. x < bound) pre
 
@@ -91,10 +91,10 @@ below-universe u m ys r k lt =
 
 -- the last value of one part more is the one that its entry states
 pub begins-more : (format : FormatNumbers) (words : List ℕ) (parts m bound q : ℕ) (pre ys : List ℕ) → FollowsAt format words parts m bound q
-    → AreRelative (stated_universe format words 0 q) (stated_count format words 0 q) ys
-    → past (pre ++ map (λ y. y + past_before format words 0 q) ys) (length (pre ++ map (λ y. y + past_before format words 0 q) ys)) ≡ past_before format words 0 (suc q)
+    → AreRelative (stated_universe format words q) (stated_count format words q) ys
+    → past (pre ++ map (λ y. y + past_before format words q) ys) (length (pre ++ map (λ y. y + past_before format words q) ys)) ≡ past_before format words (suc q)
 begins-more format words parts m bound q pre ys k r =
-    let p : ℕ = past_before format words 0 q in
+    let p : ℕ = past_before format words q in
     let zs : List ℕ = map (λ y. y + p) ys in
     let n : ℕ = length pre in
     let some : 0 < length ys = omega (arith, r.some, r.count) in
@@ -113,13 +113,13 @@ begins-more format words parts m bound q pre ys k r =
 
 -- one part more
 pub front-more : (format : FormatNumbers) (words : List ℕ) (parts m bound q : ℕ) (pre ys : List ℕ) → Front format words bound q pre → FollowsAt format words parts m bound q
-    → AreRelative (stated_universe format words 0 q) (stated_count format words 0 q) ys → Front format words bound (suc q) (pre ++ map (λ y. y + past_before format words 0 q) ys)
+    → AreRelative (stated_universe format words q) (stated_count format words q) ys → Front format words bound (suc q) (pre ++ map (λ y. y + past_before format words q) ys)
 front-more format words parts m bound q pre ys f k r =
-    let p : ℕ = past_before format words 0 q in
+    let p : ℕ = past_before format words q in
     let zs : List ℕ = map (λ y. y + p) ys in
     let n : ℕ = length pre in
-    let many : length zs ≡ stated_end format words 0 q - end_before format words 0 q = length-map ys (λ y. y + p) ∙ r.count in
-    let whole : length (pre ++ zs) ≡ stated_end format words 0 q = omega (arith, length-append pre zs, many, f.count, k.up) in
+    let many : length zs ≡ stated_end format words q - end_before format words q = length-map ys (λ y. y + p) ∙ r.count in
+    let whole : length (pre ++ zs) ≡ stated_end format words q = omega (arith, length-append pre zs, many, f.count, k.up) in
     record {
       count = whole;
       begins = begins-more format words parts m bound q pre ys k r;
@@ -127,7 +127,7 @@ front-more format words parts m bound q pre ys f k r =
       below =
           All-append (λ x. x < bound) pre zs f.below
           (All-map (λ x. x < bound) (λ y. y + p) ys
-          (λ i d lt. omega (arith, get_or_default ys i d 0 lt, below-universe (stated_universe format words 0 q) (stated_count format words 0 q) ys r i lt, k.below, k.above)));
+          (λ i d lt. omega (arith, get_or_default ys i d 0 lt, below-universe (stated_universe format words q) (stated_count format words q) ys r i lt, k.below, k.above)));
     }
 
 -- a sequence that the words from entry q on go on to
@@ -138,38 +138,37 @@ pub record Built (format : FormatNumbers) (words : List ℕ) (parts m bound q : 
   pub rising : IsStrictlyIncreasing values
   pub below : All (λ x. x < bound) values
   pub count : length values ≡ m
-  pub partition : IsPartitionFrom (end_before format words 0 q) m ends
+  pub partition : IsPartitionFrom (end_before format words q) m ends
   pub many : q + length ends ≡ parts
-  pub directory : take (entry_words format * length ends) (drop (entry_words format * q) words) ≡ directory_from format values (end_before format words 0 q) (payload_before format words 0 q) ends
-  pub payload_bits : StandAt (bits_of words) (first_bit format 0 parts + payload_before format words 0 q) (payload_from values (end_before format words 0 q) ends)
-  pub takes : payload_before format words 0 q + length (payload_from values (end_before format words 0 q) ends) ≡ payload_before format words 0 parts
+  pub directory : take (entry_words format * length ends) (drop (entry_words format * q) words) ≡ directory_from format values (end_before format words q) (payload_before format words q) ends
+  pub payload_bits : StandAt (bits_of words) (first_bit format parts + payload_before format words q) (payload_from values (end_before format words q) ends)
+  pub takes : payload_before format words q + length (payload_from values (end_before format words q) ends) ≡ payload_before format words parts
 
 -- the words of an entry, and those behind it
 pub entry-front : (format : FormatNumbers) (words : List ℕ) (q n : ℕ) → entry_words format * q + entry_words format ≤ length words
     → take (entry_words format * suc n) (drop (entry_words format * q) words)
-    ≡ entry format (stated_last format words 0 q) (stated_end format words 0 q) (stated_offset format words 0 q) ++ take (entry_words format * n) (drop (entry_words format * suc q) words)
+    ≡ entry format (stated_last format words q) (stated_end format words q) (stated_offset format words q) ++ take (entry_words format * n) (drop (entry_words format * suc q) words)
 entry-front format words q n room =
-    let at : ℕ = 0 + entry_words format * q in
+    let at : ℕ = entry_words format * q in
     let rest : List ℕ = drop (at + entry_words format) words in
-    let these : List ℕ = entry format (stated_last format words 0 q) (stated_end format words 0 q) (stated_offset format words 0 q) in
-    let whole : length these ≡ entry_words format = entry-is-whole format (stated_last format words 0 q) (stated_end format words 0 q) (stated_offset format words 0 q) in
-    ap (λ i. take (entry_words format * suc n) (drop i words)) (let e : entry_words format * q ≡ at = omega arith in e)
-    ∙ ap (take (entry_words format * suc n)) (entry-is-of-words format words at (omega (arith, room)))
+    let these : List ℕ = entry format (stated_last format words q) (stated_end format words q) (stated_offset format words q) in
+    let whole : length these ≡ entry_words format = entry-is-whole format (stated_last format words q) (stated_end format words q) (stated_offset format words q) in
+    ap (take (entry_words format * suc n)) (entry-is-of-words format words at (omega (arith, room)))
     ∙ ap (λ i. take i (these ++ rest)) (let e : entry_words format * suc n ≡ length these + entry_words format * n = omega (arith, whole) in e)
     ∙ take-append-add these rest (entry_words format * n)
     ∙ ap (λ i. these ++ take (entry_words format * n) (drop i words)) (let e : at + entry_words format ≡ entry_words format * suc q = omega arith in e)
 
 pub built-more : (format : FormatNumbers) (room : HasRoom format) → PartLaws → (words : List ℕ) (parts m bound q : ℕ) (pre ys : List ℕ) → bound ≤ format.most_sum → entry_words format * q + entry_words format ≤ length words → Front format words bound q pre → FollowsAt format words parts m bound q
-    → HoldsPart part_bits (bits_of words) (first_bit format 0 parts + payload_before format words 0 q) (stated_universe format words 0 q) (stated_count format words 0 q) ys
-    → Built format words parts m bound (suc q) (pre ++ map (λ y. y + past_before format words 0 q) ys) → Built format words parts m bound q pre
+    → HoldsPart part_bits (bits_of words) (first_bit format parts + payload_before format words q) (stated_universe format words q) (stated_count format words q) ys
+    → Built format words parts m bound (suc q) (pre ++ map (λ y. y + past_before format words q) ys) → Built format words parts m bound q pre
 built-more format room laws words parts m bound q pre ys fits within f k held b =
-    let p : ℕ = past_before format words 0 q in
-    let o : ℕ = payload_before format words 0 q in
-    let i : ℕ = end_before format words 0 q in
-    let end : ℕ = stated_end format words 0 q in
-    let u : ℕ = stated_universe format words 0 q in
-    let n : ℕ = stated_count format words 0 q in
-    let base : ℕ = first_bit format 0 parts in
+    let p : ℕ = past_before format words q in
+    let o : ℕ = payload_before format words q in
+    let i : ℕ = end_before format words q in
+    let end : ℕ = stated_end format words q in
+    let u : ℕ = stated_universe format words q in
+    let n : ℕ = stated_count format words q in
+    let base : ℕ = first_bit format parts in
     let zs : List ℕ = map (λ y. y + p) ys in
     let xs : List ℕ = b.values in
     let next : Front format words bound (suc q) (pre ++ zs) = front-more format words parts m bound q pre ys f k held.values in
@@ -177,9 +176,9 @@ built-more format room laws words parts m bound q pre ys fits within f k held b 
     sym (take-take (length pre) (length (pre ++ zs)) xs (omega (arith, length-append pre zs))) ∙ ap (take (length pre)) b.front ∙ take_at pre zs (length pre) refl in
     let here : past xs i ≡ p =
     ap (past xs) (sym f.count) ∙ sym (past-take (length pre) xs) ∙ ap (λ ws. past ws (length pre)) front ∙ f.begins in
-    let there : past xs end ≡ stated_last format words 0 q + 1 =
+    let there : past xs end ≡ stated_last format words q + 1 =
     ap (past xs) (sym next.count) ∙ sym (past-take (length (pre ++ zs)) xs) ∙ ap (λ ws. past ws (length (pre ++ zs))) b.front ∙ next.begins in
-    let same_universe : universe xs i end ≡ u = ap (λ v. v - past xs i) there ∙ ap (λ v. stated_last format words 0 q + 1 - v) here in
+    let same_universe : universe xs i end ≡ u = ap (λ v. v - past xs i) there ∙ ap (λ v. stated_last format words q + 1 - v) here in
     let span : slice_range xs i end ≡ zs =
     sym (drop-take i (end - i) xs)
     ∙ ap (λ v. drop i (take v xs)) (let e : i + (end - i) ≡ length (pre ++ zs) = omega (arith, next.count, k.up) in e)
@@ -189,9 +188,9 @@ built-more format room laws words parts m bound q pre ys fits within f k held b 
     let same_piece : piece ≡ part_bits ys u = ap (λ vs. part_bits vs (universe xs i end)) same_values ∙ ap (part_bits ys) same_universe in
     let stands : StandAt (bits_of words) (base + o) piece = subst (StandAt (bits_of words) (base + o)) (sym same_piece) held.stored in
     let long : length piece ≡ payload u n = ap length same_piece ∙ laws.takes u n ys (omega (arith, fits, room.sums, k.below)) held.values in
-    let later : payload_before format words 0 (suc q) ≡ o + length piece = ap (λ v. o + v) (sym long) in
-    let charge : o + payload_of_part xs i end ≡ payload_before format words 0 (suc q) = ap (λ v. o + payload v (end - i)) same_universe in
-    let last : stated_last format words 0 q ≡ past xs end - 1 = omega (arith, there) in
+    let later : payload_before format words (suc q) ≡ o + length piece = ap (λ v. o + v) (sym long) in
+    let charge : o + payload_of_part xs i end ≡ payload_before format words (suc q) = ap (λ v. o + payload v (end - i)) same_universe in
+    let last : stated_last format words q ≡ past xs end - 1 = omega (arith, there) in
     let later_words : List ℕ = take (entry_words format * length b.ends) (drop (entry_words format * suc q) words) in
     record {
       values = xs;
@@ -204,12 +203,12 @@ built-more format room laws words parts m bound q pre ys fits within f k held b 
       many = omega (arith, b.many);
       directory =
           entry-front format words q (length b.ends) within
-          ∙ ap (λ v. entry format v end (stated_offset format words 0 q) ++ later_words) last
+          ∙ ap (λ v. entry format v end (stated_offset format words q) ++ later_words) last
           ∙ ap (λ v. entry format (past xs end - 1) end v ++ later_words) k.offsets
           ∙ ap (λ vs. entry format (past xs end - 1) end o ++ vs) (b.directory ∙ ap (λ v. directory_from format xs end v b.ends) (sym charge));
       payload_bits =
           stands-both (bits_of words) (base + o) piece (payload_from xs end b.ends) stands
-          (subst (λ v. StandAt (bits_of words) v (payload_from xs end b.ends)) (let e : base + payload_before format words 0 (suc q) ≡ base + o + length piece = omega (arith, later) in e) b.payload_bits);
+          (subst (λ v. StandAt (bits_of words) v (payload_from xs end b.ends)) (let e : base + payload_before format words (suc q) ≡ base + o + length piece = omega (arith, later) in e) b.payload_bits);
       takes = omega (arith, b.takes, later, length-append piece (payload_from xs end b.ends));
     }
 
@@ -221,7 +220,7 @@ none-fit : (m : ℕ) → parts_fit m 0 ≡ true → m ≡ 0
 none-fit zero h = refl
 none-fit (suc m) h = let e : false ≡ true = subst (λ b. cond b true false ≡ true) (not-none m) h in cc
 
-pub all-stand : (format : FormatNumbers) (words : List ℕ) (parts m bound : ℕ) → PassChecks format words parts m bound → end_before format words 0 parts ≡ m
+pub all-stand : (format : FormatNumbers) (words : List ℕ) (parts m bound : ℕ) → PassChecks format words parts m bound → end_before format words parts ≡ m
 all-stand format words zero m bound fit = sym (none-fit m fit.parts_are)
 all-stand format words (suc q) m bound fit =
     let k = follows-at format words (suc q) m bound q (fit.entries q (omega arith)) in k.whole (eq-eqb (q + 1) (suc q) (omega arith))
@@ -229,7 +228,7 @@ all-stand format words (suc q) m bound fit =
 pub build : (format : FormatNumbers) (room : HasRoom format) → PartLaws → (words : List ℕ) (parts m bound : ℕ) → bound ≤ format.most_sum → PassChecks format words parts m bound → (n q : ℕ) → q + n ≡ parts → (pre : List ℕ) → Front format words bound q pre → Built format words parts m bound q pre
 build format room laws words parts m bound fits fit zero q e pre f =
     let last : q ≡ parts = omega (arith, e) in
-    let all : end_before format words 0 q ≡ m = ap (end_before format words 0) last ∙ all-stand format words parts m bound fit in
+    let all : end_before format words q ≡ m = ap (end_before format words) last ∙ all-stand format words parts m bound fit in
     record {
       values = pre;
       ends = [];
@@ -241,15 +240,15 @@ build format room laws words parts m bound fits fit zero q e pre f =
       many = e;
       directory = ap (λ i. take i (drop (entry_words format * q) words)) (let e : entry_words format * 0 ≡ 0 = omega arith in e);
       payload_bits = refl;
-      takes = omega (arith, ap (payload_before format words 0) last);
+      takes = omega (arith, ap (payload_before format words) last);
     }
 build format room laws words parts m bound fits fit (suc n) q e pre f =
     let lt : q < parts = omega (arith, e) in
     let k : FollowsAt format words parts m bound q = follows-at format words parts m bound q (fit.entries q lt) in
-    let stored : IsPartStored format words 0 parts q = fit.stored q lt in
+    let stored : IsPartStored format words parts q = fit.stored q lt in
     let next = front-more format words parts m bound q pre stored.0 f k stored.1.values in
     built-more format room laws words parts m bound q pre stored.0 fits (omega (arith, fit.room, entry-within format q parts lt)) f k stored.1
-    (build format room laws words parts m bound fits fit n (suc q) (omega (arith, e)) (pre ++ map (λ y. y + past_before format words 0 q) stored.0) next)
+    (build format room laws words parts m bound fits fit n (suc q) (omega (arith, e)) (pre ++ map (λ y. y + past_before format words q) stored.0) next)
 
 -- words with this payload and zeros behind it
 pub payload-words : PartLaws → BitsOfAppended → WordsOfBits → WordsOfPadded → (words before tail behind bits : List ℕ) → words ≡ before ++ (tail ++ behind)
@@ -279,18 +278,18 @@ payload-words laws appended back filled words before tail behind bits split are 
 
 -- words that pass every check begin with a sequence
 pub accepted-begins : (format : FormatNumbers) (room : HasRoom format) → PartLaws → BitsOfAppended → WordsOfBits → WordsOfPadded → (words : List ℕ) (parts m bound : ℕ) → bound ≤ format.most_sum → All (λ w. w < 2 ^ 64) words → PassChecks format words parts m bound
-    → (xs ends : List ℕ) × BeginsSequence format m bound parts xs ends words (word_behind format words 0 parts)
+    → (xs ends : List ℕ) × BeginsSequence format m bound parts xs ends words (word_behind format words parts)
 accepted-begins format room laws appended back filled words parts m bound fits are fit =
     let none : Front format words bound 0 [] = record { count = refl; begins = refl; rising = (λ k lt. absurd (omega (arith, lt))); below = All-nil (λ x. x < bound) } in
     let b = build format room laws words parts m bound fits fit parts 0 (omega arith) [] none in
-    let used : ℕ = word_behind format words 0 parts in
+    let used : ℕ = word_behind format words parts in
     let front : List ℕ = take used words in
     let before : List ℕ = take (entry_words format * parts) front in
     let tail : List ℕ = drop (entry_words format * parts) front in
     let behind : List ℕ = drop used words in
     let bits : List ℕ = payload_from b.values 0 b.ends in
     let many : length b.ends ≡ parts = omega (arith, b.many) in
-    let takes : length bits ≡ payload_before format words 0 parts = omega (arith, b.takes) in
+    let takes : length bits ≡ payload_before format words parts = omega (arith, b.takes) in
     let long : length front ≡ used = length-take-le used words fit.within in
     let early : length before ≡ entry_words format * parts = length-take-le (entry_words format * parts) front (omega (arith, long)) in
     let late : length tail ≡ (length bits + 63) / 64 = omega (arith, length-drop (entry_words format * parts) front, long, takes) in
@@ -299,11 +298,11 @@ accepted-begins format room laws appended back filled words parts m bound fits a
     let entries : before ≡ directory_from format b.values 0 0 b.ends =
     take-take (entry_words format * parts) used words (omega arith) ∙ ap (λ n. take (entry_words format * n) words) (sym many)
     ∙ ap (λ n. take (entry_words format * length b.ends) (drop n words)) (let e : 0 ≡ entry_words format * 0 = omega arith in e) ∙ b.directory in
-    let base : 64 * length before ≡ first_bit format 0 parts = omega (arith, early) in
+    let base : 64 * length before ≡ first_bit format parts = omega (arith, early) in
     let stored : tail ≡ words_of bits =
     payload-words laws appended back filled words before tail behind bits split (bits-payload laws b.values 0 b.ends)
     (All-drop (λ w. w < 2 ^ 64) (entry_words format * parts) front (All-take (λ w. w < 2 ^ 64) used words are)) late
-    (subst (λ n. StandAt (bits_of words) n bits) (let e : first_bit format 0 parts + 0 ≡ 64 * length before = omega (arith, base) in e) b.payload_bits)
+    (subst (λ n. StandAt (bits_of words) n bits) (let e : first_bit format parts + 0 ≡ 64 * length before = omega (arith, base) in e) b.payload_bits)
     (λ q le lt. fit.filled q (omega (arith, le, base, takes)) (omega (arith, lt, early, late, takes))) in (
       b.values,
       b.ends,

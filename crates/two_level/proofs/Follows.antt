@@ -90,24 +90,24 @@ follows-test m bound before past bits is_last end last offset h =
 -- entry q of the words follows the entries before it
 abbrev pub FollowsAt : FormatNumbers → List ℕ → ℕ → ℕ → ℕ → ℕ → Type 0
 FollowsAt format words parts m bound q =
-    Follows m bound (end_before format words 0 q) (past_before format words 0 q) (payload_before format words 0 q) (q + 1 == parts)
-    (stated_end format words 0 q) (stated_last format words 0 q) (stated_offset format words 0 q)
+    Follows m bound (end_before format words q) (past_before format words q) (payload_before format words q) (q + 1 == parts)
+    (stated_end format words q) (stated_last format words q) (stated_offset format words q)
 
-pub follows-at : (format : FormatNumbers) (words : List ℕ) (parts m bound q : ℕ) → entry_breaks format words 0 parts m bound q ≡ false → FollowsAt format words parts m bound q
+pub follows-at : (format : FormatNumbers) (words : List ℕ) (parts m bound q : ℕ) → entry_breaks format words parts m bound q ≡ false → FollowsAt format words parts m bound q
 follows-at format words parts m bound q h =
-    let before : ℕ = end_before format words 0 q in
-    let past : ℕ = past_before format words 0 q in
-    let bits : ℕ = payload_before format words 0 q in
-    let end : ℕ = stated_end format words 0 q in
-    let last : ℕ = stated_last format words 0 q in
-    let offset : ℕ = stated_offset format words 0 q in
+    let before : ℕ = end_before format words q in
+    let past : ℕ = past_before format words q in
+    let bits : ℕ = payload_before format words q in
+    let end : ℕ = stated_end format words q in
+    let last : ℕ = stated_last format words q in
+    let offset : ℕ = stated_offset format words q in
     follows-from m bound before past bits (q + 1 == parts) end last offset (not-false (may_follow m bound before past bits (q + 1 == parts) end last offset) h)
 
-pub at-follows : (format : FormatNumbers) (words : List ℕ) (parts m bound q : ℕ) → FollowsAt format words parts m bound q → entry_breaks format words 0 parts m bound q ≡ false
+pub at-follows : (format : FormatNumbers) (words : List ℕ) (parts m bound q : ℕ) → FollowsAt format words parts m bound q → entry_breaks format words parts m bound q ≡ false
 at-follows format words parts m bound q h =
     ap not
-    (follows-test m bound (end_before format words 0 q) (past_before format words 0 q) (payload_before format words 0 q) (q + 1 == parts)
-    (stated_end format words 0 q) (stated_last format words 0 q) (stated_offset format words 0 q) h)
+    (follows-test m bound (end_before format words q) (past_before format words q) (payload_before format words q) (q + 1 == parts)
+    (stated_end format words q) (stated_last format words q) (stated_offset format words q) h)
 
 -- the checks, from the last one
 abbrev pub Found : Check → ℕ → Check → ℕ → Type 0
@@ -115,18 +115,18 @@ Found check part k q = (check ≡ k) × (part ≡ q)
 
 abbrev pub PaddingStep : FormatNumbers → List ℕ → ℕ → Check → ℕ → Type 0
 PaddingStep format words parts check part =
-    OrElse (¬ HasNoOne (bits_of words) (first_bit format 0 parts + payload_before format words 0 parts) (64 * word_behind format words 0 parts)) (Found check part K9 0) ⊥
+    OrElse (¬ HasNoOne (bits_of words) (first_bit format parts + payload_before format words parts) (64 * word_behind format words parts)) (Found check part K9 0) ⊥
 
 abbrev pub PartsStep : FormatNumbers → List ℕ → ℕ → Check → ℕ → Type 0
-PartsStep format words parts check part = FirstOf (λ q. ¬ IsPartStored format words 0 parts q) parts (Found check part K8) (PaddingStep format words parts check part)
+PartsStep format words parts check part = FirstOf (λ q. ¬ IsPartStored format words parts q) parts (Found check part K8) (PaddingStep format words parts check part)
 
 abbrev pub BehindStep : FormatNumbers → List ℕ → ℕ → Check → ℕ → Type 0
 BehindStep format words parts check part =
-    MatchBool (nat_lt (length words) (word_behind format words 0 parts)) (Found check part K7 parts) (PartsStep format words parts check part)
+    MatchBool (nat_lt (length words) (word_behind format words parts)) (Found check part K7 parts) (PartsStep format words parts check part)
 
 abbrev pub EntriesStep : FormatNumbers → List ℕ → ℕ → ℕ → ℕ → Check → ℕ → Type 0
 EntriesStep format words parts m bound check part =
-    FirstOf (λ q. entry_breaks format words 0 parts m bound q ≡ true) parts (Found check part K7) (BehindStep format words parts check part)
+    FirstOf (λ q. entry_breaks format words parts m bound q ≡ true) parts (Found check part K7) (BehindStep format words parts check part)
 
 pub front-test : (format : FormatNumbers) (words : List ℕ) (parts m : ℕ) → parts_fit m parts ≡ true → entry_words format * parts ≤ length words → (not (parts_fit m parts) || nat_lt (length words) (entry_words format * parts)) ≡ false
 front-test format words parts m h k = or_from (not (parts_fit m parts)) (nat_lt (length words) (entry_words format * parts)) (not_from_true (parts_fit m parts) h) (le-ltb (length words) (entry_words format * parts) k)
@@ -136,10 +136,10 @@ no-fault format words parts m bound check part fit h =
     let first : EntriesStep format words parts m bound check part =
     unmatch (not (parts_fit m parts) || nat_lt (length words) (entry_words format * parts)) ((check ≡ K6) × (part ≡ 0)) (EntriesStep format words parts m bound check part) (front-test format words parts m fit.parts_are fit.room) h in
     elim first [
-      | inl (q, lt, breaks, before, found) ↦ both_ways (entry_breaks format words 0 parts m bound q) (fit.entries q lt) breaks
+      | inl (q, lt, breaks, before, found) ↦ both_ways (entry_breaks format words parts m bound q) (fit.entries q lt) breaks
       | inr (none, later) ↦
           let parts_step : PartsStep format words parts check part =
-          unmatch (nat_lt (length words) (word_behind format words 0 parts)) (Found check part K7 parts) (PartsStep format words parts check part) (le-ltb (length words) (word_behind format words 0 parts) fit.within) later in
+          unmatch (nat_lt (length words) (word_behind format words parts)) (Found check part K7 parts) (PartsStep format words parts check part) (le-ltb (length words) (word_behind format words parts) fit.within) later in
           elim parts_step [
             | inl (q, lt, missing, before, found) ↦ missing (fit.stored q lt)
             | inr (none, later) ↦ elim later [ inl (ones, found) ↦ ones fit.filled | inr (zeros, nothing) ↦ nothing ]
@@ -195,23 +195,23 @@ entries-follow format laws words xs v bound below base parts q i (end ∷ ends) 
     (entries-follow format laws words xs v bound below base parts (suc q) end ends (omega (arith, count)) (stands-next format laws words xs v base q i end ends h k) j (omega (arith, lt)))
 
 -- the parts of a sequence are stored
-pub parts-stored : (format : FormatNumbers) → PartLaws → (words xs : List ℕ) → AreValues format xs → (parts q i : ℕ) (ends : List ℕ) → StandsFrom format words xs (first_bit format 0 parts) q i ends
-    → (j : ℕ) → j < length ends → IsPartStored format words 0 parts (q + j)
+pub parts-stored : (format : FormatNumbers) → PartLaws → (words xs : List ℕ) → AreValues format xs → (parts q i : ℕ) (ends : List ℕ) → StandsFrom format words xs (first_bit format parts) q i ends
+    → (j : ℕ) → j < length ends → IsPartStored format words parts (q + j)
 parts-stored format laws words xs v parts q i [] h j lt = absurd (omega (arith, lt))
 parts-stored format laws words xs v parts q i (end ∷ ends) h zero lt =
-    let base : ℕ = first_bit format 0 parts in
+    let base : ℕ = first_bit format parts in
     let k : EntryIs format words xs q i end = entry-is format laws words xs v base q i end ends h in
     let ys : List ℕ = relative_values xs i end in
-    let place : ℕ = base + payload_before format words 0 q in
+    let place : ℕ = base + payload_before format words q in
     let held : HoldsPart part_bits (bits_of words) place (universe xs i end) (end - i) ys = holds-part format laws words xs v base q i end ends h in
-    let stated : HoldsPart part_bits (bits_of words) place (stated_universe format words 0 q) (stated_count format words 0 q) ys =
-    subst (λ u. HoldsPart part_bits (bits_of words) place u (stated_count format words 0 q) ys) (sym k.universes)
+    let stated : HoldsPart part_bits (bits_of words) place (stated_universe format words q) (stated_count format words q) ys =
+    subst (λ u. HoldsPart part_bits (bits_of words) place u (stated_count format words q) ys) (sym k.universes)
     (subst (λ n. HoldsPart part_bits (bits_of words) place (universe xs i end) n ys) (sym k.counts) held) in
-    subst (IsPartStored format words 0 parts) (let e : q ≡ q + 0 = omega arith in e) (ys, stated)
+    subst (IsPartStored format words parts) (let e : q ≡ q + 0 = omega arith in e) (ys, stated)
 parts-stored format laws words xs v parts q i (end ∷ ends) h (suc j) lt =
-    let base : ℕ = first_bit format 0 parts in
+    let base : ℕ = first_bit format parts in
     let k : EntryIs format words xs q i end = entry-is format laws words xs v base q i end ends h in
-    subst (IsPartStored format words 0 parts) (let e : suc q + j ≡ q + suc j = omega arith in e)
+    subst (IsPartStored format words parts) (let e : suc q + j ≡ q + suc j = omega arith in e)
     (parts-stored format laws words xs v parts (suc q) end ends (stands-next format laws words xs v base q i end ends h k) j (omega (arith, lt)))
 
 -- behind bits and others, zeros up to the end of a word
@@ -225,7 +225,7 @@ zeros-behind before payload rest q from e le lt =
     ∙ get_or_append_left zeros rest 0 (q - length before - length payload) (omega (arith, e, le, lt, length-replicate {A = ℕ} k 0))
     ∙ get_or-replicate k (q - length before - length payload) 0 0 (omega (arith, e, le, lt))
 
-word-end : (n p q : ℕ) → q < 64 * (0 + n + (p + 63) / 64) → q < 64 * n + p + (64 - p % 64) % 64
+word-end : (n p q : ℕ) → q < 64 * (n + (p + 63) / 64) → q < 64 * n + p + (64 - p % 64) % 64
 word-end n p q h = omega (arith, h)
 
 -- words that begin with a sequence pass every check
@@ -235,19 +235,19 @@ fits-begun format room laws appended filled m bound parts used xs ends words fit
     let s = b.sequence in
     let v : AreValues format xs = values-of format room m bound parts xs ends (take used words) fits s in
     let whole = stands-whole format laws appended filled m bound parts used xs ends words fits b in
-    let base : ℕ = first_bit format 0 parts in
+    let base : ℕ = first_bit format parts in
     let directory : List ℕ = directory_from format xs 0 0 ends in
     let payload : List ℕ = payload_from xs 0 ends in
     let behind : List ℕ = drop used words in
-    let total : payload_before format words 0 (0 + length ends) ≡ 0 + cost_from (payload_of_part xs) 0 ends = payload-all format laws words xs v base 0 0 ends whole in
+    let total : payload_before format words (0 + length ends) ≡ 0 + cost_from (payload_of_part xs) 0 ends = payload-all format laws words xs v base 0 0 ends whole in
     let count : 0 + length ends ≡ parts = omega (arith, s.parts_count) in
-    let takes : length payload ≡ payload_before format words 0 parts = omega (arith, length-payload laws xs v.rising v.in_range 0 ends whole.parts, total, ap (payload_before format words 0) count) in
+    let takes : length payload ≡ payload_before format words parts = omega (arith, length-payload laws xs v.rising v.in_range 0 ends whole.parts, total, ap (payload_before format words) count) in
     let counted : entry_words format * length ends ≡ entry_words format * parts = ap (λ n. entry_words format * n) s.parts_count in
-    let long : used ≡ entry_words format * parts + (payload_before format words 0 parts + 63) / 64 =
+    let long : used ≡ entry_words format * parts + (payload_before format words parts + 63) / 64 =
     omega (arith, length-take-le used words b.within, ap length s.spelled, length-sequence format laws xs v ends whole.parts, length-payload laws xs v.rising v.in_range 0 ends whole.parts, takes, counted) in
     let bits : bits_of words ≡ bits_of directory ++ (payload ++ (replicate (padding (length payload)) 0 ++ bits_of behind)) =
     split-bits laws appended filled words directory payload behind (bits-payload laws xs 0 ends) (begins-split words (directory ++ words_of payload) used s.spelled) in
-    let from : base + payload_before format words 0 parts ≡ length (bits_of directory) + length payload =
+    let from : base + payload_before format words parts ≡ length (bits_of directory) + length payload =
     omega (arith, length-bits_of directory, length-directory format xs 0 0 ends, counted, takes) in
     record {
       parts_are = count-fits m parts (omega (arith, few-parts 0 m ends s.partition, s.parts_count)) (λ e. some-parts m ends s.partition (s.parts_count ∙ e));
@@ -259,12 +259,12 @@ fits-begun format room laws appended filled m bound parts used xs ends words fit
           (subst (FollowsAt format words parts (length xs) bound) (let e : 0 + q ≡ q = omega arith in e)
           (entries-follow format laws words xs v bound s.below base parts 0 0 ends count whole q (omega (arith, lt, count)))));
       within = omega (arith, b.within, long);
-      stored = λ q lt. subst (IsPartStored format words 0 parts) (let e : 0 + q ≡ q = omega arith in e) (parts-stored format laws words xs v parts 0 0 ends whole q (omega (arith, lt, count)));
+      stored = λ q lt. subst (IsPartStored format words parts) (let e : 0 + q ≡ q = omega arith in e) (parts-stored format laws words xs v parts 0 0 ends whole q (omega (arith, lt, count)));
       filled =
           λ q le lt.
           ap (λ xs. get_or xs q 0) bits
-          ∙ zeros-behind (bits_of directory) payload (bits_of behind) q (base + payload_before format words 0 parts) from le
-          (let e : q < 64 * (entry_words format * parts) + payload_before format words 0 parts + (64 - payload_before format words 0 parts % 64) % 64 =
-          word-end (entry_words format * parts) (payload_before format words 0 parts) q lt in
-          subst (λ n. q < base + payload_before format words 0 parts + padding n) (sym takes) (omega (arith, e)));
+          ∙ zeros-behind (bits_of directory) payload (bits_of behind) q (base + payload_before format words parts) from le
+          (let e : q < 64 * (entry_words format * parts) + payload_before format words parts + (64 - payload_before format words parts % 64) % 64 =
+          word-end (entry_words format * parts) (payload_before format words parts) q lt in
+          subst (λ n. q < base + payload_before format words parts + padding n) (sym takes) (omega (arith, e)));
     }

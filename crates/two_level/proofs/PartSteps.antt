@@ -67,7 +67,7 @@ front-next format words parts q =
 
 -- what is known of the values of the first q parts: their last one is stated, and where it is asked for their greatest step is this
 pub record StepsOf (format : FormatNumbers) (words : List ℕ) (parts q : ℕ) (asked : Bool) (most : ℕ) : Type 0 where
-  pub ends : past (front_stated format words parts q) (length (front_stated format words parts q)) ≡ past_before format words 0 q
+  pub ends : past (front_stated format words parts q) (length (front_stated format words parts q)) ≡ past_before format words q
   pub largest : asked ≡ true → most ≡ greatest (steps_from 0 (front_stated format words parts q))
 
 pub steps-none : (format : FormatNumbers) (words : List ℕ) (parts : ℕ) (asked : Bool) → StepsOf format words parts 0 asked 0
@@ -75,19 +75,19 @@ steps-none format words parts asked = record { ends = refl; largest = (λ h. ref
 
 -- one part more
 pub part-steps : ValuesStandAt → (format : FormatNumbers) (words : List ℕ) (parts m bound q : ℕ) (asked : Bool) (most step : ℕ) (ys : List ℕ) → FollowsAt format words parts m bound q
-    → HoldsPart part_bits (bits_of words) (first_bit format 0 parts + payload_before format words 0 q) (stated_universe format words 0 q) (stated_count format words 0 q) ys
+    → HoldsPart part_bits (bits_of words) (first_bit format parts + payload_before format words q) (stated_universe format words q) (stated_count format words q) ys
     → (asked ≡ true → step ≡ greatest (steps_from 0 ys)) → StepsOf format words parts q asked most → StepsOf format words parts (q + 1) asked (max step most)
 part-steps stand format words parts m bound q asked most step ys follows held is before =
-    let p : ℕ = past_before format words 0 q in
+    let p : ℕ = past_before format words q in
     let pre : List ℕ = front_stated format words parts q in
     let zs : List ℕ = map (λ y. y + p) ys in
-    let place : ℕ = first_bit format 0 parts + payload_before format words 0 q in
-    let part : part_stated format words parts q ≡ zs = ap (map (λ y. y + p)) (stand (bits_of words) place (stated_universe format words 0 q) (stated_count format words 0 q) ys held) in
+    let place : ℕ = first_bit format parts + payload_before format words q in
+    let part : part_stated format words parts q ≡ zs = ap (map (λ y. y + p)) (stand (bits_of words) place (stated_universe format words q) (stated_count format words q) ys held) in
     let whole : front_stated format words parts (q + 1) ≡ pre ++ zs = front-next format words parts q ∙ ap (λ vs. pre ++ vs) part in
     record {
       ends =
           ap (λ vs. past vs (length vs)) whole ∙ begins-more format words parts m bound q pre ys follows held.values
-          ∙ ap (past_before format words 0) (let e : suc q ≡ q + 1 = omega arith in e);
+          ∙ ap (past_before format words) (let e : suc q ≡ q + 1 = omega arith in e);
       largest =
           λ h.
           let moved : steps_from p zs ≡ steps_from 0 ys = ap (λ n. steps_from n zs) (let e : p ≡ 0 + p = omega arith in e) ∙ steps-moved 0 p ys in

@@ -27,24 +27,24 @@ use Rattle.two_level.proofs.Entries.{payload-rises}
 -- part q stands from where the entry before it says up to where its own says
 pub record PartStands (format : FormatNumbers) (words xs : List ℕ) (parts q : ℕ) : Type 0 where
   pub rest : List ℕ
-  pub stands : StandsFrom format words xs (first_bit format 0 parts) q (end_before format words 0 q) (stated_end format words 0 q ∷ rest)
+  pub stands : StandsFrom format words xs (first_bit format parts) q (end_before format words q) (stated_end format words q ∷ rest)
 
-pub part-stands : (format : FormatNumbers) → PartLaws → (words xs : List ℕ) → AreValues format xs → (parts q i : ℕ) (ends : List ℕ) → StandsFrom format words xs (first_bit format 0 parts) q i ends
+pub part-stands : (format : FormatNumbers) → PartLaws → (words xs : List ℕ) → AreValues format xs → (parts q i : ℕ) (ends : List ℕ) → StandsFrom format words xs (first_bit format parts) q i ends
     → (j : ℕ) → j < length ends → PartStands format words xs parts (q + j)
 part-stands format laws words xs v parts q i [] h j lt = absurd (omega (arith, lt))
 part-stands format laws words xs v parts q i (end ∷ ends) h zero lt =
-    let base : ℕ = first_bit format 0 parts in
+    let base : ℕ = first_bit format parts in
     let k : EntryIs format words xs q i end = entry-is format laws words xs v base q i end ends h in
     let here : PartStands format words xs parts q =
     record {
       rest = ends;
       stands =
-          subst (λ e. StandsFrom format words xs base q (end_before format words 0 q) (e ∷ ends)) (sym k.ends)
+          subst (λ e. StandsFrom format words xs base q (end_before format words q) (e ∷ ends)) (sym k.ends)
           (subst (λ b. StandsFrom format words xs base q b (end ∷ ends)) (sym h.start) h);
     } in
     subst (PartStands format words xs parts) (let e : q ≡ q + 0 = omega arith in e) here
 part-stands format laws words xs v parts q i (end ∷ ends) h (suc j) lt =
-    let base : ℕ = first_bit format 0 parts in
+    let base : ℕ = first_bit format parts in
     let k : EntryIs format words xs q i end = entry-is format laws words xs v base q i end ends h in
     subst (PartStands format words xs parts) (let e : suc q + j ≡ q + suc j = omega arith in e)
     (part-stands format laws words xs v parts (suc q) end ends (stands-next format laws words xs v base q i end ends h k) j (omega (arith, lt)))
@@ -65,14 +65,14 @@ pub states-part : (format : FormatNumbers) (room : HasRoom format) → PartLaws 
     → BeginsSequence format m bound parts xs ends words used → (q : ℕ) → q < parts → StatesPart format words xs parts q
 states-part format room laws appended filled m bound parts used xs ends words fits b q lt =
     let s = b.sequence in
-    let base : ℕ = first_bit format 0 parts in
+    let base : ℕ = first_bit format parts in
     let a : AreValues format xs = values-of format room m bound parts xs ends (take used words) fits s in
     let whole = stands-whole format laws appended filled m bound parts used xs ends words fits b in
     let pass : PassChecks format words parts m bound = fits-begun format room laws appended filled m bound parts used xs ends words fits b in
     let p : PartStands format words xs parts (0 + q) = part-stands format laws words xs a parts 0 0 ends whole q (omega (arith, lt, s.parts_count)) in
     let p : PartStands format words xs parts q = subst (PartStands format words xs parts) (let e : 0 + q ≡ q = omega arith in e) p in
-    let i : ℕ = end_before format words 0 q in
-    let end : ℕ = stated_end format words 0 q in
+    let i : ℕ = end_before format words q in
+    let end : ℕ = stated_end format words q in
     let h = p.stands in
     let k : EntryIs format words xs q i end = entry-is format laws words xs a base q i end p.rest h in
     let some : i < end = h.parts.0 in
@@ -80,9 +80,9 @@ states-part format room laws appended filled m bound parts used xs ends words fi
     let less : past xs i < past xs end = past-part format laws xs a i end some fit in
     let most : past xs end ≤ format.most_sum = past-bounded laws format.most_sum xs a.below end (omega arith) fit in
     let wide : end - i ≤ universe xs i end = laws.room xs a.rising i end some fit in
-    let held : HoldsPart part_bits (bits_of words) (base + payload_before format words 0 q) (universe xs i end) (end - i) (relative_values xs i end) = holds-part format laws words xs a base q i end p.rest h in
+    let held : HoldsPart part_bits (bits_of words) (base + payload_before format words q) (universe xs i end) (end - i) (relative_values xs i end) = holds-part format laws words xs a base q i end p.rest h in
     let rises = payload-rises format words (suc q) (parts - suc q) in
-    let all = ap (payload_before format words 0) (let e : suc q + (parts - suc q) ≡ parts = omega (arith, lt) in e) in
+    let all = ap (payload_before format words) (let e : suc q + (parts - suc q) ≡ parts = omega (arith, lt) in e) in
     record {
       some = some;
       within = fit;
@@ -94,77 +94,77 @@ states-part format room laws appended filled m bound parts used xs ends words fi
       above = omega (arith, k.lasts, h.begins, less);
       place = omega (arith, pass.within, rises, all);
       held =
-          subst (λ u. HoldsPart part_bits (bits_of words) (base + payload_before format words 0 q) u (end - i) (relative_values xs i end)) (sym k.universes) held;
+          subst (λ u. HoldsPart part_bits (bits_of words) (base + payload_before format words q) u (end - i) (relative_values xs i end)) (sym k.universes) held;
       restored = λ j less. ap (λ n. slice_index (relative_values xs i end) j + n) h.begins ∙ restored-at format laws xs a i end j less fit;
     }
 
 -- the ends that words state, by index
-pub stated-ends : (format : FormatNumbers) (words : List ℕ) (parts q : ℕ) → q < parts → slice_index (sequence_stated format words parts).ends q ≡ stated_end format words 0 q
+pub stated-ends : (format : FormatNumbers) (words : List ℕ) (parts q : ℕ) → q < parts → slice_index (sequence_stated format words parts).ends q ≡ stated_end format words q
 unfolding sequence_stated
-stated-ends format words parts q lt = get_or-map-range_with_len (stated_end format words 0) 0 parts q q 0 lt (omega arith)
+stated-ends format words parts q lt = get_or-map-range_with_len (stated_end format words) 0 parts q q 0 lt (omega arith)
 
 -- how many ends they state
 pub count-ends : (format : FormatNumbers) (words : List ℕ) (parts : ℕ) → length (sequence_stated format words parts).ends ≡ parts
 unfolding sequence_stated
-count-ends format words parts = length-map (range_with_len 0 parts) (stated_end format words 0) ∙ length-range_with_len 0 parts
+count-ends format words parts = length-map (range_with_len 0 parts) (stated_end format words) ∙ length-range_with_len 0 parts
 
-pub stated-start : (format : FormatNumbers) (words : List ℕ) (parts q : ℕ) → q < parts → start_of_part (sequence_stated format words parts).ends q ≡ end_before format words 0 q
+pub stated-start : (format : FormatNumbers) (words : List ℕ) (parts q : ℕ) → q < parts → start_of_part (sequence_stated format words parts).ends q ≡ end_before format words q
 stated-start format words parts zero lt = refl
 stated-start format words parts (suc q) lt = stated-ends format words parts q (omega (arith, lt))
 
 -- how many words a sequence takes
 pub used-is : (format : FormatNumbers) (room : HasRoom format) → PartLaws → BitsOfAppended → BitsOfWords → (m bound parts used : ℕ) (xs ends words : List ℕ) → bound ≤ format.most_sum
-    → BeginsSequence format m bound parts xs ends words used → length (sequence_words format xs ends) ≡ word_behind format words 0 parts
+    → BeginsSequence format m bound parts xs ends words used → length (sequence_words format xs ends) ≡ word_behind format words parts
 used-is format room laws appended filled m bound parts used xs ends words fits b =
     let s = b.sequence in
     let a : AreValues format xs = values-of format room m bound parts xs ends (take used words) fits s in
     let whole = stands-whole format laws appended filled m bound parts used xs ends words fits b in
-    let total : payload_before format words 0 (0 + length ends) ≡ 0 + cost_from (payload_of_part xs) 0 ends = payload-all format laws words xs a (first_bit format 0 parts) 0 0 ends whole in
+    let total : payload_before format words (0 + length ends) ≡ 0 + cost_from (payload_of_part xs) 0 ends = payload-all format laws words xs a (first_bit format parts) 0 0 ends whole in
     let count : 0 + length ends ≡ parts = omega (arith, s.parts_count) in
-    let same : payload_before format words 0 parts ≡ cost_from (payload_of_part xs) 0 ends = omega (arith, total, ap (payload_before format words 0) count) in
+    let same : payload_before format words parts ≡ cost_from (payload_of_part xs) 0 ends = omega (arith, total, ap (payload_before format words) count) in
     omega (arith, length-sequence format laws xs a ends whole.parts, same, ap (λ n. entry_words format * n) s.parts_count)
 
 -- what its parts cost
 pub cost-is : (format : FormatNumbers) (room : HasRoom format) → PartLaws → BitsOfAppended → BitsOfWords → (m bound parts used : ℕ) (xs ends words : List ℕ) → bound ≤ format.most_sum
     → BeginsSequence format m bound parts xs ends words used
-    → partition_cost (cost_of_part (part_charge format) xs) ends ≡ first_bit format 0 parts + payload_before format words 0 parts
+    → partition_cost (cost_of_part (part_charge format) xs) ends ≡ first_bit format parts + payload_before format words parts
 cost-is format room laws appended filled m bound parts used xs ends words fits b =
     let s = b.sequence in
     let a : AreValues format xs = values-of format room m bound parts xs ends (take used words) fits s in
     let whole = stands-whole format laws appended filled m bound parts used xs ends words fits b in
-    let total : payload_before format words 0 (0 + length ends) ≡ 0 + cost_from (payload_of_part xs) 0 ends = payload-all format laws words xs a (first_bit format 0 parts) 0 0 ends whole in
+    let total : payload_before format words (0 + length ends) ≡ 0 + cost_from (payload_of_part xs) 0 ends = payload-all format laws words xs a (first_bit format parts) 0 0 ends whole in
     let count : 0 + length ends ≡ parts = omega (arith, s.parts_count) in
-    let same : payload_before format words 0 parts ≡ cost_from (payload_of_part xs) 0 ends = omega (arith, total, ap (payload_before format words 0) count) in
+    let same : payload_before format words parts ≡ cost_from (payload_of_part xs) 0 ends = omega (arith, total, ap (payload_before format words) count) in
     omega (arith, charges format xs 0 ends, same, ap (λ n. entry_words format * n) s.parts_count)
 
 -- what a part of the sequence is
-pub part-of : (format : FormatNumbers) (words : List ℕ) (parts q : ℕ) → q < parts → StatesPart format words (sequence_stated format words parts).values parts q → (part : Part) → part.from ≡ end_before format words 0 q
-    → part.to ≡ stated_end format words 0 q → part.last ≡ stated_last format words 0 q → part.u ≡ stated_universe format words 0 q → IsPartOf (sequence_stated format words parts) q part
+pub part-of : (format : FormatNumbers) (words : List ℕ) (parts q : ℕ) → q < parts → StatesPart format words (sequence_stated format words parts).values parts q → (part : Part) → part.from ≡ end_before format words q
+    → part.to ≡ stated_end format words q → part.last ≡ stated_last format words q → part.u ≡ stated_universe format words q → IsPartOf (sequence_stated format words parts) q part
 part-of format words parts q lt p part f t l u =
     let xs : List ℕ = (sequence_stated format words parts).values in
-    let universe_is : stated_universe format words 0 q ≡ universe xs (end_before format words 0 q) (stated_end format words 0 q) = omega (arith, p.last, p.before) in
+    let universe_is : stated_universe format words q ≡ universe xs (end_before format words q) (stated_end format words q) = omega (arith, p.last, p.before) in
     record {
       start = f ∙ sym (stated-start format words parts q lt);
       end = t ∙ sym (stated-ends format words parts q lt);
       last = ap (λ n. n + 1) l ∙ p.last ∙ ap (past xs) (sym t);
-      universe_of_part = u ∙ universe_is ∙ ap (λ n. universe xs n (stated_end format words 0 q)) (sym f) ∙ ap (universe xs part.from) (sym t);
+      universe_of_part = u ∙ universe_is ∙ ap (λ n. universe xs n (stated_end format words q)) (sym f) ∙ ap (universe xs part.from) (sym t);
     }
 
 -- the part behind begins where this one ends
-pub end-before-next : (format : FormatNumbers) (words : List ℕ) (q : ℕ) → end_before format words 0 (q + 1) ≡ stated_end format words 0 q
-end-before-next format words q = ap (end_before format words 0) (add-one q)
+pub end-before-next : (format : FormatNumbers) (words : List ℕ) (q : ℕ) → end_before format words (q + 1) ≡ stated_end format words q
+end-before-next format words q = ap (end_before format words) (add-one q)
 
-end-whole : (format : FormatNumbers) (words : List ℕ) (parts m bound : ℕ) → PassChecks format words parts m bound → (ends : List ℕ) → (length ends ≡ 0 → m ≡ 0) → length ends ≡ parts → end_before format words 0 parts ≡ m
+end-whole : (format : FormatNumbers) (words : List ℕ) (parts m bound : ℕ) → PassChecks format words parts m bound → (ends : List ℕ) → (length ends ≡ 0 → m ≡ 0) → length ends ≡ parts → end_before format words parts ≡ m
 end-whole format words zero m bound pass ends none count = sym (none count)
 end-whole format words (suc q) m bound pass ends none count = (follows-at format words (suc q) m bound q (pass.entries q (omega arith))).whole (eq-eqb (q + 1) (suc q) (omega arith))
 
 -- the values of a part are restored where it is said to stand
-pub restored-here : (format : FormatNumbers) (words xs : List ℕ) (parts q from past to : ℕ) → StatesPart format words xs parts q → from ≡ end_before format words 0 q → past ≡ past_before format words 0 q
-    → to ≡ stated_end format words 0 q → Restores xs from to past
+pub restored-here : (format : FormatNumbers) (words xs : List ℕ) (parts q from past to : ℕ) → StatesPart format words xs parts q → from ≡ end_before format words q → past ≡ past_before format words q
+    → to ≡ stated_end format words q → Restores xs from to past
 restored-here format words xs parts q from past to p f b t =
     subst (Restores xs from to) (sym b)
-    (subst (λ n. Restores xs from n (past_before format words 0 q)) (sym t)
-    (subst (λ n. Restores xs n (stated_end format words 0 q) (past_before format words 0 q)) (sym f) p.restored))
+    (subst (λ n. Restores xs from n (past_before format words q)) (sym t)
+    (subst (λ n. Restores xs n (stated_end format words q) (past_before format words q)) (sym f) p.restored))
 
 -- how many relative values a part that is held has
 pub relative-count : (held : HeldPart) (xs : List ℕ) → HoldsValues held xs → length (relative_values xs held.part.from held.part.to) ≡ held.part.to - held.part.from

@@ -66,11 +66,11 @@ later-place xs place from x le fit before =
     omega (arith, most, here n))
 
 -- all values before the end of a part are too small where its last is
-pub below-last : (format : FormatNumbers) (words : List ℕ) (parts q x : ℕ) (v : SequenceView) → StatesParts format words parts v → q < parts → stated_last format words 0 q < x
-    → (k : ℕ) → k < stated_end format words 0 q → slice_index v.values k < x
+pub below-last : (format : FormatNumbers) (words : List ℕ) (parts q x : ℕ) (v : SequenceView) → StatesParts format words parts v → q < parts → stated_last format words q < x
+    → (k : ℕ) → k < stated_end format words q → slice_index v.values k < x
 below-last format words parts q x v d lt less k before =
     let p = d.part q lt in
-    let end : ℕ = stated_end format words 0 q in
+    let end : ℕ = stated_end format words q in
     let last = past-at v.values end (omega (arith, before)) in
     let grows = never-falls v.values d.rising k (end - 1 - k) (omega (arith, before, p.within)) in
     let same : slice_index v.values (k + (end - 1 - k)) ≡ slice_index v.values (end - 1) = ap (slice_index v.values) (let e : k + (end - 1 - k) ≡ end - 1 = omega (arith, before) in e) in
@@ -78,26 +78,26 @@ below-last format words parts q x v d lt less k before =
 
 -- all values of the parts before one that is reached are too small
 pub below-reached : (format : FormatNumbers) (words : List ℕ) (parts part reached x : ℕ) (v : SequenceView) → StatesParts format words parts v → part ≤ reached → reached ≤ parts
-    → (part < reached → stated_last format words 0 (reached - 1) < x)
-    → (k : ℕ) → end_before format words 0 part ≤ k → k < end_before format words 0 reached → slice_index v.values k < x
+    → (part < reached → stated_last format words (reached - 1) < x)
+    → (k : ℕ) → end_before format words part ≤ k → k < end_before format words reached → slice_index v.values k < x
 below-reached format words parts part zero x v d le fit before k after lt = absurd (omega (arith, lt))
 below-reached format words parts part (suc q) x v d le fit before k after lt =
     elim (cases_lt part (suc q)) [
       | inl less ↦
-          let small : stated_last format words 0 q < x =
-          omega (arith, before less, ap (stated_last format words 0) (let e : q ≡ suc q - 1 = omega arith in e)) in
+          let small : stated_last format words q < x =
+          omega (arith, before less, ap (stated_last format words) (let e : q ≡ suc q - 1 = omega arith in e)) in
           below-last format words parts q x v d (omega (arith, fit)) small k lt
-      | inr more ↦ absurd (omega (arith, after, lt, ap (end_before format words 0) (let e : part ≡ suc q = omega (arith, le, more) in e)))
+      | inr more ↦ absurd (omega (arith, after, lt, ap (end_before format words) (let e : part ≡ suc q = omega (arith, le, more) in e)))
     ]
 
 -- a part that is not before another ends no earlier
 pub ends-rise : (format : FormatNumbers) (words : List ℕ) (parts part reached : ℕ) (v : SequenceView) → StatesParts format words parts v → part ≤ reached → reached ≤ parts
-    → end_before format words 0 part ≤ end_before format words 0 reached
-ends-rise format words parts part zero v d le fit = omega (arith, ap (end_before format words 0) (let e : part ≡ zero = omega (arith, le) in e))
+    → end_before format words part ≤ end_before format words reached
+ends-rise format words parts part zero v d le fit = omega (arith, ap (end_before format words) (let e : part ≡ zero = omega (arith, le) in e))
 ends-rise format words parts part (suc q) v d le fit =
     elim (cases_lt part (suc q)) [
       | inl less ↦ omega (arith, ends-rise format words parts part q v d (omega (arith, less)) (omega (arith, fit)), (d.part q (omega (arith, fit))).some)
-      | inr more ↦ omega (arith, ap (end_before format words 0) (let e : part ≡ suc q = omega (arith, le, more) in e))
+      | inr more ↦ omega (arith, ap (end_before format words) (let e : part ≡ suc q = omega (arith, le, more) in e))
     ]
 
 -- the place that is found lies within

@@ -84,11 +84,11 @@ before-found xs from low at x le small later behind =
 
 -- as many last values are stated as there are parts
 pub count-lasts : (format : FormatNumbers) (words : List ℕ) (parts : ℕ) → length (lasts_stated format words parts) ≡ parts
-count-lasts format words parts = length-map (range_with_len 0 parts) (stated_last format words 0) ∙ length-range_with_len 0 parts
+count-lasts format words parts = length-map (range_with_len 0 parts) (stated_last format words) ∙ length-range_with_len 0 parts
 
 -- the last value of a part
-pub last-stated : (format : FormatNumbers) (words : List ℕ) (parts q : ℕ) → q < parts → slice_index (lasts_stated format words parts) q ≡ stated_last format words 0 q
-last-stated format words parts q lt = get_or-map-range_with_len (stated_last format words 0) 0 parts q q 0 lt (omega arith)
+pub last-stated : (format : FormatNumbers) (words : List ℕ) (parts q : ℕ) → q < parts → slice_index (lasts_stated format words parts) q ≡ stated_last format words q
+last-stated format words parts q lt = get_or-map-range_with_len (stated_last format words) 0 parts q q 0 lt (omega arith)
 
 -- the last values of a sequence rise
 pub lasts-rise : (format : FormatNumbers) (words : List ℕ) (parts : ℕ) (v : SequenceView) → StatesParts format words parts v → IsStrictlyIncreasing (lasts_stated format words parts)
@@ -98,11 +98,11 @@ lasts-rise format words parts v d q lt =
     let here = last-stated format words parts q (omega (arith, fit)) in
     let next = last-stated format words parts (q + 1) fit in
     let above = (d.part (q + 1) fit).above in
-    let past : past_before format words 0 (q + 1) ≡ stated_last format words 0 q + 1 = ap (past_before format words 0) (add-one q) in
+    let past : past_before format words (q + 1) ≡ stated_last format words q + 1 = ap (past_before format words) (add-one q) in
     omega (arith, here, next, above, past)
 
 -- the last value before a part that was found is too small
-pub stated-before : (format : FormatNumbers) (words : List ℕ) (parts from at x : ℕ) → from ≤ parts → at ≡ place_at_least (lasts_stated format words parts) from x → from < at → stated_last format words 0 (at - 1) < x
+pub stated-before : (format : FormatNumbers) (words : List ℕ) (parts from at x : ℕ) → from ≤ parts → at ≡ place_at_least (lasts_stated format words parts) from x → from < at → stated_last format words (at - 1) < x
 stated-before format words parts from at x fit is lt =
     let xs : List ℕ = lasts_stated format words parts in
     let count = count-lasts format words parts in
@@ -113,7 +113,7 @@ stated-before format words parts from at x fit is lt =
     omega (arith, small, same, here)
 
 -- its own last value is large enough
-pub stated-reached : (format : FormatNumbers) (words : List ℕ) (parts from at x : ℕ) → from ≤ parts → at ≡ place_at_least (lasts_stated format words parts) from x → at < parts → x ≤ stated_last format words 0 at
+pub stated-reached : (format : FormatNumbers) (words : List ℕ) (parts from at x : ℕ) → from ≤ parts → at ≡ place_at_least (lasts_stated format words parts) from x → at < parts → x ≤ stated_last format words at
 stated-reached format words parts from at x fit is lt =
     let xs : List ℕ = lasts_stated format words parts in
     let count = count-lasts format words parts in

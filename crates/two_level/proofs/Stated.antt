@@ -43,19 +43,19 @@ words-behind format words q last end offset rest h =
 
 -- what one entry of a sequence states
 pub record EntryIs (format : FormatNumbers) (words xs : List ℕ) (q i end : ℕ) : Type 0 where
-  pub ends : stated_end format words 0 q ≡ end
-  pub lasts : stated_last format words 0 q + 1 ≡ past xs end
-  pub offsets : stated_offset format words 0 q ≡ payload_before format words 0 q
-  pub counts : stated_count format words 0 q ≡ end - i
-  pub universes : stated_universe format words 0 q ≡ universe xs i end
+  pub ends : stated_end format words q ≡ end
+  pub lasts : stated_last format words q + 1 ≡ past xs end
+  pub offsets : stated_offset format words q ≡ payload_before format words q
+  pub counts : stated_count format words q ≡ end - i
+  pub universes : stated_universe format words q ≡ universe xs i end
 
 -- the parts of a sequence from place i on, whose entries stand from entry q on
 pub record StandsFrom (format : FormatNumbers) (words xs : List ℕ) (base q i : ℕ) (ends : List ℕ) : Type 0 where
   pub parts : IsPartitionFrom i (length xs) ends
-  pub start : end_before format words 0 q ≡ i
-  pub begins : past_before format words 0 q ≡ past xs i
-  pub directory : DirectoryAt format words q (directory_from format xs i (payload_before format words 0 q) ends)
-  pub payload_bits : StandAt (bits_of words) (base + payload_before format words 0 q) (payload_from xs i ends)
+  pub start : end_before format words q ≡ i
+  pub begins : past_before format words q ≡ past xs i
+  pub directory : DirectoryAt format words q (directory_from format xs i (payload_before format words q) ends)
+  pub payload_bits : StandAt (bits_of words) (base + payload_before format words q) (payload_from xs i ends)
 
 -- past the last value of a part
 pub past-part : (format : FormatNumbers) → PartLaws → (xs : List ℕ) → AreValues format xs → (i end : ℕ) → i < end → end ≤ length xs → past xs i < past xs end
@@ -70,37 +70,36 @@ entry-is format laws words xs v base q i end ends h =
     let lt : i < end = h.parts.0 in
     let less : past xs i < past xs end = past-part format laws xs v i end lt fit in
     let most : past xs end ≤ format.most_sum = past-bounded laws format.most_sum xs v.below end (omega arith) fit in
-    let o : ℕ = payload_before format words 0 q in
+    let o : ℕ = payload_before format words q in
     let rest : List ℕ = directory_from format xs end (o + payload_of_part xs i end) ends in
-    let stands : drop (0 + entry_words format * q) words ≡ entry format (past xs end - 1) end o ++ (rest ++ h.directory.behind) =
-    ap (λ n. drop n words) (let e : 0 + entry_words format * q ≡ entry_words format * q = omega arith in e)
-    ∙ h.directory.is ∙ append_assoc (entry format (past xs end - 1) end o) rest h.directory.behind in
-    let states : EntryStates format words (0 + entry_words format * q) (past xs end - 1) end o =
-    entry-reads-back format words (rest ++ h.directory.behind) (0 + entry_words format * q) (past xs end - 1) end o (omega (arith, most, less)) stands in
-    let up : stated_last format words 0 q + 1 ≡ past xs end = omega (arith, states.last_is, less) in
+    let stands : drop (entry_words format * q) words ≡ entry format (past xs end - 1) end o ++ (rest ++ h.directory.behind) =
+    h.directory.is ∙ append_assoc (entry format (past xs end - 1) end o) rest h.directory.behind in
+    let states : EntryStates format words (entry_words format * q) (past xs end - 1) end o =
+    entry-reads-back format words (rest ++ h.directory.behind) (entry_words format * q) (past xs end - 1) end o (omega (arith, most, less)) stands in
+    let up : stated_last format words q + 1 ≡ past xs end = omega (arith, states.last_is, less) in
     record {
       ends = states.end_is;
       lasts = up;
       offsets = states.offset_is;
-      counts = ap (λ n. n - end_before format words 0 q) states.end_is ∙ ap (λ n. end - n) h.start;
-      universes = ap (λ n. n - past_before format words 0 q) up ∙ ap (λ n. past xs end - n) h.begins;
+      counts = ap (λ n. n - end_before format words q) states.end_is ∙ ap (λ n. end - n) h.start;
+      universes = ap (λ n. n - past_before format words q) up ∙ ap (λ n. past xs end - n) h.begins;
     }
 
 -- the payload before the next part
 pub payload-next : (format : FormatNumbers) (words xs : List ℕ) (q i end : ℕ) → EntryIs format words xs q i end
-    → payload_before format words 0 (suc q) ≡ payload_before format words 0 q + payload_of_part xs i end
+    → payload_before format words (suc q) ≡ payload_before format words q + payload_of_part xs i end
 payload-next format words xs q i end h =
-    ap (λ n. payload_before format words 0 q + n)
-    (ap (λ u. payload u (stated_count format words 0 q)) h.universes ∙ ap (payload (universe xs i end)) h.counts)
+    ap (λ n. payload_before format words q + n)
+    (ap (λ u. payload u (stated_count format words q)) h.universes ∙ ap (payload (universe xs i end)) h.counts)
 
 pub stands-next : (format : FormatNumbers) → PartLaws → (words xs : List ℕ) → AreValues format xs → (base q i end : ℕ) (ends : List ℕ) → StandsFrom format words xs base q i (end ∷ ends)
     → EntryIs format words xs q i end → StandsFrom format words xs base (suc q) end ends
 stands-next format laws words xs v base q i end ends h k =
-    let o : ℕ = payload_before format words 0 q in
-    let next : payload_before format words 0 (suc q) ≡ o + payload_of_part xs i end = payload-next format words xs q i end k in
+    let o : ℕ = payload_before format words q in
+    let next : payload_before format words (suc q) ≡ o + payload_of_part xs i end = payload-next format words xs q i end k in
     let piece : List ℕ = part_bits (relative_values xs i end) (universe xs i end) in
     let takes : length piece ≡ payload_of_part xs i end = part-takes laws xs v.rising v.in_range i end h.parts.0 (ends-within end (length xs) ends h.parts.1) in
-    let place : base + o + length piece ≡ base + payload_before format words 0 (suc q) = omega (arith, next, takes) in
+    let place : base + o + length piece ≡ base + payload_before format words (suc q) = omega (arith, next, takes) in
     let rest : List ℕ = directory_from format xs end (o + payload_of_part xs i end) ends in
     record {
       parts = h.parts.1;
@@ -118,21 +117,21 @@ stands-next format laws words xs v base q i end ends h k =
 
 -- the payload of all parts
 pub payload-all : (format : FormatNumbers) → PartLaws → (words xs : List ℕ) → AreValues format xs → (base q i : ℕ) (ends : List ℕ) → StandsFrom format words xs base q i ends
-    → payload_before format words 0 (q + length ends) ≡ payload_before format words 0 q + cost_from (payload_of_part xs) i ends
+    → payload_before format words (q + length ends) ≡ payload_before format words q + cost_from (payload_of_part xs) i ends
 payload-all format laws words xs v base q i [] h =
-    ap (payload_before format words 0) (let e : q + 0 ≡ q = omega arith in e) ∙ (let e : payload_before format words 0 q ≡ payload_before format words 0 q + 0 = omega arith in e)
+    ap (payload_before format words) (let e : q + 0 ≡ q = omega arith in e) ∙ (let e : payload_before format words q ≡ payload_before format words q + 0 = omega arith in e)
 payload-all format laws words xs v base q i (end ∷ ends) h =
     let k : EntryIs format words xs q i end = entry-is format laws words xs v base q i end ends h in
     let rest = payload-all format laws words xs v base (suc q) end ends (stands-next format laws words xs v base q i end ends h k) in
-    ap (payload_before format words 0) (let e : q + suc (length ends) ≡ suc q + length ends = omega arith in e)
+    ap (payload_before format words) (let e : q + suc (length ends) ≡ suc q + length ends = omega arith in e)
     ∙ rest ∙ omega (arith, payload-next format words xs q i end k)
 
 -- the bits of part q are those of its relative values
 pub holds-part : (format : FormatNumbers) → PartLaws → (words xs : List ℕ) → AreValues format xs → (base q i end : ℕ) (ends : List ℕ) → StandsFrom format words xs base q i (end ∷ ends)
-    → HoldsPart part_bits (bits_of words) (base + payload_before format words 0 q) (universe xs i end) (end - i) (relative_values xs i end)
+    → HoldsPart part_bits (bits_of words) (base + payload_before format words q) (universe xs i end) (end - i) (relative_values xs i end)
 holds-part format laws words xs v base q i end ends h = record {
   values = laws.relative xs v.rising i end h.parts.0 (ends-within end (length xs) ends h.parts.1);
-  stored = stands-first (bits_of words) (base + payload_before format words 0 q) (part_bits (relative_values xs i end) (universe xs i end)) (payload_from xs end ends) h.payload_bits;
+  stored = stands-first (bits_of words) (base + payload_before format words q) (part_bits (relative_values xs i end) (universe xs i end)) (payload_from xs end ends) h.payload_bits;
 }
 
 -- a part is its relative values, counted from where it begins
@@ -155,31 +154,31 @@ restored format laws xs v i end lt fit =
 
 -- what the words state from entry q on
 pub ends-are : (format : FormatNumbers) → PartLaws → (words xs : List ℕ) → AreValues format xs → (base q i : ℕ) (ends : List ℕ) → StandsFrom format words xs base q i ends
-    → map (stated_end format words 0) (range_with_len q (length ends)) ≡ ends
+    → map (stated_end format words) (range_with_len q (length ends)) ≡ ends
 ends-are format laws words xs v base q i [] h = refl
 ends-are format laws words xs v base q i (end ∷ ends) h =
     let k : EntryIs format words xs q i end = entry-is format laws words xs v base q i end ends h in
-    ap (λ a. stated_end format words 0 q ∷ map (stated_end format words 0) (range_with_len a (length ends))) (add-one q)
-    ∙ ap (λ e. e ∷ map (stated_end format words 0) (range_with_len (suc q) (length ends))) k.ends
+    ap (λ a. stated_end format words q ∷ map (stated_end format words) (range_with_len a (length ends))) (add-one q)
+    ∙ ap (λ e. e ∷ map (stated_end format words) (range_with_len (suc q) (length ends))) k.ends
     ∙ ap (λ es. end ∷ es) (ends-are format laws words xs v base (suc q) end ends (stands-next format laws words xs v base q i end ends h k))
 
 pub part-stated : (format : FormatNumbers) → PartLaws → ValuesStandAt → (words xs : List ℕ) → AreValues format xs → (parts q i end : ℕ) (ends : List ℕ)
-    → StandsFrom format words xs (first_bit format 0 parts) q i (end ∷ ends) → EntryIs format words xs q i end → part_stated format words parts q ≡ slice_range xs i end
+    → StandsFrom format words xs (first_bit format parts) q i (end ∷ ends) → EntryIs format words xs q i end → part_stated format words parts q ≡ slice_range xs i end
 part-stated format laws stand words xs v parts q i end ends h k =
-    let place : ℕ = first_bit format 0 parts + payload_before format words 0 q in
+    let place : ℕ = first_bit format parts + payload_before format words q in
     let ys : List ℕ = relative_values xs i end in
-    let are : values_at (bits_of words) place (stated_universe format words 0 q) (stated_count format words 0 q) ≡ ys =
-    ap (λ u. values_at (bits_of words) place u (stated_count format words 0 q)) k.universes
+    let are : values_at (bits_of words) place (stated_universe format words q) (stated_count format words q) ≡ ys =
+    ap (λ u. values_at (bits_of words) place u (stated_count format words q)) k.universes
     ∙ ap (values_at (bits_of words) place (universe xs i end)) k.counts
-    ∙ stand (bits_of words) place (universe xs i end) (end - i) ys (holds-part format laws words xs v (first_bit format 0 parts) q i end ends h) in
-    ap (map (λ y. y + past_before format words 0 q)) are ∙ ap (λ p. map (λ y. y + p) ys) h.begins
+    ∙ stand (bits_of words) place (universe xs i end) (end - i) ys (holds-part format laws words xs v (first_bit format parts) q i end ends h) in
+    ap (map (λ y. y + past_before format words q)) are ∙ ap (λ p. map (λ y. y + p) ys) h.begins
     ∙ restored format laws xs v i end h.parts.0 (ends-within end (length xs) ends h.parts.1)
 
 pub values-are : (format : FormatNumbers) → PartLaws → ValuesStandAt → (words xs : List ℕ) → AreValues format xs → (parts q i : ℕ) (ends : List ℕ)
-    → StandsFrom format words xs (first_bit format 0 parts) q i ends → flat_map (part_stated format words parts) (range_with_len q (length ends)) ≡ drop i xs
+    → StandsFrom format words xs (first_bit format parts) q i ends → flat_map (part_stated format words parts) (range_with_len q (length ends)) ≡ drop i xs
 values-are format laws stand words xs v parts q i [] h = sym (drop_all i xs (let e : length xs ≤ i = omega (arith, h.parts) in e))
 values-are format laws stand words xs v parts q i (end ∷ ends) h =
-    let base : ℕ = first_bit format 0 parts in
+    let base : ℕ = first_bit format parts in
     let k : EntryIs format words xs q i end = entry-is format laws words xs v base q i end ends h in
     let rest = values-are format laws stand words xs v parts (suc q) end ends (stands-next format laws words xs v base q i end ends h k) in
     ap (λ a. part_stated format words parts q ++ flat_map (part_stated format words parts) (range_with_len a (length ends))) (add-one q)
@@ -205,7 +204,7 @@ pub begins-split : (words sequence : List ℕ) (used : ℕ) → take used words 
 begins-split words sequence used e = sym (take-append-drop used words) ∙ ap (λ xs. xs ++ drop used words) e
 
 pub stands-whole : (format : FormatNumbers) → PartLaws → BitsOfAppended → BitsOfWords → (m bound parts used : ℕ) (xs ends words : List ℕ) → bound ≤ format.most_sum
-    → BeginsSequence format m bound parts xs ends words used → StandsFrom format words xs (first_bit format 0 parts) 0 0 ends
+    → BeginsSequence format m bound parts xs ends words used → StandsFrom format words xs (first_bit format parts) 0 0 ends
 stands-whole format laws appended filled m bound parts used xs ends words fits b =
     let s = b.sequence in
     let directory : List ℕ = directory_from format xs 0 0 ends in
@@ -215,7 +214,7 @@ stands-whole format laws appended filled m bound parts used xs ends words fits b
     let zeros : List ℕ = replicate (padding (length payload)) 0 in
     let bits : bits_of words ≡ bits_of directory ++ (payload ++ (zeros ++ bits_of behind)) =
     split-bits laws appended filled words directory payload behind (bits-payload laws xs 0 ends) split in
-    let base : length (bits_of directory) ≡ first_bit format 0 parts + 0 = omega (arith, length-bits_of directory, length-directory format xs 0 0 ends, ap (λ n. entry_words format * n) s.parts_count) in
+    let base : length (bits_of directory) ≡ first_bit format parts + 0 = omega (arith, length-bits_of directory, length-directory format xs 0 0 ends, ap (λ n. entry_words format * n) s.parts_count) in
     record {
       parts = subst (λ n. IsPartitionFrom 0 n ends) (sym s.count) s.partition;
       start = refl;
@@ -224,7 +223,7 @@ stands-whole format laws appended filled m bound parts used xs ends words fits b
         behind = words_of payload ++ behind;
         is = ap (λ n. drop n words) (let e : entry_words format * 0 ≡ 0 = omega arith in e) ∙ split ∙ append_assoc directory (words_of payload) behind;
       };
-      payload_bits = subst (λ xs. StandAt xs (first_bit format 0 parts + 0) payload) (sym bits) (stands-between (bits_of directory) payload (zeros ++ bits_of behind) (first_bit format 0 parts + 0) base);
+      payload_bits = subst (λ xs. StandAt xs (first_bit format parts + 0) payload) (sym bits) (stands-between (bits_of directory) payload (zeros ++ bits_of behind) (first_bit format parts + 0) base);
     }
 
 -- words that begin with a sequence state it
@@ -236,7 +235,7 @@ stated-is format room laws appended filled stand m bound parts used xs ends word
     let v : AreValues format xs = values-of format room m bound parts xs ends (take used words) fits s in
     let whole = stands-whole format laws appended filled m bound parts used xs ends words fits b in (
       ap (λ n. flat_map (part_stated format words parts) (range_with_len 0 n)) (sym s.parts_count) ∙ values-are format laws stand words xs v parts 0 0 ends whole,
-      ap (λ n. map (stated_end format words 0) (range_with_len 0 n)) (sym s.parts_count) ∙ ends-are format laws words xs v (first_bit format 0 parts) 0 0 ends whole,
+      ap (λ n. map (stated_end format words) (range_with_len 0 n)) (sym s.parts_count) ∙ ends-are format laws words xs v (first_bit format parts) 0 0 ends whole,
     )
 
 pub one-sequence : (format : FormatNumbers) (room : HasRoom format) → PartLaws → BitsOfAppended → BitsOfWords → ValuesStandAt → OneSequence format

@@ -33,13 +33,13 @@ ChecksRefuseNoSequence format =
 abbrev pub SequencesPassChecks : FormatNumbers → Type 0
 SequencesPassChecks format =
     (m bound parts used : ℕ) (xs ends words : List ℕ) → bound ≤ format.most_sum
-    → BeginsSequence format m bound parts xs ends words used → PassChecks format words parts m bound × (word_behind format words 0 parts ≡ used)
+    → BeginsSequence format m bound parts xs ends words used → PassChecks format words parts m bound × (word_behind format words parts ≡ used)
 
 -- Words of 64 bits that pass every check begin with a sequence.
 abbrev pub ChecksAcceptASequence : FormatNumbers → Type 0
 ChecksAcceptASequence format =
     (m bound parts : ℕ) (words : List ℕ) → bound ≤ format.most_sum → All (λ w. w < 2 ^ 64) words → PassChecks format words parts m bound
-    → (xs ends : List ℕ) × BeginsSequence format m bound parts xs ends words (word_behind format words 0 parts)
+    → (xs ends : List ℕ) × BeginsSequence format m bound parts xs ends words (word_behind format words parts)
 
 -- The values and the ends that words state are those of the sequence with which they begin.
 abbrev pub WordsState : FormatNumbers → Type 0

@@ -19,27 +19,27 @@ Restores xs from to before = (j : ℕ) → from + j < to → slice_index (relati
 
 -- Entry q of the directory states a part of these values.
 pub record StatesPart (format : FormatNumbers) (words xs : List ℕ) (parts q : ℕ) : Type 0 where
-  pub some : end_before format words 0 q < stated_end format words 0 q
-  pub within : stated_end format words 0 q ≤ length xs
-  pub before : past_before format words 0 q ≡ past xs (end_before format words 0 q)
-  pub last : stated_last format words 0 q + 1 ≡ past xs (stated_end format words 0 q)
-  pub small : stated_last format words 0 q < format.most_sum
-  pub offset : stated_offset format words 0 q ≡ payload_before format words 0 q
-  pub room : stated_count format words 0 q ≤ stated_universe format words 0 q
-  pub above : past_before format words 0 q ≤ stated_last format words 0 q
-  pub place : first_bit format 0 parts + payload_before format words 0 (suc q) ≤ 64 * length words
-  pub held : HoldsPart part_bits (bits_of words) (first_bit format 0 parts + payload_before format words 0 q) (stated_universe format words 0 q) (stated_count format words 0 q)
-      (relative_values xs (end_before format words 0 q) (stated_end format words 0 q))
-  pub restored : Restores xs (end_before format words 0 q) (stated_end format words 0 q) (past_before format words 0 q)
+  pub some : end_before format words q < stated_end format words q
+  pub within : stated_end format words q ≤ length xs
+  pub before : past_before format words q ≡ past xs (end_before format words q)
+  pub last : stated_last format words q + 1 ≡ past xs (stated_end format words q)
+  pub small : stated_last format words q < format.most_sum
+  pub offset : stated_offset format words q ≡ payload_before format words q
+  pub room : stated_count format words q ≤ stated_universe format words q
+  pub above : past_before format words q ≤ stated_last format words q
+  pub place : first_bit format parts + payload_before format words (suc q) ≤ 64 * length words
+  pub held : HoldsPart part_bits (bits_of words) (first_bit format parts + payload_before format words q) (stated_universe format words q) (stated_count format words q)
+      (relative_values xs (end_before format words q) (stated_end format words q))
+  pub restored : Restores xs (end_before format words q) (stated_end format words q) (past_before format words q)
 
 -- The directory states so many parts, which are all of the sequence.
 pub record StatesParts (format : FormatNumbers) (words : List ℕ) (parts : ℕ) (v : SequenceView) : Type 0 where
   pub rising : IsStrictlyIncreasing v.values
   pub below : All (λ x. x < format.most_sum) v.values
   pub room : entry_words format * parts ≤ length words
-  pub end : end_before format words 0 parts ≡ length v.values
-  pub used : words_used v ≡ word_behind format words 0 parts
-  pub cost : partition_cost (cost_of_part (part_charge format) v.values) v.ends ≡ first_bit format 0 parts + payload_before format words 0 parts
+  pub end : end_before format words parts ≡ length v.values
+  pub used : words_used v ≡ word_behind format words parts
+  pub cost : partition_cost (cost_of_part (part_charge format) v.values) v.ends ≡ first_bit format parts + payload_before format words parts
   pub part : (q : ℕ) → q < parts → StatesPart format words v.values parts q
 
 -- The view of a part that is held has the relative values of these values from its start up to its end.
@@ -56,10 +56,10 @@ pub record HoldsValues (held : HeldPart) (xs : List ℕ) : Type 0 where
 -- A part that is held is one of so many in the sequence with which the words begin.
 pub record IsHeldPart (format : FormatNumbers) (words : List ℕ) (parts : ℕ) (held : HeldPart) : Type 0 where
   pub within : held.index < parts
-  pub from : held.part.from ≡ end_before format words 0 held.index
-  pub to : held.part.to ≡ stated_end format words 0 held.index
-  pub last : held.part.last ≡ stated_last format words 0 held.index
-  pub universe_of_part : held.part.u ≡ stated_universe format words 0 held.index
+  pub from : held.part.from ≡ end_before format words held.index
+  pub to : held.part.to ≡ stated_end format words held.index
+  pub last : held.part.last ≡ stated_last format words held.index
+  pub universe_of_part : held.part.u ≡ stated_universe format words held.index
   pub values : HoldsValues held (sequence_stated format words parts).values
 
 -- A place lies in the part that is held, and the value is that there; or it is the end, and none is held.

@@ -42,7 +42,7 @@ pub(crate) fn check_words(
     requires words { length words.now < 2 ^ 57 }
     requires bound { bound ≤ (numbers_of format).most_sum }
     ensures ok { IfOk result (λ found. PassChecks (numbers_of format) words.now parts m bound) }
-    ensures used { IfOk result (λ found. found.used ≡ word_behind (numbers_of format) words.now 0 parts) }
+    ensures used { IfOk result (λ found. found.used ≡ word_behind (numbers_of format) words.now parts) }
     ensures step { IfOk result (λ found. with_steps ≡ true → found.greatest ≡ greatest (steps_from 0 (sequence_stated (numbers_of format) words.now parts).values)) }
     ensures first { IfErr result (λ f. IsSequenceFault (numbers_of format) words.now parts m bound f.check f.part) }
 {
@@ -110,13 +110,13 @@ fn check_directory(
 ) -> Result<u64, SeqFault>
     requires bound { bound ≤ (numbers_of format).most_sum }
     requires room { entry_words (numbers_of format) * parts ≤ length words.now }
-    ensures entries { IfOk result (λ bits. (q : ℕ) → q < parts → entry_breaks (numbers_of format) words.now 0 parts m bound q ≡ false) }
-    ensures bits { IfOk result (λ bits. bits ≡ payload_before (numbers_of format) words.now 0 parts) }
+    ensures entries { IfOk result (λ bits. (q : ℕ) → q < parts → entry_breaks (numbers_of format) words.now parts m bound q ≡ false) }
+    ensures bits { IfOk result (λ bits. bits ≡ payload_before (numbers_of format) words.now parts) }
     ensures few { IfOk result (λ bits. bits ≤ 2 * (numbers_of format).most_sum) }
     ensures check { IfErr result (λ f. f.check ≡ Check.K7) }
     ensures part { IfErr result (λ f. f.part < parts) }
-    ensures breaks { IfErr result (λ f. entry_breaks (numbers_of format) words.now 0 parts m bound f.part ≡ true) }
-    ensures first { IfErr result (λ f. (q : ℕ) → q < f.part → entry_breaks (numbers_of format) words.now 0 parts m bound q ≡ false) }
+    ensures breaks { IfErr result (λ f. entry_breaks (numbers_of format) words.now parts m bound f.part ≡ true) }
+    ensures first { IfErr result (λ f. (q : ℕ) → q < f.part → entry_breaks (numbers_of format) words.now parts m bound q ≡ false) }
 {
     formats_have_room();
     let mut passed = Passed {
@@ -160,14 +160,14 @@ fn check_step(part: PlacedPart<'_>, with_steps: bool) -> Option<u64>
 fn check_parts(words: &[u64], parts: u32, format: Format, with_steps: bool) -> Result<u64, SeqFault>
     requires words { length words.now < 2 ^ 57 }
     requires room { entry_words (numbers_of format) * parts ≤ length words.now }
-    requires entries { (m bound : ℕ) × (bound ≤ (numbers_of format).most_sum) × ((q : ℕ) → q < parts → entry_breaks (numbers_of format) words.now 0 parts m bound q ≡ false) }
-    requires within { word_behind (numbers_of format) words.now 0 parts ≤ length words.now }
-    ensures ok { OnOk result ((q : ℕ) → q < parts → IsPartStored (numbers_of format) words.now 0 parts q) }
+    requires entries { (m bound : ℕ) × (bound ≤ (numbers_of format).most_sum) × ((q : ℕ) → q < parts → entry_breaks (numbers_of format) words.now parts m bound q ≡ false) }
+    requires within { word_behind (numbers_of format) words.now parts ≤ length words.now }
+    ensures ok { OnOk result ((q : ℕ) → q < parts → IsPartStored (numbers_of format) words.now parts q) }
     ensures step { IfOk result (λ most. with_steps ≡ true → most ≡ greatest (steps_from 0 (sequence_stated (numbers_of format) words.now parts).values)) }
     ensures check { IfErr result (λ f. f.check ≡ Check.K8) }
     ensures part { IfErr result (λ f. f.part < parts) }
-    ensures breaks { IfErr result (λ f. ¬ IsPartStored (numbers_of format) words.now 0 parts f.part) }
-    ensures first { IfErr result (λ f. (q : ℕ) → q < f.part → IsPartStored (numbers_of format) words.now 0 parts q) }
+    ensures breaks { IfErr result (λ f. ¬ IsPartStored (numbers_of format) words.now parts f.part) }
+    ensures first { IfErr result (λ f. (q : ℕ) → q < f.part → IsPartStored (numbers_of format) words.now parts q) }
 {
     formats_have_room();
     one_list_at_place();
@@ -199,12 +199,12 @@ fn check_parts(words: &[u64], parts: u32, format: Format, with_steps: bool) -> R
 // Looks for a one behind the payload.
 fn check_padding(words: &[u64], parts: u32, bits: u64, format: Format) -> Result<(), SeqFault>
     requires words { length words.now < 2 ^ 57 }
-    requires bits { bits ≡ payload_before (numbers_of format) words.now 0 parts }
-    requires within { word_behind (numbers_of format) words.now 0 parts ≤ length words.now }
-    ensures ok { OnOk result (HasNoOne (bits_of words.now) (first_bit (numbers_of format) 0 parts + payload_before (numbers_of format) words.now 0 parts) (64 * word_behind (numbers_of format) words.now 0 parts)) }
+    requires bits { bits ≡ payload_before (numbers_of format) words.now parts }
+    requires within { word_behind (numbers_of format) words.now parts ≤ length words.now }
+    ensures ok { OnOk result (HasNoOne (bits_of words.now) (first_bit (numbers_of format) parts + payload_before (numbers_of format) words.now parts) (64 * word_behind (numbers_of format) words.now parts)) }
     ensures check { IfErr result (λ f. f.check ≡ Check.K9) }
     ensures part { IfErr result (λ f. f.part ≡ 0) }
-    ensures breaks { IfErr result (λ f. ¬ HasNoOne (bits_of words.now) (first_bit (numbers_of format) 0 parts + payload_before (numbers_of format) words.now 0 parts) (64 * word_behind (numbers_of format) words.now 0 parts)) }
+    ensures breaks { IfErr result (λ f. ¬ HasNoOne (bits_of words.now) (first_bit (numbers_of format) parts + payload_before (numbers_of format) words.now parts) (64 * word_behind (numbers_of format) words.now parts)) }
 {
     let from = directory_bits(parts, format) + bits;
     let end = from.div_ceil(64) * 64;

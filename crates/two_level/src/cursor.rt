@@ -1,4 +1,4 @@
-ghost use Rattle.std.specs.Prelude.{◌≡◌, ℕ, ◌≤◌, ◌<◌, ◌+◌, length, slice_index, take, IfSome, IfNone};
+ghost use Rattle.std.specs.Prelude.{◌≡◌, ◌≤◌, ◌<◌, ◌+◌, length, slice_index, take, IfSome, IfNone};
 ghost use Rattle.collection_model.specs.Marks.{AreKept};
 ghost use Rattle.collection_model.specs.NextBelow.{AreNextBelow};
 ghost use Rattle.two_level.specs.SequenceView.{place_at_least};

@@ -78,9 +78,9 @@ impl<'a> Directory<'a> {
     // The entry of a part.
     pub(crate) fn entry(&self, part: u32) -> Entry
         requires within { part < self.now.parts }
-        ensures last { result.last ≡ stated_last (numbers_of self.now.format) self.now.words.now 0 part }
-        ensures end { result.end ≡ stated_end (numbers_of self.now.format) self.now.words.now 0 part }
-        ensures offset { result.offset ≡ stated_offset (numbers_of self.now.format) self.now.words.now 0 part }
+        ensures last { result.last ≡ stated_last (numbers_of self.now.format) self.now.words.now part }
+        ensures end { result.end ≡ stated_end (numbers_of self.now.format) self.now.words.now part }
+        ensures offset { result.offset ≡ stated_offset (numbers_of self.now.format) self.now.words.now part }
     {
         entry_at(self.words, part, self.format)
     }
@@ -90,8 +90,8 @@ impl<'a> Directory<'a> {
         requires within { part ≤ self.now.parts }
         ensures after { part ≤ result }
         ensures within { result ≤ self.now.parts }
-        ensures before { part < result → stated_last (numbers_of self.now.format) self.now.words.now 0 (result - 1) < x }
-        ensures reached { result < self.now.parts → x ≤ stated_last (numbers_of self.now.format) self.now.words.now 0 result }
+        ensures before { part < result → stated_last (numbers_of self.now.format) self.now.words.now (result - 1) < x }
+        ensures reached { result < self.now.parts → x ≤ stated_last (numbers_of self.now.format) self.now.words.now result }
     {
         galloped::<Brand>(self, part, x, Blank::new(1))
     }

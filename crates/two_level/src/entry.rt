@@ -23,7 +23,7 @@ pub(crate) fn directory_words(parts: u32, format: Format) -> u64
 
 // How many bits they take.
 pub(crate) fn directory_bits(parts: u32, format: Format) -> u64
-    ensures bits { result ≡ first_bit (numbers_of format) 0 parts }
+    ensures bits { result ≡ first_bit (numbers_of format) parts }
     ensures few { result < 2 ^ 40 }
 {
     format.charge() * parts as u64
@@ -32,9 +32,9 @@ pub(crate) fn directory_bits(parts: u32, format: Format) -> u64
 // The entry of a part.
 pub(crate) fn entry_at(words: &[u64], part: u32, format: Format) -> Entry
     requires within { entry_words (numbers_of format) * part + entry_words (numbers_of format) ≤ length words.now }
-    ensures last { result.last ≡ stated_last (numbers_of format) words.now 0 part }
-    ensures end { result.end ≡ stated_end (numbers_of format) words.now 0 part }
-    ensures offset { result.offset ≡ stated_offset (numbers_of format) words.now 0 part }
+    ensures last { result.last ≡ stated_last (numbers_of format) words.now part }
+    ensures end { result.end ≡ stated_end (numbers_of format) words.now part }
+    ensures offset { result.offset ≡ stated_offset (numbers_of format) words.now part }
 {
     let at = directory_words(part, format) as usize;
     match format {

@@ -1,6 +1,5 @@
-ghost use Rattle.std.specs.Prelude.{◌≡◌, ◌≤◌, ◌<◌, ◌+◌, ◌^◌, length, slice_index};
+ghost use Rattle.std.specs.Prelude.{◌≡◌, ◌≤◌, ◌<◌, ◌+◌, length, slice_index};
 ghost use Rattle.part_cost.specs.Formats.{numbers_of};
-ghost use Rattle.part_cost.specs.Payload.{widest_low};
 ghost use Rattle.part_cost.specs.Span.{past};
 ghost use Rattle.two_level.specs.SequenceFault.{stated_last, stated_end, stated_universe, stated_count, end_before, past_before, payload_before, first_bit};
 ghost use Rattle.two_level.specs.SequenceView.{IsPartOf};
@@ -16,8 +15,8 @@ impl<'a> Directory<'a> {
     // The end that the entry before a part states, and one past the last value that it states.
     fn before_part(&self, part: u32) -> (u64, u64)
         requires within { part ≤ self.now.parts }
-        ensures end { result.0 ≡ end_before (numbers_of self.now.format) self.now.words.now 0 part }
-        ensures past { result.1 ≡ past_before (numbers_of self.now.format) self.now.words.now 0 part }
+        ensures end { result.0 ≡ end_before (numbers_of self.now.format) self.now.words.now part }
+        ensures past { result.1 ≡ past_before (numbers_of self.now.format) self.now.words.now part }
     {
         formats_have_room();
         if part == 0 {
@@ -31,14 +30,14 @@ impl<'a> Directory<'a> {
     // A part of the sequence, and where it stands in the words.
     pub(crate) fn stated_part(&self, part: u32) -> (Part, PlacedPart<'a>)
         requires within { part < self.now.parts }
-        ensures from { result.0.from ≡ end_before (numbers_of self.now.format) self.now.words.now 0 part }
-        ensures to { result.0.to ≡ stated_end (numbers_of self.now.format) self.now.words.now 0 part }
-        ensures last { result.0.last ≡ stated_last (numbers_of self.now.format) self.now.words.now 0 part }
-        ensures u { result.0.u ≡ stated_universe (numbers_of self.now.format) self.now.words.now 0 part }
+        ensures from { result.0.from ≡ end_before (numbers_of self.now.format) self.now.words.now part }
+        ensures to { result.0.to ≡ stated_end (numbers_of self.now.format) self.now.words.now part }
+        ensures last { result.0.last ≡ stated_last (numbers_of self.now.format) self.now.words.now part }
+        ensures u { result.0.u ≡ stated_universe (numbers_of self.now.format) self.now.words.now part }
         ensures bits { result.1.bits.words.now ≡ self.now.words.now }
-        ensures place { result.1.place ≡ first_bit (numbers_of self.now.format) 0 self.now.parts + payload_before (numbers_of self.now.format) self.now.words.now 0 part }
-        ensures universe { result.1.u ≡ stated_universe (numbers_of self.now.format) self.now.words.now 0 part }
-        ensures count { result.1.m ≡ stated_count (numbers_of self.now.format) self.now.words.now 0 part }
+        ensures place { result.1.place ≡ first_bit (numbers_of self.now.format) self.now.parts + payload_before (numbers_of self.now.format) self.now.words.now part }
+        ensures universe { result.1.u ≡ stated_universe (numbers_of self.now.format) self.now.words.now part }
+        ensures count { result.1.m ≡ stated_count (numbers_of self.now.format) self.now.words.now part }
     {
         formats_have_room();
         let entry = self.entry(part);
@@ -58,7 +57,7 @@ impl<'a> Directory<'a> {
 
     // How many bits the sequence takes: those up to the end of its last part.
     pub(crate) fn bits_taken(&self) -> u64
-        ensures { result ≡ first_bit (numbers_of self.now.format) 0 self.now.parts + payload_before (numbers_of self.now.format) self.now.words.now 0 self.now.parts }
+        ensures { result ≡ first_bit (numbers_of self.now.format) self.now.parts + payload_before (numbers_of self.now.format) self.now.words.now self.now.parts }
     {
         if self.parts == 0 {
             0
@@ -88,8 +87,8 @@ impl<'a> Directory<'a> {
     pub(crate) fn part_of_place(&self, place: u32) -> u32
         requires within { place < length (sequence_of self.now).values }
         ensures part { result < self.now.parts }
-        ensures from { end_before (numbers_of self.now.format) self.now.words.now 0 result ≤ place }
-        ensures to { place < stated_end (numbers_of self.now.format) self.now.words.now 0 result }
+        ensures from { end_before (numbers_of self.now.format) self.now.words.now result ≤ place }
+        ensures to { place < stated_end (numbers_of self.now.format) self.now.words.now result }
     {
         let mut low = 0;
         let mut high = self.parts - 1;

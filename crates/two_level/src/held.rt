@@ -4,7 +4,7 @@ ghost use Rattle.std.specs.List.Sorted.{IsStrictlyIncreasing};
 ghost use Rattle.part_cost.specs.Payload.{widest_low};
 ghost use Rattle.part_cost.specs.Span.{past, relative_values};
 ghost use Rattle.part_cost.specs.Stored.{IsFirstAtLeast};
-ghost use Rattle.part_codec.specs.PartView.{Holds, universe_of, count_of};
+ghost use Rattle.part_codec.specs.PartView.{Holds, count_of};
 ghost use Rattle.part_codec.specs.Sought.{IsSought};
 ghost use Rattle.part_cost.specs.Formats.{numbers_of};
 ghost use Rattle.two_level.specs.SequenceFault.{end_before};
@@ -233,7 +233,7 @@ impl<'a> Directory<'a> {
     #[inline(always)]
     pub(crate) fn hold_if_any(&self, part: u32) -> (Option<HeldPart<'a>>, u64)
         requires within { part ≤ self.now.parts }
-        ensures lies { LiesIn (numbers_of self.now.format) self.now.words.now self.now.parts (end_before (numbers_of self.now.format) self.now.words.now 0 part) result.0 result.1 }
+        ensures lies { LiesIn (numbers_of self.now.format) self.now.words.now self.now.parts (end_before (numbers_of self.now.format) self.now.words.now part) result.0 result.1 }
     {
         if part < self.parts {
             let held = self.hold(part);
@@ -280,7 +280,7 @@ impl<'a> Directory<'a> {
         requires within { part ≤ self.now.parts }
         ensures lies { LiesIn (numbers_of self.now.format) self.now.words.now self.now.parts result.0 into.new result.1 }
         ensures behind { StandsBehind into.new (sequence_of self.now).values result.0 result.2 }
-        ensures first { let xs = (sequence_of self.now).values in place_at_least xs result.0 result.2 ≡ place_at_least xs (end_before (numbers_of self.now.format) self.now.words.now 0 part) x }
+        ensures first { let xs = (sequence_of self.now).values in place_at_least xs result.0 result.2 ≡ place_at_least xs (end_before (numbers_of self.now.format) self.now.words.now part) x }
     {
         let reaching = self.part_reaching(part, x);
         if reaching < self.parts {

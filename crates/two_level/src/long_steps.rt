@@ -1,4 +1,4 @@
-ghost use Rattle.std.specs.Prelude.{◌≡◌, ℕ, ◌≤◌, ◌<◌, ◌+◌, ◌^◌, nat_le, List, length, slice_index, slice_range};
+ghost use Rattle.std.specs.Prelude.{◌≡◌, ℕ, ◌≤◌, ◌<◌, ◌+◌, ◌^◌, nat_le, List, length, slice_index};
 ghost use Rattle.std.specs.List.{position_or_len};
 ghost use Rattle.std.specs.List.Sorted.{IsStrictlyIncreasing};
 ghost use Rattle.collection_model.specs.Sequences.{steps_from};
@@ -88,9 +88,9 @@ impl<'a> Directory<'a> {
     // numbers leave no room for such a step is not read, and the one step of one number is its universe.
     fn first_in_part(&self, index: u32, part: Part, from: u32, least: u64) -> u32
         requires within { index < self.now.parts }
-        requires starts { part.from ≡ end_before (numbers_of self.now.format) self.now.words.now 0 index }
-        requires ends { part.to ≡ stated_end (numbers_of self.now.format) self.now.words.now 0 index }
-        requires universe { part.u ≡ stated_universe (numbers_of self.now.format) self.now.words.now 0 index }
+        requires starts { part.from ≡ end_before (numbers_of self.now.format) self.now.words.now index }
+        requires ends { part.to ≡ stated_end (numbers_of self.now.format) self.now.words.now index }
+        requires universe { part.u ≡ stated_universe (numbers_of self.now.format) self.now.words.now index }
         requires after { part.from ≤ from }
         requires some { from < part.to }
         ensures { IsFirstStep (sequence_of self.now).values from part.to least result }

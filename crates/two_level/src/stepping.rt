@@ -82,9 +82,9 @@ impl<'a> Directory<'a> {
     // step is 1, and one number alone lies as far as the universe: such a part is not read.
     fn step_in_part(&self, index: u32, part: Part, from: u32, to: u32) -> u64
         requires within { index < self.now.parts }
-        requires starts { part.from ≡ end_before (numbers_of self.now.format) self.now.words.now 0 index }
-        requires ends { part.to ≡ stated_end (numbers_of self.now.format) self.now.words.now 0 index }
-        requires universe { part.u ≡ stated_universe (numbers_of self.now.format) self.now.words.now 0 index }
+        requires starts { part.from ≡ end_before (numbers_of self.now.format) self.now.words.now index }
+        requires ends { part.to ≡ stated_end (numbers_of self.now.format) self.now.words.now index }
+        requires universe { part.u ≡ stated_universe (numbers_of self.now.format) self.now.words.now index }
         requires after { part.from ≤ from }
         requires some { from < to }
         requires before { to ≤ part.to }

@@ -45,6 +45,6 @@ loop-part-preserved c =
       few = omega (arith, k.below, k.above, c.loop-part.invariant.few, c.payload_bits.ensures, payload-short (last + 1 - c.loop-part.passed.past) (end - c.loop-part.passed.values));
       past_within = omega (arith, k.below, c.requires.bound);
       entries =
-          each-below (λ n. entry_breaks (numbers_of c.args.format) c.args.words.now 0 c.args.parts c.args.m c.args.bound n ≡ false) q c.loop-part.invariant.entries
+          each-below (λ n. entry_breaks (numbers_of c.args.format) c.args.words.now c.args.parts c.args.m c.args.bound n ≡ false) q c.loop-part.invariant.entries
           (sym (entry-test (numbers_of c.args.format) words c.args.parts c.args.m c.args.bound q c.loop-part.passed.values c.loop-part.passed.past c.loop-part.passed.bits last end offset r c.loop-part.invariant.bits_are e) ∙ ap not raw);
     }

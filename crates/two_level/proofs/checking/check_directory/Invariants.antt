@@ -7,8 +7,8 @@ use Rattle.two_level.proofs.checking.check_directory.Given as goal
 abbrev pub invariant-loop-part : goal.invariant-loop-part
 invariant-loop-part l = record {
   reached : Reached (numbers_of l.format) l.words l.part l.passed.values l.passed.past;
-  bits_are : l.passed.bits ≡ payload_before (numbers_of l.format) l.words 0 l.part;
+  bits_are : l.passed.bits ≡ payload_before (numbers_of l.format) l.words l.part;
   few : l.passed.bits ≤ 2 * l.passed.past;
   past_within : l.passed.past ≤ (numbers_of l.format).most_sum;
-  entries : (q : ℕ) → q < l.part → entry_breaks (numbers_of l.format) l.words 0 l.parts l.m l.bound q ≡ false;
+  entries : (q : ℕ) → q < l.part → entry_breaks (numbers_of l.format) l.words l.parts l.m l.bound q ≡ false;
 }

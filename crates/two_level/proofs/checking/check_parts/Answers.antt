@@ -35,14 +35,14 @@ loop-part-preserved c =
     record { last_is = c.entry_at-entry.ensures.last; end_is = c.entry_at-entry.ensures.end; offset_is = c.entry_at-entry.ensures.offset } in
     let held = c.in-Some.ensures.some in
     let p = c.at-placed.ensures in
-    let there = held-as c.at-placed.result.bits.words.now c.args.words.now c.at-placed.result.place (first_bit (numbers_of c.args.format) 0 c.args.parts + offset) c.at-placed.result.u
+    let there = held-as c.at-placed.result.bits.words.now c.args.words.now c.at-placed.result.place (first_bit (numbers_of c.args.format) c.args.parts + offset) c.at-placed.result.u
     (last + 1 - c.loop-part.past) c.at-placed.result.m (end - c.loop-part.before) held.0 p.bits (omega (arith, p.place, c.directory_bits.ensures.bits)) p.u p.m held.1 in
     let here =
     holds-here (numbers_of c.args.format) c.args.words.now c.args.parts c.requires.entries.0 c.requires.entries.1 c.loop-part.part c.loop-part.before c.loop-part.past last end offset
     held.0 c.loop-part.invariant.reached e (c.requires.entries.3 c.loop-part.part c.loop-part-test.true) there in
     record {
       reached = reached-next (numbers_of c.args.format) c.args.words.now c.loop-part.part last end offset e;
-      stored = each-below (IsPartStored (numbers_of c.args.format) c.args.words.now 0 c.args.parts) c.loop-part.part c.loop-part.invariant.stored (held.0, here);
+      stored = each-below (IsPartStored (numbers_of c.args.format) c.args.words.now c.args.parts) c.loop-part.part c.loop-part.invariant.stored (held.0, here);
       steps =
           subst (StepsOf (numbers_of c.args.format) c.args.words.now c.args.parts (c.loop-part.part + 1) c.args.with_steps) (sym c.max-most.ensures)
           (part-steps c.one_list_at_place.ensures.values (numbers_of c.args.format) c.args.words.now c.args.parts c.requires.entries.0 c.requires.entries.1 c.loop-part.part c.args.with_steps c.loop-part.most c.in-Some.step held.0

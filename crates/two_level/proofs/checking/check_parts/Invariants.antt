@@ -8,6 +8,6 @@ use Rattle.two_level.proofs.checking.check_parts.Given as goal
 abbrev pub invariant-loop-part : goal.invariant-loop-part
 invariant-loop-part l = record {
   reached : Reached (numbers_of l.format) l.words l.part l.before l.past;
-  stored : (q : ℕ) → q < l.part → IsPartStored (numbers_of l.format) l.words 0 l.parts q;
+  stored : (q : ℕ) → q < l.part → IsPartStored (numbers_of l.format) l.words l.parts q;
   steps : StepsOf (numbers_of l.format) l.words l.parts l.part l.with_steps l.most;
 }

@@ -16,27 +16,27 @@ use Rattle.two_level.proofs.checking.check_words.Goals as goal
 
 -- the first fault where the entries stand and end within the words
 behind-entries : (format : FormatNumbers) (words : List ℕ) (parts m bound : ℕ) (check : Check) (part : ℕ) → parts_fit m parts ≡ true → entry_words format * parts ≤ length words
-    → ((q : ℕ) → q < parts → entry_breaks format words 0 parts m bound q ≡ false) → word_behind format words 0 parts ≤ length words → PartsStep format words parts check part
+    → ((q : ℕ) → q < parts → entry_breaks format words parts m bound q ≡ false) → word_behind format words parts ≤ length words → PartsStep format words parts check part
     → IsSequenceFault format words parts m bound check part
 behind-entries format words parts m bound check part fit room entries within step =
     match-false (not (parts_fit m parts) || nat_lt (length words) (entry_words format * parts)) ((check ≡ K6) × (part ≡ 0)) (EntriesStep format words parts m bound check part) (front-test format words parts m fit room)
     (inr (
-      (λ q lt t. both_ways (entry_breaks format words 0 parts m bound q) (entries q lt) t),
-      match-false (nat_lt (length words) (word_behind format words 0 parts)) (Found check part K7 parts) (PartsStep format words parts check part)
-          (le-ltb (length words) (word_behind format words 0 parts) within) step,
+      (λ q lt t. both_ways (entry_breaks format words parts m bound q) (entries q lt) t),
+      match-false (nat_lt (length words) (word_behind format words parts)) (Found check part K7 parts) (PartsStep format words parts check part)
+          (le-ltb (length words) (word_behind format words parts) within) step,
     ))
 
 -- a part that is not stored, where all before it are
 part-breaks : (format : FormatNumbers) → {T : Type 0} (words : List ℕ) (parts : ℕ) (r : Result T SeqFault) → IfErr r (λ f. f.check ≡ K8) → IfErr r (λ f. f.part < parts)
-    → IfErr r (λ f. ¬ IsPartStored format words 0 parts f.part) → IfErr r (λ f. (q : ℕ) → q < f.part → IsPartStored format words 0 parts q)
+    → IfErr r (λ f. ¬ IsPartStored format words parts f.part) → IfErr r (λ f. (q : ℕ) → q < f.part → IsPartStored format words parts q)
     → IfErr r (λ f. PartsStep format words parts f.check f.part)
 part-breaks format words parts (Ok x) check part breaks first = check
 part-breaks format words parts (Err f) check part breaks first = inl (f.part, part, breaks, (λ q lt no. no (first q lt)), (check, refl))
 
 -- a padding bit, where all parts are stored
-padding-breaks : (format : FormatNumbers) → {T : Type 0} (words : List ℕ) (parts : ℕ) (r : Result T SeqFault) → ((q : ℕ) → q < parts → IsPartStored format words 0 parts q) → IfErr r (λ f. f.check ≡ K9)
+padding-breaks : (format : FormatNumbers) → {T : Type 0} (words : List ℕ) (parts : ℕ) (r : Result T SeqFault) → ((q : ℕ) → q < parts → IsPartStored format words parts q) → IfErr r (λ f. f.check ≡ K9)
     → IfErr r (λ f. f.part ≡ 0)
-    → IfErr r (λ f. ¬ HasNoOne (bits_of words) (first_bit format 0 parts + payload_before format words 0 parts) (64 * word_behind format words 0 parts))
+    → IfErr r (λ f. ¬ HasNoOne (bits_of words) (first_bit format parts + payload_before format words parts) (64 * word_behind format words parts))
     → IfErr r (λ f. PartsStep format words parts f.check f.part)
 padding-breaks format words parts (Ok x) stored check part breaks = check
 padding-breaks format words parts (Err f) stored check part breaks = inr ((λ q lt no. no (stored q lt)), inl (breaks, (check, part)))

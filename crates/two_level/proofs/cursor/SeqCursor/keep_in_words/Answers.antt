@@ -8,12 +8,14 @@ use Rattle.two_level.proofs.cursor.SeqCursor.keep_in_words.Goals as goal
 pub keep_in_words-requires : goal.keep_in_words-requires
 keep_in_words-requires c =
     let s = c.self.inside in
-    let lies = subst (λ h. LiesIn (numbers_of s.format) s.words.now s.parts s.counted h s.known) c.in-Some.is c.self.invariant.2 in
-    record { values = ((sequence_stated (numbers_of s.format) s.words.now s.parts).values, lies.0.values) }
+    let d = s.directory in
+    let lies = subst (λ h. LiesIn (numbers_of d.format) d.words.now d.parts s.counted h s.known) c.in-Some.is c.self.invariant.0 in
+    record { values = ((sequence_stated (numbers_of d.format) d.words.now d.parts).values, lies.0.values) }
 
 pub returns-in-Some : goal.returns-in-Some
 returns-in-Some c =
     let s = c.self.inside in
-    let lies = subst (λ h. LiesIn (numbers_of s.format) s.words.now s.parts s.counted h s.known) c.in-Some.is c.self.invariant.2 in
+    let d = s.directory in
+    let lies = subst (λ h. LiesIn (numbers_of d.format) d.words.now d.parts s.counted h s.known) c.in-Some.is c.self.invariant.0 in
     subst (λ p. AreKept p.sequence.values c.args.first c.args.marks.now c.keep_in_words.new.marks c.keep_in_words.result) c.self.view_is
-    (c.keep_in_words.ensures _ lies.0.values c.self.invariant.0.3.sequence.rising)
+    (c.keep_in_words.ensures _ lies.0.values d.stated.rising)

@@ -61,7 +61,7 @@ invariant_of-self-else-place-held c =
     let d = s.directory in
     let held = c.in-Some.held in
     let lies = subst (λ h. LiesIn (numbers_of d.format) d.words.now d.parts s.counted h s.known) c.in-Some.is c.self.invariant.0 in
-    let begins : end_before (numbers_of d.format) d.words.now 0 (held.index + 1) ≡ s.counted + 1 =
+    let begins : end_before (numbers_of d.format) d.words.now (held.index + 1) ≡ s.counted + 1 =
     omega (arith, end-before-next (numbers_of d.format) d.words.now held.index, lies.0.to, lies.2, c.if-place-held.false) in
     let behind = subst (λ n. LiesIn (numbers_of d.format) d.words.now d.parts n c.hold_if_any.result.0 c.hold_if_any.result.1) begins c.hold_if_any.ensures.lies in
     (behind, stands-here (numbers_of d.format) d.words.now d.parts (s.counted + 1) c.hold_if_any.result.0 c.hold_if_any.result.1 behind)
@@ -74,7 +74,7 @@ returns-else-place-held-clause-place c =
     let xs : List ℕ = (sequence_stated (numbers_of d.format) d.words.now d.parts).values in
     let lies = subst (λ h. LiesIn (numbers_of d.format) d.words.now d.parts s.counted h s.known) c.in-Some.is c.self.invariant.0 in
     let stands = subst (λ h. StandsBehind h xs s.counted s.value) c.in-Some.is c.self.invariant.1 in
-    let begins : end_before (numbers_of d.format) d.words.now 0 (held.index + 1) ≡ s.counted + 1 =
+    let begins : end_before (numbers_of d.format) d.words.now (held.index + 1) ≡ s.counted + 1 =
     omega (arith, end-before-next (numbers_of d.format) d.words.now held.index, lies.0.to, lies.2, c.if-place-held.false) in
     let behind = subst (λ n. LiesIn (numbers_of d.format) d.words.now d.parts n c.hold_if_any.result.0 c.hold_if_any.result.1) begins c.hold_if_any.ensures.lies in
     let here : s.counted ≡ place_at_least xs s.counted s.value = known-place held xs s.counted s.known s.value lies.3 (omega (arith, c.if-self-value.false)) stands in

@@ -62,9 +62,9 @@ returns-else-x-held-clause-place c =
     let behind = subst (λ h. StandsBehind h v.values s.counted s.value) c.in-Some.is c.self.invariant.1 in
     let there = lies-there (numbers_of d.format) d.words.now d.parts s.counted (Some part) s.known s.value lies behind in
     let place : ℕ = place_at_least v.values s.counted s.value in
-    let small : stated_last (numbers_of d.format) d.words.now 0 part.index < c.args.x = omega (arith, lies.0.last, c.if-x-held.false) in
-    let end : end_before (numbers_of d.format) d.words.now 0 (part.index + 1) ≡ stated_end (numbers_of d.format) d.words.now 0 part.index = end-before-next (numbers_of d.format) d.words.now part.index in
-    let next : ℕ = end_before (numbers_of d.format) d.words.now 0 (part.index + 1) in
+    let small : stated_last (numbers_of d.format) d.words.now part.index < c.args.x = omega (arith, lies.0.last, c.if-x-held.false) in
+    let end : end_before (numbers_of d.format) d.words.now (part.index + 1) ≡ stated_end (numbers_of d.format) d.words.now part.index = end-before-next (numbers_of d.format) d.words.now part.index in
+    let next : ℕ = end_before (numbers_of d.format) d.words.now (part.index + 1) in
     subst (λ p. place_at_least v.values c.first_from_part.result.0 c.first_from_part.result.2 ≡ place_at_least p.sequence.values p.place c.args.x) c.self.view_is
     (c.first_from_part.ensures.first
     ∙ later-place v.values place next c.args.x (omega (arith, end, there.2, lies.0.to)) (omega (arith, end, lies.0.to, lies.0.values.within))

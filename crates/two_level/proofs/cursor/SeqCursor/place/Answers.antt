@@ -14,7 +14,7 @@ place_from-requires-clause-reached c =
     let v : SequenceView = sequence_stated (numbers_of d.format) d.words.now d.parts in
     let lies = subst (λ h. LiesIn (numbers_of d.format) d.words.now d.parts s.counted h s.known) c.in-Some.is c.self.invariant.0 in
     let behind = subst (λ h. StandsBehind h v.values s.counted s.value) c.in-Some.is c.self.invariant.1 in
-    let most = below-last (numbers_of d.format) d.words.now d.parts part.index (stated_last (numbers_of d.format) d.words.now 0 part.index + 1) v d.stated lies.0.within (omega arith)
+    let most = below-last (numbers_of d.format) d.words.now d.parts part.index (stated_last (numbers_of d.format) d.words.now part.index + 1) v d.stated lies.0.within (omega arith)
     behind.place (omega (arith, behind.before, lies.0.to)) in
     omega (arith, most, behind.value_there, lies.0.last)
 

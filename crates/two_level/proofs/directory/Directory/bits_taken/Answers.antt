@@ -13,7 +13,7 @@ overflow_add-result c =
     let d = c.args.self.now.stated in
     let s = c.stated_part.ensures in
     let last = c.stated_part.result.1 in
-    let bits : payload last.u last.m ≡ payload (stated_universe format words 0 q) (stated_count format words 0 q) = ap (λ n. payload n last.m) s.universe ∙ ap (payload (stated_universe format words 0 q)) s.count in
+    let bits : payload last.u last.m ≡ payload (stated_universe format words q) (stated_count format words q) = ap (λ n. payload n last.m) s.universe ∙ ap (payload (stated_universe format words q)) s.count in
     omega (arith, c.payload_bits.ensures, bits, s.place, (d.part q lt).place, c.args.self.now.few_words)
 
 pub returns-else-self-eq0 : goal.returns-else-self-eq0
@@ -23,6 +23,6 @@ returns-else-self-eq0 c =
     let q : ℕ = c.args.self.now.parts - 1 in
     let s = c.stated_part.ensures in
     let last = c.stated_part.result.1 in
-    let bits : payload last.u last.m ≡ payload (stated_universe format words 0 q) (stated_count format words 0 q) = ap (λ n. payload n last.m) s.universe ∙ ap (payload (stated_universe format words 0 q)) s.count in
-    let all = ap (payload_before format words 0) (let e : suc q ≡ c.args.self.now.parts = omega (arith, c.if-self-eq0.false) in e) in
+    let bits : payload last.u last.m ≡ payload (stated_universe format words q) (stated_count format words q) = ap (λ n. payload n last.m) s.universe ∙ ap (payload (stated_universe format words q)) s.count in
+    let all = ap (payload_before format words) (let e : suc q ≡ c.args.self.now.parts = omega (arith, c.if-self-eq0.false) in e) in
     omega (arith, c.payload_bits.ensures, bits, all, s.place)

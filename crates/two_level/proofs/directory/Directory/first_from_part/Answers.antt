@@ -9,12 +9,12 @@ use Rattle.two_level.proofs.directory.Directory.first_from_part.Goals as goal
 pub returns-then-reaching-self-clause-first : goal.returns-then-reaching-self-clause-first
 returns-then-reaching-self-clause-first c =
     let v : SequenceView = sequence_stated (numbers_of c.args.self.now.format) c.args.self.now.words.now c.args.self.now.parts in
-    let start : ℕ = end_before (numbers_of c.args.self.now.format) c.args.self.now.words.now 0 c.args.part in
+    let start : ℕ = end_before (numbers_of c.args.self.now.format) c.args.self.now.words.now c.args.part in
     let d = c.args.self.now.stated in
     let r = c.part_reaching-reaching.ensures in
     let held = c.hold-held.result in
     let is = c.hold-held.ensures.held in
-    let from : held.part.from ≡ end_before (numbers_of c.args.self.now.format) c.args.self.now.words.now 0 c.part_reaching-reaching.result = is.from ∙ ap (end_before (numbers_of c.args.self.now.format) c.args.self.now.words.now 0) c.hold-held.ensures.index in
+    let from : held.part.from ≡ end_before (numbers_of c.args.self.now.format) c.args.self.now.words.now c.part_reaching-reaching.result = is.from ∙ ap (end_before (numbers_of c.args.self.now.format) c.args.self.now.words.now) c.hold-held.ensures.index in
     let rises = ends-rise (numbers_of c.args.self.now.format) c.args.self.now.words.now c.args.self.now.parts c.args.part c.part_reaching-reaching.result v d r.after r.within in
     let found = c.seek_first-sought.ensures v.values is.values in
     let s = found.0 in
@@ -26,11 +26,11 @@ returns-then-reaching-self-clause-first c =
 pub returns-else-reaching-self-clause-first : goal.returns-else-reaching-self-clause-first
 returns-else-reaching-self-clause-first c =
     let v : SequenceView = sequence_stated (numbers_of c.args.self.now.format) c.args.self.now.words.now c.args.self.now.parts in
-    let start : ℕ = end_before (numbers_of c.args.self.now.format) c.args.self.now.words.now 0 c.args.part in
+    let start : ℕ = end_before (numbers_of c.args.self.now.format) c.args.self.now.words.now c.args.part in
     let d = c.args.self.now.stated in
     let r = c.part_reaching-reaching.ensures in
     let count = c.args.self.now.count in
-    let all = ap (end_before (numbers_of c.args.self.now.format) c.args.self.now.words.now 0) (let e : c.part_reaching-reaching.result ≡ c.args.self.now.parts = omega (arith, r.within, c.if-reaching-self.false) in e) in
+    let all = ap (end_before (numbers_of c.args.self.now.format) c.args.self.now.words.now) (let e : c.part_reaching-reaching.result ≡ c.args.self.now.parts = omega (arith, r.within, c.if-reaching-self.false) in e) in
     let rises = ends-rise (numbers_of c.args.self.now.format) c.args.self.now.words.now c.args.self.now.parts c.args.part c.part_reaching-reaching.result v d r.after r.within in
     sym (place-at-end v.values c.args.self.now.m 0 (omega (arith, count)))
     ∙ found-place v.values start c.args.self.now.m c.args.x (omega (arith, rises, all, d.end, count)) (omega (arith, count))

@@ -9,7 +9,7 @@ abbrev pub invariant-parts : goal.invariant-parts
 invariant-parts l = record {
   after : l.from ≤ l.place;
   within : l.place ≤ l.m;
-  part : l.place < l.m → (l.index < l.self.parts) × (end_before (numbers_of l.self.format) l.self.words.now 0 l.index ≤ l.place) × (l.place < stated_end (numbers_of l.self.format) l.self.words.now 0 l.index);
+  part : l.place < l.m → (l.index < l.self.parts) × (end_before (numbers_of l.self.format) l.self.words.now l.index ≤ l.place) × (l.place < stated_end (numbers_of l.self.format) l.self.words.now l.index);
   none : IsFirstStep (sequence_stated (numbers_of l.self.format) l.self.words.now l.self.parts).values l.from l.place l.least l.place;
 }
 

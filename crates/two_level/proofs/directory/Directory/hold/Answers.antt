@@ -30,9 +30,9 @@ returns-clause-held c =
     let s = c.stated_part.ensures in
     let part = c.stated_part.result.0 in
     let placed = c.stated_part.result.1 in
-    let past : part.last + 1 - part.u ≡ past_before format words 0 q = omega (arith, s.last, s.u, p.above) in
-    let values_are : relative_values xs (end_before format words 0 q) (stated_end format words 0 q) ≡ relative_values xs part.from part.to =
-    ap (λ n. relative_values xs n (stated_end format words 0 q)) (sym s.from) ∙ ap (relative_values xs part.from) (sym s.to) in
+    let past : part.last + 1 - part.u ≡ past_before format words q = omega (arith, s.last, s.u, p.above) in
+    let values_are : relative_values xs (end_before format words q) (stated_end format words q) ≡ relative_values xs part.from part.to =
+    ap (λ n. relative_values xs n (stated_end format words q)) (sym s.from) ∙ ap (relative_values xs part.from) (sym s.to) in
     let held = held-as words placed.bits.words.now _ placed.place _ placed.u _ placed.m _ (sym s.bits) (sym s.place) (sym s.universe) (sym s.count) p.held in
     record {
       within = c.requires.within;

@@ -7,5 +7,5 @@ pub returns-else-part-self : goal.returns-else-part-self
 returns-else-part-self c =
     let d = c.args.self.now.stated in
     record {
-      lies = ap (end_before (numbers_of c.args.self.now.format) c.args.self.now.words.now 0) (let e : c.args.part ≡ c.args.self.now.parts = omega (arith, c.requires.within, c.if-part-self.false) in e) ∙ d.end;
+      lies = ap (end_before (numbers_of c.args.self.now.format) c.args.self.now.words.now) (let e : c.args.part ≡ c.args.self.now.parts = omega (arith, c.requires.within, c.if-part-self.false) in e) ∙ d.end;
     }

@@ -28,8 +28,8 @@ parts-preserved c =
     let d = c.args.self.now.stated in
     let index : ℕ = c.parts.index in
     let p = d.part index c.parts-test.true in
-    let i : ℕ = end_before format words 0 index in
-    let j : ℕ = stated_end format words 0 index in
+    let i : ℕ = end_before format words index in
+    let j : ℕ = stated_end format words index in
     let so_far = c.parts.invariant in
     let taken : ℕ → ℕ → ℕ = λ t n. count_reaching t (take n steps) in
     elim c.if-has_long_steps.branch [
@@ -38,8 +38,8 @@ parts-preserved c =
         kept_few =
             λ t.
             let held = w.hold.ensures.held in
-            let from = held.from ∙ ap (end_before format words 0) w.hold.ensures.index in
-            let to = held.to ∙ ap (stated_end format words 0) w.hold.ensures.index in
+            let from = held.from ∙ ap (end_before format words) w.hold.ensures.index in
+            let to = held.to ∙ ap (stated_end format words) w.hold.ensures.index in
             omega (
               arith,
               so_far.kept_few t,
@@ -66,5 +66,5 @@ returns-clause-kept c t =
     let xs : List ℕ = (sequence_stated format words c.args.self.now.parts).values in
     let d = c.args.self.now.stated in
     let end : c.parts.index ≡ c.args.self.now.parts = omega (arith, c.parts.auto.index-end, c.parts-test.false) in
-    let all : take (end_before format words 0 c.parts.index) (steps_from 0 xs) ≡ steps_from 0 xs = take_all _ _ (omega (arith, d.end, ap (end_before format words 0) end, steps-length 0 xs)) in
+    let all : take (end_before format words c.parts.index) (steps_from 0 xs) ≡ steps_from 0 xs = take_all _ _ (omega (arith, d.end, ap (end_before format words) end, steps-length 0 xs)) in
     omega (arith, c.parts.invariant.kept_few t, ap (count_reaching t) all)

@@ -9,5 +9,5 @@ use Rattle.two_level.proofs.directory.Directory.keep_long_parts.Given as goal
 abbrev pub invariant-parts : goal.invariant-parts
 invariant-parts l = record {
   same_kept : length l.kept ≡ length l.fn.kept;
-  kept_few : (t : ℕ) → count_reaching t l.kept ≤ count_reaching t l.fn.kept + count_reaching t (take (end_before (numbers_of l.self.format) l.self.words.now 0 l.index) (steps_from 0 (sequence_stated (numbers_of l.self.format) l.self.words.now l.self.parts).values));
+  kept_few : (t : ℕ) → count_reaching t l.kept ≤ count_reaching t l.fn.kept + count_reaching t (take (end_before (numbers_of l.self.format) l.self.words.now l.index) (steps_from 0 (sequence_stated (numbers_of l.self.format) l.self.words.now l.self.parts).values));
 }

@@ -10,14 +10,14 @@ loop-low-init c =
     let d = c.args.self.now in
     let format = numbers_of d.format in
     let words = d.words.now in
-    let none : end_before format words 0 0 ≡ 0 = refl in
+    let none : end_before format words 0 ≡ 0 = refl in
     let some : 0 < d.parts =
     elim (cases_lt 0 d.parts) [
       | inl less ↦ less
-      | inr more ↦ absurd (omega (arith, c.requires.within, d.stated.end, none, ap (end_before format words 0) (let e : d.parts ≡ 0 = omega (arith, more) in e)))
+      | inr more ↦ absurd (omega (arith, c.requires.within, d.stated.end, none, ap (end_before format words) (let e : d.parts ≡ 0 = omega (arith, more) in e)))
     ] in
     let last : ℕ = d.parts - 1 in
-    let all = ap (end_before format words 0) (let e : suc last ≡ d.parts = omega (arith, some) in e) in
+    let all = ap (end_before format words) (let e : suc last ≡ d.parts = omega (arith, some) in e) in
     record {
       up = omega arith;
       within = omega (arith, some);

@@ -7,8 +7,8 @@ abbrev pub invariant-loop-low : goal.invariant-loop-low
 invariant-loop-low l = record {
   up : l.low ≤ l.high;
   within : l.high < l.self.parts;
-  from : end_before (numbers_of l.self.format) l.self.words.now 0 l.low ≤ l.place;
-  to : l.place < stated_end (numbers_of l.self.format) l.self.words.now 0 l.high;
+  from : end_before (numbers_of l.self.format) l.self.words.now l.low ≤ l.place;
+  to : l.place < stated_end (numbers_of l.self.format) l.self.words.now l.high;
 }
 
 abbrev pub decreases-loop-low : goal.decreases-loop-low

@@ -26,11 +26,11 @@ parts-preserved c =
       within = omega (arith, c.min-end.ensures);
       part =
           λ lt.
-          let is : end ≡ end_before format words 0 (index + 1) = omega (arith, c.min-end.ensures, s.to, behind, lt) in
+          let is : end ≡ end_before format words (index + 1) = omega (arith, c.min-end.ensures, s.to, behind, lt) in
           let more : index + 1 < parts =
           elim (cases_lt (index + 1) parts) [
             | inl less ↦ less
-            | inr all ↦ absurd (omega (arith, is, lt, c.requires.within, d.end, ap (end_before format words 0) (let e : index + 1 ≡ parts = omega (arith, all, here.0) in e)))
+            | inr all ↦ absurd (omega (arith, is, lt, c.requires.within, d.end, ap (end_before format words) (let e : index + 1 ≡ parts = omega (arith, all, here.0) in e)))
           ] in
           (more, omega (arith, is), omega (arith, is, (d.part (index + 1) more).some));
       largest =

@@ -9,7 +9,7 @@ abbrev pub invariant-parts : goal.invariant-parts
 invariant-parts l = record {
   after : l.from ≤ l.place;
   within : l.place ≤ l.to;
-  part : l.place < l.to → (l.index < l.self.parts) × (end_before (numbers_of l.self.format) l.self.words.now 0 l.index ≤ l.place) × (l.place < stated_end (numbers_of l.self.format) l.self.words.now 0 l.index);
+  part : l.place < l.to → (l.index < l.self.parts) × (end_before (numbers_of l.self.format) l.self.words.now l.index ≤ l.place) × (l.place < stated_end (numbers_of l.self.format) l.self.words.now l.index);
   largest : max l.most (greatest_step (sequence_stated (numbers_of l.self.format) l.self.words.now l.self.parts).values l.place l.to) ≡ greatest_step (sequence_stated (numbers_of l.self.format) l.self.words.now l.self.parts).values l.from l.to;
 }
 

@@ -21,7 +21,7 @@ stated-begins : (format : FormatNumbers) → ChecksAcceptASequence format → Wo
     → (used : ℕ) × BeginsSequence format m bound parts (sequence_stated format words parts).values (sequence_stated format words parts).ends words used
 stated-begins format accept state m bound parts words fits are pass =
     let a = accept m bound parts words fits are pass in
-    let used : ℕ = word_behind format words 0 parts in
+    let used : ℕ = word_behind format words parts in
     (used, subst (λ s. BeginsSequence format m bound parts s.values s.ends words used) (sym (state m bound parts used a.0 a.1 words fits a.2)) a.2)
 
 pub returns-in_err-found-clause-none : goal.returns-in_err-found-clause-none
