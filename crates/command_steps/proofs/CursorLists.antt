@@ -1,4 +1,4 @@
-use Rattle.std.proofs.Common.{◌≡◌, refl, sym, ◌∙◌, ap, subst, ℕ, zero, suc, ◌+◌, ◌<◌, List, [], ◌∷◌, ◌++◌, length, get_or, take, map, arith}
+use Rattle.std.proofs.Common.{◌≡◌, refl, sym, ◌∙◌, ap, subst, ℕ, zero, suc, ◌+◌, ◌<◌, ◌≤◌, List, [], ◌∷◌, ◌++◌, length, get_or, take, map, arith}
 use Rattle.std.specs.Prelude.{Option, Some, None, option_map, Result, Ok, Err, IfOk, Vec}
 use Rattle.std.specs.declared.alloc.Global.{Global}
 use Rattle.std.specs.List.{All, slice_get}
@@ -12,11 +12,13 @@ use Rattle.cursor_api.specs.NextGeq.{next_geq_place}
 use Rattle.cursor_api.proofs.FirstPosting.{first-is_next}
 use Rattle.scan_plans.specs.Matches.{AreBelow}
 use Rattle.scan_plans.specs.IsTop.{IsTop}
+use Rattle.scan_plans.specs.TopQuery.{IsTopQuery}
 use Rattle.segments.specs.Laws.{IsInRange}
 use Rattle.query_text.specs.declared.query.Query.{Query}
 use Rattle.query_text.specs.declared.query.Query.TheVariants.{Top}
 use Rattle.no_memory.specs.declared.NoMemory.{NoMemory}
 use Rattle.query_text.specs.Texts.{top_text}
+use Rattle.query_text.specs.Weights.{AreWeights}
 use Rattle.command_model.specs.Replies.{IsAnswer, IsTopText, lists_of}
 
 -- what holds of an element holds of each of it alone
@@ -40,6 +42,21 @@ pub cursors-below : {C : Type 0} (list_at : C → List Posting) (c : Collection)
     IsInRange c → All (λ t. t < length c.lists) terms → map list_at made ≡ lists_of c terms → cursors ≡ made → AreBelow c.documents (map list_at cursors)
 cursors-below list_at c terms made cursors in_range below so same =
     subst (AreBelow c.documents) (sym (ap (map list_at) same ∙ so)) (lists-below c terms in_range below)
+
+-- cursors at the starts of the lists of some terms are a query with the weights of these
+pub is-query : {C : Type 0} (list_at : C → List Posting) (place_at : C → ℕ) (c : Collection) (terms weights : List ℕ) (made cursors : List C) →
+    IsInRange c → All (λ t. t < length c.lists) terms → length terms ≤ 1024 → length weights ≡ length terms → AreWeights weights →
+    map list_at made ≡ lists_of c terms → All (λ x. place_at x ≡ 0) made → cursors ≡ made → IsTopQuery list_at place_at c.documents cursors weights
+is-query list_at place_at c terms weights made cursors in_range below few each are so start same =
+    let count : length cursors ≡ length terms = ap length same ∙ sym (length-map made list_at) ∙ ap length so ∙ length-map terms (list_of c) in
+    record {
+      few = omega arith;
+      at_start = subst (All (λ x. place_at x ≡ 0)) (sym same) start;
+      in_range = cursors-below list_at c terms made cursors in_range below so same;
+      each = each ∙ sym count;
+      some = are.some;
+      light = are.light;
+    }
 
 -- the documents of a well-formed collection are below their number
 pub well-in-range : (format : FormatNumbers) (c : Collection) → WellFormed format c → IsInRange c

@@ -1,10 +1,9 @@
 // What lines are answered from.
-ghost use Rattle.std.specs.Prelude.{◌≡◌, ◌≤◌, ◌<◌, ◌^◌, map, length, IfOk};
+ghost use Rattle.std.specs.Prelude.{◌≡◌, ◌<◌, ◌^◌, map, length, IfOk};
 ghost use Rattle.std.specs.List.{All};
 ghost use Rattle.collection_model.specs.Collection.{Collection, list_of};
-ghost use Rattle.query_text.specs.Weights.{AreWeights};
 ghost use Rattle.scan_plans.specs.IsTop.{IsTop};
-ghost use Rattle.scan_plans.specs.Matches.{AreBelow};
+ghost use Rattle.scan_plans.specs.TopQuery.{IsTopQuery};
 ghost use Rattle.segments.specs.Laws.{IsInRange};
 
 use cursor_api::DocCursor;
@@ -41,11 +40,7 @@ pub(crate) trait TermLists {
         weights: &[u32],
         k: u32,
     ) -> Result<Vec<(u32, u64)>, NoMemory>
-        requires few { length cursors.old ≤ 1024 }
-        requires at_start { All (λ c. Self.Cursor.place c ≡ 0) cursors.old }
-        requires in_range { AreBelow (collection self.now).documents (map Self.Cursor.list cursors.old) }
-        requires each { length weights.now ≡ length cursors.old }
-        requires weights { AreWeights weights.now }
+        requires { IsTopQuery Self.Cursor.list Self.Cursor.place (collection self.now).documents cursors.old weights.now }
         ensures first { IfOk result (λ r. IsTop (collection self.now).documents (map Self.Cursor.list cursors.old) weights.now k r.items) }
         ensures bound { IfOk result (λ r. All (λ e. e.1 < 2 ^ 58) r.items) };
 

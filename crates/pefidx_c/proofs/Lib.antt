@@ -4,3 +4,5 @@ mod Refusals
 mod NextLists
 mod Adding
 mod Fronts
+mod NextPosting
+mod Queries

@@ -1,5 +1,6 @@
 pub mod Matches
 pub mod IsTop
+pub mod TopQuery
 pub mod Ranking
 pub mod Scan
 pub mod Held

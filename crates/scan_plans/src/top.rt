@@ -1,9 +1,10 @@
-ghost use Rattle.std.specs.Prelude.{◌≡◌, ℕ, ◌+◌, ◌*◌, ◌≤◌, ◌<◌, ◌^◌, false, List, map, length, min, slice_index, sum, sum_by, IfOk};
+ghost use Rattle.std.specs.Prelude.{◌≡◌, ℕ, ◌+◌, ◌*◌, ◌≤◌, ◌<◌, ◌^◌, false, List, map, length, min, slice_index, sum_by, IfOk};
 ghost use Rattle.std.specs.Int.{bit_at};
 ghost use Rattle.std.specs.List.{All};
 ghost use Rattle.collection_model.specs.Collection.{Posting};
-ghost use Rattle.scan_plans.specs.Matches.{AreBelow, in_any};
+ghost use Rattle.scan_plans.specs.Matches.{in_any};
 ghost use Rattle.scan_plans.specs.IsTop.{IsTop};
+ghost use Rattle.scan_plans.specs.TopQuery.{IsTopQuery};
 ghost use Rattle.scan_plans.specs.Best.{IsBest, IsBar};
 ghost use Rattle.scan_plans.specs.Window.{AreScored, is_marked};
 
@@ -27,12 +28,7 @@ pub fn top_exhaustive<C: DocCursor>(
     k: u32,
     n: u32,
 ) -> Result<Vec<(u32, u64)>, NoMemory>
-    requires few { length cursors.old ≤ 1024 }
-    requires at_start { All (λ c. C.place c ≡ 0) cursors.old }
-    requires in_range { AreBelow n (map C.list cursors.old) }
-    requires each { length weights.now ≡ length cursors.old }
-    requires some { All (λ w. 1 ≤ w) weights.now }
-    requires light { sum weights.now < 2 ^ 26 }
+    requires { IsTopQuery C.list C.place n cursors.old weights.now }
     ensures first { IfOk result (λ r. IsTop n (map C.list cursors.old) weights.now k r.items) }
     ensures bound { IfOk result (λ r. All (λ e. e.1 < 2 ^ 58) r.items) }
 {
@@ -67,12 +63,7 @@ fn score_all<C: DocCursor>(
     k: u32,
     n: u32,
 ) -> Result<Vec<(u32, u64)>, NoMemory>
-    requires few { length cursors.old ≤ 1024 }
-    requires at_start { All (λ c. C.place c ≡ 0) cursors.old }
-    requires in_range { AreBelow n (map C.list cursors.old) }
-    requires each { length weights.now ≡ length cursors.old }
-    requires some { All (λ w. 1 ≤ w) weights.now }
-    requires light { sum weights.now < 2 ^ 26 }
+    requires { IsTopQuery C.list C.place n cursors.old weights.now }
     ensures first { IfOk result (λ r. IsTop n (map C.list cursors.old) weights.now k r.items) }
     ensures bound { IfOk result (λ r. All (λ e. e.1 < 2 ^ 58) r.items) }
 {

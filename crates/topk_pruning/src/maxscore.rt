@@ -1,7 +1,7 @@
-ghost use Rattle.std.specs.Prelude.{◌≡◌, ◌≤◌, ◌<◌, ◌^◌, ◌++◌, true, map, length, sum, min, option_to_list, IfOk, IfSome};
+ghost use Rattle.std.specs.Prelude.{◌≡◌, ◌≤◌, ◌<◌, ◌^◌, ◌++◌, map, length, min, option_to_list, IfOk, IfSome};
 ghost use Rattle.std.specs.List.{All, reduce};
-ghost use Rattle.scan_plans.specs.Matches.{AreBelow};
 ghost use Rattle.scan_plans.specs.IsTop.{IsTop};
+ghost use Rattle.scan_plans.specs.TopQuery.{IsTopQuery};
 ghost use Rattle.scan_plans.specs.Scan.{HasPassed};
 ghost use Rattle.topk_pruning.specs.Terms.{AreTerms, IsFirstDoc, IsNextDoc};
 
@@ -37,12 +37,7 @@ pub fn top_maxscore<C: DocCursor>(
     k: u32,
     n: u32,
 ) -> Result<Vec<(u32, u64)>, NoMemory>
-    requires few { length cursors.old ≤ 1024 }
-    requires at_start { All (λ c. C.place c ≡ 0) cursors.old }
-    requires in_range { AreBelow n (map C.list cursors.old) }
-    requires each { length weights.now ≡ length cursors.old }
-    requires some { All (λ w. 1 ≤ w) weights.now }
-    requires light { sum weights.now < 2 ^ 26 }
+    requires { IsTopQuery C.list C.place n cursors.old weights.now }
     ensures first { IfOk result (λ r. IsTop n (map C.list cursors.old) weights.now k r.items) }
     ensures bound { IfOk result (λ r. All (λ e. e.1 < 2 ^ 58) r.items) }
 {
@@ -59,12 +54,7 @@ fn score_essential<C: DocCursor>(
     k: u32,
     n: u32,
 ) -> Result<Vec<(u32, u64)>, NoMemory>
-    requires few { length cursors.old ≤ 1024 }
-    requires at_start { All (λ c. C.place c ≡ 0) cursors.old }
-    requires in_range { AreBelow n (map C.list cursors.old) }
-    requires each { length weights.now ≡ length cursors.old }
-    requires some { All (λ w. 1 ≤ w) weights.now }
-    requires light { sum weights.now < 2 ^ 26 }
+    requires { IsTopQuery C.list C.place n cursors.old weights.now }
     ensures first { IfOk result (λ r. IsTop n (map C.list cursors.old) weights.now k r.items) }
     ensures bound { IfOk result (λ r. All (λ e. e.1 < 2 ^ 58) r.items) }
 {

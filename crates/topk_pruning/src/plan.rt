@@ -1,7 +1,7 @@
-ghost use Rattle.std.specs.Prelude.{◌≡◌, ◌≤◌, ◌<◌, ◌^◌, map, length, sum, IfOk};
+ghost use Rattle.std.specs.Prelude.{◌<◌, ◌^◌, map, IfOk};
 ghost use Rattle.std.specs.List.{All};
 ghost use Rattle.scan_plans.specs.IsTop.{IsTop};
-ghost use Rattle.scan_plans.specs.Matches.{AreBelow};
+ghost use Rattle.scan_plans.specs.TopQuery.{IsTopQuery};
 
 use crate::maxscore::top_maxscore;
 use crate::wand::top_wand;
@@ -31,12 +31,7 @@ pub fn plan_top<C: DocCursor>(
     k: u32,
     n: u32,
 ) -> Result<Vec<(u32, u64)>, NoMemory>
-    requires few { length cursors.old ≤ 1024 }
-    requires at_start { All (λ c. C.place c ≡ 0) cursors.old }
-    requires in_range { AreBelow n (map C.list cursors.old) }
-    requires each { length weights.now ≡ length cursors.old }
-    requires some { All (λ w. 1 ≤ w) weights.now }
-    requires light { sum weights.now < 2 ^ 26 }
+    requires { IsTopQuery C.list C.place n cursors.old weights.now }
     ensures first { IfOk result (λ r. IsTop n (map C.list cursors.old) weights.now k r.items) }
     ensures bound { IfOk result (λ r. All (λ e. e.1 < 2 ^ 58) r.items) }
 {

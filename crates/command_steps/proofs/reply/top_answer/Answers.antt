@@ -1,12 +1,12 @@
 use Rattle.std.proofs.Common.{◌∙◌, ap, map}
-use Rattle.command_steps.proofs.CursorLists.{cursors-below, top-text}
+use Rattle.command_steps.proofs.CursorLists.{is-query, top-text}
 use Rattle.command_model.specs.Replies.{lists_of}
 use Rattle.command_steps.proofs.reply.top_answer.Goals as goal
 
-pub top-requires-clause-in_range : goal.top-requires-clause-in_range
-top-requires-clause-in_range g c =
-    cursors-below g.L.Cursor.DocCursor.list (g.L.TermLists.collection c.args.lists.now) c.args.terms.now c.in_ok-cursors.cursors.items c.as_mut_slice.result.now
-    (g.met.L.TermLists.in_range c.args.lists.now) c.requires.named c.in_ok-cursors.ensures.lists c.as_mut_slice.ensures.value
+pub top-requires : goal.top-requires
+top-requires g c =
+    is-query g.L.Cursor.DocCursor.list g.L.Cursor.DocCursor.place (g.L.TermLists.collection c.args.lists.now) c.args.terms.now c.args.weights.now c.in_ok-cursors.cursors.items c.as_mut_slice.result.now
+    (g.met.L.TermLists.in_range c.args.lists.now) c.requires.named c.requires.few c.requires.each c.requires.weights c.in_ok-cursors.ensures.lists c.in_ok-cursors.ensures.start c.as_mut_slice.ensures.value
 
 pub returns : goal.returns
 returns g c =
