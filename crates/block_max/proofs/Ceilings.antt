@@ -1,10 +1,10 @@
 -- Lemmas on the block in which a document lies.
-use Rattle.std.proofs.Common.{◌≡◌, refl, ap, ◌∙◌, subst, ℕ, ◌≤◌, ◌<◌, Bool, true, false, cond, eqb, leb, List, [], ◌∷◌, Option, Some, None, IsSomeAnd, arith}
+use Rattle.std.proofs.Common.{◌≡◌, refl, ap, ◌∙◌, subst, ℕ, ◌≤◌, ◌<◌, Bool, true, false, cond, eqb, leb, max, List, [], ◌∷◌, Option, Some, None, IsSomeAnd, arith}
 use Rattle.std.specs.List.{All, find}
 use Rattle.std.specs.Option.{option_map, unwrap_or}
 use Rattle.std.proofs.lemmas.Bool.{leb-true, leb-false, le-leb, lt-leb, eqb-true}
 use Rattle.std.proofs.lemmas.List.Elements.{All-head, All-tail}
-use Rattle.collection_model.specs.Collection.{Posting}
+use Rattle.collection_model.specs.Collection.{Posting, greatest_freq}
 use Rattle.scan_plans.specs.Matches.{freq_of_doc}
 use Rattle.block_max.specs.Blocks.{Block, block_from, AreBlocks}
 
@@ -42,6 +42,11 @@ IsCovered blocks p = IsSomeAnd (block_from blocks p.doc) (λ b. p.freq ≤ b.gre
 freq-step : (here : Bool) (p : Posting) (list : List Posting) (d g : ℕ) → (here ≡ true → p.freq ≤ g) → freq_of_doc d list ≤ g → unwrap_or (option_map (λ p. p.freq) (cond here (Some p) (find (λ p. eqb p.doc d) list))) 0 ≤ g
 freq-step true p list d g at more = at refl
 freq-step false p list d g at more = more
+
+-- nor than the greatest frequency of the list
+pub freq-most : (list : List Posting) (d : ℕ) → freq_of_doc d list ≤ greatest_freq list
+freq-most [] d = omega arith
+freq-most (p ∷ list) d = let more = freq-most list d in freq-step (eqb p.doc d) p list d (max p.freq (greatest_freq list)) (λ at. omega arith) (omega arith)
 
 freq-within : (blocks : List Block) (list : List Posting) (d : ℕ) (b : Block) → All (IsCovered blocks) list → block_from blocks d ≡ Some b → freq_of_doc d list ≤ b.greatest
 freq-within blocks [] d b covered is = omega arith

@@ -1,6 +1,6 @@
 ghost use Rattle.std.specs.Prelude.{◌≡◌, ◌-◌, ◌<◌, ◌≤◌, nat_le, List, length, option_map};
 ghost use Rattle.std.specs.List.{position_or_len};
-ghost use Rattle.block_max.specs.Blocks.{Block, AreBlocks, block_from, blocks_before, blocks_of, nth_block, nth_list};
+ghost use Rattle.block_max.specs.Blocks.{Block, AreBlocks, block_from, blocks_of, nth_block, nth_list};
 ghost use Rattle.block_max.specs.Cut.{side_blocks};
 ghost use Rattle.block_max.specs.SideWords.{side_words, words_seen};
 
@@ -27,14 +27,9 @@ pub struct SideCursor<'a, C: DocCursor, S: BlockSource> {
     source: &'a S,
     side: Side<'a>,
     term: u32,
-    // How many blocks the lists before have, and how many this one.
-    before: u64,
-    blocks: u32,
     ghost within: { term < length (S.lists source.now) },
     ghost of_source: { C.list cursor ≡ (nth_list (S.lists source.now) term).list },
     ghost of_side: { words_seen side ≡ side_words (S.lists source.now) },
-    ghost counted: { before ≡ blocks_before (S.lists source.now) term },
-    ghost all: { blocks ≡ length (nth_list (S.lists source.now) term).ends },
 }
 
 impl<'a, C: DocCursor, S: BlockSource> SideCursor<'a, C, S> {
@@ -47,15 +42,11 @@ impl<'a, C: DocCursor, S: BlockSource> SideCursor<'a, C, S> {
         ensures place { ⟦<SideCursor<'a, C, S> as DocCursor>⟧.place result ≡ C.place cursor }
         ensures blocks { ⟦<SideCursor<'a, C, S> as BlockCursor>⟧.blocks result ≡ blocks_of (nth_list (S.lists source.entry.now) t) }
     {
-        let before = source.blocks_before(t);
-        let blocks = source.blocks(t);
         SideCursor {
             cursor,
             source,
             side,
             term: t,
-            before,
-            blocks,
         }
     }
 }
@@ -152,10 +143,12 @@ impl<'a, C: DocCursor, S: BlockSource> BlockCursor for SideCursor<'a, C, S> {
     ghost blocks = { λ c. blocks_of (nth_list (S.lists c.source.now) c.term) };
 
     fn block_at(&self, doc: u32) -> Option<(u32, u32)> {
-        let block = blocks_below(self.source, self.term, self.blocks, doc);
-        if block < self.blocks {
+        let blocks = self.source.blocks(self.term);
+        let block = blocks_below(self.source, self.term, blocks, doc);
+        if block < blocks {
             let last = self.source.last(self.term, block);
-            Some((last, self.side.greatest(self.before, block)))
+            let before = self.source.blocks_before(self.term);
+            Some((last, self.side.greatest(before, block)))
         } else {
             None
         }

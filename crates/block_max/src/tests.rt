@@ -9,6 +9,7 @@ use super::*;
 use cursor_api::{DocCursor, PlainCursor};
 use no_memory::NoMemory;
 use std::alloc::Global;
+use topk_pruning::top_maxscore;
 
 // The list (0,1)(2,5) in one block.
 #[derive(Clone, Copy)]
@@ -78,11 +79,12 @@ impl BlockSource for TwoLists {
     ghost cut = { λ s. two-cut s.n s.some s.few };
 }
 
-// A cursor that counts how often it is moved.
+// A cursor that counts how often it is moved, and how many postings it gives.
 #[derive(Drop)]
 struct Counting<C: BlockCursor> {
     cursor: C,
     moves: u64,
+    read: u64,
 }
 
 impl<C: BlockCursor> DocCursor for Counting<C> {
@@ -114,11 +116,15 @@ impl<C: BlockCursor> DocCursor for Counting<C> {
     }
 
     fn docs_below(&mut self, end: u64, docs: &mut [u64]) -> usize {
-        self.cursor.docs_below(end, docs)
+        let count = self.cursor.docs_below(end, docs);
+        self.read = self.read.saturating_add(count as u64);
+        count
     }
 
     fn postings_below(&mut self, end: u64, docs: &mut [u64], freqs: &mut [u64]) -> usize {
-        self.cursor.postings_below(end, docs, freqs)
+        let count = self.cursor.postings_below(end, docs, freqs);
+        self.read = self.read.saturating_add(count as u64);
+        count
     }
 
     fn max_freq(&self) -> u32 {
@@ -242,6 +248,7 @@ fn long<'a>(
     Counting {
         cursor: SideCursor::new(PlainCursor::new(docs, freqs), source, side, 0),
         moves: 0,
+        read: 0,
     }
 }
 
@@ -257,27 +264,55 @@ fn short<'a>(
     Counting {
         cursor: SideCursor::new(PlainCursor::new(&[0], &[5]), source, side, 1),
         moves: 0,
+        read: 0,
     }
 }
 
-// The best document of both lists, and how many moves it took.
-fn best_and_moves(alloc: Global, source: TwoLists) -> Result<(Vec<(u32, u64)>, u64), NoMemory> {
+// The best document of both lists, how many moves it took, and how many postings were read.
+fn counted_best(alloc: Global, source: TwoLists) -> Result<(Vec<(u32, u64)>, u64, u64), NoMemory> {
     let docs = first_documents(alloc, source.n)?;
     let mut freqs = vec![in alloc; 1; source.n as usize - 1]?;
     freqs.push(9)?;
     let words = side_words(alloc, &source)?;
     let Ok(side) = Side::view(&words, &source) else {
-        return Ok((Vec::new(alloc), 0));
+        return Ok((Vec::new(alloc), 0, 0));
     };
     let mut cursors = [long(&docs, &freqs, &source, side), short(&source, side)];
     let top = top_blockmax(alloc, &mut cursors, &[1, 1], 1, source.n)?;
-    Ok((top, cursors[0].moves.saturating_add(cursors[1].moves)))
+    let moves = cursors[0].moves.saturating_add(cursors[1].moves);
+    let read = cursors[0].read.saturating_add(cursors[1].read);
+    Ok((top, moves, read))
 }
 
-// Of the longer list the documents behind the first are passed over up to the end of its first block.
+// Of the longer list the documents behind the first are passed over up to the end of its first block: they are not read where the
+// list has so many postings that its blocks are looked at, and not every document is scored.
 #[test]
 fn blocks_are_passed_over(rt: HostRuntime) {
-    let (top, moves) = best_and_moves(rt.alloc(), TwoLists { n: 1000 }).expect(&rt, "memory");
+    let (top, moves, _) = counted_best(rt.alloc(), TwoLists { n: 1000 }).expect(&rt, "memory");
     assert_eq!(rt; top.as_slice(), [(999, 9)].as_slice());
     assert!(rt; moves <= 20, "{moves}");
+    let (top, moves, read) = counted_best(rt.alloc(), TwoLists { n: 20_000 }).expect(&rt, "memory");
+    assert_eq!(rt; top.as_slice(), [(19_999, 9)].as_slice());
+    assert!(rt; moves <= 20, "{moves}");
+    assert!(rt; read <= 100, "{read}");
+}
+
+// The best document of both lists by MaxScore, where the longer one has six times the weight of the shorter.
+fn best_over_a_floor(alloc: Global, source: TwoLists) -> Result<Vec<(u32, u64)>, NoMemory> {
+    let docs = first_documents(alloc, source.n)?;
+    let mut freqs = vec![in alloc; 1; source.n as usize - 1]?;
+    freqs.push(9)?;
+    let words = side_words(alloc, &source)?;
+    let Ok(side) = Side::view(&words, &source) else {
+        return Ok(Vec::new(alloc));
+    };
+    let mut cursors = [long(&docs, &freqs, &source, side), short(&source, side)];
+    top_maxscore(alloc, &mut cursors, &[6, 1], 1, source.n)
+}
+
+// The longer list has so many postings that a score which one document reaches is told of it: 6, which the shorter one alone does not.
+#[test]
+fn a_floor_from_the_start(rt: HostRuntime) {
+    let top = best_over_a_floor(rt.alloc(), TwoLists { n: 2_048 }).expect(&rt, "memory");
+    assert_eq!(rt; top.as_slice(), [(2_047, 54)].as_slice());
 }

@@ -68,6 +68,7 @@ impl Room {
 
 // Scores the documents of a window from `first` on that can be held and offers them, or passes over documents of which none can, and
 // tells from which document on the search goes on. No document from there on has been passed by a cursor.
+#[inline(never)]
 pub(crate) fn score_from<C: DocCursor, B: Ceilings<C>>(
     cursors: &mut [C],
     terms: &[Term],
