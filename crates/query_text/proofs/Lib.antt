@@ -1,6 +1,7 @@
 mod Rows
 mod Runs
 mod Decimals
+mod LeadingNumbers
 mod Written
 mod TermSets
 mod WeightSums

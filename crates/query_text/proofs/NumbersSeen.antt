@@ -1,4 +1,4 @@
-use Rattle.std.proofs.Common.{◌≡◌, ℕ, ◌+◌, ◌<◌, ◌≤◌, Bool, true, false, ◌&&◌, not, nat_lt, Option, Some, None, Ok, Err, IsOk, List, [], ◌∷◌, ◌++◌, length, refl, ap, sym, ◌∙◌, arith, append_assoc, append-nil, option_map}
+use Rattle.std.proofs.Common.{◌≡◌, ℕ, zero, suc, ◌+◌, ◌<◌, ◌≤◌, Bool, true, false, ◌&&◌, not, nat_lt, Option, Some, None, Ok, Err, IsOk, List, [], ◌∷◌, ◌++◌, length, take, refl, ap, sym, ◌∙◌, arith, append_assoc, append-nil, option_map}
 use Rattle.std.specs.List.{list_all}
 use Rattle.std.specs.Result.{is_ok}
 use Rattle.std.proofs.lemmas.Bool.{cond-true, cond-false, lt-ltb, le-ltb, not_from_true, not_from_false}
@@ -18,9 +18,24 @@ pub seen_and-push : {X : Type 0} (seen : List X) (n : X) (rest : Option (List X)
 seen_and-push seen n None = refl
 seen_and-push seen n (Some ns) = ap Some (sym (append_assoc seen (n ∷ []) ns))
 
+-- no field read
+pub seen_and-start : {X : Type 0} (whole : Option (List X)) → whole ≡ seen_and [] whole
+seen_and-start None = refl
+seen_and-start (Some ns) = refl
+
 -- all fields are read
 pub seen_and-end : {X : Type 0} (seen : List X) (whole rest : Option (List X)) → whole ≡ seen_and seen rest → rest ≡ Some [] → whole ≡ Some seen
 seen_and-end seen whole rest e done = e ∙ ap (seen_and seen) done ∙ ap Some (append-nil seen)
+
+-- what is kept of the front stands for it before what follows
+take-front : {X : Type 0} (n : ℕ) (xs ys : List X) → take n (take n xs ++ ys) ≡ take n (xs ++ ys)
+take-front zero xs ys = refl
+take-front (suc n) [] ys = refl
+take-front {X} (suc n) (x ∷ xs) ys = ap (λ (l : List X). x ∷ l) (take-front n xs ys)
+
+-- one more kept, where there is room
+pub kept-more : {X : Type 0} (n : ℕ) (seen kept more : List X) (x : X) → kept ≡ take n seen → more ≡ take n (kept ++ x ∷ []) → more ≡ take n (seen ++ x ∷ [])
+kept-more {X} n seen kept more x so is = is ∙ ap (λ (l : List X). take n (l ++ x ∷ [])) so ∙ take-front n seen (x ∷ [])
 
 pub and-true : (b : Bool) → (b && true) ≡ b
 and-true true = refl
@@ -33,11 +48,10 @@ pub record SoFar (terms : ℕ) (whole rest : Option (List ℕ)) (count : ℕ) (t
   pub counted : count ≡ length seen
   pub are_there : there ≡ list_all (λ t. nat_lt t terms) seen
 
-pub begin : (terms : ℕ) (whole : Option (List ℕ)) → SoFar terms whole whole 0 true
-begin terms None = record { seen = []; whole_is = refl; counted = refl; are_there = refl }
-begin terms (Some ns) = record { seen = []; whole_is = refl; counted = refl; are_there = refl }
+abbrev pub begin : (terms : ℕ) (whole : Option (List ℕ)) → SoFar terms whole whole 0 true
+begin terms whole = record { seen = []; whole_is = seen_and-start whole; counted = refl; are_there = refl }
 
-pub more : (terms : ℕ) (whole rest behind : Option (List ℕ)) (count n : ℕ) (there : Bool) → SoFar terms whole rest count there →
+abbrev pub more : (terms : ℕ) (whole rest behind : Option (List ℕ)) (count n : ℕ) (there : Bool) → SoFar terms whole rest count there →
     rest ≡ field_before (Some n) behind → SoFar terms whole behind (count + 1) (there && nat_lt n terms)
 more terms whole rest behind count n there s e = record {
   seen = s.seen ++ n ∷ [];

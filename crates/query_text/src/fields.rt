@@ -4,7 +4,7 @@ ghost use Rattle.std.specs.List.{prefix_len};
 ghost use Rattle.query_text.specs.Lines.{fields, space};
 
 // How many spaces a text begins with.
-fn leading_spaces(text: &[u8]) -> usize
+pub(crate) fn leading_spaces(text: &[u8]) -> usize
     ensures count { result ≡ prefix_len (λ b. b == space) text.now }
     ensures within { result ≤ length text.now }
 {

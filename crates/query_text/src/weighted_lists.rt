@@ -1,5 +1,5 @@
 // The weighted terms that a line names.
-ghost use Rattle.std.specs.Prelude.{◌≡◌, ◌==◌, ◌<◌, ◌⊎◌, [], length, position, IfOk, IfSome, IsOk, MatchOption, MatchResult};
+ghost use Rattle.std.specs.Prelude.{◌≡◌, ◌==◌, ◌<◌, ◌⊎◌, [], length, position, take, IfOk, IfSome, IsOk, MatchOption, MatchResult};
 ghost use Rattle.query_text.specs.Lines.{fields};
 ghost use Rattle.query_text.specs.Numbers.{field_before};
 ghost use Rattle.query_text.specs.Weights.{is_weight, star, weighted_fields, weighted_of};
@@ -8,7 +8,7 @@ ghost use Rattle.query_text.specs.Parse.{Parses, weighted_named};
 use crate::fields::next_field;
 use crate::numbers::number;
 use crate::query::{Bad, ParseError};
-use crate::term_lists::MOST_TERMS;
+use crate::term_lists::{MOST_TERMS, keep};
 use crate::weighted_terms::Weighted;
 use smallvec::SmallVec;
 use std::alloc::{AllocError, Global};
@@ -56,13 +56,16 @@ fn next_weighted(text: &[u8]) -> Option<((u32, u32), &[u8])>
     Some((weighted(field)?, rest))
 }
 
-// The first rule that weighted fields break. Takes no memory.
-fn check_weighted(arguments: &[u8], terms: u32) -> Result<(), Bad>
-    ensures { MatchResult result
+// The first weighted fields, as many as take no memory, and how many fields there are, or the first rule that they break.
+fn first_fields(alloc: Global, arguments: &[u8], terms: u32) -> Result<(FieldList, usize), Bad>
+    ensures named { MatchResult result
         (λ _. IsOk (weighted_named terms (weighted_fields (fields arguments.now))))
         (λ bad. weighted_named terms (weighted_fields (fields arguments.now)) ≡ Err bad) }
+    ensures first { IfOk result (λ read. IfSome (weighted_fields (fields arguments.now)) (λ written. read.0.items ≡ take 8 written)) }
+    ensures count { IfOk result (λ read. IfSome (weighted_fields (fields arguments.now)) (λ written. read.1 ≡ length written)) }
 {
     let mut rest = arguments;
+    let mut first = FieldList::new(alloc);
     let mut count: usize = 0;
     let mut all_weigh = true;
     let mut all_there = true;
@@ -71,6 +74,7 @@ fn check_weighted(arguments: &[u8], terms: u32) -> Result<(), Bad>
         count += 1;
         all_weigh &= is_weight(weight);
         all_there &= term < terms;
+        keep(&mut first, (term, weight));
         rest = behind;
     }
     if !all_weigh {
@@ -82,7 +86,7 @@ fn check_weighted(arguments: &[u8], terms: u32) -> Result<(), Bad>
     if !all_there {
         return Err(Bad::Term);
     }
-    Ok(())
+    Ok((first, count))
 }
 
 // The terms and the weights of a text, as written.
@@ -98,6 +102,24 @@ fn written_fields(alloc: Global, text: &[u8]) -> Result<FieldList, AllocError>
     Ok(found)
 }
 
+// The terms and the weights of a text, of which the first were read before.
+fn all_fields(
+    alloc: Global,
+    text: &[u8],
+    first: FieldList,
+    count: usize,
+) -> Result<FieldList, AllocError>
+    requires first { IfSome (weighted_fields (fields text.now)) (λ written. first.items ≡ take 8 written) }
+    requires count { IfSome (weighted_fields (fields text.now)) (λ written. count ≡ length written) }
+    ensures { IfOk result (λ found. IfSome (weighted_fields (fields text.now)) (λ written. found.items ≡ written)) }
+{
+    if count == first.len() {
+        Ok(first)
+    } else {
+        written_fields(alloc, text)
+    }
+}
+
 // The distinct terms that weighted fields name over so many terms, or the first rule that they break.
 pub(crate) fn read_weighted(
     alloc: Global,
@@ -106,7 +128,7 @@ pub(crate) fn read_weighted(
 ) -> Result<Weighted, ParseError>
     ensures { Parses result (weighted_named terms (weighted_fields (fields arguments.now))) }
 {
-    check_weighted(arguments, terms)?;
-    let found = written_fields(alloc, arguments)?;
+    let (first, count) = first_fields(alloc, arguments, terms)?;
+    let found = all_fields(alloc, arguments, first, count)?;
     Ok(Weighted::from_fields(alloc, found.as_slice())?)
 }

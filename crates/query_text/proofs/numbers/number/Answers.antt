@@ -1,14 +1,11 @@
-use Rattle.std.proofs.Common.{◌∙◌, sym, arith}
-use Rattle.query_text.proofs.Decimals.{number-too_great, number-whole}
+use Rattle.std.proofs.Common.{rules, ◌∙◌, sym, arith}
+use Rattle.query_text.proofs.Decimals.{number-whole}
+use Rattle.query_text.proofs.LeadingNumbers.{number-refused}
 use Rattle.query_text.proofs.numbers.number.Goals as goal
-
-pub returns-in_err-checked_mul : goal.returns-in_err-checked_mul
-returns-in_err-checked_mul c =
-    c.from_residual.ensures ∙ number-too_great c.args.field.now c.loop-byte.byte-index c.loop-byte.value (omega arith) c.loop-byte.invariant.spells (omega (arith, c.in_err-checked_mul.ensures))
 
 pub returns-in_err-value : goal.returns-in_err-value
 returns-in_err-value c =
-    c.from_residual-in_err-value.ensures ∙ number-too_great c.args.field.now c.loop-byte.byte-index c.loop-byte.value (omega arith) c.loop-byte.invariant.spells (omega (arith, c.in_err-value.ensures, c.in_ok-checked_mul.ensures, c.from.ensures))
+    c.from_residual.ensures ∙ number-refused c.args.field.now c.loop-byte.value c.loop-byte.byte-index (omega arith) c.loop-byte.invariant.spells (search rules)
 
 pub returns : goal.returns
 returns c =
