@@ -53,6 +53,16 @@ impl<'i, 'a> TermLists for SideLists<'i, 'a> {
         Ok(self.blocks.cursor(self.side, term))
     }
 
+    fn push_cursor(
+        &self,
+        _alloc: Global,
+        cursors: &mut Vec<SideCursor<'i, PostingCursor<'a>, IndexBlocks<'i, 'a>>>,
+        term: u32,
+    ) -> Result<(), NoMemory> {
+        cursors.push_reserved(self.blocks.cursor(self.side, term));
+        Ok(())
+    }
+
     fn top(
         &self,
         alloc: Global,

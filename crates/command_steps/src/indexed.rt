@@ -43,6 +43,16 @@ impl<'i, 'a> TermLists for IndexLists<'i, 'a> {
         Ok(self.index.cursor(term))
     }
 
+    fn push_cursor(
+        &self,
+        _alloc: Global,
+        cursors: &mut Vec<PostingCursor<'a>>,
+        term: u32,
+    ) -> Result<(), NoMemory> {
+        cursors.push_reserved(self.index.cursor(term));
+        Ok(())
+    }
+
     fn top(
         &self,
         alloc: Global,

@@ -76,6 +76,16 @@ impl<'a> TermLists for JoinedLists<'a> {
         Ok(JoinedCursor::new(parts))
     }
 
+    fn push_cursor(
+        &self,
+        alloc: Global,
+        cursors: &mut Vec<JoinedCursor<PostingCursor<'a>>>,
+        term: u32,
+    ) -> Result<(), NoMemory> {
+        cursors.push_reserved(self.cursor(alloc, term)?);
+        Ok(())
+    }
+
     fn top(
         &self,
         alloc: Global,

@@ -1,5 +1,5 @@
 // What lines are answered from.
-ghost use Rattle.std.specs.Prelude.{◌≡◌, ◌<◌, ◌^◌, map, length, IfOk};
+ghost use Rattle.std.specs.Prelude.{◌≡◌, ◌<◌, ◌^◌, ◌+◌, ◌++◌, ◌∷◌, [], map, length, vec_len, vec_capacity, IfOk, OnOk};
 ghost use Rattle.std.specs.List.{All};
 ghost use Rattle.collection_model.specs.Collection.{Collection, list_of};
 ghost use Rattle.scan_plans.specs.IsTop.{IsTop};
@@ -30,6 +30,19 @@ pub(crate) trait TermLists {
         requires { term < length (collection self.now).lists }
         ensures list { IfOk result (λ cursor. Self.Cursor.list cursor ≡ list_of (collection self.now) term) }
         ensures start { IfOk result (λ cursor. Self.Cursor.place cursor ≡ 0) };
+
+    // Puts a cursor at the start of a term's list behind others. There is room for it.
+    fn push_cursor(
+        &self,
+        alloc: Global,
+        cursors: &mut Vec<Self::Cursor>,
+        term: u32,
+    ) -> Result<(), NoMemory>
+        requires within { term < length (collection self.now).lists }
+        requires room { vec_len cursors.old < vec_capacity cursors.old }
+        ensures pushed { OnOk result ((cursor : Self.Cursor) × (cursors.new.items ≡ cursors.old.items ++ cursor ∷ []) × (Self.Cursor.list cursor ≡ list_of (collection self.now) term) × (Self.Cursor.place cursor ≡ 0)) }
+        ensures len { OnOk result (vec_len cursors.new ≡ vec_len cursors.old + 1) }
+        ensures capacity { vec_capacity cursors.new ≡ vec_capacity cursors.old };
 
     // The first k of the documents that are in any of the lists, by score falling and then document rising, each with its score. The
     // weights are those of the cursors' lists, in the same order; a score stays below 2^58.

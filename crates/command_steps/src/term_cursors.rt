@@ -19,7 +19,7 @@ pub(crate) fn cursors_of<L: TermLists>(
 {
     let mut cursors = Vec::with_capacity(alloc, terms.len())?;
     for term in terms {
-        cursors.push(lists.cursor(alloc, *term)?)?;
+        lists.push_cursor(alloc, &mut cursors, *term)?;
     }
     Ok(cursors)
 }
