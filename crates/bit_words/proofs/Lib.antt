@@ -7,6 +7,7 @@ mod WordOnes
 mod NthOnes
 mod Flipped
 mod Writing
+mod Cut
 mod OneAfter
 pub mod OnesWritten
 mod WordLaws

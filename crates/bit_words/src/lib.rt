@@ -12,6 +12,3 @@ pub use laws::{fields_of_bits, words_are_bits};
 pub use ones::Ones;
 pub use reader::Bits;
 pub use writer::BitWriter;
-
-#[cfg(test)]
-mod tests;

@@ -1,4 +1,4 @@
-ghost use Rattle.std.specs.Prelude.{◌≡◌, ◌≤◌, ◌<◌, ◌+◌, ◌*◌, ◌/◌, ◌^◌, [], ◌∷◌, ◌++◌, length, OnOk, OnErr, IfOk, IsOk};
+ghost use Rattle.std.specs.Prelude.{◌≡◌, ◌≤◌, ◌<◌, ◌+◌, ◌*◌, ◌/◌, ◌%◌, ◌^◌, [], ◌∷◌, ◌++◌, length, take, OnOk, OnErr, IfOk, IsOk};
 ghost use Rattle.bit_words.specs.Bits.{field_bits, bits_of, bits_value, one_after, padded, padding, words_of, AppendsBits, HoldNumber};
 
 use no_memory::NoMemory;
@@ -85,6 +85,16 @@ impl BitWriter {
         Ok(())
     }
 
+    /// Keeps the first bits, so many, or all where there are no more. It takes no memory.
+    pub fn truncate(&mut self, len: u64)
+        ensures { self.new ≡ take len self.old }
+    {
+        if len < self.len {
+            cut(&mut self.words, len);
+            self.len = len;
+        }
+    }
+
     /// How many bits there are.
     pub fn len(&self) -> u64
         ensures { result ≡ length self.now }
@@ -98,6 +108,20 @@ impl BitWriter {
     {
         let BitWriter { words, len: _ } = self;
         words
+    }
+}
+
+// Cuts words to so many bits, and clears what is behind these in the last word.
+fn cut(words: &mut Vec<u64>, len: u64)
+    requires within { len ≤ 64 * length words.old.items }
+    ensures count { length words.new.items ≡ (len + 63) / 64 }
+    ensures value { bits_value (bits_of words.new.items) ≡ bits_value (bits_of words.old.items) % 2 ^ len }
+{
+    words.truncate(len.div_ceil(64) as usize);
+    let used = (len % 64) as u32;
+    if used > 0 {
+        let last = words.len() - 1;
+        words[last] &= (1 << used) - 1;
     }
 }
 

@@ -65,7 +65,7 @@ least-last f zero = omega arith
 least-last f (suc n) = omega arith
 
 -- and at most what stands at any of them
-least-at : (f : ℕ → ℕ) (n w : ℕ) → w ≤ n → least_through f n ≤ f w
+pub least-at : (f : ℕ → ℕ) (n w : ℕ) → w ≤ n → least_through f n ≤ f w
 least-at f zero w le = let same : w ≡ 0 = omega arith in rw same (omega arith)
 least-at f (suc n) w le = elim (cases_lt n w) as (λ _. least_through f (suc n) ≤ f w) [
   | inl past ↦ (let same : w ≡ suc n = omega arith in rw same (least-last f (suc n)))

@@ -7,6 +7,7 @@ ghost use Rattle.part_cost.specs.Formats.{numbers_of};
 pub enum Format {
     One,
     Two,
+    Three,
 }
 
 impl Format {
@@ -16,7 +17,7 @@ impl Format {
     {
         match self {
             Format::One => 268_435_455,
-            Format::Two => 4_294_967_295,
+            Format::Two | Format::Three => 4_294_967_295,
         }
     }
 
@@ -26,7 +27,7 @@ impl Format {
     {
         match self {
             Format::One => 68_719_476_736,
-            Format::Two => 281_474_976_710_656,
+            Format::Two | Format::Three => 281_474_976_710_656,
         }
     }
 
@@ -35,7 +36,7 @@ impl Format {
         ensures { result ≡ entry_words (numbers_of self) }
     {
         match self {
-            Format::One => 2,
+            Format::One | Format::Three => 2,
             Format::Two => 3,
         }
     }
@@ -45,7 +46,7 @@ impl Format {
         ensures { result ≡ part_charge (numbers_of self) }
     {
         match self {
-            Format::One => 128,
+            Format::One | Format::Three => 128,
             Format::Two => 192,
         }
     }
@@ -55,7 +56,7 @@ impl Format {
         ensures { result ≡ (numbers_of self).limit }
     {
         match self {
-            Format::One => 4096,
+            Format::One | Format::Three => 4096,
             Format::Two => 6144,
         }
     }
@@ -67,6 +68,7 @@ impl Format {
         match self {
             Format::One => 1,
             Format::Two => 2,
+            Format::Three => 3,
         }
     }
 }
