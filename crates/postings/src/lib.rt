@@ -4,8 +4,6 @@
 mod cursor;
 mod laws;
 mod sums;
-#[cfg(test)]
-mod tests;
 mod write;
 
 pub use cursor::PostingCursor;

@@ -145,23 +145,23 @@ pub record Built (format : FormatNumbers) (words : List ℕ) (parts m bound q : 
   pub takes : payload_before format words q + length (payload_from values (end_before format words q) ends) ≡ payload_before format words parts
 
 -- the words of an entry, and those behind it
-pub entry-front : (format : FormatNumbers) (words : List ℕ) (q n : ℕ) → entry_words format * q + entry_words format ≤ length words
+pub entry-front : (format : FormatNumbers) (words : List ℕ) (q n : ℕ) → All (λ w. w < 2 ^ 64) words → entry_words format * q + entry_words format ≤ length words
     → take (entry_words format * suc n) (drop (entry_words format * q) words)
     ≡ entry format (stated_last format words q) (stated_end format words q) (stated_offset format words q) ++ take (entry_words format * n) (drop (entry_words format * suc q) words)
-entry-front format words q n room =
+entry-front format words q n small room =
     let at : ℕ = entry_words format * q in
     let rest : List ℕ = drop (at + entry_words format) words in
     let these : List ℕ = entry format (stated_last format words q) (stated_end format words q) (stated_offset format words q) in
     let whole : length these ≡ entry_words format = entry-is-whole format (stated_last format words q) (stated_end format words q) (stated_offset format words q) in
-    ap (take (entry_words format * suc n)) (entry-is-of-words format words at (omega (arith, room)))
+    ap (take (entry_words format * suc n)) (entry-is-of-words format words at small (omega (arith, room)))
     ∙ ap (λ i. take i (these ++ rest)) (let e : entry_words format * suc n ≡ length these + entry_words format * n = omega (arith, whole) in e)
     ∙ take-append-add these rest (entry_words format * n)
     ∙ ap (λ i. these ++ take (entry_words format * n) (drop i words)) (let e : at + entry_words format ≡ entry_words format * suc q = omega arith in e)
 
-pub built-more : (format : FormatNumbers) (room : HasRoom format) → PartLaws → (words : List ℕ) (parts m bound q : ℕ) (pre ys : List ℕ) → bound ≤ format.most_sum → entry_words format * q + entry_words format ≤ length words → Front format words bound q pre → FollowsAt format words parts m bound q
+pub built-more : (format : FormatNumbers) (room : HasRoom format) → PartLaws → (words : List ℕ) (parts m bound q : ℕ) (pre ys : List ℕ) → bound ≤ format.most_sum → All (λ w. w < 2 ^ 64) words → entry_words format * q + entry_words format ≤ length words → Front format words bound q pre → FollowsAt format words parts m bound q
     → HoldsPart part_bits (bits_of words) (first_bit format parts + payload_before format words q) (stated_universe format words q) (stated_count format words q) ys
     → Built format words parts m bound (suc q) (pre ++ map (λ y. y + past_before format words q) ys) → Built format words parts m bound q pre
-built-more format room laws words parts m bound q pre ys fits within f k held b =
+built-more format room laws words parts m bound q pre ys fits small within f k held b =
     let p : ℕ = past_before format words q in
     let o : ℕ = payload_before format words q in
     let i : ℕ = end_before format words q in
@@ -202,7 +202,7 @@ built-more format room laws words parts m bound q pre ys fits within f k held b 
       partition = (k.up, b.partition);
       many = omega (arith, b.many);
       directory =
-          entry-front format words q (length b.ends) within
+          entry-front format words q (length b.ends) small within
           ∙ ap (λ v. entry format v end (stated_offset format words q) ++ later_words) last
           ∙ ap (λ v. entry format (past xs end - 1) end v ++ later_words) k.offsets
           ∙ ap (λ vs. entry format (past xs end - 1) end o ++ vs) (b.directory ∙ ap (λ v. directory_from format xs end v b.ends) (sym charge));
@@ -225,8 +225,8 @@ all-stand format words zero m bound fit = sym (none-fit m fit.parts_are)
 all-stand format words (suc q) m bound fit =
     let k = follows-at format words (suc q) m bound q (fit.entries q (omega arith)) in k.whole (eq-eqb (q + 1) (suc q) (omega arith))
 
-pub build : (format : FormatNumbers) (room : HasRoom format) → PartLaws → (words : List ℕ) (parts m bound : ℕ) → bound ≤ format.most_sum → PassChecks format words parts m bound → (n q : ℕ) → q + n ≡ parts → (pre : List ℕ) → Front format words bound q pre → Built format words parts m bound q pre
-build format room laws words parts m bound fits fit zero q e pre f =
+pub build : (format : FormatNumbers) (room : HasRoom format) → PartLaws → (words : List ℕ) (parts m bound : ℕ) → bound ≤ format.most_sum → All (λ w. w < 2 ^ 64) words → PassChecks format words parts m bound → (n q : ℕ) → q + n ≡ parts → (pre : List ℕ) → Front format words bound q pre → Built format words parts m bound q pre
+build format room laws words parts m bound fits are fit zero q e pre f =
     let last : q ≡ parts = omega (arith, e) in
     let all : end_before format words q ≡ m = ap (end_before format words) last ∙ all-stand format words parts m bound fit in
     record {
@@ -242,13 +242,13 @@ build format room laws words parts m bound fits fit zero q e pre f =
       payload_bits = refl;
       takes = omega (arith, ap (payload_before format words) last);
     }
-build format room laws words parts m bound fits fit (suc n) q e pre f =
+build format room laws words parts m bound fits are fit (suc n) q e pre f =
     let lt : q < parts = omega (arith, e) in
     let k : FollowsAt format words parts m bound q = follows-at format words parts m bound q (fit.entries q lt) in
     let stored : IsPartStored format words parts q = fit.stored q lt in
     let next = front-more format words parts m bound q pre stored.0 f k stored.1.values in
-    built-more format room laws words parts m bound q pre stored.0 fits (omega (arith, fit.room, entry-within format q parts lt)) f k stored.1
-    (build format room laws words parts m bound fits fit n (suc q) (omega (arith, e)) (pre ++ map (λ y. y + past_before format words q) stored.0) next)
+    built-more format room laws words parts m bound q pre stored.0 fits are (omega (arith, fit.room, entry-within format q parts lt)) f k stored.1
+    (build format room laws words parts m bound fits are fit n (suc q) (omega (arith, e)) (pre ++ map (λ y. y + past_before format words q) stored.0) next)
 
 -- words with this payload and zeros behind it
 pub payload-words : PartLaws → BitsOfAppended → WordsOfBits → WordsOfPadded → (words before tail behind bits : List ℕ) → words ≡ before ++ (tail ++ behind)
@@ -277,11 +277,11 @@ payload-words laws appended back filled words before tail behind bits split are 
     sym (back tail fit) ∙ ap words_of same ∙ filled bits are
 
 -- words that pass every check begin with a sequence
-pub accepted-begins : (format : FormatNumbers) (room : HasRoom format) → PartLaws → BitsOfAppended → WordsOfBits → WordsOfPadded → (words : List ℕ) (parts m bound : ℕ) → bound ≤ format.most_sum → All (λ w. w < 2 ^ 64) words → PassChecks format words parts m bound
+pub accepted-begins : (format : FormatNumbers) (room : HasRoom format) → PartLaws → BitsOfAppended → WordsOfBits → WordsOfPadded → (words : List ℕ) (parts m bound : ℕ) → m < 2 ^ 32 → bound ≤ format.most_sum → All (λ w. w < 2 ^ 64) words → PassChecks format words parts m bound
     → (xs ends : List ℕ) × BeginsSequence format m bound parts xs ends words (word_behind format words parts)
-accepted-begins format room laws appended back filled words parts m bound fits are fit =
+accepted-begins format room laws appended back filled words parts m bound few fits are fit =
     let none : Front format words bound 0 [] = record { count = refl; begins = refl; rising = (λ k lt. absurd (omega (arith, lt))); below = All-nil (λ x. x < bound) } in
-    let b = build format room laws words parts m bound fits fit parts 0 (omega arith) [] none in
+    let b = build format room laws words parts m bound fits are fit parts 0 (omega arith) [] none in
     let used : ℕ = word_behind format words parts in
     let front : List ℕ = take used words in
     let before : List ℕ = take (entry_words format * parts) front in
@@ -312,6 +312,7 @@ accepted-begins format room laws appended back filled words parts m bound fits a
           rising = b.rising;
           below = b.below;
           count = b.count;
+          few = few;
           partition = b.partition;
           parts_count = many;
           spelled = sym (take-append-drop (entry_words format * parts) front) ∙ ap (λ xs. xs ++ tail) entries ∙ ap (λ xs. directory_from format b.values 0 0 b.ends ++ xs) stored;

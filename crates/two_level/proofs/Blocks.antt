@@ -3,8 +3,7 @@ use Rattle.std.proofs.lemmas.Bool.{cases_lt}
 use Rattle.std.proofs.lemmas.List.{get_or_append_left, get_or-append_right, get_or-take, length-take-le}
 use Rattle.collection_model.specs.NextBelow.{AreNextBelow}
 use Rattle.collection_model.proofs.NextBelow.{AreGiven}
-use Rattle.part_cost.specs.Span.{relative_values}
-use Rattle.two_level.specs.SequenceParts.{HoldsValues}
+use Rattle.two_level.specs.SequenceParts.{counted_from, HoldsValues}
 use Rattle.two_level.specs.declared.held.HeldPart.{HeldPart}
 use Rattle.two_level.proofs.Parts.{relative-count}
 
@@ -53,11 +52,11 @@ some-of-part xs given to place x (suc n) fit lt room small h = omega arith
 
 -- the numbers of a part below x, raised by what stands before the part, are its values below x
 pub restored-below : (held : HeldPart) (xs : List ℕ) → HoldsValues held xs → (place x least n : ℕ) (numbers given : List ℕ) → held.part.from ≤ place → place < held.part.to → least ≡ x - held.past
-    → AreNextBelow (relative_values xs held.part.from held.part.to) (place - held.part.from) least numbers n → length given ≡ length numbers
+    → AreNextBelow (counted_from held.past xs held.part.from held.part.to) (place - held.part.from) least numbers n → length given ≡ length numbers
     → ((j : ℕ) → j < n → slice_index given j ≡ slice_index numbers j + held.past) → AreNextBelow (take held.part.to xs) place x given n
 restored-below held xs h place x least n numbers given after before l r room raised =
     let from : ℕ = held.part.from in
-    let ys : List ℕ = relative_values xs from held.part.to in
+    let ys : List ℕ = counted_from held.past xs from held.part.to in
     let few : length ys ≡ held.part.to - from = relative-count held xs h in
     let count : length (take held.part.to xs) ≡ held.part.to = length-take-le held.part.to xs h.within in
     let value : (j : ℕ) → place + j < held.part.to → slice_index ys (place - from + j) + held.past ≡ slice_index (take held.part.to xs) (place + j) =
@@ -76,7 +75,7 @@ restored-below held xs h place x least n numbers given after before l r room rai
 
 -- a number of a part that is given, raised so, is still a value
 pub value-fits : (held : HeldPart) (xs : List ℕ) → HoldsValues held xs → (place x n : ℕ) (numbers : List ℕ) → held.part.from ≤ place → place < held.part.to
-    → AreNextBelow (relative_values xs held.part.from held.part.to) (place - held.part.from) x numbers n → (j : ℕ) → j < n → slice_index numbers j + held.past < 2 ^ 64
+    → AreNextBelow (counted_from held.past xs held.part.from held.part.to) (place - held.part.from) x numbers n → (j : ℕ) → j < n → slice_index numbers j + held.past < 2 ^ 64
 value-fits held xs h place x n numbers after before r j lt =
     let few = relative-count held xs h in
     let at : ℕ = place - held.part.from + j in

@@ -234,7 +234,7 @@ pub fits-begun : (format : FormatNumbers) (room : HasRoom format) → PartLaws �
 fits-begun format room laws appended filled m bound parts used xs ends words fits b =
     let s = b.sequence in
     let v : AreValues format xs = values-of format room m bound parts xs ends (take used words) fits s in
-    let whole = stands-whole format laws appended filled m bound parts used xs ends words fits b in
+    let whole = stands-whole format room laws appended filled m bound parts used xs ends words fits b in
     let base : ℕ = first_bit format parts in
     let directory : List ℕ = directory_from format xs 0 0 ends in
     let payload : List ℕ = payload_from xs 0 ends in

@@ -4,19 +4,18 @@ use Rattle.std.specs.List.Sorted.{IsStrictlyIncreasing}
 use Rattle.std.proofs.lemmas.Bool.{cases_lt}
 use Rattle.collection_model.specs.Marks.{has_number, AreKept}
 use Rattle.collection_model.proofs.Marks.{has-at, place-of, same-test, kept-from}
-use Rattle.part_cost.specs.Span.{relative_values, AreRelative}
+use Rattle.part_cost.specs.Span.{AreRelative}
 use Rattle.part_cost.proofs.Numbers.{rises}
 use Rattle.part_cost.proofs.Parts.{past-at}
 use Rattle.part_codec.specs.PartView.{universe_of, count_of}
 use Rattle.part_codec.proofs.Relative.{relative-held}
 use Rattle.two_level.specs.declared.held.HeldPart.{HeldPart}
-use Rattle.two_level.specs.SequenceParts.{HoldsValues}
+use Rattle.two_level.specs.SequenceParts.{counted_from, HoldsValues}
 use Rattle.two_level.proofs.Parts.{relative-count, number-here}
-use Rattle.two_level.proofs.Steps.{held-past}
 
 module _ (held : HeldPart) (xs : List ℕ) (h : HoldsValues held xs) (up : IsStrictlyIncreasing xs) where
   abbrev numbers : List ℕ
-  numbers = relative_values xs held.part.from held.part.to
+  numbers = counted_from held.past xs held.part.from held.part.to
 
   are-relative : AreRelative (universe_of held.view) (count_of held.view) numbers
   are-relative = relative-held held.view numbers h.numbers
@@ -32,7 +31,7 @@ module _ (held : HeldPart) (xs : List ℕ) (h : HoldsValues held xs) (up : IsStr
           let within = h.within in
           let some = some-here in
           let more = rises xs up j (held.part.from - 1) (omega arith) (omega arith) in
-          absurd (omega (arith, held-past held xs h up some-here)))
+          absurd (omega (arith, h.before)))
       | inr late ↦ late
     ],
     elim (cases_lt j held.part.to) as (λ _. j < held.part.to) [

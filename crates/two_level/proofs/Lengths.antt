@@ -13,6 +13,7 @@ use Rattle.part_cost.specs.Span.{past, universe, payload_of_part, relative_value
 use Rattle.part_cost.specs.Partition.{IsPartitionFrom, cost_from}
 use Rattle.part_cost.proofs.Partitions.{ends-within, charges}
 use Rattle.part_cost.specs.Laws.{PartHasRoom, PartIsWithin, PartIsRelative}
+use Rattle.part_cost.specs.StoredLaws.{PayloadsAreShort}
 use Rattle.part_codec.specs.PartBits.{part_bits}
 use Rattle.part_codec.specs.Laws.{PartIsBits, TakesItsPayload}
 use Rattle.two_level.specs.EntryWords.{entry}
@@ -27,6 +28,7 @@ pub record PartLaws : Type 0 where
   pub room : PartHasRoom
   pub within : PartIsWithin
   pub relative : PartIsRelative
+  pub short : PayloadsAreShort
 
 -- values that rise below the greatest bound of a format, which lies in the range of payloads
 pub record AreValues (format : FormatNumbers) (xs : List ℕ) : Type 0 where

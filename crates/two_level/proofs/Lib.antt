@@ -1,6 +1,6 @@
 pub mod Choices
 pub mod FirstChecks
-mod EntryLaws
+pub mod EntryLaws
 mod Lengths
 mod Stated
 mod Writing
@@ -17,3 +17,4 @@ mod Steps
 mod LongSteps
 mod PartSteps
 mod Kept
+mod Begun

@@ -13,7 +13,7 @@ use Rattle.part_codec.specs.PartBits.{part_bits}
 use Rattle.two_level.specs.SequenceWords.{sequence_words, BeginsSequence}
 use Rattle.two_level.specs.SequenceFault.{stated_last, stated_end, end_before, past_before, stated_universe, payload_before, word_behind, first_bit, PassChecks}
 use Rattle.two_level.specs.SequenceView.{SequenceView, BeginWith, sequence_stated, words_used, start_of_part, IsPartOf}
-use Rattle.two_level.specs.SequenceParts.{StatesPart, Restores, HoldsValues, LiesIn}
+use Rattle.two_level.specs.SequenceParts.{StatesPart, counted_from, Restores, HoldsValues, LiesIn}
 use Rattle.two_level.specs.declared.held.HeldPart.{HeldPart}
 use Rattle.two_level.specs.Laws.{DirectoryStates}
 use Rattle.two_level.specs.declared.part.Part.{Part}
@@ -67,7 +67,7 @@ states-part format room laws appended filled m bound parts used xs ends words fi
     let s = b.sequence in
     let base : ℕ = first_bit format parts in
     let a : AreValues format xs = values-of format room m bound parts xs ends (take used words) fits s in
-    let whole = stands-whole format laws appended filled m bound parts used xs ends words fits b in
+    let whole = stands-whole format room laws appended filled m bound parts used xs ends words fits b in
     let pass : PassChecks format words parts m bound = fits-begun format room laws appended filled m bound parts used xs ends words fits b in
     let p : PartStands format words xs parts (0 + q) = part-stands format laws words xs a parts 0 0 ends whole q (omega (arith, lt, s.parts_count)) in
     let p : PartStands format words xs parts q = subst (PartStands format words xs parts) (let e : 0 + q ≡ q = omega arith in e) p in
@@ -95,7 +95,7 @@ states-part format room laws appended filled m bound parts used xs ends words fi
       place = omega (arith, pass.within, rises, all);
       held =
           subst (λ u. HoldsPart part_bits (bits_of words) (base + payload_before format words q) u (end - i) (relative_values xs i end)) (sym k.universes) held;
-      restored = λ j less. ap (λ n. slice_index (relative_values xs i end) j + n) h.begins ∙ restored-at format laws xs a i end j less fit;
+      restored = subst (Restores xs i end) (sym h.begins) (λ j less. restored-at format laws xs a i end j less fit);
     }
 
 -- the ends that words state, by index
@@ -118,7 +118,7 @@ pub used-is : (format : FormatNumbers) (room : HasRoom format) → PartLaws → 
 used-is format room laws appended filled m bound parts used xs ends words fits b =
     let s = b.sequence in
     let a : AreValues format xs = values-of format room m bound parts xs ends (take used words) fits s in
-    let whole = stands-whole format laws appended filled m bound parts used xs ends words fits b in
+    let whole = stands-whole format room laws appended filled m bound parts used xs ends words fits b in
     let total : payload_before format words (0 + length ends) ≡ 0 + cost_from (payload_of_part xs) 0 ends = payload-all format laws words xs a (first_bit format parts) 0 0 ends whole in
     let count : 0 + length ends ≡ parts = omega (arith, s.parts_count) in
     let same : payload_before format words parts ≡ cost_from (payload_of_part xs) 0 ends = omega (arith, total, ap (payload_before format words) count) in
@@ -131,7 +131,7 @@ pub cost-is : (format : FormatNumbers) (room : HasRoom format) → PartLaws → 
 cost-is format room laws appended filled m bound parts used xs ends words fits b =
     let s = b.sequence in
     let a : AreValues format xs = values-of format room m bound parts xs ends (take used words) fits s in
-    let whole = stands-whole format laws appended filled m bound parts used xs ends words fits b in
+    let whole = stands-whole format room laws appended filled m bound parts used xs ends words fits b in
     let total : payload_before format words (0 + length ends) ≡ 0 + cost_from (payload_of_part xs) 0 ends = payload-all format laws words xs a (first_bit format parts) 0 0 ends whole in
     let count : 0 + length ends ≡ parts = omega (arith, s.parts_count) in
     let same : payload_before format words parts ≡ cost_from (payload_of_part xs) 0 ends = omega (arith, total, ap (payload_before format words) count) in
@@ -167,32 +167,32 @@ restored-here format words xs parts q from past to p f b t =
     (subst (λ n. Restores xs n (stated_end format words q) (past_before format words q)) (sym f) p.restored))
 
 -- how many relative values a part that is held has
-pub relative-count : (held : HeldPart) (xs : List ℕ) → HoldsValues held xs → length (relative_values xs held.part.from held.part.to) ≡ held.part.to - held.part.from
+pub relative-count : (held : HeldPart) (xs : List ℕ) → HoldsValues held xs → length (counted_from held.past xs held.part.from held.part.to) ≡ held.part.to - held.part.from
 relative-count held xs h =
     let from : ℕ = held.part.from in
-    length-map (slice_range xs from held.part.to) (λ y. y - past xs from) ∙ length-take-le (held.part.to - from) (drop from xs) (omega (arith, length-drop from xs, h.within))
+    length-map (slice_range xs from held.part.to) (λ y. y - held.past) ∙ length-take-le (held.part.to - from) (drop from xs) (omega (arith, length-drop from xs, h.within))
 
 -- a number of a part is the value at its place, less what stands before the part
 pub number-here : (held : HeldPart) (xs : List ℕ) → HoldsValues held xs → (place : ℕ) → held.part.from ≤ place → place < held.part.to
-    → slice_index (relative_values xs held.part.from held.part.to) (place - held.part.from) + held.past ≡ slice_index xs place
+    → slice_index (counted_from held.past xs held.part.from held.part.to) (place - held.part.from) + held.past ≡ slice_index xs place
 number-here held xs h place after before =
     let here = h.restored (place - held.part.from) (omega (arith, after, before)) in
     let same : slice_index xs (held.part.from + (place - held.part.from)) ≡ slice_index xs place = ap (slice_index xs) (let e : held.part.from + (place - held.part.from) ≡ place = omega (arith, after) in e) in
     omega (arith, here, same)
 
 -- the value at the place of a number that was found
-pub value-here : (held : HeldPart) (xs : List ℕ) → HoldsValues held xs → (from x k number : ℕ) → IsFirstAtLeast (relative_values xs held.part.from held.part.to) from x k
-    → number ≡ slice_index (relative_values xs held.part.from held.part.to) k → number + held.past ≡ slice_index xs (held.part.from + k)
+pub value-here : (held : HeldPart) (xs : List ℕ) → HoldsValues held xs → (from x k number : ℕ) → IsFirstAtLeast (counted_from held.past xs held.part.from held.part.to) from x k
+    → number ≡ slice_index (counted_from held.past xs held.part.from held.part.to) k → number + held.past ≡ slice_index xs (held.part.from + k)
 value-here held xs h from x k number first is =
     let here = h.restored k (omega (arith, first.within, relative-count held xs h)) in
     omega (arith, here, is)
 
 -- the first number of a part that is large enough is the first value there
 pub first-here : (held : HeldPart) (xs : List ℕ) → HoldsValues held xs → (place x least number : ℕ) → held.part.from ≤ place → least ≡ x - held.past
-    → IsFirstAtLeast (relative_values xs held.part.from held.part.to) (place - held.part.from) least number → IsFirstAtLeast xs place x (held.part.from + number)
+    → IsFirstAtLeast (counted_from held.past xs held.part.from held.part.to) (place - held.part.from) least number → IsFirstAtLeast xs place x (held.part.from + number)
 first-here held xs h place x least number after l first =
     let from : ℕ = held.part.from in
-    let ys : List ℕ = relative_values xs from held.part.to in
+    let ys : List ℕ = counted_from held.past xs from held.part.to in
     let count : length ys ≡ held.part.to - from = relative-count held xs h in
     let lt : from + number < held.part.to = omega (arith, first.within, count) in
     let value = h.restored number lt in

@@ -17,7 +17,7 @@ use Rattle.part_codec.specs.PartBits.{part_bits}
 use Rattle.part_codec.specs.PartValues.{values_at}
 use Rattle.part_codec.specs.Laws.{ValuesStandAt}
 use Rattle.two_level.specs.EntryWords.{entry}
-use Rattle.two_level.specs.EntryFacts.{EntryStates}
+use Rattle.two_level.specs.EntryFacts.{most_offset, EntryStates}
 use Rattle.two_level.specs.SequenceWords.{directory_from, payload_from, sequence_words, IsSequence, BeginsSequence}
 use Rattle.two_level.specs.SequenceFault.{stated_last, stated_end, stated_offset, end_before, past_before, stated_count, stated_universe, payload_before, first_bit}
 use Rattle.two_level.specs.SequenceView.{SequenceView, ends_stated, part_stated, sequence_stated}
@@ -56,6 +56,8 @@ pub record StandsFrom (format : FormatNumbers) (words xs : List ℕ) (base q i :
   pub begins : past_before format words q ≡ past xs i
   pub directory : DirectoryAt format words q (directory_from format xs i (payload_before format words q) ends)
   pub payload_bits : StandAt (bits_of words) (base + payload_before format words q) (payload_from xs i ends)
+  pub short : payload_before format words q + cost_from (payload_of_part xs) i ends < most_offset
+  pub room : HasRoom format
 
 -- past the last value of a part
 pub past-part : (format : FormatNumbers) → PartLaws → (xs : List ℕ) → AreValues format xs → (i end : ℕ) → i < end → end ≤ length xs → past xs i < past xs end
@@ -75,7 +77,7 @@ entry-is format laws words xs v base q i end ends h =
     let stands : drop (entry_words format * q) words ≡ entry format (past xs end - 1) end o ++ (rest ++ h.directory.behind) =
     h.directory.is ∙ append_assoc (entry format (past xs end - 1) end o) rest h.directory.behind in
     let states : EntryStates format words (entry_words format * q) (past xs end - 1) end o =
-    entry-reads-back format words (rest ++ h.directory.behind) (entry_words format * q) (past xs end - 1) end o (omega (arith, most, less)) stands in
+    entry-reads-back format h.room words (rest ++ h.directory.behind) (entry_words format * q) (past xs end - 1) end o (omega (arith, most, less)) (omega (arith, h.short)) stands in
     let up : stated_last format words q + 1 ≡ past xs end = omega (arith, states.last_is, less) in
     record {
       ends = states.end_is;
@@ -113,6 +115,8 @@ stands-next format laws words xs v base q i end ends h k =
             ∙ ap (λ n. directory_from format xs end n ends ++ h.directory.behind) (sym next);
       };
       payload_bits = subst (λ n. StandAt (bits_of words) n (payload_from xs end ends)) place (stands-second (bits_of words) (base + o) piece (payload_from xs end ends) h.payload_bits);
+      short = omega (arith, next, h.short);
+      room = h.room;
     }
 
 -- the payload of all parts
@@ -203,9 +207,9 @@ values-of format room m bound parts xs ends words fits s = are-values format roo
 pub begins-split : (words sequence : List ℕ) (used : ℕ) → take used words ≡ sequence → words ≡ sequence ++ drop used words
 begins-split words sequence used e = sym (take-append-drop used words) ∙ ap (λ xs. xs ++ drop used words) e
 
-pub stands-whole : (format : FormatNumbers) → PartLaws → BitsOfAppended → BitsOfWords → (m bound parts used : ℕ) (xs ends words : List ℕ) → bound ≤ format.most_sum
+pub stands-whole : (format : FormatNumbers) → HasRoom format → PartLaws → BitsOfAppended → BitsOfWords → (m bound parts used : ℕ) (xs ends words : List ℕ) → bound ≤ format.most_sum
     → BeginsSequence format m bound parts xs ends words used → StandsFrom format words xs (first_bit format parts) 0 0 ends
-stands-whole format laws appended filled m bound parts used xs ends words fits b =
+stands-whole format room laws appended filled m bound parts used xs ends words fits b =
     let s = b.sequence in
     let directory : List ℕ = directory_from format xs 0 0 ends in
     let payload : List ℕ = payload_from xs 0 ends in
@@ -224,6 +228,9 @@ stands-whole format laws appended filled m bound parts used xs ends words fits b
         is = ap (λ n. drop n words) (let e : entry_words format * 0 ≡ 0 = omega arith in e) ∙ split ∙ append_assoc directory (words_of payload) behind;
       };
       payload_bits = subst (λ xs. StandAt xs (first_bit format parts + 0) payload) (sym bits) (stands-between (bits_of directory) payload (zeros ++ bits_of behind) (first_bit format parts + 0) base);
+      short = (let v : AreValues format xs = values-of format room m bound parts xs ends (take used words) fits s in
+          omega (arith, laws.short xs ends s.rising v.in_range (omega (arith, s.count, s.few)) (subst (λ n. IsPartitionFrom 0 n ends) (sym s.count) s.partition)));
+      room = room;
     }
 
 -- words that begin with a sequence state it
@@ -233,7 +240,7 @@ pub stated-is : (format : FormatNumbers) (room : HasRoom format) → PartLaws �
 stated-is format room laws appended filled stand m bound parts used xs ends words fits b =
     let s = b.sequence in
     let v : AreValues format xs = values-of format room m bound parts xs ends (take used words) fits s in
-    let whole = stands-whole format laws appended filled m bound parts used xs ends words fits b in (
+    let whole = stands-whole format room laws appended filled m bound parts used xs ends words fits b in (
       ap (λ n. flat_map (part_stated format words parts) (range_with_len 0 n)) (sym s.parts_count) ∙ values-are format laws stand words xs v parts 0 0 ends whole,
       ap (λ n. map (stated_end format words) (range_with_len 0 n)) (sym s.parts_count) ∙ ends-are format laws words xs v (first_bit format parts) 0 0 ends whole,
     )

@@ -3,13 +3,13 @@ use Rattle.std.proofs.Common.{◌≡◌, ℕ, zero, suc, ◌+◌, ◌-◌, ◌<�
 use Rattle.std.specs.List.{slice_range}
 use Rattle.std.specs.List.Sorted.{IsStrictlyIncreasing}
 use Rattle.std.proofs.lemmas.Bool.{cases_lt}
-use Rattle.std.proofs.lemmas.List.{drop_more, length-take-le, length-drop, get_or-take, get_or-drop, get_or-map, ext_get_or}
+use Rattle.std.proofs.lemmas.List.{drop_more, length-take-le, length-drop, get_or-take, get_or-drop, ext_get_or}
 use Rattle.collection_model.specs.NextBelow.{AreNextBelow}
 use Rattle.collection_model.specs.Collection.{greatest}
 use Rattle.collection_model.specs.Sequences.{steps_from}
 use Rattle.part_cost.specs.Payload.{widest_low}
-use Rattle.part_cost.specs.Span.{past, universe, relative_values}
-use Rattle.part_cost.proofs.Parts.{rises, past-at, past-number}
+use Rattle.part_cost.specs.Span.{past, universe}
+use Rattle.part_cost.proofs.Parts.{rises, past-at}
 use Rattle.two_level.specs.Steps.{greatest_step}
 use Rattle.two_level.specs.SequenceParts.{HoldsValues}
 use Rattle.two_level.specs.declared.held.HeldPart.{HeldPart}
@@ -80,19 +80,6 @@ step-of-one xs i j from to a lt b fit one =
     let last : j ≡ to = omega (arith, a, lt, b, one) in
     let is = step-one xs from (omega (arith, lt, b, fit)) in
     omega (arith, is, ap (λ m. greatest_step xs from m) end, ap (λ m. universe xs from m) end, ap (λ m. universe xs m j) here, ap (λ m. universe xs from m) last)
-
--- a part that is held begins behind the value before it
-pub held-past : (held : HeldPart) (xs : List ℕ) → HoldsValues held xs → IsStrictlyIncreasing xs → held.part.from < held.part.to → held.past ≡ past xs held.part.from
-held-past held xs h up some =
-    let from : ℕ = held.part.from in
-    let to : ℕ = held.part.to in
-    let part : List ℕ = slice_range xs from to in
-    let count : length part ≡ to - from = length-take-le (to - from) (drop from xs) (omega (arith, length-drop from xs, h.within)) in
-    let at : get_or part 0 0 ≡ get_or xs (from + 0) 0 = get_or-take (to - from) (drop from xs) 0 0 (omega (arith, some)) ∙ get_or-drop from xs 0 0 in
-    let here : get_or xs (from + 0) 0 ≡ get_or xs from 0 = ap (λ k. get_or xs k 0) (let e : from + 0 ≡ from = omega arith in e) in
-    let above = past-number xs up from (omega (arith, some, h.within)) in
-    let number : slice_index (relative_values xs from to) 0 + held.past ≡ slice_index xs (from + 0) = h.restored 0 (omega (arith, some)) in
-    omega (arith, get_or-map (λ x. x - past xs from) part 0 0 0 (omega (arith, count, some)), at, here, above, number)
 
 -- what is known of the steps that were read from one place up to another, where they go on up to a third
 pub record StepsRead (xs : List ℕ) (from place to before most : ℕ) : Type 0 where

@@ -9,14 +9,17 @@ use Rattle.bit_words.specs.Bits.{AppendsBits, AreBits, bits_of, words_of}
 use Rattle.bit_words.proofs.WordsBehind.{words-behind}
 use Rattle.part_cost.specs.Payload.{widest_low}
 use Rattle.part_cost.specs.Span.{past, universe, payload_of_part, relative_values, AreRelative}
-use Rattle.part_cost.specs.Partition.{IsPartitionFrom, cost_from}
+use Rattle.part_cost.specs.Formats.{HasRoom}
+use Rattle.part_cost.specs.Partition.{IsPartitionFrom, IsPartition, cost_from, partition_cost}
 use Rattle.part_cost.specs.Laws.{PartHasRoom, PartIsWithin, PartIsRelative}
+use Rattle.part_cost.specs.StoredLaws.{PayloadsAreShort}
 use Rattle.part_codec.specs.PartBits.{part_bits}
 use Rattle.part_cost.proofs.Growth.{payload-short}
 use Rattle.part_cost.proofs.Partitions.{ends-within}
 use Rattle.two_level.specs.EntryWords.{entry}
+use Rattle.two_level.specs.EntryFacts.{most_offset}
 use Rattle.two_level.specs.SequenceWords.{directory_from, payload_from, Extends}
-use Rattle.two_level.proofs.Lengths.{PartLaws, length-payload}
+use Rattle.two_level.proofs.Lengths.{PartLaws, below-bound, length-payload}
 
 -- a part ends past the value before it, and no further than the bound
 pub past-less : PartHasRoom → (xs : List ℕ) → IsStrictlyIncreasing xs → (i end : ℕ) → i < end → end ≤ length xs → past xs i + (end - i) ≤ past xs end
@@ -78,6 +81,17 @@ payload-more xs ends bits whole from k lt h =
 pub payload-all : (xs ends bits whole : List ℕ) (from k : ℕ) → length ends ≤ k → bits ++ payload_from xs from (drop k ends) ≡ whole → bits ≡ whole
 payload-all xs ends bits whole from k le h =
     sym (append-nil bits) ∙ sym (ap (λ es. bits ++ payload_from xs from es) (drop_all k ends le)) ∙ h
+
+-- what the parts before a place take, and those from it on, is what all parts take
+pub payloads-more : (xs ends : List ℕ) (from offset k whole : ℕ) → k < length ends → offset + cost_from (payload_of_part xs) from (drop k ends) ≡ whole
+    → offset + payload_of_part xs from (get_or ends k 0) + cost_from (payload_of_part xs) (get_or ends k 0) (drop (k + 1) ends) ≡ whole
+payloads-more xs ends from offset k whole lt h = omega (arith, ap (cost_from (payload_of_part xs) from) (drop_more ends k 0 lt), h)
+
+-- so the payload bits before a part are below the greatest offset of an entry
+pub payloads-short : PayloadsAreShort → (format : FormatNumbers) → HasRoom format → (xs ends : List ℕ) → IsStrictlyIncreasing xs → All (λ x. x < format.most_sum) xs → length xs ≤ format.most_documents
+    → IsPartition (length xs) ends → partition_cost (payload_of_part xs) ends < most_offset
+payloads-short short format room xs ends up below few h =
+    short xs ends up (below-bound format.most_sum (2 ^ widest_low) xs room.sums below) (omega (arith, few, room.fit)) h
 
 -- the payload of all parts from a place on takes at most two bits for each place behind it
 pub payloads-at_most : PartHasRoom → (xs : List ℕ) → IsStrictlyIncreasing xs → (i : ℕ) (ends : List ℕ) → IsPartitionFrom i (length xs) ends

@@ -38,7 +38,7 @@ SequencesPassChecks format =
 -- Words of 64 bits that pass every check begin with a sequence.
 abbrev pub ChecksAcceptASequence : FormatNumbers → Type 0
 ChecksAcceptASequence format =
-    (m bound parts : ℕ) (words : List ℕ) → bound ≤ format.most_sum → All (λ w. w < 2 ^ 64) words → PassChecks format words parts m bound
+    (m bound parts : ℕ) (words : List ℕ) → m < 2 ^ 32 → bound ≤ format.most_sum → All (λ w. w < 2 ^ 64) words → PassChecks format words parts m bound
     → (xs ends : List ℕ) × BeginsSequence format m bound parts xs ends words (word_behind format words parts)
 
 -- The values and the ends that words state are those of the sequence with which they begin.

@@ -1,4 +1,4 @@
-use Rattle.std.specs.Prelude.{◌≡◌, ℕ, suc, ◌+◌, ◌-◌, ◌*◌, ◌^◌, ◌≤◌, ◌<◌, List, length, slice_index, Option, Some, None}
+use Rattle.std.specs.Prelude.{◌≡◌, ℕ, suc, ◌+◌, ◌-◌, ◌*◌, ◌^◌, ◌≤◌, ◌<◌, List, length, slice_index, slice_range, map, Option, Some, None}
 use Rattle.std.specs.List.{All}
 use Rattle.std.specs.List.Sorted.{IsStrictlyIncreasing}
 use Rattle.collection_model.specs.FormatNumbers.{FormatNumbers, entry_words, part_charge}
@@ -13,9 +13,14 @@ use Rattle.two_level.specs.declared.held.HeldPart.{HeldPart}
 use Rattle.two_level.specs.SequenceFault.{stated_last, stated_end, stated_offset, end_before, past_before, stated_count, stated_universe, payload_before, word_behind, first_bit}
 use Rattle.two_level.specs.SequenceView.{SequenceView, sequence_stated, words_used}
 
--- Each relative value from one place up to another, and one past the value before them, add up to the value there.
+-- the values from one place up to another, counted from a number
+abbrev pub counted_from : ℕ → List ℕ → ℕ → ℕ → List ℕ
+counted_from first xs from to = map (λ x. x - first) (slice_range xs from to)
+
+-- Each of the values from one place up to another, so counted, and that number add up to the value
+-- there.
 abbrev pub Restores : List ℕ → ℕ → ℕ → ℕ → Type 0
-Restores xs from to before = (j : ℕ) → from + j < to → slice_index (relative_values xs from to) j + before ≡ slice_index xs (from + j)
+Restores xs from to first = (j : ℕ) → from + j < to → slice_index (counted_from first xs from to) j + first ≡ slice_index xs (from + j)
 
 -- Entry q of the directory states a part of these values.
 pub record StatesPart (format : FormatNumbers) (words xs : List ℕ) (parts q : ℕ) : Type 0 where
@@ -42,15 +47,19 @@ pub record StatesParts (format : FormatNumbers) (words : List ℕ) (parts : ℕ)
   pub cost : partition_cost (cost_of_part (part_charge format) v.values) v.ends ≡ first_bit format parts + payload_before format words parts
   pub part : (q : ℕ) → q < parts → StatesPart format words v.values parts q
 
--- The view of a part that is held has the relative values of these values from its start up to its end.
+-- The view of a part that is held has these values from its start up to its end, counted from a
+-- number: one past the value before them, or, of one value alone, the value.
 pub record HoldsValues (held : HeldPart) (xs : List ℕ) : Type 0 where
   pub in_range : All (λ x. x < 2 ^ widest_low) xs
   pub within : held.part.to ≤ length xs
   pub few : length xs < 2 ^ 32
+  pub before : past xs held.part.from ≤ held.past
+  pub start : past xs held.part.from + held.part.u ≡ held.part.last + 1
+  pub small : held.part.last < 2 ^ widest_low
   pub above : held.past ≤ held.part.last
   pub u : universe_of held.view ≡ held.part.last + 1 - held.past
   pub m : count_of held.view ≡ held.part.to - held.part.from
-  pub numbers : Holds held.view (relative_values xs held.part.from held.part.to)
+  pub numbers : Holds held.view (counted_from held.past xs held.part.from held.part.to)
   pub restored : Restores xs held.part.from held.part.to held.past
 
 -- A part that is held is one of so many in the sequence with which the words begin.

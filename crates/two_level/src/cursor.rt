@@ -24,14 +24,14 @@ impl<'a> Model for SeqCursor<'a> {
     ghost use Rattle.part_cost.specs.Formats.{numbers_of};
     ghost use Rattle.two_level.specs.SequenceView.{SequencePlace, place_at_least};
     ghost use Rattle.two_level.specs.SequenceParts.{LiesIn, StandsBehind};
-    ghost use Rattle.two_level.specs.DirectorySequence.{sequence_of};
+    ghost use Rattle.two_level.specs.DirectorySequence.{words_of, sequence_of};
 
     ghost Value = { SequencePlace };
 
     ghost view = { λ c. let v = sequence_of c.directory in record { sequence = v; place = place_at_least v.values c.counted c.value } };
 
     ghost invariant = { λ c. let d = c.directory in
-        LiesIn (numbers_of d.format) d.words.now d.parts c.counted c.held c.known × StandsBehind c.held (sequence_of d).values c.counted c.value };
+        LiesIn (numbers_of d.format) (words_of d) d.parts c.counted c.held c.known × StandsBehind c.held (sequence_of d).values c.counted c.value };
 }
 
 impl<'a> SeqCursor<'a> {

@@ -1,34 +1,50 @@
-ghost use Rattle.std.specs.Prelude.{◌≡◌, ◌≤◌, ◌<◌, ◌-◌, ◌^◌, length};
+ghost use Rattle.std.specs.Prelude.{◌≡◌, ℕ, ◌≤◌, ◌<◌, ◌+◌, ◌-◌, ◌*◌, ◌^◌, List, length};
+ghost use Rattle.bit_words.specs.Bits.{bits_of};
+ghost use Rattle.part_cost.specs.Stored.{HoldsPart};
+ghost use Rattle.part_codec.specs.PartBits.{part_bits};
 ghost use Rattle.std.specs.List.Sorted.{IsStrictlyIncreasing};
 ghost use Rattle.part_cost.specs.Formats.{numbers_of};
 ghost use Rattle.two_level.specs.SequenceView.{sequence_stated, lasts_stated, place_at_least};
 ghost use Rattle.two_level.specs.SequenceParts.{StatesParts};
+ghost use Rattle.two_level.specs.Alone.{words_begun, alone_view, StandsAlone};
+ghost use Rattle.std.specs.Option.{ForSome};
 
+use crate::alone::Alone;
 use crate::entry::{Entry, entry_at};
 use crate::galloping::{Lasts, gallop};
-use crate::laws::directory_states_its_parts;
-use part_cost::Format;
+use crate::laws::{
+    directory_states_its_parts, sequence_takes_its_cost, words_state_their_sequence,
+};
+use part_codec::one_list_at_place;
+use part_cost::{Format, formats_have_room};
 use std::marker::Brand;
 use std::sync::ledger::{Blank, Ledger};
 use step_count::Steps;
 
-// The directory of a sequence of m values in so many parts, at the front of lent words that begin with the sequence.
+// The directory of a sequence of m values in so many parts, at the front of lent words that begin
+// with the sequence; or what stands for it, where the one part of the sequence stands alone.
 #[derive(Clone, Copy)]
 pub(crate) struct Directory<'a> {
     pub(crate) words: &'a [u64],
     pub(crate) parts: u32,
     pub(crate) m: u32,
     pub(crate) format: Format,
-    ghost few_words: { length words.now < 2 ^ 57 },
-    ghost stated: { StatesParts (numbers_of format) words.now parts (sequence_stated (numbers_of format) words.now parts) },
-    ghost count: { m ≡ length (sequence_stated (numbers_of format) words.now parts).values },
-    ghost few: { length (sequence_stated (numbers_of format) words.now parts).values < 2 ^ 32 },
+    // Where its one part stands, where no entry stands before it.
+    pub(crate) alone: Option<Alone>,
+    ghost lent: { length words.now < 2 ^ 57 },
+    ghost few_words: { length (words_begun (numbers_of format) words.now m alone) < 2 ^ 57 },
+    ghost stated: { StatesParts (numbers_of format) (words_begun (numbers_of format) words.now m alone) parts (sequence_stated (numbers_of format) (words_begun (numbers_of format) words.now m alone) parts) },
+    ghost count: { m ≡ length (sequence_stated (numbers_of format) (words_begun (numbers_of format) words.now m alone) parts).values },
+    ghost few: { length (sequence_stated (numbers_of format) (words_begun (numbers_of format) words.now m alone) parts).values < 2 ^ 32 },
     ghost few_parts: { parts ≤ m },
-    ghost rising: { IsStrictlyIncreasing (lasts_stated (numbers_of format) words.now parts) },
+    ghost rising: { IsStrictlyIncreasing (lasts_stated (numbers_of format) (words_begun (numbers_of format) words.now m alone) parts) },
+    ghost stands: { ForSome alone (λ a. StandsAlone (numbers_of format) words.now m parts a) },
 }
 
 impl<'a> Lasts for Directory<'a> {
-    ghost lasts = { λ d. lasts_stated (numbers_of d.format) d.words.now d.parts };
+    ghost use Rattle.two_level.specs.DirectorySequence.{words_of};
+
+    ghost lasts = { λ d. lasts_stated (numbers_of d.format) (words_of d) d.parts };
 
     fn parts(&self) -> u32 {
         self.parts
@@ -49,7 +65,7 @@ fn galloped<L: Ledger>(directory: &Directory<'_>, part: u32, x: u64, blank: Blan
     requires parts { blank.parts ≡ L.parts }
     requires ledger { 0 < L.parts }
     requires within { part ≤ directory.now.parts }
-    ensures { result ≡ place_at_least (lasts_stated (numbers_of directory.now.format) directory.now.words.now directory.now.parts) part x }
+    ensures { result ≡ place_at_least (lasts_stated (numbers_of directory.now.format) (words_begun (numbers_of directory.now.format) directory.now.words.now directory.now.m directory.now.alone) directory.now.parts) part x }
 {
     let mut probes = Steps::<L>::new(blank);
     gallop(directory, part, x, &mut probes)
@@ -58,7 +74,7 @@ fn galloped<L: Ledger>(directory: &Directory<'_>, part: u32, x: u64, blank: Blan
 impl<'a> Directory<'a> {
     ghost use Rattle.two_level.specs.SequenceFault.{stated_last, stated_end, stated_offset};
     ghost use Rattle.two_level.specs.SequenceView.{BeginWith};
-    ghost use Rattle.two_level.specs.DirectorySequence.{sequence_of};
+    ghost use Rattle.two_level.specs.DirectorySequence.{words_of, sequence_of};
 
     // The directory of the sequence with which the words begin.
     pub(crate) fn at_front(words: &'a [u64], parts: u32, m: u32, format: Format) -> Directory<'a>
@@ -72,17 +88,55 @@ impl<'a> Directory<'a> {
             parts,
             m,
             format,
+            alone: None,
         }
     }
 
-    // The entry of a part.
+    // The sequence whose one part stands alone at a place, by its last value. The bits of one value
+    // are not read, and need not be there.
+    pub(crate) fn standing_alone(
+        words: &'a [u64],
+        place: u64,
+        last: u64,
+        m: u32,
+        format: Format,
+    ) -> Directory<'a>
+        requires words { length words.now < 2 ^ 57 }
+        requires some { 1 ≤ m }
+        requires small { last < (numbers_of format).most_sum }
+        requires place { place ≤ 64 * length words.now }
+        requires part { 2 ≤ m → (ys : List ℕ) × HoldsPart part_bits (bits_of words.now) place (last + 1) m ys }
+        ensures { sequence_of result ≡ alone_view (numbers_of format) (bits_of words.entry.now) m (record { place = place; last = last }) }
+    {
+        directory_states_its_parts();
+        words_state_their_sequence();
+        sequence_takes_its_cost();
+        formats_have_room();
+        one_list_at_place();
+        Directory {
+            words,
+            parts: 1,
+            m,
+            format,
+            alone: Some(Alone { place, last }),
+        }
+    }
+
+    // The entry of a part. A part that stands alone has none in the words.
     pub(crate) fn entry(&self, part: u32) -> Entry
         requires within { part < self.now.parts }
-        ensures last { result.last ≡ stated_last (numbers_of self.now.format) self.now.words.now part }
-        ensures end { result.end ≡ stated_end (numbers_of self.now.format) self.now.words.now part }
-        ensures offset { result.offset ≡ stated_offset (numbers_of self.now.format) self.now.words.now part }
+        ensures last { result.last ≡ stated_last (numbers_of self.now.format) (words_of self.now) part }
+        ensures end { result.end ≡ stated_end (numbers_of self.now.format) (words_of self.now) part }
+        ensures offset { result.offset ≡ stated_offset (numbers_of self.now.format) (words_of self.now) part }
     {
-        entry_at(self.words, part, self.format)
+        match &self.alone {
+            Some(alone) => Entry {
+                last: alone.last,
+                end: self.m as u64,
+                offset: 0,
+            },
+            None => entry_at(self.words, part, self.format),
+        }
     }
 
     // The first part at or after one whose last value is at least x, else the number of parts.
@@ -90,8 +144,8 @@ impl<'a> Directory<'a> {
         requires within { part ≤ self.now.parts }
         ensures after { part ≤ result }
         ensures within { result ≤ self.now.parts }
-        ensures before { part < result → stated_last (numbers_of self.now.format) self.now.words.now (result - 1) < x }
-        ensures reached { result < self.now.parts → x ≤ stated_last (numbers_of self.now.format) self.now.words.now result }
+        ensures before { part < result → stated_last (numbers_of self.now.format) (words_of self.now) (result - 1) < x }
+        ensures reached { result < self.now.parts → x ≤ stated_last (numbers_of self.now.format) (words_of self.now) result }
     {
         galloped::<Brand>(self, part, x, Blank::new(1))
     }

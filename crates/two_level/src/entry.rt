@@ -5,6 +5,12 @@ ghost use Rattle.two_level.specs.SequenceFault.{stated_last, stated_end, stated_
 
 use part_cost::Format;
 
+// In the third format an end has its low 16 bits beside the last value, and the others beside the
+// payload bits: above the 48 bits of these.
+pub(crate) const ENDS_BESIDE: u64 = 1 << 16;
+
+pub(crate) const BESIDE_UNIT: u64 = 1 << 48;
+
 // An entry of a directory: the last value of its part, the place behind it, and the payload bits before it.
 #[derive(Clone, Copy)]
 pub(crate) struct Entry {
@@ -47,6 +53,11 @@ pub(crate) fn entry_at(words: &[u64], part: u32, format: Format) -> Entry
             last: words[at],
             end: words[at + 1],
             offset: words[at + 2],
+        },
+        Format::Three => Entry {
+            last: words[at] % BESIDE_UNIT,
+            end: words[at] / BESIDE_UNIT + ENDS_BESIDE * (words[at + 1] / BESIDE_UNIT),
+            offset: words[at + 1] % BESIDE_UNIT,
         },
     }
 }

@@ -9,13 +9,13 @@ ghost use Rattle.part_codec.specs.Sought.{IsSought};
 ghost use Rattle.part_cost.specs.Formats.{numbers_of};
 ghost use Rattle.two_level.specs.SequenceFault.{end_before};
 ghost use Rattle.two_level.specs.SequenceView.{place_at_least};
-ghost use Rattle.two_level.specs.SequenceParts.{HoldsValues, IsHeldPart, LiesIn, StandsBehind};
-ghost use Rattle.two_level.specs.DirectorySequence.{sequence_of};
+ghost use Rattle.two_level.specs.SequenceParts.{counted_from, HoldsValues, IsHeldPart, LiesIn, StandsBehind};
+ghost use Rattle.two_level.specs.DirectorySequence.{words_of, sequence_of};
 
 use crate::directory::Directory;
 use crate::part::Part;
 use part_codec::{PartCodec, PartView, Sought};
-use part_cost::formats_have_room;
+use part_cost::{PlacedPart, formats_have_room};
 
 // How many values are read at a time.
 pub(crate) const BLOCK: usize = 64;
@@ -100,7 +100,7 @@ impl<'a> HeldPart<'a> {
         ensures { (xs : List ℕ) → HoldsValues self.now xs → IsStrictlyIncreasing xs → result ≡ past xs place }
     {
         if place == self.part.from {
-            self.past
+            self.part.last + 1 - self.part.u
         } else {
             self.value(place - 1) + 1
         }
@@ -200,8 +200,8 @@ impl<'a> HeldPart<'a> {
 
     // What was found among the relative values of the part, as places and values of the sequence.
     fn in_sequence(&self, sought: Sought) -> Sought
-        requires found { (xs : List ℕ) × HoldsValues self.now xs × ((k least : ℕ) × IsSought (relative_values xs self.now.part.from self.now.part.to) k least sought) }
-        ensures { (xs : List ℕ) → HoldsValues self.now xs → (place x : ℕ) → self.now.part.from ≤ place → IsSought (relative_values xs self.now.part.from self.now.part.to) (place - self.now.part.from) (x - self.now.past) sought → (s : IsSought xs place x result) × (s.own < self.now.part.to) }
+        requires found { (xs : List ℕ) × HoldsValues self.now xs × ((k least : ℕ) × IsSought (counted_from self.now.past xs self.now.part.from self.now.part.to) k least sought) }
+        ensures { (xs : List ℕ) → HoldsValues self.now xs → (place x : ℕ) → self.now.part.from ≤ place → IsSought (counted_from self.now.past xs self.now.part.from self.now.part.to) (place - self.now.part.from) (x - self.now.past) sought → (s : IsSought xs place x result) × (s.own < self.now.part.to) }
     {
         Sought {
             place: self.part.from as u64 + sought.place,
@@ -217,15 +217,22 @@ impl<'a> Directory<'a> {
     pub(crate) fn hold(&self, index: u32) -> HeldPart<'a>
         requires within { index < self.now.parts }
         ensures index { result.index ≡ index }
-        ensures held { IsHeldPart (numbers_of self.now.format) self.now.words.now self.now.parts result }
+        ensures held { IsHeldPart (numbers_of self.now.format) (words_of self.now) self.now.parts result }
     {
         formats_have_room();
         let (part, placed) = self.stated_part(index);
+        // One value alone is counted from itself, so that its bits are not read.
+        let past = if placed.m == 1 {
+            part.last
+        } else {
+            part.last + 1 - part.u
+        };
+        let counted = PlacedPart::at(placed.bits, placed.place, part.last + 1 - past, placed.m);
         HeldPart {
             index,
             part,
-            past: part.last + 1 - part.u,
-            view: PartView::at(placed),
+            past,
+            view: PartView::at(counted),
         }
     }
 
@@ -233,7 +240,7 @@ impl<'a> Directory<'a> {
     #[inline(always)]
     pub(crate) fn hold_if_any(&self, part: u32) -> (Option<HeldPart<'a>>, u64)
         requires within { part ≤ self.now.parts }
-        ensures lies { LiesIn (numbers_of self.now.format) self.now.words.now self.now.parts (end_before (numbers_of self.now.format) self.now.words.now part) result.0 result.1 }
+        ensures lies { LiesIn (numbers_of self.now.format) (words_of self.now) self.now.parts (end_before (numbers_of self.now.format) (words_of self.now) part) result.0 result.1 }
     {
         if part < self.parts {
             let held = self.hold(part);
@@ -247,7 +254,7 @@ impl<'a> Directory<'a> {
     // Holds the part of a place of the sequence.
     pub(crate) fn hold_place(&self, place: u32) -> HeldPart<'a>
         requires within { place < length (sequence_of self.now).values }
-        ensures held { IsHeldPart (numbers_of self.now.format) self.now.words.now self.now.parts result }
+        ensures held { IsHeldPart (numbers_of self.now.format) (words_of self.now) self.now.parts result }
         ensures after { result.part.from ≤ place }
         ensures before { place < result.part.to }
     {
@@ -257,7 +264,7 @@ impl<'a> Directory<'a> {
     // Holds the part of a place of the sequence, and gives the value there; at the end it holds none.
     pub(crate) fn hold_at(&self, place: u32) -> (Option<HeldPart<'a>>, u64)
         requires within { place ≤ length (sequence_of self.now).values }
-        ensures lies { LiesIn (numbers_of self.now.format) self.now.words.now self.now.parts place result.0 result.1 }
+        ensures lies { LiesIn (numbers_of self.now.format) (words_of self.now) self.now.parts place result.0 result.1 }
     {
         if place < self.m {
             let held = self.hold_place(place);
@@ -278,9 +285,9 @@ impl<'a> Directory<'a> {
         into: &mut Option<HeldPart<'a>>,
     ) -> (u32, u64, u64)
         requires within { part ≤ self.now.parts }
-        ensures lies { LiesIn (numbers_of self.now.format) self.now.words.now self.now.parts result.0 into.new result.1 }
+        ensures lies { LiesIn (numbers_of self.now.format) (words_of self.now) self.now.parts result.0 into.new result.1 }
         ensures behind { StandsBehind into.new (sequence_of self.now).values result.0 result.2 }
-        ensures first { let xs = (sequence_of self.now).values in place_at_least xs result.0 result.2 ≡ place_at_least xs (end_before (numbers_of self.now.format) self.now.words.now part) x }
+        ensures first { let xs = (sequence_of self.now).values in place_at_least xs result.0 result.2 ≡ place_at_least xs (end_before (numbers_of self.now.format) (words_of self.now) part) x }
     {
         let reaching = self.part_reaching(part, x);
         if reaching < self.parts {

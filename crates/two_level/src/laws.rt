@@ -4,7 +4,7 @@ ghost use Rattle.two_level.specs.Laws.{ChecksAcceptASequence, ChecksRefuseNoSequ
 
 use bit_words::words_are_bits;
 use part_codec::{one_list_at_place, part_takes_its_payload};
-use part_cost::{formats_have_room, part_is_relative};
+use part_cost::{formats_have_room, part_is_relative, parts_are_short};
 
 /// A sequence takes exactly what its partition costs, in whole words.
 pub fn sequence_takes_its_cost()
@@ -13,6 +13,7 @@ pub fn sequence_takes_its_cost()
     formats_have_room();
     part_takes_its_payload();
     part_is_relative();
+    parts_are_short();
 }
 
 /// Words begin with one sequence of so many values in so many parts only.
@@ -24,6 +25,7 @@ pub fn one_sequence()
     part_takes_its_payload();
     one_list_at_place();
     part_is_relative();
+    parts_are_short();
 }
 
 /// Words that begin with a sequence break no check.
@@ -34,6 +36,7 @@ pub fn checks_refuse_no_sequence()
     words_are_bits();
     part_takes_its_payload();
     part_is_relative();
+    parts_are_short();
 }
 
 /// Words that pass every check begin with a sequence.
@@ -44,6 +47,7 @@ pub fn checks_accept_a_sequence()
     words_are_bits();
     part_takes_its_payload();
     part_is_relative();
+    parts_are_short();
 }
 
 /// The values and the ends that words state are those of the sequence with which they begin.
@@ -55,6 +59,7 @@ pub fn words_state_their_sequence()
     part_takes_its_payload();
     one_list_at_place();
     part_is_relative();
+    parts_are_short();
 }
 
 /// Words that begin with a sequence pass every check, and their payload ends where the sequence does.
@@ -65,6 +70,7 @@ pub fn sequences_pass_checks()
     words_are_bits();
     part_takes_its_payload();
     part_is_relative();
+    parts_are_short();
 }
 
 // The directory of words that begin with a sequence states its parts.
@@ -75,4 +81,5 @@ pub(crate) fn directory_states_its_parts()
     words_are_bits();
     part_takes_its_payload();
     part_is_relative();
+    parts_are_short();
 }

@@ -1,6 +1,7 @@
 //! Sequences in parts, with a directory of the parts.
 #![tactic(auto)]
 
+mod alone;
 mod check;
 mod checking;
 mod cursor;
@@ -14,8 +15,6 @@ mod laws;
 mod long_steps;
 mod part;
 mod stepping;
-#[cfg(test)]
-mod tests;
 mod view;
 mod words_kept;
 mod write;

@@ -9,7 +9,7 @@ ghost use Rattle.two_level.specs.SequenceFault.{stated_end, end_before, stated_u
 ghost use Rattle.two_level.specs.SequenceView.{place_at_least};
 ghost use Rattle.two_level.specs.SequenceParts.{HoldsValues};
 ghost use Rattle.two_level.specs.LongSteps.{IsFirstStep};
-ghost use Rattle.two_level.specs.DirectorySequence.{sequence_of};
+ghost use Rattle.two_level.specs.DirectorySequence.{words_of, sequence_of};
 
 use crate::directory::Directory;
 use crate::held::{BLOCK, HeldPart};
@@ -88,9 +88,9 @@ impl<'a> Directory<'a> {
     // numbers leave no room for such a step is not read, and the one step of one number is its universe.
     fn first_in_part(&self, index: u32, part: Part, from: u32, least: u64) -> u32
         requires within { index < self.now.parts }
-        requires starts { part.from ≡ end_before (numbers_of self.now.format) self.now.words.now index }
-        requires ends { part.to ≡ stated_end (numbers_of self.now.format) self.now.words.now index }
-        requires universe { part.u ≡ stated_universe (numbers_of self.now.format) self.now.words.now index }
+        requires starts { part.from ≡ end_before (numbers_of self.now.format) (words_of self.now) index }
+        requires ends { part.to ≡ stated_end (numbers_of self.now.format) (words_of self.now) index }
+        requires universe { part.u ≡ stated_universe (numbers_of self.now.format) (words_of self.now) index }
         requires after { part.from ≤ from }
         requires some { from < part.to }
         ensures { IsFirstStep (sequence_of self.now).values from part.to least result }

@@ -8,7 +8,7 @@ ghost use Rattle.part_cost.specs.Span.{past};
 ghost use Rattle.two_level.specs.SequenceFault.{stated_end, end_before, stated_universe};
 ghost use Rattle.two_level.specs.SequenceParts.{HoldsValues};
 ghost use Rattle.two_level.specs.Steps.{greatest_step};
-ghost use Rattle.two_level.specs.DirectorySequence.{sequence_of};
+ghost use Rattle.two_level.specs.DirectorySequence.{words_of, sequence_of};
 
 use crate::directory::Directory;
 use crate::held::{BLOCK, HeldPart};
@@ -82,9 +82,9 @@ impl<'a> Directory<'a> {
     // step is 1, and one number alone lies as far as the universe: such a part is not read.
     fn step_in_part(&self, index: u32, part: Part, from: u32, to: u32) -> u64
         requires within { index < self.now.parts }
-        requires starts { part.from ≡ end_before (numbers_of self.now.format) self.now.words.now index }
-        requires ends { part.to ≡ stated_end (numbers_of self.now.format) self.now.words.now index }
-        requires universe { part.u ≡ stated_universe (numbers_of self.now.format) self.now.words.now index }
+        requires starts { part.from ≡ end_before (numbers_of self.now.format) (words_of self.now) index }
+        requires ends { part.to ≡ stated_end (numbers_of self.now.format) (words_of self.now) index }
+        requires universe { part.u ≡ stated_universe (numbers_of self.now.format) (words_of self.now) index }
         requires after { part.from ≤ from }
         requires some { from < to }
         requires before { to ≤ part.to }

@@ -1,4 +1,7 @@
-ghost use Rattle.std.specs.Prelude.{◌≡◌, ◌≢◌, ℕ, ◌≤◌, ◌<◌, ◌+◌, ◌^◌, true, List, length, slice_index, IfOk, IfErr};
+ghost use Rattle.std.specs.Prelude.{◌≡◌, ◌≢◌, ℕ, ◌≤◌, ◌<◌, ◌+◌, ◌*◌, ◌^◌, true, List, [], ◌∷◌, length, slice_index, IfOk, IfErr};
+ghost use Rattle.bit_words.specs.Bits.{bits_of};
+ghost use Rattle.part_cost.specs.Stored.{HoldsPart};
+ghost use Rattle.part_codec.specs.PartBits.{part_bits};
 ghost use Rattle.collection_model.specs.FormatNumbers.{part_charge};
 ghost use Rattle.collection_model.specs.Collection.{greatest};
 ghost use Rattle.collection_model.specs.Sequences.{steps_from};
@@ -19,10 +22,12 @@ use crate::laws::{
     words_state_their_sequence,
 };
 use crate::part::Part;
+use part_codec::one_list_at_place;
 use part_cost::Format;
 use std::marker::Model;
 
-/// A sequence of m values in parts, at the front of lent words.
+/// A sequence of m values in parts, at the front of lent words; or in one part that stands alone in
+/// them.
 #[derive(Drop)]
 pub struct SeqView<'a> {
     directory: Directory<'a>,
@@ -175,14 +180,39 @@ impl<'a> SeqView<'a> {
         }
     }
 
-    /// How many words the sequence takes.
+    /// The sequence of m values whose one part stands alone in lent words: its bits begin at a place
+    /// that is counted in bits, no entry stands before them, and its last value is known from
+    /// elsewhere. The bits of one value alone are not read, and need not be there.
+    pub fn standing_alone(
+        words: &'a [u64],
+        place: u64,
+        last: u64,
+        m: u32,
+        format: Format,
+    ) -> SeqView<'a>
+        requires words { length words.now < 2 ^ 57 }
+        requires some { 1 ≤ m }
+        requires small { last < (numbers_of format).most_sum }
+        requires place { place ≤ 64 * length words.now }
+        requires part { 2 ≤ m → (ys : List ℕ) × HoldsPart part_bits (bits_of words.now) place (last + 1) m ys }
+        ensures one { m ≡ 1 → result ≡ record { format = numbers_of format; values = last ∷ []; ends = 1 ∷ [] } }
+        ensures more { (ys : List ℕ) → 2 ≤ m → HoldsPart part_bits (bits_of words.entry.now) place (last + 1) m ys → result ≡ record { format = numbers_of format; values = ys; ends = m ∷ [] } }
+    {
+        one_list_at_place();
+        SeqView {
+            directory: Directory::standing_alone(words, place, last, m, format),
+        }
+    }
+
+    /// How many words the sequence takes; where its one part stands alone, those that it would take
+    /// with its entry.
     pub fn used(&self) -> u64
         ensures { result ≡ words_used self.now }
     {
         self.directory.bits_taken().div_ceil(64)
     }
 
-    /// What the parts cost, in bits. It looks at the last entry alone.
+    /// What the parts cost, in bits, with their entries. It looks at the last entry alone.
     pub fn cost(&self) -> u64
         ensures { result ≡ partition_cost (cost_of_part (part_charge self.now.format) self.now.values) self.now.ends }
     {

@@ -7,13 +7,14 @@ ghost use Rattle.part_cost.specs.Payload.{widest_low};
 ghost use Rattle.part_cost.specs.Partition.{IsPartition};
 ghost use Rattle.part_cost.specs.Span.{past, universe, relative_values};
 ghost use Rattle.two_level.specs.EntryWords.{entry};
+ghost use Rattle.two_level.specs.EntryFacts.{most_offset};
 ghost use Rattle.two_level.specs.SequenceWords.{directory_from, payload_from, sequence_words, Extends};
 
-use crate::entry::Entry;
+use crate::entry::{BESIDE_UNIT, ENDS_BESIDE, Entry};
 use bit_words::BitWriter;
 use no_memory::NoMemory;
 use part_codec::{part_takes_its_payload, write_part};
-use part_cost::{Format, formats_have_room, part_is_relative, payload_bits};
+use part_cost::{Format, formats_have_room, part_is_relative, parts_are_short, payload_bits};
 use std::alloc::Global;
 use std::mem;
 
@@ -67,19 +68,25 @@ fn append_seq(
     push_payload(alloc, values, ends, to)
 }
 
-// Appends the words of an entry: the last value and the end share a word where the format packs them.
+// Appends the words of an entry, by the shape that it has in the format.
 fn push_entry(words: &mut Vec<u64>, part: Entry, format: Format) -> Result<(), NoMemory>
     requires last { part.last < (numbers_of format).most_sum }
     requires end { part.end ≤ (numbers_of format).most_documents }
+    requires offset { part.offset < most_offset }
     ensures ok { OnOk result (words.new.items ≡ words.old.items ++ entry (numbers_of format) part.last part.end part.offset) }
     ensures err { OnErr result (Extends words.old.items words.new.items) }
 {
     match format {
         Format::One => {
-            let packed = part.last + format.most_sum() * part.end;
-            words.extend_from_slice(&[packed, part.offset])?;
+            let last_and_end = part.last + format.most_sum() * part.end;
+            words.extend_from_slice(&[last_and_end, part.offset])?;
         }
         Format::Two => words.extend_from_slice(&[part.last, part.end, part.offset])?,
+        Format::Three => {
+            let last_and_low = part.last + BESIDE_UNIT * (part.end % ENDS_BESIDE);
+            let offset_and_high = part.offset + BESIDE_UNIT * (part.end / ENDS_BESIDE);
+            words.extend_from_slice(&[last_and_low, offset_and_high])?;
+        }
     }
     Ok(())
 }
@@ -142,6 +149,7 @@ fn push_directory(
 {
     formats_have_room();
     part_is_relative();
+    parts_are_short();
     let mut from = 0;
     let mut offset = 0;
     for end in ends {
@@ -176,6 +184,7 @@ fn push_payload(
     ensures ok { OnOk result (to.new.items ≡ to.old.items ++ words_of (payload_from values.now 0 ends.now)) }
     ensures err { OnErr result (Extends to.old.items to.new.items) }
 {
+    parts_are_short();
     part_takes_its_payload();
     part_is_relative();
     let mut bits = BitWriter::after(mem::replace(to, Vec::new(alloc)));

@@ -1,7 +1,7 @@
-use Rattle.std.proofs.Common.{◌≡◌, sym, ◌∙◌, ap, subst, ℕ, ◌≤◌, ◌<◌, ◌++◌, List, length, arith}
+use Rattle.std.proofs.Common.{◌≡◌, sym, ◌∙◌, ap, subst, ℕ, ◌≤◌, ◌++◌, List, length, arith}
 use Rattle.std.specs.Prelude.{OnOk}
 use Rattle.std.specs.List.{All, sum}
-use Rattle.collection_model.specs.Collection.{docs_of, freqs_of, postings_of}
+use Rattle.collection_model.specs.Collection.{docs_of, postings_of}
 use Rattle.collection_model.specs.Sequences.{freq_sequence, lessened, sums_from}
 use Rattle.collection_model.proofs.Lists.{docs-of_postings, freqs-of_postings}
 use Rattle.collection_model.proofs.Sequences.{sums-length}

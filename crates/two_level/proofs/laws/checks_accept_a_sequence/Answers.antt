@@ -3,7 +3,7 @@ use Rattle.two_level.proofs.Accepting.{accepted-begins}
 use Rattle.two_level.proofs.laws.checks_accept_a_sequence.Goals as goal
 
 pub returns : goal.returns
-returns c format m bound parts words fits are pass =
+returns c format m bound parts words few fits are pass =
     accepted-begins (numbers_of format) (c.formats_have_room.ensures format)
     (record {
       bits = c.part_takes_its_payload.ensures.bits;
@@ -11,5 +11,6 @@ returns c format m bound parts words fits are pass =
       room = c.part_is_relative.ensures.room;
       within = c.part_is_relative.ensures.within;
       relative = c.part_is_relative.ensures.relative;
+      short = c.parts_are_short.ensures.all;
     })
-    c.words_are_bits.ensures.appended c.words_are_bits.ensures.words c.words_are_bits.ensures.padded words parts m bound fits are pass
+    c.words_are_bits.ensures.appended c.words_are_bits.ensures.words c.words_are_bits.ensures.padded words parts m bound few fits are pass

@@ -12,5 +12,6 @@ returns c format m bound parts used part check xs ends words fits b =
       room = c.part_is_relative.ensures.room;
       within = c.part_is_relative.ensures.within;
       relative = c.part_is_relative.ensures.relative;
+      short = c.parts_are_short.ensures.all;
     })
     c.words_are_bits.ensures.appended c.words_are_bits.ensures.bits m bound parts used xs ends words fits b)

@@ -11,5 +11,6 @@ returns c format =
       room = c.part_is_relative.ensures.room;
       within = c.part_is_relative.ensures.within;
       relative = c.part_is_relative.ensures.relative;
+      short = c.parts_are_short.ensures.all;
     })
     c.words_are_bits.ensures.appended c.words_are_bits.ensures.bits

@@ -11,4 +11,5 @@ returns c format =
       room = c.part_is_relative.ensures.room;
       within = c.part_is_relative.ensures.within;
       relative = c.part_is_relative.ensures.relative;
+      short = c.parts_are_short.ensures.all;
     })

@@ -15,6 +15,7 @@ returns c format m bound parts used xs ends words fits b =
       room = c.part_is_relative.ensures.room;
       within = c.part_is_relative.ensures.within;
       relative = c.part_is_relative.ensures.relative;
+      short = c.parts_are_short.ensures.all;
     } in
     let appended = c.words_are_bits.ensures.appended in
     let bits = c.words_are_bits.ensures.bits in (

@@ -3,10 +3,10 @@ use Rattle.bit_words.proofs.Outcomes.{on-err}
 use Rattle.part_cost.specs.Formats.{numbers_of}
 use Rattle.part_cost.specs.Payload.{payload}
 use Rattle.part_cost.specs.Span.{payload_of_part}
+use Rattle.part_cost.specs.Partition.{partition_cost}
 use Rattle.two_level.specs.EntryWords.{entry}
 use Rattle.two_level.specs.SequenceWords.{directory_from}
-use Rattle.part_cost.proofs.Growth.{payload-short}
-use Rattle.two_level.proofs.Writing.{next-part, past-less, past-most, directory-more, directory-all, extends-twice, extends-more}
+use Rattle.two_level.proofs.Writing.{next-part, past-less, past-most, directory-more, directory-all, payloads-more, payloads-short, extends-twice, extends-more}
 use Rattle.two_level.proofs.write.push_directory.Goals as goal
 
 pub universe_of_part-universe-requires-clause-within : goal.universe_of_part-universe-requires-clause-within
@@ -30,6 +30,11 @@ push_entry-requires-clause-end c =
     let n = next-part c.args.values.now c.args.ends.now c.loop-end.from c.loop-end.end-index c.loop-end-test.true c.loop-end.invariant.parts in
     omega (arith, n.within, c.requires.few)
 
+pub push_entry-requires-clause-offset : goal.push_entry-requires-clause-offset
+push_entry-requires-clause-offset c =
+    let short = payloads-short c.parts_are_short.ensures.all (numbers_of c.args.format) (c.formats_have_room.ensures c.args.format) c.args.values.now c.args.ends.now c.requires.rising c.requires.below c.requires.few c.requires.partition in
+    omega (arith, short, c.loop-end.invariant.sums)
+
 pub payload_bits-offset-requires-clause-fit : goal.payload_bits-offset-requires-clause-fit
 payload_bits-offset-requires-clause-fit c =
     let n = next-part c.args.values.now c.args.ends.now c.loop-end.from c.loop-end.end-index c.loop-end-test.true c.loop-end.invariant.parts in
@@ -45,12 +50,13 @@ payload_bits-offset-requires-clause-in_range c =
 
 pub overflow_add-offset : goal.overflow_add-offset
 overflow_add-offset c =
-    let n = next-part c.args.values.now c.args.ends.now c.loop-end.from c.loop-end.end-index c.loop-end-test.true c.loop-end.invariant.parts in
-    let end : ℕ = get_or c.args.ends.now c.loop-end.end-index 0 in
-    let most = past-most c.part_is_relative.ensures.within (numbers_of c.args.format).most_sum c.args.values.now c.requires.below end n.within in
-    let sums = (c.formats_have_room.ensures c.args.format).sums in
-    let less = past-less c.part_is_relative.ensures.room c.args.values.now c.requires.rising c.loop-end.from end n.some n.within in
-    omega (arith, most, sums, less, c.universe_of_part-universe.ensures, c.payload_bits-offset.ensures, payload-short c.universe_of_part-universe.result (end - c.loop-end.from), c.loop-end.invariant.few)
+    let xs : List ℕ = c.args.values.now in
+    let ends : List ℕ = c.args.ends.now in
+    let k : ℕ = c.loop-end.end-index in
+    let short = payloads-short c.parts_are_short.ensures.all (numbers_of c.args.format) (c.formats_have_room.ensures c.args.format) xs ends c.requires.rising c.requires.below c.requires.few c.requires.partition in
+    let pay : c.payload_bits-offset.result ≡ payload_of_part xs c.loop-end.from (get_or ends k 0) =
+    c.payload_bits-offset.ensures ∙ ap (λ u. payload u (get_or ends k 0 - c.loop-end.from)) c.universe_of_part-universe.ensures in
+    omega (arith, short, pay, payloads-more xs ends c.loop-end.from c.loop-end.offset k (partition_cost (payload_of_part xs) ends) c.loop-end-test.true c.loop-end.invariant.sums)
 
 pub loop-end-preserved : goal.loop-end-preserved
 loop-end-preserved c =
@@ -61,12 +67,11 @@ loop-end-preserved c =
     let last : ℕ = c.past_value-last.result - 1 in
     let whole : List ℕ = c.args.to.now.items ++ directory_from (numbers_of c.args.format) xs 0 0 ends in
     let n = next-part c.args.values.now c.args.ends.now c.loop-end.from c.loop-end.end-index c.loop-end-test.true c.loop-end.invariant.parts in
-    let less = past-less c.part_is_relative.ensures.room c.args.values.now c.requires.rising c.loop-end.from end n.some n.within in
     let pay : c.payload_bits-offset.result ≡ payload_of_part xs c.loop-end.from end =
     c.payload_bits-offset.ensures ∙ ap (λ u. payload u (end - c.loop-end.from)) c.universe_of_part-universe.ensures in
     record {
       parts = n.rest;
-      few = omega (arith, less, c.universe_of_part-universe.ensures, c.payload_bits-offset.ensures, payload-short c.universe_of_part-universe.result (end - c.loop-end.from), c.loop-end.invariant.few);
+      sums = omega (arith, pay, payloads-more xs ends c.loop-end.from c.loop-end.offset k (partition_cost (payload_of_part xs) ends) c.loop-end-test.true c.loop-end.invariant.sums);
       words =
           ap (λ ws. ws ++ directory_from (numbers_of c.args.format) xs end (c.loop-end.offset + c.payload_bits-offset.result) (drop (k + 1) ends)) c.in_ok-push_entry.ensures.ok
           ∙ ap (λ p. (c.loop-end.to.items ++ entry (numbers_of c.args.format) last end c.loop-end.offset) ++ directory_from (numbers_of c.args.format) xs end (c.loop-end.offset + p) (drop (k + 1) ends)) pay

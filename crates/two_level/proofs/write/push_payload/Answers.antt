@@ -16,6 +16,7 @@ write_parts-written-requires-clause-room c =
       room = c.part_is_relative.ensures.room;
       within = c.part_is_relative.ensures.within;
       relative = c.part_is_relative.ensures.relative;
+      short = c.parts_are_short.ensures.all;
     } in
     let short = whole-short laws c.args.values.now c.requires.rising c.requires.below c.args.ends.now c.requires.partition in
     let from : c.after-bits.result ≡ bits_of c.args.to.now.items = c.after-bits.ensures ∙ ap (λ v. bits_of v.items) c.replace.ensures.value in
@@ -29,6 +30,7 @@ returns-clause-ok c =
       room = c.part_is_relative.ensures.room;
       within = c.part_is_relative.ensures.within;
       relative = c.part_is_relative.ensures.relative;
+      short = c.parts_are_short.ensures.all;
     } in
     let from : c.after-bits.result ≡ bits_of c.args.to.now.items = c.after-bits.ensures ∙ ap (λ v. bits_of v.items) c.replace.ensures.value in
     let fit : All (λ w. w < 2 ^ 64) c.args.to.now.items = search rules in
@@ -46,6 +48,7 @@ returns-clause-err c =
       room = c.part_is_relative.ensures.room;
       within = c.part_is_relative.ensures.within;
       relative = c.part_is_relative.ensures.relative;
+      short = c.parts_are_short.ensures.all;
     } in
     let from : c.after-bits.result ≡ bits_of c.args.to.now.items = c.after-bits.ensures ∙ ap (λ v. bits_of v.items) c.replace.ensures.value in
     let fit : All (λ w. w < 2 ^ 64) c.args.to.now.items = search rules in

@@ -1,4 +1,4 @@
-use Rattle.std.proofs.Common.{◌≡◌, sym, ap, ◌∙◌, ℕ, ◌+◌, ◌&&◌, Bool}
+use Rattle.std.proofs.Common.{sym, ap, ◌∙◌, ℕ, ◌+◌, ◌&&◌, Bool}
 use Rattle.collection_model.specs.Marks.{has_number, is_marked}
 use Rattle.collection_model.specs.Sequences.{steps_from}
 use Rattle.collection_model.proofs.Marks.{has-doc}

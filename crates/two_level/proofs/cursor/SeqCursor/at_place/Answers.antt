@@ -1,8 +1,9 @@
 use Rattle.std.proofs.Common.{sym}
 use Rattle.part_cost.specs.Formats.{numbers_of}
 use Rattle.two_level.proofs.Standing.{place-here}
+use Rattle.two_level.specs.DirectorySequence.{words_of}
 use Rattle.two_level.proofs.cursor.SeqCursor.at_place.Goals as goal
 
 pub returns-clause-place : goal.returns-clause-place
 returns-clause-place c =
-    sym (place-here (numbers_of c.args.directory.format) c.args.directory.words.now c.args.directory.parts c.args.k c.hold_at-value.result.0 c.hold_at-value.result.1 c.hold_at-value.ensures.lies)
+    sym (place-here (numbers_of c.args.directory.format) (words_of c.args.directory) c.args.directory.parts c.args.k c.hold_at-value.result.0 c.hold_at-value.result.1 c.hold_at-value.ensures.lies)

@@ -3,6 +3,7 @@ use Rattle.std.proofs.lemmas.List.{get_or-take, length-take-le}
 use Rattle.collection_model.specs.FormatNumbers.{FormatNumbers}
 use Rattle.collection_model.specs.NextBelow.{AreNextBelow}
 use Rattle.part_cost.specs.Formats.{numbers_of}
+use Rattle.two_level.specs.DirectorySequence.{words_of}
 use Rattle.two_level.specs.declared.held.HeldPart.{HeldPart}
 use Rattle.two_level.specs.SequenceParts.{HoldsValues, LiesIn, StandsBehind}
 use Rattle.two_level.specs.SequenceView.{sequence_stated, place_at_least}
@@ -55,9 +56,9 @@ values_below-count-requires-clause-values c =
     let d = s.directory in
     let format = numbers_of d.format in
     let place : ℕ = c.place-place.result in
-    let at : place_at_least (sequence_stated format d.words.now d.parts).values s.counted s.value ≡ place = ap (λ p. p.place) c.self.view_is ∙ sym c.place-place.ensures in
-    let lies = lies-at format d.words.now d.parts s.counted s.held c.in-Some.held s.known s.value place c.in-Some.is c.self.invariant.0 c.self.invariant.1 at in
-    ((sequence_stated format d.words.now d.parts).values, lies.0.values, lies.3)
+    let at : place_at_least (sequence_stated format (words_of d) d.parts).values s.counted s.value ≡ place = ap (λ p. p.place) c.self.view_is ∙ sym c.place-place.ensures in
+    let lies = lies-at format (words_of d) d.parts s.counted s.held c.in-Some.held s.known s.value place c.in-Some.is c.self.invariant.0 c.self.invariant.1 at in
+    ((sequence_stated format (words_of d) d.parts).values, lies.0.values, lies.3)
 
 pub values_below-count-requires-clause-before : goal.values_below-count-requires-clause-before
 values_below-count-requires-clause-before c =
@@ -65,8 +66,8 @@ values_below-count-requires-clause-before c =
     let d = s.directory in
     let format = numbers_of d.format in
     let place : ℕ = c.place-place.result in
-    let at : place_at_least (sequence_stated format d.words.now d.parts).values s.counted s.value ≡ place = ap (λ p. p.place) c.self.view_is ∙ sym c.place-place.ensures in
-    let lies = lies-at format d.words.now d.parts s.counted s.held c.in-Some.held s.known s.value place c.in-Some.is c.self.invariant.0 c.self.invariant.1 at in
+    let at : place_at_least (sequence_stated format (words_of d) d.parts).values s.counted s.value ≡ place = ap (λ p. p.place) c.self.view_is ∙ sym c.place-place.ensures in
+    let lies = lies-at format (words_of d) d.parts s.counted s.held c.in-Some.held s.known s.value place c.in-Some.is c.self.invariant.0 c.self.invariant.1 at in
     lies.2
 
 pub overflow_sub-last : goal.overflow_sub-last
@@ -77,10 +78,10 @@ overflow_sub-last c =
     let place : ℕ = c.place-place.result in
     let n : ℕ = c.values_below-count.result in
     let given : List ℕ = c.values_below-count.new.to in
-    let at : place_at_least (sequence_stated format d.words.now d.parts).values s.counted s.value ≡ place = ap (λ p. p.place) c.self.view_is ∙ sym c.place-place.ensures in
-    let lies = lies-at format d.words.now d.parts s.counted s.held c.in-Some.held s.known s.value place c.in-Some.is c.self.invariant.0 c.self.invariant.1 at in
-    let below = subst (λ p. slice_index (sequence_stated format d.words.now d.parts).values p < c.args.x) at (subst (λ p. slice_index p.sequence.values p.place < c.args.x) (sym c.self.view_is) c.requires.below) in
-    let g = gives format d.words.now d.parts place c.args.x s.value c.in-Some.held given n lies below
+    let at : place_at_least (sequence_stated format (words_of d) d.parts).values s.counted s.value ≡ place = ap (λ p. p.place) c.self.view_is ∙ sym c.place-place.ensures in
+    let lies = lies-at format (words_of d) d.parts s.counted s.held c.in-Some.held s.known s.value place c.in-Some.is c.self.invariant.0 c.self.invariant.1 at in
+    let below = subst (λ p. slice_index (sequence_stated format (words_of d) d.parts).values p < c.args.x) at (subst (λ p. slice_index p.sequence.values p.place < c.args.x) (sym c.self.view_is) c.requires.below) in
+    let g = gives format (words_of d) d.parts place c.args.x s.value c.in-Some.held given n lies below
     (omega (arith, c.requires.some, c.values_below-count.ensures.room)) c.values_below-count.ensures.values in
     omega (arith, g.some)
 
@@ -92,15 +93,15 @@ invariant_of-self c =
     let place : ℕ = c.place-place.result in
     let n : ℕ = c.values_below-count.result in
     let given : List ℕ = c.values_below-count.new.to in
-    let at : place_at_least (sequence_stated format d.words.now d.parts).values s.counted s.value ≡ place = ap (λ p. p.place) c.self.view_is ∙ sym c.place-place.ensures in
-    let lies = lies-at format d.words.now d.parts s.counted s.held c.in-Some.held s.known s.value place c.in-Some.is c.self.invariant.0 c.self.invariant.1 at in
-    let below = subst (λ p. slice_index (sequence_stated format d.words.now d.parts).values p < c.args.x) at (subst (λ p. slice_index p.sequence.values p.place < c.args.x) (sym c.self.view_is) c.requires.below) in
-    let g = gives format d.words.now d.parts place c.args.x s.value c.in-Some.held given n lies below
+    let at : place_at_least (sequence_stated format (words_of d) d.parts).values s.counted s.value ≡ place = ap (λ p. p.place) c.self.view_is ∙ sym c.place-place.ensures in
+    let lies = lies-at format (words_of d) d.parts s.counted s.held c.in-Some.held s.known s.value place c.in-Some.is c.self.invariant.0 c.self.invariant.1 at in
+    let below = subst (λ p. slice_index (sequence_stated format (words_of d) d.parts).values p < c.args.x) at (subst (λ p. slice_index p.sequence.values p.place < c.args.x) (sym c.self.view_is) c.requires.below) in
+    let g = gives format (words_of d) d.parts place c.args.x s.value c.in-Some.held given n lies below
     (omega (arith, c.requires.some, c.values_below-count.ensures.room)) c.values_below-count.ensures.values in
-    let stands : LiesIn format d.words.now d.parts (place + (n - 1)) (Some c.in-Some.held) (slice_index given (n - 1)) =
+    let stands : LiesIn format (words_of d) d.parts (place + (n - 1)) (Some c.in-Some.held) (slice_index given (n - 1)) =
     (lies.0, omega (arith, lies.1), omega (arith, g.ends, g.some), g.last) in
-    let stands = subst (λ h. LiesIn format d.words.now d.parts (place + (n - 1)) h (slice_index given (n - 1))) (sym c.in-Some.is) stands in
-    (stands, stands-here format d.words.now d.parts (place + (n - 1)) s.held (slice_index given (n - 1)) stands)
+    let stands = subst (λ h. LiesIn format (words_of d) d.parts (place + (n - 1)) h (slice_index given (n - 1))) (sym c.in-Some.is) stands in
+    (stands, stands-here format (words_of d) d.parts (place + (n - 1)) s.held (slice_index given (n - 1)) stands)
 
 pub next-requires : goal.next-requires
 next-requires c =
@@ -110,15 +111,15 @@ next-requires c =
     let place : ℕ = c.place-place.result in
     let n : ℕ = c.values_below-count.result in
     let given : List ℕ = c.values_below-count.new.to in
-    let at : place_at_least (sequence_stated format d.words.now d.parts).values s.counted s.value ≡ place = ap (λ p. p.place) c.self.view_is ∙ sym c.place-place.ensures in
-    let lies = lies-at format d.words.now d.parts s.counted s.held c.in-Some.held s.known s.value place c.in-Some.is c.self.invariant.0 c.self.invariant.1 at in
-    let below = subst (λ p. slice_index (sequence_stated format d.words.now d.parts).values p < c.args.x) at (subst (λ p. slice_index p.sequence.values p.place < c.args.x) (sym c.self.view_is) c.requires.below) in
-    let g = gives format d.words.now d.parts place c.args.x s.value c.in-Some.held given n lies below
+    let at : place_at_least (sequence_stated format (words_of d) d.parts).values s.counted s.value ≡ place = ap (λ p. p.place) c.self.view_is ∙ sym c.place-place.ensures in
+    let lies = lies-at format (words_of d) d.parts s.counted s.held c.in-Some.held s.known s.value place c.in-Some.is c.self.invariant.0 c.self.invariant.1 at in
+    let below = subst (λ p. slice_index (sequence_stated format (words_of d) d.parts).values p < c.args.x) at (subst (λ p. slice_index p.sequence.values p.place < c.args.x) (sym c.self.view_is) c.requires.below) in
+    let g = gives format (words_of d) d.parts place c.args.x s.value c.in-Some.held given n lies below
     (omega (arith, c.requires.some, c.values_below-count.ensures.room)) c.values_below-count.ensures.values in
-    let stands : LiesIn format d.words.now d.parts (place + (n - 1)) (Some c.in-Some.held) (slice_index given (n - 1)) =
+    let stands : LiesIn format (words_of d) d.parts (place + (n - 1)) (Some c.in-Some.held) (slice_index given (n - 1)) =
     (lies.0, omega (arith, lies.1), omega (arith, g.ends, g.some), g.last) in
-    let stands = subst (λ h. LiesIn format d.words.now d.parts (place + (n - 1)) h (slice_index given (n - 1))) (sym c.in-Some.is) stands in
-    omega (arith, place-here format d.words.now d.parts (place + (n - 1)) s.held (slice_index given (n - 1)) stands, g.within, g.some)
+    let stands = subst (λ h. LiesIn format (words_of d) d.parts (place + (n - 1)) h (slice_index given (n - 1))) (sym c.in-Some.is) stands in
+    omega (arith, place-here format (words_of d) d.parts (place + (n - 1)) s.held (slice_index given (n - 1)) stands, g.within, g.some)
 
 pub returns-clause-place : goal.returns-clause-place
 returns-clause-place c =
@@ -128,15 +129,15 @@ returns-clause-place c =
     let place : ℕ = c.place-place.result in
     let n : ℕ = c.values_below-count.result in
     let given : List ℕ = c.values_below-count.new.to in
-    let at : place_at_least (sequence_stated format d.words.now d.parts).values s.counted s.value ≡ place = ap (λ p. p.place) c.self.view_is ∙ sym c.place-place.ensures in
-    let lies = lies-at format d.words.now d.parts s.counted s.held c.in-Some.held s.known s.value place c.in-Some.is c.self.invariant.0 c.self.invariant.1 at in
-    let below = subst (λ p. slice_index (sequence_stated format d.words.now d.parts).values p < c.args.x) at (subst (λ p. slice_index p.sequence.values p.place < c.args.x) (sym c.self.view_is) c.requires.below) in
-    let g = gives format d.words.now d.parts place c.args.x s.value c.in-Some.held given n lies below
+    let at : place_at_least (sequence_stated format (words_of d) d.parts).values s.counted s.value ≡ place = ap (λ p. p.place) c.self.view_is ∙ sym c.place-place.ensures in
+    let lies = lies-at format (words_of d) d.parts s.counted s.held c.in-Some.held s.known s.value place c.in-Some.is c.self.invariant.0 c.self.invariant.1 at in
+    let below = subst (λ p. slice_index (sequence_stated format (words_of d) d.parts).values p < c.args.x) at (subst (λ p. slice_index p.sequence.values p.place < c.args.x) (sym c.self.view_is) c.requires.below) in
+    let g = gives format (words_of d) d.parts place c.args.x s.value c.in-Some.held given n lies below
     (omega (arith, c.requires.some, c.values_below-count.ensures.room)) c.values_below-count.ensures.values in
-    let stands : LiesIn format d.words.now d.parts (place + (n - 1)) (Some c.in-Some.held) (slice_index given (n - 1)) =
+    let stands : LiesIn format (words_of d) d.parts (place + (n - 1)) (Some c.in-Some.held) (slice_index given (n - 1)) =
     (lies.0, omega (arith, lies.1), omega (arith, g.ends, g.some), g.last) in
-    let stands = subst (λ h. LiesIn format d.words.now d.parts (place + (n - 1)) h (slice_index given (n - 1))) (sym c.in-Some.is) stands in
-    omega (arith, c.next.ensures.place, place-here format d.words.now d.parts (place + (n - 1)) s.held (slice_index given (n - 1)) stands, g.some, c.place-place.ensures)
+    let stands = subst (λ h. LiesIn format (words_of d) d.parts (place + (n - 1)) h (slice_index given (n - 1))) (sym c.in-Some.is) stands in
+    omega (arith, c.next.ensures.place, place-here format (words_of d) d.parts (place + (n - 1)) s.held (slice_index given (n - 1)) stands, g.some, c.place-place.ensures)
 
 pub returns-clause-some : goal.returns-clause-some
 returns-clause-some c =
@@ -146,10 +147,10 @@ returns-clause-some c =
     let place : ℕ = c.place-place.result in
     let n : ℕ = c.values_below-count.result in
     let given : List ℕ = c.values_below-count.new.to in
-    let at : place_at_least (sequence_stated format d.words.now d.parts).values s.counted s.value ≡ place = ap (λ p. p.place) c.self.view_is ∙ sym c.place-place.ensures in
-    let lies = lies-at format d.words.now d.parts s.counted s.held c.in-Some.held s.known s.value place c.in-Some.is c.self.invariant.0 c.self.invariant.1 at in
-    let below = subst (λ p. slice_index (sequence_stated format d.words.now d.parts).values p < c.args.x) at (subst (λ p. slice_index p.sequence.values p.place < c.args.x) (sym c.self.view_is) c.requires.below) in
-    let g = gives format d.words.now d.parts place c.args.x s.value c.in-Some.held given n lies below
+    let at : place_at_least (sequence_stated format (words_of d) d.parts).values s.counted s.value ≡ place = ap (λ p. p.place) c.self.view_is ∙ sym c.place-place.ensures in
+    let lies = lies-at format (words_of d) d.parts s.counted s.held c.in-Some.held s.known s.value place c.in-Some.is c.self.invariant.0 c.self.invariant.1 at in
+    let below = subst (λ p. slice_index (sequence_stated format (words_of d) d.parts).values p < c.args.x) at (subst (λ p. slice_index p.sequence.values p.place < c.args.x) (sym c.self.view_is) c.requires.below) in
+    let g = gives format (words_of d) d.parts place c.args.x s.value c.in-Some.held given n lies below
     (omega (arith, c.requires.some, c.values_below-count.ensures.room)) c.values_below-count.ensures.values in
     g.some
 
@@ -161,10 +162,10 @@ returns-clause-values c =
     let place : ℕ = c.place-place.result in
     let n : ℕ = c.values_below-count.result in
     let given : List ℕ = c.values_below-count.new.to in
-    let at : place_at_least (sequence_stated format d.words.now d.parts).values s.counted s.value ≡ place = ap (λ p. p.place) c.self.view_is ∙ sym c.place-place.ensures in
-    let lies = lies-at format d.words.now d.parts s.counted s.held c.in-Some.held s.known s.value place c.in-Some.is c.self.invariant.0 c.self.invariant.1 at in
-    let below = subst (λ p. slice_index (sequence_stated format d.words.now d.parts).values p < c.args.x) at (subst (λ p. slice_index p.sequence.values p.place < c.args.x) (sym c.self.view_is) c.requires.below) in
-    let g = gives format d.words.now d.parts place c.args.x s.value c.in-Some.held given n lies below
+    let at : place_at_least (sequence_stated format (words_of d) d.parts).values s.counted s.value ≡ place = ap (λ p. p.place) c.self.view_is ∙ sym c.place-place.ensures in
+    let lies = lies-at format (words_of d) d.parts s.counted s.held c.in-Some.held s.known s.value place c.in-Some.is c.self.invariant.0 c.self.invariant.1 at in
+    let below = subst (λ p. slice_index (sequence_stated format (words_of d) d.parts).values p < c.args.x) at (subst (λ p. slice_index p.sequence.values p.place < c.args.x) (sym c.self.view_is) c.requires.below) in
+    let g = gives format (words_of d) d.parts place c.args.x s.value c.in-Some.held given n lies below
     (omega (arith, c.requires.some, c.values_below-count.ensures.room)) c.values_below-count.ensures.values in
     subst (λ p. AreNextBelow (take (p + n) c.args.self.now.sequence.values) p c.args.x given n) c.place-place.ensures
     (subst (λ p. AreNextBelow (take (place + n) p.sequence.values) place c.args.x given n) c.self.view_is g.values)

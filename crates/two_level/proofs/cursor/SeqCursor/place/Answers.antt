@@ -1,5 +1,6 @@
 use Rattle.std.proofs.Common.{◌≡◌, ◌+◌, List, ℕ, subst, arith}
 use Rattle.part_cost.specs.Formats.{numbers_of}
+use Rattle.two_level.specs.DirectorySequence.{words_of}
 use Rattle.two_level.specs.SequenceFault.{stated_last}
 use Rattle.two_level.specs.SequenceView.{SequenceView, sequence_stated}
 use Rattle.two_level.specs.SequenceParts.{LiesIn, StandsBehind}
@@ -11,10 +12,10 @@ place_from-requires-clause-reached c =
     let s = c.self.inside in
     let d = s.directory in
     let part = c.in-Some.held in
-    let v : SequenceView = sequence_stated (numbers_of d.format) d.words.now d.parts in
-    let lies = subst (λ h. LiesIn (numbers_of d.format) d.words.now d.parts s.counted h s.known) c.in-Some.is c.self.invariant.0 in
+    let v : SequenceView = sequence_stated (numbers_of d.format) (words_of d) d.parts in
+    let lies = subst (λ h. LiesIn (numbers_of d.format) (words_of d) d.parts s.counted h s.known) c.in-Some.is c.self.invariant.0 in
     let behind = subst (λ h. StandsBehind h v.values s.counted s.value) c.in-Some.is c.self.invariant.1 in
-    let most = below-last (numbers_of d.format) d.words.now d.parts part.index (stated_last (numbers_of d.format) d.words.now part.index + 1) v d.stated lies.0.within (omega arith)
+    let most = below-last (numbers_of d.format) (words_of d) d.parts part.index (stated_last (numbers_of d.format) (words_of d) part.index + 1) v d.stated lies.0.within (omega arith)
     behind.place (omega (arith, behind.before, lies.0.to)) in
     omega (arith, most, behind.value_there, lies.0.last)
 
@@ -22,7 +23,7 @@ pub returns-then-self : goal.returns-then-self
 returns-then-self c =
     let s = c.self.inside in
     let d = s.directory in
-    let xs : List ℕ = (sequence_stated (numbers_of d.format) d.words.now d.parts).values in
-    let lies = subst (λ h. LiesIn (numbers_of d.format) d.words.now d.parts s.counted h s.known) c.in-Some.is c.self.invariant.0 in
+    let xs : List ℕ = (sequence_stated (numbers_of d.format) (words_of d) d.parts).values in
+    let lies = subst (λ h. LiesIn (numbers_of d.format) (words_of d) d.parts s.counted h s.known) c.in-Some.is c.self.invariant.0 in
     subst (λ p. c.place_from.result ≡ p.place) c.self.view_is
     (found-first xs s.counted c.place_from.result s.value (c.place_from.ensures xs lies.0.values lies.3))

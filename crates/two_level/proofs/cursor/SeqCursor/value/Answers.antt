@@ -2,6 +2,7 @@ use Rattle.std.proofs.Common.{◌<◌, ◌≡◌, length, sym, subst}
 use Rattle.std.specs.Prelude.{slice_index}
 use Rattle.part_cost.specs.Formats.{numbers_of}
 use Rattle.two_level.proofs.Standing.{value-there}
+use Rattle.two_level.specs.DirectorySequence.{words_of}
 use Rattle.two_level.proofs.cursor.SeqCursor.value.Goals as goal
 
 pub returns : goal.returns
@@ -10,4 +11,4 @@ returns c =
     let d = s.directory in
     let within = subst (λ p. p.place < length p.sequence.values) (sym c.self.view_is) c.requires.within in
     subst (λ p. s.value ≡ slice_index p.sequence.values p.place) c.self.view_is
-    (value-there (numbers_of d.format) d.words.now d.parts s.counted s.held s.known s.value c.self.invariant.0 c.self.invariant.1 within)
+    (value-there (numbers_of d.format) (words_of d) d.parts s.counted s.held s.known s.value c.self.invariant.0 c.self.invariant.1 within)

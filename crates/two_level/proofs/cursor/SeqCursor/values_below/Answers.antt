@@ -6,14 +6,15 @@ use Rattle.collection_model.proofs.NextBelow.{AreGiven, given-none}
 use Rattle.two_level.proofs.Blocks.{given-behind, of-part}
 use Rattle.two_level.proofs.Parts.{lies-within}
 use Rattle.two_level.proofs.Standing.{lies-there}
+use Rattle.two_level.specs.DirectorySequence.{words_of}
 use Rattle.two_level.proofs.cursor.SeqCursor.values_below.Goals as goal
 
 pub overflow_sub-self-inside : goal.overflow_sub-self-inside
 overflow_sub-self-inside c =
     let s = c.self.inside in
     let d = s.directory in
-    let there = lies-there (numbers_of d.format) d.words.now d.parts s.counted s.held s.known s.value c.self.invariant.0 c.self.invariant.1 in
-    let within = lies-within (numbers_of d.format) d.words.now d.parts _ s.held s.value there in
+    let there = lies-there (numbers_of d.format) (words_of d) d.parts s.counted s.held s.known s.value c.self.invariant.0 c.self.invariant.1 in
+    let within = lies-within (numbers_of d.format) (words_of d) d.parts _ s.held s.value there in
     let fit : c.args.self.now.place ≤ d.m = subst (λ p. p.place ≤ d.m) c.self.view_is (omega (arith, within, d.count)) in
     omega (arith, fit, c.place.ensures)
 
@@ -21,8 +22,8 @@ pub given-init : goal.given-init
 given-init c =
     let s = c.self.inside in
     let d = s.directory in
-    let there = lies-there (numbers_of d.format) d.words.now d.parts s.counted s.held s.known s.value c.self.invariant.0 c.self.invariant.1 in
-    let within = subst (λ p. p.place ≤ length p.sequence.values) c.self.view_is (lies-within (numbers_of d.format) d.words.now d.parts _ s.held s.value there) in
+    let there = lies-there (numbers_of d.format) (words_of d) d.parts s.counted s.held s.known s.value c.self.invariant.0 c.self.invariant.1 in
+    let within = subst (λ p. p.place ≤ length p.sequence.values) c.self.view_is (lies-within (numbers_of d.format) (words_of d) d.parts _ s.held s.value there) in
     let count = subst (λ p. d.m ≡ length p.sequence.values) c.self.view_is d.count in
     record {
       sequence = refl;

@@ -1,6 +1,7 @@
 use Rattle.std.proofs.Common.{◌≡◌, ℕ, ◌+◌, ◌-◌, ◌<◌, ◌≤◌, List, sym, ap, ◌∙◌, subst, arith}
 use Rattle.part_cost.specs.Formats.{numbers_of}
 use Rattle.part_cost.specs.Span.{universe}
+use Rattle.two_level.specs.DirectorySequence.{words_of}
 use Rattle.two_level.specs.SequenceFault.{stated_end, end_before}
 use Rattle.two_level.specs.SequenceView.{sequence_stated}
 use Rattle.two_level.specs.LongSteps.{IsFirstStep}
@@ -16,7 +17,7 @@ overflow_sub-part c =
 pub returns-then-part-count : goal.returns-then-part-count
 returns-then-part-count c =
     let format = numbers_of c.args.self.now.format in
-    let words = c.args.self.now.words.now in
+    let words = (words_of c.args.self.now) in
     let d = c.args.self.now.stated in
     let p = d.part c.args.index c.requires.within in
     let i : ℕ = end_before format words c.args.index in
@@ -29,7 +30,7 @@ returns-then-part-count c =
 pub returns-then-count-eq1 : goal.returns-then-count-eq1
 returns-then-count-eq1 c =
     let format = numbers_of c.args.self.now.format in
-    let words = c.args.self.now.words.now in
+    let words = (words_of c.args.self.now) in
     let d = c.args.self.now.stated in
     let p = d.part c.args.index c.requires.within in
     let i : ℕ = end_before format words c.args.index in
@@ -43,7 +44,7 @@ returns-then-count-eq1 c =
 pub returns-else-count-eq1 : goal.returns-else-count-eq1
 returns-else-count-eq1 c =
     let format = numbers_of c.args.self.now.format in
-    let words = c.args.self.now.words.now in
+    let words = (words_of c.args.self.now) in
     let xs : List ℕ = (sequence_stated format words c.args.self.now.parts).values in
     let held = c.hold.ensures.held in
     let to : c.hold.result.part.to ≡ c.args.part.to = held.to ∙ ap (stated_end format words) c.hold.ensures.index ∙ sym c.requires.ends in

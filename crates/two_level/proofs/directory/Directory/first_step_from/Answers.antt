@@ -1,6 +1,7 @@
 use Rattle.std.proofs.Common.{◌≡◌, refl, ℕ, ◌+◌, ◌<◌, List, length, inl, inr, ap, sym, ◌∙◌, subst, arith}
 use Rattle.std.proofs.lemmas.Bool.{cases_lt}
 use Rattle.part_cost.specs.Formats.{numbers_of}
+use Rattle.two_level.specs.DirectorySequence.{words_of}
 use Rattle.two_level.specs.SequenceFault.{end_before}
 use Rattle.two_level.specs.SequenceView.{sequence_stated}
 use Rattle.two_level.specs.LongSteps.{IsFirstStep}
@@ -10,7 +11,7 @@ use Rattle.two_level.proofs.directory.Directory.first_step_from.Goals as goal
 
 pub returns-then-least-le1 : goal.returns-then-least-le1
 returns-then-least-le1 c =
-    let xs : List ℕ = (sequence_stated (numbers_of c.args.self.now.format) c.args.self.now.words.now c.args.self.now.parts).values in
+    let xs : List ℕ = (sequence_stated (numbers_of c.args.self.now.format) (words_of c.args.self.now) c.args.self.now.parts).values in
     let d = c.args.self.now.stated in
     let count : c.args.self.now.m ≡ length xs = c.args.self.now.count in
     elim c.then-least-le1.either [
@@ -21,7 +22,7 @@ returns-then-least-le1 c =
 pub returns-then-found-part : goal.returns-then-found-part
 returns-then-found-part c =
     let format = numbers_of c.args.self.now.format in
-    let words = c.args.self.now.words.now in
+    let words = (words_of c.args.self.now) in
     let xs : List ℕ = (sequence_stated format words c.args.self.now.parts).values in
     let d = c.args.self.now.stated in
     let count : c.args.self.now.m ≡ length xs = c.args.self.now.count in
@@ -37,7 +38,7 @@ returns-then-found-part c =
 pub parts-preserved : goal.parts-preserved
 parts-preserved c =
     let format = numbers_of c.args.self.now.format in
-    let words = c.args.self.now.words.now in
+    let words = (words_of c.args.self.now) in
     let parts : ℕ = c.args.self.now.parts in
     let xs : List ℕ = (sequence_stated format words parts).values in
     let d = c.args.self.now.stated in
@@ -70,7 +71,7 @@ parts-preserved c =
 
 pub returns : goal.returns
 returns c =
-    let xs : List ℕ = (sequence_stated (numbers_of c.args.self.now.format) c.args.self.now.words.now c.args.self.now.parts).values in
+    let xs : List ℕ = (sequence_stated (numbers_of c.args.self.now.format) (words_of c.args.self.now) c.args.self.now.parts).values in
     let count : c.args.self.now.m ≡ length xs = c.args.self.now.count in
     let so_far = c.parts.invariant in
     let end : c.parts.place ≡ c.args.self.now.m = omega (arith, so_far.within, c.parts-test.false) in

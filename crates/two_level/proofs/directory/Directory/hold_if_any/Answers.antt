@@ -1,5 +1,6 @@
 use Rattle.std.proofs.Common.{◌≡◌, ap, ◌∙◌, arith}
 use Rattle.part_cost.specs.Formats.{numbers_of}
+use Rattle.two_level.specs.DirectorySequence.{words_of}
 use Rattle.two_level.specs.SequenceFault.{end_before}
 use Rattle.two_level.proofs.directory.Directory.hold_if_any.Goals as goal
 
@@ -7,5 +8,5 @@ pub returns-else-part-self : goal.returns-else-part-self
 returns-else-part-self c =
     let d = c.args.self.now.stated in
     record {
-      lies = ap (end_before (numbers_of c.args.self.now.format) c.args.self.now.words.now) (let e : c.args.part ≡ c.args.self.now.parts = omega (arith, c.requires.within, c.if-part-self.false) in e) ∙ d.end;
+      lies = ap (end_before (numbers_of c.args.self.now.format) (words_of c.args.self.now)) (let e : c.args.part ≡ c.args.self.now.parts = omega (arith, c.requires.within, c.if-part-self.false) in e) ∙ d.end;
     }

@@ -4,6 +4,7 @@ use Rattle.std.proofs.lemmas.List.{take_all}
 use Rattle.collection_model.specs.Sequences.{steps_from}
 use Rattle.collection_model.proofs.Sequences.{steps-length}
 use Rattle.part_cost.specs.Formats.{numbers_of}
+use Rattle.two_level.specs.DirectorySequence.{words_of}
 use Rattle.two_level.specs.SequenceFault.{stated_end, end_before}
 use Rattle.two_level.specs.SequenceView.{sequence_stated}
 use Rattle.two_level.specs.LongSteps.{count_reaching}
@@ -22,7 +23,7 @@ overflow_add-universe c =
 pub parts-preserved : goal.parts-preserved
 parts-preserved c =
     let format = numbers_of c.args.self.now.format in
-    let words = c.args.self.now.words.now in
+    let words = (words_of c.args.self.now) in
     let xs : List ℕ = (sequence_stated format words c.args.self.now.parts).values in
     let steps : List ℕ = steps_from 0 xs in
     let d = c.args.self.now.stated in
@@ -62,7 +63,7 @@ parts-preserved c =
 pub returns-clause-kept : goal.returns-clause-kept
 returns-clause-kept c t =
     let format = numbers_of c.args.self.now.format in
-    let words = c.args.self.now.words.now in
+    let words = (words_of c.args.self.now) in
     let xs : List ℕ = (sequence_stated format words c.args.self.now.parts).values in
     let d = c.args.self.now.stated in
     let end : c.parts.index ≡ c.args.self.now.parts = omega (arith, c.parts.auto.index-end, c.parts-test.false) in

@@ -1,6 +1,7 @@
 use Rattle.std.proofs.Common.{◌≡◌, ℕ, ◌+◌, ◌≤◌, length, take}
 use Rattle.collection_model.specs.Sequences.{steps_from}
 use Rattle.part_cost.specs.Formats.{numbers_of}
+use Rattle.two_level.specs.DirectorySequence.{words_of}
 use Rattle.two_level.specs.SequenceFault.{end_before}
 use Rattle.two_level.specs.SequenceView.{sequence_stated}
 use Rattle.two_level.specs.LongSteps.{count_reaching}
@@ -9,5 +10,5 @@ use Rattle.two_level.proofs.directory.Directory.keep_long_parts.Given as goal
 abbrev pub invariant-parts : goal.invariant-parts
 invariant-parts l = record {
   same_kept : length l.kept ≡ length l.fn.kept;
-  kept_few : (t : ℕ) → count_reaching t l.kept ≤ count_reaching t l.fn.kept + count_reaching t (take (end_before (numbers_of l.self.format) l.self.words.now l.index) (steps_from 0 (sequence_stated (numbers_of l.self.format) l.self.words.now l.self.parts).values));
+  kept_few : (t : ℕ) → count_reaching t l.kept ≤ count_reaching t l.fn.kept + count_reaching t (take (end_before (numbers_of l.self.format) (words_of l.self) l.index) (steps_from 0 (sequence_stated (numbers_of l.self.format) (words_of l.self) l.self.parts).values));
 }

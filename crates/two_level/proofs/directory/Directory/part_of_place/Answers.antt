@@ -1,6 +1,7 @@
 use Rattle.std.proofs.Common.{◌≡◌, ℕ, suc, ◌+◌, ◌-◌, ◌/◌, ◌<◌, inl, inr, refl, ap, arith}
 use Rattle.std.proofs.lemmas.Bool.{cases_lt}
 use Rattle.part_cost.specs.Formats.{numbers_of}
+use Rattle.two_level.specs.DirectorySequence.{words_of}
 use Rattle.two_level.specs.SequenceFault.{end_before}
 use Rattle.two_level.proofs.Parts.{end-before-next}
 use Rattle.two_level.proofs.directory.Directory.part_of_place.Goals as goal
@@ -9,7 +10,7 @@ pub loop-low-init : goal.loop-low-init
 loop-low-init c =
     let d = c.args.self.now in
     let format = numbers_of d.format in
-    let words = d.words.now in
+    let words = (words_of d) in
     let none : end_before format words 0 ≡ 0 = refl in
     let some : 0 < d.parts =
     elim (cases_lt 0 d.parts) [
@@ -33,6 +34,6 @@ loop-low-preserved c =
     record {
       up = omega (arith, c.loop-low-test.true, so_far.up);
       within = so_far.within;
-      from = omega (arith, end-before-next (numbers_of d.format) d.words.now middle, c.entry.ensures.end, c.if-place-entry.false);
+      from = omega (arith, end-before-next (numbers_of d.format) (words_of d) middle, c.entry.ensures.end, c.if-place-entry.false);
       to = so_far.to;
     }

@@ -1,5 +1,6 @@
 use Rattle.std.proofs.Common.{ℕ, List, arith}
 use Rattle.part_cost.specs.Formats.{numbers_of}
+use Rattle.two_level.specs.DirectorySequence.{words_of}
 use Rattle.two_level.specs.SequenceView.{lasts_stated}
 use Rattle.two_level.proofs.Places.{place-within}
 use Rattle.two_level.proofs.Probes.{count-lasts, stated-before, stated-reached}
@@ -10,12 +11,12 @@ returns-clause-after c = omega (arith, c.galloped.ensures)
 
 pub returns-clause-within : goal.returns-clause-within
 returns-clause-within c =
-    let lasts : List ℕ = lasts_stated (numbers_of c.args.self.now.format) c.args.self.now.words.now c.args.self.now.parts in
-    let count = count-lasts (numbers_of c.args.self.now.format) c.args.self.now.words.now c.args.self.now.parts in
+    let lasts : List ℕ = lasts_stated (numbers_of c.args.self.now.format) (words_of c.args.self.now) c.args.self.now.parts in
+    let count = count-lasts (numbers_of c.args.self.now.format) (words_of c.args.self.now) c.args.self.now.parts in
     omega (arith, c.galloped.ensures, count, place-within lasts c.args.part c.args.x (omega (arith, count, c.requires.within)))
 
 pub returns-clause-before : goal.returns-clause-before
-returns-clause-before c lt = stated-before (numbers_of c.args.self.now.format) c.args.self.now.words.now c.args.self.now.parts c.args.part c.galloped.result c.args.x c.requires.within c.galloped.ensures lt
+returns-clause-before c lt = stated-before (numbers_of c.args.self.now.format) (words_of c.args.self.now) c.args.self.now.parts c.args.part c.galloped.result c.args.x c.requires.within c.galloped.ensures lt
 
 pub returns-clause-reached : goal.returns-clause-reached
-returns-clause-reached c lt = stated-reached (numbers_of c.args.self.now.format) c.args.self.now.words.now c.args.self.now.parts c.args.part c.galloped.result c.args.x c.requires.within c.galloped.ensures lt
+returns-clause-reached c lt = stated-reached (numbers_of c.args.self.now.format) (words_of c.args.self.now) c.args.self.now.parts c.args.part c.galloped.result c.args.x c.requires.within c.galloped.ensures lt

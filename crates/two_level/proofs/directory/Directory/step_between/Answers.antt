@@ -1,6 +1,7 @@
 use Rattle.std.proofs.Common.{◌≡◌, ℕ, ◌+◌, ◌<◌, List, inl, inr, ap, arith}
 use Rattle.std.proofs.lemmas.Bool.{cases_lt}
 use Rattle.part_cost.specs.Formats.{numbers_of}
+use Rattle.two_level.specs.DirectorySequence.{words_of}
 use Rattle.two_level.specs.SequenceFault.{end_before}
 use Rattle.two_level.specs.SequenceView.{sequence_stated}
 use Rattle.two_level.specs.Steps.{greatest_step}
@@ -11,7 +12,7 @@ use Rattle.two_level.proofs.directory.Directory.step_between.Goals as goal
 pub parts-preserved : goal.parts-preserved
 parts-preserved c =
     let format = numbers_of c.args.self.now.format in
-    let words = c.args.self.now.words.now in
+    let words = (words_of c.args.self.now) in
     let parts : ℕ = c.args.self.now.parts in
     let xs : List ℕ = (sequence_stated format words parts).values in
     let d = c.args.self.now.stated in
@@ -45,6 +46,6 @@ parts-preserved c =
 
 pub returns : goal.returns
 returns c =
-    let xs : List ℕ = (sequence_stated (numbers_of c.args.self.now.format) c.args.self.now.words.now c.args.self.now.parts).values in
+    let xs : List ℕ = (sequence_stated (numbers_of c.args.self.now.format) (words_of c.args.self.now) c.args.self.now.parts).values in
     let end : c.parts.place ≡ c.args.to = omega (arith, c.parts.invariant.within, c.parts-test.false) in
     omega (arith, c.parts.invariant.largest, step-none xs c.args.to, ap (λ n. greatest_step xs n c.args.to) end)

@@ -1,5 +1,6 @@
 use Rattle.std.proofs.Common.{◌≡◌, ◌-◌, ◌<◌, ◌≤◌, max}
 use Rattle.part_cost.specs.Formats.{numbers_of}
+use Rattle.two_level.specs.DirectorySequence.{words_of}
 use Rattle.two_level.specs.SequenceFault.{stated_end, end_before}
 use Rattle.two_level.specs.SequenceView.{sequence_stated}
 use Rattle.two_level.specs.Steps.{greatest_step}
@@ -9,8 +10,8 @@ abbrev pub invariant-parts : goal.invariant-parts
 invariant-parts l = record {
   after : l.from ≤ l.place;
   within : l.place ≤ l.to;
-  part : l.place < l.to → (l.index < l.self.parts) × (end_before (numbers_of l.self.format) l.self.words.now l.index ≤ l.place) × (l.place < stated_end (numbers_of l.self.format) l.self.words.now l.index);
-  largest : max l.most (greatest_step (sequence_stated (numbers_of l.self.format) l.self.words.now l.self.parts).values l.place l.to) ≡ greatest_step (sequence_stated (numbers_of l.self.format) l.self.words.now l.self.parts).values l.from l.to;
+  part : l.place < l.to → (l.index < l.self.parts) × (end_before (numbers_of l.self.format) (words_of l.self) l.index ≤ l.place) × (l.place < stated_end (numbers_of l.self.format) (words_of l.self) l.index);
+  largest : max l.most (greatest_step (sequence_stated (numbers_of l.self.format) (words_of l.self) l.self.parts).values l.place l.to) ≡ greatest_step (sequence_stated (numbers_of l.self.format) (words_of l.self) l.self.parts).values l.from l.to;
 }
 
 abbrev pub decreases-parts : goal.decreases-parts

@@ -1,6 +1,7 @@
 use Rattle.std.proofs.Common.{◌≡◌, ℕ, ◌-◌, List, sym, ◌∙◌, arith}
 use Rattle.part_cost.specs.Formats.{numbers_of}
 use Rattle.part_cost.specs.Span.{universe}
+use Rattle.two_level.specs.DirectorySequence.{words_of}
 use Rattle.two_level.specs.SequenceFault.{stated_end, end_before}
 use Rattle.two_level.specs.SequenceView.{sequence_stated}
 use Rattle.two_level.proofs.Steps.{step-of-full, step-of-one}
@@ -9,7 +10,7 @@ use Rattle.two_level.proofs.directory.Directory.step_in_part.Goals as goal
 pub returns-then-part-count : goal.returns-then-part-count
 returns-then-part-count c =
     let format = numbers_of c.args.self.now.format in
-    let words = c.args.self.now.words.now in
+    let words = (words_of c.args.self.now) in
     let d = c.args.self.now.stated in
     let p = d.part c.args.index c.requires.within in
     let i : ℕ = end_before format words c.args.index in
@@ -21,7 +22,7 @@ returns-then-part-count c =
 pub returns-then-count-eq1 : goal.returns-then-count-eq1
 returns-then-count-eq1 c =
     let format = numbers_of c.args.self.now.format in
-    let words = c.args.self.now.words.now in
+    let words = (words_of c.args.self.now) in
     let d = c.args.self.now.stated in
     let p = d.part c.args.index c.requires.within in
     let i : ℕ = end_before format words c.args.index in

@@ -1,8 +1,8 @@
 use Rattle.std.proofs.Common.{◌≡◌, ℕ, ◌-◌, List, ap, arith, refl}
 use Rattle.std.specs.Prelude.{slice_index}
-use Rattle.part_cost.specs.Span.{relative_values}
 use Rattle.part_codec.proofs.Relative.{one_list-held}
 use Rattle.two_level.proofs.Parts.{first-here, number-here}
+use Rattle.two_level.specs.SequenceParts.{counted_from}
 use Rattle.two_level.proofs.held.HeldPart.place_from.Goals as goal
 
 pub overflow_sub-value : goal.overflow_sub-value
@@ -19,7 +19,7 @@ pub place_from-k-requires-clause-number : goal.place_from-k-requires-clause-numb
 place_from-k-requires-clause-number c ys numbers =
     let held = c.args.self.now in
     let h = c.requires.values in
-    let relative : List ℕ = relative_values h.0 held.part.from held.part.to in
+    let relative : List ℕ = counted_from held.past h.0 held.part.from held.part.to in
     let same : slice_index ys (c.args.place - held.part.from) ≡ slice_index relative (c.args.place - held.part.from) =
     ap (λ zs. slice_index zs (c.args.place - held.part.from)) (one_list-held held.view ys relative numbers h.1.numbers) in
     omega (arith, same, h.2, number-here held h.0 h.1 c.args.place c.requires.after c.requires.before)

@@ -16,11 +16,11 @@ words-below : (words : List ℕ) → ((k : ℕ) → Fits w64 (get_or words k 0))
 words-below words type_inv k d lt = omega (arith, get_or_default words k d 0 lt, type_inv k)
 
 -- words that pass every check state a sequence with which they begin
-stated-begins : (format : FormatNumbers) → ChecksAcceptASequence format → WordsState format → (m bound parts : ℕ) (words : List ℕ) → bound ≤ format.most_sum → All (λ w. w < 2 ^ 64) words
+stated-begins : (format : FormatNumbers) → ChecksAcceptASequence format → WordsState format → (m bound parts : ℕ) (words : List ℕ) → m < 2 ^ 32 → bound ≤ format.most_sum → All (λ w. w < 2 ^ 64) words
     → PassChecks format words parts m bound
     → (used : ℕ) × BeginsSequence format m bound parts (sequence_stated format words parts).values (sequence_stated format words parts).ends words used
-stated-begins format accept state m bound parts words fits are pass =
-    let a = accept m bound parts words fits are pass in
+stated-begins format accept state m bound parts words few fits are pass =
+    let a = accept m bound parts words few fits are pass in
     let used : ℕ = word_behind format words parts in
     (used, subst (λ s. BeginsSequence format m bound parts s.values s.ends words used) (sym (state m bound parts used a.0 a.1 words fits a.2)) a.2)
 
@@ -38,7 +38,7 @@ returns-in_err-found-clause-none c =
 pub at_front-requires-clause-begun : goal.at_front-requires-clause-begun
 unfolding sequence_stated
 at_front-requires-clause-begun c =
-    let s = stated-begins (numbers_of c.args.format) (c.checks_accept_a_sequence.ensures c.args.format) (c.words_state_their_sequence.ensures c.args.format) c.args.m c.args.bound c.args.parts c.args.words.now c.requires.bound (words-below c.args.words.now c.type_inv.words) c.in_ok-found.ensures.ok in
+    let s = stated-begins (numbers_of c.args.format) (c.checks_accept_a_sequence.ensures c.args.format) (c.words_state_their_sequence.ensures c.args.format) c.args.m c.args.bound c.args.parts c.args.words.now (omega (arith, c.ranges.m.fits)) c.requires.bound (words-below c.args.words.now c.type_inv.words) c.in_ok-found.ensures.ok in
     (c.args.bound, s.0, c.requires.bound, s.1)
 
 pub returns-clause-format : goal.returns-clause-format
@@ -47,22 +47,22 @@ returns-clause-format c = ap (λ v. v.format) c.at_front.ensures
 
 pub returns-clause-ok : goal.returns-clause-ok
 returns-clause-ok c =
-    let s = stated-begins (numbers_of c.args.format) (c.checks_accept_a_sequence.ensures c.args.format) (c.words_state_their_sequence.ensures c.args.format) c.args.m c.args.bound c.args.parts c.args.words.now c.requires.bound (words-below c.args.words.now c.type_inv.words) c.in_ok-found.ensures.ok in
+    let s = stated-begins (numbers_of c.args.format) (c.checks_accept_a_sequence.ensures c.args.format) (c.words_state_their_sequence.ensures c.args.format) c.args.m c.args.bound c.args.parts c.args.words.now (omega (arith, c.ranges.m.fits)) c.requires.bound (words-below c.args.words.now c.type_inv.words) c.in_ok-found.ensures.ok in
     subst (λ v. (used : ℕ) × BeginsSequence (numbers_of c.args.format) c.args.m c.args.bound c.args.parts v.values v.ends c.args.words.now used) (sym c.at_front.ensures) s
 
 pub returns-clause-count : goal.returns-clause-count
 returns-clause-count c =
-    let s = stated-begins (numbers_of c.args.format) (c.checks_accept_a_sequence.ensures c.args.format) (c.words_state_their_sequence.ensures c.args.format) c.args.m c.args.bound c.args.parts c.args.words.now c.requires.bound (words-below c.args.words.now c.type_inv.words) c.in_ok-found.ensures.ok in
+    let s = stated-begins (numbers_of c.args.format) (c.checks_accept_a_sequence.ensures c.args.format) (c.words_state_their_sequence.ensures c.args.format) c.args.m c.args.bound c.args.parts c.args.words.now (omega (arith, c.ranges.m.fits)) c.requires.bound (words-below c.args.words.now c.type_inv.words) c.in_ok-found.ensures.ok in
     ap (λ v. length v.values) c.at_front.ensures ∙ s.1.sequence.count
 
 pub returns-clause-parts : goal.returns-clause-parts
 returns-clause-parts c =
-    let s = stated-begins (numbers_of c.args.format) (c.checks_accept_a_sequence.ensures c.args.format) (c.words_state_their_sequence.ensures c.args.format) c.args.m c.args.bound c.args.parts c.args.words.now c.requires.bound (words-below c.args.words.now c.type_inv.words) c.in_ok-found.ensures.ok in
+    let s = stated-begins (numbers_of c.args.format) (c.checks_accept_a_sequence.ensures c.args.format) (c.words_state_their_sequence.ensures c.args.format) c.args.m c.args.bound c.args.parts c.args.words.now (omega (arith, c.ranges.m.fits)) c.requires.bound (words-below c.args.words.now c.type_inv.words) c.in_ok-found.ensures.ok in
     ap (λ v. length v.ends) c.at_front.ensures ∙ s.1.sequence.parts_count
 
 pub returns-clause-used : goal.returns-clause-used
 unfolding sequence_stated
 returns-clause-used c =
-    let s = stated-begins (numbers_of c.args.format) (c.checks_accept_a_sequence.ensures c.args.format) (c.words_state_their_sequence.ensures c.args.format) c.args.m c.args.bound c.args.parts c.args.words.now c.requires.bound (words-below c.args.words.now c.type_inv.words) c.in_ok-found.ensures.ok in
+    let s = stated-begins (numbers_of c.args.format) (c.checks_accept_a_sequence.ensures c.args.format) (c.words_state_their_sequence.ensures c.args.format) c.args.m c.args.bound c.args.parts c.args.words.now (omega (arith, c.ranges.m.fits)) c.requires.bound (words-below c.args.words.now c.type_inv.words) c.in_ok-found.ensures.ok in
     let d = c.directory_states_its_parts.ensures c.args.format c.args.words.now c.args.parts c.args.m (c.args.bound, s.0, c.requires.bound, s.1) in
     c.in_ok-found.ensures.used ∙ sym d.used ∙ sym (ap words_used c.at_front.ensures)

@@ -1,5 +1,0 @@
-use Rattle.std.proofs.Common.{rules}
-use Rattle.postings.proofs.tests.writes_two_postings.Goals as goal
-
-pub write_postings-requires-clause-list : goal.write_postings-requires-clause-list
-write_postings-requires-clause-list g c = search rules

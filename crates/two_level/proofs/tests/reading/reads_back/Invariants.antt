@@ -1,8 +1,0 @@
-use Rattle.std.proofs.Common.{◌≡◌}
-use Rattle.two_level.proofs.tests.reading.reads_back.Given as goal
-
-abbrev pub invariant-loop-k : goal.invariant-loop-k
-invariant-loop-k g l = record {
-  sequence : l.cursor.sequence ≡ l.view;
-  place : l.cursor.place ≡ l.k-counter;
-}

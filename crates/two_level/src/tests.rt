@@ -1,6 +1,0 @@
-mod checks;
-mod cursors;
-mod gallops;
-mod reading;
-mod steps;
-mod writing;
