@@ -2,5 +2,4 @@ mod Behind
 mod Ceilings
 mod Finds
 mod SideChecks
-mod TestLists
 mod Words

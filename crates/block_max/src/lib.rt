@@ -15,6 +15,3 @@ pub use laws::{blocks_cover_a_list, one_side_fault};
 pub use side::{Side, side_words};
 pub use source::BlockSource;
 pub use top::top_blockmax;
-
-#[cfg(test)]
-mod tests;

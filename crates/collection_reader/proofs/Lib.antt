@@ -1,5 +1,5 @@
-mod Numbers
-mod Begun
+pub mod Numbers
+pub mod Begun
 mod Breaks
 mod Fronts
 mod FirstFaults

@@ -8,7 +8,7 @@ use Rattle.collection_model.specs.Collection.{Posting, Collection, WellFormed, I
 use Rattle.collection_model.specs.Spelling.{Files, head_bytes, spelled}
 use Rattle.collection_model.proofs.Examples.{small, three, small-well_formed, three-well_formed}
 use Rattle.part_cost.specs.declared.formats.Format.{Format}
-use Rattle.part_cost.specs.declared.formats.Format.TheVariants.{One, Two}
+use Rattle.part_cost.specs.declared.formats.Format.TheVariants.{One, Two, Three}
 use Rattle.part_cost.specs.Formats.{numbers_of}
 use Rattle.pef_io.specs.declared.fail.Slot.{Slot}
 use Rattle.pef_io.specs.declared.fail.Slot.TheVariants.{Docs, Freqs, Sizes}
@@ -33,6 +33,7 @@ record IsWide (format : FormatNumbers) : Type 0 where
 each-is_wide : (format : Format) → IsWide (numbers_of format)
 each-is_wide One = record { documents = lit≤ tt; sums = lit≤ tt; fit = lit< tt }
 each-is_wide Two = record { documents = lit≤ tt; sums = lit≤ tt; fit = lit< tt }
+each-is_wide Three = record { documents = lit≤ tt; sums = lit≤ tt; fit = lit< tt }
 
 -- what the first format can hold, the others can
 wider : (format : FormatNumbers) (c : Collection) → IsWide format → WellFormed format_one c → WellFormed format c

@@ -11,8 +11,6 @@ mod position;
 mod reader;
 mod sequences;
 mod start;
-#[cfg(test)]
-mod tests;
 mod whole;
 
 pub use collection::Collection;

@@ -8,6 +8,3 @@ mod plain;
 pub use cursor::DocCursor;
 pub use laws::{first_is_at_the_next_place, next_geq_is_first};
 pub use plain::PlainCursor;
-
-#[cfg(test)]
-mod tests;

@@ -1,4 +1,3 @@
-mod Rows
 mod HighBits
 pub mod Rising
 pub mod Reading

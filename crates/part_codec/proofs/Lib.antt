@@ -1,4 +1,3 @@
-mod Rows
 pub mod Relative
 mod Parts
 mod Steps

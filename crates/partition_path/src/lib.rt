@@ -5,8 +5,6 @@ mod cuts;
 mod exact;
 mod rival;
 mod routes;
-#[cfg(test)]
-mod tests;
 mod whole;
 
 pub use cuts::{Cuts, partition};

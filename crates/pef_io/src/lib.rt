@@ -5,8 +5,6 @@ mod calls;
 mod fail;
 mod failing;
 mod failing_depot;
-#[cfg(test)]
-mod file_tests;
 mod files;
 mod helpers;
 mod load;
@@ -18,8 +16,6 @@ mod standard;
 mod started;
 mod steady;
 mod steady_depot;
-#[cfg(test)]
-mod tests;
 mod traits;
 
 pub use calls::Op;

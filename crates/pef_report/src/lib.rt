@@ -8,8 +8,6 @@ mod generate;
 mod laws;
 mod sizes;
 mod summing;
-#[cfg(test)]
-mod tests;
 
 pub use audit::{audit_end, audit_line};
 pub use counts::Counts;

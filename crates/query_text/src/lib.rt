@@ -15,6 +15,3 @@ pub use parsing::parse;
 pub use query::{Bad, ParseError, Query, Terms};
 pub use replies::{bad_reply, list_reply, next_reply, top_reply};
 pub use weighted_terms::Weighted;
-
-#[cfg(test)]
-mod tests;

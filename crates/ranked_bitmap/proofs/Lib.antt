@@ -1,4 +1,3 @@
-mod Rows
 pub mod Ones
 mod Marks
 pub mod Reading

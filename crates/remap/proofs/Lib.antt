@@ -6,9 +6,7 @@ mod OneList
 mod Vectors
 mod Applied
 mod Rows
-mod Small
 mod Ids
-mod MapNumbers
 mod MapReads
 mod MapFaultsFound
 mod MapBytes

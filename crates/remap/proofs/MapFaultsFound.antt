@@ -15,7 +15,8 @@ use Rattle.remap.specs.declared.fault.MapRule.{MapRule}
 use Rattle.remap.specs.declared.fault.MapRule.TheVariants.{M1, M2, M3, M4, M5}
 use Rattle.remap.specs.declared.fault.MapFault.{MapFault}
 use Rattle.remap.specs.MapFaults.{id_at, id_break, FirstIdBreak, IsMapFault}
-use Rattle.remap.proofs.MapNumbers.{begun, begun-length, begun-claim, begun-value, begun-next, begun-none, begun-there, begun-cut, lacks-there}
+use Rattle.collection_reader.proofs.Begun.{begun, begun-length, begun-claim, begun-value, begun-next, begun-none, begun-there, begun-cut}
+use Rattle.collection_reader.proofs.Numbers.{lacks-there}
 
 match-true : (P Q : Type 0) (b : Bool) → b ≡ true → P → MatchBool b P Q
 match-true P Q true is p = p

@@ -21,7 +21,7 @@ use Rattle.remap.specs.MapFaults.{IsMapFault}
 use Rattle.remap.specs.OneMap.{LooksAhead, call_error, rest_of}
 use Rattle.remap.specs.OneSequence.{ReadsFrom, ReadsNumber, ReadsLength, ReadsIds}
 use Rattle.remap.proofs.MapReads.{answers-ok, answers-broken, answers-no_memory, answers-err, reads-then, from-ok, from-broken, from-refused}
-use Rattle.remap.proofs.MapNumbers.{begun, begun-none, begun-next}
+use Rattle.collection_reader.proofs.Begun.{begun, begun-none, begun-next}
 use Rattle.remap.proofs.MapFaultsFound.{cut-at_id, large-at_id, twice-at_id, left-over}
 
 -- what is known once k of n ids were read

@@ -8,8 +8,6 @@ mod laws;
 mod permutation;
 mod reading;
 mod spelling;
-#[cfg(test)]
-mod tests;
 
 pub use fault::{MapError, MapFault, MapRule};
 pub use image::apply;

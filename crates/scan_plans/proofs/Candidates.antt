@@ -179,20 +179,6 @@ word-step scores marks wide unscored least i low rest ns word inside start more 
     let held = subst (λ (w : ℕ). IsStep least at scores marks ns nm (set ns at 0) (set marks i (without w lowest)) × (lowest < 64) × (without w lowest < w)) read (moved, short, less) in
     subst (λ (o : ℕ). IsStep least (64 * i + o) scores marks ns nm (set ns (64 * i + o) 0) (set marks i (without rest o)) × (o < 64) × (without rest o < rest)) same held
 
--- what is taken back later
-pub taken-then : (low to : ℕ) (scores marks ns nm news newm : List ℕ) → low ≤ to → AreTakenBack low scores marks ns nm → AreTakenBack to ns nm news newm → AreTakenBack to scores marks news newm
-taken-then low to scores marks ns nm news newm le taken more =
-    let count = taken.count in
-    let words = taken.marks_count in
-    record {
-      count = more.count ∙ count;
-      marks_count = more.marks_count ∙ words;
-      unmarked = λ k lt within. more.unmarked k lt (omega arith);
-      clear = λ k lt within. more.clear k lt (omega arith);
-      marked = λ k after within. more.marked k after (omega arith) ∙ taken.marked k (omega arith) within;
-      scored = λ k after within. more.scored k after (omega arith) ∙ taken.scored k (omega arith) within;
-    }
-
 -- ---- the candidates of what is left
 module _ (scores marks ns nm : List ℕ) (low : ℕ) (wide : length scores ≤ 64 * length marks) (taken : AreTakenBack low scores marks ns nm) where
   -- where nothing is marked the score is 0

@@ -13,6 +13,8 @@ mod Marks
 mod Found
 mod Skipping
 mod Candidates
+pub mod TakenBack
+pub mod AskedLists
 mod Shared
 mod AtOnce
 mod Few

@@ -15,6 +15,3 @@ pub use skips::{cursors_stand, cursors_tell, top_list_grows};
 pub use top::{count_postings, most_found, top_exhaustive};
 pub use top_k::TopK;
 pub use window::{Block, add_list, new_marks, new_scores, scored_words, take_candidate};
-
-#[cfg(test)]
-mod tests;

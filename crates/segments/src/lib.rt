@@ -10,6 +10,3 @@ mod pushed;
 pub use cursor::JoinedCursor;
 pub use laws::joined_lists_follow;
 pub use pushed::{SegRule, Segments};
-
-#[cfg(test)]
-mod tests;

@@ -279,17 +279,3 @@ module _ (scores marks ns nm : List ℕ) (from : ℕ) (wide : length scores ≤ 
 
   pub none-there : (low : ℕ) → NoneIsCandidate low ns nm → (j : ℕ) → from ≤ j → j < length scores → is_marked marks j ≡ true → get_or scores j 0 < low
   none-there low none j f lt one = let count = taken.count in let read = taken.scored j f lt in let h = none j (omega arith) (taken.marked j f (omega arith) ∙ one) in omega arith
-
-  -- what is taken back later
-  pub taken-later : (to : ℕ) (news newm : List ℕ) → from ≤ to → AreTakenBack to ns nm news newm → AreTakenBack to scores marks news newm
-  taken-later to news newm le more =
-      let count = taken.count in
-      let words = taken.marks_count in
-      record {
-        count = more.count ∙ count;
-        marks_count = more.marks_count ∙ words;
-        unmarked = λ k lt within. more.unmarked k lt (omega arith);
-        clear = λ k lt within. more.clear k lt (omega arith);
-        marked = λ k after within. more.marked k after (omega arith) ∙ taken.marked k (omega arith) within;
-        scored = λ k after within. more.scored k after (omega arith) ∙ taken.scored k (omega arith) within;
-      }

@@ -1,6 +1,7 @@
 use Rattle.std.proofs.Common.{sym, ◌∙◌, ℕ, ◌+◌, ◌*◌, ◌≤◌, length, arith}
 use Rattle.std.proofs.lemmas.Bool.{false≢true}
-use Rattle.scan_plans.proofs.Candidates.{taken-none, taken-then, left-inside, left-passed}
+use Rattle.scan_plans.proofs.Candidates.{taken-none, left-inside, left-passed}
+use Rattle.scan_plans.proofs.TakenBack.{taken-then}
 use Rattle.scan_plans.proofs.window.take_candidate.Goals as goal
 
 pub loop-i-init : goal.loop-i-init

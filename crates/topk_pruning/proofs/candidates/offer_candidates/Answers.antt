@@ -1,4 +1,4 @@
-use Rattle.std.proofs.Common.{◌≡◌, refl, sym, ap, ◌∙◌, subst, inl, inr, ℕ, ◌+◌, ◌-◌, false, min, List, map, take, drop, length, get_or, arith}
+use Rattle.std.proofs.Common.{◌≡◌, refl, sym, ap, ◌∙◌, subst, inl, inr, ℕ, ◌+◌, ◌-◌, ◌<◌, false, min, List, map, take, drop, length, get_or, arith}
 use Rattle.std.proofs.lemmas.Bool.{cases_lt}
 use Rattle.std.proofs.lemmas.List.{get_or_default}
 use Rattle.std.specs.Option.{IfSome}
@@ -6,12 +6,15 @@ use Rattle.collection_model.specs.Collection.{Posting}
 use Rattle.scan_plans.specs.IsTop.{IsTopFrom}
 use Rattle.scan_plans.specs.Window.{is_marked}
 use Rattle.scan_plans.specs.Skips.{IsBarred}
+use Rattle.scan_plans.proofs.TakenBack.{taken-then}
 use Rattle.topk_pruning.specs.declared.term.Term.{Term}
 use Rattle.topk_pruning.specs.Terms.{AreBefore, AreTermsIn, Considers, bounds, score_in}
 use Rattle.topk_pruning.proofs.Alike.{in-narrower}
 use Rattle.topk_pruning.proofs.Bars.{bars-at}
-use Rattle.topk_pruning.proofs.Windows.{are-drop, behind-is, before-later, spared-kept, unmarked-none, light-score, marked-any, follows-passed, follows-considered, considered-above, candidate-there, none-there, taken-later}
+use Rattle.topk_pruning.proofs.Windows.{IsNextCandidate, are-drop, behind-is, before-later, spared-kept, unmarked-none, light-score, marked-any, follows-passed, follows-considered, considered-above, candidate-there, none-there}
+use Rattle.topk_pruning.proofs.candidates.offer_candidates.Given as given
 use Rattle.topk_pruning.proofs.candidates.offer_candidates.Goals as goal
+use Rattle.topk_pruning.proofs.candidates.offer_candidates.Goals.{In-Some}
 
 pub loop-place-init : goal.loop-place-init
 loop-place-init g c =
@@ -41,20 +44,22 @@ pub take_candidate-requires-clause-marked : goal.take_candidate-requires-clause-
 take_candidate-requires-clause-marked g c =
     unmarked-none (map g.C.DocCursor.list c.args.cursors.now) c.args.terms.now c.args.essential c.args.first c.args.scores.now c.args.marks.now c.requires.terms c.requires.scores c.requires.marks c.loop-place.from c.loop-place.scores c.loop-place.marks c.requires.wide c.loop-place.invariant.taken
 
+-- the next candidate of the window
+candidate-known : (g : given.Over) (c : In-Some g) → IsNextCandidate c.least_score.result c.loop-place.from c.in-Some.place c.in-Some.score c.args.scores.now c.args.marks.now
+candidate-known g c =
+    candidate-there c.args.scores.now c.args.marks.now c.loop-place.scores c.loop-place.marks c.loop-place.from c.requires.wide c.loop-place.invariant.taken c.least_score.result c.in-Some.place c.in-Some.score c.in-Some.ensures.some
+
+-- it is one of the documents
+candidate-below : (g : given.Over) (c : In-Some g) → c.args.first + c.in-Some.place < c.args.top.now.n
+candidate-below g c =
+    let next = candidate-known g c in
+    let lists : List (List Posting) = map g.C.DocCursor.list c.args.cursors.now in
+    c.top_list_grows.ensures.in_range c.args.top.now.n lists (c.args.first + c.in-Some.place) c.requires.below
+    (marked-any lists c.args.terms.now c.args.essential c.args.first c.args.scores.now c.args.marks.now c.requires.terms c.requires.scores c.requires.marks c.in-Some.place next.within next.marked)
+
 pub overflow_cast-doc : goal.overflow_cast-doc
 overflow_cast-doc g c =
-    let list = g.C.DocCursor.list in
-    let lists : List (List Posting) = map list c.args.cursors.now in
-    let terms : List Term = c.args.terms.now in
-    let so_far = c.loop-place.invariant in
-    let next = candidate-there c.args.scores.now c.args.marks.now c.loop-place.scores c.loop-place.marks c.loop-place.from c.requires.wide so_far.taken c.least_score.result c.in-Some.place c.in-Some.score c.in-Some.ensures.some in
-    let after = next.after in
-    let inside = next.within in
-    let start = c.from.ensures in
-    let doc : c.from.result + c.in-Some.place ≡ c.args.first + c.in-Some.place = omega arith in
-    let below = c.top_list_grows.ensures.in_range c.args.top.now.n lists (c.args.first + c.in-Some.place) c.requires.below (marked-any lists terms c.args.essential c.args.first c.args.scores.now c.args.marks.now c.requires.terms c.requires.scores c.requires.marks c.in-Some.place inside next.marked) in
-    let narrow = c.requires.narrow in
-    omega arith
+    omega (arith, candidate-below g (goal.at.overflow_cast-doc g c).In-Some, c.from.ensures, c.requires.narrow)
 
 pub consider-requires-clause-terms : goal.consider-requires-clause-terms
 consider-requires-clause-terms g c =
@@ -63,76 +68,42 @@ consider-requires-clause-terms g c =
     let now : List (List Posting) = map list c.loop-place.cursors in
     let terms : List Term = c.args.terms.now in
     let end : ℕ = c.args.first + length c.args.scores.now in
-    let so_far = c.loop-place.invariant in
-    let next = candidate-there c.args.scores.now c.args.marks.now c.loop-place.scores c.loop-place.marks c.loop-place.from c.requires.wide so_far.taken c.least_score.result c.in-Some.place c.in-Some.score c.in-Some.ensures.some in
-    let inside = next.within in
+    let inside = (candidate-known g (goal.at.consider-requires-clause-terms g c).In-Some).within in
     let start = c.from.ensures in
     let doc : ℕ = c.from.result + c.in-Some.place in
     let here : AreTermsIn lists doc (doc + 1) (drop c.args.essential terms) = in-narrower lists c.args.first end doc (doc + 1) (drop c.args.essential terms) (omega arith) (omega arith) (are-drop lists c.args.first end terms c.args.essential c.requires.terms) in
-    subst (AreTermsIn now doc (doc + 1)) (sym (behind-is terms c.args.essential)) (subst (λ (ls : List (List Posting)). AreTermsIn ls doc (doc + 1) (drop c.args.essential terms)) (sym so_far.lists) here)
+    subst (AreTermsIn now doc (doc + 1)) (sym (behind-is terms c.args.essential)) (subst (λ (ls : List (List Posting)). AreTermsIn ls doc (doc + 1) (drop c.args.essential terms)) (sym c.loop-place.invariant.lists) here)
 
 pub consider-requires-clause-light : goal.consider-requires-clause-light
 consider-requires-clause-light g c =
-    let list = g.C.DocCursor.list in
-    let lists : List (List Posting) = map list c.args.cursors.now in
+    let lists : List (List Posting) = map g.C.DocCursor.list c.args.cursors.now in
     let terms : List Term = c.args.terms.now in
-    let so_far = c.loop-place.invariant in
-    let next = candidate-there c.args.scores.now c.args.marks.now c.loop-place.scores c.loop-place.marks c.loop-place.from c.requires.wide so_far.taken c.least_score.result c.in-Some.place c.in-Some.score c.in-Some.ensures.some in
-    let after = next.after in
-    let inside = next.within in
-    let start = c.from.ensures in
-    let doc : c.from.result + c.in-Some.place ≡ c.args.first + c.in-Some.place = omega arith in
-    let below = c.top_list_grows.ensures.in_range c.args.top.now.n lists (c.args.first + c.in-Some.place) c.requires.below (marked-any lists terms c.args.essential c.args.first c.args.scores.now c.args.marks.now c.requires.terms c.requires.scores c.requires.marks c.in-Some.place inside next.marked) in
-    let light = light-score lists terms c.args.essential c.args.first c.args.scores.now c.args.marks.now c.requires.terms c.requires.scores c.requires.marks c.in-Some.place inside in
+    let next = candidate-known g (goal.at.consider-requires-clause-light g c).In-Some in
+    let light = light-score lists terms c.args.essential c.args.first c.args.scores.now c.args.marks.now c.requires.terms c.requires.scores c.requires.marks c.in-Some.place next.within in
     let is = next.scored in
     let left = c.total_bound-left.ensures in
-    let same = ap bounds (behind-is c.args.terms.now c.args.essential) in
+    let same = ap bounds (behind-is terms c.args.essential) in
     omega arith
 
 pub consider-requires-clause-before : goal.consider-requires-clause-before
 consider-requires-clause-before g c =
     let list = g.C.DocCursor.list in
-    let lists : List (List Posting) = map list c.args.cursors.now in
-    let terms : List Term = c.args.terms.now in
-    let so_far = c.loop-place.invariant in
-    let next = candidate-there c.args.scores.now c.args.marks.now c.loop-place.scores c.loop-place.marks c.loop-place.from c.requires.wide so_far.taken c.least_score.result c.in-Some.place c.in-Some.score c.in-Some.ensures.some in
-    let after = next.after in
-    let inside = next.within in
-    let start = c.from.ensures in
-    let doc : c.from.result + c.in-Some.place ≡ c.args.first + c.in-Some.place = omega arith in
-    let below = c.top_list_grows.ensures.in_range c.args.top.now.n lists (c.args.first + c.in-Some.place) c.requires.below (marked-any lists terms c.args.essential c.args.first c.args.scores.now c.args.marks.now c.requires.terms c.requires.scores c.requires.marks c.in-Some.place inside next.marked) in
     let place = g.C.DocCursor.place in
+    let terms : List Term = c.args.terms.now in
+    let after = (candidate-known g (goal.at.consider-requires-clause-before g c).In-Some).after in
+    let start = c.from.ensures in
     subst (λ (ts : List Term). AreBefore list place (c.from.result + c.in-Some.place) ts c.loop-place.cursors) (sym (behind-is terms c.args.essential))
-    (before-later list place (c.args.first + c.loop-place.from) (c.from.result + c.in-Some.place) (drop c.args.essential terms) c.loop-place.cursors (omega arith) so_far.before)
+    (before-later list place (c.args.first + c.loop-place.from) (c.from.result + c.in-Some.place) (drop c.args.essential terms) c.loop-place.cursors (omega arith) c.loop-place.invariant.before)
 
 pub consider-requires-clause-above : goal.consider-requires-clause-above
 consider-requires-clause-above g c =
-    let list = g.C.DocCursor.list in
-    let lists : List (List Posting) = map list c.args.cursors.now in
-    let terms : List Term = c.args.terms.now in
-    let so_far = c.loop-place.invariant in
-    let next = candidate-there c.args.scores.now c.args.marks.now c.loop-place.scores c.loop-place.marks c.loop-place.from c.requires.wide so_far.taken c.least_score.result c.in-Some.place c.in-Some.score c.in-Some.ensures.some in
-    let after = next.after in
-    let inside = next.within in
+    let after = (candidate-known g (goal.at.consider-requires-clause-above g c).In-Some).after in
     let start = c.from.ensures in
-    let doc : c.from.result + c.in-Some.place ≡ c.args.first + c.in-Some.place = omega arith in
-    let below = c.top_list_grows.ensures.in_range c.args.top.now.n lists (c.args.first + c.in-Some.place) c.requires.below (marked-any lists terms c.args.essential c.args.first c.args.scores.now c.args.marks.now c.requires.terms c.requires.scores c.requires.marks c.in-Some.place inside next.marked) in
-    λ i e within. let h = so_far.above i e within in omega arith
+    λ i e within. let h = c.loop-place.invariant.above i e within in omega arith
 
 pub consider-requires-clause-in_range : goal.consider-requires-clause-in_range
 consider-requires-clause-in_range g c =
-    let list = g.C.DocCursor.list in
-    let lists : List (List Posting) = map list c.args.cursors.now in
-    let terms : List Term = c.args.terms.now in
-    let so_far = c.loop-place.invariant in
-    let next = candidate-there c.args.scores.now c.args.marks.now c.loop-place.scores c.loop-place.marks c.loop-place.from c.requires.wide so_far.taken c.least_score.result c.in-Some.place c.in-Some.score c.in-Some.ensures.some in
-    let after = next.after in
-    let inside = next.within in
-    let start = c.from.ensures in
-    let doc : c.from.result + c.in-Some.place ≡ c.args.first + c.in-Some.place = omega arith in
-    let below = c.top_list_grows.ensures.in_range c.args.top.now.n lists (c.args.first + c.in-Some.place) c.requires.below (marked-any lists terms c.args.essential c.args.first c.args.scores.now c.args.marks.now c.requires.terms c.requires.scores c.requires.marks c.in-Some.place inside next.marked) in
-    let n = so_far.n in
-    omega arith
+    omega (arith, candidate-below g (goal.at.consider-requires-clause-in_range g c).In-Some, c.from.ensures, c.loop-place.invariant.n)
 
 pub loop-place-preserved : goal.loop-place-preserved
 loop-place-preserved g c =
@@ -140,12 +111,12 @@ loop-place-preserved g c =
     let lists : List (List Posting) = map list c.args.cursors.now in
     let terms : List Term = c.args.terms.now in
     let so_far = c.loop-place.invariant in
-    let next = candidate-there c.args.scores.now c.args.marks.now c.loop-place.scores c.loop-place.marks c.loop-place.from c.requires.wide so_far.taken c.least_score.result c.in-Some.place c.in-Some.score c.in-Some.ensures.some in
+    let next = candidate-known g (goal.at.loop-place-preserved g c).In-Some in
+    let below = candidate-below g (goal.at.loop-place-preserved g c).In-Some in
     let after = next.after in
     let inside = next.within in
     let start = c.from.ensures in
     let doc : c.from.result + c.in-Some.place ≡ c.args.first + c.in-Some.place = omega arith in
-    let below = c.top_list_grows.ensures.in_range c.args.top.now.n lists (c.args.first + c.in-Some.place) c.requires.below (marked-any lists terms c.args.essential c.args.first c.args.scores.now c.args.marks.now c.requires.terms c.requires.scores c.requires.marks c.in-Some.place inside next.marked) in
     let place = g.C.DocCursor.place in
     let at : ℕ = c.in-Some.place in
     let others : List Term = drop c.args.essential terms in
@@ -171,7 +142,7 @@ loop-place-preserved g c =
     (subst (λ (d : ℕ). Considers floor c.args.top.now.k d (c.in-Some.score + score_in (map list c.loop-place.cursors) (c.from.result + at) (take (length terms - c.args.essential) (drop c.args.essential terms))) held new) doc
     (subst (λ (j : ℕ). Considers floor j (c.from.result + at) (c.in-Some.score + score_in (map list c.loop-place.cursors) (c.from.result + at) (take (length terms - c.args.essential) (drop c.args.essential terms))) held new) k
     (subst (λ (f : ℕ). Considers f c.loop-place.top.k (c.from.result + at) (c.in-Some.score + score_in (map list c.loop-place.cursors) (c.from.result + at) (take (length terms - c.args.essential) (drop c.args.essential terms))) held new) so_far.floor kept.held))) in
-    let later = taken-later c.args.scores.now c.args.marks.now c.loop-place.scores c.loop-place.marks c.loop-place.from c.requires.wide so_far.taken (at + 1) c.take_candidate.new.scores c.take_candidate.new.marks (omega arith) c.in-Some.ensures.taken in
+    let later = taken-then c.loop-place.from (at + 1) c.args.scores.now c.args.marks.now c.loop-place.scores c.loop-place.marks c.take_candidate.new.scores c.take_candidate.new.marks (omega arith) so_far.taken c.in-Some.ensures.taken in
     record {
       lists = kept.lists ∙ so_far.lists;
       passed = kept.passed (c.args.first + length c.args.scores.now) (omega arith) so_far.passed;

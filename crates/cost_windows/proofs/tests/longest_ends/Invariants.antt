@@ -1,4 +1,0 @@
-use Rattle.cost_windows.proofs.tests.longest_ends.Given as goal
-
-abbrev pub ghosts-moved : goal.ghosts-moved
-ghosts-moved g a = record { name = a.blank.name; parts = a.blank.parts }

@@ -1,5 +1,0 @@
-use Rattle.std.proofs.Common.{◌≤◌}
-use Rattle.part_codec.proofs.tests.patterns.Given as goal
-
-abbrev pub invariant-loop-pattern : goal.invariant-loop-pattern
-invariant-loop-pattern l = l.count ≤ l.pattern

@@ -1,7 +1,0 @@
-use Rattle.std.proofs.Common.{◌≡◌, [], ap, arith, length}
-use Rattle.std.proofs.lemmas.Result.{IfOk-at_ok}
-use Rattle.part_codec.proofs.Rows.{near-length}
-use Rattle.part_codec.proofs.tests.writes_near_numbers.Goals as goal
-
-pub write_part-requires-clause-room : goal.write_part-requires-clause-room
-write_part-requires-clause-room g c = omega (arith, near-length, ap length (IfOk-at_ok (λ w. w ≡ []) c.expect-writer.ensures c.new.ensures.empty))

@@ -1,0 +1,3 @@
+mod EfRows
+mod MapRows
+mod PartRows

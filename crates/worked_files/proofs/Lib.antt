@@ -1,0 +1,2 @@
+mod EveryDocument
+mod SomePart

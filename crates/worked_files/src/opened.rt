@@ -1,0 +1,79 @@
+// Indexes that are opened: what they tell, and their postings.
+use crate::words::{IN_TWO_PARTS, ONE_LIST, ONE_LIST_OF_TWO, ONE_WIDE_GAP, THREE_LISTS};
+use cursor_api::DocCursor;
+use index_file::Index;
+use part_cost::{Format, Kind};
+use std::test::Fail;
+
+// The posting at the place of a cursor, which then goes on.
+pub(crate) fn next_posting<C: DocCursor>(cursor: &mut C) -> Option<(u32, u32)> {
+    let doc = cursor.doc()?;
+    let freq = cursor.freq();
+    cursor.advance();
+    Some((doc, freq))
+}
+
+// An index is opened and read, in both formats.
+#[test]
+fn opens_one_list(rt: HostRuntime) {
+    for (words, format, count) in [
+        (ONE_LIST, Format::One, 18),
+        (ONE_LIST_OF_TWO, Format::Two, 20),
+    ] {
+        assert!(rt; words.len() <= 20);
+        let index = Index::view(words).expect(&rt, "an index");
+        assert_eq!(rt; index.format(), format);
+        assert_eq!(rt; index.documents(), 3);
+        assert!(rt; index.terms() == 1);
+        assert_eq!(rt; index.postings(), 2);
+        assert_eq!(rt; index.word_count(), count);
+        assert_eq!(rt; index.size_total(), 11);
+        // Of the bitmaps one takes 3 bits, and one 6.
+        for (kind, parts) in [(Kind::Ones, 0), (Kind::Bitmap, 2), (Kind::Ef, 0)] {
+            assert_eq!(rt; index.parts_of_kind(kind), parts);
+        }
+        assert_eq!(rt; index.payload_bits(), 9);
+        for (d, size) in [(0, 4), (1, 0), (2, 7)] {
+            assert!(rt; d < index.documents());
+            assert_eq!(rt; index.size_of(d), size);
+        }
+        let mut cursor = index.cursor(0);
+        assert_eq!(rt; (cursor.len(), cursor.max_freq()), (2, 5));
+        assert_eq!(rt; next_posting(&mut cursor), Some((0, 1)));
+        assert_eq!(rt; next_posting(&mut cursor), Some((2, 5)));
+        assert_eq!(rt; next_posting(&mut cursor), None);
+    }
+}
+
+// Documents 1 and 2 instead of 0 and 2 are an index too.
+#[test]
+fn opens_other_documents(rt: HostRuntime) -> Result<(), Fail> {
+    for (file, payload) in [(ONE_LIST, 4), (ONE_LIST_OF_TWO, 5)] {
+        let mut words = file.to_vec(rt.alloc())?;
+        assert!(rt; words.len() <= 20 && payload < words.len());
+        words[payload] = 6;
+        let index = Index::view(&words).expect(&rt, "an index");
+        assert!(rt; index.terms() == 1);
+        let mut cursor = index.cursor(0);
+        assert_eq!(rt; next_posting(&mut cursor), Some((1, 1)));
+        assert_eq!(rt; next_posting(&mut cursor), Some((2, 5)));
+    }
+    Ok(())
+}
+
+// How many parts are all ones, bitmaps and in Elias-Fano form, and the bits that they take.
+#[test]
+fn measures_parts(rt: HostRuntime) {
+    for (words, ones, bitmaps, efs, bits) in [
+        (IN_TWO_PARTS, 1, 2, 0, 8),
+        (THREE_LISTS, 2, 2, 0, 5),
+        (ONE_WIDE_GAP, 1, 0, 1, 8),
+    ] {
+        assert!(rt; words.len() <= 29);
+        let index = Index::view(words).expect(&rt, "an index");
+        for (kind, parts) in [(Kind::Ones, ones), (Kind::Bitmap, bitmaps), (Kind::Ef, efs)] {
+            assert_eq!(rt; index.parts_of_kind(kind), parts);
+        }
+        assert_eq!(rt; index.payload_bits(), bits);
+    }
+}

@@ -1,0 +1,122 @@
+// Plain cursors: where they go, and the postings that they give in blocks.
+ghost use Rattle.std.specs.Prelude.{◌≤◌};
+
+use cursor_api::{DocCursor, PlainCursor};
+
+// Where `next_geq` goes, through the trait's bound.
+pub(crate) fn next_of<C: DocCursor>(cursor: &mut C, d: u32) -> Option<u32> {
+    cursor.next_geq(d);
+    cursor.doc()
+}
+
+// The frequency and the document where `next_frequent` goes.
+fn frequent_of<C: DocCursor>(cursor: &mut C, f: u32) -> Option<(u32, u32)> {
+    cursor.next_frequent(f);
+    match cursor.doc() {
+        Some(doc) => Some((cursor.freq(), doc)),
+        None => None,
+    }
+}
+
+// What is told of k postings, through the trait's bound.
+fn common_to<C: DocCursor>(cursor: &C, k: u32) -> u32
+    requires some { 1 ≤ k }
+{
+    cursor.common_freq(k)
+}
+
+// How many postings below an end a cursor gives, at most two, and what it gives.
+fn two_below<C: DocCursor>(cursor: &mut C, end: u64) -> (usize, [u64; 2], [u64; 2]) {
+    let mut docs = [0; 2];
+    let mut freqs = [0; 2];
+    let count = cursor.postings_below(end, &mut docs, &mut freqs);
+    (count, docs, freqs)
+}
+
+// The same of documents alone.
+fn two_docs_below<C: DocCursor>(cursor: &mut C, end: u64) -> (usize, [u64; 2]) {
+    let mut docs = [0; 2];
+    let count = cursor.docs_below(end, &mut docs);
+    (count, docs)
+}
+
+#[test]
+fn a_list_in_blocks(rt: HostRuntime) {
+    let docs = [1, 2, 4, 7];
+    let freqs = [1, 3, 1, 9];
+    let start = PlainCursor::new(&docs, &freqs);
+    let mut cursor = start;
+    for (end, count, docs, freqs) in [
+        (1, 0, [0, 0], [0, 0]),
+        (2, 1, [1, 0], [1, 0]),
+        (7, 2, [2, 4], [3, 1]),
+        (7, 0, [0, 0], [0, 0]),
+        (u64::MAX, 1, [7, 0], [9, 0]),
+        (u64::MAX, 0, [0, 0], [0, 0]),
+    ] {
+        assert_eq!(rt;
+            two_below(&mut cursor, end),
+            (count, docs, freqs),
+            "below {end}"
+        );
+    }
+    let mut cursor = start;
+    for (end, count, docs) in [
+        (0, 0, [0, 0]),
+        (8, 2, [1, 2]),
+        (5, 1, [4, 0]),
+        (8, 1, [7, 0]),
+        (8, 0, [0, 0]),
+    ] {
+        assert_eq!(rt;
+            two_docs_below(&mut cursor, end),
+            (count, docs),
+            "below {end}"
+        );
+    }
+    assert_eq!(rt; cursor.doc(), None);
+}
+
+#[test]
+fn a_list_of_three(rt: HostRuntime) {
+    let docs = [1, 2, 4];
+    let freqs = [1, 3, 1];
+    let mut cursor = PlainCursor::new(&docs, &freqs);
+    assert_eq!(rt; cursor.len(), 3);
+    assert_eq!(rt; cursor.max_freq(), 3);
+    assert_eq!(rt; cursor.doc(), Some(1));
+    cursor.advance();
+    assert_eq!(rt; cursor.freq(), 3);
+    for (d, doc) in [
+        (0, Some(2)),
+        (3, Some(4)),
+        (1, Some(4)),
+        (5, None),
+        (0, None),
+    ] {
+        assert_eq!(rt; next_of(&mut cursor, d), doc, "from {d}");
+    }
+    let empty = PlainCursor::new(&[], &[]);
+    assert_eq!(rt; empty.max_freq(), 0);
+    assert_eq!(rt; empty.doc(), None);
+}
+
+#[test]
+fn postings_by_their_frequencies(rt: HostRuntime) {
+    let mut cursor = PlainCursor::new(&[1, 2, 4, 7, 9], &[2, 3, 1, 9, 3]);
+    for (f, found) in [
+        (0, Some((2, 1))),
+        (3, Some((3, 2))),
+        (3, Some((3, 2))),
+        (4, Some((9, 7))),
+        (1, Some((9, 7))),
+        (10, None),
+        (0, None),
+    ] {
+        assert_eq!(rt; frequent_of(&mut cursor, f), found, "at least {f}");
+    }
+    assert_eq!(rt; common_to(&cursor, 1), 2);
+    assert_eq!(rt; common_to(&cursor, 5), 1);
+    assert_eq!(rt; common_to(&cursor, 6), 0);
+    assert_eq!(rt; common_to(&PlainCursor::new(&[], &[]), 1), 0);
+}

@@ -1,0 +1,118 @@
+// WAND and MaxScore over plain lists.
+ghost use Rattle.std.specs.Prelude.{◌≤◌, ◌<◌};
+
+use crate::blocks::{first_documents, long_cursor};
+use cursor_api::PlainCursor;
+use no_memory::NoMemory;
+use std::alloc::Global;
+use topk_pruning::{Plan, plan_top, top_maxscore, top_wand};
+
+// Five documents; a list has the documents 1 and 4, another 1, 2 and 4.
+#[test]
+fn two_lists(rt: HostRuntime) {
+    let starts = [
+        PlainCursor::new(&[1, 4], &[2, 3]),
+        PlainCursor::new(&[1, 2, 4], &[1, 3, 1]),
+    ];
+    let mut cursors = starts;
+    let top = top_maxscore(rt.alloc(), &mut cursors, &[1, 1], 2, 5).expect(&rt, "memory");
+    assert_eq!(rt; top.as_slice(), [(4, 4), (1, 3)].as_slice());
+    let mut cursors = starts;
+    let top = top_wand(rt.alloc(), &mut cursors, &[1, 1], 2, 5).expect(&rt, "memory");
+    assert_eq!(rt; top.as_slice(), [(4, 4), (1, 3)].as_slice());
+    for (weights, k, wanted) in [
+        ([2, 1], 3, [(4, 7), (1, 5), (2, 3)].as_slice()),
+        ([1, 2], 2, [(2, 6), (4, 5)].as_slice()),
+        ([65_535, 1], 1, [(4, 196_606)].as_slice()),
+        ([1, 1], 9, [(4, 4), (1, 3), (2, 3)].as_slice()),
+        ([1, 1], 0, [].as_slice()),
+    ] {
+        let mut cursors = starts;
+        let top = top_maxscore(rt.alloc(), &mut cursors, &weights, k, 5).expect(&rt, "memory");
+        assert_eq!(rt; top.as_slice(), wanted);
+        let mut cursors = starts;
+        let top = top_wand(rt.alloc(), &mut cursors, &weights, k, 5).expect(&rt, "memory");
+        assert_eq!(rt; top.as_slice(), wanted);
+    }
+}
+
+// The candidates of one list lie between those of the other.
+#[test]
+fn documents_of_one_list_each(rt: HostRuntime) {
+    let starts = [
+        PlainCursor::new(&[0, 5], &[1, 1]),
+        PlainCursor::new(&[3], &[1]),
+    ];
+    let mut cursors = starts;
+    let top = top_maxscore(rt.alloc(), &mut cursors, &[1, 1], 3, 6).expect(&rt, "memory");
+    assert_eq!(rt; top.as_slice(), [(0, 1), (3, 1), (5, 1)].as_slice());
+    let mut cursors = starts;
+    let top = top_wand(rt.alloc(), &mut cursors, &[1, 1], 3, 6).expect(&rt, "memory");
+    assert_eq!(rt; top.as_slice(), [(0, 1), (3, 1), (5, 1)].as_slice());
+}
+
+// A `k` above the number of documents takes no room for more than these.
+#[test]
+fn one_list(rt: HostRuntime) {
+    let starts = [PlainCursor::new(&[0, 2], &[2, 10])];
+    let mut cursors = starts;
+    let top = top_maxscore(rt.alloc(), &mut cursors, &[1], 4_294_967_295, 3).expect(&rt, "memory");
+    assert_eq!(rt; top.as_slice(), [(2, 10), (0, 2)].as_slice());
+    let mut cursors = starts;
+    let top = top_wand(rt.alloc(), &mut cursors, &[1], 4_294_967_295, 3).expect(&rt, "memory");
+    assert_eq!(rt; top.as_slice(), [(2, 10), (0, 2)].as_slice());
+}
+
+// The best k of the documents below `n`, each had once by the one list but the last, which it has nine times.
+fn best_of_a_long_list(
+    alloc: Global,
+    plan: Plan,
+    k: u32,
+    n: u32,
+) -> Result<Vec<(u32, u64)>, NoMemory>
+    requires some { 2 ≤ n }
+    requires few { n < 4294967295 }
+{
+    let docs = first_documents(alloc, n)?;
+    let mut freqs = vec![in alloc; 1; n as usize - 1]?;
+    freqs.push(9)?;
+    let mut cursors = [long_cursor(&docs, &freqs, n)];
+    plan_top(alloc, plan, &mut cursors, &[1], k, n)
+}
+
+// Of a list with 2,048 postings a score is told that k of them reach, here 1. A score at this floor is held, and then one above it is
+// asked for.
+#[test]
+fn scores_at_a_floor(rt: HostRuntime) {
+    for plan in [Plan::Exhaustive, Plan::Wand, Plan::MaxScore] {
+        for (k, last) in [
+            (1, (2_047, 9)),
+            (2, (0, 1)),
+            (2_047, (2_045, 1)),
+            (2_048, (2_046, 1)),
+        ] {
+            let top = best_of_a_long_list(rt.alloc(), plan, k, 2_048).expect(&rt, "memory");
+            assert_eq!(rt; top.len(), k as usize);
+            assert_eq!(rt; top.last().copied(), Some(last), "of {k}");
+        }
+    }
+}
+
+// One list alone can lift a document above the bar after the first, and only by its frequency in document 30; at equal scores the
+// earlier document stays.
+#[test]
+fn candidates_far_apart(rt: HostRuntime) {
+    let starts = [
+        PlainCursor::new(&[0, 10, 20, 30, 40], &[5, 1, 4, 6, 6]),
+        PlainCursor::new(&[0, 20, 30], &[1, 1, 1]),
+    ];
+    for (k, wanted) in [
+        (1, [(30, 7)].as_slice()),
+        (2, [(30, 7), (0, 6)].as_slice()),
+        (3, [(30, 7), (0, 6), (40, 6)].as_slice()),
+    ] {
+        let mut cursors = starts;
+        let top = top_maxscore(rt.alloc(), &mut cursors, &[1, 1], k, 41).expect(&rt, "memory");
+        assert_eq!(rt; top.as_slice(), wanted);
+    }
+}

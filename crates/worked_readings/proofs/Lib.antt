@@ -1,0 +1,2 @@
+mod Started
+mod Small

@@ -1,0 +1,294 @@
+ghost use Rattle.std.specs.Prelude.{◌≡◌, ◌<◌, ◌^◌, length, IfSome};
+ghost use Rattle.std.specs.List.{All};
+ghost use Rattle.collection_model.specs.Collection.{greatest};
+ghost use Rattle.collection_model.specs.Sequences.{steps_from};
+
+use crate::sequences::written;
+use cursor_api::DocCursor;
+use part_cost::Format;
+use postings::{PostingCursor, cursors_stand_in_lists, sequences_are_a_list};
+use std::process::Abort;
+use two_level::SeqView;
+
+// The greatest step of sums, None where a step does not fit a frequency.
+fn greatest_step(sums: &SeqView, m: u32) -> Option<u32>
+    requires count { length sums.now.values ≡ m }
+    requires below { All (λ s. s < 2 ^ 48) sums.now.values }
+    ensures fit { IfSome result (λ g. All (λ f. f < 2 ^ 32) (steps_from 0 sums.now.values)) }
+    ensures greatest { IfSome result (λ g. g ≡ greatest (steps_from 0 sums.now.values)) }
+{
+    let mut most = 0;
+    let mut past = 0;
+    for k in 0..m {
+        let next = sums.get(k) + 1;
+        let step = next.saturating_sub(past);
+        if step > u64::from(u32::MAX) {
+            return None;
+        }
+        most = step.max(most);
+        past = next;
+    }
+    Some(most as u32)
+}
+
+// A cursor over m documents below 1000 whose two sequences these words of a format are, in so many
+// parts.
+fn opened<'a>(
+    rt: &impl Abort,
+    format: Format,
+    docs: &'a [u64],
+    sums: &'a [u64],
+    doc_parts: u32,
+    sum_parts: u32,
+    m: u32,
+) -> PostingCursor<'a>
+    requires docs { length docs.now < 2 ^ 57 }
+    requires sums { length sums.now < 2 ^ 57 }
+{
+    sequences_are_a_list();
+    cursors_stand_in_lists();
+    let docs = SeqView::check(docs, doc_parts, m, 1000, format).expect(rt, "documents");
+    let sums = SeqView::check(sums, sum_parts, m, format.most_sum(), format).expect(rt, "sums");
+    let max = greatest_step(&sums, m).expect(rt, "frequencies that fit");
+    PostingCursor::new(docs, sums, max)
+}
+
+// The posting at the place of a cursor, which then goes on.
+fn next_posting<C: DocCursor>(cursor: &mut C) -> Option<(u32, u32)> {
+    let doc = cursor.doc()?;
+    let freq = cursor.freq();
+    cursor.advance();
+    Some((doc, freq))
+}
+
+// Where `next_geq` goes, through the trait's bound.
+fn next_of<C: DocCursor>(cursor: &mut C, d: u32) -> Option<u32> {
+    cursor.next_geq(d);
+    cursor.doc()
+}
+
+// The posting where `next_frequent` goes.
+fn frequent_of<C: DocCursor>(cursor: &mut C, f: u32) -> Option<(u32, u32)> {
+    cursor.next_frequent(f);
+    let doc = cursor.doc()?;
+    Some((doc, cursor.freq()))
+}
+
+// How many postings below an end a cursor gives, at most two, and what it gives.
+fn two_below<C: DocCursor>(cursor: &mut C, end: u64) -> (usize, [u64; 2], [u64; 2]) {
+    let mut docs = [0; 2];
+    let mut freqs = [0; 2];
+    let count = cursor.postings_below(end, &mut docs, &mut freqs);
+    (count, docs, freqs)
+}
+
+// The same of documents alone.
+fn two_docs_below<C: DocCursor>(cursor: &mut C, end: u64) -> (usize, [u64; 2]) {
+    let mut docs = [0; 2];
+    let count = cursor.docs_below(end, &mut docs);
+    (count, docs)
+}
+
+// Frequencies 1, 5 in one part, and 1, 2 in two, in each format.
+#[test]
+fn reads_the_postings_back(rt: HostRuntime) {
+    let docs_of_one: &[u64] = &[137_438_953_474, 0, 5];
+    let docs_of_two: &[u64] = &[2, 2, 0, 5];
+    let one: &[u64] = &[137_438_953_477, 0, 33];
+    let one_of_two: &[u64] = &[5, 2, 0, 33];
+    let two: &[u64] = &[68_719_476_736, 0, 137_438_953_474, 0, 2];
+    let two_of_two: &[u64] = &[0, 1, 0, 2, 2, 0, 2];
+    let docs_of_three: &[u64] = &[562_949_953_421_314, 0, 5];
+    let one_of_three: &[u64] = &[562_949_953_421_317, 0, 33];
+    let two_of_three: &[u64] = &[281_474_976_710_656, 0, 562_949_953_421_314, 0, 2];
+    for (format, docs, sums, parts, freq) in [
+        (Format::One, docs_of_one, one, 1, 5),
+        (Format::One, docs_of_one, two, 2, 2),
+        (Format::Two, docs_of_two, one_of_two, 1, 5),
+        (Format::Two, docs_of_two, two_of_two, 2, 2),
+        (Format::Three, docs_of_three, one_of_three, 1, 5),
+        (Format::Three, docs_of_three, two_of_three, 2, 2),
+    ] {
+        assert!(rt; docs.len() <= 4);
+        assert!(rt; sums.len() <= 7);
+        let mut cursor = opened(&rt, format, docs, sums, 1, parts, 2);
+        assert_eq!(rt; cursor.len(), 2);
+        assert_eq!(rt; cursor.max_freq(), freq);
+        assert_eq!(rt; next_posting(&mut cursor), Some((0, 1)));
+        assert_eq!(rt; next_posting(&mut cursor), Some((2, freq)));
+        assert_eq!(rt; next_posting(&mut cursor), None);
+        assert_eq!(rt; cursor.max_freq(), freq);
+        assert_eq!(rt; cursor.len(), 2);
+    }
+}
+
+// A cursor goes on to the first document that is large enough, and never back.
+#[test]
+fn goes_to_a_document(rt: HostRuntime) {
+    let docs = [137_438_953_474, 0, 5];
+    let sums = [137_438_953_477, 0, 33];
+    let mut cursor = opened(&rt, Format::One, &docs, &sums, 1, 1, 2);
+    for (d, doc) in [
+        (0, Some(0)),
+        (1, Some(2)),
+        (0, Some(2)),
+        (2, Some(2)),
+        (3, None),
+        (0, None),
+    ] {
+        assert_eq!(rt; next_of(&mut cursor, d), doc, "from {d}");
+    }
+}
+
+// Frequencies 1, 2, 3 in one part and in two, read from the second on: the first document is
+// skipped.
+#[test]
+fn reads_on_from_a_document(rt: HostRuntime) {
+    let docs_of_one: &[u64] = &[206_158_430_210, 0];
+    let docs_of_two: &[u64] = &[2, 3, 0];
+    let one: &[u64] = &[206_158_430_213, 0, 37];
+    let two: &[u64] = &[68_719_476_736, 0, 206_158_430_213, 0, 18];
+    let two_of_two: &[u64] = &[0, 1, 0, 5, 3, 0, 18];
+    for (format, docs, sums, parts) in [
+        (Format::One, docs_of_one, one, 1),
+        (Format::One, docs_of_one, two, 2),
+        (Format::Two, docs_of_two, two_of_two, 2),
+    ] {
+        assert!(rt; docs.len() <= 3);
+        assert!(rt; sums.len() <= 7);
+        let mut cursor = opened(&rt, format, docs, sums, 1, parts, 3);
+        assert_eq!(rt; next_of(&mut cursor, 1), Some(1));
+        assert_eq!(rt; next_posting(&mut cursor), Some((1, 2)));
+        assert_eq!(rt; next_posting(&mut cursor), Some((2, 3)));
+        assert_eq!(rt; next_posting(&mut cursor), None);
+    }
+}
+
+// Documents 0, 1, 2 of frequencies 1, 2, 3 in one part and in two, by their frequencies, before and
+// behind a document that was read.
+#[test]
+fn goes_to_a_frequency(rt: HostRuntime) {
+    let docs = [206_158_430_210, 0];
+    let one: &[u64] = &[206_158_430_213, 0, 37];
+    let two: &[u64] = &[68_719_476_736, 0, 206_158_430_213, 0, 18];
+    for (sums, parts) in [(one, 1), (two, 2)] {
+        assert!(rt; sums.len() <= 5);
+        let mut cursor = opened(&rt, Format::One, &docs, sums, 1, parts, 3);
+        for (f, found) in [
+            (0, Some((0, 1))),
+            (1, Some((0, 1))),
+            (2, Some((1, 2))),
+            (1, Some((1, 2))),
+            (3, Some((2, 3))),
+            (4, None),
+            (0, None),
+        ] {
+            assert_eq!(rt; frequent_of(&mut cursor, f), found, "at least {f}");
+        }
+        let mut cursor = opened(&rt, Format::One, &docs, sums, 1, parts, 3);
+        assert_eq!(rt; next_posting(&mut cursor), Some((0, 1)));
+        assert_eq!(rt; frequent_of(&mut cursor, 1), Some((1, 2)));
+        assert_eq!(rt; cursor.common_freq(1), 0);
+    }
+}
+
+// Frequencies 1, 1 in one part and 100 in another, which is told.
+#[test]
+fn tells_a_common_frequency(rt: HostRuntime) {
+    let docs = [206_158_430_210, 0];
+    let sums = written(&rt, rt.alloc(), &[0, 1, 101], &[2, 3], Format::One);
+    assert!(rt; sums.len() < 100);
+    let mut cursor = opened(&rt, Format::One, &docs, &sums, 1, 2, 3);
+    assert_eq!(rt; cursor.common_freq(1), 100);
+    assert_eq!(rt; cursor.common_freq(2), 0);
+    assert_eq!(rt; frequent_of(&mut cursor, 100), Some((2, 100)));
+}
+
+// Documents 0, 1, 2 of frequencies 1, 2, 3 in one part and in two: all by two, all behind the first
+// document, and the last one.
+#[test]
+fn reads_the_postings_below(rt: HostRuntime) {
+    let docs_of_one: &[u64] = &[206_158_430_210, 0];
+    let docs_of_two: &[u64] = &[2, 3, 0];
+    let one: &[u64] = &[206_158_430_213, 0, 37];
+    let two: &[u64] = &[68_719_476_736, 0, 206_158_430_213, 0, 18];
+    let two_of_two: &[u64] = &[0, 1, 0, 5, 3, 0, 18];
+    for (format, docs, sums, parts) in [
+        (Format::One, docs_of_one, one, 1),
+        (Format::One, docs_of_one, two, 2),
+        (Format::Two, docs_of_two, two_of_two, 2),
+    ] {
+        assert!(rt; docs.len() <= 3);
+        assert!(rt; sums.len() <= 7);
+        let mut all = opened(&rt, format, docs, sums, 1, parts, 3);
+        assert_eq!(rt; two_below(&mut all, 0), (0, [0, 0], [0, 0]));
+        assert_eq!(rt; two_below(&mut all, 9), (2, [0, 1], [1, 2]));
+        assert_eq!(rt; next_posting(&mut all), Some((2, 3)));
+        assert_eq!(rt; two_below(&mut all, 9), (0, [0, 0], [0, 0]));
+        let mut behind = opened(&rt, format, docs, sums, 1, parts, 3);
+        assert_eq!(rt; two_docs_below(&mut behind, 1), (1, [0, 0]));
+        assert_eq!(rt; two_below(&mut behind, 2), (1, [1, 0], [2, 0]));
+        assert_eq!(rt; two_below(&mut behind, u64::MAX), (1, [2, 0], [3, 0]));
+        assert_eq!(rt; two_docs_below(&mut behind, u64::MAX), (0, [0, 0]));
+        let mut last = opened(&rt, format, docs, sums, 1, parts, 3);
+        assert_eq!(rt; next_of(&mut last, 2), Some(2));
+        assert_eq!(rt; two_below(&mut last, 2), (0, [0, 0], [0, 0]));
+        assert_eq!(rt; two_below(&mut last, 3), (1, [2, 0], [3, 0]));
+    }
+}
+
+#[test]
+fn an_empty_list_is_at_its_end(rt: HostRuntime) {
+    for format in [Format::One, Format::Two, Format::Three] {
+        let mut cursor = opened(&rt, format, &[], &[], 0, 0, 0);
+        assert_eq!(rt; cursor.len(), 0);
+        assert_eq!(rt; cursor.max_freq(), 0);
+        assert_eq!(rt; next_of(&mut cursor, 0), None);
+        assert_eq!(rt; two_below(&mut cursor, 9), (0, [0, 0], [0, 0]));
+        assert_eq!(rt; next_posting(&mut cursor), None);
+    }
+}
+
+// How many words a cursor tells of two words of marks, and what is left of them, through the
+// trait's bound.
+fn kept_of<C: DocCursor>(cursor: &C, first: u32) -> (usize, [u64; 2]) {
+    let mut marks = [u64::MAX; 2];
+    let words = cursor.keep_in_words(first, &mut marks);
+    (words, marks)
+}
+
+// Documents 0 to 127 in a part of which all places are taken, and then, in a bitmap, those up to
+// 383 that are no multiples of four.
+#[test]
+fn keeps_marks_in_whole_words(rt: HostRuntime) {
+    let all = u64::MAX;
+    let some = 0xeeee_eeee_eeee_eeee;
+    let two_on = 0xbbbb_bbbb_bbbb_bbbb;
+    let docs = [
+        (128 << 36) + 127,
+        0,
+        (320 << 36) + 383,
+        0,
+        some,
+        some,
+        some,
+        some,
+    ];
+    let sums = [(320 << 36) + 319, 0];
+    let mut cursor = opened(&rt, Format::One, &docs, &sums, 2, 1, 320);
+    for (doc, first, words, marks) in [
+        (0, 0, 2, [all, all]),
+        (0, 64, 1, [all, all]),
+        (0, 65, 0, [all, all]),
+        (0, u32::MAX, 0, [all, all]),
+        (129, 127, 0, [all, all]),
+        (129, 128, 2, [some, some]),
+        (129, 130, 2, [two_on, two_on]),
+        (129, 320, 1, [some, all]),
+        (129, 321, 0, [all, all]),
+        (384, 320, 0, [all, all]),
+    ] {
+        next_of(&mut cursor, doc);
+        assert_eq!(rt; kept_of(&cursor, first), (words, marks), "from {first}");
+    }
+}

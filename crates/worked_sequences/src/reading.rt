@@ -1,0 +1,235 @@
+use crate::checks::found;
+use crate::sequences::{numbers, written};
+use part_cost::Format;
+use std::process::Abort;
+use std::test::Fail;
+use two_level::{Check, Part, SeqView};
+
+// Whether a view gives these values by their places, and a cursor one after another.
+fn reads_back(rt: &impl Abort, view: &SeqView, values: &[u64]) {
+    let m = view.len();
+    assert_eq!(rt; m as usize, values.len());
+    let mut cursor = view.cursor();
+    for k in 0..m {
+        let value = values[k as usize];
+        assert_eq!(rt; (view.get(k), cursor.value()), (value, value));
+        assert_eq!(rt; cursor.place(), k);
+        cursor.next();
+    }
+    cursor.next_geq(0);
+    assert_eq!(rt; cursor.place(), m);
+    assert_eq!(rt; cursor.current(), None);
+}
+
+// Whether a cursor finds each value and the end behind the last, and stays where it was moved.
+fn finds_places(rt: &impl Abort, view: &SeqView, values: &[u64]) {
+    let m = view.len();
+    assert_eq!(rt; m as usize, values.len());
+    for k in 0..m {
+        let value = values[k as usize];
+        let mut cursor = view.cursor();
+        cursor.next_geq(value);
+        assert_eq!(rt; (cursor.current(), cursor.place()), (Some(value), k));
+        cursor.next();
+        assert_eq!(rt; cursor.place(), k + 1);
+        assert_eq!(rt; view.cursor_at(k).current(), Some(value));
+        cursor.move_to(m - k);
+        cursor.move_to(k);
+        cursor.next_geq(0);
+        assert_eq!(rt; (cursor.current(), cursor.place()), (Some(value), k));
+        cursor.next_geq(value.saturating_add(1));
+        assert_eq!(rt; cursor.place(), k + 1);
+    }
+    let mut cursor = view.cursor();
+    cursor.next_geq(u64::MAX);
+    assert_eq!(rt; cursor.place(), m);
+}
+
+// Whether the parts of a view of these values are those that end at such places.
+fn has_parts(rt: &impl Abort, view: &SeqView, values: &[u64], ends: &[u64]) {
+    assert_eq!(rt; view.len() as usize, values.len());
+    assert_eq!(rt; view.parts() as usize, ends.len());
+    let mut from = 0;
+    let mut past = 0;
+    for i in 0..view.parts() {
+        let to = ends[i as usize];
+        assert!(rt; 1 <= to && to <= values.len() as u64);
+        let last = values[to as usize - 1];
+        assert!(rt; past <= last && last < 1 << 48);
+        let (to, u) = (to as u32, last + 1 - past);
+        assert_eq!(rt; view.part(i), Part { from, to, last, u });
+        assert_eq!(rt; view.last_of_part(i), last);
+        from = to;
+        past = last + 1;
+    }
+}
+
+// Whether a view of values in parts that end at such places is read by each call.
+pub(crate) fn is_read(rt: &impl Abort, view: &SeqView, values: &[u64], ends: &[u64]) {
+    reads_back(rt, view, values);
+    finds_places(rt, view, values);
+    has_parts(rt, view, values, ends);
+}
+
+// Whether words are accepted as those of values below a bound in parts that end at such places, and
+// are read back, once they are checked and where they are known.
+pub(crate) fn are_read_back(
+    rt: &impl Abort,
+    words: &[u64],
+    values: &[u64],
+    ends: &[u64],
+    bound: u64,
+    format: Format,
+) {
+    assert!(rt; words.len() < 1 << 28 && values.len() < 1 << 28 && ends.len() < 1 << 28);
+    assert!(rt; bound <= format.most_sum());
+    let (parts, m) = (ends.len() as u32, values.len() as u32);
+    let view = SeqView::check(words, parts, m, bound, format).expect(rt, "a sequence");
+    assert_eq!(rt; view.used(), words.len() as u64);
+    is_read(rt, &view, values, ends);
+    is_read(rt, &SeqView::known(words, parts, m, format), values, ends);
+}
+
+// 0, 2 in one part and in two; 0, 5; and 1, 2, where the first bit is not set; 0, 1; and 0 with the
+// greatest value.
+#[test]
+fn two_values_are_read_back(rt: HostRuntime) {
+    for (format, words, values, ends, bound) in [
+        (
+            Format::One,
+            [137_438_953_474, 0, 5].as_slice(),
+            [0, 2],
+            [2].as_slice(),
+            3,
+        ),
+        (
+            Format::One,
+            &[68_719_476_736, 0, 137_438_953_474, 0, 2],
+            [0, 2],
+            &[1, 2],
+            3,
+        ),
+        (
+            Format::One,
+            &[137_438_953_477, 0, 33],
+            [0, 5],
+            &[2],
+            1 << 36,
+        ),
+        (Format::One, &[137_438_953_474, 0, 6], [1, 2], &[2], 3),
+        (Format::One, &[137_438_953_473, 0], [0, 1], &[2], 3),
+        (Format::Two, &[2, 2, 0, 5], [0, 2], &[2], 3),
+        (Format::Two, &[0, 1, 0, 2, 2, 0, 2], [0, 2], &[1, 2], 3),
+        (Format::Two, &[5, 2, 0, 33], [0, 5], &[2], 1 << 48),
+        (Format::Two, &[2, 2, 0, 6], [1, 2], &[2], 3),
+        (Format::Two, &[1, 2, 0], [0, 1], &[2], 3),
+        (
+            Format::Two,
+            &[
+                281_474_976_710_655,
+                2,
+                0,
+                18_444_492_273_895_866_385,
+                8_589_934_591,
+            ],
+            [0, 281_474_976_710_655],
+            &[2],
+            1 << 48,
+        ),
+        (
+            Format::Two,
+            &[0, 1, 0, 281_474_976_710_655, 2, 0, 562_949_953_421_306],
+            [0, 281_474_976_710_655],
+            &[1, 2],
+            1 << 48,
+        ),
+        (Format::Three, &[562_949_953_421_314, 0, 5], [0, 2], &[2], 3),
+        (
+            Format::Three,
+            &[281_474_976_710_656, 0, 562_949_953_421_314, 0, 2],
+            [0, 2],
+            &[1, 2],
+            3,
+        ),
+        (
+            Format::Three,
+            &[562_949_953_421_317, 0, 33],
+            [0, 5],
+            &[2],
+            1 << 48,
+        ),
+        (Format::Three, &[562_949_953_421_314, 0, 6], [1, 2], &[2], 3),
+        (Format::Three, &[562_949_953_421_313, 0], [0, 1], &[2], 3),
+        (
+            Format::Three,
+            &[
+                844_424_930_131_967,
+                0,
+                18_444_492_273_895_866_385,
+                8_589_934_591,
+            ],
+            [0, 281_474_976_710_655],
+            &[2],
+            1 << 48,
+        ),
+        (
+            Format::Three,
+            &[
+                281_474_976_710_656,
+                0,
+                844_424_930_131_967,
+                0,
+                562_949_953_421_306,
+            ],
+            [0, 281_474_976_710_655],
+            &[1, 2],
+            1 << 48,
+        ),
+    ] {
+        are_read_back(&rt, words, &values, ends, bound, format);
+    }
+}
+
+// The values 0 to 999 in one part have no payload.
+#[test]
+fn a_whole_range_takes_its_entry_alone(rt: HostRuntime) -> Result<(), Fail> {
+    for (format, want) in [
+        (Format::One, [68_719_476_736_999, 0].as_slice()),
+        (Format::Two, &[999, 1_000, 0]),
+        (Format::Three, &[281_474_976_710_656_999, 0]),
+    ] {
+        let values = numbers(rt.alloc(), 0, 1_000, 1, None)?;
+        let words = written(&rt, rt.alloc(), &values, &[1_000], format);
+        assert_eq!(rt; words.as_slice(), want);
+        are_read_back(&rt, want, &values, &[1_000], 1_000, format);
+    }
+    Ok(())
+}
+
+// 0, 10, .., 1280 and a far value in two parts, of 685 and 36 bits. The last 9 bits of the first
+// part are its one sample, which says that number 128 stands at place (1280 >> 3) + 128 of the high
+// bits. A changed bit of it, of the second part and behind that.
+#[test]
+fn a_part_with_a_sample_is_read_back(rt: HostRuntime) -> Result<(), Fail> {
+    for (format, directory) in [(Format::One, 4), (Format::Two, 6), (Format::Three, 4)] {
+        let values = numbers(rt.alloc(), 0, 129, 10, Some(1 << 35))?;
+        let bound = format.most_sum();
+        let words = written(&rt, rt.alloc(), &values, &[129, 130], format);
+        assert!(rt; directory <= 6);
+        assert_eq!(rt; words.len(), directory + 12);
+        are_read_back(&rt, &words, &values, &[129, 130], bound, format);
+        assert_eq!(rt; words[directory + 10] >> 36 & 511, 288);
+        for (word, bit, fault) in [
+            (10, 36, (Check::K8, 0)),
+            (10, 44, (Check::K8, 0)),
+            (11, 16, (Check::K8, 1)),
+            (11, 17, (Check::K9, 0)),
+        ] {
+            let mut changed = words.as_slice().to_vec(rt.alloc())?;
+            assert!(rt; word < 12 && bit < 64 && changed.len() == directory + 12);
+            changed[directory + word] ^= 1 << bit;
+            assert_eq!(rt; found(&changed, 2, 130, bound, format), Err(fault));
+        }
+    }
+    Ok(())
+}
