@@ -1,0 +1,73 @@
+use Rattle.std.proofs.Common.{◌≡◌, ℕ, ◌+◌, List, [], ◌∷◌, length, sym, ap, ◌∙◌, subst, arith}
+use Rattle.bit_words.specs.Bits.{bits_of}
+use Rattle.bit_words.proofs.Value.{bits-bits_of, length-bits_of}
+use Rattle.part_cost.specs.Payload.{payload}
+use Rattle.part_cost.specs.Span.{past}
+use Rattle.part_cost.specs.Stored.{HoldsPart}
+use Rattle.part_codec.specs.PartBits.{part_bits}
+use Rattle.packed_list.proofs.LonePlaces.{lone-facts, lone-found}
+use Rattle.packed_list.proofs.check.check_lone.Goals as goal
+
+-- a part, by other names of its place
+move : (words : List ℕ) (bits : List ℕ) (place there u v m k : ℕ) (ys : List ℕ) → bits ≡ bits_of words → place ≡ there → u ≡ v → m ≡ k → HoldsPart part_bits bits place u m ys → HoldsPart part_bits (bits_of words) there v k ys
+move words bits place there u v m k ys e f g h held =
+    subst (λ zs. HoldsPart part_bits zs there v k ys) e
+    (subst (λ p. HoldsPart part_bits bits p v k ys) f (subst (λ x. HoldsPart part_bits bits place x k ys) g (subst (λ j. HoldsPart part_bits bits place u j ys) h held)))
+
+pub returns-then-end-place-clause-none : goal.returns-then-end-place-clause-none
+returns-then-end-place-clause-none c = λ xs ends h.
+    let s = c.args.sought in
+    let f = lone-facts c.part_takes_its_payload.ensures.payload s.last s.m s.bound (bits_of c.args.words.now) c.args.at c.args.end xs ends (omega (arith, s.many)) s.bound_fits c.requires.flag h in
+    omega (arith, f.place, c.from.ensures, c.if-end-place.true)
+
+pub returns-then-saturating_sub-field-clause-none : goal.returns-then-saturating_sub-field-clause-none
+returns-then-saturating_sub-field-clause-none c = λ xs ends h.
+    let s = c.args.sought in
+    let f = lone-facts c.part_takes_its_payload.ensures.payload s.last s.m s.bound (bits_of c.args.words.now) c.args.at c.args.end xs ends (omega (arith, s.many)) s.bound_fits c.requires.flag h in
+    omega (arith, f.end_is, f.below, c.get-field.ensures, c.saturating_sub.ensures, c.if-saturating_sub-field.true)
+
+pub returns-then-universe-m-clause-none : goal.returns-then-universe-m-clause-none
+returns-then-universe-m-clause-none c = λ xs ends h.
+    let s = c.args.sought in
+    let f = lone-facts c.part_takes_its_payload.ensures.payload s.last s.m s.bound (bits_of c.args.words.now) c.args.at c.args.end xs ends (omega (arith, s.many)) s.bound_fits c.requires.flag h in
+    omega (arith, f.end_is, f.room, c.get-field.ensures, c.from-m.ensures, c.if-universe-m.true)
+
+pub returns-then-end-behind-clause-none : goal.returns-then-end-behind-clause-none
+returns-then-end-behind-clause-none c = λ xs ends h.
+    let s = c.args.sought in
+    let f = lone-facts c.part_takes_its_payload.ensures.payload s.last s.m s.bound (bits_of c.args.words.now) c.args.at c.args.end xs ends (omega (arith, s.many)) s.bound_fits c.requires.flag h in
+    let u : c.get-field.result + s.last.less + 1 ≡ past xs (length xs) = omega (arith, f.end_is, c.get-field.ensures) in
+    let bits : c.payload_bits.result ≡ payload (past xs (length xs)) s.m = c.payload_bits.ensures ∙ ap (λ x. payload x c.from-m.result) u ∙ ap (payload (past xs (length xs))) c.from-m.ensures in
+    omega (arith, f.behind, bits, c.from.ensures, c.if-end-behind.true)
+
+pub returns-in-None-clause-none : goal.returns-in-None-clause-none
+returns-in-None-clause-none c = λ xs ends h.
+    let s = c.args.sought in
+    let words : List ℕ = c.args.words.now in
+    let f = lone-facts c.part_takes_its_payload.ensures.payload s.last s.m s.bound (bits_of words) c.args.at c.args.end xs ends (omega (arith, s.many)) s.bound_fits c.requires.flag h in
+    let p = c.at.result in
+    let place : c.args.at + 1 + s.last.width ≡ p.place = omega (arith, c.from.ensures, c.at.ensures.place) in
+    let u : past xs (length xs) ≡ p.u = omega (arith, f.end_is, c.get-field.ensures, c.at.ensures.u) in
+    let m : s.m ≡ p.m = omega (arith, c.from-m.ensures, c.at.ensures.m) in
+    let bits : bits_of words ≡ bits_of p.bits.words.now = ap bits_of (sym c.at.ensures.bits) in
+    c.in-None.ensures.none xs (move p.bits.words.now (bits_of words) (c.args.at + 1 + s.last.width) p.place (past xs (length xs)) p.u s.m p.m xs bits place u m f.held)
+
+pub returns-in-Some-clause-some : goal.returns-in-Some-clause-some
+returns-in-Some-clause-some c =
+    let s = c.args.sought in
+    let words : List ℕ = c.args.words.now in
+    let bits : List ℕ = bits_of words in
+    let p = c.at.result in
+    let got = c.in-Some.ensures.some in
+    let u : ℕ = c.get-field.result + s.last.less + 1 in
+    let place : p.place ≡ c.args.at + 1 + s.last.width = omega (arith, c.from.ensures, c.at.ensures.place) in
+    let top : p.u ≡ u = omega (arith, c.at.ensures.u) in
+    let m : p.m ≡ s.m = omega (arith, c.from-m.ensures, c.at.ensures.m) in
+    let held : HoldsPart part_bits bits (c.args.at + 1 + s.last.width) u s.m got.0 =
+    move words (bits_of p.bits.words.now) p.place (c.args.at + 1 + s.last.width) p.u u p.m s.m got.0 (ap bits_of c.at.ensures.bits) place top m got.1 in
+    let long : c.payload_bits.result ≡ payload u s.m = c.payload_bits.ensures ∙ ap (payload u) c.from-m.ensures in
+    let behind : ℕ = c.args.at + 1 + c.from.result + c.payload_bits.result in
+    let found = lone-found c.part_takes_its_payload.ensures.payload s.last s.m s.bound bits c.args.at c.args.end c.get-field.result u behind got.0 (bits-bits_of words) (omega (arith, s.many)) s.bound_fits
+    c.requires.within (omega (arith, c.requires.range, length-bits_of words)) c.requires.flag c.get-field.ensures (let e : u ≡ u = omega arith in e)
+    (omega (arith, c.saturating_sub.ensures, c.if-saturating_sub-field.false)) (omega (arith, c.from.ensures, long)) (omega (arith, c.if-end-behind.false)) held in
+    record { values = got.0; ends = s.m ∷ []; sequence = found.sequence; behind = found.behind_is; step = got.2 }

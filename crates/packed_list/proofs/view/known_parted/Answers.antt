@@ -1,0 +1,139 @@
+use Rattle.std.proofs.Common.{◌≡◌, ℕ, ◌+◌, ◌*◌, ◌/◌, ◌%◌, ◌^◌, ◌<◌, ◌≤◌, min, List, length, get_or, slice_index, refl, sym, ap, ◌∙◌, subst, arith}
+use Rattle.std.specs.List.{All, slice_range}
+use Rattle.std.proofs.lemmas.List.Elements.{All-from_get_or}
+use Rattle.bit_words.specs.Bits.{bits_of, field_at}
+use Rattle.bit_words.specs.Laws.{BitsOfAppended, WordsOfBits}
+use Rattle.collection_model.specs.FormatNumbers.{format_three}
+use Rattle.part_cost.specs.Payload.{digits}
+use Rattle.part_cost.proofs.Partitions.{few-parts}
+use Rattle.two_level.specs.SequenceView.{SequenceView, BeginWith, words_used}
+use Rattle.two_level.specs.SequenceWords.{sequence_words, BeginsSequence}
+use Rattle.packed_list.specs.declared.last_field.LastField.{LastField}
+use Rattle.packed_list.specs.ListBits.{sequence_bits}
+use Rattle.packed_list.specs.ListPlaces.{IsSequenceBefore, IsPartedHead}
+use Rattle.packed_list.specs.Laws.{SequenceWordsFit}
+use Rattle.packed_list.proofs.PartedPlaces.{head-read, parted-head, parted-begins, parted-size}
+use Rattle.packed_list.proofs.view.known_parted.Goals as goal
+
+rounds : (n r : ℕ) → r ≡ n / 64 + min 1 (n % 64) → r ≡ (n + 63) / 64
+rounds n r e = omega arith
+
+-- what is read of the head: its number of parts, and the word behind it
+record Read (words : List ℕ) (at m parts start : ℕ) (last : LastField) (xs ends : List ℕ) : Type 0 where
+  parts_are : parts ≡ length ends
+  few : length ends ≤ m
+  start_is : start ≡ (at + 1 + digits m + 63) / 64
+  within : 64 * start ≤ 64 * length words
+  head : IsPartedHead m (bits_of words) at (64 * length words) parts start
+  behind : 64 * (start + length (sequence_words format_three xs ends)) ≡ at + length (sequence_bits last at xs ends)
+  inside : at + length (sequence_bits last at xs ends) ≤ 64 * length words
+
+read : (words : List ℕ) (at m n w d parts start : ℕ) (last : LastField) (xs ends : List ℕ) → 2 ≤ m → m < 2 ^ 32 → slice_index (bits_of words) at ≡ 1 → n ≡ m → w ≡ digits n → d ≡ w → parts ≡ field_at (bits_of words) (at + 1) w
+    → start ≡ (at + 1 + d) / 64 + min 1 ((at + 1 + d) % 64) → IsSequenceBefore last m format_three.most_sum (bits_of words) at (64 * length words) xs ends → Read words at m parts start last xs ends
+read words at m n w d parts start last xs ends many few flag e f g value rounded h =
+    let bits : List ℕ = bits_of words in
+    let first : ℕ = (at + 1 + digits m + 63) / 64 in
+    let head = parted-head last m format_three.most_sum bits at (64 * length words) xs ends (omega (arith, many)) few flag h in
+    let got = head-read m bits at (64 * length words) (length ends) first head in
+    let width : w ≡ digits m = f ∙ ap digits e in
+    let parts_are : parts ≡ length ends = value ∙ ap (field_at bits (at + 1)) width ∙ sym got.parts_are in
+    let start_is : start ≡ first = rounds (at + 1 + d) start rounded ∙ ap (λ k. (at + 1 + k + 63) / 64) (g ∙ width) in
+    record {
+      parts_are = parts_are;
+      few = omega (arith, few-parts 0 m ends h.stored.partition);
+      start_is = start_is;
+      within = omega (arith, start_is, head.within);
+      head = subst (λ k. IsPartedHead m bits at (64 * length words) k start) (sym parts_are) (subst (λ k. IsPartedHead m bits at (64 * length words) (length ends) k) (sym start_is) head);
+      behind = ap (λ k. 64 * (k + length (sequence_words format_three xs ends))) start_is ∙ parted-size last m format_three.most_sum bits at (64 * length words) xs ends (omega (arith, many)) flag h;
+      inside = h.within;
+    }
+
+abbrev view-of : List ℕ → List ℕ → SequenceView
+view-of xs ends = record { format = format_three; values = xs; ends = ends }
+
+begun : BitsOfAppended → WordsOfBits → SequenceWordsFit → (words lent : List ℕ) (at m parts start : ℕ) (last : LastField) (xs ends : List ℕ) → All (λ w. w < 2 ^ 64) words → 2 ≤ m → m < 2 ^ 32 → slice_index (bits_of words) at ≡ 1
+    → lent ≡ slice_range words start (length words) → Read words at m parts start last xs ends → IsSequenceBefore last m format_three.most_sum (bits_of words) at (64 * length words) xs ends
+    → BeginWith lent parts m (view-of xs ends)
+begun appended whole fits words lent at m parts start last xs ends small many few flag is r h =
+    let q : length words ≡ 64 * length words / 64 = omega arith in (
+      format_three.most_sum,
+      length (sequence_words format_three xs ends),
+      omega arith,
+      subst (λ zs. BeginsSequence format_three m format_three.most_sum parts xs ends zs (length (sequence_words format_three xs ends))) (sym is)
+          (parted-begins appended whole fits last m format_three.most_sum words at (64 * length words) parts start (length words) xs ends small (omega (arith, many)) few (omega arith) flag h r.head q),
+    )
+
+small-words : (words : List ℕ) → ((i : ℕ) → get_or words i 0 < 2 ^ 64) → All (λ w. w < 2 ^ 64) words
+small-words words h = All-from_get_or (λ w. w < 2 ^ 64) words 0 (λ i lt. h i)
+
+pub get-parts-requires-clause-range : goal.get-parts-requires-clause-range
+get-parts-requires-clause-range c =
+    let h = c.requires.stands in
+    let head = parted-head c.args.last c.args.m format_three.most_sum (bits_of c.args.words.now) c.args.at (64 * length c.args.words.now) h.0 h.1 (omega (arith, c.requires.many)) (omega (arith, c.ranges.m.fits)) c.requires.flag h.2 in
+    let width : c.digits-width.result ≡ digits c.args.m = c.digits-width.ensures ∙ ap digits c.from.ensures in
+    omega (arith, head.word, head.within, width)
+
+pub overflow_cast-parts : goal.overflow_cast-parts
+overflow_cast-parts c =
+    let h = c.requires.stands in
+    let bits : List ℕ = bits_of c.args.words.now in
+    let m : ℕ = c.args.m in
+    let head = parted-head c.args.last m format_three.most_sum bits c.args.at (64 * length c.args.words.now) h.0 h.1 (omega (arith, c.requires.many)) (omega (arith, c.ranges.m.fits)) c.requires.flag h.2 in
+    let got = head-read m bits c.args.at (64 * length c.args.words.now) (length h.1) ((c.args.at + 1 + digits m + 63) / 64) head in
+    let width : c.digits-width.result ≡ digits m = c.digits-width.ensures ∙ ap digits c.from.ensures in
+    let value : c.get-parts.result ≡ field_at bits (c.args.at + 1) (digits m) = c.get-parts.ensures ∙ ap (field_at bits (c.args.at + 1)) width in
+    omega (arith, value, got.parts_are, few-parts 0 m h.1 h.2.stored.partition, c.ranges.m.fits)
+
+pub words_from-requires : goal.words_from-requires
+words_from-requires c =
+    let h = c.requires.stands in
+    let r = read c.args.words.now c.args.at c.args.m c.from.result c.digits-width.result c.from-2.result c.get-parts.result c.div_ceil-start.result c.args.last h.0 h.1 c.requires.many (omega (arith, c.ranges.m.fits)) c.requires.flag c.from.ensures c.digits-width.ensures
+    c.from-2.ensures c.get-parts.ensures c.div_ceil-start.ensures h.2 in
+    record { within = omega (arith, r.within) }
+
+pub known-view-requires-clause-checked : goal.known-view-requires-clause-checked
+known-view-requires-clause-checked c =
+    let h = c.requires.stands in
+    let r = read c.args.words.now c.args.at c.args.m c.from.result c.digits-width.result c.from-2.result c.get-parts.result c.div_ceil-start.result c.args.last h.0 h.1 c.requires.many (omega (arith, c.ranges.m.fits)) c.requires.flag c.from.ensures c.digits-width.ensures
+    c.from-2.ensures c.get-parts.ensures c.div_ceil-start.ensures h.2 in (
+      view-of h.0 h.1,
+      refl,
+      begun c.words_are_bits.ensures.appended c.words_are_bits.ensures.words c.sequence_words_fit.ensures c.args.words.now c.words_from.result.now c.args.at c.args.m c.get-parts.result c.div_ceil-start.result c.args.last h.0 h.1
+          (small-words c.args.words.now (λ i. (let f = c.type_inv.words i in omega (arith, f)))) c.requires.many (omega (arith, c.ranges.m.fits)) c.requires.flag c.words_from.ensures r h.2,
+    )
+
+pub overflow_add-behind : goal.overflow_add-behind
+overflow_add-behind c =
+    let h = c.requires.stands in
+    let r = read c.args.words.now c.args.at c.args.m c.from.result c.digits-width.result c.from-2.result c.get-parts.result c.div_ceil-start.result c.args.last h.0 h.1 c.requires.many (omega (arith, c.ranges.m.fits)) c.requires.flag c.from.ensures c.digits-width.ensures
+    c.from-2.ensures c.get-parts.ensures c.div_ceil-start.ensures h.2 in
+    let view = c.known-view.ensures.same (view-of h.0 h.1) refl (begun c.words_are_bits.ensures.appended c.words_are_bits.ensures.words c.sequence_words_fit.ensures c.args.words.now c.words_from.result.now c.args.at c.args.m c.get-parts.result c.div_ceil-start.result c.args.last h.0 h.1
+    (small-words c.args.words.now (λ i. (let f = c.type_inv.words i in omega (arith, f)))) c.requires.many (omega (arith, c.ranges.m.fits)) c.requires.flag c.words_from.ensures r h.2) in
+    let used : c.used.result ≡ length (sequence_words format_three h.0 h.1) = c.used.ensures ∙ ap words_used view in
+    omega (arith, r.behind, r.inside, used, c.requires.words)
+
+pub overflow_mul-behind : goal.overflow_mul-behind
+overflow_mul-behind c =
+    let h = c.requires.stands in
+    let r = read c.args.words.now c.args.at c.args.m c.from.result c.digits-width.result c.from-2.result c.get-parts.result c.div_ceil-start.result c.args.last h.0 h.1 c.requires.many (omega (arith, c.ranges.m.fits)) c.requires.flag c.from.ensures c.digits-width.ensures
+    c.from-2.ensures c.get-parts.ensures c.div_ceil-start.ensures h.2 in
+    let view = c.known-view.ensures.same (view-of h.0 h.1) refl (begun c.words_are_bits.ensures.appended c.words_are_bits.ensures.words c.sequence_words_fit.ensures c.args.words.now c.words_from.result.now c.args.at c.args.m c.get-parts.result c.div_ceil-start.result c.args.last h.0 h.1
+    (small-words c.args.words.now (λ i. (let f = c.type_inv.words i in omega (arith, f)))) c.requires.many (omega (arith, c.ranges.m.fits)) c.requires.flag c.words_from.ensures r h.2) in
+    let used : c.used.result ≡ length (sequence_words format_three h.0 h.1) = c.used.ensures ∙ ap words_used view in
+    omega (arith, r.behind, r.inside, used, c.requires.words)
+
+pub returns-clause-view : goal.returns-clause-view
+returns-clause-view c = λ xs ends h.
+    let r = read c.args.words.now c.args.at c.args.m c.from.result c.digits-width.result c.from-2.result c.get-parts.result c.div_ceil-start.result c.args.last xs ends c.requires.many (omega (arith, c.ranges.m.fits)) c.requires.flag c.from.ensures c.digits-width.ensures
+    c.from-2.ensures c.get-parts.ensures c.div_ceil-start.ensures h in
+    c.known-view.ensures.same (view-of xs ends) refl (begun c.words_are_bits.ensures.appended c.words_are_bits.ensures.words c.sequence_words_fit.ensures c.args.words.now c.words_from.result.now c.args.at c.args.m c.get-parts.result c.div_ceil-start.result c.args.last xs ends
+    (small-words c.args.words.now (λ i. (let f = c.type_inv.words i in omega (arith, f)))) c.requires.many (omega (arith, c.ranges.m.fits)) c.requires.flag c.words_from.ensures r h)
+
+pub returns-clause-behind : goal.returns-clause-behind
+returns-clause-behind c = λ xs ends h.
+    let r = read c.args.words.now c.args.at c.args.m c.from.result c.digits-width.result c.from-2.result c.get-parts.result c.div_ceil-start.result c.args.last xs ends c.requires.many (omega (arith, c.ranges.m.fits)) c.requires.flag c.from.ensures c.digits-width.ensures
+    c.from-2.ensures c.get-parts.ensures c.div_ceil-start.ensures h in
+    let view = c.known-view.ensures.same (view-of xs ends) refl (begun c.words_are_bits.ensures.appended c.words_are_bits.ensures.words c.sequence_words_fit.ensures c.args.words.now c.words_from.result.now c.args.at c.args.m c.get-parts.result c.div_ceil-start.result c.args.last xs ends
+    (small-words c.args.words.now (λ i. (let f = c.type_inv.words i in omega (arith, f)))) c.requires.many (omega (arith, c.ranges.m.fits)) c.requires.flag c.words_from.ensures r h) in
+    let used : c.used.result ≡ length (sequence_words format_three xs ends) = c.used.ensures ∙ ap words_used view in
+    ap (λ k. 64 * (c.div_ceil-start.result + k)) used ∙ r.behind

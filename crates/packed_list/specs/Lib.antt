@@ -1,0 +1,7 @@
+pub mod Gamma
+pub mod GammaLaws
+pub mod ListBits
+pub mod ListParts
+pub mod ListStated
+pub mod ListPlaces
+pub mod Laws

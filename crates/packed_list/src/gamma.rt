@@ -1,0 +1,62 @@
+ghost use Rattle.std.specs.Prelude.{◌≡◌, ℕ, ◌+◌, ◌*◌, ◌^◌, ◌<◌, ◌≤◌, ◌++◌, length, OnOk, OnErr, IfSome, IfNone};
+ghost use Rattle.bit_words.specs.Bits.{bits_of, AppendsBits};
+ghost use Rattle.packed_list.specs.Gamma.{gamma, gamma_length, IsGammaBefore};
+ghost use Rattle.packed_list.specs.GammaLaws.{GammaTakes, OneGamma, GammaReadsBack};
+
+use bit_words::{BitWriter, Bits};
+use no_memory::NoMemory;
+use part_cost::digits;
+
+/// Appends the gamma code of a number. A refusal leaves a front of it.
+pub fn put_gamma(n: u64, to: &mut BitWriter) -> Result<(), NoMemory>
+    requires some { 1 ≤ n }
+    requires room { length to.old + gamma_length n < 2 ^ 63 }
+    ensures ok { OnOk result (to.new ≡ to.old ++ gamma n) }
+    ensures err { OnErr result (AppendsBits to.old to.new (gamma n)) }
+{
+    let behind = digits(n) - 1;
+    to.put_one_after(behind as u64)?;
+    to.put(n - (1 << behind), behind)
+}
+
+// The digits of the numbers that are read.
+const MOST_DIGITS: u64 = 32;
+
+/// A number that was read, and the place behind its gamma code.
+#[derive(Clone, Copy)]
+pub struct GammaRead {
+    pub number: u32,
+    pub behind: u64,
+}
+
+/// The number below 2^32 whose gamma code stands at a place of the bits and ends at another or
+/// before; None exactly where none does.
+pub fn gamma_before(bits: Bits<'_>, at: u64, end: u64) -> Option<GammaRead>
+    requires ordered { at ≤ end }
+    requires range { end ≤ 64 * length bits.words.now }
+    ensures some { IfSome result (λ read. IsGammaBefore (bits_of bits.entry.words.now) at end read.number) }
+    ensures behind { IfSome result (λ read. read.behind ≡ at + gamma_length read.number) }
+    ensures none { IfNone result ((n : ℕ) → ¬ IsGammaBefore (bits_of bits.entry.words.now) at end n) }
+{
+    // More zeros before the first one than that are of a greater number.
+    let Some(one) = bits.next_one(at, at + (end - at).min(MOST_DIGITS)) else {
+        return None;
+    };
+    let rest = one - at;
+    if end - one <= rest {
+        return None;
+    }
+    let number = (1 << rest) + bits.get(one + 1, rest as u32);
+    Some(GammaRead {
+        number: number as u32,
+        behind: one + 1 + rest,
+    })
+}
+
+/// The bits of a gamma code are so many, bits begin with one gamma code only, and it is read back
+/// where it stands.
+pub fn gamma_codes()
+    ensures takes { GammaTakes }
+    ensures one { OneGamma }
+    ensures back { GammaReadsBack }
+{}
