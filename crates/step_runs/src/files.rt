@@ -1,11 +1,11 @@
 // Files that are loaded and written.
 ghost use Rattle.std.specs.Prelude.{◌≤◌};
 
-use command_steps::{LoadWordsError, load_words, write_file, write_words};
 use pef_io::{Depot, IoFail, MemDepot, Op, Slot};
 use std::alloc::Global;
 use std::process::Abort;
 use std::test::Fail;
+use word_files::{LoadWordsError, load_words, write_file, write_words};
 
 // The words of the file with no list over no document, in the second format.
 const NO_LISTS: &[u64] = &[6360565151758173520, 2, 0, 0, 2, 5784106577086924120];

@@ -1,8 +1,9 @@
 // What is printed of generated collections.
 ghost use Rattle.std.specs.Prelude.{◌≡◌, ◌<◌};
 
-use command_steps::{generated_words, print_generated};
+use index_building::generated_words;
 use index_file::Index;
+use index_printing::print_generated;
 use pef_io::MemSink;
 use std::alloc::Global;
 use std::marker::Brand;

@@ -2,12 +2,12 @@
 ghost use Rattle.std.specs.Prelude.{◌≡◌, ◌<◌};
 
 use crate::texts::built;
-use command_steps::{Plan, plan_top};
 use cursor_api::DocCursor;
 use index_file::Index;
 use std::alloc::Global;
 use std::marker::Brand;
 use std::sync::ledger::{Blank, Ledger};
+use topk_pruning::{Plan, plan_top};
 
 // A cursor that counts how many moves it makes; one behind a block is as many as the block has postings.
 #[derive(Drop)]

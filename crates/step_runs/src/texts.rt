@@ -1,7 +1,7 @@
 // Texts that are answered.
 ghost use Rattle.std.specs.Prelude.{◌≡◌, ◌<◌};
 
-use command_steps::{Plan, RunFault, answer_text, build_words};
+use index_building::build_words;
 use index_file::Index;
 use part_cost::Format;
 use pef_io::{MemSink, MemSource, SteadyDepot};
@@ -9,6 +9,7 @@ use std::alloc::Global;
 use std::marker::Brand;
 use std::sync::ledger::{Blank, Ledger};
 use step_count::Steps;
+use text_replies::{Plan, RunFault, answer_text};
 
 // More than any text here has.
 const FAR: u64 = 1 << 40;

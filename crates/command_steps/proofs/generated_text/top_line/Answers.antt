@@ -1,7 +1,0 @@
-use Rattle.std.proofs.Common.{rules}
-use Rattle.command_model.specs.GeneratedText.{top_line}
-use Rattle.command_steps.proofs.generated_text.top_line.Goals as goal
-
-pub returns : goal.returns
-unfolding top_line
-returns c = search rules

@@ -1,7 +1,0 @@
-use Rattle.std.proofs.Common.{drop}
-use Rattle.part_cost.specs.declared.formats.Format.TheVariants.{Two}
-use Rattle.command_steps.specs.AddedFromLists.{IsMaking}
-use Rattle.command_steps.proofs.migrate.add_lists_of.Given as goal
-
-abbrev pub invariant-loop-term : goal.invariant-loop-term
-invariant-loop-term g l = IsMaking Two l.index.collection (drop l.term l.index.collection.lists) l.builder l.initial.steps l.steps

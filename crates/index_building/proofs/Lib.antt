@@ -1,0 +1,4 @@
+mod AddedFromFiles
+mod AddedFromLists
+mod Generating
+mod Migrating

@@ -1,0 +1,5 @@
+mod PrintedLine
+mod LeastCosts
+mod Auditing
+mod PartCosts
+mod AskedLines

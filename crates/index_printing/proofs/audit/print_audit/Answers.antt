@@ -1,0 +1,24 @@
+use Rattle.std.proofs.Common.{◌≡◌, sym, subst, rules, arith, ℕ, List, Result, Err, refl, string_bytes}
+use Rattle.pef_io.specs.declared.fail.IoFail.{IoFail}
+use Rattle.pef_io.specs.declared.fail.IoFail.TheVariants.{NoMemory}
+use Rattle.pef_io.specs.Helpers.{WritesAll}
+use Rattle.pef_report.specs.AuditLine.{audit_end}
+use Rattle.index_printing.specs.PrintAudit.{PrintsAudit}
+use Rattle.index_printing.proofs.Auditing.{audit-ends}
+use Rattle.index_printing.proofs.PrintedLine.{not-made, printed-or-not}
+use Rattle.index_printing.proofs.audit.print_audit.Goals as goal
+
+pub returns-in_err-end : goal.returns-in_err-end
+returns-in_err-end g c =
+    let is : c.from_residual-in_err-end.result ≡ Err NoMemory = search rules in
+    let end = audit_end c.loop-term.tally.shown c.loop-term.tally.longer in
+    let P : Result (Unit {0}) IoFail → Type 0 = λ r. PrintsAudit c.args.index.now (g.O.Sink.state c.args.out.now) (g.O.Sink.state c.loop-term.out) c.args.steps.now c.loop-term.steps r in
+    subst P (sym is) (audit-ends c.args.index.now c.stands_for_a_collection.ensures.partitions c.loop-term.term _ _ _ _ _ c.loop-term.tally.shown c.loop-term.tally.longer (Err NoMemory) end
+    (omega (arith, c.loop-term-test.false, c.terms-term-end.ensures)) c.loop-term.invariant refl (not-made end _))
+
+pub returns : goal.returns
+returns g c =
+    let made : string_bytes c.in_ok-end.end ≡ audit_end c.loop-term.tally.shown c.loop-term.tally.longer = search rules in
+    let P : List ℕ → Type 0 = λ line. WritesAll (g.O.Sink.state c.loop-term.out) (g.O.Sink.state c.write_all_own.new.sink) line c.write_all_own.result in
+    audit-ends c.args.index.now c.stands_for_a_collection.ensures.partitions c.loop-term.term _ _ _ _ _ c.loop-term.tally.shown c.loop-term.tally.longer c.write_all_own.result (string_bytes c.in_ok-end.end)
+    (omega (arith, c.loop-term-test.false, c.terms-term-end.ensures)) c.loop-term.invariant made (printed-or-not (string_bytes c.in_ok-end.end) _ _ _ (subst P c.as_bytes.ensures.value c.write_all_own.ensures))

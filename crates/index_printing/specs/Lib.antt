@@ -1,0 +1,3 @@
+pub mod PrintLine
+pub mod PrintText
+pub mod PrintAudit

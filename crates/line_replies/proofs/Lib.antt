@@ -1,0 +1,3 @@
+mod CursorLists
+mod Parsed
+mod Joining

@@ -1,0 +1,3 @@
+pub mod AnswerJoined
+-- what private functions and proofs cite
+pub mod JoinedSegments

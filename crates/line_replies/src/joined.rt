@@ -1,0 +1,148 @@
+ghost use Rattle.std.specs.Prelude.{◌≡◌, ◌<◌, length, map, IfOk};
+ghost use Rattle.std.specs.List.{All};
+ghost use Rattle.segments.specs.Joined.{documents_in, joined};
+ghost use Rattle.segments.specs.JoinedCursor.{parts_of};
+ghost use Rattle.segments.specs.Laws.{IsInRange};
+ghost use Rattle.line_replies.specs.AnswerJoined.{CanBeJoined, collections_of};
+ghost use Rattle.line_replies.specs.JoinedSegments.{AreSegments, collections_in, lists_in};
+
+use crate::lists::TermLists;
+use cursor_api::DocCursor;
+use index_file::Index;
+use no_memory::NoMemory;
+use postings::PostingCursor;
+use segments::{JoinedCursor, joined_lists_follow};
+use std::alloc::Global;
+use topk_pruning::{Plan, plan_top};
+
+// An index, and how many documents those before it have.
+#[derive(Drop)]
+pub(crate) struct Segment<'a> {
+    first: u32,
+    index: Index<'a>,
+}
+
+/// The lists of the collection to which indexes are joined, and the plan of `top`.
+#[derive(Drop)]
+pub struct JoinedLists<'a> {
+    segments: Vec<Segment<'a>>,
+    documents: u32,
+    plan: Plan,
+    ghost follow: { AreSegments segments.items },
+    ghost count: { documents ≡ documents_in (collections_in segments.items) },
+    ghost in_range: { IsInRange (joined (collections_in segments.items)) },
+}
+
+impl<'a> JoinedLists<'a> {
+    /// The lists of the indexes of these words, in this order.
+    pub fn new(
+        alloc: Global,
+        files: &'a [Vec<u64>],
+        plan: Plan,
+    ) -> Result<JoinedLists<'a>, NoMemory>
+        requires { CanBeJoined (map (λ file. file.items) files.now) }
+        ensures { IfOk result (λ lists. ⟦<JoinedLists<'a> as TermLists>⟧.collection lists ≡ joined (collections_of (map (λ file. file.items) files.entry.now))) }
+    {
+        joined_lists_follow();
+        let (segments, documents) = segments_of(alloc, files)?;
+        Ok(JoinedLists {
+            segments,
+            documents,
+            plan,
+        })
+    }
+}
+
+impl<'a> TermLists for JoinedLists<'a> {
+    type Cursor = JoinedCursor<PostingCursor<'a>>;
+
+    ghost collection = { λ lists. joined (collections_in lists.segments.items) };
+
+    fn documents(&self) -> u32 {
+        self.documents
+    }
+
+    fn terms(&self) -> u32 {
+        terms_of(&self.segments)
+    }
+
+    fn cursor(
+        &self,
+        alloc: Global,
+        term: u32,
+    ) -> Result<JoinedCursor<PostingCursor<'a>>, NoMemory> {
+        joined_lists_follow();
+        let parts = parts_at(alloc, &self.segments, term)?;
+        Ok(JoinedCursor::new(parts))
+    }
+
+    fn push_cursor(
+        &self,
+        alloc: Global,
+        cursors: &mut Vec<JoinedCursor<PostingCursor<'a>>>,
+        term: u32,
+    ) -> Result<(), NoMemory> {
+        cursors.push_reserved(self.cursor(alloc, term)?);
+        Ok(())
+    }
+
+    fn top(
+        &self,
+        alloc: Global,
+        cursors: &mut [JoinedCursor<PostingCursor<'a>>],
+        weights: &[u32],
+        k: u32,
+    ) -> Result<Vec<(u32, u64)>, NoMemory> {
+        plan_top(alloc, self.plan, cursors, weights, k, self.documents)
+    }
+
+    ghost in_range = { λ lists. lists.in_range };
+}
+
+// How many terms each segment has, 0 where there is none.
+fn terms_of(segments: &[Segment<'_>]) -> u32
+    ensures { result ≡ length (joined (collections_in segments.now)).lists }
+{
+    match segments.first() {
+        Some(segment) => segment.index.terms(),
+        None => 0,
+    }
+}
+
+// The segment of each of these files, and how many documents all have.
+fn segments_of<'a>(
+    alloc: Global,
+    files: &'a [Vec<u64>],
+) -> Result<(Vec<Segment<'a>>, u32), NoMemory>
+    requires { CanBeJoined (map (λ file. file.items) files.now) }
+    ensures segments { IfOk result (λ r. AreSegments r.0.items) }
+    ensures documents { IfOk result (λ r. r.1 ≡ documents_in (collections_in r.0.items)) }
+    ensures collections { IfOk result (λ r. collections_in r.0.items ≡ collections_of (map (λ file. file.items) files.entry.now)) }
+{
+    let mut segments = Vec::with_capacity(alloc, files.len())?;
+    let mut documents = 0;
+    for file in files {
+        let index = Index::known(file);
+        let first = documents;
+        documents += index.documents();
+        segments.push(Segment { first, index })?;
+    }
+    Ok((segments, documents))
+}
+
+// A cursor at the start of a term's list in each segment, with the first document of the segment.
+fn parts_at<'a>(
+    alloc: Global,
+    segments: &[Segment<'a>],
+    term: u32,
+) -> Result<Vec<(u32, PostingCursor<'a>)>, NoMemory>
+    requires { All (λ c. term < length c.lists) (collections_in segments.now) }
+    ensures lists { IfOk result (λ parts. parts_of (⟦<PostingCursor<'a> as DocCursor>⟧.list) parts.items ≡ lists_in segments.now term) }
+    ensures start { IfOk result (λ parts. All (λ p. ⟦<PostingCursor<'a> as DocCursor>⟧.place p.1 ≡ 0) parts.items) }
+{
+    let mut parts = Vec::with_capacity(alloc, segments.len())?;
+    for segment in segments {
+        parts.push((segment.first, segment.index.cursor(term)))?;
+    }
+    Ok(parts)
+}

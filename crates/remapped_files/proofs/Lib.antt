@@ -1,0 +1,2 @@
+mod ImageMade
+mod FilesInTurn

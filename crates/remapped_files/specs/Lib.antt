@@ -1,0 +1,2 @@
+pub mod MakeImage
+pub mod WriteImage

@@ -1,0 +1,8 @@
+//! Query texts that are answered: the reply to each line, as soon as the bytes that end it are read.
+#![tactic(auto)]
+
+mod lines;
+mod text;
+
+pub use text::{RunFault, answer_by_blocks, answer_joined, answer_text};
+pub use topk_pruning::Plan;

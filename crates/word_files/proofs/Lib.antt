@@ -1,0 +1,2 @@
+mod LoadedWords
+mod WrittenFile

@@ -1,0 +1,76 @@
+use Rattle.std.proofs.Common.{◌≡◌, sym, ◌∙◌, ap, ℕ, ◌+◌, ◌*◌, ◌%◌, ◌≤◌, ◌++◌, List, take, drop, length, arith}
+use Rattle.std.proofs.lemmas.List.{length-append, length-take, take_at}
+use Rattle.std.proofs.lemmas.Result.{err_from_is_err_and}
+use Rattle.collection_model.specs.Bytes.{word_bytes}
+use Rattle.command_model.proofs.WordBytes.{word_bytes-length}
+use Rattle.word_files.proofs.LoadedWords.{more-words, all-words, piece-too_large, words-refused}
+use Rattle.word_files.proofs.loading.read_file.Given as given
+use Rattle.word_files.proofs.loading.read_file.Goals as goal
+use Rattle.word_files.proofs.loading.read_file.Goals.{After-deref}
+
+-- so many words more than there were, of a piece of the file
+grown : (words more piece : List ℕ) (count : ℕ) → count ≤ length piece → word_bytes more ≡ word_bytes words ++ take count piece → 8 * length more ≡ 8 * length words + count
+grown words more piece count within are =
+    let sides = ap length are ∙ length-append (word_bytes words) (take count piece) in
+    omega (arith, sides, word_bytes-length more, word_bytes-length words, length-take count piece)
+
+-- what is lent of the room is the piece that was filled
+lent-is : (g : given.Over) (c : After-deref g) → c.deref.result.now ≡ c.fill_piece.new.piece
+lent-is g c =
+    let piece : List ℕ = c.fill_piece.new.piece in
+    c.deref.ensures.value
+    ∙ take_at piece (drop (length piece) c.loop-words.piece.items) c.loop-words.piece.len (omega (arith, c.in_ok-count.ensures.room, ap length c.as_mut_slice.ensures.value, c.loop-words.piece.ok.0))
+
+-- it has room for whole words
+whole : (g : given.Over) (c : After-deref g) → length c.fill_piece.new.piece ≡ 65536
+whole g c = omega (arith, c.in_ok-count.ensures.room, ap length c.as_mut_slice.ensures.value, c.loop-words.invariant.room)
+
+pub returns-then-len-count-gt-LONGEST_FILE : goal.returns-then-len-count-gt-LONGEST_FILE
+returns-then-len-count-gt-LONGEST_FILE g c =
+    piece-too_large c.args.slot (g.D.Depot.state c.args.depot.now) (g.D.Depot.state c.loop-words.depot) (g.D.Depot.state c.fill_piece.new.depot) c.loop-words.words.items c.fill_piece.new.piece c.in_ok-count.count
+    c.loop-words.invariant.read c.in_ok-count.ensures.filled (omega (arith, c.if-len-count-gt-LONGEST_FILE.true, c.len.ensures, c.loop-words.words.ok.0))
+
+pub returns-in_err-add_words : goal.returns-in_err-add_words
+returns-in_err-add_words g c =
+    let p = err_from_is_err_and c.from_residual-in_err-add_words.result c.from_residual-in_err-add_words.ensures.1 in
+    let count = c.in_ok-count.count in
+    let lent = c.deref.result.now in
+    let at = (goal.at.returns-in_err-add_words g c).After-deref in
+    let all : length (take count lent) ≡ count = omega (arith, length-take count lent, ap length (lent-is g at), c.in_ok-count.ensures.filled.within) in
+    rw (p.1, p.2) (words-refused c.args.slot (g.D.Depot.state c.args.depot.now) (g.D.Depot.state c.loop-words.depot) (g.D.Depot.state c.fill_piece.new.depot) c.loop-words.words.items c.fill_piece.new.piece count c.in_err-add_words.field-0.0
+    c.loop-words.invariant.read c.in_ok-count.ensures.filled (ap (λ n. n % 8) (whole g at)) (omega (arith, c.if-len-count-gt-LONGEST_FILE.false, c.len.ensures, c.loop-words.words.ok.0))
+    (λ is even. c.in_err-add_words.ensures.ragged is (ap (λ n. n % 8) all ∙ even)))
+
+pub returns-then-count-lt-PIECE_BYTES : goal.returns-then-count-lt-PIECE_BYTES
+returns-then-count-lt-PIECE_BYTES g c =
+    let at = (goal.at.returns-then-count-lt-PIECE_BYTES g c).After-deref in
+    let count = c.in_ok-count.count in
+    let words = c.loop-words.words.items in
+    let more = c.add_words.new.words.items in
+    let filled = c.in_ok-count.ensures.filled in
+    let are : word_bytes more ≡ word_bytes words ++ take count c.fill_piece.new.piece = c.in_ok-add_words.ensures.added ∙ ap (λ xs. word_bytes words ++ take count xs) (lent-is g at) in
+    all-words c.args.slot (g.D.Depot.state c.args.depot.now) (g.D.Depot.state c.loop-words.depot) (g.D.Depot.state c.fill_piece.new.depot) words more c.fill_piece.new.piece count c.loop-words.invariant.read filled are
+    (omega (arith, whole g at, c.if-count-lt-PIECE_BYTES.true)) (omega (arith, grown words more c.fill_piece.new.piece count filled.within are, c.if-len-count-gt-LONGEST_FILE.false, c.len.ensures, c.loop-words.words.ok.0))
+
+pub loop-words-smaller : goal.loop-words-smaller
+loop-words-smaller g c =
+    let at = (goal.at.loop-words-smaller g c).After-deref in
+    let count = c.in_ok-count.count in
+    let words = c.loop-words.words.items in
+    let more = c.add_words.new.words.items in
+    let are : word_bytes more ≡ word_bytes words ++ take count c.fill_piece.new.piece = c.in_ok-add_words.ensures.added ∙ ap (λ xs. word_bytes words ++ take count xs) (lent-is g at) in
+    omega (arith, grown words more c.fill_piece.new.piece count c.in_ok-count.ensures.filled.within are, c.if-len-count-gt-LONGEST_FILE.false, c.len.ensures, c.loop-words.words.ok.0, c.if-count-lt-PIECE_BYTES.false)
+
+pub loop-words-preserved : goal.loop-words-preserved
+loop-words-preserved g c =
+    let at = (goal.at.loop-words-preserved g c).After-deref in
+    let count = c.in_ok-count.count in
+    let words = c.loop-words.words.items in
+    let more = c.add_words.new.words.items in
+    let filled = c.in_ok-count.ensures.filled in
+    let are : word_bytes more ≡ word_bytes words ++ take count c.fill_piece.new.piece = c.in_ok-add_words.ensures.added ∙ ap (λ xs. word_bytes words ++ take count xs) (lent-is g at) in
+    record {
+      room = ap length (sym c.deref.ensures.value ∙ lent-is g at) ∙ whole g at;
+      few = omega (arith, grown words more c.fill_piece.new.piece count filled.within are, c.if-len-count-gt-LONGEST_FILE.false, c.len.ensures, c.loop-words.words.ok.0);
+      read = more-words c.args.slot (g.D.Depot.state c.args.depot.now) (g.D.Depot.state c.loop-words.depot) (g.D.Depot.state c.fill_piece.new.depot) words more c.fill_piece.new.piece count c.loop-words.invariant.read filled are;
+    }

@@ -1,0 +1,5 @@
+-- contracts of the public calls
+pub mod LoadWords
+pub mod WriteFile
+-- what private functions and proofs cite
+pub mod ReadWords

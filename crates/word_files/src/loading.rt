@@ -1,0 +1,126 @@
+ghost use Rattle.std.specs.Prelude.{◌≡◌, ◌≢◌, ◌+◌, ◌/◌, ◌%◌, ◌^◌, ◌<◌, ◌≤◌, ◌++◌, max, length, vec_len, vec_capacity, IsTrue, IfOk, IfErr, OnOk};
+ghost use Rattle.std.specs.List.{All};
+ghost use Rattle.collection_model.specs.Bytes.{word_bytes};
+ghost use Rattle.index_file.specs.declared.bytes.WordsError.TheVariants.{Ragged, NoMemory};
+ghost use Rattle.word_files.specs.LoadWords.{LoadsWords, words_loaded};
+ghost use Rattle.word_files.specs.ReadWords.{ReadsWords};
+
+use index_file::{WordsError, read_words_into};
+use pef_io::{Depot, IoFail, Slot, fill_piece};
+use std::alloc::Global;
+
+// The most bytes of a file of words.
+const LONGEST_FILE: u64 = 1 << 40;
+
+// How many bytes are read at once: whole words.
+const PIECE_BYTES: usize = 65_536;
+
+/// Why no words of a file were loaded.
+#[derive(Clone, Copy, Debug, PartialEq, Eq)]
+pub enum LoadWordsError {
+    /// The file is no whole words: the number of its bytes is no multiple of eight.
+    Ragged,
+    /// The start or a read of its slot failed.
+    Read,
+    /// There are more than 2^40 bytes.
+    TooLarge,
+    /// Memory was refused, here or by the depot.
+    NoMemory,
+}
+
+impl From<IoFail> for LoadWordsError {
+    ghost use Rattle.word_files.specs.ReadWords.{call_error};
+
+    ghost from_gives = { λ fail e. e ≡ call_error fail };
+
+    fn from(fail: IoFail) -> LoadWordsError {
+        match fail {
+            IoFail::Failed => LoadWordsError::Read,
+            IoFail::NoMemory => LoadWordsError::NoMemory,
+        }
+    }
+}
+
+impl From<WordsError> for LoadWordsError {
+    ghost use Rattle.word_files.specs.ReadWords.{words_error};
+
+    ghost from_gives = { λ refusal e. e ≡ words_error refusal };
+
+    fn from(refusal: WordsError) -> LoadWordsError {
+        match refusal {
+            WordsError::Ragged => LoadWordsError::Ragged,
+            WordsError::NoMemory => LoadWordsError::NoMemory,
+        }
+    }
+}
+
+/// The words of the file under the name, at most 2^37, which is read from the slot. What they stand for is not checked here. Room is
+/// taken for the words that have come and a quarter more, and for a piece of the file.
+pub fn load_words<D: Depot>(
+    alloc: Global,
+    slot: Slot,
+    name: &str,
+    depot: &mut D,
+) -> Result<Vec<u64>, LoadWordsError>
+    ensures { LoadsWords slot name.now (D.state depot.old) (D.state depot.new) (words_loaded result) }
+{
+    depot.start(slot, name)?;
+    let words = read_file(alloc, slot, depot)?;
+    words_fit(&words);
+    Ok(words)
+}
+
+// Words are numbers of 64 bits.
+fn words_fit(words: &[u64])
+    ensures { All (λ w. w < 2 ^ 64) words.now }
+{}
+
+// The words of all bytes that a started slot has left, at most 2^40, piece by piece.
+fn read_file<D: Depot>(alloc: Global, slot: Slot, depot: &mut D) -> Result<Vec<u64>, LoadWordsError>
+    requires { IsTrue ((D.state depot.old).started slot) }
+    ensures { ReadsWords slot (D.state depot.old) (D.state depot.new) (words_loaded result) }
+{
+    let mut piece = room_for_a_piece(alloc)?;
+    let mut words = Vec::new(alloc);
+    loop {
+        let count = fill_piece(depot, slot, piece.as_mut_slice())?;
+        if 8 * words.len() as u64 + count as u64 > LONGEST_FILE {
+            return Err(LoadWordsError::TooLarge);
+        }
+        add_words(&mut words, &piece[..count])?;
+        if count < PIECE_BYTES {
+            return Ok(words);
+        }
+    }
+}
+
+// Room for the bytes that are read at once.
+fn room_for_a_piece(alloc: Global) -> Result<Vec<u8>, WordsError>
+    ensures room { IfOk result (λ piece. vec_len piece ≡ PIECE_BYTES) }
+    ensures refused { IfErr result (λ e. e ≡ NoMemory) }
+{
+    vec![in alloc; 0; PIECE_BYTES].map_err(|_| WordsError::NoMemory)
+}
+
+// Appends the words of a piece of the file.
+fn add_words(words: &mut Vec<u64>, piece: &[u8]) -> Result<(), WordsError>
+    ensures added { OnOk result (word_bytes words.new.items ≡ word_bytes words.old.items ++ piece.now) }
+    ensures ragged { IfErr result (λ e. e ≡ Ragged → length piece.now % 8 ≢ 0) }
+{
+    make_room(words, piece.len() / 8)?;
+    read_words_into(piece, words)
+}
+
+// Makes room for so many more words where there is too little: for a quarter of those that there are besides.
+fn make_room(words: &mut Vec<u64>, more: usize) -> Result<(), WordsError>
+    ensures words { words.new.items ≡ words.old.items }
+    ensures room { vec_capacity words.new ≤ max (vec_capacity words.old) (length words.old.items + (more + length words.old.items / 4)) }
+    ensures refused { IfErr result (λ e. e ≡ NoMemory) }
+{
+    if words.capacity() - words.len() >= more {
+        return Ok(());
+    }
+    words
+        .reserve_exact(more.saturating_add(words.len() / 4))
+        .map_err(|_| WordsError::NoMemory)
+}
