@@ -1,4 +1,5 @@
-ghost use Rattle.std.specs.Prelude.{◌≡◌};
+ghost use Rattle.std.specs.Prelude.{◌≡◌, ◌≤◌, ◌+◌, ◌++◌, length};
+ghost use Rattle.arrayvec.specs.ArrayVec.{array_vec_len};
 ghost use Rattle.pef_io.specs.Helpers.{WritesAll};
 ghost use Rattle.command_ends.specs.ErrLines.{check_text, fault_line, index_line, map_line, map_rule_text, rule_text, seg_rule_text, segment_line, side_check_text, side_line, slot_text, unfit_line};
 ghost use Rattle.command_ends.specs.Outcome.{line_of};
@@ -6,6 +7,7 @@ ghost use Rattle.command_ends.specs.Private.ErrPieces.{joined};
 ghost use Rattle.command_ends.specs.Steps.Stops.{outcome_of_stop};
 
 use crate::stop::Stop;
+use arrayvec::ArrayVec;
 use block_max::{SideCheck, SideFault};
 use collection_reader::{Fault, Rule};
 use index_file::OpenFault;
@@ -19,159 +21,168 @@ use two_level::Check;
 const USAGE: &[u8] =
     b"usage: pefidx build BASE INDEX [--format FORMAT] | query INDEX [--plan PLAN] | answer BASE [--plan PLAN] | inspect INDEX | generate SEED N T | migrate OLD NEW | audit INDEX | blocks INDEX SIDE | bquery INDEX SIDE | remap BASE MAP NEW | segments INDEX.. [--plan PLAN]\n";
 
-/// Writes the line of a run that stopped, without memory.
+// The most bytes of a line: that of usage has 267, and all others have fewer than 100.
+const LINE_ROOM: usize = 272;
+
+// A line that is put together on the stack.
+type Line = ArrayVec<u8, LINE_ROOM>;
+
+/// Writes the line of a run that stopped, without memory. All of it is given to err at once, and again what err did not take.
 pub fn write_line<E: Sink>(err: &mut E, stop: Stop) -> Result<(), IoFail>
     ensures { WritesAll (E.state err.old) (E.state err.new) (line_of (outcome_of_stop stop)) result }
 {
+    let line = spelled(stop);
+    write_all_own(err, line.as_slice())
+}
+
+// The line of a run that stopped.
+fn spelled(stop: Stop) -> Line
+    ensures { result.items ≡ line_of (outcome_of_stop stop) }
+{
     match stop {
-        Stop::Usage => write_all_own(err, USAGE),
-        Stop::Collection(fault) => write_fault(err, fault),
-        Stop::Index(fault) => write_index_fault(err, fault),
-        Stop::Side(fault) => write_side_fault(err, fault),
-        Stop::Map(fault) => write_map_fault(err, fault),
-        Stop::Segment(fault, s) => write_segment_fault(err, fault, s),
-        Stop::Unfit(rule, s) => write_unfit(err, rule, s),
-        Stop::File(slot) => write_pieces(err, &[b"read fault: ", slot_name(slot), b"\n"]),
-        Stop::Input => write_all_own(err, b"read fault: input\n"),
-        Stop::Write(slot) => write_pieces(err, &[b"write fault: ", slot_name(slot), b"\n"]),
-        Stop::Out => write_all_own(err, b"write fault: out\n"),
-        Stop::NoMemory => write_all_own(err, b"no memory\n"),
-        Stop::Large(slot) => write_pieces(err, &[b"too large: ", slot_name(slot), b"\n"]),
-        Stop::LongInput => write_all_own(err, b"too large: input\n"),
+        Stop::Usage => line_of_pieces(&[USAGE]),
+        Stop::Collection(fault) => fault_spelled(fault),
+        Stop::Index(fault) => index_fault_spelled(fault),
+        Stop::Side(fault) => side_fault_spelled(fault),
+        Stop::Map(fault) => map_fault_spelled(fault),
+        Stop::Segment(fault, s) => segment_fault_spelled(fault, s),
+        Stop::Unfit(rule, s) => unfit_spelled(rule, s),
+        Stop::File(slot) => line_of_pieces(&[b"read fault: ", slot_name(slot), b"\n"]),
+        Stop::Input => line_of_pieces(&[b"read fault: input\n"]),
+        Stop::Write(slot) => line_of_pieces(&[b"write fault: ", slot_name(slot), b"\n"]),
+        Stop::Out => line_of_pieces(&[b"write fault: out\n"]),
+        Stop::NoMemory => line_of_pieces(&[b"no memory\n"]),
+        Stop::Large(slot) => line_of_pieces(&[b"too large: ", slot_name(slot), b"\n"]),
+        Stop::LongInput => line_of_pieces(&[b"too large: input\n"]),
     }
 }
 
-// Writes the line of a broken collection.
-fn write_fault<E: Sink>(err: &mut E, fault: Fault) -> Result<(), IoFail>
-    ensures { WritesAll (E.state err.old) (E.state err.new) (fault_line fault) result }
+// That of a broken collection.
+fn fault_spelled(fault: Fault) -> Line
+    ensures { result.items ≡ fault_line fault }
 {
     let mut term = Buffer::new();
     let mut place = Buffer::new();
-    write_pieces(
-        err,
-        &[
-            b"collection ",
-            rule_name(fault.rule),
-            b" ",
-            slot_name(fault.file),
-            b" term ",
-            term.format(fault.term).as_bytes(),
-            b" place ",
-            place.format(fault.place).as_bytes(),
-            b"\n",
-        ],
-    )
+    line_of_pieces(&[
+        b"collection ",
+        rule_name(fault.rule),
+        b" ",
+        slot_name(fault.file),
+        b" term ",
+        term.format(fault.term).as_bytes(),
+        b" place ",
+        place.format(fault.place).as_bytes(),
+        b"\n",
+    ])
 }
 
-// Writes the line of a file that is no index.
-fn write_index_fault<E: Sink>(err: &mut E, fault: OpenFault) -> Result<(), IoFail>
-    ensures { WritesAll (E.state err.old) (E.state err.new) (index_line fault) result }
+// That of a file that is no index.
+fn index_fault_spelled(fault: OpenFault) -> Line
+    ensures { result.items ≡ index_line fault }
 {
     let mut term = Buffer::new();
     let mut part = Buffer::new();
-    write_pieces(
-        err,
-        &[
-            b"index ",
-            check_name(fault.check),
-            b" term ",
-            term.format(fault.term).as_bytes(),
-            b" part ",
-            part.format(fault.part).as_bytes(),
-            b"\n",
-        ],
-    )
+    line_of_pieces(&[
+        b"index ",
+        check_name(fault.check),
+        b" term ",
+        term.format(fault.term).as_bytes(),
+        b" part ",
+        part.format(fault.part).as_bytes(),
+        b"\n",
+    ])
 }
 
-// Writes the line of a file that is no side file of the index.
-fn write_side_fault<E: Sink>(err: &mut E, fault: SideFault) -> Result<(), IoFail>
-    ensures { WritesAll (E.state err.old) (E.state err.new) (side_line fault) result }
+// That of a file that is no side file of the index.
+fn side_fault_spelled(fault: SideFault) -> Line
+    ensures { result.items ≡ side_line fault }
 {
     let mut term = Buffer::new();
     let mut part = Buffer::new();
-    write_pieces(
-        err,
-        &[
-            b"side ",
-            side_check_name(fault.check),
-            b" term ",
-            term.format(fault.term).as_bytes(),
-            b" part ",
-            part.format(fault.part).as_bytes(),
-            b"\n",
-        ],
-    )
+    line_of_pieces(&[
+        b"side ",
+        side_check_name(fault.check),
+        b" term ",
+        term.format(fault.term).as_bytes(),
+        b" part ",
+        part.format(fault.part).as_bytes(),
+        b"\n",
+    ])
 }
 
-// Writes the line of a file that is no order of the documents.
-fn write_map_fault<E: Sink>(err: &mut E, fault: MapFault) -> Result<(), IoFail>
-    ensures { WritesAll (E.state err.old) (E.state err.new) (map_line fault) result }
+// That of a file that is no order of the documents.
+fn map_fault_spelled(fault: MapFault) -> Line
+    ensures { result.items ≡ map_line fault }
 {
     let mut place = Buffer::new();
-    write_pieces(
-        err,
-        &[
-            b"map ",
-            map_rule_name(fault.rule),
-            b" place ",
-            place.format(fault.place).as_bytes(),
-            b"\n",
-        ],
-    )
+    line_of_pieces(&[
+        b"map ",
+        map_rule_name(fault.rule),
+        b" place ",
+        place.format(fault.place).as_bytes(),
+        b"\n",
+    ])
 }
 
-// Writes the line of a segment that is no index.
-fn write_segment_fault<E: Sink>(err: &mut E, fault: OpenFault, s: u64) -> Result<(), IoFail>
-    ensures { WritesAll (E.state err.old) (E.state err.new) (segment_line fault s) result }
+// That of a segment that is no index.
+fn segment_fault_spelled(fault: OpenFault, s: u64) -> Line
+    ensures { result.items ≡ segment_line fault s }
 {
     let mut term = Buffer::new();
     let mut part = Buffer::new();
     let mut segment = Buffer::new();
-    write_pieces(
-        err,
-        &[
-            b"index ",
-            check_name(fault.check),
-            b" term ",
-            term.format(fault.term).as_bytes(),
-            b" part ",
-            part.format(fault.part).as_bytes(),
-            b" segment ",
-            segment.format(s).as_bytes(),
-            b"\n",
-        ],
-    )
+    line_of_pieces(&[
+        b"index ",
+        check_name(fault.check),
+        b" term ",
+        term.format(fault.term).as_bytes(),
+        b" part ",
+        part.format(fault.part).as_bytes(),
+        b" segment ",
+        segment.format(s).as_bytes(),
+        b"\n",
+    ])
 }
 
-// Writes the line of a segment that cannot be joined to those before it.
-fn write_unfit<E: Sink>(err: &mut E, rule: SegRule, s: u64) -> Result<(), IoFail>
-    ensures { WritesAll (E.state err.old) (E.state err.new) (unfit_line rule s) result }
+// That of a segment that cannot be joined to those before it.
+fn unfit_spelled(rule: SegRule, s: u64) -> Line
+    ensures { result.items ≡ unfit_line rule s }
 {
     let mut segment = Buffer::new();
-    write_pieces(
-        err,
-        &[
-            b"segments ",
-            seg_rule_name(rule),
-            b" segment ",
-            segment.format(s).as_bytes(),
-            b"\n",
-        ],
-    )
+    line_of_pieces(&[
+        b"segments ",
+        seg_rule_name(rule),
+        b" segment ",
+        segment.format(s).as_bytes(),
+        b"\n",
+    ])
 }
 
-// Writes some pieces, one after the other.
-fn write_pieces<E: Sink>(err: &mut E, pieces: &[&[u8]]) -> Result<(), IoFail>
-    ensures { WritesAll (E.state err.old) (E.state err.new) (joined pieces.now) result }
+// Pieces, one after the other.
+fn line_of_pieces(pieces: &[&[u8]]) -> Line
+    requires { length (joined pieces.now) ≤ LINE_ROOM }
+    ensures { result.items ≡ joined pieces.now }
 {
+    let mut line = Line::new();
     for piece in pieces {
-        write_all_own(err, piece)?;
+        append(&mut line, piece);
     }
-    Ok(())
+    line
+}
+
+// Appends a piece for which there is room.
+fn append(line: &mut Line, piece: &[u8])
+    requires { array_vec_len line.old + length piece.now ≤ LINE_ROOM }
+    ensures { line.new.items ≡ line.old.items ++ piece.now }
+{
+    if line.try_extend_from_slice(piece).is_err() {
+        unreachable!();
+    }
 }
 
 fn rule_name(rule: Rule) -> &'static [u8]
-    ensures { result.now ≡ rule_text rule }
+    ensures name { result.now ≡ rule_text rule }
+    ensures short { length result.now ≤ 3 }
 {
     match rule {
         Rule::C1 => b"C1",
@@ -190,7 +201,8 @@ fn rule_name(rule: Rule) -> &'static [u8]
 }
 
 fn map_rule_name(rule: MapRule) -> &'static [u8]
-    ensures { result.now ≡ map_rule_text rule }
+    ensures name { result.now ≡ map_rule_text rule }
+    ensures short { length result.now ≤ 2 }
 {
     match rule {
         MapRule::M1 => b"M1",
@@ -202,7 +214,8 @@ fn map_rule_name(rule: MapRule) -> &'static [u8]
 }
 
 fn seg_rule_name(rule: SegRule) -> &'static [u8]
-    ensures { result.now ≡ seg_rule_text rule }
+    ensures name { result.now ≡ seg_rule_text rule }
+    ensures short { length result.now ≤ 2 }
 {
     match rule {
         SegRule::G1 => b"G1",
@@ -211,7 +224,8 @@ fn seg_rule_name(rule: SegRule) -> &'static [u8]
 }
 
 fn slot_name(slot: Slot) -> &'static [u8]
-    ensures { result.now ≡ slot_text slot }
+    ensures name { result.now ≡ slot_text slot }
+    ensures short { length result.now ≤ 5 }
 {
     match slot {
         Slot::Docs => b"docs",
@@ -224,7 +238,8 @@ fn slot_name(slot: Slot) -> &'static [u8]
 }
 
 fn check_name(check: Check) -> &'static [u8]
-    ensures { result.now ≡ check_text check }
+    ensures name { result.now ≡ check_text check }
+    ensures short { length result.now ≤ 3 }
 {
     match check {
         Check::K1 => b"K1",
@@ -242,7 +257,8 @@ fn check_name(check: Check) -> &'static [u8]
 }
 
 fn side_check_name(check: SideCheck) -> &'static [u8]
-    ensures { result.now ≡ side_check_text check }
+    ensures name { result.now ≡ side_check_text check }
+    ensures short { length result.now ≤ 2 }
 {
     match check {
         SideCheck::S1 => b"S1",

@@ -211,6 +211,34 @@ fn the_second_write_of_two_bytes_fails(rt: HostRuntime) {
     assert_eq!(rt; run.out.bytes(), b"2 ".as_slice());
 }
 
+// What err has, and how often it was written to, after a run that finds no file, where a write on err moves at most `most` bytes and
+// the second fails.
+fn told_on_err(alloc: Global, most: usize) -> Option<(Vec<u8>, u64)> {
+    if most == 0 {
+        return None;
+    }
+    let mut depot = MemDepot::new(alloc, Vec::new(alloc), 8, Vec::new(alloc)).ok()?;
+    let mut input = MemSource::new(Vec::new(alloc), 8, Vec::new(alloc));
+    let mut out = MemSink::new(alloc, 8, Vec::new(alloc)).ok()?;
+    let mut err = MemSink::new(alloc, most, vec![in alloc; 2].ok()?).ok()?;
+    let status = run_words(alloc, &ANSWER, &mut depot, &mut input, &mut out, &mut err)?;
+    let told = Vec::from_slice(alloc, err.bytes()).ok()?;
+    (status == Status::Read).then_some((told, err.calls()))
+}
+
+#[test]
+fn a_line_is_given_to_err_at_once(rt: HostRuntime) {
+    for (most, line, calls) in [
+        (17, b"read fault: docs\n".as_slice(), 1),
+        (16, b"read fault: docs", 2),
+        (4, b"read", 2),
+    ] {
+        let told = told_on_err(rt.alloc(), most).expect(&rt, "memory");
+        assert_eq!(rt; told.0.as_slice(), line, "{most}");
+        assert_eq!(rt; told.1, calls, "{most}");
+    }
+}
+
 // Whether a run of these words over the one list without this one of its files ends with this line, and creates nothing.
 fn misses(alloc: Global, words: &[&str], missing: usize, line: &str) -> Option<bool> {
     let mut held = files_of(alloc, ONE_LIST)?;

@@ -6,8 +6,9 @@ ghost use Rattle.command_ends.specs.StatusNumber.{status_number};
 ghost use Rattle.pef_top.specs.Uncalled.{objects};
 ghost use Rattle.pefidx.specs.Process.{Processes};
 
+use command_ends::{Stop, write_line};
 use no_memory::NoMemory;
-use pef_io::{Depot, Sink, Source, write_all_own};
+use pef_io::{Depot, Sink, Source};
 use pef_top::{Status, run_uncounted};
 use std::alloc::Global;
 use std::process::ExitCode;
@@ -47,7 +48,7 @@ fn run_words<D: Depot, I: Source, O: Sink, E: Sink>(
     match words {
         Ok(words) => run_uncounted(alloc, words.as_slice(), depot, input, out, err),
         Err(NoMemory) => {
-            let _ = write_all_own(err, b"no memory\n");
+            let _ = write_line(err, Stop::NoMemory);
             Status::NoMemory
         }
     }

@@ -62,10 +62,11 @@ pub struct Outcome {
 }
 
 impl Outcome {
-    /// Whether the run ended with this status and this line on err, and called neither the input nor out.
+    /// Whether the run ended with this status and this line on err, written at once, and called neither the input nor out.
     pub fn ends(&self, status: Status, line: &str) -> bool {
         self.status == status
             && self.err.bytes() == line.as_bytes()
+            && self.err.calls() == u64::from(!line.is_empty())
             && self.input.calls() == 0
             && self.out.calls() == 0
     }

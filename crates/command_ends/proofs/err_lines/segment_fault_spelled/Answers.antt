@@ -1,0 +1,23 @@
+use Rattle.std.proofs.Common.{◌∙◌, ap, length, arith}
+use Rattle.std.specs.Prelude.{codes}
+use Rattle.command_ends.proofs.ErrPieces.{segment_fault_pieces, nine_long}
+use Rattle.command_ends.proofs.err_lines.segment_fault_spelled.Goals as goal
+
+pub returns : goal.returns
+returns c =
+    c.line_of_pieces.ensures ∙ segment_fault_pieces c.args.fault c.args.s _ _ _ _ c.check_name.ensures.name
+    (c.as_bytes.ensures.value ∙ c.format.ensures.text) (c.as_bytes-2.ensures.value ∙ c.format-2.ensures.text) (c.as_bytes-3.ensures.value ∙ c.format-3.ensures.text)
+
+pub line_of_pieces-requires : goal.line_of_pieces-requires
+line_of_pieces-requires c =
+    omega (
+      arith,
+      nine_long (codes "index ") c.check_name.result.now (codes " term ") c.as_bytes.result.now (codes " part ") c.as_bytes-2.result.now (codes " segment ") c.as_bytes-3.result.now (codes "\n"),
+      c.check_name.ensures.short,
+      ap length c.as_bytes.ensures.value,
+      c.format.ensures.fits,
+      ap length c.as_bytes-2.ensures.value,
+      c.format-2.ensures.fits,
+      ap length c.as_bytes-3.ensures.value,
+      c.format-3.ensures.fits,
+    )

@@ -1,8 +1,0 @@
-use Rattle.std.proofs.Common.{◌∙◌}
-use Rattle.command_ends.proofs.ErrPieces.{segment_fault_written}
-use Rattle.command_ends.proofs.err_lines.write_segment_fault.Goals as goal
-
-pub returns : goal.returns
-returns g c =
-    segment_fault_written _ _ c.args.fault c.args.s _ _ _ _ _ c.check_name.ensures
-    (c.as_bytes.ensures.value ∙ c.format.ensures.text) (c.as_bytes-2.ensures.value ∙ c.format-2.ensures.text) (c.as_bytes-3.ensures.value ∙ c.format-3.ensures.text) c.write_pieces.ensures
