@@ -10,10 +10,10 @@ use Rattle.pef_io.specs.DepotState.{DepotState}
 use Rattle.index_file.specs.FileWords.{IsIndex, Spells}
 use Rattle.index_file.specs.IndexView.{IndexView}
 use Rattle.index_file.specs.Laws.{OneIndex}
-use Rattle.command_steps.specs.declared.build.BuildError.{BuildError}
-use Rattle.command_steps.specs.declared.text.RunFault.{RunFault}
-use Rattle.command_steps.specs.WordsOfFiles.{BuildsWords, words_built}
-use Rattle.command_steps.specs.AnswerText.{AnswersText}
+use Rattle.index_building.specs.declared.build.BuildError.{BuildError}
+use Rattle.text_replies.specs.declared.text.RunFault.{RunFault}
+use Rattle.index_building.specs.WordsOfFiles.{BuildsWords, words_built}
+use Rattle.text_replies.specs.AnswerText.{AnswersText}
 use Rattle.command_ends.specs.declared.stop.Stop.{Stop}
 use Rattle.command_ends.specs.Outside.{Outside, outside, OfFile, OfWriting}
 use Rattle.command_ends.specs.Outcome.{Outcome, Done, InputTooLarge}
@@ -59,7 +59,7 @@ in_format : (base : List ℕ) (d d' : DepotState) (s s' : ℕ) (words : List ℕ
     → Spells (numbers_of answer_format) words (cut_of answer_format base d d' s s' words w).0 (cut_of answer_format base d d' s s' words w).1
 in_format base d d' s s' words w =
     let cut = cut_of answer_format base d d' s s' words w in
-    record { well_formed = cut.2.cut.collection.well_formed; partitions = cut.2.cut.near.partitions; spelled = cut.3 }
+    record { plain = refl; well_formed = cut.2.cut.collection.well_formed; partitions = cut.2.cut.near.partitions; spelled = cut.3 }
 
 pub is_index : (base : List ℕ) (d d' : DepotState) (s s' : ℕ) (words : List ℕ) (w : BuildsWords answer_format base d d' s s' (Ok words)) → IsIndex words
 is_index base d d' s s' words w =

@@ -3,6 +3,7 @@ use Rattle.std.proofs.Common.{◌≡◌, ℕ, ◌<◌, ◌^◌, refl, sym, ap, s
 use Rattle.std.specs.Prelude.{Result, Ok, Err, Vec}
 use Rattle.std.specs.List.{All}
 use Rattle.std.specs.declared.alloc.Global.{Global}
+use Rattle.collection_model.specs.FormatNumbers.{Plain}
 use Rattle.collection_model.specs.Bytes.{word_bytes}
 use Rattle.collection_model.specs.Collection.{Collection}
 use Rattle.part_cost.specs.declared.formats.Format.{Format}
@@ -14,9 +15,9 @@ use Rattle.pef_io.specs.SinkState.{SinkState}
 use Rattle.pef_io.specs.DepotState.{DepotState}
 use Rattle.collection_reader.specs.ReadCollection.{IsCollectionSlot}
 use Rattle.command_model.specs.Found.{FindsCollection}
-use Rattle.command_steps.specs.declared.build.BuildError.{BuildError}
-use Rattle.command_steps.specs.WordsOfFiles.{BuildsWords, words_built}
-use Rattle.command_steps.specs.WriteFile.{WritesWords}
+use Rattle.index_building.specs.declared.build.BuildError.{BuildError}
+use Rattle.index_building.specs.WordsOfFiles.{BuildsWords, words_built}
+use Rattle.word_files.specs.WriteFile.{WritesWords}
 use Rattle.command_ends.specs.declared.stop.Stop.{Stop}
 use Rattle.command_ends.specs.Outside.{Outside, outside}
 use Rattle.command_ends.specs.Outcome.{Outcome, Done}
@@ -66,7 +67,7 @@ behind_reading format base old Then (Err call.NoMemory) then = then
 
 -- The words, of 64 bits, were built, over depot `d`, which is `d1` then, and written or not, which leaves `d2`.
 module _ (format : Format) (base index : List ℕ) (d d1 d2 : DepotState) (i : SourceState) (o e e' : SinkState) (s s' : ℕ) (words : List ℕ)
-    (w : BuildsWords format base d d1 s s' (Ok words)) (fit : All (λ x. x < 2 ^ 64) words) where
+    (w : BuildsWords format base d d1 s s' (Ok words)) (fit : All (λ x. x < 2 ^ 64) words) (plain : (numbers_of format).kind ≡ Plain) where
   abbrev old : Outside
   old = outside d i o e s
 
@@ -81,7 +82,7 @@ module _ (format : Format) (base index : List ℕ) (d d1 d2 : DepotState) (i : S
   is_written r v =
       let cut = cut_of format base d d1 s s' words w in
       let found : Is cut.0 = cut.2.cut.collection in
-      let all = left format Is IsCollectionSlot index d d1 d2 i o e e' s s' words w.reads cut.0 cut.1 cut.2 cut.3 ((c : Collection) × Is c) (cut.0, found) fit found.well_formed
+      let all = left format Is IsCollectionSlot index d d1 d2 i o e e' s s' words w.reads cut.0 cut.1 cut.2 cut.3 ((c : Collection) × Is c) (cut.0, found) fit plain found.well_formed
       (same_counts format base d d1 s s' words w) r v in
       record {
         performs = record {
@@ -109,13 +110,13 @@ build_refused format base index d d' i o e e' s s' built error r w was is =
     subst P (sym is) (not_built format base index d d' i o e e' s s' error (subst W was w))
 
 -- or they were written, or not
-pub build_ended : (format : Format) (base index : List ℕ) (d d1 d2 : DepotState) (i : SourceState) (o e e' : SinkState) (s s' : ℕ)
+pub build_ended : (format : Format) → (numbers_of format).kind ≡ Plain → (base index : List ℕ) (d d1 d2 : DepotState) (i : SourceState) (o e e' : SinkState) (s s' : ℕ)
     (built : Result (Vec ℕ Global) BuildError) (words : Vec ℕ Global) (lent : List ℕ) (written : Written) (r : Result (Unit {0}) Stop)
     → BuildsWords format base d d1 s s' (words_built built) → built ≡ Ok words → lent ≡ words.items → All (λ x. x < 2 ^ 64) words.items
     → WritesWords lent index d1 d2 written → outcome_of r ≡ written_outcome Index written
     → Leaves (Builds format base index) (StartsOnly IsCollectionSlot) (outside d i o e s) (outside d2 i o e' s') (outcome_of r)
-build_ended format base index d d1 d2 i o e e' s s' built words lent written r w was lends fit v is =
+build_ended format plain base index d d1 d2 i o e e' s s' built words lent written r w was lends fit v is =
     let W : Result (Vec ℕ Global) BuildError → Type 0 = λ x. BuildsWords format base d d1 s s' (words_built x) in
     let V : List ℕ → Type 0 = λ ws. WritesWords ws index d1 d2 written in
     let P : Outcome → Type 0 = λ x. Leaves (Builds format base index) (StartsOnly IsCollectionSlot) (outside d i o e s) (outside d2 i o e' s') x in
-    subst P (sym is) (is_written format base index d d1 d2 i o e e' s s' words.items (subst W was w) fit written (subst V lends v))
+    subst P (sym is) (is_written format base index d d1 d2 i o e e' s s' words.items (subst W was w) fit plain written (subst V lends v))

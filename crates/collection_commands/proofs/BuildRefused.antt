@@ -12,9 +12,9 @@ use Rattle.collection_reader.specs.ReadCollection.{IsCollectionSlot}
 use Rattle.index_file.specs.FileWords.{ListParts, file_words}
 use Rattle.index_file.specs.Builder.{most_words}
 use Rattle.command_model.specs.Found.{FindsCollection, HasFault}
-use Rattle.command_steps.specs.declared.build.BuildError.{BuildError}
-use Rattle.command_steps.specs.declared.build.BuildError.TheVariants as building
-use Rattle.command_steps.specs.WordsOfFiles.{BuildsWords}
+use Rattle.index_building.specs.declared.build.BuildError.{BuildError}
+use Rattle.index_building.specs.declared.build.BuildError.TheVariants as building
+use Rattle.index_building.specs.WordsOfFiles.{BuildsWords}
 use Rattle.command_ends.specs.Outside.{Outside, NoCallFailed, OfFile, OfWriting, OfInput, OfOut}
 use Rattle.command_ends.specs.Outcome.{Outcome, Done, BrokenCollection, FileFault, NoMemory, TooLarge, fault_of}
 use Rattle.command_ends.specs.Ends.{EndsByFault, FirstFaultEnds, OrTooLarge}

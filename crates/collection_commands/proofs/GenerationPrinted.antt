@@ -17,9 +17,9 @@ use Rattle.pef_report.specs.Generated.{generated}
 use Rattle.command_model.specs.GeneratedText.{IsGeneratedText}
 use Rattle.index_file.specs.declared.builder.FinishError.{FinishError}
 use Rattle.index_file.specs.declared.builder.FinishError.TheVariants as making
-use Rattle.command_steps.specs.WordsOfCollection.{AreWordsOf, WouldBeTooMany}
-use Rattle.command_steps.specs.PrintLine.{PrintsLine}
-use Rattle.command_steps.specs.PrintText.{MakesAndPrints}
+use Rattle.index_building.specs.WordsOfCollection.{AreWordsOf, WouldBeTooMany}
+use Rattle.index_printing.specs.PrintLine.{PrintsLine}
+use Rattle.index_printing.specs.PrintText.{MakesAndPrints}
 use Rattle.command_ends.specs.declared.stop.Stop.{Stop}
 use Rattle.command_ends.specs.Outside.{Outside, outside, OfFile, OfWriting, OfInput, OfOut}
 use Rattle.command_ends.specs.Outcome.{Outcome, Done, NoMemory}

@@ -23,12 +23,12 @@ use Rattle.remap.specs.Laws.{ImageIsWellFormed}
 use Rattle.command_model.specs.Found.{FindsCollection}
 use Rattle.command_model.specs.FilesWritten.{NamedFile, nth_file, AreApart, AreWritten, IsNotBegun, StopsAtFile, FileLeftByFault}
 use Rattle.command_model.specs.FoundMap.{remap_numbers, IsCollectionOrMap, FindsBothOf, OnImageFiles, files_under}
-use Rattle.command_steps.specs.declared.image.ImageError.{ImageError}
-use Rattle.command_steps.specs.declared.image.ImageError.TheVariants as making
-use Rattle.command_steps.specs.declared.image.ImageFiles.{ImageFiles}
-use Rattle.command_steps.specs.declared.image.FileFail.{FileFail}
-use Rattle.command_steps.specs.MakeImage.{MakesImage, files_of, files_made}
-use Rattle.command_steps.specs.WriteImage.{WritesFiles, file_fail}
+use Rattle.remapped_files.specs.declared.image.ImageError.{ImageError}
+use Rattle.remapped_files.specs.declared.image.ImageError.TheVariants as making
+use Rattle.remapped_files.specs.declared.image.ImageFiles.{ImageFiles}
+use Rattle.remapped_files.specs.declared.image.FileFail.{FileFail}
+use Rattle.remapped_files.specs.MakeImage.{MakesImage, files_of, files_made}
+use Rattle.remapped_files.specs.WriteImage.{WritesFiles, file_fail}
 use Rattle.command_ends.specs.declared.stop.Stop.{Stop}
 use Rattle.command_ends.specs.Outside.{Outside, outside, NoCallFailed, OfFile, OfWriting, OfInput, OfOut}
 use Rattle.command_ends.specs.Outcome.{Outcome, Done, BrokenCollection, BrokenMap, FileFault, WriteFault, NoMemory, fault_of, is_refusal}

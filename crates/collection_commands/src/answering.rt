@@ -10,13 +10,14 @@ ghost use Rattle.command_ends.specs.Starts.{StartsOnly};
 ghost use Rattle.collection_reader.specs.ReadCollection.{IsCollectionSlot};
 
 use command_ends::{LONGEST_TEXT, Stop};
-use command_steps::{Plan, answer_text, build_words};
+use index_building::build_words;
 use index_file::{Index, one_index};
 use part_cost::Format;
 use pef_io::{Depot, Sink, Source};
 use std::alloc::Global;
 use std::sync::ledger::Ledger;
 use step_count::Steps;
+use text_replies::{Plan, answer_text};
 
 /// Builds the words of the collection under the base, and answers the input from them.
 pub fn answer<D: Depot, I: Source, O: Sink, L: Ledger>(

@@ -1,3 +1,6 @@
+ghost use Rattle.std.specs.Prelude.{◌≡◌};
+ghost use Rattle.collection_model.specs.FormatNumbers.{Plain};
+ghost use Rattle.part_cost.specs.Formats.{numbers_of};
 ghost use Rattle.pef_io.specs.SourceState.{SourceState};
 ghost use Rattle.pef_io.specs.SinkState.{SinkState};
 ghost use Rattle.command_ends.specs.Outside.{outside};
@@ -8,14 +11,16 @@ ghost use Rattle.collection_commands.specs.Build.{Builds};
 ghost use Rattle.collection_reader.specs.ReadCollection.{IsCollectionSlot};
 
 use command_ends::{Stop, after_writing, words_fit};
-use command_steps::{build_words, write_words};
+use index_building::build_words;
 use part_cost::Format;
 use pef_io::{Depot, Slot};
 use std::alloc::Global;
 use std::sync::ledger::Ledger;
 use step_count::Steps;
+use word_files::write_words;
 
-/// Builds the index of the collection under the base, and writes it as the file of this name.
+/// Builds the index of the collection under the base, in a format of plain files, and writes it as
+/// the file of this name.
 pub fn build<D: Depot, L: Ledger>(
     alloc: Global,
     base: &str,
@@ -24,6 +29,7 @@ pub fn build<D: Depot, L: Ledger>(
     format: Format,
     steps: &mut Steps<L>,
 ) -> Result<(), Stop>
+    requires plain { (numbers_of format).kind ≡ Plain }
     ensures { (i : SourceState) (o e e' : SinkState) → Leaves (Builds format base.now index.now) (StartsOnly IsCollectionSlot)
         (outside (D.state depot.old) i o e steps.old) (outside (D.state depot.new) i o e' steps.new) (outcome_of result) }
 {

@@ -10,8 +10,9 @@ ghost use Rattle.command_ends.specs.Starts.{StartsOnly};
 ghost use Rattle.collection_commands.specs.Generate.{Generates};
 
 use command_ends::{Stop, after_printing};
-use command_steps::{generated_words, print_generated};
+use index_building::generated_words;
 use index_file::{Index, one_index};
+use index_printing::print_generated;
 use pef_io::Sink;
 use std::alloc::Global;
 use std::sync::ledger::Ledger;

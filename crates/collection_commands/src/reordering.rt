@@ -7,9 +7,9 @@ ghost use Rattle.command_ends.specs.Steps.Stops.{outcome_of};
 ghost use Rattle.collection_commands.specs.Remap.{Remaps, RemapStarts};
 
 use command_ends::Stop;
-use command_steps::{image_files, write_image};
 use pef_io::Depot;
 use remap::image_is_well_formed;
+use remapped_files::{image_files, write_image};
 use std::alloc::Global;
 
 /// Reads the collection under the base and an order of its documents, and writes the files of its image under a new base.

@@ -11,7 +11,7 @@ use Rattle.pef_io.specs.DepotState.{DepotState, OnlyReads}
 use Rattle.collection_reader.specs.declared.fault.Fault.{Fault}
 use Rattle.index_file.specs.declared.fault.OpenFault.{OpenFault}
 use Rattle.command_model.specs.Written.{IsWritten, IsUnwritten, IsWrittenInPart, IsBeingWritten, IsLeftByFault}
-use Rattle.command_steps.specs.WriteFile.{WritesBytes}
+use Rattle.word_files.specs.WriteFile.{WritesBytes}
 use Rattle.command_ends.specs.Outside.{Outside, NoCallFailed, outside, OfFile, OfWriting, OfInput, OfOut}
 use Rattle.command_ends.specs.Outcome.{Outcome, Done, BrokenCollection, BrokenIndex, WriteFault, NoMemory, TooLarge, is_refusal, fault_of}
 use Rattle.command_ends.specs.Ends.{EndsByFault, FirstFaultEnds, OrNoMemory}

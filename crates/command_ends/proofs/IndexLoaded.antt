@@ -15,9 +15,9 @@ use Rattle.index_file.specs.IndexView.{IndexView}
 use Rattle.index_file.specs.Builder.{most_words}
 use Rattle.index_file.specs.Laws.{WordsAreRead, OneBrokenCheck}
 use Rattle.command_model.specs.Found.{AreOfWords, most_bytes}
-use Rattle.command_steps.specs.declared.loading.LoadWordsError.{LoadWordsError}
-use Rattle.command_steps.specs.declared.loading.LoadWordsError.TheVariants as loading
-use Rattle.command_steps.specs.LoadWords.{LoadsWords}
+use Rattle.word_files.specs.declared.loading.LoadWordsError.{LoadWordsError}
+use Rattle.word_files.specs.declared.loading.LoadWordsError.TheVariants as loading
+use Rattle.word_files.specs.LoadWords.{LoadsWords}
 use Rattle.command_ends.specs.Outside.{Outside, Count, NoCallFailed, outside, OfFile}
 use Rattle.command_ends.specs.Outcome.{Outcome, BrokenIndex, FileFault, NoMemory, TooLarge, fault_of}
 use Rattle.command_ends.specs.Ends.{OrNoMemory}
@@ -74,6 +74,7 @@ index_words read name d words c t of (format, parts, found) =
         c,
         parts,
         record {
+          plain = found.plain;
           well_formed = found.well_formed;
           partitions = found.partitions;
           spelled = read words (file_words (numbers_of format) c parts) of.fit its.fit (sym of.bytes_are ∙ its.bytes_are);
@@ -162,6 +163,7 @@ module _ (words_read : WordsAreRead) (one : OneBrokenCheck) (name : List ℕ) (d
       let P : List ℕ → Type 0 = λ ws. length ws ≤ most_words in
       let Q : List ℕ → Type 0 = λ ws. AreOfWords (bytes_under d name) ws in
       record {
+        plain = spells.plain;
         well_formed = spells.well_formed;
         partitions = spells.partitions;
         within = subst P spells.spelled w.within;
@@ -206,6 +208,7 @@ loaded_is_found name d d' words w =
         it.0,
         it.1.1,
         record {
+          plain = it.1.2.plain;
           well_formed = it.1.2.well_formed;
           partitions = it.1.2.partitions;
           within = subst P it.1.2.spelled w.loads.within;

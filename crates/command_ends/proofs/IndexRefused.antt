@@ -11,9 +11,9 @@ use Rattle.index_file.specs.FileWords.{IsIndex}
 use Rattle.index_file.specs.FirstBroken.{IsFirstBroken}
 use Rattle.index_file.specs.Laws.{WordsAreRead, OneBrokenCheck}
 use Rattle.command_model.specs.Found.{IsIndexSlot}
-use Rattle.command_steps.specs.declared.loading.LoadWordsError.{LoadWordsError}
-use Rattle.command_steps.specs.declared.loading.LoadWordsError.TheVariants as loading
-use Rattle.command_steps.specs.LoadWords.{LoadsWords}
+use Rattle.word_files.specs.declared.loading.LoadWordsError.{LoadWordsError}
+use Rattle.word_files.specs.declared.loading.LoadWordsError.TheVariants as loading
+use Rattle.word_files.specs.LoadWords.{LoadsWords}
 use Rattle.command_ends.specs.declared.stop.Stop.{Stop}
 use Rattle.command_ends.specs.declared.stop.Stop.TheVariants as stop
 use Rattle.command_ends.specs.Outside.{outside, NoCallFailed, OfFile, OfWriting, OfInput, OfOut}

@@ -2,6 +2,7 @@
 use Rattle.std.proofs.Common.{◌≡◌, ℕ, ◌<◌, ◌^◌, ap, subst, List, []}
 use Rattle.std.specs.Prelude.{Some, IsTrue, Ok, Err, unwrap_or}
 use Rattle.std.specs.List.{All}
+use Rattle.collection_model.specs.FormatNumbers.{Plain}
 use Rattle.collection_model.specs.Bytes.{word_bytes}
 use Rattle.collection_model.specs.Collection.{Collection, WellFormed}
 use Rattle.part_cost.specs.declared.formats.Format.{Format}
@@ -14,7 +15,7 @@ use Rattle.pef_io.specs.SinkState.{SinkState}
 use Rattle.pef_io.specs.DepotState.{DepotState, OnlyReads, bytes_under}
 use Rattle.index_file.specs.FileWords.{ListParts, file_words}
 use Rattle.command_model.specs.Found.{AreOfWords}
-use Rattle.command_steps.specs.WriteFile.{WritesWords}
+use Rattle.word_files.specs.WriteFile.{WritesWords}
 use Rattle.command_ends.specs.Outside.{Outside, NoCallFailed, outside}
 use Rattle.command_ends.specs.Outcome.{Outcome, Done}
 use Rattle.command_ends.specs.Ends.{FirstFaultEnds, OrTooLarge}
@@ -58,11 +59,12 @@ module _ (format : Format) (Is : Collection → Type 0) (touched : Slot → Type
   on_built P p = let Q : List ℕ → Type 0 = λ ws. P (word_bytes ws) in (c, parts, built, subst Q are p)
 
   -- where they were written, they stand under the name as an index
-  found_written : All (λ x. x < 2 ^ 64) words → WellFormed (numbers_of format) c → (IsTrue d2.tells → d2.file index ≡ Some (word_bytes words))
+  found_written : All (λ x. x < 2 ^ 64) words → (numbers_of format).kind ≡ Plain → WellFormed (numbers_of format) c → (IsTrue d2.tells → d2.file index ≡ Some (word_bytes words))
       → FindsIndex (numbers_of format) index d2 c parts
-  found_written fit good written =
+  found_written fit plain good written =
       let P : List ℕ → Type 0 = λ ws. AreOfWords (bytes_under d2 index) ws in
       record {
+        plain = plain;
         well_formed = good;
         partitions = built.cut.near.partitions;
         within = built.within;
@@ -70,13 +72,13 @@ module _ (format : Format) (Is : Collection → Type 0) (touched : Slot → Type
       }
 
   -- all of it
-  pub left : (accepted : Type 0) → accepted → All (λ x. x < 2 ^ 64) words → WellFormed (numbers_of format) c → ((slot : Slot) → d1.faults slot ≡ d.faults slot)
+  pub left : (accepted : Type 0) → accepted → All (λ x. x < 2 ^ 64) words → (numbers_of format).kind ≡ Plain → WellFormed (numbers_of format) c → ((slot : Slot) → d1.faults slot ≡ d.faults slot)
       → (r : Written) → WritesWords words index d1 d2 r → IsLeft format Is touched accepted index old new c parts (written_outcome Index r)
-  left accepted is fit good counts r v =
+  left accepted is fit plain good counts r v =
       let all = file.left Index touched index (word_bytes words) d d1 d2 i o e e' s s' reads (OnBuiltBytes format Is old new) on_built accepted is counts r v in
       record {
         ends = behind_building format Is old new (WritesIndex format Is index old new) r all.ends;
-        found = λ done. found_written fit good (all.file done);
+        found = λ done. found_written fit plain good (all.file done);
         complete = λ none. or_larger Done _ (all.complete none);
         depot = all.depot;
         faults = all.faults;

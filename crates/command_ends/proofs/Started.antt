@@ -8,13 +8,13 @@ use Rattle.pef_io.specs.Calls.{one_more}
 use Rattle.pef_io.specs.DepotState.{DepotState}
 use Rattle.collection_reader.specs.ReadCollection.{IsCollectionSlot}
 use Rattle.part_cost.specs.declared.formats.Format.{Format}
-use Rattle.command_steps.specs.declared.build.BuildError.{BuildError}
-use Rattle.command_steps.specs.declared.build.BuildError.TheVariants as building
-use Rattle.command_steps.specs.declared.loading.LoadWordsError.{LoadWordsError}
-use Rattle.command_steps.specs.declared.loading.LoadWordsError.TheVariants as loading
-use Rattle.command_steps.specs.WordsOfFiles.{BuildsWords}
-use Rattle.command_steps.specs.LoadWords.{LoadsWords}
-use Rattle.command_steps.specs.WriteFile.{WritesBytes}
+use Rattle.index_building.specs.declared.build.BuildError.{BuildError}
+use Rattle.index_building.specs.declared.build.BuildError.TheVariants as building
+use Rattle.word_files.specs.declared.loading.LoadWordsError.{LoadWordsError}
+use Rattle.word_files.specs.declared.loading.LoadWordsError.TheVariants as loading
+use Rattle.index_building.specs.WordsOfFiles.{BuildsWords}
+use Rattle.word_files.specs.LoadWords.{LoadsWords}
+use Rattle.word_files.specs.WriteFile.{WritesBytes}
 use Rattle.command_ends.specs.Outcome.{Outcome, FileFault, NoMemory}
 use Rattle.command_ends.specs.Starts.{StartsOnly}
 use Rattle.command_ends.proofs.Counted.{by_slot}

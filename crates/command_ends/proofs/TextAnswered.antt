@@ -8,9 +8,9 @@ use Rattle.pef_io.specs.declared.fail.Slot.{Slot}
 use Rattle.pef_io.specs.declared.fail.Slot.TheVariants.{Index}
 use Rattle.collection_reader.specs.declared.fault.Fault.{Fault}
 use Rattle.index_file.specs.declared.fault.OpenFault.{OpenFault}
-use Rattle.command_steps.specs.declared.text.RunFault.{RunFault}
-use Rattle.command_steps.specs.declared.text.RunFault.TheVariants as answering
-use Rattle.command_steps.specs.AnswerText.{AnswersText}
+use Rattle.text_replies.specs.declared.text.RunFault.{RunFault}
+use Rattle.text_replies.specs.declared.text.RunFault.TheVariants as answering
+use Rattle.text_replies.specs.AnswerText.{AnswersText}
 use Rattle.command_ends.specs.Outside.{Outside, OfFile, OfWriting, OfInput, OfOut}
 use Rattle.command_ends.specs.Outcome.{Outcome, Done, BrokenCollection, BrokenIndex, InputFault, OutFault, NoMemory, TooLarge, InputTooLarge, is_refusal, fault_of}
 use Rattle.command_ends.specs.Ends.{EndsByFault}

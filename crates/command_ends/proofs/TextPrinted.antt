@@ -6,7 +6,7 @@ use Rattle.pef_io.specs.declared.fail.IoFail.TheVariants as call
 use Rattle.pef_io.specs.declared.fail.Slot.{Slot}
 use Rattle.pef_io.specs.declared.fail.Slot.TheVariants.{Index}
 use Rattle.index_file.specs.declared.fault.OpenFault.{OpenFault}
-use Rattle.command_steps.specs.PrintLine.{PrintsLine}
+use Rattle.index_printing.specs.PrintLine.{PrintsLine}
 use Rattle.command_ends.specs.Outside.{Outside, NoCallFailed, OfFile, OfWriting, OfInput, OfOut}
 use Rattle.command_ends.specs.Outcome.{Outcome, Done, BrokenIndex, OutFault, NoMemory, TooLarge, is_refusal, fault_of}
 use Rattle.command_ends.specs.Ends.{EndsByFault, OrNoMemory}

@@ -9,9 +9,9 @@ use Rattle.pef_io.specs.DepotState.{DepotState}
 use Rattle.index_file.specs.Builder.{most_words}
 use Rattle.command_model.specs.Found.{AreOfWords, most_bytes}
 use Rattle.command_model.proofs.WordBytes.{word_bytes-length}
-use Rattle.command_steps.specs.declared.loading.LoadWordsError.{LoadWordsError}
-use Rattle.command_steps.specs.declared.loading.LoadWordsError.TheVariants as loading
-use Rattle.command_steps.specs.LoadWords.{LoadsWords, words_loaded}
+use Rattle.word_files.specs.declared.loading.LoadWordsError.{LoadWordsError}
+use Rattle.word_files.specs.declared.loading.LoadWordsError.TheVariants as loading
+use Rattle.word_files.specs.LoadWords.{LoadsWords, words_loaded}
 use Rattle.command_ends.specs.declared.stop.Stop.{Stop}
 use Rattle.command_ends.specs.Outside.{outside, Count, OfFile, OfWriting, OfInput, OfOut}
 use Rattle.command_ends.specs.Outcome.{Outcome, fault_of}

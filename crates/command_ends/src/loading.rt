@@ -2,10 +2,10 @@ ghost use Rattle.std.specs.Prelude.{IfErr, IfOk};
 ghost use Rattle.command_ends.specs.Steps.LoadedIndex.{IsLoaded, IsUnloaded};
 
 use crate::stop::{Stop, stop_of_index};
-use command_steps::load_words;
 use index_file::Index;
 use pef_io::{Depot, Slot};
 use std::alloc::Global;
+use word_files::load_words;
 
 /// The words of the file under the name, which are an index.
 pub fn load_index<D: Depot>(alloc: Global, name: &str, depot: &mut D) -> Result<Vec<u64>, Stop>

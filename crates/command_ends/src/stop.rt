@@ -6,14 +6,17 @@ use crate::status::Status;
 use block_max::SideFault;
 use collection_reader::Fault;
 use command_line::WordsError;
-use command_steps::{BuildError, FileFail, ImageError, LoadWordsError, RunFault};
+use index_building::BuildError;
 use index_file::{FinishError, OpenFault};
 use no_memory::NoMemory;
 use pef_io::{IoFail, Slot};
 use remap::MapFault;
+use remapped_files::{FileFail, ImageError};
 use segments::SegRule;
 use std::alloc::{AllocError, AllocFailed};
+use text_replies::RunFault;
 use two_level::Check;
+use word_files::LoadWordsError;
 
 /// Why a run ended before all was done.
 #[derive(Clone, Copy, Debug, PartialEq, Eq)]

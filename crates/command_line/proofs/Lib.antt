@@ -8,3 +8,4 @@ mod TextsRead
 mod Rows
 mod Several
 mod Lent
+mod PlainFormats

@@ -8,10 +8,10 @@ use Rattle.clap.specs.Simple.{App, Shape, built_leaf, is_simple, subcommand_of}
 use Rattle.clap.specs.Takes.{takes, level_passes, settle_passes, default_passes, is_valid, positional_passes, walk_passes}
 use Rattle.clap.proofs.OnLiterals.{clap_on_literals}
 use Rattle.part_cost.specs.declared.formats.Format.{Format}
-use Rattle.part_cost.specs.declared.formats.Format.TheVariants.{One, Two}
+use Rattle.part_cost.specs.declared.formats.Format.TheVariants.{One, Two, Three}
 use Rattle.topk_pruning.specs.declared.plan.Plan.{Plan}
 use Rattle.topk_pruning.specs.declared.plan.Plan.TheVariants.{Exhaustive, Wand, MaxScore}
-use Rattle.command_line.specs.Command.{Build, Query, Answer, Inspect, Migrate, Audit, Blocks, BlockQuery, Remap, generate_command}
+use Rattle.command_line.specs.Command.{format_of, Build, Query, Answer, Inspect, Migrate, Audit, Blocks, BlockQuery, Remap, generate_command}
 use Rattle.command_line.specs.Private.CommandLine.{program_app, build_app, query_app, answer_app, inspect_app, generate_app, migrate_app, audit_app, blocks_app, bquery_app, remap_app, asked_in, asked_of}
 use Rattle.command_line.proofs.PlainWalk.{at, walks, passes}
 
@@ -19,10 +19,11 @@ pub simple : is_simple program_app ≡ true
 unfolding clap_on_literals
 simple = refl
 
--- the name of a format, and of a plan
+-- the name of a format, where the words can name it, and of a plan
 abbrev pub format_name : Format → Text
 format_name One = codes "1"
 format_name Two = codes "2"
+format_name Three = []
 
 abbrev pub plan_name : Plan → Text
 plan_name Exhaustive = codes "exhaustive"
@@ -182,6 +183,10 @@ module _ (name : Text) (x : ℕ) (xs : Text) (h : (x == 45) ≡ false) where
 
 -- ---- two texts, and a format
 
+-- The words can name a format.
+abbrev pub IsNamed : Format → Type 0
+IsNamed format = format_of (format_name format) ≡ Some format
+
 -- what follows the texts where a format is named
 abbrev pub format_words : Format → List Text
 format_words format = codes "--format" ∷ format_name format ∷ []
@@ -217,15 +222,17 @@ module _ (name : Text) (x y : ℕ) (xs ys : Text) (hx : (x == 45) ≡ false) (hy
   unfolding clap_on_literals
   build_asked = ap (asked_of (codes "build")) (rows build (two_texts []) end [] (build_leads []))
 
-  pub build_in_taken : (format : Format) → takes program_app (name ∷ codes "build" ∷ two_texts (format_words format)) ≡ true
+  pub build_in_taken : (format : Format) → IsNamed format → takes program_app (name ∷ codes "build" ∷ two_texts (format_words format)) ≡ true
   unfolding clap_on_literals
-  build_in_taken One = ap (λ b. b && true) (level build (two_texts (format_words One)) end (format_words One) (build_leads (format_words One)))
-  build_in_taken Two = ap (λ b. b && true) (level build (two_texts (format_words Two)) end (format_words Two) (build_leads (format_words Two)))
+  build_in_taken One named = ap (λ b. b && true) (level build (two_texts (format_words One)) end (format_words One) (build_leads (format_words One)))
+  build_in_taken Two named = ap (λ b. b && true) (level build (two_texts (format_words Two)) end (format_words Two) (build_leads (format_words Two)))
+  build_in_taken Three named = cc
 
-  pub build_in_asked : (format : Format) → asked_in (subcommand_of program_app (name ∷ codes "build" ∷ two_texts (format_words format))) ≡ Some (Build (x ∷ xs) (y ∷ ys) format)
+  pub build_in_asked : (format : Format) → IsNamed format → asked_in (subcommand_of program_app (name ∷ codes "build" ∷ two_texts (format_words format))) ≡ Some (Build (x ∷ xs) (y ∷ ys) format)
   unfolding clap_on_literals
-  build_in_asked One = ap (asked_of (codes "build")) (rows build (two_texts (format_words One)) end (format_words One) (build_leads (format_words One)))
-  build_in_asked Two = ap (asked_of (codes "build")) (rows build (two_texts (format_words Two)) end (format_words Two) (build_leads (format_words Two)))
+  build_in_asked One named = ap (asked_of (codes "build")) (rows build (two_texts (format_words One)) end (format_words One) (build_leads (format_words One)))
+  build_in_asked Two named = ap (asked_of (codes "build")) (rows build (two_texts (format_words Two)) end (format_words Two) (build_leads (format_words Two)))
+  build_in_asked Three named = cc
 
 -- ---- two texts
 

@@ -8,13 +8,13 @@ use Rattle.clap.specs.Walk.{Text}
 use Rattle.clap.specs.Simple.{subcommand_of}
 use Rattle.clap.specs.Takes.{takes}
 use Rattle.part_cost.specs.declared.formats.Format.{Format}
-use Rattle.part_cost.specs.declared.formats.Format.TheVariants.{One, Two}
+use Rattle.part_cost.specs.declared.formats.Format.TheVariants.{One, Two, Three}
 use Rattle.query_text.specs.Numbers.{number_of}
 use Rattle.topk_pruning.specs.declared.plan.Plan.{Plan}
 use Rattle.topk_pruning.specs.declared.plan.Plan.TheVariants.{Exhaustive, Wand, MaxScore}
 use Rattle.command_line.specs.Command.{Command, Build, Query, Answer, Inspect, Migrate, Audit, Blocks, BlockQuery, Remap, command_of, build_command, build_in, format_of, answering_command, answered_by, plan_of, text_command, generate_command, generate_of, migrate_command, blocks_command, bquery_command, remap_command, is_text, is_file_of, takes_place, Segments, segments_command, segments_by, texts_before, words_behind, most_segments, option_in}
 use Rattle.command_line.specs.Private.CommandLine.{program_app, asked_in}
-use Rattle.command_line.proofs.Taken.{format_name, format_words, plan_name, plan_words}
+use Rattle.command_line.proofs.Taken.{IsNamed, format_name, format_words, plan_name, plan_words}
 use Rattle.command_line.proofs.Taken as clap
 use Rattle.command_line.proofs.Several.{IsPlain, ArePlain}
 use Rattle.command_line.proofs.Several as several
@@ -61,9 +61,14 @@ format_named name format h = go (bytes_eq name (codes "1")) refl (bytes_eq name 
         → (format : Format) → (if b then Some One else if d then Some Two else None) ≡ Some format → name ≡ format_name format
     go true e d f One h = same_text name (codes "1") (sym e)
     go true e d f Two h = cc
+    go true e d f Three h = cc
     go false e true f One h = cc
     go false e true f Two h = same_text name (codes "2") (sym f)
+    go false e true f Three h = cc
     go false e false f format h = cc
+
+is_named : (name : Text) (format : Format) → format_of name ≡ Some format → IsNamed format
+is_named name format h = ap format_of (sym (format_named name format h)) ∙ h
 
 plan_named : (name : Text) (plan : Plan) → plan_of name ≡ Some plan → name ≡ plan_name plan
 plan_named name plan h = go (bytes_eq name (codes "exhaustive")) refl (bytes_eq name (codes "wand")) refl (bytes_eq name (codes "maxscore")) refl plan h
@@ -146,12 +151,14 @@ build_texts name [] index hb hi = cc
 build_texts name (x ∷ xs) [] hb hi = cc
 build_texts name (x ∷ xs) (y ∷ ys) hb hi = (clap.build_taken name x y xs ys (plain x xs hb) (plain y ys hi), clap.build_asked name x y xs ys (plain x xs hb) (plain y ys hi))
 
-build_texts_in : (name base index : Text) (format : Format) → is_text base ≡ true → is_text index ≡ true
+build_texts_in : (name base index : Text) (format : Format) → IsNamed format → is_text base ≡ true → is_text index ≡ true
     → IsRead (name ∷ codes "build" ∷ base ∷ index ∷ format_words format) (Some (Build base index format))
-build_texts_in name [] index format hb hi = cc
-build_texts_in name (x ∷ xs) [] format hb hi = cc
-build_texts_in name (x ∷ xs) (y ∷ ys) format hb hi =
-    (clap.build_in_taken name x y xs ys (plain x xs hb) (plain y ys hi) format, clap.build_in_asked name x y xs ys (plain x xs hb) (plain y ys hi) format)
+build_texts_in name [] index format named hb hi = cc
+build_texts_in name (x ∷ xs) [] format named hb hi = cc
+build_texts_in name (x ∷ xs) (y ∷ ys) format named hb hi = (
+  clap.build_in_taken name x y xs ys (plain x xs hb) (plain y ys hi) format named,
+  clap.build_in_asked name x y xs ys (plain x xs hb) (plain y ys hi) format named,
+)
 
 build_in_read : (name base index : Text) (words : List Text) (format : Format) → is_some (build_in base index (Some format)) ≡ true
     → (is_text base ≡ true → is_text index ≡ true → IsRead (name ∷ codes "build" ∷ base ∷ index ∷ words) (Some (Build base index format)))
@@ -170,7 +177,7 @@ build_read name (base ∷ index ∷ option ∷ []) h = cc
 build_read name (base ∷ index ∷ option ∷ value ∷ []) h =
     let is = named (codes "--format") format_of (build_in base index) refl option value h in
     let words : option ∷ value ∷ [] ≡ format_words is.0 = ap (λ o. o ∷ value ∷ []) is.2 ∙ ap (λ v. codes "--format" ∷ v ∷ []) (format_named value is.0 is.1) in
-    let read = build_in_read name base index (format_words is.0) is.0 (ap is_some (sym is.3) ∙ h) (build_texts_in name base index is.0) in
+    let read = build_in_read name base index (format_words is.0) is.0 (ap is_some (sym is.3) ∙ h) (build_texts_in name base index is.0 (is_named value is.0 is.1)) in
     subst (λ w. IsRead (name ∷ codes "build" ∷ base ∷ index ∷ w) (build_command (base ∷ index ∷ option ∷ value ∷ []))) (sym words)
     (subst (IsRead (name ∷ codes "build" ∷ base ∷ index ∷ format_words is.0)) (sym is.3) read)
 build_read name (base ∷ index ∷ option ∷ format ∷ word ∷ words) h = cc

@@ -2,9 +2,11 @@
 #![tactic(auto)]
 
 mod error;
+mod laws;
 mod parsing;
 mod words;
 
 pub use error::WordsError;
+pub use laws::words_name_plain_formats;
 pub use parsing::parse_words;
 pub use words::Command;

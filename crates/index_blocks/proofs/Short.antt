@@ -1,14 +1,13 @@
 -- The side file of an index is no longer than the index.
-use Rattle.std.proofs.Common.{◌≡◌, refl, ap, ℕ, ◌+◌, ◌*◌, ◌-◌, ◌≤◌, Bool, true, false, List, [], ◌∷◌, ◌++◌, map, length, arith, length-append}
-use Rattle.std.specs.Prelude.{if◌then◌else◌}
+use Rattle.std.proofs.Common.{◌≡◌, refl, ap, ℕ, ◌+◌, ◌-◌, ◌≤◌, lit≤, List, [], ◌∷◌, ◌++◌, map, length, arith, length-append}
 use Rattle.std.proofs.lemmas.List.{length-map}
 use Rattle.std.proofs.lemmas.List.Concat.{flat_map-cons}
-use Rattle.collection_model.specs.FormatNumbers.{FormatNumbers}
+use Rattle.collection_model.specs.FormatNumbers.{FormatNumbers, EntryShape, EndBesideLast, EachApart, EndInTwo}
 use Rattle.collection_model.specs.Collection.{Collection, Posting}
 use Rattle.collection_model.specs.Sequences.{doc_sequence}
 use Rattle.bit_words.specs.Bits.{words_of}
 use Rattle.part_cost.specs.Span.{past, payload_of_part}
-use Rattle.two_level.specs.EntryWords.{entry}
+use Rattle.two_level.specs.EntryWords.{entry, entry_in}
 use Rattle.two_level.specs.SequenceWords.{directory_from, payload_from}
 use Rattle.index_file.specs.FileWords.{CutList, ListParts, doc_words, file_words, freq_words, lists_words, with_parts}
 use Rattle.index_file.proofs.Lengths.{file-length}
@@ -20,13 +19,14 @@ blocks-length : (list : List Posting) (i : ℕ) (ends : List ℕ) → length (bl
 blocks-length list i [] = refl
 blocks-length list i (end ∷ ends) = let more = blocks-length list end ends in omega arith
 
-some-of : (b : Bool) (x y z u v : ℕ) → 1 ≤ length (if b then u ∷ v ∷ [] else x ∷ y ∷ z ∷ [])
-some-of true x y z u v = omega arith
-some-of false x y z u v = omega arith
+some-of : (shape : EntryShape) (unit last end offset : ℕ) → 1 ≤ length (entry_in shape unit last end offset)
+some-of EndBesideLast unit last end offset = lit≤ tt
+some-of EachApart unit last end offset = lit≤ tt
+some-of EndInTwo unit last end offset = lit≤ tt
 
 -- an entry has a word
 entry-some : (format : FormatNumbers) (last end offset : ℕ) → 1 ≤ length (entry format last end offset)
-entry-some format last end offset = some-of format.packed last end offset (last + format.most_sum * end) offset
+entry-some format last end offset = some-of format.shape format.most_sum last end offset
 
 -- a directory has a word at least for each part
 directory-most : (format : FormatNumbers) (xs : List ℕ) (i offset : ℕ) (ends : List ℕ) → length ends ≤ length (directory_from format xs i offset ends)

@@ -10,6 +10,3 @@ pub use laws::side_files_are_short;
 pub use side::index_side_words;
 pub use source::IndexBlocks;
 pub use starts::block_starts;
-
-#[cfg(test)]
-mod tests;

@@ -9,9 +9,9 @@ use Rattle.pef_io.specs.DepotState.{DepotState}
 use Rattle.index_file.specs.FileWords.{Spells}
 use Rattle.index_file.specs.IndexView.{IndexView}
 use Rattle.index_file.specs.Laws.{WordsAreRead, OneBrokenCheck}
-use Rattle.command_steps.specs.declared.text.RunFault.{RunFault}
-use Rattle.command_steps.specs.AnswerText.{AnswersText}
-use Rattle.command_steps.specs.LoadWords.{LoadsWords}
+use Rattle.text_replies.specs.declared.text.RunFault.{RunFault}
+use Rattle.text_replies.specs.AnswerText.{AnswersText}
+use Rattle.word_files.specs.LoadWords.{LoadsWords}
 use Rattle.command_ends.specs.declared.stop.Stop.{Stop}
 use Rattle.command_ends.specs.Outside.{Outside, outside, OfFile, OfWriting}
 use Rattle.command_ends.specs.Outcome.{Outcome, Done, InputTooLarge}

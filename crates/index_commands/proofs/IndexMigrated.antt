@@ -19,9 +19,9 @@ use Rattle.command_model.specs.Found.{IsIndexSlot}
 use Rattle.command_model.specs.CollectionCut.{AreCut}
 use Rattle.index_file.specs.declared.builder.FinishError.{FinishError}
 use Rattle.index_file.specs.declared.builder.FinishError.TheVariants as making
-use Rattle.command_steps.specs.LoadWords.{LoadsWords}
-use Rattle.command_steps.specs.WordsOfCollection.{AreWordsOf, WouldBeTooMany}
-use Rattle.command_steps.specs.WriteFile.{WritesWords}
+use Rattle.word_files.specs.LoadWords.{LoadsWords}
+use Rattle.index_building.specs.WordsOfCollection.{AreWordsOf, WouldBeTooMany}
+use Rattle.word_files.specs.WriteFile.{WritesWords}
 use Rattle.command_ends.specs.declared.stop.Stop.{Stop}
 use Rattle.command_ends.specs.Outside.{Outside, outside}
 use Rattle.command_ends.specs.Outcome.{Outcome, Done, Usage, BrokenCollection, BrokenIndex, BrokenSide, BrokenMap, FileFault, InputFault, WriteFault, OutFault, NoMemory, TooLarge, InputTooLarge, BrokenSegment, UnfitSegment}
@@ -143,7 +143,7 @@ module _ (from to : List ℕ) (d d1 : DepotState) (i : SourceState) (o e e' : Si
           let built : AreBuilt migrate_format Is s s' c are.parts =
           record { cut = cut_of_found are.parts are.cut; within = subst (λ ws. length ws ≤ most_words) are.spelled.spelled are.within } in
           let all = left migrate_format Is IsIndexSlot to d d1 d2 i o e e' s s' made w.reads c are.parts built are.spelled.spelled ((c : Collection) × Is c) (c, found)
-          fit are.spelled.well_formed (loaded_counts Index from d d1 words w) r v in
+          fit are.spelled.plain are.spelled.well_formed (loaded_counts Index from d d1 words w) r v in
           record {
             performs = record {
               ends = behind_reading from (outside d i o e s) (Then (outside d2 i o e' s')) r all.ends;

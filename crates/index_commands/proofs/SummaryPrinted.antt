@@ -10,8 +10,8 @@ use Rattle.index_file.specs.FileWords.{Spells}
 use Rattle.index_file.specs.IndexView.{IndexView}
 use Rattle.index_file.specs.Laws.{WordsAreRead, OneBrokenCheck}
 use Rattle.command_model.specs.SummaryLine.{summary_line}
-use Rattle.command_steps.specs.LoadWords.{LoadsWords}
-use Rattle.command_steps.specs.PrintLine.{PrintsLine}
+use Rattle.word_files.specs.LoadWords.{LoadsWords}
+use Rattle.index_printing.specs.PrintLine.{PrintsLine}
 use Rattle.command_ends.specs.declared.stop.Stop.{Stop}
 use Rattle.command_ends.specs.Outside.{Outside, outside, OfFile, OfWriting, OfInput}
 use Rattle.command_ends.specs.Outcome.{Outcome, Done}

@@ -12,8 +12,8 @@ ghost use Rattle.index_commands.specs.Audit.{Audits};
 ghost use Rattle.command_model.specs.Found.{IsIndexSlot};
 
 use command_ends::{Stop, after_printing, load_index};
-use command_steps::print_audit;
 use index_file::{Index, one_broken_check, words_and_bytes_undo_each_other};
+use index_printing::print_audit;
 use pef_io::{Depot, Sink};
 use std::alloc::Global;
 use std::sync::ledger::Ledger;

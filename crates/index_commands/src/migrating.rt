@@ -8,12 +8,13 @@ ghost use Rattle.index_commands.specs.Migrate.{Migrates};
 ghost use Rattle.command_model.specs.Found.{IsIndexSlot};
 
 use command_ends::{Stop, after_writing, load_index, words_fit};
-use command_steps::{migrated_words, write_words};
+use index_building::migrated_words;
 use index_file::{Index, one_broken_check, words_and_bytes_undo_each_other};
 use pef_io::{Depot, Slot};
 use std::alloc::Global;
 use std::sync::ledger::Ledger;
 use step_count::Steps;
+use word_files::write_words;
 
 /// Reads the index under a name, and writes that of its collection, in the second format and cut anew, as the file of another name.
 pub fn migrate<D: Depot, L: Ledger>(

@@ -11,10 +11,10 @@ ghost use Rattle.index_commands.specs.Query.{Queries};
 ghost use Rattle.command_model.specs.Found.{IsIndexSlot};
 
 use command_ends::{LONGEST_TEXT, Stop, load_index};
-use command_steps::{Plan, answer_text};
 use index_file::{Index, one_broken_check, words_and_bytes_undo_each_other};
 use pef_io::{Depot, Sink, Source};
 use std::alloc::Global;
+use text_replies::{Plan, answer_text};
 
 /// Reads the index under the name, and answers the input from it.
 pub fn query<D: Depot, I: Source, O: Sink>(

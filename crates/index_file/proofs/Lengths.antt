@@ -1,9 +1,22 @@
 -- Lemmas on the words of lists that are added one after the other, and on how many they are.
-use Rattle.std.proofs.Common.{◌≡◌, refl, sym, ap, ◌∙◌, ℕ, ◌+◌, ◌*◌, ◌/◌, List, [], ◌∷◌, ◌++◌, length, get_or, take, drop, max, ◌^◌, ◌<◌, ◌≤◌, arith, append-nil, append_assoc, length-append}
-use Rattle.collection_model.specs.FormatNumbers.{FormatNumbers}
+use Rattle.std.proofs.Common.{◌≡◌, refl, sym, ap, ◌∙◌, ℕ, ◌+◌, ◌*◌, ◌/◌, List, [], ◌∷◌, ◌++◌, length, get_or, take, drop, max, ◌^◌, ◌<◌, ◌≤◌, lit≤, arith, append-nil, append_assoc, length-append}
+use Rattle.collection_model.specs.FormatNumbers.{FormatNumbers, EntryShape, EndBesideLast, EachApart, EndInTwo, entry_words, part_charge, words_of_shape}
 use Rattle.std.proofs.lemmas.List.{drop-drop, drop_more, length-drop}
 use Rattle.collection_model.specs.Collection.{greatest}
 use Rattle.index_file.specs.FileWords.{end_magic, CutList, doc_words, freq_words, lists_words, list_entry, lists_directory, sizes_words, words_of_file}
+
+-- an entry has a word
+some-of-shape : (shape : EntryShape) → 1 ≤ words_of_shape shape
+some-of-shape EndBesideLast = lit≤ tt
+some-of-shape EachApart = lit≤ tt
+some-of-shape EndInTwo = lit≤ tt
+
+pub some-entry : (format : FormatNumbers) → 1 ≤ entry_words format
+some-entry format = some-of-shape format.shape
+
+-- so a part costs something
+pub some-charge : (format : FormatNumbers) → 1 ≤ part_charge format
+some-charge format = omega (arith, some-entry format)
 
 -- the words of one list more
 pub words-more : (format : FormatNumbers) (cs : List CutList) (c : CutList) → lists_words format (cs ++ c ∷ []) ≡ lists_words format cs ++ doc_words format c ++ freq_words format c

@@ -1,5 +1,4 @@
 mod Rows
-mod EveryDocument
 mod WordBytes
 pub mod Lengths
 pub mod CutLists

@@ -28,6 +28,7 @@ use Rattle.index_file.specs.IndexView.{index_stated, cut_lists, docs_stated, fre
 use Rattle.index_file.specs.ListAt.{HasFrame, StandsAt, StandFrom, word_after}
 use Rattle.index_file.specs.Measures.{measure_at, measure_of_part, measure_of_list, IsMeasured}
 use Rattle.index_file.specs.Laws.{SequenceLaws}
+use Rattle.index_file.proofs.Lengths.{some-charge}
 use Rattle.index_file.proofs.Fronts.{stand-from, front-pieces, length-lists}
 use Rattle.index_file.proofs.StatedIndex.{opened}
 use Rattle.index_file.proofs.Reading.{OpenedList, opened-stand, docs-read, freqs-read}
@@ -50,10 +51,6 @@ parts-at_most measure charge some xs i (end ∷ ends) =
     let rest : cost_from (measure_of_part measure xs) end ends ≤ cost_from (cost_of_part charge xs) end ends = parts-at_most measure charge some xs end ends in
     omega (arith, some, first, rest)
 
-some-charge : (packed : Bool) → 1 ≤ 64 * cond packed 2 3
-some-charge true = omega arith
-some-charge false = omega arith
-
 bits-at_least : (added cost count : ℕ) → added ≤ cost → count ≡ (cost + 63) / 64 → added ≤ 64 * count
 bits-at_least added cost count most is = omega arith
 
@@ -63,7 +60,7 @@ pub sequence-at_most : (format : FormatNumbers) → TakesItsCost format → (mea
 sequence-at_most format takes measure xs ends rising below partition =
     let cost : ℕ = partition_cost (cost_of_part (part_charge format) xs) ends in
     let most : partition_cost (measure_of_part measure xs) ends ≤ partition_cost (cost_of_part (part_charge format) xs) ends =
-    parts-at_most measure (part_charge format) (some-charge format.packed) xs 0 ends in
+    parts-at_most measure (part_charge format) (some-charge format) xs 0 ends in
     let words : length (sequence_words format xs ends) ≡ (partition_cost (cost_of_part (part_charge format) xs) ends + 63) / 64 = takes xs ends rising below partition in
     bits-at_least (partition_cost (measure_of_part measure xs) ends) cost (length (sequence_words format xs ends)) most words
 

@@ -1,5 +1,5 @@
--- The words of small indexes, computed.
-use Rattle.std.proofs.Common.{◌≡◌, refl, ℕ, List, [], ◌∷◌, length, map}
+-- The words of small indexes, and the numbers that break a check, computed.
+use Rattle.std.proofs.Common.{◌≡◌, refl, ℕ, Bool, true, false, List, [], ◌∷◌, length, map}
 use Rattle.std.specs.List.{range_with_len}
 use lib.Count.{count_leading_zeros}
 use Rattle.collection_model.specs.FormatNumbers.{format_one, format_two}
@@ -7,6 +7,7 @@ use Rattle.collection_model.specs.Collection.{Collection}
 use Rattle.part_cost.specs.Payload.{ef_payload, bitmap_payload, kind_of}
 use Rattle.ranked_bitmap.specs.MapBits.{map_bits}
 use Rattle.index_file.specs.FileWords.{ListParts, file_words, opening_magic, end_magic}
+use Rattle.index_file.specs.FirstBroken.{numbers_break}
 
 -- Three documents with one list, 0 once and 2 five times, each sequence in one part, and sizes 4, 0, 7.
 abbrev three : Collection
@@ -43,3 +44,20 @@ every = refl
 every-two : length (file_words format_two thousand (one_part 1000)) ≡ 516
 unfolding ef_payload bitmap_payload kind_of map_bits count_leading_zeros
 every-two = refl
+
+-- Whether so many documents are too many in each format, in files of just the words that these numbers state: the most documents of
+-- each, and one more.
+abbrev break_in : ℕ → ℕ → List Bool
+break_in documents words = numbers_break format_one documents 0 2 words ∷ numbers_break format_two documents 0 2 words ∷ []
+
+most-in_one : break_in 268435455 134217734 ≡ false ∷ false ∷ []
+most-in_one = refl
+
+too-many_in_one : break_in 268435456 134217734 ≡ true ∷ false ∷ []
+too-many_in_one = refl
+
+most-in_two : break_in 4294967295 2147483654 ≡ true ∷ false ∷ []
+most-in_two = refl
+
+too-many_in_two : break_in 4294967296 2147483654 ≡ true ∷ true ∷ []
+too-many_in_two = refl

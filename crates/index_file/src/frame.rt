@@ -34,7 +34,8 @@ pub(crate) struct Frame {
     pub(crate) sizes: u64,
 }
 
-// The format whose version is word 1. Words with the version of no format are read in the first.
+// The format of plain files whose version is word 1. Words with the version of none are read in the
+// first.
 pub(crate) fn format_of(words: &[u64]) -> Format
     ensures { result ≡ format_read words.now }
 {

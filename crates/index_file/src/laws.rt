@@ -17,7 +17,8 @@ pub fn lists_are_counted()
     ensures { ListsAreCounted }
 {}
 
-/// The file of a builder's lists, with a size for each document, is the index of their collection.
+/// The file of a builder's lists, with a size for each document, is that of their collection, and
+/// the index of it where the format is one of plain files.
 pub fn files_spell_collections()
     ensures { FilesSpellCollections }
 {}
@@ -41,7 +42,8 @@ pub fn one_broken_check()
     sequence_laws();
 }
 
-/// Behind the opening word, a word 1 that is the version of no format is the first check that breaks.
+/// Behind the opening word, a word 1 that is the version of no format of plain files is the first
+/// check that breaks.
 pub fn no_version_breaks()
     ensures { NoVersionBreaks }
 {}

@@ -12,8 +12,6 @@ mod laws;
 mod lists;
 mod measures;
 mod partitions;
-#[cfg(test)]
-mod tests;
 mod totals;
 mod views;
 

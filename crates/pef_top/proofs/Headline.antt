@@ -26,8 +26,8 @@ same_index one read name d a c f g t =
     let x = f.2.bytes t in
     let y = g.2.bytes t in (
     one f.0 g.0 ws a c f.1 g.1
-    (record { well_formed = f.2.well_formed; partitions = f.2.partitions; spelled = refl })
-    (record { well_formed = g.2.well_formed; partitions = g.2.partitions; spelled = read ws vs x.fit y.fit (sym x.bytes_are ∙ y.bytes_are) })
+    (record { plain = f.2.plain; well_formed = f.2.well_formed; partitions = f.2.partitions; spelled = refl })
+    (record { plain = g.2.plain; well_formed = g.2.well_formed; partitions = g.2.partitions; spelled = read ws vs x.fit y.fit (sym x.bytes_are ∙ y.bytes_are) })
     ).1
 
 -- where all is done, the replies are those of each collection of which the file is an index

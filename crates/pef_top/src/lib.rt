@@ -5,8 +5,8 @@ mod laws;
 mod top;
 
 pub use command_ends::Status;
-pub use command_steps::{
-    BuildError, Plan, RunFault, answer_joined, answer_text, build_words, plan_top,
-};
+pub use index_building::{BuildError, build_words};
 pub use laws::{built_files_answer, commands_end_by_the_table, migrated_files_answer};
+pub use text_replies::{Plan, RunFault, answer_joined, answer_text};
 pub use top::{run, run_uncounted};
+pub use topk_pruning::plan_top;

@@ -12,7 +12,7 @@ ghost use Rattle.command_ends.specs.Steps.Stops.{outcome_of};
 
 use collection_commands::{answer, build, generate, reorder};
 use command_ends::{Status, Stop, write_line};
-use command_line::{Command, parse_words};
+use command_line::{Command, parse_words, words_name_plain_formats};
 use index_commands::{audit, inspect, migrate, query};
 use pef_io::{Depot, Sink, Source};
 use segment_commands::answer_segments;
@@ -111,6 +111,7 @@ fn perform<D: Depot, I: Source, O: Sink, L: Ledger>(
         LeavesUncalled command (Accepts command (D.state depot.old)) (outcome_of result)
         (objects depot.old input.old out.old) (objects depot.new input.new out.new) }
 {
+    words_name_plain_formats();
     let command = parse_words(alloc, words)?;
     match command {
         Command::Build {

@@ -5,7 +5,7 @@ use Rattle.std.specs.Prelude.{Result, Ok, Err, IfOk, Vec}
 use Rattle.std.specs.declared.alloc.Global.{Global}
 use Rattle.std.proofs.lemmas.List.{length-map, map_push, drop_all}
 use Rattle.std.proofs.lemmas.List.Elements.{All-get_or}
-use Rattle.collection_model.specs.FormatNumbers.{format_two, most_terms}
+use Rattle.collection_model.specs.FormatNumbers.{Plain, format_two, most_terms}
 use Rattle.collection_model.specs.Collection.{Posting, Collection, WellFormed, IsPostingList}
 use Rattle.part_cost.specs.declared.formats.Format.TheVariants.{Two}
 use Rattle.part_cost.specs.Formats.{numbers_of}
@@ -95,7 +95,7 @@ all-added spell c rest b h last good =
     let as_lists : length cuts ≡ length c.lists = sym (length-map cuts (λ c. c.list)) ∙ ap length lists_are in
     let words : List ℕ = words_of_file (numbers_of b.format) b.documents cuts c.sizes in
     let made : Spells (numbers_of b.format) words (record { documents = b.documents; lists = map (λ c. c.list) cuts; sizes = c.sizes }) (map (λ c. c.parts) cuts) =
-    spell b cuts c.sizes h.stands
+    spell.spelled b cuts c.sizes (subst (λ f. (numbers_of f).kind ≡ Plain) (sym h.format_is) refl) h.stands
     (subst (λ f. b.documents ≤ (numbers_of f).most_documents) (sym h.format_is) (subst (λ n. n ≤ format_two.most_documents) (sym h.documents) good.documents))
     (omega (arith, as_lists, good.terms))
     (good.size_each ∙ sym h.documents)
@@ -124,7 +124,7 @@ added-words spell c rest b words h last good made within =
       within = within;
       parts = all.parts;
       near = all.near;
-      spelled = record { well_formed = all.spells.well_formed; partitions = all.spells.partitions; spelled = is ∙ all.spells.spelled };
+      spelled = record { plain = refl; well_formed = all.spells.well_formed; partitions = all.spells.partitions; spelled = is ∙ all.spells.spelled };
     }
 
 pub added-too_many : FilesSpellCollections → (c : Collection) (rest : List (List Posting)) (b : Built) (n : ℕ) → IsAdding c rest b → rest ≡ [] → WellFormed format_two c

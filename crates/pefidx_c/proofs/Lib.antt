@@ -1,5 +1,4 @@
 mod Putting
-mod CursorLists
 mod Refusals
 mod NextLists
 mod Adding

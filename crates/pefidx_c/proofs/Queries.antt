@@ -1,6 +1,6 @@
 -- What the plans ask of a query holds of terms and weights that are not refused.
-use Rattle.std.proofs.Common.{◌≡◌, refl, sym, ◌∙◌, ap, subst, ℕ, ◌+◌, ◌^◌, ◌<◌, ◌≤◌, List, length, map, true, false, arith}
-use Rattle.std.specs.Prelude.{Bool, if◌then◌else◌, not, ◌==◌, nat_lt, Option, Some, None, sum}
+use Rattle.std.proofs.Common.{◌≡◌, refl, sym, ◌∙◌, subst, ℕ, ◌^◌, ◌≤◌, List, length, map, true, false, arith}
+use Rattle.std.specs.Prelude.{Bool, if◌then◌else◌, not, ◌==◌, nat_lt, Some, None, sum}
 use Rattle.std.specs.List.{All, list_all}
 use Rattle.std.proofs.lemmas.Bool.{eqb-true, ltb-true}
 use Rattle.std.proofs.lemmas.Option.{none-some}
@@ -10,6 +10,7 @@ use Rattle.std.proofs.lemmas.List.Elements.{All-weaker}
 use Rattle.collection_model.specs.Collection.{Posting, Collection, list_of}
 use Rattle.scan_plans.specs.Matches.{AreBelow}
 use Rattle.scan_plans.specs.TopQuery.{IsTopQuery}
+use Rattle.scan_plans.proofs.AskedLists.{is-query as lists-asked}
 use Rattle.pefidx_c.specs.declared.status.Status.{Status}
 use Rattle.pefidx_c.specs.declared.status.Status.TheVariants.{NoPlan, TooManyTerms, NoTerm, BadWeights}
 use Rattle.pefidx_c.specs.Asked.{lists_of, most_asked, are_weights, top_refusal}
@@ -36,13 +37,8 @@ pub is-query : {C : Type 0} {list_at : C → List Posting} {place_at : C → ℕ
     → length terms ≤ 1024 → AreBelow c.documents (lists_of c terms) → map list_at made ≡ lists_of c terms → All (λ x. place_at x ≡ 0) made → cursors ≡ made → n ≡ c.documents
     → IsTopQuery list_at place_at n cursors weights
 is-query {C} {list_at} {place_at} {made} {cursors} {n} c plan terms weights asked few below so start same count =
-    let each : length cursors ≡ length terms = ap length same ∙ sym (length-map made list_at) ∙ ap length so ∙ length-map terms (list_of c) in
+    let all : length (lists_of c terms) ≡ length terms = length-map terms (list_of c) in
     let good = three-tests (length weights == length terms) (list_all (λ w. nat_lt 0 w) weights) (nat_lt (sum weights) (2 ^ 26)) (good-weights c plan terms weights asked) in
-    record {
-      few = omega (arith, each, few);
-      at_start = subst (All (λ x. place_at x ≡ 0)) (sym same) start;
-      in_range = subst (λ m. AreBelow m (map list_at cursors)) (sym count) (subst (AreBelow c.documents) (sym (ap (map list_at) same ∙ so)) below);
-      each = eqb-true (length weights) (length terms) good.0 ∙ sym each;
-      some = All-weaker (λ w. nat_lt 0 w ≡ true) (λ w. 1 ≤ w) (λ w e. let more = ltb-true 0 w e in omega (arith, more)) weights (AllPass-from_list_all (λ w. nat_lt 0 w) weights good.1);
-      light = ltb-true (sum weights) (2 ^ 26) good.2;
-    }
+    let some : All (λ w. 1 ≤ w) weights = All-weaker (λ w. nat_lt 0 w ≡ true) (λ w. 1 ≤ w) (λ w e. let more = ltb-true 0 w e in omega (arith, more)) weights (AllPass-from_list_all (λ w. nat_lt 0 w) weights good.1) in
+    lists-asked list_at place_at n (lists_of c terms) weights made cursors (omega (arith, all, few)) (subst (λ m. AreBelow m (lists_of c terms)) (sym count) below) (eqb-true (length weights) (length terms) good.0 ∙ sym all) some
+    (ltb-true (sum weights) (2 ^ 26) good.2) so start same

@@ -37,6 +37,9 @@ pub extern "C" fn pefidx_build(
         → (result ≡ number_of status) × (words.new ≡ words.old) × (count.new ≡ count.old) × (bad.new ≡ bad.old) }
     ensures bad_posting { result ≡ number_of Status.BadPosting
         → IsFirstBad (length sizes.now) (lists_given lengths.now docs.now freqs.now) bad.new.term bad.new.place × (words.new ≡ words.old) × (count.new ≡ count.old) }
+    ensures bad_is_told { build_refusal lengths.now docs.now freqs.now sizes.now ≡ None
+        → result ≢ number_of Status.BadPosting
+        → All (IsPostingList format_two (length sizes.now)) (lists_given lengths.now docs.now freqs.now) }
     ensures no_memory { result ≡ number_of Status.NoMemory → (words.new ≡ words.old) × (count.new ≡ count.old) × (bad.new ≡ bad.old) }
     ensures too_large { result ≡ number_of Status.TooLarge
         → WouldBeTooMany (collection_given lengths.now docs.now freqs.now sizes.now) count.new × (words.new ≡ words.old) × (bad.new ≡ bad.old) }

@@ -9,9 +9,9 @@ use Rattle.index_file.specs.IndexView.{IndexView, index_stated}
 use Rattle.index_file.specs.Laws.{WordsAreRead, OneBrokenCheck}
 use Rattle.segments.specs.declared.pushed.SegRule.{SegRule}
 use Rattle.segments.specs.Segments.{Pushed, answer_of, rule_broken, with_segment}
-use Rattle.command_steps.specs.declared.loading.LoadWordsError.{LoadWordsError}
-use Rattle.command_steps.specs.declared.loading.LoadWordsError.TheVariants as loading
-use Rattle.command_steps.specs.LoadWords.{LoadsWords}
+use Rattle.word_files.specs.declared.loading.LoadWordsError.{LoadWordsError}
+use Rattle.word_files.specs.declared.loading.LoadWordsError.TheVariants as loading
+use Rattle.word_files.specs.LoadWords.{LoadsWords}
 use Rattle.command_ends.specs.declared.stop.Stop.{Stop}
 use Rattle.command_ends.specs.Outside.{OfFile}
 use Rattle.command_ends.specs.Outcome.{Outcome, BrokenSegment, UnfitSegment, TooLarge, NoMemory}

@@ -11,10 +11,10 @@ use Rattle.pef_io.specs.DepotState.{DepotState}
 use Rattle.index_file.specs.Laws.{WordsAreRead, OneBrokenCheck, OneIndex}
 use Rattle.segments.specs.Joined.{joined}
 use Rattle.segments.specs.Segments.{Pushed}
-use Rattle.command_steps.specs.declared.text.RunFault.{RunFault}
-use Rattle.command_steps.specs.declared.text.RunFault.TheVariants as answering
-use Rattle.command_steps.specs.AnswerText.{AnswersText}
-use Rattle.command_steps.specs.AnswerJoined.{collections_of}
+use Rattle.text_replies.specs.declared.text.RunFault.{RunFault}
+use Rattle.text_replies.specs.declared.text.RunFault.TheVariants as answering
+use Rattle.text_replies.specs.AnswerText.{AnswersText}
+use Rattle.line_replies.specs.AnswerJoined.{collections_of}
 use Rattle.command_ends.specs.declared.stop.Stop.{Stop}
 use Rattle.command_ends.specs.Outside.{Outside, NoCallFailed, outside, OfFile, OfWriting, OfInput, OfOut}
 use Rattle.command_ends.specs.Outcome.{Outcome, Done, Usage, BrokenCollection, BrokenIndex, BrokenMap, BrokenSegment, UnfitSegment, FileFault, InputFault, WriteFault, OutFault, NoMemory, TooLarge, InputTooLarge, fault_of, BrokenSide}

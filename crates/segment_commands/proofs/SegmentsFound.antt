@@ -126,7 +126,7 @@ module _ (read : WordsAreRead) (one : OneBrokenCheck) (one_index : OneIndex) (de
       let b = h.bytes t in
       let same : file_words (numbers_of v) c e ≡ file_words (numbers_of w) d g = read (file_words (numbers_of v) c e) (file_words (numbers_of w) d g) a.fit b.fit (sym a.bytes_are ∙ b.bytes_are) in
       (one_index v w (file_words (numbers_of v) c e) c d e g
-      (record { well_formed = f.well_formed; partitions = f.partitions; spelled = refl }) (record { well_formed = h.well_formed; partitions = h.partitions; spelled = same })).1
+      (record { plain = f.plain; well_formed = f.well_formed; partitions = f.partitions; spelled = refl }) (record { plain = h.plain; well_formed = h.well_formed; partitions = h.partitions; spelled = same })).1
 
   whole : (name : List ℕ) (c : Collection) (fault : OpenFault) → FindsIndexOf name depot c → HasBroken name depot fault → ⊥
   whole name c fault found broken = go found

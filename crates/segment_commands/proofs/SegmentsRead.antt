@@ -22,7 +22,7 @@ use Rattle.segments.specs.Joined.{FitTogether, documents_in, terms_in, most_join
 use Rattle.segments.specs.Segments.{Pushed, differs, none_pushed, rule_broken, with_segment}
 use Rattle.command_model.specs.Found.{IsIndexSlot, AreOfWords, most_bytes}
 use Rattle.command_line.specs.Command.{texts}
-use Rattle.command_steps.specs.AnswerJoined.{collections_of}
+use Rattle.line_replies.specs.AnswerJoined.{collections_of}
 use Rattle.command_ends.specs.Outside.{OfFile}
 use Rattle.command_ends.specs.Outcome.{Outcome, Done, Usage, BrokenCollection, BrokenIndex, BrokenMap, BrokenSegment, UnfitSegment, FileFault, InputFault, WriteFault, OutFault, NoMemory, TooLarge, InputTooLarge, BrokenSide}
 use Rattle.command_ends.specs.Ends.{EndsByFault}
@@ -98,6 +98,7 @@ found_before old mid name c reads (format, parts, found) = (
   format,
   parts,
   record {
+    plain = found.plain;
     well_formed = found.well_formed;
     partitions = found.partitions;
     within = found.within;

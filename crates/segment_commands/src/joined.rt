@@ -13,11 +13,11 @@ ghost use Rattle.segment_commands.specs.AnswerSegments.{AnswersSegments};
 ghost use Rattle.segment_commands.specs.SegmentStarts.{StartsEach};
 
 use command_ends::{LONGEST_TEXT, Stop, load_index};
-use command_steps::{Plan, answer_joined};
 use index_file::{Index, one_broken_check, one_index, words_and_bytes_undo_each_other};
 use pef_io::{Depot, Sink, Source};
 use segments::Segments;
 use std::alloc::Global;
+use text_replies::{Plan, answer_joined};
 
 /// Reads the indexes under the names, one after the other, and answers the input from the collection to which they are joined.
 pub fn answer_segments<D: Depot, I: Source, O: Sink>(

@@ -14,9 +14,9 @@ use Rattle.index_file.specs.declared.builder.FinishError.TheVariants as making
 use Rattle.block_max.specs.declared.fault.SideFault.{SideFault}
 use Rattle.block_max.specs.SideWords.{side_words}
 use Rattle.index_blocks.specs.BlockLists.{blocks_of_index}
-use Rattle.command_steps.specs.declared.text.RunFault.TheVariants as answering
-use Rattle.command_steps.specs.AnswerText.{AnswersText}
-use Rattle.command_steps.specs.LoadWords.{LoadsWords}
+use Rattle.text_replies.specs.declared.text.RunFault.TheVariants as answering
+use Rattle.text_replies.specs.AnswerText.{AnswersText}
+use Rattle.word_files.specs.LoadWords.{LoadsWords}
 use Rattle.command_ends.specs.declared.stop.Stop.{Stop}
 use Rattle.command_ends.specs.declared.stop.Stop.TheVariants as stop
 use Rattle.command_ends.specs.Outside.{Outside, outside, OfFile, OfWriting}

@@ -17,7 +17,7 @@ use Rattle.block_max.specs.SideWords.{side_words}
 use Rattle.index_blocks.specs.BlockLists.{block_lists, blocks_of_index}
 use Rattle.index_blocks.specs.Laws.{SideFilesAreShort}
 use Rattle.command_model.specs.Found.{AreOfWords, most_bytes}
-use Rattle.command_steps.specs.LoadWords.{LoadsWords}
+use Rattle.word_files.specs.LoadWords.{LoadsWords}
 use Rattle.command_ends.specs.FoundIndex.{FindsIndex, FindsIndexOf}
 use Rattle.side_commands.specs.FoundSide.{FindsWithSide, HasBrokenSide, IsFirstSideFaultOfFile, side_of}
 use Rattle.side_commands.specs.Private.LoadedSide.{ragged_side}
@@ -86,7 +86,7 @@ module _ (laws : Laws) (index side : List ℕ) (d d1 : DepotState) (view : Index
       let of = opened.loads.words t in
       let same : opened.words ≡ file_words (numbers_of format) c parts = laws.read opened.words (file_words (numbers_of format) c parts) of.fit its.fit (sym of.bytes_are ∙ its.bytes_are) in
       let one = laws.index format view.format opened.words c view.collection parts view.parts
-      (record { well_formed = f.well_formed; partitions = f.partitions; spelled = same }) opened.spells in
+      (record { plain = f.plain; well_formed = f.well_formed; partitions = f.partitions; spelled = same }) opened.spells in
       ap (λ (x : Collection). block_lists x.lists parts) one.1 ∙ ap (λ (ps : List ListParts). block_lists view.collection.lists ps) one.2
 
   -- the side file of an index is not too large, and is whole words

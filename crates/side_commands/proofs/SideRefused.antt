@@ -14,9 +14,9 @@ use Rattle.block_max.specs.SideFaults.{IsFirstSideFault}
 use Rattle.block_max.specs.SideWords.{side_words}
 use Rattle.index_blocks.specs.BlockLists.{block_lists, blocks_of_index}
 use Rattle.command_model.specs.Found.{most_bytes}
-use Rattle.command_steps.specs.declared.loading.LoadWordsError.{LoadWordsError}
-use Rattle.command_steps.specs.declared.loading.LoadWordsError.TheVariants as loading
-use Rattle.command_steps.specs.LoadWords.{LoadsWords}
+use Rattle.word_files.specs.declared.loading.LoadWordsError.{LoadWordsError}
+use Rattle.word_files.specs.declared.loading.LoadWordsError.TheVariants as loading
+use Rattle.word_files.specs.LoadWords.{LoadsWords}
 use Rattle.command_ends.specs.declared.stop.Stop.{Stop}
 use Rattle.command_ends.specs.declared.stop.Stop.TheVariants as stop
 use Rattle.command_ends.specs.Outside.{Count, outside, NoCallFailed, OfFile, OfWriting, OfInput, OfOut}

@@ -9,8 +9,8 @@ use Rattle.pef_io.specs.SourceState.{SourceState}
 use Rattle.pef_io.specs.SinkState.{SinkState}
 use Rattle.pef_io.proofs.OnlyReads.{OnlyReads-trans, OnlyReads-wider}
 use Rattle.command_model.specs.Found.{IsIndexSlot}
-use Rattle.command_steps.specs.declared.text.RunFault.TheVariants as answering
-use Rattle.command_steps.specs.LoadWords.{LoadsWords}
+use Rattle.text_replies.specs.declared.text.RunFault.TheVariants as answering
+use Rattle.word_files.specs.LoadWords.{LoadsWords}
 use Rattle.command_ends.specs.Outside.{Count, outside, failed, OfFile, OfWriting, OfInput, OfOut}
 use Rattle.command_ends.specs.Outcome.{Outcome, Done, FileFault, NoMemory}
 use Rattle.command_ends.specs.Ends.{FirstFaultEnds}

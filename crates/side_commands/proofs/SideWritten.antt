@@ -17,8 +17,8 @@ use Rattle.index_file.specs.declared.builder.FinishError.TheVariants as making
 use Rattle.block_max.specs.SideWords.{side_words}
 use Rattle.index_blocks.specs.BlockLists.{blocks_of_index}
 use Rattle.command_model.specs.Found.{AreOfWords, IsIndexSlot}
-use Rattle.command_steps.specs.LoadWords.{LoadsWords}
-use Rattle.command_steps.specs.WriteFile.{WritesWords}
+use Rattle.word_files.specs.LoadWords.{LoadsWords}
+use Rattle.word_files.specs.WriteFile.{WritesWords}
 use Rattle.command_ends.specs.declared.stop.Stop.{Stop}
 use Rattle.command_ends.specs.declared.stop.Stop.TheVariants as stop
 use Rattle.command_ends.specs.Outside.{Outside, outside}

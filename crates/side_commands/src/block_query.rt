@@ -11,11 +11,11 @@ ghost use Rattle.side_commands.specs.BlockQuery.{QueriesBlocks, BlockQueryStarts
 use crate::side_loading::load_side;
 use block_max::{Side, one_side_fault};
 use command_ends::{LONGEST_TEXT, Stop, load_index};
-use command_steps::answer_by_blocks;
 use index_blocks::{IndexBlocks, block_starts, side_files_are_short};
 use index_file::{Index, one_broken_check, one_index, words_and_bytes_undo_each_other};
 use pef_io::{Depot, Sink, Source};
 use std::alloc::Global;
+use text_replies::answer_by_blocks;
 
 /// Reads the index under one name and its side file under another, and answers the input from both.
 pub fn query_blocks<D: Depot, I: Source, O: Sink>(

@@ -9,11 +9,11 @@ ghost use Rattle.side_commands.specs.Blocks.{WritesBlocks};
 ghost use Rattle.command_model.specs.Found.{IsIndexSlot};
 
 use command_ends::{Stop, after_writing, load_index, words_fit};
-use command_steps::write_words;
 use index_blocks::index_side_words;
 use index_file::{Index, one_broken_check, words_and_bytes_undo_each_other};
 use pef_io::{Depot, Slot};
 use std::alloc::Global;
+use word_files::write_words;
 
 /// Reads the index under a name, and writes its side file under another one.
 pub fn write_blocks<D: Depot>(

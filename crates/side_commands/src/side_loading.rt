@@ -3,9 +3,9 @@ ghost use Rattle.side_commands.specs.Private.LoadedSide.{IsLoadedSide, IsUnloade
 
 use block_max::{BlockSource, Side, SideCheck, SideFault};
 use command_ends::{Stop, stop_of_loading};
-use command_steps::{LoadWordsError, load_words};
 use pef_io::{Depot, Slot};
 use std::alloc::Global;
+use word_files::{LoadWordsError, load_words};
 
 // The words of the file under the name, which are the side file of some lists.
 pub(crate) fn load_side<D: Depot, S: BlockSource>(

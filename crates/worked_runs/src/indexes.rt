@@ -21,11 +21,12 @@ fn around_zeros(alloc: Global, before: &[u64], zeros: usize, behind: &[u64]) -> 
     Some(words)
 }
 
-// The words of a run that builds in a format.
-fn build_of(format: Format) -> &'static [&'static str] {
+// The words of a run that builds in a format, where words name it.
+fn build_of(format: Format) -> Option<&'static [&'static str]> {
     match format {
-        Format::One => &BUILD_ONE,
-        Format::Two => &BUILD,
+        Format::One => Some(&BUILD_ONE),
+        Format::Two => Some(&BUILD),
+        Format::Three => None,
     }
 }
 
@@ -64,7 +65,7 @@ fn has_words(alloc: Global, numbers: Numbers<'_>, format: Format, want: &[u64]) 
 
 // Whether `build` leaves these words in the file, and does not call err.
 fn leaves_words(alloc: Global, numbers: Numbers<'_>, format: Format, want: &[u64]) -> Option<bool> {
-    let run = steady_run(alloc, build_of(format), files_of(alloc, numbers)?, b"")?;
+    let run = steady_run(alloc, build_of(format)?, files_of(alloc, numbers)?, b"")?;
     let bytes = bytes_of(alloc, want)?;
     let left = run.depot.file("y") == Some(bytes.as_slice());
     Some(left && run.ends(Status::Done, "") && run.err.calls() == 0)
@@ -112,7 +113,7 @@ fn is_cut(words: &[u64], freqs: u64) -> bool {
 
 // Whether the index of the far document in a format is cut so, and has its replies.
 fn is_cut_off(alloc: Global, numbers: Numbers<'_>, format: Format, freqs: u64) -> Option<bool> {
-    let build = steady_run(alloc, build_of(format), files_of(alloc, numbers)?, b"")?;
+    let build = steady_run(alloc, build_of(format)?, files_of(alloc, numbers)?, b"")?;
     let words = read_words(alloc, build.depot.file("y")?).ok()?;
     let built = build.status == Status::Done && is_cut(&words, freqs);
     let text = b"next 0 100000\nnext 0 99999\ntop 2 0 1\nand 1 0\nnext 1 6\n";

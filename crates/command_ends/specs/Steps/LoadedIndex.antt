@@ -4,8 +4,8 @@ use Rattle.pef_io.specs.DepotState.{DepotState}
 use Rattle.index_file.specs.declared.fault.OpenFault.{OpenFault}
 use Rattle.index_file.specs.FileWords.{IsIndex}
 use Rattle.index_file.specs.FirstBroken.{IsFirstBroken}
-use Rattle.command_steps.specs.declared.loading.LoadWordsError.{LoadWordsError}
-use Rattle.command_steps.specs.LoadWords.{LoadsWords}
+use Rattle.word_files.specs.declared.loading.LoadWordsError.{LoadWordsError}
+use Rattle.word_files.specs.LoadWords.{LoadsWords}
 use Rattle.command_ends.specs.declared.stop.Stop.{Stop}
 use Rattle.command_ends.specs.declared.stop.Stop.TheVariants as stop
 use Rattle.command_ends.specs.Steps.Stops.{stop_of_index}

@@ -9,15 +9,15 @@ use Rattle.two_level.specs.declared.check.Check.TheVariants.{K1}
 use Rattle.index_file.specs.declared.builder.FinishError.{FinishError}
 use Rattle.index_file.specs.declared.builder.FinishError.TheVariants as making
 use Rattle.index_file.specs.declared.fault.OpenFault.{OpenFault}
-use Rattle.command_steps.specs.declared.build.BuildError.{BuildError}
-use Rattle.command_steps.specs.declared.build.BuildError.TheVariants as building
-use Rattle.command_steps.specs.declared.loading.LoadWordsError.{LoadWordsError}
-use Rattle.command_steps.specs.declared.loading.LoadWordsError.TheVariants as loading
-use Rattle.command_steps.specs.declared.text.RunFault.{RunFault}
-use Rattle.command_steps.specs.declared.text.RunFault.TheVariants as answering
-use Rattle.command_steps.specs.declared.image.ImageError.{ImageError}
-use Rattle.command_steps.specs.declared.image.ImageError.TheVariants as image
-use Rattle.command_steps.specs.declared.image.FileFail.{FileFail}
+use Rattle.index_building.specs.declared.build.BuildError.{BuildError}
+use Rattle.index_building.specs.declared.build.BuildError.TheVariants as building
+use Rattle.word_files.specs.declared.loading.LoadWordsError.{LoadWordsError}
+use Rattle.word_files.specs.declared.loading.LoadWordsError.TheVariants as loading
+use Rattle.text_replies.specs.declared.text.RunFault.{RunFault}
+use Rattle.text_replies.specs.declared.text.RunFault.TheVariants as answering
+use Rattle.remapped_files.specs.declared.image.ImageError.{ImageError}
+use Rattle.remapped_files.specs.declared.image.ImageError.TheVariants as image
+use Rattle.remapped_files.specs.declared.image.FileFail.{FileFail}
 use Rattle.command_ends.specs.declared.stop.Stop.{Stop}
 use Rattle.command_ends.specs.declared.stop.Stop.TheVariants as stop
 use Rattle.command_ends.specs.Outcome.{Outcome, Done, Usage, BrokenCollection, BrokenIndex, BrokenSide, BrokenMap, FileFault, InputFault, WriteFault, OutFault, NoMemory, TooLarge, InputTooLarge, BrokenSegment, UnfitSegment}

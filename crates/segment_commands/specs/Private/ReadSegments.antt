@@ -8,7 +8,7 @@ use Rattle.index_file.specs.IndexView.{index_stated}
 use Rattle.segments.specs.Joined.{documents_in}
 use Rattle.segments.specs.Segments.{Pushed, rule_broken, with_segment}
 use Rattle.command_model.specs.Found.{IsIndexSlot, most_bytes}
-use Rattle.command_steps.specs.AnswerJoined.{CanBeJoined, collections_of}
+use Rattle.line_replies.specs.AnswerJoined.{CanBeJoined, collections_of}
 use Rattle.command_ends.specs.Outside.{OfFile}
 use Rattle.command_ends.specs.Outcome.{Outcome, BrokenSegment, UnfitSegment, FileFault, TooLarge, NoMemory}
 use Rattle.command_ends.specs.Ends.{EndsByFault}

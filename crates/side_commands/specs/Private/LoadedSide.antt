@@ -6,8 +6,8 @@ use Rattle.block_max.specs.declared.fault.SideFault.{SideFault}
 use Rattle.block_max.specs.Blocks.{BlockList}
 use Rattle.block_max.specs.SideFaults.{IsFirstSideFault}
 use Rattle.block_max.specs.SideWords.{side_words}
-use Rattle.command_steps.specs.declared.loading.LoadWordsError.{LoadWordsError}
-use Rattle.command_steps.specs.LoadWords.{LoadsWords}
+use Rattle.word_files.specs.declared.loading.LoadWordsError.{LoadWordsError}
+use Rattle.word_files.specs.LoadWords.{LoadsWords}
 use Rattle.command_ends.specs.declared.stop.Stop.{Stop}
 use Rattle.command_ends.specs.declared.stop.Stop.TheVariants as stop
 use Rattle.command_ends.specs.Steps.Stops.{stop_of_loading}

@@ -13,6 +13,6 @@ returns-in_err-words g c = λ i o e e'.
 pub returns : goal.returns
 returns g c = λ i o e e'.
     let P : List ℕ → Type 0 = λ ws. All (λ w. w < 2 ^ 64) ws in
-    build_ended c.args.format c.args.base.now c.args.index.now _ _ _ i o e e' _ _ c.build_words.result c.in_ok-words.words c.deref-2.result.now c.write_words-written.result
+    build_ended c.args.format c.requires.plain c.args.base.now c.args.index.now _ _ _ i o e e' _ _ c.build_words.result c.in_ok-words.words c.deref-2.result.now c.write_words-written.result
     c.after_writing.result c.build_words.ensures c.in_ok-words.was c.deref-2.ensures.value (subst P c.deref.ensures.value c.words_fit.ensures) c.write_words-written.ensures
     c.after_writing.ensures

@@ -3,8 +3,8 @@ use Rattle.std.specs.Prelude.{Vec}
 use Rattle.std.specs.declared.alloc.Global.{Global}
 use Rattle.std.proofs.lemmas.Result.{err_from_is_err_and}
 use Rattle.pef_io.specs.declared.fail.Slot.TheVariants.{Index}
-use Rattle.command_steps.specs.declared.loading.LoadWordsError.{LoadWordsError}
-use Rattle.command_steps.specs.LoadWords.{LoadsWords, words_loaded}
+use Rattle.word_files.specs.declared.loading.LoadWordsError.{LoadWordsError}
+use Rattle.word_files.specs.LoadWords.{LoadsWords, words_loaded}
 use Rattle.index_file.specs.FileWords.{IsIndex}
 use Rattle.command_ends.proofs.WordsLoaded.{lent_loaded}
 use Rattle.command_ends.proofs.IndexLoaded.{index_spelled}

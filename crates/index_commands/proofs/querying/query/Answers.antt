@@ -33,3 +33,6 @@ returns-clause-leaves g c = λ e e' n.
     query_ended c.words_and_bytes_undo_each_other.ensures.read c.one_broken_check.ensures c.args.index.now _ _ _ _ _ _ e e' n
     c.in_ok-words.words.items c.deref.result.now c.known-index.result c.answer_text.result (Ok tt)
     c.in_ok-words.ensures.loaded c.deref.ensures.value c.known-index.ensures.spells c.answer_text.ensures (sym (ap text_outcome c.in_ok-answer_text.was))
+
+pub returns-clause-unaccepted : goal.returns-clause-unaccepted
+returns-clause-unaccepted g c = λ denied. absurd (denied (loaded_is_found c.args.index.now _ _ _ c.in_ok-words.ensures.loaded))

@@ -1,11 +1,13 @@
-use Rattle.std.proofs.Common.{◌≡◌, refl, subst, arith, rules, None, Some}
+use Rattle.std.proofs.Common.{◌≡◌, refl, sym, subst, arith, rules, None, Some}
 use Rattle.std.specs.Prelude.{IfErr}
 use Rattle.std.proofs.lemmas.Result.{IfErr-weaker}
+use Rattle.collection_model.specs.FormatNumbers.{Plain}
 use Rattle.part_cost.specs.Formats.{numbers_of}
 use Rattle.index_file.specs.declared.fault.OpenFault.{OpenFault}
 use Rattle.index_file.specs.FirstBroken.{frame_broken, IsFirstBrokenIn, IsFirstBroken}
 use Rattle.index_file.specs.ListAt.{IsFirstListFault, PassesClosing}
 use Rattle.index_file.proofs.Frames.{frame-stands, frame-breaks}
+use Rattle.index_file.proofs.Both.{read-is-plain}
 use Rattle.index_file.proofs.FirstFaults.{list-first, from-err}
 use Rattle.index_file.proofs.Spelling.{is-index}
 use Rattle.index_file.proofs.checking.check_file.Goals as goal
@@ -45,4 +47,5 @@ returns-in-None-clause-ok c =
     let none : frame_broken (numbers_of c.format_of-format.result) c.args.words.now ≡ None = first_of (search rules, cc) in
     let lists = c.in_ok-p.ensures.ok in
     let pass : PassesClosing c.args.words.now c.in_ok-p.p = c.closing_fault.ensures.none (search rules) in
-    (v, is-index (numbers_of v) words lists.0 (λ k. omega (arith, c.type_inv.words k)) (frame-stands (numbers_of v) words none) lists.1 lists.2 (subst (λ i. PassesClosing words i) lists.3 pass))
+    let plain : (numbers_of v).kind ≡ Plain = subst (λ x. (numbers_of x).kind ≡ Plain) (sym c.format_of-format.ensures) (read-is-plain words) in
+    (v, is-index (numbers_of v) plain words lists.0 (λ k. omega (arith, c.type_inv.words k)) (frame-stands (numbers_of v) words none) lists.1 lists.2 (subst (λ i. PassesClosing words i) lists.3 pass))

@@ -21,6 +21,10 @@ returns-in_err-command-clause-leaves g c = λ e e'.
     subst P (sym is) (stopped command c.in_err-command.field-0.0 (g.D.Depot.state c.args.depot.now) (g.I.Source.state c.args.input.now) (g.O.Sink.state c.args.out.now)
     e e' c.args.steps.now c.in_err-command.ensures.error)
 
+pub build-requires : goal.build-requires
+build-requires g c =
+    record { plain = c.words_name_plain_formats.ensures (texts c.args.words.now) _ _ _ (sym (sym (ap (λ x. Some (asked x)) c.in-Build.is) ∙ c.in_ok-command.ensures.command)) }
+
 pub returns-in-Build-clause-leaves : goal.returns-in-Build-clause-leaves
 returns-in-Build-clause-leaves g c = λ e e'.
     let P : Option Command → Type 0 = λ command. Leaves (Performs command) (Starts command)

@@ -3,7 +3,7 @@ use Rattle.collection_model.specs.Collection.{Posting}
 use Rattle.collection_model.specs.Sequences.{postings_in}
 use Rattle.part_cost.specs.Formats.{numbers_of}
 use Rattle.postings.specs.declared.cursor.PostingCursor.{PostingCursor}
-use Rattle.pefidx_c.proofs.CursorLists.{lists-pushed, starts-pushed}
+use Rattle.scan_plans.proofs.AskedLists.{lists-pushed, starts-pushed}
 use Rattle.pefidx_c.proofs.Refusals.{asked-below}
 use Rattle.pefidx_c.proofs.cursors.cursors_of.Goals as goal
 

@@ -1,7 +1,7 @@
 use Rattle.std.proofs.Common.{sym, subst, ◌∙◌, ap, map, Ok, Err}
 use Rattle.std.proofs.lemmas.Result.{err_from_is_err_and}
 use Rattle.command_line.specs.Command.{texts}
-use Rattle.command_steps.specs.AnswerJoined.{CanBeJoined}
+use Rattle.line_replies.specs.AnswerJoined.{CanBeJoined}
 use Rattle.command_ends.specs.Steps.Stops.{outcome_of}
 use Rattle.segment_commands.proofs.SegmentsAnswered.{segments_unread, segments_ended, segments_found}
 use Rattle.command_ends.proofs.TextAnswered.{text_outcome}

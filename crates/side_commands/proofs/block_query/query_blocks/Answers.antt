@@ -2,7 +2,7 @@ use Rattle.std.proofs.Common.{sym, ◌∙◌, ap, subst, List, Ok, Err}
 use Rattle.std.proofs.lemmas.Result.{err_from_is_err_and}
 use Rattle.block_max.specs.Blocks.{BlockList}
 use Rattle.index_file.specs.IndexView.{IndexView}
-use Rattle.command_steps.specs.AnswerText.{AnswersText}
+use Rattle.text_replies.specs.AnswerText.{AnswersText}
 use Rattle.command_ends.specs.AnsweredText.{longest_text}
 use Rattle.side_commands.specs.Private.LoadedSide.{IsLoadedSide, IsUnloadedSide}
 use Rattle.command_ends.specs.Steps.Stops.{outcome_of}

@@ -4,8 +4,8 @@ use Rattle.std.specs.declared.alloc.Global.{Global}
 use Rattle.std.proofs.lemmas.Result.{err_from_is_err_and}
 use Rattle.pef_io.specs.declared.fail.Slot.TheVariants.{Side}
 use Rattle.block_max.specs.SideWords.{side_words}
-use Rattle.command_steps.specs.declared.loading.LoadWordsError.{LoadWordsError}
-use Rattle.command_steps.specs.LoadWords.{LoadsWords, words_loaded}
+use Rattle.word_files.specs.declared.loading.LoadWordsError.{LoadWordsError}
+use Rattle.word_files.specs.LoadWords.{LoadsWords, words_loaded}
 use Rattle.command_ends.proofs.WordsLoaded.{lent_loaded}
 use Rattle.command_ends.proofs.Told.{told_ok, told_err}
 use Rattle.side_commands.proofs.side_loading.load_side.Goals as goal
