@@ -149,10 +149,11 @@ uint32_t pefidx_top(const uint64_t *words, size_t count, uint32_t plan, const ui
  * PEFIDX_DONE: the words stand in `words`, and *count is how many they are. They are an index of just these lists and sizes, and every
  *   sequence of it is cut into parts that cost at most 103/100 of the cheapest allowed cut.
  * PEFIDX_ROOM: *count is how many they are, which is more than room; the first `room` of them stand in `words`. It is then to be called
- *   again with that room, and does its work again. With room for as many words as there are postings, plus 16 for each list and 1 for each
- *   document, this has not been seen to happen.
+ *   again with that room, and does its work again. With room for 6 words, which an index of nothing has, and as many as there are postings,
+ *   plus 16 for each list and 1 for each document, this has not been seen to happen.
  * PEFIDX_TOO_MANY, PEFIDX_NOT_WHOLE: exactly then, and in this order.
  * PEFIDX_BAD_POSTING: exactly where, but for these, a list is no posting list; *bad is the first posting that cannot stand in its list.
+ *   It comes before memory is taken, so PEFIDX_NO_MEMORY and PEFIDX_TOO_LARGE are told of posting lists alone.
  * PEFIDX_TOO_LARGE: the words would be more than 2^37; *count is how many.
  * PEFIDX_NO_MEMORY: memory is taken for the words, and for a list while it is cut. */
 uint32_t pefidx_build(const uint32_t *lengths, size_t lengths_count, const uint32_t *docs, size_t docs_count, const uint32_t *freqs,

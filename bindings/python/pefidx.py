@@ -36,6 +36,9 @@ PLANS = {"exhaustive": 0, "wand": 1, "maxscore": 2}
 
 MOST = 2**32 - 1
 
+#: the most that the frequencies of a list add up to
+MOST_SUM = 2**48
+
 CAUSES = {
     NO_TERM: (IndexError, "the index has no such term"),
     NO_DOCUMENT: (IndexError, "the index has no such document"),
@@ -270,21 +273,38 @@ class Index:
         return [(best[at].doc, best[at].score) for at in range(found.value)]
 
 
+def _first_bad(docs, freqs):
+    """The place of the first posting that cannot stand in its list, however many documents there are, or None."""
+    least, total = 0, 0
+    for place, (doc, freq) in enumerate(zip(docs, freqs)):
+        total += freq
+        if doc < least or freq == 0 or total > MOST_SUM:
+            return place
+        least = doc + 1
+    return None
+
+
 def _sizes_of(lists):
-    """As a size the sum of the frequencies of each document, up to the greatest document of the lists."""
-    sizes = []
+    """As a size the sum of the frequencies of each document, up to the greatest document of the lists. What cannot be built is refused
+    before there is an array, which has 4 bytes for each document, as the file will have."""
+    documents = max((max(docs) + 1 for docs, _ in lists if len(docs)), default=0)
+    if len(lists) > MOST or documents > MOST:
+        _refuse(TOO_MANY)
+    for term, (docs, freqs) in enumerate(lists):
+        place = _first_bad(docs, freqs)
+        if place is not None:
+            raise BadPosting(term, place)
+    sizes = array.array("I", [0]) * documents
     for docs, freqs in lists:
         for doc, freq in zip(docs, freqs):
-            if doc >= len(sizes):
-                sizes.extend([0] * (doc + 1 - len(sizes)))
             sizes[doc] += freq
-    return _array(sizes)
+    return sizes
 
 
 def build(lists, path, sizes=None):
     """Writes the index of some lists as the file `path`, which is replaced whole. Each list is (docs, freqs): its rising documents, and as
     many frequencies of at least 1. There is a document for each size; where none are given, a size is the sum of the document's
-    frequencies, and the last document of the lists is the last of all."""
+    frequencies, and the last document of the lists is the last of all: the lists are checked before memory is taken for so many sizes."""
     lists = [(_array(docs), _array(freqs)) for docs, freqs in lists]
     lengths, docs, freqs = array.array("I"), array.array("I"), array.array("I")
     for each, counts in lists:
@@ -298,7 +318,7 @@ def build(lists, path, sizes=None):
     handle, name = tempfile.mkstemp(prefix=f".{os.path.basename(path)}.", dir=os.path.dirname(path))
     try:
         with os.fdopen(handle, "r+b") as file:
-            count = _built(file, lengths, docs, freqs, sizes, len(docs) + 16 * len(lengths) + len(sizes) + 16)
+            count = _built(file, lengths, docs, freqs, sizes, 6 + len(docs) + 16 * len(lengths) + len(sizes))
             file.truncate(8 * count)
             os.fsync(file.fileno())
         os.chmod(name, _mode(path))

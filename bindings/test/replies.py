@@ -162,6 +162,9 @@ def bad_lists(folder):
         ([([0], [1]), ([1, 3, 2], [1, 1, 1])], [1, 1, 1, 1], 1, 2),
         ([([5], [1])], [1, 1], 0, 0),
         ([([], []), ([0, 1], [1, 0])], [1, 1], 1, 1),
+        # Without sizes they are refused before there is an array of 4,294,967,295 sizes.
+        ([([0], [1]), ([4_294_967_294, 3], [1, 1])], None, 1, 1),
+        ([([4_294_967_294], [0])], None, 0, 0),
     ]:
         try:
             pefidx.build(lists, os.path.join(folder, "none.pefindex"), sizes)
@@ -169,7 +172,21 @@ def bad_lists(folder):
             assert (bad.term, bad.place) == (term, place), (bad.term, bad.place)
             continue
         raise AssertionError("no refusal")
+    try:
+        pefidx.build([([4_294_967_295], [1])], os.path.join(folder, "none.pefindex"))
+        raise AssertionError("no refusal")
+    except OverflowError:
+        pass
     assert not os.path.exists(os.path.join(folder, "none.pefindex"))
+
+
+def nothing_built(folder):
+    """The index of nothing: no list, and no document. It has 6 words."""
+    path = os.path.join(folder, "nothing.pefindex")
+    pefidx.build([], path)
+    assert os.path.getsize(path) == 48
+    with pefidx.Index(path) as index:
+        assert (index.documents, index.terms, len(index.or_([]))) == (0, 0, 0)
 
 
 def main():
@@ -183,6 +200,7 @@ def main():
     lists, sizes = walked(index)
     with tempfile.TemporaryDirectory() as folder:
         bad_lists(folder)
+        nothing_built(folder)
         same_file(path, lists, sizes, folder)
         refused_alike(program, path, folder, seed)
     index.close()
