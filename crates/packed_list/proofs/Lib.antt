@@ -1,18 +1,18 @@
 pub mod GammaCodes
 pub mod GammaBack
-pub mod GammaReads
-pub mod SequenceWordsFit
+mod GammaReads
+mod SequenceWordsFit
 pub mod OneSequenceBits
-pub mod OneListBits
-pub mod SequenceBack
-pub mod ListBack
+mod OneListBits
+mod SequenceBack
+mod ListBack
 mod ListRows
-pub mod Appending
-pub mod Written
-pub mod ListPieces
-pub mod ListWritten
-pub mod LonePlaces
+mod Appending
+mod Written
+mod ListPieces
+mod ListWritten
+mod LonePlaces
 pub mod PartedPlaces
 pub mod ListPlaces
-pub mod ListViews
-pub mod ShortLists
+mod ListViews
+mod ShortLists
