@@ -91,14 +91,6 @@ impl Windows {
         self.place = i;
     }
 
-    /// How many windows there are: one for each bound.
-    pub fn count(&self) -> usize
-        ensures bounds { result ≡ length self.now.bounds }
-        ensures positions { result ≡ length self.now.positions }
-    {
-        bounds(self.format).len()
-    }
-
     /// How many windows are looked at by themselves: those that are open and the first at the end of the sequence. All
     /// wider ones stand where the last of these stands.
     pub fn distinct(&self) -> usize

@@ -1,12 +1,12 @@
 ghost use Rattle.std.specs.Prelude.{◌≡◌, ◌<◌, length};
 ghost use Rattle.std.specs.List.{All};
 ghost use Rattle.collection_model.specs.Collection.{list_of};
-ghost use Rattle.block_max.specs.Blocks.{IsBlockList};
+ghost use Rattle.block_max.specs.Blocks.{IsBlockList, blocks_of, nth_list};
 ghost use Rattle.block_max.specs.SideWords.{side_words, words_seen};
 ghost use Rattle.index_blocks.specs.BlockLists.{block_starts, blocks_of_index};
 ghost use Rattle.index_blocks.specs.Props.{cut-prop};
 
-use block_max::{BlockSource, Side, SideCursor};
+use block_max::{BlockCursor, BlockSource, Side, SideCursor};
 use cursor_api::DocCursor;
 use index_file::Index;
 use postings::{PostingCursor, cursors_stand_in_lists};
@@ -52,6 +52,8 @@ impl<'i, 'a> IndexBlocks<'i, 'a> {
         requires of_side { words_seen side ≡ side_words (blocks_of_index (index_seen self.now)) }
         ensures list { ⟦<SideCursor<'i, PostingCursor<'a>, IndexBlocks<'i, 'a>> as DocCursor>⟧.list result ≡ list_of (index_seen self.entry.now).collection t }
         ensures start { ⟦<SideCursor<'i, PostingCursor<'a>, IndexBlocks<'i, 'a>> as DocCursor>⟧.place result ≡ 0 }
+        ensures blocks { ⟦<SideCursor<'i, PostingCursor<'a>, IndexBlocks<'i, 'a>> as BlockCursor>⟧.blocks result
+            ≡ blocks_of (nth_list (blocks_of_index (index_seen self.entry.now)) t) }
     {
         self.index.stands_for_a_collection();
         SideCursor::new(self.index.cursor(t), self, side, t)

@@ -1,4 +1,5 @@
-//! What an opened index stands for, read back as plain numbers: the postings of a list, and the sizes of the documents.
+//! What an opened index stands for, read back as plain numbers: the postings of a list, and the
+//! sizes of the documents.
 #![tactic(auto)]
 
 mod lists;

@@ -4,7 +4,8 @@ ghost use Rattle.collection_model.specs.Collection.{postings_of};
 use cursor_api::DocCursor;
 use std::alloc::AllocError;
 
-/// Reads the list of a cursor that stands at its start, in place of what the vectors hold: the documents, and the frequency of each.
+/// Reads the list of a cursor that stands at its start, in place of what the vectors hold: the
+/// documents, and the frequency of each.
 pub fn read_list<C: DocCursor>(
     cursor: &mut C,
     docs: &mut Vec<u32>,

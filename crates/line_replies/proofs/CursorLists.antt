@@ -1,11 +1,10 @@
-use Rattle.std.proofs.Common.{◌≡◌, refl, sym, ◌∙◌, ap, subst, ℕ, zero, suc, ◌+◌, ◌<◌, ◌≤◌, List, [], ◌∷◌, ◌++◌, length, get_or, take, map, arith}
+use Rattle.std.proofs.Common.{◌≡◌, refl, sym, ◌∙◌, ap, subst, ℕ, ◌<◌, ◌≤◌, List, length, map, arith}
 use Rattle.std.specs.Prelude.{Option, Some, None, option_map, Result, Ok, Err, IfOk, Vec}
 use Rattle.std.specs.declared.alloc.Global.{Global}
 use Rattle.std.specs.List.{All, slice_get}
-use Rattle.std.proofs.lemmas.List.{map-append, length-map}
-use Rattle.std.proofs.lemmas.List.Elements.{All-get_or, All-weaker, All-map, All-append}
+use Rattle.std.proofs.lemmas.List.{length-map}
+use Rattle.std.proofs.lemmas.List.Elements.{All-weaker}
 use Rattle.std.proofs.lemmas.Option.{slice_get-map, slice_get_within, none-some}
-use Rattle.std.proofs.Math.Seq.{take-suc}
 use Rattle.collection_model.specs.FormatNumbers.{FormatNumbers}
 use Rattle.collection_model.specs.Collection.{Posting, Collection, WellFormed, IsPostingList, docs_of, freqs_of, list_of, first_at_least}
 use Rattle.cursor_api.specs.NextGeq.{next_geq_place}
@@ -13,6 +12,7 @@ use Rattle.cursor_api.proofs.FirstPosting.{first-is_next}
 use Rattle.scan_plans.specs.Matches.{AreBelow}
 use Rattle.scan_plans.specs.IsTop.{IsTop}
 use Rattle.scan_plans.specs.TopQuery.{IsTopQuery}
+use Rattle.scan_plans.proofs.AskedLists.{lists-below, is-query as lists-asked}
 use Rattle.segments.specs.Laws.{IsInRange}
 use Rattle.query_text.specs.declared.query.Query.{Query}
 use Rattle.query_text.specs.declared.query.Query.TheVariants.{Top}
@@ -21,23 +21,7 @@ use Rattle.query_text.specs.Texts.{top_text}
 use Rattle.query_text.specs.Weights.{AreWeights}
 use Rattle.command_model.specs.Replies.{IsAnswer, IsTopText, lists_of}
 
--- what holds of an element holds of each of it alone
-one-at : {X : Type 0} (P : X → Type 0) (x d : X) (k : ℕ) → k < 1 → P x → P (get_or (x ∷ []) k d)
-one-at P x d zero lt h = h
-one-at P x d (suc k) lt h = absurd (omega arith)
-
--- the documents of their lists are those of the collection
-lists-below : (c : Collection) (terms : List ℕ) → IsInRange c → All (λ t. t < length c.lists) terms → AreBelow c.documents (lists_of c terms)
-lists-below c terms in_range below =
-    All-map (λ list. All (λ d. d < c.documents) (docs_of list)) (list_of c) terms
-    (
-    All-weaker (λ t. t < length c.lists) (λ t. All (λ d. d < c.documents) (docs_of (list_of c t)))
-    (λ t lt. All-get_or (λ list. All (λ d. d < c.documents) (docs_of list)) c.lists t [] lt in_range)
-    terms
-    below
-    )
-
--- and so are those of the cursors over them
+-- the documents of the cursors over the lists of some terms are those of the collection
 pub cursors-below : {C : Type 0} (list_at : C → List Posting) (c : Collection) (terms : List ℕ) (made cursors : List C) →
     IsInRange c → All (λ t. t < length c.lists) terms → map list_at made ≡ lists_of c terms → cursors ≡ made → AreBelow c.documents (map list_at cursors)
 cursors-below list_at c terms made cursors in_range below so same =
@@ -48,36 +32,12 @@ pub is-query : {C : Type 0} (list_at : C → List Posting) (place_at : C → ℕ
     IsInRange c → All (λ t. t < length c.lists) terms → length terms ≤ 1024 → length weights ≡ length terms → AreWeights weights →
     map list_at made ≡ lists_of c terms → All (λ x. place_at x ≡ 0) made → cursors ≡ made → IsTopQuery list_at place_at c.documents cursors weights
 is-query list_at place_at c terms weights made cursors in_range below few each are so start same =
-    let count : length cursors ≡ length terms = ap length same ∙ sym (length-map made list_at) ∙ ap length so ∙ length-map terms (list_of c) in
-    record {
-      few = omega arith;
-      at_start = subst (All (λ x. place_at x ≡ 0)) (sym same) start;
-      in_range = cursors-below list_at c terms made cursors in_range below so same;
-      each = each ∙ sym count;
-      some = are.some;
-      light = are.light;
-    }
+    let all : length (lists_of c terms) ≡ length terms = length-map terms (list_of c) in
+    lists-asked list_at place_at c.documents (lists_of c terms) weights made cursors (omega (arith, all, few)) (lists-below c terms in_range below) (each ∙ sym all) are.some are.light so start same
 
 -- the documents of a well-formed collection are below their number
 pub well-in-range : (format : FormatNumbers) (c : Collection) → WellFormed format c → IsInRange c
 well-in-range format c well = All-weaker (IsPostingList format c.documents) (λ list. All (λ d. d < c.documents) (docs_of list)) (λ list is. is.in_range) c.lists well.lists
-
--- ---- cursors that are made one after the other
-
-pub lists-pushed : {C : Type 0} (list_at : C → List Posting) (c : Collection) (terms : List ℕ) (k : ℕ) (cursors more : List C) (cursor : C) →
-    map list_at cursors ≡ lists_of c (take k terms) → more ≡ cursors ++ cursor ∷ [] → list_at cursor ≡ list_of c (get_or terms k 0) → k < length terms →
-    map list_at more ≡ lists_of c (take (k + 1) terms)
-lists-pushed list_at c terms k cursors more cursor so pushed of within =
-    let next : suc k ≡ k + 1 = omega arith in
-    let last : List ℕ = get_or terms k 0 ∷ [] in
-    ap (map list_at) pushed ∙ map-append list_at cursors (cursor ∷ []) ∙ (λ i. so i ++ of i ∷ [])
-    ∙ sym (map-append (list_of c) (take k terms) last) ∙ sym (ap (lists_of c) (take-suc terms k 0 within)) ∙ ap (λ n. lists_of c (take n terms)) next
-
-pub starts-pushed : {C : Type 0} (place_at : C → ℕ) (cursors more : List C) (cursor : C) →
-    All (λ c. place_at c ≡ 0) cursors → more ≡ cursors ++ cursor ∷ [] → place_at cursor ≡ 0 → All (λ c. place_at c ≡ 0) more
-starts-pushed {C} place_at cursors more cursor so pushed start =
-    let P : C → Type 0 = λ c. place_at c ≡ 0 in
-    subst (All P) (sym pushed) (All-append P cursors (cursor ∷ []) so (λ k d lt. one-at P cursor d k lt start))
 
 -- ---- the first posting of a list whose document is at least d
 

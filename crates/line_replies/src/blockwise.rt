@@ -12,8 +12,8 @@ use no_memory::NoMemory;
 use postings::PostingCursor;
 use std::alloc::Global;
 
-/// The lists of the collection that an opened index stands for, with the greatest frequencies of their blocks; `top` is answered by
-/// block-max WAND.
+/// The lists of the collection that an opened index stands for, with the greatest frequencies of
+/// their blocks; `top` is answered by block-max WAND.
 #[derive(Clone, Copy)]
 pub struct SideLists<'i, 'a> {
     blocks: &'i IndexBlocks<'i, 'a>,

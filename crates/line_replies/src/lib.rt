@@ -1,4 +1,5 @@
-//! The reply to a query line, from the posting lists of an index, of an index with its side file, or of several indexes as one.
+//! The reply to a query line, from the posting lists of an index, of an index with its side file, or
+//! of several indexes as one.
 #![tactic(auto)]
 
 mod blockwise;

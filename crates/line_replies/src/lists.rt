@@ -9,7 +9,8 @@ use cursor_api::DocCursor;
 use no_memory::NoMemory;
 use std::alloc::Global;
 
-/// What lines are answered from: the posting lists of a collection, and how the best documents of some of them are found.
+/// What lines are answered from: the posting lists of a collection, and how the best documents of
+/// some of them are found.
 pub trait TermLists {
     /// A cursor over a list.
     type Cursor: DocCursor + Drop;

@@ -12,9 +12,8 @@ use crate::room::given_in;
 use crate::status::Status;
 use index_file::Index;
 use no_memory::NoMemory;
-use scan_plans::top_exhaustive;
 use std::alloc::Global;
-use topk_pruning::{top_maxscore, top_wand};
+use topk_pruning::{Plan, plan_top};
 
 /// A document with its score.
 #[repr(C)]
@@ -129,10 +128,15 @@ fn best_by(
     let mut list_cursors = cursors_of(alloc, index, terms)?;
     let cursors = list_cursors.as_mut_slice();
     let n = index.documents();
-    match plan {
-        EXHAUSTIVE => top_exhaustive(alloc, cursors, weights, k, n),
-        WAND => top_wand(alloc, cursors, weights, k, n),
-        _ => top_maxscore(alloc, cursors, weights, k, n),
+    plan_top(alloc, plan_of(plan), cursors, weights, k, n)
+}
+
+// The plan of a number.
+fn plan_of(number: u32) -> Plan {
+    match number {
+        EXHAUSTIVE => Plan::Exhaustive,
+        WAND => Plan::Wand,
+        _ => Plan::MaxScore,
     }
 }
 

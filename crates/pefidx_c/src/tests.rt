@@ -1,4 +1,7 @@
 // Two lists over three documents, built, checked and asked; what is asked and cannot be; and lists that are none.
+ghost use Rattle.std.specs.Prelude.{◌≤◌, take};
+ghost use Rattle.index_file.specs.FileWords.{IsIndex};
+
 use crate::asking::{
     Posting, pefidx_documents, pefidx_next, pefidx_postings, pefidx_size_of, pefidx_terms,
 };
@@ -7,13 +10,14 @@ use crate::checking::{Fault, pefidx_check};
 use crate::given_lists::BadPosting;
 use crate::matching::{pefidx_and, pefidx_or};
 use crate::ranking::{Scored, pefidx_top};
+use std::alloc::Global;
 use std::process::Abort;
-use std::test::Fail;
 
-#[test]
-fn an_index_is_built_and_asked(rt: HostRuntime) -> Result<(), Fail> {
-    let alloc = rt.alloc();
-    let mut room = [0u64; 64];
+// The words of two lists, document 0 twice and document 2 once, and document 2 four times, with the sizes 2, 0 and 5: how many they are.
+fn built(rt: &impl Abort, alloc: Global, room: &mut [u64; 64]) -> usize
+    ensures within { result ≤ 64 }
+    ensures index { IsIndex (take result room.new) }
+{
     let mut count = 0;
     let mut bad = BadPosting { term: 9, place: 9 };
     let status = pefidx_build(
@@ -22,51 +26,89 @@ fn an_index_is_built_and_asked(rt: HostRuntime) -> Result<(), Fail> {
         &[0, 2, 2],
         &[2, 1, 4],
         &[2, 0, 5],
-        &mut room,
+        room,
         &mut count,
         &mut bad,
     );
-    assert_eq!(&rt; status, 0);
-    assert!(&rt; count <= 64);
-    let words = &room[..count];
-    let mut fault = Fault {
+    assert_eq!(rt; status, 0);
+    assert!(rt; count <= 64);
+    let mut fault = no_fault();
+    assert_eq!(rt; pefidx_check(&room[..count], &mut fault), 0);
+    count
+}
+
+// What no check tells.
+fn no_fault() -> Fault {
+    Fault {
         check: 9,
         term: 9,
         part: 9,
-    };
-    assert_eq!(&rt; pefidx_check(words, &mut fault), 0);
+    }
+}
+
+#[test]
+fn an_index_is_built_and_checked(rt: HostRuntime) {
+    let mut room = [0u64; 64];
+    let count = built(&rt, rt.alloc(), &mut room);
+    let words = &room[..count];
     assert_eq!(&rt; pefidx_documents(words), 3);
     assert_eq!(&rt; pefidx_terms(words), 2);
     let mut size = 0;
     assert_eq!(&rt; pefidx_size_of(words, 2, &mut size), 0);
     assert_eq!(&rt; size, 5);
+    let mut fault = no_fault();
+    assert!(&rt; words.len() >= 5);
+    assert_eq!(&rt; pefidx_check(&words[..5], &mut fault), 3);
+    assert_eq!(&rt; (fault.check, fault.term, fault.part), (1, 0, 0));
+}
+
+#[test]
+fn postings_are_asked(rt: HostRuntime) {
+    let mut room = [0u64; 64];
+    let count = built(&rt, rt.alloc(), &mut room);
+    let words = &room[..count];
     let mut found = Posting { doc: 0, freq: 0 };
-    assert_eq!(&rt; pefidx_next(words, 0, 1, &mut found), 0);
-    assert_eq!(&rt; (found.doc, found.freq), (2, 1));
-    assert_eq!(&rt; pefidx_next(words, 1, 3, &mut found), 1);
-    assert_eq!(&rt; pefidx_next(words, 2, 0, &mut found), 4);
+    for (term, doc, status) in [(0, 1, 0), (1, 3, 1), (2, 0, 4)] {
+        assert_eq!(&rt; pefidx_next(words, term, doc, &mut found), status);
+        assert_eq!(&rt; (found.doc, found.freq), (2, 1));
+    }
     let mut given = 0;
     let mut list = [found; 1];
-    assert_eq!(&rt; pefidx_postings(words, 0, 0, &mut list, &mut given), 0);
-    assert_eq!(&rt; (given, list[0].doc, list[0].freq), (1, 0, 2));
-    assert_eq!(&rt; pefidx_postings(words, 0, 1, &mut list, &mut given), 0);
-    assert_eq!(&rt; (given, list[0].doc, list[0].freq), (1, 2, 1));
+    for (place, doc, freq) in [(0, 0, 2), (1, 2, 1)] {
+        assert_eq!(&rt; pefidx_postings(words, 0, place, &mut list, &mut given), 0);
+        assert_eq!(&rt; (given, list[0].doc, list[0].freq), (1, doc, freq));
+    }
+}
+
+#[test]
+fn documents_are_matched(rt: HostRuntime) {
+    let mut room = [0u64; 64];
+    let count = built(&rt, rt.alloc(), &mut room);
+    let words = &room[..count];
     let mut docs = [7; 3];
     let mut matches = 0;
     assert_eq!(&rt;
-        pefidx_and(alloc, words, &[0, 1], &mut docs, &mut matches),
+        pefidx_and(rt.alloc(), words, &[0, 1], &mut docs, &mut matches),
         0
     );
     assert_eq!(&rt; (matches, docs), (1, [2, 7, 7]));
     assert_eq!(&rt;
-        pefidx_or(alloc, words, &[1, 0], &mut docs[..1], &mut matches),
+        pefidx_or(rt.alloc(), words, &[1, 0], &mut docs[..1], &mut matches),
         2
     );
     assert_eq!(&rt; (matches, docs), (2, [0, 7, 7]));
+}
+
+#[test]
+fn the_best_are_found_by_each_plan(rt: HostRuntime) {
+    let mut room = [0u64; 64];
+    let count = built(&rt, rt.alloc(), &mut room);
+    let words = &room[..count];
     let mut best = [Scored { doc: 7, score: 7 }; 2];
+    let mut matches = 0;
     for plan in 0..3 {
         let status = pefidx_top(
-            alloc,
+            rt.alloc(),
             words,
             plan,
             &[0, 1],
@@ -79,13 +121,10 @@ fn an_index_is_built_and_asked(rt: HostRuntime) -> Result<(), Fail> {
         assert_eq!(&rt; (best[0].doc, best[0].score), (2, 41));
         assert_eq!(&rt; (best[1].doc, best[1].score), (0, 2));
     }
-    assert_eq!(&rt; pefidx_check(&words[..5], &mut fault), 3);
-    assert_eq!(&rt; (fault.check, fault.term, fault.part), (1, 0, 0));
-    Ok(())
 }
 
 #[test]
-fn a_bad_posting_is_told(rt: HostRuntime) -> Result<(), Fail> {
+fn a_bad_posting_is_told(rt: HostRuntime) {
     let alloc = rt.alloc();
     let mut count = 7;
     for (docs, freqs, place) in [
@@ -106,5 +145,4 @@ fn a_bad_posting_is_told(rt: HostRuntime) -> Result<(), Fail> {
         );
         assert_eq!(&rt; (status, bad.term, bad.place), (13, 1, place));
     }
-    Ok(())
 }

@@ -1,4 +1,5 @@
-//! The files of the image of a collection in another order of its documents: made in memory, and written one after the other.
+//! The files of the image of a collection in another order of its documents: made in memory, and
+//! written one after the other.
 #![tactic(auto)]
 
 mod image;

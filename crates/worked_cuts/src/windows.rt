@@ -62,14 +62,15 @@ fn edge(windows: &Windows, k: usize) -> Option<(u64, u64)>
 }
 
 // The edges of the first three windows and of the last.
-fn edges(windows: &Windows) -> [Option<(u64, u64)>; 4]
-    requires { 3 ≤ length windows.now.bounds }
+fn edges(windows: &Windows, last: usize) -> [Option<(u64, u64)>; 4]
+    requires some { 3 ≤ length windows.now.bounds }
+    requires last { last < length windows.now.bounds }
 {
     [
         edge(windows, 0),
         edge(windows, 1),
         edge(windows, 2),
-        edge(windows, windows.count() - 1),
+        edge(windows, last),
     ]
 }
 
@@ -87,11 +88,12 @@ fn moved<L: Ledger>(
     formats_have_room();
     let mut steps = Steps::<L>::new(blank);
     let cost = Sloping { format, count: 2 };
+    let last = bounds(format).len() - 1;
     let mut windows = Windows::new(alloc, format)?;
     windows.advance(0, &cost, &mut steps);
-    let first = edges(&windows);
+    let first = edges(&windows, last);
     windows.advance(1, &cost, &mut steps);
-    let second = edges(&windows);
+    let second = edges(&windows, last);
     Ok([first, second])
 }
 

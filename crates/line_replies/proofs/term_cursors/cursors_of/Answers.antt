@@ -1,5 +1,5 @@
 use Rattle.std.proofs.Common.{◌∙◌, ap, ◌+◌}
-use Rattle.line_replies.proofs.CursorLists.{lists-pushed, starts-pushed}
+use Rattle.scan_plans.proofs.AskedLists.{lists-pushed, starts-pushed}
 use Rattle.line_replies.proofs.term_cursors.cursors_of.Goals as goal
 
 pub loop-term-preserved : goal.loop-term-preserved

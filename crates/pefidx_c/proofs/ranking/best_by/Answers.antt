@@ -1,17 +1,27 @@
+use Rattle.std.proofs.Common.{ap, subst, ◌∙◌, ℕ, List, map}
+use Rattle.std.specs.Prelude.{IfOk}
+use Rattle.collection_model.specs.Collection.{Posting}
+use Rattle.collection_model.specs.Sequences.{postings_in}
+use Rattle.postings.specs.declared.cursor.PostingCursor.{PostingCursor}
+use Rattle.scan_plans.specs.IsTop.{IsTop}
+use Rattle.pefidx_c.specs.Asked.{lists_of}
 use Rattle.pefidx_c.proofs.Queries.{is-query}
 use Rattle.pefidx_c.proofs.ranking.best_by.Goals as goal
 
-pub top_exhaustive-requires : goal.top_exhaustive-requires
-top_exhaustive-requires c =
-    is-query c.args.index.now.collection c.args.plan c.args.terms.now c.args.weights.now c.requires c.in_ok-list_cursors.ensures.few c.in_ok-list_cursors.ensures.below c.in_ok-list_cursors.ensures.lists c.in_ok-list_cursors.ensures.start
+abbrev list_at : PostingCursor → List Posting
+list_at c = postings_in c.docs.sequence.values c.sums.sequence.values
+
+abbrev place_at : PostingCursor → ℕ
+place_at c = c.docs.place
+
+pub plan_top-requires : goal.plan_top-requires
+plan_top-requires c =
+    is-query {list_at = list_at} {place_at = place_at} c.args.index.now.collection c.args.plan c.args.terms.now c.args.weights.now c.requires c.in_ok-list_cursors.ensures.few c.in_ok-list_cursors.ensures.below c.in_ok-list_cursors.ensures.lists c.in_ok-list_cursors.ensures.start
     c.as_mut_slice-cursors.ensures.value c.documents-n.ensures
 
-pub top_wand-requires : goal.top_wand-requires
-top_wand-requires c =
-    is-query c.args.index.now.collection c.args.plan c.args.terms.now c.args.weights.now c.requires c.in_ok-list_cursors.ensures.few c.in_ok-list_cursors.ensures.below c.in_ok-list_cursors.ensures.lists c.in_ok-list_cursors.ensures.start
-    c.as_mut_slice-cursors.ensures.value c.documents-n.ensures
-
-pub top_maxscore-requires : goal.top_maxscore-requires
-top_maxscore-requires c =
-    is-query c.args.index.now.collection c.args.plan c.args.terms.now c.args.weights.now c.requires c.in_ok-list_cursors.ensures.few c.in_ok-list_cursors.ensures.below c.in_ok-list_cursors.ensures.lists c.in_ok-list_cursors.ensures.start
-    c.as_mut_slice-cursors.ensures.value c.documents-n.ensures
+pub returns : goal.returns
+returns c =
+    let asked : List (List Posting) = lists_of c.args.index.now.collection c.args.terms.now in
+    let same = ap (map list_at) c.as_mut_slice-cursors.ensures.value ∙ c.in_ok-list_cursors.ensures.lists in
+    subst (λ (n : ℕ). IfOk c.plan_top.result (λ r. IsTop n asked c.args.weights.now c.args.k r.items)) c.documents-n.ensures
+    (subst (λ (ls : List (List Posting)). IfOk c.plan_top.result (λ r. IsTop c.documents-n.result ls c.args.weights.now c.args.k r.items)) same c.plan_top.ensures.first)
