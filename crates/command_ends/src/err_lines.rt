@@ -253,6 +253,8 @@ fn check_name(check: Check) -> &'static [u8]
         Check::K9 => b"K9",
         Check::K10 => b"K10",
         Check::K11 => b"K11",
+        Check::K12 => b"K12",
+        Check::K13 => b"K13",
     }
 }
 

@@ -1,6 +1,6 @@
 use Rattle.std.specs.Prelude.{ℕ}
 use Rattle.two_level.specs.declared.check.Check.{Check}
-use Rattle.two_level.specs.declared.check.Check.TheVariants.{K1, K2, K3, K4, K5, K6, K7, K8, K9, K10, K11}
+use Rattle.two_level.specs.declared.check.Check.TheVariants.{K1, K2, K3, K4, K5, K6, K7, K8, K9, K10, K11, K12, K13}
 use Rattle.index_file.specs.declared.fault.OpenFault.{OpenFault}
 use Rattle.pefidx_c.specs.declared.checking.Fault.{Fault}
 
@@ -17,6 +17,8 @@ check_number K8 = 8
 check_number K9 = 9
 check_number K10 = 10
 check_number K11 = 11
+check_number K12 = 12
+check_number K13 = 13
 
 -- a broken check as it is told
 abbrev pub fault_of : OpenFault → Fault

@@ -72,5 +72,7 @@ fn check_number(check: Check) -> u32
         Check::K9 => 9,
         Check::K10 => 10,
         Check::K11 => 11,
+        Check::K12 => 12,
+        Check::K13 => 13,
     }
 }

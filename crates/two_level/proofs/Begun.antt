@@ -1,14 +1,15 @@
 -- The words with which a sequence begins, whether they are lent or its one part stands alone.
-use Rattle.std.proofs.Common.{◌≡◌, ℕ, zero, suc, ◌+◌, ◌-◌, ◌^◌, ◌<◌, ◌≤◌, List, [], ◌∷◌, length, map, take, drop, get_or, slice_index, Option, Some, None, true, false, refl, sym, ap, ◌∙◌, subst, inl, inr, arith}
+use Rattle.std.proofs.Common.{◌≡◌, ℕ, zero, suc, ◌+◌, ◌-◌, ◌*◌, ◌^◌, ◌<◌, ◌≤◌, List, [], ◌∷◌, length, map, take, drop, get_or, slice_index, Option, Some, None, true, false, refl, sym, ap, ◌∙◌, subst, inl, inr, arith}
 use Rattle.std.specs.Prelude.{◌==◌, if◌then◌else◌}
 use Rattle.std.specs.List.{All}
+use Rattle.std.specs.Option.{ForSome}
 use Rattle.std.specs.List.Sorted.{IsStrictlyIncreasing}
 use Rattle.std.proofs.lemmas.Bool.{cases_lt}
 use Rattle.std.proofs.lemmas.Bool.Decides.{nat_tests}
 use Rattle.std.proofs.lemmas.List.{take_all, drop_more}
 use Rattle.collection_model.specs.FormatNumbers.{FormatNumbers, part_charge}
 use Rattle.bit_words.specs.Bits.{bits_of}
-use Rattle.part_cost.specs.Formats.{HasRoom}
+use Rattle.part_cost.specs.Formats.{HasRoom, numbers_of}
 use Rattle.part_cost.specs.Payload.{kind_of}
 use Rattle.part_cost.specs.Span.{AreRelative, past, universe, relative_values}
 use Rattle.part_cost.specs.Partition.{IsPartition}
@@ -23,7 +24,10 @@ use Rattle.two_level.specs.declared.alone.Alone.{Alone}
 use Rattle.two_level.specs.SequenceWords.{sequence_words, BeginsSequence}
 use Rattle.two_level.specs.SequenceView.{SequenceView, sequence_stated}
 use Rattle.two_level.specs.Alone.{alone_values, words_begun, StandsAlone}
-use Rattle.two_level.specs.SequenceParts.{counted_from, Restores}
+use Rattle.two_level.specs.declared.directory.Directory.{Directory}
+use Rattle.two_level.specs.DirectorySequence.{words_of, sequence_of}
+use Rattle.two_level.specs.SequenceFault.{stated_last, stated_end, end_before}
+use Rattle.two_level.specs.SequenceParts.{StatesPart, counted_from, Restores}
 use Rattle.two_level.specs.Laws.{TakesItsCost}
 use Rattle.two_level.proofs.Entries.{held-as}
 
@@ -31,6 +35,11 @@ use Rattle.two_level.proofs.Entries.{held-as}
 pub begun-lent : (format : FormatNumbers) (words : List ℕ) (m : ℕ) (alone : Option Alone) → alone ≡ None → words_begun format words m alone ≡ words
 unfolding words_begun
 begun-lent format words m alone is = ap (words_begun format words m) is
+
+-- where there are several parts, none stands alone
+pub lent-many : (format : FormatNumbers) (words : List ℕ) (m parts : ℕ) (alone : Option Alone) → ForSome alone (λ a. StandsAlone format words m parts a) → 2 ≤ parts → alone ≡ None
+lent-many format words m parts None stands more = refl
+lent-many format words m parts (Some a) stands more = absurd (let s = stands a refl in omega (arith, s.one, more))
 
 -- the values of one part that stands alone: they rise, the last is known, and they are so many
 pub record AreAlone (format : FormatNumbers) (xs : List ℕ) (m last : ℕ) : Type 0 where
@@ -147,6 +156,35 @@ pub last-alone : (format : FormatNumbers) (words : List ℕ) (m parts : ℕ) (al
     → past (sequence_stated format (words_begun format words m alone) parts).values m ≡ a.last + 1
 last-alone format words m parts alone a is h =
     ap (λ o. past (sequence_stated format (words_begun format words m o) parts).values m) is ∙ ap (λ (v : SequenceView). past v.values m) h.view ∙ h.last
+
+-- what the entry of a part that stands alone would state
+pub record IsAlone (d : Directory) (a : Alone) : Type 0 where
+  pub some : 0 < d.parts
+  pub part : StatesPart (numbers_of d.format) (words_of d) (sequence_of d).values d.parts 0
+  pub ends : stated_end (numbers_of d.format) (words_of d) 0 ≡ d.m
+  pub last : stated_last (numbers_of d.format) (words_of d) 0 ≡ a.last
+  pub reach : past (sequence_of d).values d.m ≡ a.last + 1
+  pub many : 1 ≤ d.m
+  pub place : a.place ≤ 64 * length d.words.now
+
+pub is-alone : (d : Directory) (a : Alone) → d.alone ≡ Some a → IsAlone d a
+is-alone d a is =
+    let format = numbers_of d.format in
+    let words : List ℕ = words_of d in
+    let stands = d.stands a is in
+    let some : 0 < d.parts = omega (arith, stands.one) in
+    let p = d.stated.part 0 some in
+    let ends : stated_end format words 0 ≡ d.m = ap (end_before format words) (sym stands.one) ∙ d.stated.end ∙ sym d.count in
+    let reach = last-alone format d.words.now d.m d.parts d.alone a is stands in
+    record {
+      some = some;
+      part = p;
+      ends = ends;
+      last = omega (arith, p.last, ap (past (sequence_of d).values) ends, reach);
+      reach = reach;
+      many = omega (arith, d.few_parts, stands.one);
+      place = stands.place;
+    }
 
 -- one value, counted from itself
 one-counted : (xs : List ℕ) (from to last : ℕ) → from + 1 ≡ to → to ≤ length xs → past xs to ≡ last + 1 → counted_from last xs from to ≡ 0 ∷ []

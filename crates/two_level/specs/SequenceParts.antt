@@ -9,7 +9,9 @@ use Rattle.part_cost.specs.Partition.{partition_cost}
 use Rattle.part_cost.specs.Stored.{HoldsPart, IsFirstAtLeast}
 use Rattle.part_codec.specs.PartBits.{part_bits}
 use Rattle.part_codec.specs.PartView.{Holds, universe_of, count_of}
+use Rattle.part_cost.specs.declared.placed.PlacedPart.{PlacedPart}
 use Rattle.two_level.specs.declared.held.HeldPart.{HeldPart}
+use Rattle.two_level.specs.declared.part.Part.{Part}
 use Rattle.two_level.specs.SequenceFault.{stated_last, stated_end, stated_offset, end_before, past_before, stated_count, stated_universe, payload_before, word_behind, first_bit}
 use Rattle.two_level.specs.SequenceView.{SequenceView, sequence_stated, words_used}
 
@@ -46,6 +48,18 @@ pub record StatesParts (format : FormatNumbers) (words : List ℕ) (parts : ℕ)
   pub used : words_used v ≡ word_behind format words parts
   pub cost : partition_cost (cost_of_part (part_charge format) v.values) v.ends ≡ first_bit format parts + payload_before format words parts
   pub part : (q : ℕ) → q < parts → StatesPart format words v.values parts q
+
+-- What entry q of the directory states of a part of these values, and where its bits stand: those of its values, counted
+-- from the number that lies before the last as far as their universe reaches.
+pub record IsStatedPart (format : FormatNumbers) (words xs : List ℕ) (q : ℕ) (part : Part) (placed : PlacedPart) : Type 0 where
+  pub from : part.from ≡ end_before format words q
+  pub to : part.to ≡ stated_end format words q
+  pub last : part.last ≡ stated_last format words q
+  pub u : part.u ≡ stated_universe format words q
+  pub before : placed.u ≤ part.u
+  pub count : placed.m ≡ part.to - part.from
+  pub held : HoldsPart part_bits (bits_of placed.bits.words.now) placed.place placed.u placed.m (counted_from (part.last + 1 - placed.u) xs part.from part.to)
+  pub restored : Restores xs part.from part.to (part.last + 1 - placed.u)
 
 -- The view of a part that is held has these values from its start up to its end, counted from a
 -- number: one past the value before them, or, of one value alone, the value.

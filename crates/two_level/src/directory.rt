@@ -1,4 +1,4 @@
-ghost use Rattle.std.specs.Prelude.{◌≡◌, ℕ, ◌≤◌, ◌<◌, ◌+◌, ◌-◌, ◌*◌, ◌^◌, List, length};
+ghost use Rattle.std.specs.Prelude.{◌≡◌, ℕ, ◌≤◌, ◌<◌, ◌+◌, ◌-◌, ◌*◌, ◌^◌, List, length, None};
 ghost use Rattle.bit_words.specs.Bits.{bits_of};
 ghost use Rattle.part_cost.specs.Stored.{HoldsPart};
 ghost use Rattle.part_codec.specs.PartBits.{part_bits};
@@ -41,21 +41,28 @@ pub(crate) struct Directory<'a> {
     ghost stands: { ForSome alone (λ a. StandsAlone (numbers_of format) words.now m parts a) },
 }
 
-impl<'a> Lasts for Directory<'a> {
+// The entries that stand in the words of a directory.
+#[derive(Clone, Copy)]
+struct EntriesInWords<'d, 'a> {
+    directory: &'d Directory<'a>,
+    ghost in_words: { directory.now.alone ≡ None },
+}
+
+impl<'d, 'a> Lasts for EntriesInWords<'d, 'a> {
     ghost use Rattle.two_level.specs.DirectorySequence.{words_of};
 
-    ghost lasts = { λ d. lasts_stated (numbers_of d.format) (words_of d) d.parts };
+    ghost lasts = { λ e. lasts_stated (numbers_of e.directory.now.format) (words_of e.directory.now) e.directory.now.parts };
 
     fn parts(&self) -> u32 {
-        self.parts
+        self.directory.parts
     }
 
     fn last<L: Ledger>(&self, q: u32, probes: &mut Steps<L>) -> u64 {
         probes.tick();
-        self.entry(q).last
+        self.directory.entry_in_words(q).last
     }
 
-    ghost rising = { λ d. d.rising };
+    ghost rising = { λ e. e.directory.now.rising };
 }
 
 // The first part at or after one whose last value is at least x, else the number of parts, by a gallop whose probes are
@@ -65,10 +72,11 @@ fn galloped<L: Ledger>(directory: &Directory<'_>, part: u32, x: u64, blank: Blan
     requires parts { blank.parts ≡ L.parts }
     requires ledger { 0 < L.parts }
     requires within { part ≤ directory.now.parts }
+    requires in_words { directory.now.alone ≡ None }
     ensures { result ≡ place_at_least (lasts_stated (numbers_of directory.now.format) (words_begun (numbers_of directory.now.format) directory.now.words.now directory.now.m directory.now.alone) directory.now.parts) part x }
 {
     let mut probes = Steps::<L>::new(blank);
-    gallop(directory, part, x, &mut probes)
+    gallop(&EntriesInWords { directory }, part, x, &mut probes)
 }
 
 impl<'a> Directory<'a> {
@@ -122,7 +130,7 @@ impl<'a> Directory<'a> {
         }
     }
 
-    // The entry of a part. A part that stands alone has none in the words.
+    // What the entry of a part states, also where the part stands alone, with none in the words.
     pub(crate) fn entry(&self, part: u32) -> Entry
         requires within { part < self.now.parts }
         ensures last { result.last ≡ stated_last (numbers_of self.now.format) (words_of self.now) part }
@@ -135,8 +143,19 @@ impl<'a> Directory<'a> {
                 end: self.m as u64,
                 offset: 0,
             },
-            None => entry_at(self.words, part, self.format),
+            None => self.entry_in_words(part),
         }
+    }
+
+    // The entry of a part in the words. A part that stands alone has none.
+    pub(crate) fn entry_in_words(&self, part: u32) -> Entry
+        requires within { part < self.now.parts }
+        requires in_words { self.now.alone ≡ None }
+        ensures last { result.last ≡ stated_last (numbers_of self.now.format) (words_of self.now) part }
+        ensures end { result.end ≡ stated_end (numbers_of self.now.format) (words_of self.now) part }
+        ensures offset { result.offset ≡ stated_offset (numbers_of self.now.format) (words_of self.now) part }
+    {
+        entry_at(self.words, part, self.format)
     }
 
     // The first part at or after one whose last value is at least x, else the number of parts.
@@ -147,6 +166,9 @@ impl<'a> Directory<'a> {
         ensures before { part < result → stated_last (numbers_of self.now.format) (words_of self.now) (result - 1) < x }
         ensures reached { result < self.now.parts → x ≤ stated_last (numbers_of self.now.format) (words_of self.now) result }
     {
-        galloped::<Brand>(self, part, x, Blank::new(1))
+        match &self.alone {
+            Some(alone) => { if part == 0 && x <= alone.last { 0 } else { 1 } }
+            None => galloped::<Brand>(self, part, x, Blank::new(1)),
+        }
     }
 }

@@ -1,13 +1,12 @@
-ghost use Rattle.std.specs.Prelude.{◌≡◌, ◌≤◌, ◌<◌, ◌+◌, length, slice_index};
+ghost use Rattle.std.specs.Prelude.{◌≡◌, ◌≤◌, ◌<◌, ◌+◌, length, slice_index, Some, None};
 ghost use Rattle.part_cost.specs.Formats.{numbers_of};
-ghost use Rattle.bit_words.specs.Bits.{bits_of};
-ghost use Rattle.part_cost.specs.Span.{past, relative_values};
-ghost use Rattle.part_cost.specs.Stored.{HoldsPart};
-ghost use Rattle.part_codec.specs.PartBits.{part_bits};
-ghost use Rattle.two_level.specs.SequenceFault.{stated_last, stated_end, stated_universe, stated_count, end_before, past_before, payload_before, first_bit};
+ghost use Rattle.part_cost.specs.Span.{past};
+ghost use Rattle.two_level.specs.SequenceFault.{stated_end, end_before, past_before, payload_before, first_bit};
 ghost use Rattle.two_level.specs.SequenceView.{IsPartOf};
+ghost use Rattle.two_level.specs.SequenceParts.{IsStatedPart};
 ghost use Rattle.two_level.specs.DirectorySequence.{words_of, sequence_of};
 
+use crate::alone::Alone;
 use crate::directory::Directory;
 use crate::entry::directory_bits;
 use crate::part::Part;
@@ -15,9 +14,10 @@ use bit_words::Bits;
 use part_cost::{PlacedPart, formats_have_room, payload_bits};
 
 impl<'a> Directory<'a> {
-    // The end that the entry before a part states, and one past the last value that it states.
+    // The end that the entry before a part states, and one past the last value that it states. A part that stands alone is the
+    // first, and none is before it.
     fn before_part(&self, part: u32) -> (u64, u64)
-        requires within { part ≤ self.now.parts }
+        requires within { part < self.now.parts }
         ensures end { result.0 ≡ end_before (numbers_of self.now.format) (words_of self.now) part }
         ensures past { result.1 ≡ past_before (numbers_of self.now.format) (words_of self.now) part }
     {
@@ -25,30 +25,57 @@ impl<'a> Directory<'a> {
         if part == 0 {
             (0, 0)
         } else {
-            let entry = self.entry(part - 1);
+            let entry = self.entry_in_words(part - 1);
             (entry.end, entry.last + 1)
         }
     }
 
-    // A part of the sequence, and where it stands in the words.
+    // A part of the sequence, and where it stands in the words, in the universe of its values as they are counted.
     pub(crate) fn stated_part(&self, part: u32) -> (Part, PlacedPart<'a>)
         requires within { part < self.now.parts }
-        ensures from { result.0.from ≡ end_before (numbers_of self.now.format) (words_of self.now) part }
-        ensures to { result.0.to ≡ stated_end (numbers_of self.now.format) (words_of self.now) part }
-        ensures last { result.0.last ≡ stated_last (numbers_of self.now.format) (words_of self.now) part }
-        ensures u { result.0.u ≡ stated_universe (numbers_of self.now.format) (words_of self.now) part }
-        ensures held { 2 ≤ result.1.m → HoldsPart part_bits (bits_of result.1.bits.words.now) result.1.place result.1.u result.1.m (relative_values (sequence_of self.now).values result.0.from result.0.to) }
-        ensures universe { result.1.u ≡ stated_universe (numbers_of self.now.format) (words_of self.now) part }
-        ensures count { result.1.m ≡ stated_count (numbers_of self.now.format) (words_of self.now) part }
+        ensures { IsStatedPart (numbers_of self.now.format) (words_of self.now) (sequence_of self.now).values part result.0 result.1 }
+    {
+        match &self.alone {
+            Some(alone) => self.part_alone(alone),
+            None => self.part_in_words(part),
+        }
+    }
+
+    // The one part, which stands alone. One value is counted from itself, so that its bits are not read.
+    fn part_alone(&self, alone: &Alone) -> (Part, PlacedPart<'a>)
+        requires alone { self.now.alone ≡ Some alone.now }
+        ensures { IsStatedPart (numbers_of self.now.format) (words_of self.now) (sequence_of self.now).values 0 result.0 result.1 }
     {
         formats_have_room();
-        let entry = self.entry(part);
+        let u = alone.last + 1;
+        let counted = if self.m == 1 { 1 } else { u };
+        (
+            Part {
+                from: 0,
+                to: self.m,
+                last: alone.last,
+                u,
+            },
+            PlacedPart::at(
+                Bits { words: self.words },
+                alone.place,
+                counted,
+                self.m as u64,
+            ),
+        )
+    }
+
+    // A part whose entry is in the words. Its values are counted from one past the value before it.
+    fn part_in_words(&self, part: u32) -> (Part, PlacedPart<'a>)
+        requires within { part < self.now.parts }
+        requires in_words { self.now.alone ≡ None }
+        ensures { IsStatedPart (numbers_of self.now.format) (words_of self.now) (sequence_of self.now).values part result.0 result.1 }
+    {
+        formats_have_room();
+        let entry = self.entry_in_words(part);
         let (from, past) = self.before_part(part);
         let u = entry.last + 1 - past;
-        let place = match &self.alone {
-            Some(alone) => alone.place,
-            None => directory_bits(self.parts, self.format) + entry.offset,
-        };
+        let place = directory_bits(self.parts, self.format) + entry.offset;
         (
             Part {
                 from: from as u32,
@@ -102,7 +129,7 @@ impl<'a> Directory<'a> {
         let mut high = self.parts - 1;
         while low < high {
             let middle = low + (high - low) / 2;
-            if (place as u64) < self.entry(middle).end {
+            if (place as u64) < self.entry_in_words(middle).end {
                 high = middle;
             } else {
                 low = middle + 1;

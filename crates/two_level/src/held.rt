@@ -15,7 +15,7 @@ ghost use Rattle.two_level.specs.DirectorySequence.{words_of, sequence_of};
 use crate::directory::Directory;
 use crate::part::Part;
 use part_codec::{PartCodec, PartView, Sought};
-use part_cost::{PlacedPart, formats_have_room};
+use part_cost::formats_have_room;
 
 // How many values are read at a time.
 pub(crate) const BLOCK: usize = 64;
@@ -221,18 +221,11 @@ impl<'a> Directory<'a> {
     {
         formats_have_room();
         let (part, placed) = self.stated_part(index);
-        // One value alone is counted from itself, so that its bits are not read.
-        let past = if placed.m == 1 {
-            part.last
-        } else {
-            part.last + 1 - part.u
-        };
-        let counted = PlacedPart::at(placed.bits, placed.place, part.last + 1 - past, placed.m);
         HeldPart {
             index,
             part,
-            past,
-            view: PartView::at(counted),
+            past: part.last + 1 - placed.u,
+            view: PartView::at(placed),
         }
     }
 

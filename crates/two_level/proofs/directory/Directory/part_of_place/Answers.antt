@@ -3,6 +3,7 @@ use Rattle.std.proofs.lemmas.Bool.{cases_lt}
 use Rattle.part_cost.specs.Formats.{numbers_of}
 use Rattle.two_level.specs.DirectorySequence.{words_of}
 use Rattle.two_level.specs.SequenceFault.{end_before}
+use Rattle.two_level.proofs.Begun.{lent-many}
 use Rattle.two_level.proofs.Parts.{end-before-next}
 use Rattle.two_level.proofs.directory.Directory.part_of_place.Goals as goal
 
@@ -26,6 +27,15 @@ loop-low-init c =
       to = omega (arith, c.requires.within, d.stated.end, all);
     }
 
+pub entry_in_words-requires : goal.entry_in_words-requires
+entry_in_words-requires c =
+    let d = c.args.self.now in
+    let so_far = c.loop-low.invariant in
+    record {
+      within = omega (arith, so_far.within, c.loop-low-test.true);
+      in_words = lent-many (numbers_of d.format) d.words.now d.m d.parts d.alone d.stands (omega (arith, so_far.within, c.loop-low-test.true));
+    }
+
 pub loop-low-preserved : goal.loop-low-preserved
 loop-low-preserved c =
     let d = c.args.self.now in
@@ -34,6 +44,6 @@ loop-low-preserved c =
     record {
       up = omega (arith, c.loop-low-test.true, so_far.up);
       within = so_far.within;
-      from = omega (arith, end-before-next (numbers_of d.format) (words_of d) middle, c.entry.ensures.end, c.if-place-entry.false);
+      from = omega (arith, end-before-next (numbers_of d.format) (words_of d) middle, c.entry_in_words.ensures.end, c.if-place-entry_in_words.false);
       to = so_far.to;
     }

@@ -6,17 +6,17 @@ use Rattle.two_level.proofs.Places.{place-within}
 use Rattle.two_level.proofs.Probes.{count-lasts, stated-before, stated-reached}
 use Rattle.two_level.proofs.directory.Directory.part_reaching.Goals as goal
 
-pub returns-clause-after : goal.returns-clause-after
-returns-clause-after c = omega (arith, c.galloped.ensures)
+pub returns-in-None-clause-after : goal.returns-in-None-clause-after
+returns-in-None-clause-after c = omega (arith, c.galloped.ensures)
 
-pub returns-clause-within : goal.returns-clause-within
-returns-clause-within c =
+pub returns-in-None-clause-within : goal.returns-in-None-clause-within
+returns-in-None-clause-within c =
     let lasts : List ℕ = lasts_stated (numbers_of c.args.self.now.format) (words_of c.args.self.now) c.args.self.now.parts in
     let count = count-lasts (numbers_of c.args.self.now.format) (words_of c.args.self.now) c.args.self.now.parts in
     omega (arith, c.galloped.ensures, count, place-within lasts c.args.part c.args.x (omega (arith, count, c.requires.within)))
 
-pub returns-clause-before : goal.returns-clause-before
-returns-clause-before c lt = stated-before (numbers_of c.args.self.now.format) (words_of c.args.self.now) c.args.self.now.parts c.args.part c.galloped.result c.args.x c.requires.within c.galloped.ensures lt
+pub returns-in-None-clause-before : goal.returns-in-None-clause-before
+returns-in-None-clause-before c lt = stated-before (numbers_of c.args.self.now.format) (words_of c.args.self.now) c.args.self.now.parts c.args.part c.galloped.result c.args.x c.requires.within c.galloped.ensures lt
 
-pub returns-clause-reached : goal.returns-clause-reached
-returns-clause-reached c lt = stated-reached (numbers_of c.args.self.now.format) (words_of c.args.self.now) c.args.self.now.parts c.args.part c.galloped.result c.args.x c.requires.within c.galloped.ensures lt
+pub returns-in-None-clause-reached : goal.returns-in-None-clause-reached
+returns-in-None-clause-reached c lt = stated-reached (numbers_of c.args.self.now.format) (words_of c.args.self.now) c.args.self.now.parts c.args.part c.galloped.result c.args.x c.requires.within c.galloped.ensures lt
