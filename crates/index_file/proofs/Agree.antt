@@ -3,10 +3,10 @@ use Rattle.std.proofs.Common.{◌≡◌, ℕ, ◌<◌, Bool, true, false, List, 
 use Rattle.std.specs.Prelude.{◌⊎◌, MatchBool}
 use Rattle.std.proofs.lemmas.Bool.{cases_lt}
 use Rattle.collection_model.specs.FormatNumbers.{FormatNumbers}
-use Rattle.two_level.specs.declared.check.Check.{Check}
-use Rattle.two_level.specs.declared.check.Check.TheVariants.{K7, K8, K9}
+use Rattle.sequence_words.specs.declared.check.Check.{Check}
+use Rattle.sequence_words.specs.declared.check.Check.TheVariants.{K7, K8, K9}
 use Rattle.two_level.specs.SequenceFault.{OrElse, FirstOf, FirstInSequence, PassChecks}
-use Rattle.two_level.proofs.FirstChecks.{passed}
+use Rattle.sequence_words.proofs.FirstChecks.{passed}
 
 same-by : (q r : ℕ) → (q < r → ⊥) → (r < q → ⊥) → q ≡ r
 same-by q r a b =

@@ -10,7 +10,7 @@ use Rattle.index_file.specs.FileWords.{CutList, lists_words}
 use Rattle.index_file.specs.FirstBroken.{stated_terms, IsFileFront, IsTermFault, IsClosingFault, IsFirstBrokenIn}
 use Rattle.index_file.specs.ListAt.{HasFrame, IsFirstListFault}
 use Rattle.index_file.proofs.Frames.{behind-frame}
-use Rattle.two_level.proofs.Choices.{match-false, match-true}
+use Rattle.sequence_words.proofs.Choices.{match-false, match-true}
 
 true-lt : (a b : ℕ) → a < b → nat_lt a b ≡ true
 true-lt a b h = grind (arith, nat_tests)

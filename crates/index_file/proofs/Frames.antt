@@ -3,8 +3,8 @@ use Rattle.std.proofs.Common.{◌≡◌, ℕ, ◌+◌, ◌-◌, ◌*◌, ◌/◌
 use Rattle.std.proofs.lemmas.Bool.{or_parts, or_from, ltb-false, le-ltb, eqb-true, eq-eqb, not-false, not_from_true}
 use Rattle.std.specs.Prelude.{Option, Some, None, not, ◌==◌, ◌||◌, nat_lt, if◌then◌else◌, MatchOption, MatchBool}
 use Rattle.collection_model.specs.FormatNumbers.{FormatNumbers, most_terms}
-use Rattle.two_level.specs.declared.check.Check.{Check}
-use Rattle.two_level.specs.declared.check.Check.TheVariants.{K1, K2, K3, K4, K5}
+use Rattle.sequence_words.specs.declared.check.Check.{Check}
+use Rattle.sequence_words.specs.declared.check.Check.TheVariants.{K1, K2, K3, K4, K5}
 use Rattle.index_file.specs.declared.fault.OpenFault.{OpenFault}
 use Rattle.index_file.specs.FileWords.{CutList, opening_magic, end_magic, lists_words}
 use Rattle.index_file.specs.FirstBroken.{stated_documents, stated_terms, stated_sizes, numbers_break, frame_broken, IsLongestFileFront, IsTermFault, IsClosingFault, IsFirstBrokenIn}

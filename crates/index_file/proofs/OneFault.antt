@@ -3,8 +3,8 @@ use Rattle.std.proofs.Common.{◌≡◌, ℕ, ◌+◌, ◌/◌, ◌%◌, ◌^◌
 use Rattle.std.specs.Prelude.{◌⊎◌, ◌≢◌, ◌==◌, not, nat_lt, slice_index, Option, Some, None, MatchBool, MatchOption}
 use Rattle.collection_model.specs.FormatNumbers.{FormatNumbers}
 use Rattle.part_cost.specs.Formats.{HasRoom}
-use Rattle.two_level.specs.declared.check.Check.{Check}
-use Rattle.two_level.specs.declared.check.Check.TheVariants.{K6, K11}
+use Rattle.sequence_words.specs.declared.check.Check.{Check}
+use Rattle.sequence_words.specs.declared.check.Check.TheVariants.{K6, K11}
 use Rattle.two_level.specs.Laws.{WordsState}
 use Rattle.two_level.specs.SequenceFault.{word_behind}
 use Rattle.index_file.specs.declared.fault.OpenFault.{OpenFault}

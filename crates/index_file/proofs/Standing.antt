@@ -11,7 +11,7 @@ use Rattle.part_cost.proofs.Partitions.{few-parts}
 use Rattle.part_cost.specs.Formats.{HasRoom}
 use Rattle.part_cost.specs.Partition.{IsPartition}
 use Rattle.collection_model.proofs.Sequences.{same-steps}
-use Rattle.two_level.specs.declared.check.Check.TheVariants.{K6}
+use Rattle.sequence_words.specs.declared.check.Check.TheVariants.{K6}
 use Rattle.two_level.specs.SequenceWords.{BeginsSequence}
 use Rattle.two_level.specs.SequenceFault.{parts_fit, word_behind, PassChecks}
 use Rattle.index_file.specs.declared.fault.OpenFault.{OpenFault}
@@ -20,7 +20,7 @@ use Rattle.index_file.specs.Laws.{SequenceLaws}
 use Rattle.index_file.specs.FirstBroken.{stated_documents, stated_sizes, term_word, stated_length, stated_doc_parts, stated_freq_parts, stated_greatest, up_to_sizes, IsFreqsFault, IsTermFault}
 use Rattle.index_file.specs.ListAt.{HasFrame, DocsBegin, FreqsBegin, StandsAt}
 use Rattle.index_file.proofs.OneList.{begins-at, begins-in}
-use Rattle.two_level.proofs.Choices.{unmatch}
+use Rattle.sequence_words.proofs.Choices.{unmatch}
 use Rattle.index_file.proofs.Agree.{later-of}
 use Rattle.index_file.proofs.TermFaults.{IsAt, docs_cannot_begin, freqs_cannot_begin, InDocs, InFreqs, PassButGreatest}
 

@@ -12,7 +12,7 @@ use Rattle.collection_model.specs.Sequences.{doc_sequence, freq_sequence, postin
 use Rattle.part_cost.specs.declared.formats.Format.{Format}
 use Rattle.part_cost.specs.Formats.{numbers_of, HasRoom}
 use Rattle.part_cost.proofs.Rooms.{formats-have-room}
-use Rattle.two_level.specs.declared.check.Check.TheVariants.{K6, K11}
+use Rattle.sequence_words.specs.declared.check.Check.TheVariants.{K6, K11}
 use Rattle.two_level.specs.Laws.{WordsState}
 use Rattle.two_level.specs.SequenceView.{words_used, sequence_stated}
 use Rattle.index_file.specs.declared.fault.OpenFault.{OpenFault}
@@ -20,7 +20,7 @@ use Rattle.index_file.specs.FileWords.{CutList, ListParts, with_parts, doc_words
 use Rattle.index_file.specs.FirstBroken.{stated_documents, stated_terms, stated_sizes, directory_word, stated_length, stated_doc_parts, stated_freq_parts, IsFileFront, IsTermFault, IsClosingFault, IsFirstBrokenIn}
 use Rattle.index_file.specs.IndexView.{size_stated, docs_stated, freqs_stated, collection_stated, parts_stated, index_stated, docs_view, freqs_view}
 use Rattle.index_file.specs.ListAt.{HasFrame, StandsAt, StandFrom, word_after}
-use Rattle.two_level.proofs.Choices.{unmatch}
+use Rattle.sequence_words.proofs.Choices.{unmatch}
 use Rattle.index_file.specs.Laws.{SequenceLaws}
 use Rattle.index_file.proofs.Standing.{docs-from, freqs-from}
 use Rattle.index_file.proofs.Fronts.{HasDocParts, HasFreqParts, stand-from, front-pieces, stand-same}

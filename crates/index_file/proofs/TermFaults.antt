@@ -8,13 +8,13 @@ use Rattle.collection_model.specs.FormatNumbers.{FormatNumbers, entry_words}
 use Rattle.collection_model.specs.Collection.{greatest}
 use Rattle.collection_model.specs.Sequences.{steps_from}
 use Rattle.part_cost.specs.Formats.{HasRoom}
-use Rattle.two_level.specs.declared.check.Check.{Check}
-use Rattle.two_level.specs.declared.check.Check.TheVariants.{K6, K10}
+use Rattle.sequence_words.specs.declared.check.Check.{Check}
+use Rattle.sequence_words.specs.declared.check.Check.TheVariants.{K6, K10}
 use Rattle.two_level.specs.SequenceWords.{BeginsSequence}
 use Rattle.two_level.specs.SequenceView.{SequenceView, words_used}
 use Rattle.two_level.specs.SequenceFault.{parts_fit, word_behind, FirstInSequence, IsSequenceFault}
-use Rattle.two_level.proofs.Choices.{match-false}
-use Rattle.two_level.proofs.FirstChecks.{passed, faulty}
+use Rattle.sequence_words.proofs.Choices.{match-false}
+use Rattle.sequence_words.proofs.FirstChecks.{passed, faulty}
 use Rattle.index_file.specs.declared.fault.OpenFault.{OpenFault}
 use Rattle.index_file.specs.declared.frame.Frame.{Frame}
 use Rattle.index_file.specs.declared.lists.ListEntry.{ListEntry}

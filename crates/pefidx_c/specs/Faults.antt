@@ -1,6 +1,6 @@
 use Rattle.std.specs.Prelude.{ℕ}
-use Rattle.two_level.specs.declared.check.Check.{Check}
-use Rattle.two_level.specs.declared.check.Check.TheVariants.{K1, K2, K3, K4, K5, K6, K7, K8, K9, K10, K11, K12, K13}
+use Rattle.sequence_words.specs.declared.check.Check.{Check}
+use Rattle.sequence_words.specs.declared.check.Check.TheVariants.{K1, K2, K3, K4, K5, K6, K7, K8, K9, K10, K11, K12, K13}
 use Rattle.index_file.specs.declared.fault.OpenFault.{OpenFault}
 use Rattle.pefidx_c.specs.declared.checking.Fault.{Fault}
 

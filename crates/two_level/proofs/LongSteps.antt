@@ -10,9 +10,9 @@ use Rattle.collection_model.specs.Sequences.{steps_from}
 use Rattle.collection_model.proofs.Sequences.{steps-length}
 use Rattle.part_cost.specs.Span.{past, universe}
 use Rattle.part_cost.proofs.Parts.{rises}
-use Rattle.two_level.specs.SequenceView.{place_at_least}
+use Rattle.sequence_words.specs.SequenceView.{place_at_least}
 use Rattle.two_level.specs.LongSteps.{IsFirstStep, count_reaching}
-use Rattle.two_level.proofs.Places.{found-place}
+use Rattle.part_directory.proofs.Places.{found-place}
 
 -- one past the value before place i, where one past the value before the first is given
 abbrev past-on : ℕ → List ℕ → ℕ → ℕ

@@ -1,18 +1,12 @@
 -- Lemmas on the greatest step of some values.
-use Rattle.std.proofs.Common.{◌≡◌, ℕ, zero, suc, ◌+◌, ◌-◌, ◌<◌, ◌≤◌, List, ◌∷◌, length, take, drop, slice_index, get_or, max, inl, inr, ◌^◌, sym, ap, ◌∙◌, subst, arith, add-one}
-use Rattle.std.specs.List.{slice_range}
+use Rattle.std.proofs.Common.{◌≡◌, ℕ, zero, suc, ◌+◌, ◌-◌, ◌<◌, ◌≤◌, List, ◌∷◌, length, take, drop, slice_index, get_or, max, ap, ◌∙◌, subst, arith, add-one}
 use Rattle.std.specs.List.Sorted.{IsStrictlyIncreasing}
-use Rattle.std.proofs.lemmas.Bool.{cases_lt}
-use Rattle.std.proofs.lemmas.List.{drop_more, length-take-le, length-drop, get_or-take, get_or-drop, ext_get_or}
-use Rattle.collection_model.specs.NextBelow.{AreNextBelow}
+use Rattle.std.proofs.lemmas.List.{drop_more}
 use Rattle.collection_model.specs.Collection.{greatest}
 use Rattle.collection_model.specs.Sequences.{steps_from}
-use Rattle.part_cost.specs.Payload.{widest_low}
 use Rattle.part_cost.specs.Span.{past, universe}
 use Rattle.part_cost.proofs.Parts.{rises, past-at}
 use Rattle.two_level.specs.Steps.{greatest_step}
-use Rattle.two_level.specs.SequenceParts.{HoldsValues}
-use Rattle.two_level.specs.declared.held.HeldPart.{HeldPart}
 
 -- no place, no step
 pub step-none : (xs : List ℕ) (from : ℕ) → greatest_step xs from from ≡ 0
@@ -85,55 +79,6 @@ step-of-one xs i j from to a lt b fit one =
 pub record StepsRead (xs : List ℕ) (from place to before most : ℕ) : Type 0 where
   pub before_is : before ≡ past xs place
   pub largest : max most (greatest_step xs place to) ≡ greatest_step xs from to
-
--- values that are given are all those of a part from a place on, as many as have room
-pub all-given : (xs given : List ℕ) (to place n : ℕ) → to ≤ length xs → place + length given ≤ to → ((k : ℕ) → k < length xs → slice_index xs k < 2 ^ 63) → AreNextBelow (take to xs) place (2 ^ 64 - 1) given n
-    → given ≡ slice_range xs place (place + length given)
-all-given xs given to place n fit within small h =
-    let most : length (take to xs) ≡ to = length-take-le to xs fit in
-    let n_is : n ≡ length given =
-    elim (cases_lt n (length given)) [
-      | inl less ↦
-          (let high = h.full less (omega (arith, less, within, most)) in
-          let same : slice_index (take to xs) (place + n) ≡ slice_index xs (place + n) = get_or-take to xs (place + n) 0 (omega (arith, less, within)) in
-          let low = small (place + n) (omega (arith, less, within, fit)) in
-          absurd (omega (arith, high, same, low)))
-      | inr more ↦ omega (arith, more, h.room)
-    ] in
-    let size : place + length given - place ≡ length given = omega arith in
-    let range : length (slice_range xs place (place + length given)) ≡ length given =
-    length-take-le (place + length given - place) (drop place xs) (omega (arith, length-drop place xs, within, fit)) ∙ size in
-    ext_get_or 0 given (slice_range xs place (place + length given)) (sym range)
-    (λ k lt.
-    h.same k (omega (arith, lt, n_is)) ∙ get_or-take to xs (place + k) 0 (omega (arith, lt, within))
-    ∙ sym (get_or-take (place + length given - place) (drop place xs) k 0 (omega (arith, lt)) ∙ get_or-drop place xs k 0))
-
--- the next values of a part, as many as have room
-pub record IsBlock (xs : List ℕ) (place : ℕ) (given : List ℕ) : Type 0 where
-  pub all : given ≡ slice_range xs place (place + length given)
-  pub small : (k : ℕ) → k < length given → slice_index given k < 2 ^ widest_low
-  pub last : slice_index given (length given - 1) + 1 ≡ past xs (place + length given)
-
-pub is-block : (held : HeldPart) (xs given : List ℕ) (place n : ℕ) → HoldsValues held xs → 0 < length given → place + length given ≤ held.part.to
-    → AreNextBelow (take held.part.to xs) place (2 ^ 64 - 1) given n → IsBlock xs place given
-is-block held xs given place n h some fit below =
-    let all = all-given xs given held.part.to place n h.within fit (λ k lt. omega (arith, h.in_range k 0 lt)) below in
-    let at : (k : ℕ) → k < length given → slice_index given k ≡ slice_index xs (place + k) =
-    λ k lt.
-    ap (λ zs. slice_index zs k) all
-    ∙ get_or-take (place + length given - place) (drop place xs) k 0 (omega (arith, lt)) ∙ get_or-drop place xs k 0 in
-    record {
-      all = all;
-      small = λ k lt. omega (arith, at k lt, h.in_range (place + k) 0 (omega (arith, lt, fit, h.within)));
-      last =
-          (let here : place + (length given - 1) ≡ place + length given - 1 = omega (arith, some) in
-          omega (arith, at (length given - 1) (omega (arith, some)), ap (slice_index xs) here, past-at xs (place + length given) (omega (arith, some))));
-    }
-
--- the greatest step of such values
-pub step-block : (xs : List ℕ) (place : ℕ) (given : List ℕ) → IsBlock xs place given → (before : ℕ) → before ≡ past xs place
-    → greatest (steps_from before given) ≡ greatest_step xs place (place + length given)
-step-block xs place given b before is = ap (λ n. greatest (steps_from n given)) is ∙ ap (λ zs. greatest (steps_from (past xs place) zs)) b.all
 
 -- one more block of values was read
 pub steps-next : (xs : List ℕ) (from place to room size before most step last : ℕ) → StepsRead xs from place to before most → place + room ≤ to → to ≤ length xs → size ≡ room

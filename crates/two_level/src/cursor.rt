@@ -1,10 +1,9 @@
 ghost use Rattle.std.specs.Prelude.{◌≡◌, ◌≤◌, ◌<◌, ◌+◌, length, slice_index, take, IfSome, IfNone};
 ghost use Rattle.collection_model.specs.Marks.{AreKept};
 ghost use Rattle.collection_model.specs.NextBelow.{AreNextBelow};
-ghost use Rattle.two_level.specs.SequenceView.{place_at_least};
+ghost use Rattle.sequence_words.specs.SequenceView.{place_at_least};
 
-use crate::directory::Directory;
-use crate::held::HeldPart;
+use part_directory::{Directory, HeldPart};
 use std::marker::Model;
 
 /// A place in a sequence, which may be its end. The part of the place and the value there are held, so that the values of a
@@ -22,9 +21,9 @@ pub struct SeqCursor<'a> {
 
 impl<'a> Model for SeqCursor<'a> {
     ghost use Rattle.part_cost.specs.Formats.{numbers_of};
-    ghost use Rattle.two_level.specs.SequenceView.{SequencePlace, place_at_least};
-    ghost use Rattle.two_level.specs.SequenceParts.{LiesIn, StandsBehind};
-    ghost use Rattle.two_level.specs.DirectorySequence.{words_of, sequence_of};
+    ghost use Rattle.sequence_words.specs.SequenceView.{SequencePlace, place_at_least};
+    ghost use Rattle.part_directory.specs.HeldParts.{LiesIn, StandsBehind};
+    ghost use Rattle.part_directory.specs.DirectorySequence.{words_of, sequence_of};
 
     ghost Value = { SequencePlace };
 
@@ -35,7 +34,7 @@ impl<'a> Model for SeqCursor<'a> {
 }
 
 impl<'a> SeqCursor<'a> {
-    ghost use Rattle.two_level.specs.DirectorySequence.{sequence_of};
+    ghost use Rattle.part_directory.specs.DirectorySequence.{sequence_of};
 
     // A cursor at the start of a sequence.
     pub(crate) fn at_start(directory: Directory<'a>) -> SeqCursor<'a>

@@ -4,14 +4,13 @@ ghost use Rattle.collection_model.specs.Sequences.{steps_from};
 ghost use Rattle.part_cost.specs.Formats.{numbers_of};
 ghost use Rattle.part_cost.specs.Payload.{widest_low};
 ghost use Rattle.part_cost.specs.Span.{past};
-ghost use Rattle.two_level.specs.SequenceParts.{HoldsValues};
+ghost use Rattle.part_directory.specs.HeldParts.{HoldsValues};
 ghost use Rattle.two_level.specs.LongSteps.{count_reaching};
-ghost use Rattle.two_level.specs.DirectorySequence.{sequence_of};
+ghost use Rattle.part_directory.specs.DirectorySequence.{sequence_of};
 
-use crate::directory::Directory;
-use crate::held::{BLOCK, HeldPart};
-use crate::part::Part;
+use crate::stepping::BLOCK;
 use part_cost::formats_have_room;
+use part_directory::{Directory, HeldPart, Part};
 
 // How many steps are kept at most.
 const MOST_KEPT: usize = 64;
@@ -110,36 +109,34 @@ fn has_long_steps(part: Part, universe: u64, m: u32) -> bool
     2 * universe as u128 * count <= part.u as u128 * m as u128
 }
 
-impl<'a> Directory<'a> {
-    // Keeps the longest steps of the parts whose steps are long in the mean. The other parts are not read.
-    fn keep_long_parts(&self, kept: &mut [u64])
-        requires some { 0 < self.now.parts }
-        requires any { 0 < length kept.old }
-        ensures same_kept { length kept.new ≡ length kept.old }
-        ensures kept { (least : ℕ) → count_reaching least kept.new ≤ count_reaching least kept.old + count_reaching least (steps_from 0 (sequence_of self.now).values) }
-    {
-        formats_have_room();
-        let universe = self.entry(self.parts - 1).last + 1;
-        'parts: for index in 0..self.parts {
-            let (part, _) = self.stated_part(index);
-            if has_long_steps(part, universe, self.m) {
-                keep_part(&self.hold(index), kept);
-            }
+// Keeps the longest steps of the parts whose steps are long in the mean. The other parts are not read.
+fn keep_long_parts(directory: &Directory<'_>, kept: &mut [u64])
+    requires some { 0 < directory.now.parts }
+    requires any { 0 < length kept.old }
+    ensures same_kept { length kept.new ≡ length kept.old }
+    ensures kept { (least : ℕ) → count_reaching least kept.new ≤ count_reaching least kept.old + count_reaching least (steps_from 0 (sequence_of directory.now).values) }
+{
+    formats_have_room();
+    let universe = directory.entry(directory.parts - 1).last + 1;
+    'parts: for index in 0..directory.parts {
+        let (part, _) = directory.stated_part(index);
+        if has_long_steps(part, universe, directory.m) {
+            keep_part(&directory.hold(index), kept);
         }
     }
+}
 
-    // A step that at least k of the steps of the sequence reach, 0 where none is told.
-    pub(crate) fn common_step_of(&self, k: u32) -> u64
-        requires some { 1 ≤ k }
-        ensures { result ≢ 0 → k ≤ count_reaching result (steps_from 0 (sequence_of self.now).values) }
-    {
-        let count = k as usize;
-        if self.parts == 0 || MOST_KEPT < count {
-            return 0;
-        }
-        let mut room = [0; MOST_KEPT];
-        let kept = &mut room[..count];
-        self.keep_long_parts(kept);
-        kept[place_of_least(kept)]
+// A step that at least k of the steps of the sequence reach, 0 where none is told.
+pub(crate) fn common_step_of(directory: &Directory<'_>, k: u32) -> u64
+    requires some { 1 ≤ k }
+    ensures { result ≢ 0 → k ≤ count_reaching result (steps_from 0 (sequence_of directory.now).values) }
+{
+    let count = k as usize;
+    if directory.parts == 0 || MOST_KEPT < count {
+        return 0;
     }
+    let mut room = [0; MOST_KEPT];
+    let kept = &mut room[..count];
+    keep_long_parts(directory, kept);
+    kept[place_of_least(kept)]
 }

@@ -5,15 +5,14 @@ ghost use Rattle.collection_model.specs.Sequences.{steps_from};
 ghost use Rattle.part_cost.specs.Formats.{numbers_of};
 ghost use Rattle.part_cost.specs.Payload.{widest_low};
 ghost use Rattle.part_cost.specs.Span.{past};
-ghost use Rattle.two_level.specs.SequenceFault.{stated_end, end_before, stated_universe};
-ghost use Rattle.two_level.specs.SequenceView.{place_at_least};
-ghost use Rattle.two_level.specs.SequenceParts.{HoldsValues};
+ghost use Rattle.sequence_words.specs.SequenceFault.{stated_end, end_before, stated_universe};
+ghost use Rattle.sequence_words.specs.SequenceView.{place_at_least};
+ghost use Rattle.part_directory.specs.HeldParts.{HoldsValues};
 ghost use Rattle.two_level.specs.LongSteps.{IsFirstStep};
-ghost use Rattle.two_level.specs.DirectorySequence.{words_of, sequence_of};
+ghost use Rattle.part_directory.specs.DirectorySequence.{words_of, sequence_of};
 
-use crate::directory::Directory;
-use crate::held::{BLOCK, HeldPart};
-use crate::part::Part;
+use crate::stepping::BLOCK;
+use part_directory::{Directory, HeldPart, Part};
 
 // Which of some values is the first whose step is at least so long, or how many they are; the first steps from one past a value
 // before them.
@@ -83,48 +82,46 @@ fn first_in_values(held: &HeldPart, from: u32, least: u64) -> u32
     to
 }
 
-impl<'a> Directory<'a> {
-    // The first place from one on of a part of the sequence whose step is at least so long, or the end of the part. A part whose
-    // numbers leave no room for such a step is not read, and the one step of one number is its universe.
-    fn first_in_part(&self, index: u32, part: Part, from: u32, least: u64) -> u32
-        requires within { index < self.now.parts }
-        requires starts { part.from ≡ end_before (numbers_of self.now.format) (words_of self.now) index }
-        requires ends { part.to ≡ stated_end (numbers_of self.now.format) (words_of self.now) index }
-        requires universe { part.u ≡ stated_universe (numbers_of self.now.format) (words_of self.now) index }
-        requires after { part.from ≤ from }
-        requires some { from < part.to }
-        ensures { IsFirstStep (sequence_of self.now).values from part.to least result }
-    {
-        let count = (part.to - part.from) as u64;
-        if part.u - count + 1 < least {
-            part.to
-        } else if count == 1 {
-            from
-        } else {
-            first_in_values(&self.hold(index), from, least)
-        }
+// The first place from one on of a part of the sequence whose step is at least so long, or the end of the part. A part whose
+// numbers leave no room for such a step is not read, and the one step of one number is its universe.
+fn first_in_part(directory: &Directory<'_>, index: u32, part: Part, from: u32, least: u64) -> u32
+    requires within { index < directory.now.parts }
+    requires starts { part.from ≡ end_before (numbers_of directory.now.format) (words_of directory.now) index }
+    requires ends { part.to ≡ stated_end (numbers_of directory.now.format) (words_of directory.now) index }
+    requires universe { part.u ≡ stated_universe (numbers_of directory.now.format) (words_of directory.now) index }
+    requires after { part.from ≤ from }
+    requires some { from < part.to }
+    ensures { IsFirstStep (sequence_of directory.now).values from part.to least result }
+{
+    let count = (part.to - part.from) as u64;
+    if part.u - count + 1 < least {
+        part.to
+    } else if count == 1 {
+        from
+    } else {
+        first_in_values(&directory.hold(index), from, least)
     }
+}
 
-    // The first place from one on of the sequence whose step is at least so long, or the end.
-    pub(crate) fn first_step_from(&self, from: u32, least: u64) -> u32
-        requires within { from ≤ length (sequence_of self.now).values }
-        ensures { result ≡ place_at_least (steps_from 0 (sequence_of self.now).values) from least }
-    {
-        let m = self.m;
-        if least <= 1 || from == m {
-            return from;
-        }
-        let mut index = self.part_of_place(from);
-        let mut place = from;
-        'parts: while place < m {
-            let (part, _) = self.stated_part(index);
-            let found = self.first_in_part(index, part, place, least);
-            if found < part.to {
-                return found;
-            }
-            place = part.to;
-            index += 1;
-        }
-        m
+// The first place from one on of the sequence whose step is at least so long, or the end.
+pub(crate) fn first_step_from(directory: &Directory<'_>, from: u32, least: u64) -> u32
+    requires within { from ≤ length (sequence_of directory.now).values }
+    ensures { result ≡ place_at_least (steps_from 0 (sequence_of directory.now).values) from least }
+{
+    let m = directory.m;
+    if least <= 1 || from == m {
+        return from;
     }
+    let mut index = directory.part_of_place(from);
+    let mut place = from;
+    'parts: while place < m {
+        let (part, _) = directory.stated_part(index);
+        let found = first_in_part(directory, index, part, place, least);
+        if found < part.to {
+            return found;
+        }
+        place = part.to;
+        index += 1;
+    }
+    m
 }

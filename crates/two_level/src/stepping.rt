@@ -5,14 +5,15 @@ ghost use Rattle.collection_model.specs.Sequences.{steps_from};
 ghost use Rattle.part_cost.specs.Formats.{numbers_of};
 ghost use Rattle.part_cost.specs.Payload.{widest_low};
 ghost use Rattle.part_cost.specs.Span.{past};
-ghost use Rattle.two_level.specs.SequenceFault.{stated_end, end_before, stated_universe};
-ghost use Rattle.two_level.specs.SequenceParts.{HoldsValues};
+ghost use Rattle.sequence_words.specs.SequenceFault.{stated_end, end_before, stated_universe};
+ghost use Rattle.part_directory.specs.HeldParts.{HoldsValues};
 ghost use Rattle.two_level.specs.Steps.{greatest_step};
-ghost use Rattle.two_level.specs.DirectorySequence.{words_of, sequence_of};
+ghost use Rattle.part_directory.specs.DirectorySequence.{words_of, sequence_of};
 
-use crate::directory::Directory;
-use crate::held::{BLOCK, HeldPart};
-use crate::part::Part;
+use part_directory::{Directory, HeldPart, Part};
+
+// How many values are read at a time.
+pub(crate) const BLOCK: usize = 64;
 
 // The greatest step of some values, the first from one past a value before them.
 fn step_of(values: &[u64], first: u64) -> u64
@@ -77,45 +78,43 @@ fn step_of_values(held: &HeldPart, from: u32, to: u32) -> u64
     most
 }
 
-impl<'a> Directory<'a> {
-    // The greatest step from one place up to another within a part of the sequence. Where all places of the part are taken each
-    // step is 1, and one number alone lies as far as the universe: such a part is not read.
-    fn step_in_part(&self, index: u32, part: Part, from: u32, to: u32) -> u64
-        requires within { index < self.now.parts }
-        requires starts { part.from ≡ end_before (numbers_of self.now.format) (words_of self.now) index }
-        requires ends { part.to ≡ stated_end (numbers_of self.now.format) (words_of self.now) index }
-        requires universe { part.u ≡ stated_universe (numbers_of self.now.format) (words_of self.now) index }
-        requires after { part.from ≤ from }
-        requires some { from < to }
-        requires before { to ≤ part.to }
-        ensures { result ≡ greatest_step (sequence_of self.now).values from to }
-    {
-        let count = (part.to - part.from) as u64;
-        if part.u == count {
-            1
-        } else if count == 1 {
-            part.u
-        } else {
-            step_of_values(&self.hold(index), from, to)
-        }
+// The greatest step from one place up to another within a part of the sequence. Where all places of the part are taken each
+// step is 1, and one number alone lies as far as the universe: such a part is not read.
+fn step_in_part(directory: &Directory<'_>, index: u32, part: Part, from: u32, to: u32) -> u64
+    requires within { index < directory.now.parts }
+    requires starts { part.from ≡ end_before (numbers_of directory.now.format) (words_of directory.now) index }
+    requires ends { part.to ≡ stated_end (numbers_of directory.now.format) (words_of directory.now) index }
+    requires universe { part.u ≡ stated_universe (numbers_of directory.now.format) (words_of directory.now) index }
+    requires after { part.from ≤ from }
+    requires some { from < to }
+    requires before { to ≤ part.to }
+    ensures { result ≡ greatest_step (sequence_of directory.now).values from to }
+{
+    let count = (part.to - part.from) as u64;
+    if part.u == count {
+        1
+    } else if count == 1 {
+        part.u
+    } else {
+        step_of_values(&directory.hold(index), from, to)
     }
+}
 
-    // The greatest step from one place up to another of the sequence.
-    pub(crate) fn step_between(&self, from: u32, to: u32) -> u64
-        requires some { from < to }
-        requires within { to ≤ length (sequence_of self.now).values }
-        ensures { result ≡ greatest_step (sequence_of self.now).values from to }
-    {
-        let mut index = self.part_of_place(from);
-        let mut place = from;
-        let mut most = 0;
-        'parts: while place < to {
-            let (part, _) = self.stated_part(index);
-            let end = part.to.min(to);
-            most = self.step_in_part(index, part, place, end).max(most);
-            place = end;
-            index += 1;
-        }
-        most
+// The greatest step from one place up to another of the sequence.
+pub(crate) fn step_between(directory: &Directory<'_>, from: u32, to: u32) -> u64
+    requires some { from < to }
+    requires within { to ≤ length (sequence_of directory.now).values }
+    ensures { result ≡ greatest_step (sequence_of directory.now).values from to }
+{
+    let mut index = directory.part_of_place(from);
+    let mut place = from;
+    let mut most = 0;
+    'parts: while place < to {
+        let (part, _) = directory.stated_part(index);
+        let end = part.to.min(to);
+        most = step_in_part(directory, index, part, place, end).max(most);
+        place = end;
+        index += 1;
     }
+    most
 }

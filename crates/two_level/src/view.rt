@@ -8,22 +8,24 @@ ghost use Rattle.collection_model.specs.Sequences.{steps_from};
 ghost use Rattle.part_cost.specs.Formats.{numbers_of};
 ghost use Rattle.part_cost.specs.Span.{past, cost_of_part};
 ghost use Rattle.part_cost.specs.Partition.{partition_cost};
-ghost use Rattle.two_level.specs.SequenceWords.{BeginsSequence};
-ghost use Rattle.two_level.specs.SequenceFault.{IsSequenceFault};
-ghost use Rattle.two_level.specs.SequenceView.{SequenceView, BeginWith, words_used, IsPartOf, place_at_least};
+ghost use Rattle.sequence_words.specs.SequenceWords.{BeginsSequence};
+ghost use Rattle.sequence_words.specs.SequenceFault.{IsSequenceFault};
+ghost use Rattle.sequence_words.specs.SequenceView.{SequenceView, BeginWith, words_used, place_at_least};
+ghost use Rattle.part_directory.specs.PartOf.{IsPartOf};
 ghost use Rattle.two_level.specs.Steps.{greatest_step};
 ghost use Rattle.two_level.specs.LongSteps.{count_reaching};
 
-use crate::checking::{SeqFault, check_words};
 use crate::cursor::SeqCursor;
-use crate::directory::Directory;
-use crate::laws::{
-    checks_accept_a_sequence, checks_refuse_no_sequence, directory_states_its_parts,
-    words_state_their_sequence,
-};
-use crate::part::Part;
+use crate::kept_steps::common_step_of;
+use crate::long_steps::first_step_from;
+use crate::stepping::step_between;
 use part_codec::one_list_at_place;
 use part_cost::Format;
+use part_directory::{Directory, Part};
+use sequence_words::{
+    SeqFault, check_words, checks_accept_a_sequence, checks_refuse_no_sequence,
+    directory_states_its_parts, words_state_their_sequence,
+};
 use std::marker::Model;
 
 /// A sequence of m values in parts, at the front of lent words; or in one part that stands alone in
@@ -49,8 +51,8 @@ pub struct CheckedSteps<'a> {
 }
 
 impl<'a> Model for SeqView<'a> {
-    ghost use Rattle.two_level.specs.SequenceView.{SequenceView};
-    ghost use Rattle.two_level.specs.DirectorySequence.{sequence_of};
+    ghost use Rattle.sequence_words.specs.SequenceView.{SequenceView};
+    ghost use Rattle.part_directory.specs.DirectorySequence.{sequence_of};
 
     ghost Value = { SequenceView };
 
@@ -265,7 +267,7 @@ impl<'a> SeqView<'a> {
         ensures { result ≡ greatest_step self.now.values from to }
     {
         if from < to {
-            self.directory.step_between(from, to)
+            step_between(&self.directory, from, to)
         } else {
             0
         }
@@ -294,7 +296,7 @@ impl<'a> SeqView<'a> {
         requires within { from ≤ length self.now.values }
         ensures { result ≡ place_at_least (steps_from 0 self.now.values) from least }
     {
-        self.directory.first_step_from(from, least)
+        first_step_from(&self.directory, from, least)
     }
 
     /// How far at least k of the values lie past the values before them, or farther: 0 where none is told. Parts whose steps are
@@ -303,6 +305,6 @@ impl<'a> SeqView<'a> {
         requires some { 1 ≤ k }
         ensures { result ≢ 0 → k ≤ count_reaching result (steps_from 0 self.now.values) }
     {
-        self.directory.common_step_of(k)
+        common_step_of(&self.directory, k)
     }
 }

@@ -5,7 +5,7 @@ use Rattle.pef_io.specs.declared.fail.IoFail.{IoFail}
 use Rattle.pef_io.specs.declared.fail.IoFail.TheVariants as call
 use Rattle.pef_io.specs.declared.fail.Slot.{Slot}
 use Rattle.pef_io.specs.declared.fail.Slot.TheVariants.{Index}
-use Rattle.two_level.specs.declared.check.Check.TheVariants.{K1}
+use Rattle.sequence_words.specs.declared.check.Check.TheVariants.{K1}
 use Rattle.index_file.specs.declared.builder.FinishError.{FinishError}
 use Rattle.index_file.specs.declared.builder.FinishError.TheVariants as making
 use Rattle.index_file.specs.declared.fault.OpenFault.{OpenFault}

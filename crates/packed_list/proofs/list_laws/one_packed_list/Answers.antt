@@ -1,5 +1,5 @@
 use Rattle.part_cost.specs.declared.formats.Format.TheVariants.{Three}
-use Rattle.two_level.proofs.EntryLaws.{entry-fits}
+use Rattle.sequence_words.proofs.EntryLaws.{entry-fits}
 use Rattle.packed_list.proofs.OneListBits.{one-packed-list}
 use Rattle.packed_list.proofs.SequenceWordsFit.{sequence-words-fit}
 use Rattle.packed_list.proofs.list_laws.one_packed_list.Goals as goal

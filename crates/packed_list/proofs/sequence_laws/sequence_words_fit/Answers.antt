@@ -1,4 +1,4 @@
-use Rattle.two_level.proofs.EntryLaws.{entry-fits}
+use Rattle.sequence_words.proofs.EntryLaws.{entry-fits}
 use Rattle.packed_list.proofs.SequenceWordsFit.{sequence-words-fit}
 use Rattle.packed_list.proofs.sequence_laws.sequence_words_fit.Goals as goal
 

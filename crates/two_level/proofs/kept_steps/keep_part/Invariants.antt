@@ -3,7 +3,7 @@ use Rattle.std.specs.Prelude.{slice_range}
 use Rattle.std.specs.List.Sorted.{IsStrictlyIncreasing}
 use Rattle.collection_model.specs.Sequences.{steps_from}
 use Rattle.part_cost.specs.Span.{past}
-use Rattle.two_level.specs.SequenceParts.{HoldsValues}
+use Rattle.part_directory.specs.HeldParts.{HoldsValues}
 use Rattle.two_level.specs.LongSteps.{count_reaching}
 use Rattle.two_level.proofs.kept_steps.keep_part.Given as goal
 

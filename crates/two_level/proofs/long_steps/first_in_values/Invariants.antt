@@ -1,7 +1,7 @@
 use Rattle.std.proofs.Common.{◌≡◌, ℕ, ◌-◌, ◌<◌, ◌≤◌, List, length, slice_index}
 use Rattle.std.specs.List.Sorted.{IsStrictlyIncreasing}
 use Rattle.part_cost.specs.Span.{past}
-use Rattle.two_level.specs.SequenceParts.{HoldsValues}
+use Rattle.part_directory.specs.HeldParts.{HoldsValues}
 use Rattle.two_level.specs.LongSteps.{IsFirstStep}
 use Rattle.two_level.proofs.long_steps.first_in_values.Given as goal
 

@@ -1,6 +1,6 @@
 use Rattle.std.proofs.Common.{◌≡◌, ℕ, ◌-◌, ◌<◌, ◌≤◌, List, length, slice_index}
 use Rattle.std.specs.List.Sorted.{IsStrictlyIncreasing}
-use Rattle.two_level.specs.SequenceParts.{HoldsValues}
+use Rattle.part_directory.specs.HeldParts.{HoldsValues}
 use Rattle.two_level.proofs.Steps.{StepsRead}
 use Rattle.two_level.proofs.stepping.step_of_values.Given as goal
 

@@ -3,7 +3,8 @@ use Rattle.std.specs.Prelude.{slice_index}
 use Rattle.collection_model.specs.Collection.{docs_of, list_of}
 use Rattle.collection_model.specs.Sequences.{freq_sequence}
 use Rattle.part_cost.specs.Span.{past}
-use Rattle.two_level.specs.SequenceView.{IsPartOf, start_of_part}
+use Rattle.two_level.specs.PartOf.{IsPartOf}
+use Rattle.two_level.specs.SequenceView.{start_of_part}
 use Rattle.two_level.specs.Steps.{greatest_step}
 use Rattle.index_file.specs.IndexView.{doc_ends_of}
 use Rattle.index_file.proofs.Blocks.{block-of-index, last-value}

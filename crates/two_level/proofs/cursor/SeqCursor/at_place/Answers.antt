@@ -1,7 +1,7 @@
 use Rattle.std.proofs.Common.{sym}
 use Rattle.part_cost.specs.Formats.{numbers_of}
-use Rattle.two_level.proofs.Standing.{place-here}
-use Rattle.two_level.specs.DirectorySequence.{words_of}
+use Rattle.part_directory.proofs.Standing.{place-here}
+use Rattle.part_directory.specs.DirectorySequence.{words_of}
 use Rattle.two_level.proofs.cursor.SeqCursor.at_place.Goals as goal
 
 pub returns-clause-place : goal.returns-clause-place

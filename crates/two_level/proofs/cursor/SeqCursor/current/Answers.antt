@@ -1,10 +1,10 @@
 use Rattle.std.proofs.Common.{◌<◌, ◌≡◌, List, ℕ, length, Some, subst, arith}
 use Rattle.std.specs.Prelude.{slice_index}
 use Rattle.part_cost.specs.Formats.{numbers_of}
-use Rattle.two_level.specs.DirectorySequence.{words_of}
-use Rattle.two_level.specs.SequenceView.{sequence_stated}
-use Rattle.two_level.specs.SequenceParts.{LiesIn, StandsBehind}
-use Rattle.two_level.proofs.Standing.{lies-there}
+use Rattle.part_directory.specs.DirectorySequence.{words_of}
+use Rattle.sequence_words.specs.SequenceView.{sequence_stated}
+use Rattle.part_directory.specs.HeldParts.{LiesIn, StandsBehind}
+use Rattle.part_directory.proofs.Standing.{lies-there}
 use Rattle.two_level.proofs.cursor.SeqCursor.current.Goals as goal
 
 pub returns-in-Some-clause-some : goal.returns-in-Some-clause-some

@@ -1,9 +1,9 @@
 use Rattle.std.proofs.Common.{List, ℕ, Some, refl, sym, subst}
 use Rattle.part_cost.specs.Formats.{numbers_of}
-use Rattle.two_level.specs.DirectorySequence.{words_of}
-use Rattle.two_level.specs.SequenceView.{sequence_stated}
-use Rattle.two_level.specs.SequenceParts.{LiesIn}
-use Rattle.two_level.proofs.Standing.{stands-here, place-here}
+use Rattle.part_directory.specs.DirectorySequence.{words_of}
+use Rattle.sequence_words.specs.SequenceView.{sequence_stated}
+use Rattle.part_directory.specs.HeldParts.{LiesIn}
+use Rattle.part_directory.proofs.Standing.{stands-here, place-here}
 use Rattle.two_level.proofs.cursor.SeqCursor.jump_to.Goals as goal
 
 pub invariant_of-self : goal.invariant_of-self

@@ -1,9 +1,9 @@
 use Rattle.std.proofs.Common.{subst}
 use Rattle.collection_model.specs.Marks.{AreKept}
 use Rattle.part_cost.specs.Formats.{numbers_of}
-use Rattle.two_level.specs.DirectorySequence.{words_of}
-use Rattle.two_level.specs.SequenceView.{sequence_stated}
-use Rattle.two_level.specs.SequenceParts.{LiesIn}
+use Rattle.part_directory.specs.DirectorySequence.{words_of}
+use Rattle.sequence_words.specs.SequenceView.{sequence_stated}
+use Rattle.part_directory.specs.HeldParts.{LiesIn}
 use Rattle.two_level.proofs.cursor.SeqCursor.keep_in_words.Goals as goal
 
 pub keep_in_words-requires : goal.keep_in_words-requires

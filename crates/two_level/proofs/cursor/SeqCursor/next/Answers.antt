@@ -2,12 +2,12 @@ use Rattle.std.proofs.Common.{◌≡◌, ◌+◌, ◌<◌, length, List, ℕ, So
 use Rattle.std.specs.Prelude.{slice_index}
 use Rattle.std.specs.List.Sorted.{IsStrictlyIncreasing}
 use Rattle.part_cost.specs.Formats.{numbers_of}
-use Rattle.two_level.specs.DirectorySequence.{words_of}
-use Rattle.two_level.specs.SequenceFault.{end_before}
-use Rattle.two_level.specs.SequenceView.{sequence_stated, place_at_least}
-use Rattle.two_level.specs.SequenceParts.{LiesIn, StandsBehind}
-use Rattle.two_level.proofs.Parts.{end-before-next}
-use Rattle.two_level.proofs.Standing.{stands-here, place-here, known-place, place-next, value-there}
+use Rattle.part_directory.specs.DirectorySequence.{words_of}
+use Rattle.sequence_words.specs.SequenceFault.{end_before}
+use Rattle.sequence_words.specs.SequenceView.{sequence_stated, place_at_least}
+use Rattle.part_directory.specs.HeldParts.{LiesIn, StandsBehind}
+use Rattle.sequence_words.proofs.StatedParts.{end-before-next}
+use Rattle.part_directory.proofs.Standing.{stands-here, place-here, known-place, place-next, value-there}
 use Rattle.two_level.proofs.cursor.SeqCursor.next.Goals as goal
 
 pub overflow_add-behind : goal.overflow_add-behind

@@ -1,12 +1,12 @@
 use Rattle.std.proofs.Common.{◌≡◌, ℕ, ◌+◌, ◌<◌, List, Some, sym, ◌∙◌, subst, arith}
 use Rattle.part_cost.specs.Formats.{numbers_of}
-use Rattle.two_level.specs.DirectorySequence.{words_of}
-use Rattle.two_level.specs.SequenceFault.{stated_last, stated_end, end_before}
-use Rattle.two_level.specs.SequenceView.{SequenceView, sequence_stated, place_at_least}
-use Rattle.two_level.specs.SequenceParts.{LiesIn, StandsBehind}
-use Rattle.two_level.proofs.Parts.{end-before-next}
-use Rattle.two_level.proofs.Places.{later-place, below-last}
-use Rattle.two_level.proofs.Standing.{lies-there, place-stays, sought-behind, sought-place}
+use Rattle.part_directory.specs.DirectorySequence.{words_of}
+use Rattle.sequence_words.specs.SequenceFault.{stated_last, stated_end, end_before}
+use Rattle.sequence_words.specs.SequenceView.{SequenceView, sequence_stated, place_at_least}
+use Rattle.part_directory.specs.HeldParts.{LiesIn, StandsBehind}
+use Rattle.sequence_words.proofs.StatedParts.{end-before-next}
+use Rattle.part_directory.proofs.Places.{later-place, below-last}
+use Rattle.part_directory.proofs.Standing.{lies-there, place-stays, sought-behind, sought-place}
 use Rattle.two_level.proofs.cursor.SeqCursor.next_geq.Goals as goal
 
 pub overflow_add-behind : goal.overflow_add-behind

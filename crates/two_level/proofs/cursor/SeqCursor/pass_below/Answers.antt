@@ -3,12 +3,12 @@ use Rattle.std.proofs.lemmas.List.{get_or-take, length-take-le}
 use Rattle.collection_model.specs.FormatNumbers.{FormatNumbers}
 use Rattle.collection_model.specs.NextBelow.{AreNextBelow}
 use Rattle.part_cost.specs.Formats.{numbers_of}
-use Rattle.two_level.specs.DirectorySequence.{words_of}
-use Rattle.two_level.specs.declared.held.HeldPart.{HeldPart}
-use Rattle.two_level.specs.SequenceParts.{HoldsValues, LiesIn, StandsBehind}
-use Rattle.two_level.specs.SequenceView.{sequence_stated, place_at_least}
-use Rattle.two_level.proofs.Blocks.{some-of-part, up-to}
-use Rattle.two_level.proofs.Standing.{lies-there, stands-here, place-here}
+use Rattle.part_directory.specs.DirectorySequence.{words_of}
+use Rattle.part_directory.specs.declared.held.HeldPart.{HeldPart}
+use Rattle.part_directory.specs.HeldParts.{HoldsValues, LiesIn, StandsBehind}
+use Rattle.sequence_words.specs.SequenceView.{sequence_stated, place_at_least}
+use Rattle.two_level.proofs.ValuesGiven.{some-of-part, up-to}
+use Rattle.part_directory.proofs.Standing.{lies-there, stands-here, place-here}
 use Rattle.two_level.proofs.cursor.SeqCursor.pass_below.Goals as goal
 
 -- some values are given of the part that is held, and the last of them is one of its values

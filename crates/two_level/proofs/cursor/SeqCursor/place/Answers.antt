@@ -1,10 +1,10 @@
 use Rattle.std.proofs.Common.{◌≡◌, ◌+◌, List, ℕ, subst, arith}
 use Rattle.part_cost.specs.Formats.{numbers_of}
-use Rattle.two_level.specs.DirectorySequence.{words_of}
-use Rattle.two_level.specs.SequenceFault.{stated_last}
-use Rattle.two_level.specs.SequenceView.{SequenceView, sequence_stated}
-use Rattle.two_level.specs.SequenceParts.{LiesIn, StandsBehind}
-use Rattle.two_level.proofs.Places.{found-first, below-last}
+use Rattle.part_directory.specs.DirectorySequence.{words_of}
+use Rattle.sequence_words.specs.SequenceFault.{stated_last}
+use Rattle.sequence_words.specs.SequenceView.{SequenceView, sequence_stated}
+use Rattle.part_directory.specs.HeldParts.{LiesIn, StandsBehind}
+use Rattle.part_directory.proofs.Places.{found-first, below-last}
 use Rattle.two_level.proofs.cursor.SeqCursor.place.Goals as goal
 
 pub place_from-requires-clause-reached : goal.place_from-requires-clause-reached

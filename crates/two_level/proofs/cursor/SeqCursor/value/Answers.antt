@@ -1,8 +1,8 @@
 use Rattle.std.proofs.Common.{◌<◌, ◌≡◌, length, sym, subst}
 use Rattle.std.specs.Prelude.{slice_index}
 use Rattle.part_cost.specs.Formats.{numbers_of}
-use Rattle.two_level.proofs.Standing.{value-there}
-use Rattle.two_level.specs.DirectorySequence.{words_of}
+use Rattle.part_directory.proofs.Standing.{value-there}
+use Rattle.part_directory.specs.DirectorySequence.{words_of}
 use Rattle.two_level.proofs.cursor.SeqCursor.value.Goals as goal
 
 pub returns : goal.returns

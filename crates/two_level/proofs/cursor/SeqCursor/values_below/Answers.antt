@@ -3,10 +3,10 @@ use Rattle.std.proofs.lemmas.List.{length-drop, length-take-le}
 use Rattle.std.proofs.lemmas.Slice.{take-put_mid}
 use Rattle.part_cost.specs.Formats.{numbers_of}
 use Rattle.collection_model.proofs.NextBelow.{AreGiven, given-none}
-use Rattle.two_level.proofs.Blocks.{given-behind, of-part}
-use Rattle.two_level.proofs.Parts.{lies-within}
-use Rattle.two_level.proofs.Standing.{lies-there}
-use Rattle.two_level.specs.DirectorySequence.{words_of}
+use Rattle.two_level.proofs.ValuesGiven.{given-behind, of-part}
+use Rattle.part_directory.proofs.HeldParts.{lies-within}
+use Rattle.part_directory.proofs.Standing.{lies-there}
+use Rattle.part_directory.specs.DirectorySequence.{words_of}
 use Rattle.two_level.proofs.cursor.SeqCursor.values_below.Goals as goal
 
 pub overflow_sub-self-inside : goal.overflow_sub-self-inside

@@ -4,11 +4,11 @@ use Rattle.std.proofs.lemmas.Result.{IfErr-at_err}
 use Rattle.std.proofs.lemmas.List.{get_or_default}
 use Rattle.collection_model.specs.FormatNumbers.{FormatNumbers}
 use Rattle.part_cost.specs.Formats.{numbers_of}
-use Rattle.two_level.specs.declared.checking.SeqFault.{SeqFault}
-use Rattle.two_level.specs.SequenceWords.{BeginsSequence}
-use Rattle.two_level.specs.SequenceFault.{word_behind, PassChecks, IsSequenceFault}
-use Rattle.two_level.specs.SequenceView.{sequence_stated, words_used}
-use Rattle.two_level.specs.Laws.{ChecksAcceptASequence, WordsState}
+use Rattle.sequence_words.specs.declared.checking.SeqFault.{SeqFault}
+use Rattle.sequence_words.specs.SequenceWords.{BeginsSequence}
+use Rattle.sequence_words.specs.SequenceFault.{word_behind, PassChecks, IsSequenceFault}
+use Rattle.sequence_words.specs.SequenceView.{sequence_stated, words_used}
+use Rattle.sequence_words.specs.Laws.{ChecksAcceptASequence, WordsState}
 use Rattle.two_level.proofs.view.SeqView.check_sequence.Goals as goal
 
 -- words are below 2^64

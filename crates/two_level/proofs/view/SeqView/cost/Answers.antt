@@ -2,7 +2,7 @@ use Rattle.std.proofs.Common.{◌≡◌, sym, ◌∙◌, subst}
 use Rattle.collection_model.specs.FormatNumbers.{part_charge}
 use Rattle.part_cost.specs.Span.{cost_of_part}
 use Rattle.part_cost.specs.Partition.{partition_cost}
-use Rattle.two_level.specs.SequenceView.{sequence_stated}
+use Rattle.sequence_words.specs.SequenceView.{sequence_stated}
 use Rattle.two_level.proofs.view.SeqView.cost.Goals as goal
 
 pub returns : goal.returns

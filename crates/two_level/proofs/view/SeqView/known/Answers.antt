@@ -1,8 +1,8 @@
 use Rattle.std.proofs.Common.{◌≡◌, ℕ, List, sym, ◌∙◌, subst}
 use Rattle.collection_model.specs.FormatNumbers.{FormatNumbers}
 use Rattle.part_cost.specs.Formats.{numbers_of}
-use Rattle.two_level.specs.SequenceView.{SequenceView, BeginWith, sequence_stated}
-use Rattle.two_level.specs.Laws.{WordsState}
+use Rattle.sequence_words.specs.SequenceView.{SequenceView, BeginWith, sequence_stated}
+use Rattle.sequence_words.specs.Laws.{WordsState}
 use Rattle.two_level.proofs.view.SeqView.known.Goals as goal
 
 -- words that begin with a sequence of the format state it

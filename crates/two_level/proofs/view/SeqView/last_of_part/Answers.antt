@@ -1,7 +1,7 @@
 use Rattle.std.proofs.Common.{◌<◌, length, sym, subst, arith}
 use Rattle.part_cost.specs.Formats.{numbers_of}
-use Rattle.two_level.proofs.Parts.{count-ends}
-use Rattle.two_level.specs.DirectorySequence.{words_of}
+use Rattle.sequence_words.proofs.StatedParts.{count-ends}
+use Rattle.part_directory.specs.DirectorySequence.{words_of}
 use Rattle.two_level.proofs.view.SeqView.last_of_part.Goals as goal
 
 pub last_of_part-requires : goal.last_of_part-requires

@@ -1,7 +1,7 @@
 use Rattle.std.proofs.Common.{◌≡◌, length, sym, subst}
 use Rattle.part_cost.specs.Formats.{numbers_of}
-use Rattle.two_level.proofs.Parts.{count-ends}
-use Rattle.two_level.specs.DirectorySequence.{words_of}
+use Rattle.sequence_words.proofs.StatedParts.{count-ends}
+use Rattle.part_directory.specs.DirectorySequence.{words_of}
 use Rattle.two_level.proofs.view.SeqView.parts.Goals as goal
 
 pub returns : goal.returns

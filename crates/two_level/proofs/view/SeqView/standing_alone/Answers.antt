@@ -1,8 +1,8 @@
 use Rattle.std.proofs.Common.{ℕ, ◌+◌, List, [], ◌∷◌, ap, ◌∙◌}
 use Rattle.bit_words.specs.Bits.{bits_of}
 use Rattle.part_cost.specs.Formats.{numbers_of}
-use Rattle.two_level.specs.declared.alone.Alone.{Alone}
-use Rattle.two_level.proofs.Begun.{one-value, more-values}
+use Rattle.part_directory.specs.declared.alone.Alone.{Alone}
+use Rattle.part_directory.proofs.Begun.{one-value, more-values}
 use Rattle.two_level.proofs.view.SeqView.standing_alone.Goals as goal
 
 pub returns-clause-one : goal.returns-clause-one

@@ -1,5 +1,5 @@
 use Rattle.std.proofs.Common.{◌≡◌, arith, subst}
-use Rattle.two_level.specs.SequenceView.{words_used}
+use Rattle.sequence_words.specs.SequenceView.{words_used}
 use Rattle.two_level.proofs.view.SeqView.used.Goals as goal
 
 pub returns : goal.returns

@@ -1,0 +1,7 @@
+pub mod HeldParts
+pub mod Places
+pub mod Standing
+pub mod Begun
+mod Probes
+mod Blocks
+mod Kept

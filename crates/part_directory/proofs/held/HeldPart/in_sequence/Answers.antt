@@ -1,0 +1,42 @@
+use Rattle.std.proofs.Common.{◌+◌, ◌-◌, ◌<◌, arith, refl}
+use Rattle.part_directory.proofs.HeldParts.{first-here, value-here, relative-count}
+use Rattle.part_directory.proofs.held.HeldPart.in_sequence.Goals as goal
+
+pub overflow_add-result : goal.overflow_add-result
+overflow_add-result c =
+    let h = c.requires.found.1 in
+    let s = c.requires.found.2.2 in
+    omega (arith, s.before, s.first.within, relative-count c.args.self.now c.requires.found.0 h, h.within, h.few)
+
+pub overflow_add-result-2 : goal.overflow_add-result-2
+overflow_add-result-2 c =
+    let held = c.args.self.now in
+    let h = c.requires.found.1 in
+    let s = c.requires.found.2.2 in
+    let lt : held.part.from + c.args.sought.place < held.part.to = omega (arith, s.before, s.first.within, relative-count held c.requires.found.0 h) in
+    omega (arith, h.restored c.args.sought.place lt, s.there, h.in_range (held.part.from + c.args.sought.place) 0 (omega (arith, lt, h.within)))
+
+pub overflow_add-result-3 : goal.overflow_add-result-3
+overflow_add-result-3 c =
+    let held = c.args.self.now in
+    let h = c.requires.found.1 in
+    let s = c.requires.found.2.2 in
+    let lt : held.part.from + s.own < held.part.to = omega (arith, s.first.within, relative-count held c.requires.found.0 h) in
+    omega (arith, h.restored s.own lt, s.number, h.in_range (held.part.from + s.own) 0 (omega (arith, lt, h.within)))
+
+pub returns : goal.returns
+returns c xs h place x reached s =
+    let held = c.args.self.now in
+    let few = relative-count held xs h in
+    let before : held.part.from + s.own < held.part.to = omega (arith, s.first.within, few) in
+    let known = h.restored c.args.sought.place (omega (arith, s.before, before)) in (
+      record {
+        own = held.part.from + s.own;
+        first = first-here held xs h place x (x - held.past) s.own reached refl s.first;
+        number = value-here held xs h _ _ s.own c.args.sought.number s.first s.number;
+        after = omega (arith, s.after, reached);
+        before = omega (arith, s.before);
+        there = omega (arith, s.there, known);
+      },
+      before,
+    )

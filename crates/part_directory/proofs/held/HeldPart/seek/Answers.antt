@@ -1,0 +1,34 @@
+use Rattle.std.proofs.Common.{◌≡◌, ℕ, ◌-◌, List, ap, arith}
+use Rattle.std.specs.Prelude.{slice_index}
+use Rattle.part_codec.proofs.Relative.{one_list-held}
+use Rattle.part_directory.proofs.HeldParts.{number-here}
+use Rattle.sequence_words.specs.SequenceParts.{counted_from}
+use Rattle.part_directory.proofs.held.HeldPart.seek.Goals as goal
+
+pub overflow_sub-value : goal.overflow_sub-value
+overflow_sub-value c =
+    let h = c.requires.values in
+    omega (arith, h.2, number-here c.args.self.now h.0 h.1 c.args.place c.requires.after c.requires.before)
+
+pub seek-sought-requires-clause-number : goal.seek-sought-requires-clause-number
+seek-sought-requires-clause-number c ys numbers =
+    let held = c.args.self.now in
+    let h = c.requires.values in
+    let relative : List ℕ = counted_from held.past h.0 held.part.from held.part.to in
+    let same : slice_index ys (c.args.place - held.part.from) ≡ slice_index relative (c.args.place - held.part.from) =
+    ap (λ zs. slice_index zs (c.args.place - held.part.from)) (one_list-held held.view ys relative numbers h.1.numbers) in
+    omega (arith, same, h.2, number-here held h.0 h.1 c.args.place c.requires.after c.requires.before)
+
+pub overflow_sub-x : goal.overflow_sub-x
+overflow_sub-x c =
+    let h = c.requires.values in
+    omega (arith, h.2, c.requires.below, number-here c.args.self.now h.0 h.1 c.args.place c.requires.after c.requires.before)
+
+pub in_sequence-requires : goal.in_sequence-requires
+in_sequence-requires c =
+    let held = c.args.self.now in
+    let h = c.requires.values in
+    record { found = (h.0, h.1, (c.args.place - held.part.from, c.args.x - held.past, c.seek-sought.ensures _ h.1.numbers)) }
+
+pub returns : goal.returns
+returns c xs h is = c.in_sequence.ensures xs h c.args.place c.args.x c.requires.after (c.seek-sought.ensures _ h.numbers)

@@ -1,0 +1,4 @@
+pub mod Alone
+pub mod PartOf
+pub mod HeldParts
+pub mod DirectorySequence

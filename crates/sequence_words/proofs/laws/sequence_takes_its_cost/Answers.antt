@@ -1,0 +1,15 @@
+use Rattle.part_cost.specs.Formats.{numbers_of}
+use Rattle.sequence_words.proofs.Lengths.{takes-its-cost}
+use Rattle.sequence_words.proofs.laws.sequence_takes_its_cost.Goals as goal
+
+pub returns : goal.returns
+returns c format =
+    takes-its-cost (numbers_of format) (c.formats_have_room.ensures format)
+    (record {
+      bits = c.part_takes_its_payload.ensures.bits;
+      takes = c.part_takes_its_payload.ensures.payload;
+      room = c.part_is_relative.ensures.room;
+      within = c.part_is_relative.ensures.within;
+      relative = c.part_is_relative.ensures.relative;
+      short = c.parts_are_short.ensures.all;
+    })

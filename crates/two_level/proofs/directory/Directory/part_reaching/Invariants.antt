@@ -1,4 +1,0 @@
-use Rattle.two_level.proofs.directory.Directory.part_reaching.Given as goal
-
-abbrev pub ghosts-galloped : goal.ghosts-galloped
-ghosts-galloped a = record { name = a.blank.name; parts = a.blank.parts }

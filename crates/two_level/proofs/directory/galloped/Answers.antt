@@ -1,8 +1,0 @@
-use Rattle.std.proofs.Common.{arith}
-use Rattle.part_cost.specs.Formats.{numbers_of}
-use Rattle.two_level.proofs.Probes.{count-lasts}
-use Rattle.two_level.specs.DirectorySequence.{words_of}
-use Rattle.two_level.proofs.directory.galloped.Goals as goal
-
-pub gallop-requires : goal.gallop-requires
-gallop-requires g c = omega (arith, c.requires.within, count-lasts (numbers_of c.args.directory.now.format) (words_of c.args.directory.now) c.args.directory.now.parts)

@@ -1,7 +1,0 @@
-// One part that stands at a place of lent words with no entry: the place of its first bit, and its
-// last value.
-#[derive(Clone, Copy)]
-pub(crate) struct Alone {
-    pub(crate) place: u64,
-    pub(crate) last: u64,
-}
