@@ -1,16 +1,17 @@
-use Rattle.std.proofs.Common.{ℕ, ◌+◌, ◌-◌, ◌*◌, ◌/◌, ◌^◌, ◌<◌, ◌≤◌, List, ◌++◌, length, get_or, sym, ap, ◌∙◌, subst, arith}
+use Rattle.std.proofs.Common.{◌≡◌, ℕ, ◌+◌, ◌-◌, ◌*◌, ◌/◌, ◌^◌, ◌<◌, ◌≤◌, List, ◌++◌, length, get_or, sym, ap, ◌∙◌, subst, arith}
 use Rattle.std.specs.List.{range_with_len}
 use Rattle.std.proofs.lemmas.List.Elements.{All-append}
 use Rattle.bit_words.specs.Bits.{AreBits, bits_of}
 use Rattle.bit_words.proofs.Value.{length-bits_of}
 use Rattle.bit_words.proofs.AllBits.{bits-test, bits-fields}
-use Rattle.part_cost.specs.Payload.{digits, ef_spacing, low_width_of}
+use Rattle.part_cost.specs.Payload.{digits, widest_low, ef_spacing, ef_payload, low_width_of}
+use Rattle.part_cost.specs.Span.{AreRelative}
 use Rattle.part_cost.specs.Laws.{LowWidthIsBest, DigitsHold}
 use Rattle.elias_fano.specs.declared.EfView.{EfView}
-use Rattle.elias_fano.specs.EfBits.{high_place, high_bits, low_fields, ef_samples}
+use Rattle.elias_fano.specs.EfBits.{high_place, high_bits, low_fields, ef_samples, ef_bits}
 use Rattle.elias_fano.specs.EfPlaces.{ef_length}
 use Rattle.elias_fano.specs.EfView.{Holds, IsWithin}
-use Rattle.elias_fano.specs.Laws.{PartIsBits, TakesItsPayload, PlacesFit}
+use Rattle.elias_fano.specs.Laws.{PlacesFit}
 use Rattle.elias_fano.proofs.HighBits.{has_one}
 use Rattle.elias_fano.proofs.Rising.{place-within, relative-fit}
 use Rattle.elias_fano.proofs.Reading.{IsRead, low_parts, sampled_places, low_fields-are, samples-are, pieces, part-is, length-part}
@@ -27,10 +28,10 @@ bits-pieces q l u ys =
     (subst (λ xs. AreBits xs) (low_fields-are l ys) (bits-fields l (low_parts l ys))))
     (subst (λ xs. AreBits xs) (samples-are q l ys) (bits-fields (digits (3 * length ys)) (sampled_places q l ys)))
 
-pub part-is-bits : PartIsBits
+pub part-is-bits : (q u : ℕ) (ys : List ℕ) → AreBits (ef_bits q ys u)
 part-is-bits q u ys = subst (λ xs. AreBits xs) (sym (part-is q u ys)) (bits-pieces q (low_width_of u (length ys)) u ys)
 
-pub takes-its-payload : LowWidthIsBest → TakesItsPayload
+pub takes-its-payload : LowWidthIsBest → (u m : ℕ) (ys : List ℕ) → u ≤ 2 ^ widest_low → AreRelative u m ys → length (ef_bits ef_spacing ys u) ≡ ef_payload u m
 unfolding ef_length
 takes-its-payload best u m ys fit h =
     length-part ef_spacing u ys ∙ ap (λ n. ef_length ef_spacing u n) h.count

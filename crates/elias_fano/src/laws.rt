@@ -1,17 +1,11 @@
-ghost use Rattle.elias_fano.specs.Laws.{OneList, PartIsBits, TakesItsLength, TakesItsPayload, PlacesFit};
+ghost use Rattle.elias_fano.specs.Laws.{EfLaws, PlacesFit};
 
 use part_cost::{digits_hold, low_width_is_best};
 
-/// All that a view answers speaks of one list.
-pub fn one_list()
-    ensures { OneList }
-{}
-
-/// How many bits a part takes, at any spacing of its samples and at that of the format, where it is what the part costs.
-pub fn part_takes_its_payload()
-    ensures bits { PartIsBits }
-    ensures length { TakesItsLength }
-    ensures payload { TakesItsPayload }
+/// All that a view answers speaks of one list, and a part takes so many bits, at any spacing of its samples and at that of the
+/// format, where it is what the part costs.
+pub fn ef_obeys_laws()
+    ensures { EfLaws }
 {
     low_width_is_best();
 }

@@ -2,10 +2,11 @@
 use Rattle.std.proofs.Common.{◌≡◌, refl, sym, ap, ◌∙◌, ℕ, suc, ◌+◌, ◌<◌, List, [], ◌∷◌, ◌++◌, length, get_or, take, inl, inr, arith}
 use Rattle.std.specs.Prelude.{Some, None, option_map, unwrap_or, slice_get, slice_index}
 use Rattle.std.proofs.Math.Seq.{take-suc}
-use Rattle.std.proofs.lemmas.List.{length-map, length_push, take_all}
-use Rattle.std.proofs.lemmas.Option.{slice_get-map, slice_get_within, slice_get-get_or, none-some}
+use Rattle.std.proofs.lemmas.List.{length_push, take_all}
+use Rattle.std.proofs.lemmas.Option.{slice_get-map, slice_get-get_or, none-some}
 use Rattle.std.proofs.lemmas.Bool.{cases_lt}
-use Rattle.collection_model.specs.Collection.{Posting, postings_of, docs_of, freqs_of}
+use Rattle.collection_model.specs.Collection.{Posting, postings_of, freqs_of}
+use Rattle.cursor_api.proofs.FirstPosting.{doc-within}
 
 -- ---- a list that a cursor reads
 
@@ -23,10 +24,6 @@ postings-push (x ∷ docs) (y ∷ freqs) d f same = ap (λ l. record { doc = x; 
 
 abbrev no_posting : Posting
 no_posting = record { doc = 0; freq = 0 }
-
-pub doc-within : (list : List Posting) (place doc : ℕ) → option_map (λ p. p.doc) (slice_get list place) ≡ Some doc → place < length list
-doc-within list place doc e =
-    omega (arith, slice_get_within (docs_of list) place doc (slice_get-map (λ p. p.doc) list place ∙ e), length-map list (λ p. p.doc))
 
 -- at the start nothing is read, and a posting more at each place
 pub reading-begins : (list : List Posting) (place : ℕ) (docs freqs : List ℕ) → place ≡ 0 → docs ≡ [] → freqs ≡ [] → AreRead list place docs freqs

@@ -4,7 +4,7 @@ use Rattle.std.specs.declared.alloc.Global.{Global}
 use Rattle.std.specs.List.{All, slice_get}
 use Rattle.std.proofs.lemmas.List.{length-map}
 use Rattle.std.proofs.lemmas.List.Elements.{All-weaker}
-use Rattle.std.proofs.lemmas.Option.{slice_get-map, slice_get_within, none-some}
+use Rattle.std.proofs.lemmas.Option.{slice_get-map, none-some}
 use Rattle.collection_model.specs.FormatNumbers.{FormatNumbers}
 use Rattle.collection_model.specs.Collection.{Posting, Collection, WellFormed, IsPostingList, docs_of, freqs_of, list_of, first_at_least}
 use Rattle.cursor_api.specs.NextGeq.{next_geq_place}
@@ -56,10 +56,6 @@ none-mapped (Some p) e = absurd (none-some p.doc (sym e))
 some-mapped : (o : Option Posting) (doc freq : ℕ) → option_map (λ p. p.doc) o ≡ Some doc → option_map (λ p. p.freq) o ≡ Some freq → option_map pair_of o ≡ Some (doc, freq)
 some-mapped None doc freq d f = absurd (none-some doc d)
 some-mapped (Some p) doc freq d f = cc
-
-pub some-within : (list : List Posting) (place doc : ℕ) → option_map (λ p. p.doc) (slice_get list place) ≡ Some doc → place < length list
-some-within list place doc e =
-    omega (arith, slice_get_within (docs_of list) place doc (slice_get-map (λ p. p.doc) list place ∙ e), length-map list (λ p. p.doc))
 
 pub none-found : (old new : List Posting) (start place d : ℕ) → start ≡ 0 → new ≡ old → place ≡ next_geq_place old start d →
     option_map (λ p. p.doc) (slice_get new place) ≡ None → option_map pair_of (first_at_least old d) ≡ None

@@ -4,9 +4,10 @@ use Rattle.std.specs.Prelude.{min, set, Some, option_map, unwrap_or, None}
 use Rattle.std.specs.List.{slice_get}
 use Rattle.std.proofs.Math.Seq.{take-suc}
 use Rattle.std.proofs.lemmas.List.{take_all, drop_all, drop_more, set_at, map-set, length-take-le, length-drop, length-map, get_or-drop}
-use Rattle.std.proofs.lemmas.Option.{slice_get-map, slice_get_within, slice_get-get_or, none-some}
+use Rattle.std.proofs.lemmas.Option.{slice_get-map, slice_get-get_or, none-some}
 use Rattle.std.proofs.lemmas.Bool.{cases_lt}
 use Rattle.collection_model.specs.Collection as model
+use Rattle.cursor_api.proofs.FirstPosting.{doc-within}
 use Rattle.pefidx_c.specs.declared.asking.Posting.{Posting}
 use Rattle.pefidx_c.specs.declared.ranking.Scored.{Scored}
 use Rattle.pefidx_c.specs.Rooms.{put_in, posting_of, pair_of}
@@ -49,8 +50,7 @@ best-more room now next found n m d on in_room in_found so put =
 posting-at : (list : List model.Posting) (place n doc freq : ℕ) (d : model.Posting) → option_map (λ p. p.doc) (slice_get list (place + n)) ≡ Some doc
     → slice_get (model.freqs_of list) (place + n) ≡ Some freq → get_or (drop place list) n d ≡ record { doc = doc; freq = freq }
 posting-at list place n doc freq d doc_is freq_is =
-    let within : place + n < length list =
-    omega (arith, slice_get_within (model.docs_of list) (place + n) doc (slice_get-map (λ p. p.doc) list (place + n) ∙ doc_is), length-map list (λ p. p.doc)) in
+    let within : place + n < length list = doc-within list (place + n) doc doc_is in
     let here : model.Posting = get_or list (place + n) d in
     let at : slice_get list (place + n) ≡ Some here = slice_get-get_or list (place + n) d within in
     let is_doc : Some here.doc ≡ Some doc = ap (option_map (λ p. p.doc)) (sym at) ∙ doc_is in
@@ -58,10 +58,6 @@ posting-at list place n doc freq d doc_is freq_is =
     let doc_same : here.doc ≡ doc = ap (λ o. unwrap_or o here.doc) is_doc in
     let freq_same : here.freq ≡ freq = ap (λ o. unwrap_or o here.freq) is_freq in
     get_or-drop place list n d ∙ (λ i. record { doc = doc_same i; freq = freq_same i })
-
-doc-within : (list : List model.Posting) (place doc : ℕ) → option_map (λ p. p.doc) (slice_get list place) ≡ Some doc → place < length list
-doc-within list place doc e =
-    omega (arith, slice_get_within (model.docs_of list) place doc (slice_get-map (λ p. p.doc) list place ∙ e), length-map list (λ p. p.doc))
 
 -- a posting more
 pub posting-more : (room now next : List Posting) (list : List model.Posting) (start place n m doc freq : ℕ) → m ≡ n + 1 → n < length room → place ≡ start + n

@@ -1,10 +1,9 @@
 -- A view holds one list: what it holds is what its words say, place by place.
-use Rattle.std.proofs.Common.{ℕ, List, arith}
+use Rattle.std.proofs.Common.{◌≡◌, ℕ, List, arith}
 use Rattle.bit_words.specs.Bits.{bits_of}
 use Rattle.bit_words.proofs.Value.{bits-bits_of, length-bits_of}
 use Rattle.ranked_bitmap.specs.declared.MapView.{MapView}
 use Rattle.ranked_bitmap.specs.MapView.{Holds}
-use Rattle.ranked_bitmap.specs.Laws.{OneList}
 use Rattle.ranked_bitmap.proofs.Reading.{IsRead, read-held, held-read, one_list-read}
 
 -- what a view holds is read from its words
@@ -14,6 +13,6 @@ view-read q v ys h = read-held (bits_of v.part.bits.words.now) v.part.place v.pa
 pub read-view : (q : ℕ) (v : MapView q) (ys : List ℕ) → IsRead (bits_of v.part.bits.words.now) v.part.place v.part.u v.part.m q ys → Holds q v ys
 read-view q v ys h = held-read (bits_of v.part.bits.words.now) v.part.place v.part.u v.part.m q ys (bits-bits_of v.part.bits.words.now) v.spacing h
 
-pub one-list : OneList
+pub one-list : (q : ℕ) (v : MapView q) (xs ys : List ℕ) → Holds q v xs → Holds q v ys → xs ≡ ys
 one-list q v xs ys h g =
     one_list-read (bits_of v.part.bits.words.now) v.part.place v.part.u v.part.m q xs ys (bits-bits_of v.part.bits.words.now) (view-read q v xs h) (view-read q v ys g)

@@ -17,7 +17,6 @@ use Rattle.part_cost.specs.Span.{AreRelative}
 use Rattle.part_cost.specs.Stored.{HoldsPart, IsFirstAtLeast}
 use Rattle.part_cost.specs.Laws.{DigitsHold}
 use Rattle.ranked_bitmap.specs.MapBits.{marks, map_samples, map_bits}
-use Rattle.ranked_bitmap.specs.Laws.{TakesItsPayload}
 use Rattle.ranked_bitmap.specs.MapPlaces.{map_length, sample_at, AreSampled}
 use Rattle.ranked_bitmap.proofs.Ones.{AreOnes, AreBelow, sum-suc, one_count, below-number, below-next, set-within, count-below, count-all, places_of, all-ones, one_list_of}
 use Rattle.ranked_bitmap.proofs.Marks.{length-marks, marks-are-ones, ones-are-marks}
@@ -59,7 +58,7 @@ pub length-part : (q u : ℕ) (ys : List ℕ) → length (map_bits q ys u) ≡ m
 length-part q u ys = ap length (part-is q u ys) ∙ length-pieces q u ys
 
 -- at the spacing of the format, as many as the part costs
-pub takes-its-payload : TakesItsPayload
+pub takes-its-payload : (u m : ℕ) (ys : List ℕ) → AreRelative u m ys → length (map_bits bitmap_spacing ys u) ≡ bitmap_payload u m
 unfolding bitmap_payload
 takes-its-payload u m ys h = length-part bitmap_spacing u ys ∙ ap (λ n. map_length bitmap_spacing u n) h.count
 

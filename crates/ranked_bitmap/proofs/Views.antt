@@ -10,10 +10,9 @@ use Rattle.part_cost.specs.Payload.{digits}
 use Rattle.part_cost.specs.Stored.{IsFirstAtLeast}
 use Rattle.part_cost.specs.Laws.{DigitsHold}
 use Rattle.ranked_bitmap.specs.declared.MapView.{MapView}
-use Rattle.ranked_bitmap.specs.MapBits.{marks, map_samples}
+use Rattle.ranked_bitmap.specs.MapBits.{marks, map_samples, map_bits}
 use Rattle.ranked_bitmap.specs.MapPlaces.{AreSampled}
 use Rattle.ranked_bitmap.specs.MapView.{Holds, IsWithin}
-use Rattle.ranked_bitmap.specs.Laws.{PartIsBits}
 use Rattle.ranked_bitmap.proofs.Marks.{bits-marks}
 use Rattle.ranked_bitmap.proofs.OneList.{view-read, read-view}
 use Rattle.ranked_bitmap.proofs.Reading.{counts, samples-are, part-is, below-universe, first-number, some-number, ones-on, ones-absent, count-next, count-number, next-is, here-is, read-checked, counted-all, last-set, samples-read}
@@ -23,7 +22,7 @@ pub within-held : (q : ℕ) (v : MapView q) (ys : List ℕ) → Holds q v ys →
 within-held q v ys h = omega (arith, (view-read q v ys h).room, length-bits_of v.part.bits.words.now)
 
 -- all pieces are bits
-pub part-is-bits : PartIsBits
+pub part-is-bits : (q u : ℕ) (ys : List ℕ) → AreBits (map_bits q ys u)
 part-is-bits q u ys =
     subst (λ xs. AreBits xs) (sym (part-is q u ys))
     (All-append (λ b. b < 2) (marks ys u) (map_samples q ys u) (bits-marks ys u)

@@ -1,13 +1,7 @@
-ghost use Rattle.ranked_bitmap.specs.Laws.{OneList, PartIsBits, TakesItsLength, TakesItsPayload};
+ghost use Rattle.ranked_bitmap.specs.Laws.{MapLaws};
 
-/// All that a view answers speaks of one list.
-pub fn one_list()
-    ensures { OneList }
-{}
-
-/// How many bits a part takes, at any spacing of its samples and at that of the format, where it is what the part costs.
-pub fn part_takes_its_payload()
-    ensures bits { PartIsBits }
-    ensures length { TakesItsLength }
-    ensures payload { TakesItsPayload }
+/// All that a view answers speaks of one list, and a part takes so many bits, at any spacing of its samples and at that of the
+/// format, where it is what the part costs.
+pub fn map_obeys_laws()
+    ensures { MapLaws }
 {}

@@ -5,7 +5,7 @@ use crate::relative::is_relative;
 use bit_words::{BitWriter, Bits};
 use no_memory::NoMemory;
 use part_cost::PlacedPart;
-use ranked_bitmap::{MapView, map_write, part_takes_its_payload};
+use ranked_bitmap::{MapView, map_obeys_laws, map_write};
 use std::alloc::{AllocError, Global};
 use std::test::Fail;
 
@@ -138,7 +138,7 @@ fn refuses_other_bits(rt: HostRuntime) {
 
 // The words of a list, None where it is none of a part of so many places.
 fn written(alloc: Global, values: &[u64], u: u64) -> Result<Option<Vec<u64>>, NoMemory> {
-    part_takes_its_payload();
+    map_obeys_laws();
     if !is_relative(values, u) || u > 2000 {
         return Ok(None);
     }

@@ -1,5 +1,6 @@
 use Rattle.std.proofs.Common.{sym, ◌∙◌}
-use Rattle.line_replies.proofs.CursorLists.{none-found, found, some-within}
+use Rattle.cursor_api.proofs.FirstPosting.{doc-within}
+use Rattle.line_replies.proofs.CursorLists.{none-found, found}
 use Rattle.line_replies.proofs.reply.first_posting.Goals as goal
 
 pub returns-in_err-found : goal.returns-in_err-found
@@ -9,7 +10,7 @@ returns-in_err-found g c =
     c.requires c.next_geq.ensures.list c.next_geq.ensures.place (sym c.doc.ensures ∙ c.in_err-found.was))
 
 pub freq-requires : goal.freq-requires
-freq-requires g c = some-within (g.C.DocCursor.list c.next_geq.new.self) (g.C.DocCursor.place c.next_geq.new.self) c.in_ok-found.found (sym c.doc.ensures ∙ c.in_ok-found.was)
+freq-requires g c = doc-within (g.C.DocCursor.list c.next_geq.new.self) (g.C.DocCursor.place c.next_geq.new.self) c.in_ok-found.found (sym c.doc.ensures ∙ c.in_ok-found.was)
 
 pub returns : goal.returns
 returns g c =
