@@ -1,0 +1,52 @@
+# Completion of pefidx for bash: source this file, or put it into the folder
+# of bash-completion as `pefidx`.
+
+_pefidx() {
+    local word=${COMP_WORDS[COMP_CWORD]} verb=${COMP_WORDS[1]}
+    local previous=${COMP_WORDS[COMP_CWORD - 1]} place=$((COMP_CWORD - 1))
+    COMPREPLY=()
+    if ((COMP_CWORD == 1)); then
+        COMPREPLY=($(compgen -W 'build query answer inspect audit migrate
+            blocks bquery segments remap generate' -- "$word"))
+        return
+    fi
+    # Options and their values; place 1 is the word behind the verb.
+    case $verb:$place:$previous in
+        build:4:--format)
+            COMPREPLY=($(compgen -W '1 2' -- "$word"))
+            return ;;
+        query:3:--plan | answer:3:--plan | segments:*:--plan)
+            COMPREPLY=($(compgen -W 'exhaustive wand maxscore' -- "$word"))
+            return ;;
+        build:3:*)
+            COMPREPLY=($(compgen -W '--format' -- "$word"))
+            return ;;
+        query:2:* | answer:2:*)
+            COMPREPLY=($(compgen -W '--plan' -- "$word"))
+            return ;;
+        segments:1:*) ;;
+        segments:*)
+            [[ $word == -* ]] && COMPREPLY=($(compgen -W '--plan' -- "$word"))
+            [[ $word == -* || ${COMP_WORDS[COMP_CWORD - 2]} == --plan ]] && return ;;
+    esac
+    case $verb:$place in
+        build:1 | answer:1 | remap:1) _pefidx_bases "$word" ;;
+        build:2 | query:1 | inspect:1 | audit:1 | migrate:[12] | blocks:[12] | \
+            bquery:[12] | remap:[23] | segments:*)
+            compopt -o filenames 2> /dev/null
+            local IFS=$'\n'
+            COMPREPLY=($(compgen -f -- "$word")) ;;
+    esac
+}
+
+# Folders, and the names of collections: files .docs without this ending.
+_pefidx_bases() {
+    local IFS=$'\n' file
+    compopt -o filenames 2> /dev/null
+    COMPREPLY=($(compgen -d -- "$1"))
+    for file in $(compgen -f -X '!*.docs' -- "$1"); do
+        [[ -d $file ]] || COMPREPLY+=("${file%.docs}")
+    done
+}
+
+complete -F _pefidx pefidx
