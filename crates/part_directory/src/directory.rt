@@ -14,7 +14,7 @@ use crate::galloping::{Lasts, gallop};
 use part_codec::one_list_at_place;
 use part_cost::{Format, formats_have_room};
 use sequence_words::{
-    Entry, directory_states_its_parts, entry_at, sequence_takes_its_cost,
+    Entry, directory_states_its_parts, entry_at, entry_last, sequence_takes_its_cost,
     words_state_their_sequence,
 };
 use std::marker::Brand;
@@ -59,7 +59,7 @@ impl<'d, 'a> Lasts for EntriesInWords<'d, 'a> {
 
     fn last<L: Ledger>(&self, q: u32, probes: &mut Steps<L>) -> u64 {
         probes.tick();
-        self.directory.entry_in_words(q).last
+        entry_last(self.directory.words, q, self.directory.format)
     }
 
     ghost rising = { λ e. e.directory.now.rising };

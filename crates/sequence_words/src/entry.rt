@@ -1,6 +1,7 @@
-ghost use Rattle.std.specs.Prelude.{◌≡◌, ◌≤◌, ◌<◌, ◌+◌, ◌*◌, ◌^◌, length};
+ghost use Rattle.std.specs.Prelude.{◌≡◌, ℕ, ◌≤◌, ◌<◌, ◌+◌, ◌*◌, ◌^◌, List, length, slice_index, bit_and};
 ghost use Rattle.collection_model.specs.FormatNumbers.{entry_words};
 ghost use Rattle.part_cost.specs.Formats.{numbers_of};
+ghost use Rattle.sequence_words.specs.EntryWords.{last_at};
 ghost use Rattle.sequence_words.specs.SequenceFault.{stated_last, stated_end, stated_offset, first_bit};
 
 use part_cost::Format;
@@ -60,4 +61,24 @@ pub fn entry_at(words: &[u64], part: u32, format: Format) -> Entry
             offset: words[at + 1] % BESIDE_UNIT,
         },
     }
+}
+
+// The bits of the first word of an entry that are those of its last value.
+fn last_bits(format: Format) -> u64
+    ensures { (words : List ℕ) (p : ℕ) → slice_index words p < 2 ^ 64 → bit_and (slice_index words p) result ≡ last_at (numbers_of format) words p }
+{
+    match format {
+        Format::One => (1 << 36) - 1,
+        Format::Two => u64::MAX,
+        Format::Three => BESIDE_UNIT - 1,
+    }
+}
+
+/// The last value of the entry of a part. It tests no format, so that a gallop tests it once.
+pub fn entry_last(words: &[u64], part: u32, format: Format) -> u64
+    requires within { entry_words (numbers_of format) * part + entry_words (numbers_of format) ≤ length words.now }
+    ensures { result ≡ stated_last (numbers_of format) words.now part }
+{
+    let at = directory_words(part, format) as usize;
+    words[at] & last_bits(format)
 }
