@@ -56,8 +56,12 @@ fn next_answer<L: TermLists>(
     requires { term < length (L.collection lists.now).lists }
     ensures { IfOk result (λ text. text.items ≡ next_text (option_map (λ p. (p.doc, p.freq)) (first_at_least (list_of (L.collection lists.now) term) doc))) }
 {
-    let mut cursor = lists.cursor(alloc, term)?;
-    next_reply(alloc, first_posting(&mut cursor, doc))
+    // The cursor is not moved out of the result.
+    let mut opened = lists.cursor(alloc, term);
+    match &mut opened {
+        Ok(cursor) => next_reply(alloc, first_posting(cursor, doc)),
+        Err(_) => Err(NoMemory),
+    }
 }
 
 // The first posting of a list whose document is at least this one, as document and frequency.
