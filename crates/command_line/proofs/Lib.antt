@@ -1,11 +1,11 @@
 mod Joined
 mod TakenPlaces
 mod Plain
-mod PlainWalk
-mod Taken
-mod WordsRead
+mod Found
 mod TextsRead
-mod Rows
-mod Several
-mod Lent
+mod PlainWalk
+mod Level
+mod Program
+mod WordsRead
 mod PlainFormats
+mod Rows

@@ -9,7 +9,7 @@ use Rattle.clap.specs.declared.error.kind.ErrorKind.TheVariants.{OutOfMemory}
 use Rattle.command_line.specs.declared.error.WordsError.{WordsError}
 use Rattle.command_line.specs.WordsErrors.{error_of_words}
 use Rattle.command_line.specs.Private.CommandLine.{error_of_kind, error_of_matching}
-use Rattle.command_line.specs.Command.{Command, command_of, remap_command, texts}
+use Rattle.command_line.specs.Command.{Command, command_of, texts}
 
 -- a name, a verb, and what is behind them
 named : (words : List (String Global)) (a b : String Global) (v : List ℕ) → 2 ≤ length words
@@ -31,20 +31,6 @@ pub no_verb : (words : List (String Global)) → length words < 2 → false ≡ 
 no_verb [] few = refl
 no_verb (name ∷ []) few = refl
 no_verb (name ∷ verb ∷ words) few = absurd (omega (arith, few))
-
--- only three words are a base, a map and a new base
-pub fewer_than_three : (words : List (String Global)) → length words < 3 → false ≡ is_some (remap_command (texts words))
-fewer_than_three [] few = refl
-fewer_than_three (a ∷ []) few = refl
-fewer_than_three (a ∷ b ∷ []) few = refl
-fewer_than_three (a ∷ b ∷ c ∷ words) few = absurd (omega (arith, few))
-
-pub more_than_three : (words : List (String Global)) → 4 ≤ length words → false ≡ is_some (remap_command (texts words))
-more_than_three [] many = absurd (omega (arith, many))
-more_than_three (a ∷ []) many = absurd (omega (arith, many))
-more_than_three (a ∷ b ∷ []) many = absurd (omega (arith, many))
-more_than_three (a ∷ b ∷ c ∷ []) many = absurd (omega (arith, many))
-more_than_three (a ∷ b ∷ c ∷ d ∷ words) many = refl
 
 -- why words that are a command gave none
 pub refused_words : (command : Option Command) (e : Error) (error : WordsError) → is_some command ≡ true → kind_of e ≡ OutOfMemory → error ≡ error_of_matching e → error ≡ error_of_words command

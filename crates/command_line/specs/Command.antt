@@ -1,10 +1,15 @@
-use Rattle.std.specs.Prelude.{ℕ, nat_le, length, Bool, false, not, ◌&&◌, ◌||◌, ◌==◌, ◌++◌, bytes_eq, codes, if◌then◌else◌, List, [], ◌∷◌, map, Option, Some, None, String, string_bytes}
+use Rattle.std.specs.Prelude.{ℕ, nat_le, Bool, false, not, ◌&&◌, ◌||◌, ◌==◌, ◌++◌, bytes_eq, codes, if◌then◌else◌, List, [], ◌∷◌, map, take, drop, Option, Some, None, option_and_then, option_map, String, string_bytes}
+use Rattle.std.specs.List.{prefix_len}
 use Rattle.std.specs.declared.alloc.Global.{Global}
 use Rattle.part_cost.specs.declared.formats.Format.{Format}
 use Rattle.part_cost.specs.declared.formats.Format.TheVariants.{One, Two}
 use Rattle.query_text.specs.Numbers.{number_of}
 use Rattle.topk_pruning.specs.declared.plan.Plan.{Plan}
 use Rattle.topk_pruning.specs.declared.plan.Plan.TheVariants.{Exhaustive, Wand, MaxScore}
+use Rattle.command_line.specs.Table.{Row, row_of, name_of, default_of}
+use Rattle.command_line.specs.declared.table.Choice.{Choice}
+use Rattle.command_line.specs.declared.table.Verb.{Verb}
+use Rattle.command_line.specs.declared.table.Verb.TheVariants as verbs
 
 -- what the words of the command line ask for
 pub data Command : Type 0 where
@@ -49,74 +54,6 @@ plan_of name =
     else if bytes_eq name (codes "maxscore") then Some MaxScore
     else None
 
--- a base and an index that is none of its files, with a format, where there is one
-abbrev pub build_in : List ℕ → List ℕ → Option Format → Option Command
-build_in base index None = None
-build_in base index (Some format) = if is_text base && is_text index && not (is_file_of base index) then Some (Build base index format) else None
-
--- what an option of this name says where it is all that the words are, with a value that it has a meaning for; the default where there are no words
-abbrev pub option_in : {A : Type 0} → List ℕ → (List ℕ → Option A) → A → List (List ℕ) → Option A
-option_in name meaning default [] = Some default
-option_in name meaning default (option ∷ []) = None
-option_in name meaning default (option ∷ value ∷ []) = if bytes_eq option name then meaning value else None
-option_in name meaning default (option ∷ value ∷ word ∷ words) = None
-
--- a base and an index, and then the option with a format, or nothing
-abbrev pub build_command : List (List ℕ) → Option Command
-build_command [] = None
-build_command (base ∷ []) = None
-build_command (base ∷ index ∷ words) = build_in base index (option_in (codes "--format") format_of Two words)
-
--- a text with a plan, where there is one
-abbrev pub answered_by : (List ℕ → Plan → Command) → List ℕ → Option Plan → Option Command
-answered_by make text None = None
-answered_by make text (Some plan) = if is_text text then Some (make text plan) else None
-
--- a text, and then the option with a plan, or nothing
-abbrev pub answering_command : (List ℕ → Plan → Command) → List (List ℕ) → Option Command
-answering_command make [] = None
-answering_command make (text ∷ words) = answered_by make text (option_in (codes "--plan") plan_of Exhaustive words)
-
--- one text
-abbrev pub text_command : (List ℕ → Command) → List (List ℕ) → Option Command
-text_command make [] = None
-text_command make (text ∷ []) = if is_text text then Some (make text) else None
-text_command make (text ∷ word ∷ words) = None
-
--- a seed, a number of documents and a number of lists, where each is a number
-abbrev pub generate_of : Option ℕ → Option ℕ → Option ℕ → Option Command
-generate_of (Some seed) (Some n) (Some t) = Some (Generate seed n t)
-generate_of seed n t = None
-
--- three numbers, spelled as in query lines
-abbrev pub generate_command : List (List ℕ) → Option Command
-generate_command [] = None
-generate_command (seed ∷ []) = None
-generate_command (seed ∷ n ∷ []) = None
-generate_command (seed ∷ n ∷ t ∷ []) = generate_of (number_of seed) (number_of n) (number_of t)
-generate_command (seed ∷ n ∷ t ∷ word ∷ words) = None
-
--- two texts, of which the second is not the first
-abbrev pub migrate_command : List (List ℕ) → Option Command
-migrate_command [] = None
-migrate_command (from ∷ []) = None
-migrate_command (from ∷ to ∷ []) = if is_text from && is_text to && not (bytes_eq from to) then Some (Migrate from to) else None
-migrate_command (from ∷ to ∷ word ∷ words) = None
-
--- two texts, of which the second is not the first
-abbrev pub blocks_command : List (List ℕ) → Option Command
-blocks_command [] = None
-blocks_command (index ∷ []) = None
-blocks_command (index ∷ side ∷ []) = if is_text index && is_text side && not (bytes_eq index side) then Some (Blocks index side) else None
-blocks_command (index ∷ side ∷ word ∷ words) = None
-
--- two texts, which may be the same
-abbrev pub bquery_command : List (List ℕ) → Option Command
-bquery_command [] = None
-bquery_command (index ∷ []) = None
-bquery_command (index ∷ side ∷ []) = if is_text index && is_text side then Some (BlockQuery index side) else None
-bquery_command (index ∷ side ∷ word ∷ words) = None
-
 -- whether a name is that of a map, or of a file of a collection
 abbrev pub is_input_of : List ℕ → List ℕ → List ℕ → Bool
 is_input_of base map name = bytes_eq name map || is_file_of base name
@@ -125,51 +62,92 @@ is_input_of base map name = bytes_eq name map || is_file_of base name
 abbrev pub takes_place : List ℕ → List ℕ → List ℕ → Bool
 takes_place base map to = is_input_of base map (to ++ codes ".docs") || is_input_of base map (to ++ codes ".freqs") || is_input_of base map (to ++ codes ".sizes")
 
+-- one text, two or three, where there are so many
+abbrev pub one_of : List (List ℕ) → Option (List ℕ)
+one_of (text ∷ []) = Some text
+one_of words = None
+
+abbrev pub two_of : List (List ℕ) → Option (List ℕ × List ℕ)
+two_of (first ∷ second ∷ []) = Some (first, second)
+two_of words = None
+
+abbrev pub three_of : List (List ℕ) → Option (List ℕ × List ℕ × List ℕ)
+three_of (first ∷ second ∷ third ∷ []) = Some (first, second, third)
+three_of words = None
+
+-- a command, unless one name would take the place of another
+abbrev pub unless : Bool → Command → Option Command
+unless taken command = if taken then None else Some command
+
+-- a base and an index that is none of its files, in a format
+abbrev pub built_in : Option Format → List ℕ × List ℕ → Option Command
+built_in None names = None
+built_in (Some format) names = unless (is_file_of names.0 names.1) (Build names.0 names.1 format)
+
+-- a seed, a number of documents and a number of lists, where each is a number
+abbrev pub generate_of : Option ℕ → Option ℕ → Option ℕ → Option Command
+generate_of (Some seed) (Some n) (Some t) = Some (Generate seed n t)
+generate_of seed n t = None
+
+-- three numbers, spelled as in query lines
+abbrev pub generate_command : List (List ℕ) → Option Command
+generate_command texts = option_and_then (λ three. generate_of (number_of three.0) (number_of three.1) (number_of three.2)) (three_of texts)
+
+-- two texts, of which the second is not the first
+abbrev pub migrate_command : List (List ℕ) → Option Command
+migrate_command texts = option_and_then (λ names. unless (bytes_eq names.0 names.1) (Migrate names.0 names.1)) (two_of texts)
+
+-- two texts, of which the second is not the first
+abbrev pub blocks_command : List (List ℕ) → Option Command
+blocks_command texts = option_and_then (λ names. unless (bytes_eq names.0 names.1) (Blocks names.0 names.1)) (two_of texts)
+
+-- two texts, which may be the same
+abbrev pub bquery_command : List (List ℕ) → Option Command
+bquery_command texts = option_map (λ names. BlockQuery names.0 names.1) (two_of texts)
+
 -- a base, a map, and a new base whose files are none of theirs
 abbrev pub remap_command : List (List ℕ) → Option Command
-remap_command [] = None
-remap_command (base ∷ []) = None
-remap_command (base ∷ map ∷ []) = None
-remap_command (base ∷ map ∷ to ∷ []) = if is_text base && is_text map && is_text to && not (takes_place base map to) then Some (Remap base map to) else None
-remap_command (base ∷ map ∷ to ∷ word ∷ words) = None
+remap_command texts = option_and_then (λ names. unless (takes_place names.0 names.1 names.2) (Remap names.0 names.1 names.2)) (three_of texts)
 
--- the words before the first that can be no text of a command
-abbrev pub texts_before : List (List ℕ) → List (List ℕ)
-texts_before [] = []
-texts_before (word ∷ words) = if is_text word then word ∷ texts_before words else []
+-- the command of a verb, of the texts behind it and of the value of its option; none where they do not go together
+abbrev pub command_with : Verb → List (List ℕ) → List ℕ → Option Command
+command_with verbs.Build texts value = option_and_then (built_in (format_of value)) (two_of texts)
+command_with verbs.Query texts value = option_and_then (λ index. option_map (Query index) (plan_of value)) (one_of texts)
+command_with verbs.Answer texts value = option_and_then (λ base. option_map (Answer base) (plan_of value)) (one_of texts)
+command_with verbs.Inspect texts value = option_map Inspect (one_of texts)
+command_with verbs.Generate texts value = generate_command texts
+command_with verbs.Migrate texts value = migrate_command texts
+command_with verbs.Audit texts value = option_map Audit (one_of texts)
+command_with verbs.Blocks texts value = blocks_command texts
+command_with verbs.BlockQuery texts value = bquery_command texts
+command_with verbs.Remap texts value = remap_command texts
+command_with verbs.Segments texts value = option_map (Segments texts) (plan_of value)
 
--- that word, and the words behind it
-abbrev pub words_behind : List (List ℕ) → List (List ℕ)
-words_behind [] = []
-words_behind (word ∷ words) = if is_text word then words_behind words else word ∷ words
+-- how many words stand before the first that can be no text of a command
+abbrev pub texts_before : List (List ℕ) → ℕ
+texts_before words = prefix_len is_text words
 
--- the most indexes of a command
-abbrev pub most_segments : ℕ
-most_segments = 64
+-- the value of an option where words are the option with a text, or nothing
+abbrev pub chosen_in : Choice → List (List ℕ) → Option (List ℕ)
+chosen_in choice [] = Some (default_of choice)
+chosen_in choice (option ∷ value ∷ []) = if bytes_eq option (codes "--" ++ name_of choice) && is_text value then Some value else None
+chosen_in choice words = None
 
--- some indexes with a plan, where there is one, and there are as many as may be
-abbrev pub segments_by : List (List ℕ) → Option Plan → Option Command
-segments_by names None = None
-segments_by names (Some plan) = if nat_le 1 (length names) && nat_le (length names) most_segments then Some (Segments names plan) else None
+-- the same where there may be no option; then there are no words
+abbrev pub value_in : Option Choice → List (List ℕ) → Option (List ℕ)
+value_in (Some choice) words = chosen_in choice words
+value_in None [] = Some []
+value_in None words = None
 
--- one index or more, and then the option with a plan, or nothing
-abbrev pub segments_command : List (List ℕ) → Option Command
-segments_command words = segments_by (texts_before words) (option_in (codes "--plan") plan_of Exhaustive (words_behind words))
+-- the command of a row, with as many texts as it may have, and then its option or nothing
+abbrev pub by_row : Row → List (List ℕ) → Option Command
+by_row row words =
+    if nat_le row.fewest (texts_before words) && nat_le (texts_before words) row.most
+    then option_and_then (command_with row.verb (take (texts_before words) words)) (value_in row.choice (drop (texts_before words) words))
+    else None
 
 -- the command of the words, the program's name first; none where they are refused as usage
 abbrev pub command_of : List (List ℕ) → Option Command
 command_of [] = None
 command_of (name ∷ []) = None
-command_of (name ∷ verb ∷ args) =
-    if bytes_eq verb (codes "build") then build_command args
-    else if bytes_eq verb (codes "query") then answering_command Query args
-    else if bytes_eq verb (codes "answer") then answering_command Answer args
-    else if bytes_eq verb (codes "inspect") then text_command Inspect args
-    else if bytes_eq verb (codes "generate") then generate_command args
-    else if bytes_eq verb (codes "migrate") then migrate_command args
-    else if bytes_eq verb (codes "audit") then text_command Audit args
-    else if bytes_eq verb (codes "blocks") then blocks_command args
-    else if bytes_eq verb (codes "bquery") then bquery_command args
-    else if bytes_eq verb (codes "remap") then remap_command args
-    else if bytes_eq verb (codes "segments") then segments_command args
-    else None
+command_of (name ∷ verb ∷ words) = option_and_then (λ row. by_row row words) (row_of verb)

@@ -1,3 +1,4 @@
+pub mod Table
 pub mod Command
 pub mod Asked
 pub mod PlainFormats

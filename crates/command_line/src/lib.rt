@@ -4,6 +4,7 @@
 mod error;
 mod laws;
 mod parsing;
+mod table;
 mod words;
 
 pub use error::WordsError;

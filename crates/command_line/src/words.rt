@@ -1,17 +1,15 @@
-ghost use Rattle.std.specs.Prelude.{◌≡◌, ◌≤◌, nat_le, length, ◌&&◌, not, ℕ, List, ◌∷◌, ◌++◌, bytes_eq, codes, is_some};
+ghost use Rattle.std.specs.Prelude.{◌≡◌, ◌≤◌, nat_le, length, ◌&&◌, ℕ, List, ◌∷◌, ◌++◌, bytes_eq, codes, is_some, option_map, string_bytes};
+ghost use Rattle.std.specs.List.{prefix_len};
 ghost use Rattle.query_text.specs.Numbers.{number_of};
-ghost use Rattle.topk_pruning.specs.declared.plan.Plan as plan;
-ghost use Rattle.topk_pruning.specs.declared.plan.Plan.TheVariants as plans;
-ghost use Rattle.part_cost.specs.declared.formats.Format.TheVariants as formats;
-ghost use Rattle.command_line.specs.Command as asked;
-ghost use Rattle.command_line.specs.Command.{answering_command, blocks_command, bquery_command, build_command, command_of, format_of, generate_command, is_file_of, is_text, migrate_command, option_in, plan_of, remap_command, takes_place, text_command, texts, most_segments, segments_command, texts_before};
+ghost use Rattle.command_line.specs.Asked.{asked};
+ghost use Rattle.command_line.specs.Command.{blocks_command, bquery_command, by_row, chosen_in, command_of, command_with, format_of, generate_command, is_file_of, is_text, migrate_command, one_of, plan_of, remap_command, takes_place, texts, texts_before, three_of, two_of, value_in};
+ghost use Rattle.command_line.specs.Table.{name_of, seen};
+ghost use Rattle.command_line.specs.declared.table.Verb.TheVariants as verbs;
 
+use crate::table::{Choice, Row, Verb, row_of};
 use part_cost::Format;
 use query_text::number;
 use topk_pruning::Plan;
-
-// The most indexes of a command.
-pub(crate) const MOST_SEGMENTS: usize = 64;
 
 /// What the words of the command line ask for.
 #[derive(Clone, Copy, Debug, PartialEq, Eq)]
@@ -69,152 +67,198 @@ pub(crate) fn is_command(words: &[String]) -> bool
     ensures { result ≡ is_some (command_of (texts words.now)) }
 {
     match words {
-        [_name, verb, args @ ..] => asks(verb.as_str(), args),
+        [_name, verb, words @ ..] => is_asked(verb.as_str(), words),
         _ => false,
     }
 }
 
 // Whether a verb and the words behind it are a command.
-fn asks(verb: &str, args: &[String]) -> bool
-    ensures { (name : List ℕ) → result ≡ is_some (command_of (name ∷ verb.now ∷ texts args.now)) }
+fn is_asked(verb: &str, words: &[String]) -> bool
+    ensures { (name : List ℕ) → result ≡ is_some (command_of (name ∷ verb.now ∷ texts words.now)) }
 {
-    if verb == "build" {
-        is_build(args)
-    } else if verb == "query" || verb == "answer" {
-        is_answering(args)
-    } else if verb == "inspect" || verb == "audit" {
-        is_text_alone(args)
-    } else if verb == "generate" {
-        is_generate(args)
-    } else if verb == "migrate" || verb == "blocks" {
-        is_name_and_another(args)
-    } else if verb == "bquery" {
-        are_two_texts(args)
-    } else if verb == "remap" {
-        is_remap(args)
-    } else if verb == "segments" {
-        is_segments(args)
-    } else {
-        false
+    match row_of(verb) {
+        Some(row) => by_row(row, words).is_some(),
+        None => false,
     }
 }
 
-// Whether words are a base and an index that is none of its files, and then the option with a format, or nothing.
-fn is_build(args: &[String]) -> bool
-    ensures { result ≡ is_some (build_command (texts args.now)) }
+// The command of a row, with as many texts as it may have, and then its option or nothing.
+fn by_row<'a>(row: Row, words: &'a [String]) -> Option<Command<'a>>
+    ensures { option_map asked result ≡ by_row (seen row) (texts words.now) }
 {
-    match args {
-        [base, index, rest @ ..] => {
-            can_be_built(base.as_str(), index.as_str()) && names_format(rest)
-        }
-        _ => false,
+    let count = texts_before(words);
+    if !may_have(row, count) {
+        return None;
+    }
+    let (texts, rest) = words.split_at(count);
+    command_with(row.verb, texts, value_in(row.choice, rest)?)
+}
+
+// Whether so many texts may stand behind the verb of a row.
+fn may_have(row: Row, count: usize) -> bool
+    ensures { result ≡ (nat_le row.fewest count && nat_le count row.most) }
+{
+    row.fewest <= count && count <= row.most
+}
+
+// How many words stand before the first that can be no text of a command.
+fn texts_before(words: &[String]) -> usize
+    ensures count { result ≡ prefix_len (λ word. is_text (string_bytes word)) words.now }
+    ensures within { result ≤ length words.now }
+{
+    words
+        .iter()
+        .take_while(|word| can_be_text(word.as_str()))
+        .count()
+}
+
+// The value of an option where words are the option with a text, or nothing; where there may be none, an empty text.
+fn value_in(choice: Option<Choice>, words: &[String]) -> Option<&str>
+    ensures { option_map (λ text. text.now) result ≡ value_in choice (texts words.now) }
+{
+    match choice {
+        Some(choice) => chosen_in(choice, words),
+        None => words.is_empty().then_some(""),
     }
 }
 
-// Whether two words are a base and an index that is none of its files.
-fn can_be_built(base: &str, index: &str) -> bool
-    ensures { result ≡ (is_text base.now && is_text index.now && not (is_file_of base.now index.now)) }
-{
-    can_be_text(base) && can_be_text(index) && !is_file_of(base, index)
-}
-
-// Whether words are the option with a format, or nothing.
-fn names_format(words: &[String]) -> bool
-    ensures { result ≡ is_some (option_in (codes "--format") format_of formats.Two (texts words.now)) }
+// The value of an option where words are the option with a text; its default where there are none.
+fn chosen_in(choice: Choice, words: &[String]) -> Option<&str>
+    ensures { option_map (λ text. text.now) result ≡ chosen_in choice (texts words.now) }
 {
     match words {
-        [] => true,
-        [option, value] => option.as_str() == "--format" && parse_format(value.as_str()).is_some(),
-        _ => false,
+        [] => Some(choice.default()),
+        [option, value] => {
+            let (option, value) = (option.as_str(), value.as_str());
+            (is_option(choice, option) && can_be_text(value)).then_some(value)
+        }
+        _ => None,
     }
 }
 
-// Whether words are a text, and then the option with a plan, or nothing.
-fn is_answering(args: &[String]) -> bool
-    ensures { (make : List ℕ → plan.Plan → asked.Command) → result ≡ is_some (answering_command make (texts args.now)) }
+// Whether a word is the name of an option behind two minus signs.
+fn is_option(choice: Choice, word: &str) -> bool
+    ensures { result ≡ bytes_eq word.now (codes "--" ++ name_of choice) }
 {
-    match args {
-        [text, rest @ ..] => can_be_text(text.as_str()) && names_plan(rest),
-        _ => false,
+    is_joined(word.as_bytes(), b"--", choice.name().as_bytes())
+}
+
+// The command of a verb, of the texts behind it and of the value of its option; none where they do not go together.
+pub(crate) fn command_with<'a>(verb: Verb, words: &'a [String], value: &str) -> Option<Command<'a>>
+    ensures { option_map asked result ≡ command_with verb (texts words.now) value.now }
+{
+    match verb {
+        Verb::Build => build(words, value),
+        Verb::Query => Some(Command::Query {
+            index: one(words)?,
+            plan: parse_plan(value)?,
+        }),
+        Verb::Answer => Some(Command::Answer {
+            base: one(words)?,
+            plan: parse_plan(value)?,
+        }),
+        Verb::Inspect => Some(Command::Inspect { index: one(words)? }),
+        Verb::Generate => generate(words),
+        Verb::Migrate => migrate(words),
+        Verb::Audit => Some(Command::Audit { index: one(words)? }),
+        Verb::Blocks => blocks(words),
+        Verb::BlockQuery => block_query(words),
+        Verb::Remap => remap(words),
+        Verb::Segments => Some(Command::Segments {
+            indexes: words,
+            plan: parse_plan(value)?,
+        }),
     }
 }
 
-// Whether words are the option with a plan, or nothing.
-fn names_plan(words: &[String]) -> bool
-    ensures { result ≡ is_some (option_in (codes "--plan") plan_of plans.Exhaustive (texts words.now)) }
+// A base and an index that is none of its files, in a format.
+fn build<'a>(words: &'a [String], value: &str) -> Option<Command<'a>>
+    ensures { option_map asked result ≡ command_with verbs.Build (texts words.now) value.now }
+{
+    let (base, index) = two(words)?;
+    let format = parse_format(value)?;
+    (!is_file_of(base, index)).then_some(Command::Build {
+        base,
+        index,
+        format,
+    })
+}
+
+// Three numbers.
+fn generate<'a>(words: &'a [String]) -> Option<Command<'a>>
+    ensures { option_map asked result ≡ generate_command (texts words.now) }
+{
+    let (seed, documents, terms) = three(words)?;
+    let seed = parse_number(seed)?;
+    let documents = parse_number(documents)?;
+    let terms = parse_number(terms)?;
+    Some(Command::Generate {
+        seed,
+        documents,
+        terms,
+    })
+}
+
+// An index, and another name.
+fn migrate<'a>(words: &'a [String]) -> Option<Command<'a>>
+    ensures { option_map asked result ≡ migrate_command (texts words.now) }
+{
+    let (from, to) = two(words)?;
+    (from != to).then_some(Command::Migrate { from, to })
+}
+
+// An index, and another name.
+fn blocks<'a>(words: &'a [String]) -> Option<Command<'a>>
+    ensures { option_map asked result ≡ blocks_command (texts words.now) }
+{
+    let (index, side) = two(words)?;
+    (index != side).then_some(Command::Blocks { index, side })
+}
+
+// An index and a side file.
+fn block_query<'a>(words: &'a [String]) -> Option<Command<'a>>
+    ensures { option_map asked result ≡ bquery_command (texts words.now) }
+{
+    let (index, side) = two(words)?;
+    Some(Command::BlockQuery { index, side })
+}
+
+// A base, a map, and a new base whose files are none of theirs.
+fn remap<'a>(words: &'a [String]) -> Option<Command<'a>>
+    ensures { option_map asked result ≡ remap_command (texts words.now) }
+{
+    let (base, map, to) = three(words)?;
+    (!takes_place(base, map, to)).then_some(Command::Remap { base, map, to })
+}
+
+// The text of one word.
+fn one(words: &[String]) -> Option<&str>
+    ensures { option_map (λ text. text.now) result ≡ one_of (texts words.now) }
 {
     match words {
-        [] => true,
-        [option, value] => option.as_str() == "--plan" && parse_plan(value.as_str()).is_some(),
-        _ => false,
+        [text] => Some(text.as_str()),
+        _ => None,
     }
 }
 
-// Whether words are one text.
-fn is_text_alone(args: &[String]) -> bool
-    ensures { (make : List ℕ → asked.Command) → result ≡ is_some (text_command make (texts args.now)) }
+// The texts of two words.
+fn two(words: &[String]) -> Option<(&str, &str)>
+    ensures { option_map (λ names. (names.0.now, names.1.now)) result ≡ two_of (texts words.now) }
 {
-    match args {
-        [text] => can_be_text(text.as_str()),
-        _ => false,
+    match words {
+        [first, second] => Some((first.as_str(), second.as_str())),
+        _ => None,
     }
 }
 
-// Whether words are three numbers.
-fn is_generate(args: &[String]) -> bool
-    ensures { result ≡ is_some (generate_command (texts args.now)) }
+// The texts of three words.
+fn three(words: &[String]) -> Option<(&str, &str, &str)>
+    ensures { option_map (λ names. (names.0.now, names.1.now, names.2.now)) result ≡ three_of (texts words.now) }
 {
-    match args {
-        [seed, documents, terms] => {
-            is_number(seed.as_str()) && is_number(documents.as_str()) && is_number(terms.as_str())
-        }
-        _ => false,
+    match words {
+        [first, second, third] => Some((first.as_str(), second.as_str(), third.as_str())),
+        _ => None,
     }
-}
-
-// Whether words are two texts, of which the second is not the first.
-fn is_name_and_another(args: &[String]) -> bool
-    ensures migrate { result ≡ is_some (migrate_command (texts args.now)) }
-    ensures blocks { result ≡ is_some (blocks_command (texts args.now)) }
-{
-    match args {
-        [from, to] => are_other_texts(from.as_str(), to.as_str()),
-        _ => false,
-    }
-}
-
-// Whether two words are texts, of which the second is not the first.
-fn are_other_texts(from: &str, to: &str) -> bool
-    ensures { result ≡ (is_text from.now && is_text to.now && not (bytes_eq from.now to.now)) }
-{
-    can_be_text(from) && can_be_text(to) && from != to
-}
-
-// Whether words are two texts, which may be the same.
-fn are_two_texts(args: &[String]) -> bool
-    ensures { result ≡ is_some (bquery_command (texts args.now)) }
-{
-    match args {
-        [index, side] => can_be_text(index.as_str()) && can_be_text(side.as_str()),
-        _ => false,
-    }
-}
-
-// Whether words are a base, a map, and a new base whose files are none of theirs.
-fn is_remap(args: &[String]) -> bool
-    ensures { result ≡ is_some (remap_command (texts args.now)) }
-{
-    match args {
-        [base, map, to] => can_be_moved(base.as_str(), map.as_str(), to.as_str()),
-        _ => false,
-    }
-}
-
-// Whether three words are a base, a map, and a new base whose files are none of theirs.
-fn can_be_moved(base: &str, map: &str, to: &str) -> bool
-    ensures { result ≡ (is_text base.now && is_text map.now && is_text to.now && not (takes_place base.now map.now to.now)) }
-{
-    can_be_text(base) && can_be_text(map) && can_be_text(to) && !takes_place(base, map, to)
 }
 
 // Whether a collection under a new base would take the place of the map, or of a file of the collection.
@@ -224,52 +268,15 @@ fn takes_place(base: &str, map: &str, to: &str) -> bool
     to == base || is_file_of(to, map)
 }
 
-// Whether words are one text or more, at most as many as may be, and then the option with a plan, or nothing.
-fn is_segments(args: &[String]) -> bool
-    ensures { result ≡ is_some (segments_command (texts args.now)) }
-{
-    let count = texts_before(args);
-    is_count(count) && names_plan(&args[count..])
-}
-
-// Whether a command may have so many indexes.
-fn is_count(count: usize) -> bool
-    ensures { result ≡ (nat_le 1 count && nat_le count most_segments) }
-{
-    1 <= count && count <= MOST_SEGMENTS
-}
-
-// How many words stand before the first that can be no text of a command.
-fn texts_before(words: &[String]) -> usize
-    ensures count { result ≡ length (texts_before (texts words.now)) }
-    ensures within { result ≤ length words.now }
-{
-    let mut count = 0;
-    for word in words {
-        if !can_be_text(word.as_str()) {
-            return count;
-        }
-        count += 1;
-    }
-    count
-}
-
-// Whether a word is a number.
-fn is_number(word: &str) -> bool
-    ensures { result ≡ is_some (number_of word.now) }
-{
-    parse_number(word).is_some()
-}
-
 // The number that a word is: decimal digits alone, with any leading zeros.
-pub(crate) fn parse_number(word: &str) -> Option<u32>
+fn parse_number(word: &str) -> Option<u32>
     ensures { result ≡ number_of word.now }
 {
     number(word.as_bytes())
 }
 
 // The plan of this name.
-pub(crate) fn parse_plan(name: &str) -> Option<Plan>
+fn parse_plan(name: &str) -> Option<Plan>
     ensures { result ≡ plan_of name.now }
 {
     if name == "exhaustive" {
@@ -284,7 +291,7 @@ pub(crate) fn parse_plan(name: &str) -> Option<Plan>
 }
 
 // The format of this name.
-pub(crate) fn parse_format(name: &str) -> Option<Format>
+fn parse_format(name: &str) -> Option<Format>
     ensures { result ≡ format_of name.now }
 {
     if name == "1" {

@@ -6,7 +6,6 @@ use Rattle.command_line.specs.declared.error.WordsError.{WordsError}
 use Rattle.command_line.specs.Command.{command_of, texts}
 use Rattle.command_line.specs.WordsErrors.{error_of_words}
 use Rattle.command_line.proofs.Plain.{refused_words}
-use Rattle.command_line.proofs.Lent.{lent}
 use Rattle.command_line.proofs.parsing.parse_words.Goals as goal
 
 pub returns-in_err-matches-clause-error : goal.returns-in_err-matches-clause-error
@@ -17,6 +16,6 @@ returns-in_err-matches-clause-error c =
     subst P (sym p.1) (refused_words (command_of (texts c.args.words.now)) c.in_err-matches.field-0.0 _ some (c.in_err-matches.ensures.error some) p.2)
 
 pub read_command-requires : goal.read_command-requires
-read_command-requires c = λ indexes plan h.
+read_command-requires c =
     let some : is_some (command_of (texts c.args.words.now)) ≡ true = sym c.is_command.ensures ∙ c.if-not-is_command.false in
-    lent (texts c.args.words.now) indexes plan (sym (c.in_ok-matches.ensures.matches some) ∙ h)
+    (c.in_ok-matches.ensures.matches some).lends

@@ -7,7 +7,7 @@ use Rattle.command_line.proofs.words.is_command.Goals as goal
 pub returns-in-len2-up : goal.returns-in-len2-up
 returns-in-len2-up c =
     named_command c.args.words.now c._name-item.result c.verb-item.result c.as_str.result.now (texts (take (length c.args.words.now - 2) (drop 2 c.args.words.now)))
-    c.asks.result (c.asks.ensures (string_bytes c._name-item.result)) c.in-len2-up.len_at_least c._name-item.is c.verb-item.is c.as_str.ensures.value
+    c.is_asked.result (c.is_asked.ensures (string_bytes c._name-item.result)) c.in-len2-up.len_at_least c._name-item.is c.verb-item.is c.as_str.ensures.value
     (ap texts (take_rest c.args.words.now 2))
 
 pub returns-in_default : goal.returns-in_default

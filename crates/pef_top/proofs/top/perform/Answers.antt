@@ -1,4 +1,4 @@
-use Rattle.std.proofs.Common.{rules, ◌≡◌, sym, ◌∙◌, ap, subst}
+use Rattle.std.proofs.Common.{rules, ◌≡◌, refl, sym, ◌∙◌, ap, subst}
 use Rattle.std.specs.Prelude.{Option, Some, Result, Err}
 use Rattle.command_ends.specs.declared.stop.Stop.{Stop}
 use Rattle.command_line.specs.Command.{Command, command_of, texts}
@@ -10,6 +10,8 @@ use Rattle.pef_top.proofs.Stopped.{stopped}
 use Rattle.pef_top.proofs.top.perform.Goals as goal
 use Rattle.pef_top.specs.Commands.{Performs}
 use Rattle.pef_top.specs.Starts.{Starts}
+use Rattle.pef_top.specs.Uncalled.{objects, Accepts, IsSilent, LeavesUncalled}
+use Rattle.command_ends.proofs.Counted.{not_true}
 
 pub returns-in_err-command-clause-leaves : goal.returns-in_err-command-clause-leaves
 returns-in_err-command-clause-leaves g c = λ e e'.
@@ -105,3 +107,80 @@ returns-in-Segments-clause-leaves g c = λ e e'.
     (outside (g.D.Depot.state c.args.depot.now) (g.I.Source.state c.args.input.now) (g.O.Sink.state c.args.out.now) e c.args.steps.now)
     (outside (g.D.Depot.state c.answer_segments.new.depot) (g.I.Source.state c.answer_segments.new.input) (g.O.Sink.state c.answer_segments.new.out) e' c.args.steps.now) (outcome_of c.answer_segments.result) in
     subst P (sym (ap (λ x. Some (asked x)) c.in-Segments.is) ∙ c.in_ok-command.ensures.command) (c.answer_segments.ensures.leaves e e' c.args.steps.now)
+
+-- neither the input nor out was called
+silent : {D I O : Type 0} (depot depot' : D) (input input' : I) (out out' : O) → (input' ≡ input) × (out' ≡ out)
+    → IsSilent (objects depot input out) (objects depot' input' out')
+silent depot depot' input input' out out' same = record { input = same.0; out = same.1 }
+
+pub returns-in-Query-clause-uncalled : goal.returns-in-Query-clause-uncalled
+returns-in-Query-clause-uncalled g c =
+    let P : Option Command → Type 0 = λ command. LeavesUncalled command (Accepts command (g.D.Depot.state c.args.depot.now)) (outcome_of c.query.result)
+    (objects c.args.depot.now c.args.input.now c.args.out.now) (objects c.query.new.depot c.query.new.input c.query.new.out) in
+    subst P (sym (ap (λ x. Some (asked x)) c.in-Query.is) ∙ c.in_ok-command.ensures.command) (record {
+      depot = λ h. absurd (not_true h);
+      input = λ h. absurd (not_true h);
+      out = λ h. absurd (not_true h);
+      refused = λ h. silent _ _ _ _ _ _ (c.query.ensures.refused h);
+      unaccepted = λ h. silent _ _ _ _ _ _ (c.query.ensures.unaccepted h);
+    })
+
+pub returns-in-Answer-clause-uncalled : goal.returns-in-Answer-clause-uncalled
+returns-in-Answer-clause-uncalled g c =
+    let P : Option Command → Type 0 = λ command. LeavesUncalled command (Accepts command (g.D.Depot.state c.args.depot.now)) (outcome_of c.answer.result)
+    (objects c.args.depot.now c.args.input.now c.args.out.now) (objects c.answer.new.depot c.answer.new.input c.answer.new.out) in
+    subst P (sym (ap (λ x. Some (asked x)) c.in-Answer.is) ∙ c.in_ok-command.ensures.command) (record {
+      depot = λ h. absurd (not_true h);
+      input = λ h. absurd (not_true h);
+      out = λ h. absurd (not_true h);
+      refused = λ h. silent _ _ _ _ _ _ (c.answer.ensures.refused h);
+      unaccepted = λ h. silent _ _ _ _ _ _ (c.answer.ensures.unaccepted h);
+    })
+
+pub returns-in-Inspect-clause-uncalled : goal.returns-in-Inspect-clause-uncalled
+returns-in-Inspect-clause-uncalled g c =
+    let P : Option Command → Type 0 = λ command. LeavesUncalled command (Accepts command (g.D.Depot.state c.args.depot.now)) (outcome_of c.inspect.result)
+    (objects c.args.depot.now c.args.input.now c.args.out.now) (objects c.inspect.new.depot c.args.input.now c.inspect.new.out) in
+    subst P (sym (ap (λ x. Some (asked x)) c.in-Inspect.is) ∙ c.in_ok-command.ensures.command) (record {
+      depot = λ h. absurd (not_true h);
+      input = λ h. refl;
+      out = λ h. absurd (not_true h);
+      refused = λ h. silent _ _ _ _ _ _ (refl, c.inspect.ensures.refused h);
+      unaccepted = λ h. silent _ _ _ _ _ _ (refl, c.inspect.ensures.unaccepted h);
+    })
+
+pub returns-in-Audit-clause-uncalled : goal.returns-in-Audit-clause-uncalled
+returns-in-Audit-clause-uncalled g c =
+    let P : Option Command → Type 0 = λ command. LeavesUncalled command (Accepts command (g.D.Depot.state c.args.depot.now)) (outcome_of c.audit.result)
+    (objects c.args.depot.now c.args.input.now c.args.out.now) (objects c.audit.new.depot c.args.input.now c.audit.new.out) in
+    subst P (sym (ap (λ x. Some (asked x)) c.in-Audit.is) ∙ c.in_ok-command.ensures.command) (record {
+      depot = λ h. absurd (not_true h);
+      input = λ h. refl;
+      out = λ h. absurd (not_true h);
+      refused = λ h. silent _ _ _ _ _ _ (refl, c.audit.ensures.refused h);
+      unaccepted = λ h. silent _ _ _ _ _ _ (refl, c.audit.ensures.unaccepted h);
+    })
+
+pub returns-in-BlockQuery-clause-uncalled : goal.returns-in-BlockQuery-clause-uncalled
+returns-in-BlockQuery-clause-uncalled g c =
+    let P : Option Command → Type 0 = λ command. LeavesUncalled command (Accepts command (g.D.Depot.state c.args.depot.now)) (outcome_of c.query_blocks.result)
+    (objects c.args.depot.now c.args.input.now c.args.out.now) (objects c.query_blocks.new.depot c.query_blocks.new.input c.query_blocks.new.out) in
+    subst P (sym (ap (λ x. Some (asked x)) c.in-BlockQuery.is) ∙ c.in_ok-command.ensures.command) (record {
+      depot = λ h. absurd (not_true h);
+      input = λ h. absurd (not_true h);
+      out = λ h. absurd (not_true h);
+      refused = λ h. silent _ _ _ _ _ _ (c.query_blocks.ensures.refused h);
+      unaccepted = λ h. silent _ _ _ _ _ _ (c.query_blocks.ensures.unaccepted h);
+    })
+
+pub returns-in-Segments-clause-uncalled : goal.returns-in-Segments-clause-uncalled
+returns-in-Segments-clause-uncalled g c =
+    let P : Option Command → Type 0 = λ command. LeavesUncalled command (Accepts command (g.D.Depot.state c.args.depot.now)) (outcome_of c.answer_segments.result)
+    (objects c.args.depot.now c.args.input.now c.args.out.now) (objects c.answer_segments.new.depot c.answer_segments.new.input c.answer_segments.new.out) in
+    subst P (sym (ap (λ x. Some (asked x)) c.in-Segments.is) ∙ c.in_ok-command.ensures.command) (record {
+      depot = λ h. absurd (not_true h);
+      input = λ h. absurd (not_true h);
+      out = λ h. absurd (not_true h);
+      refused = λ h. silent _ _ _ _ _ _ (c.answer_segments.ensures.refused h);
+      unaccepted = λ h. silent _ _ _ _ _ _ (c.answer_segments.ensures.unaccepted h);
+    })
