@@ -1,0 +1,78 @@
+"""The calls of the shared library, declared as c/pefidx.h has them."""
+
+from __future__ import annotations
+
+import array
+import ctypes
+import os
+import sys
+from typing import Any, NoReturn
+
+DONE, END, ROOM, NO_INDEX, NO_TERM, NO_DOCUMENT, TOO_MANY_TERMS, BAD_WEIGHTS, NO_PLAN, NO_MEMORY, TOO_LARGE, TOO_MANY, NOT_WHOLE, BAD_POSTING = range(14)
+
+#: the greatest number of 32 bits
+MOST = 2**32 - 1
+
+_CAUSES: dict[int, tuple[type[Exception], str]] = {
+    NO_TERM: (IndexError, "the index has no such term"),
+    NO_DOCUMENT: (IndexError, "the index has no such document"),
+    TOO_MANY_TERMS: (ValueError, "more than 1,024 terms"),
+    BAD_WEIGHTS: (ValueError, "a weight below 1, or weights that sum to 2^26 or more"),
+    NO_PLAN: (ValueError, "no such plan"),
+    NO_MEMORY: (MemoryError, "memory was refused"),
+    TOO_LARGE: (OverflowError, "the index would be too large"),
+    TOO_MANY: (OverflowError, "2^32 lists or documents, or more"),
+    NOT_WHOLE: (ValueError, "not one frequency for each document"),
+}
+
+
+class Fault(ctypes.Structure):
+    _fields_ = [("check", ctypes.c_uint32), ("term", ctypes.c_uint32), ("part", ctypes.c_uint64)]
+
+
+class Posting(ctypes.Structure):
+    _fields_ = [("doc", ctypes.c_uint32), ("freq", ctypes.c_uint32)]
+
+
+class Scored(ctypes.Structure):
+    _fields_ = [("doc", ctypes.c_uint32), ("score", ctypes.c_uint64)]
+
+
+class BadPlace(ctypes.Structure):
+    _fields_ = [("term", ctypes.c_uint32), ("place", ctypes.c_uint64)]
+
+
+def refuse(status: int) -> NoReturn:
+    """Raises what a status stands for."""
+    kind, cause = _CAUSES[status]
+    raise kind(cause)
+
+
+def _loaded() -> ctypes.CDLL:
+    if sys.byteorder != "little" or array.array("I").itemsize != 4:
+        raise ImportError("pefidx wants a little-endian machine with numbers of 32 bits")
+    path = os.environ.get("PEFIDX_LIBRARY") or os.path.join(os.path.dirname(os.path.abspath(__file__)), "libpefidx.so")
+    loaded = ctypes.CDLL(path)
+    at, size, number = ctypes.c_void_p, ctypes.c_size_t, ctypes.c_uint32
+    words: list[type] = [at, size]
+    items = words
+    calls: dict[str, list[Any]] = {
+        "check": [ctypes.POINTER(Fault)],
+        "documents": [],
+        "terms": [],
+        "size_of": [number, ctypes.POINTER(number)],
+        "next": [number, number, ctypes.POINTER(Posting)],
+        "postings": [number, number, *items, ctypes.POINTER(size)],
+        "and": [*items, *items, ctypes.POINTER(size)],
+        "or": [*items, *items, ctypes.POINTER(size)],
+        "top": [number, *items, *items, number, *items, ctypes.POINTER(size)],
+    }
+    for name, rest in calls.items():
+        call = getattr(loaded, f"pefidx_{name}")
+        call.argtypes, call.restype = [*words, *rest], number
+    loaded.pefidx_build.argtypes = [*items, *items, *items, *items, *items, ctypes.POINTER(size), ctypes.POINTER(BadPlace)]
+    loaded.pefidx_build.restype = number
+    return loaded
+
+
+library = _loaded()
