@@ -3,7 +3,7 @@ use Rattle.std.proofs.Common.{◌≡◌, ℕ, zero, suc, ◌+◌, ◌/◌, ◌%�
 use Rattle.std.specs.Prelude.{slice_index, ◌==◌}
 use Rattle.std.proofs.lemmas.List.Elements.{All-weaker}
 use Rattle.collection_model.specs.FormatNumbers.{FormatNumbers}
-use Rattle.collection_model.specs.Collection.{Collection, docs_of, greatest_freq, list_of, IsPostingList}
+use Rattle.collection_model.specs.Collection.{Collection, Posting, docs_of, greatest_freq, list_of, IsPostingList}
 use Rattle.collection_model.specs.Sequences.{doc_sequence, freq_sequence, postings_in}
 use Rattle.part_cost.specs.declared.formats.Format.{Format}
 use Rattle.part_cost.specs.Formats.{numbers_of, HasRoom}
@@ -144,3 +144,26 @@ same-length format laws words t c parts h x e lt =
     let list : IsPostingList format c.documents x.list = subst (IsPostingList format c.documents) e (h.well_formed.lists t [] lt) in
     let r = laws.rise format c.documents x.list list in
     r.docs_count ∙ sym r.sums_count
+
+-- two sequences are those of a list, with its greatest frequency, as what reads them needs it
+pub record AreOfList (docs freqs : SequenceView) (greatest : ℕ) (list : List Posting) : Type 0 where
+  pub same_length : length docs.values ≡ length freqs.values
+  pub cursor : IsCursorList (postings_in docs.values freqs.values)
+  pub most : greatest ≡ greatest_freq (postings_in docs.values freqs.values)
+  pub give : postings_in docs.values freqs.values ≡ list
+
+-- those that words state of a list of an index are its own
+pub list-read : (format : FormatNumbers) (room : HasRoom format) → SequenceLaws format → (words : List ℕ) (c : Collection) (parts : List ListParts) → Spells format words c parts → (t : ℕ) → t < stated_terms words
+    → (docs freqs : SequenceView) (greatest : ℕ) → docs ≡ docs_stated format words t → freqs ≡ freqs_stated format words t → greatest ≡ stated_greatest words t → AreOfList docs freqs greatest (list_of c t)
+list-read format room laws words c parts h t lt docs freqs greatest docs_are freqs_are most =
+    let l = opened-list format room laws words c parts h t lt in
+    let as_docs : docs ≡ docs_view format l.0 = docs_are ∙ docs-read format laws words t l.0 l.1 in
+    let as_freqs : freqs ≡ freqs_view format l.0 = freqs_are ∙ freqs-read format laws words t l.0 l.1 in
+    let read = read-list format words t l.0 docs freqs l.1 as_docs as_freqs in
+    let within : t < length c.lists = omega (arith, lt, terms-are format words c parts h) in
+    record {
+      same_length = ap (λ v. length v.values) as_docs ∙ same-length format laws words t c parts h l.0 l.2 within ∙ sym (ap (λ v. length v.values) as_freqs);
+      cursor = subst IsCursorList (sym read) l.1.cursor;
+      most = most ∙ l.1.most ∙ ap greatest_freq (sym read);
+      give = read ∙ sym l.2;
+    }

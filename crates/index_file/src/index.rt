@@ -1,5 +1,5 @@
-ghost use Rattle.std.specs.Prelude.{◌≡◌, ◌<◌, ◌-◌, ◌^◌, List, length, sum, slice_index, take, drop, IfOk, IfErr};
-ghost use Rattle.collection_model.specs.Collection.{Collection, WellFormed, list_of, docs_of, greatest_freq};
+ghost use Rattle.std.specs.Prelude.{◌≡◌, ◌<◌, ◌-◌, ◌^◌, List, length, sum, slice_index, take, drop, option_map, IfOk, IfErr};
+ghost use Rattle.collection_model.specs.Collection.{Collection, WellFormed, list_of, docs_of, first_at_least, greatest_freq};
 ghost use Rattle.part_cost.specs.Formats.{numbers_of};
 ghost use Rattle.two_level.specs.SequenceView.{start_of_part};
 ghost use Rattle.index_file.specs.FileWords.{ListParts, ArePartitions, Spells, IsIndexIn, IsIndex};
@@ -15,7 +15,7 @@ use crate::totals::{all_postings, all_sizes, size_at};
 use crate::views::{ListViews, list_views};
 use cursor_api::DocCursor;
 use part_cost::{Format, Kind, Which};
-use postings::PostingCursor;
+use postings::{PostingCursor, first_posting};
 use std::marker::Model;
 
 /// An index over the words of its file, in the format whose version is word 1.
@@ -198,6 +198,14 @@ impl<'a> Index<'a> {
     {
         cursor_at(self.words, t, self.format())
     }
+
+    /// The first posting of list t whose document is at least d, as document and frequency.
+    pub fn first_posting(&self, t: u32, d: u32) -> Option<(u32, u32)>
+        requires within { t < length self.now.collection.lists }
+        ensures { result ≡ option_map (λ p. (p.doc, p.freq)) (first_at_least (list_of self.now.collection t) d) }
+    {
+        posting_from(self.words, t, d, self.format())
+    }
 }
 
 // A cursor at the start of list t of the words of an index.
@@ -211,4 +219,17 @@ fn cursor_at<'a>(words: &'a [u64], t: u32, format: Format) -> PostingCursor<'a>
     sequence_laws();
     let list = list_views(words, t, format);
     PostingCursor::new(list.docs, list.freqs, list.greatest)
+}
+
+// The first posting of list t of the words of an index whose document is at least d.
+fn posting_from(words: &[u64], t: u32, d: u32, format: Format) -> Option<(u32, u32)>
+    requires words { length words.now < 2 ^ 57 }
+    requires index { IsIndexIn (numbers_of format) words.now }
+    requires within { t < stated_terms words.now }
+    ensures { (c : Collection) (parts : List ListParts) → Spells (numbers_of format) words.now c parts
+        → result ≡ option_map (λ p. (p.doc, p.freq)) (first_at_least (list_of c t) d) }
+{
+    sequence_laws();
+    let list = list_views(words, t, format);
+    first_posting(&list.docs, &list.freqs, d)
 }

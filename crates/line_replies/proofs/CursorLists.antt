@@ -1,14 +1,11 @@
-use Rattle.std.proofs.Common.{◌≡◌, refl, sym, ◌∙◌, ap, subst, ℕ, ◌<◌, ◌≤◌, List, length, map, arith}
-use Rattle.std.specs.Prelude.{Option, Some, None, option_map, Result, Ok, Err, IfOk, Vec}
+use Rattle.std.proofs.Common.{◌≡◌, sym, ◌∙◌, ap, subst, ℕ, ◌<◌, ◌≤◌, List, length, map, arith}
+use Rattle.std.specs.Prelude.{Result, Ok, Err, IfOk, Vec}
 use Rattle.std.specs.declared.alloc.Global.{Global}
-use Rattle.std.specs.List.{All, slice_get}
+use Rattle.std.specs.List.{All}
 use Rattle.std.proofs.lemmas.List.{length-map}
 use Rattle.std.proofs.lemmas.List.Elements.{All-weaker}
-use Rattle.std.proofs.lemmas.Option.{slice_get-map, none-some}
 use Rattle.collection_model.specs.FormatNumbers.{FormatNumbers}
-use Rattle.collection_model.specs.Collection.{Posting, Collection, WellFormed, IsPostingList, docs_of, freqs_of, list_of, first_at_least}
-use Rattle.cursor_api.specs.NextGeq.{next_geq_place}
-use Rattle.cursor_api.proofs.FirstPosting.{first-is_next}
+use Rattle.collection_model.specs.Collection.{Posting, Collection, WellFormed, IsPostingList, docs_of, list_of}
 use Rattle.scan_plans.specs.Matches.{AreBelow}
 use Rattle.scan_plans.specs.IsTop.{IsTop}
 use Rattle.scan_plans.specs.TopQuery.{IsTopQuery}
@@ -38,41 +35,6 @@ is-query list_at place_at c terms weights made cursors in_range below few each a
 -- the documents of a well-formed collection are below their number
 pub well-in-range : (format : FormatNumbers) (c : Collection) → WellFormed format c → IsInRange c
 well-in-range format c well = All-weaker (IsPostingList format c.documents) (λ list. All (λ d. d < c.documents) (docs_of list)) (λ list is. is.in_range) c.lists well.lists
-
--- ---- the first posting of a list whose document is at least d
-
--- where a cursor went that stood there
-first-at : (old new : List Posting) (start place d : ℕ) → start ≡ 0 → new ≡ old → place ≡ next_geq_place old start d → slice_get new place ≡ first_at_least old d
-first-at old new start place d at same went =
-    ap (λ list. slice_get list place) same ∙ ap (slice_get old) (went ∙ ap (λ n. next_geq_place old n d) at) ∙ sym (first-is_next old d)
-
-abbrev pub pair_of : Posting → ℕ × ℕ
-pair_of p = (p.doc, p.freq)
-
-none-mapped : (o : Option Posting) → option_map (λ p. p.doc) o ≡ None → option_map pair_of o ≡ None
-none-mapped None e = refl
-none-mapped (Some p) e = absurd (none-some p.doc (sym e))
-
-some-mapped : (o : Option Posting) (doc freq : ℕ) → option_map (λ p. p.doc) o ≡ Some doc → option_map (λ p. p.freq) o ≡ Some freq → option_map pair_of o ≡ Some (doc, freq)
-some-mapped None doc freq d f = absurd (none-some doc d)
-some-mapped (Some p) doc freq d f = cc
-
-pub none-found : (old new : List Posting) (start place d : ℕ) → start ≡ 0 → new ≡ old → place ≡ next_geq_place old start d →
-    option_map (λ p. p.doc) (slice_get new place) ≡ None → option_map pair_of (first_at_least old d) ≡ None
-none-found old new start place d at same went none =
-    let is = first-at old new start place d at same went in
-    none-mapped (first_at_least old d) (ap (option_map (λ p. p.doc)) (sym is) ∙ none)
-
-pub found : (old new : List Posting) (start place d doc freq : ℕ) → start ≡ 0 → new ≡ old → place ≡ next_geq_place old start d →
-    option_map (λ p. p.doc) (slice_get new place) ≡ Some doc → slice_get (freqs_of new) place ≡ Some freq →
-    option_map pair_of (first_at_least old d) ≡ Some (doc, freq)
-found old new start place d doc freq at same went some of =
-    let is = first-at old new start place d at same went in
-    some-mapped (first_at_least old d) doc freq
-    (ap (option_map (λ p. p.doc)) (sym is) ∙ some)
-    (ap (option_map (λ p. p.freq)) (sym is) ∙ sym (slice_get-map (λ p. p.freq) new place) ∙ of)
-
--- ---- the reply to top
 
 -- the text of a top list, from cursors over the lists that are asked for
 pub top-text : (n : ℕ) (lists asked : List (List Posting)) (weights : List ℕ) (k : ℕ) (found lent : List (ℕ × ℕ)) (r : Result (Vec ℕ Global) NoMemory) → lists ≡ asked → IsTop n lists weights k found → lent ≡ found →

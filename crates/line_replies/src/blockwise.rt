@@ -54,6 +54,15 @@ impl<'i, 'a> TermLists for SideLists<'i, 'a> {
         Ok(self.blocks.cursor(self.side, term))
     }
 
+    fn first_posting(
+        &self,
+        _alloc: Global,
+        term: u32,
+        doc: u32,
+    ) -> Result<Option<(u32, u32)>, NoMemory> {
+        Ok(self.blocks.index().first_posting(term, doc))
+    }
+
     fn push_cursor(
         &self,
         _alloc: Global,

@@ -43,6 +43,15 @@ impl<'i, 'a> TermLists for IndexLists<'i, 'a> {
         Ok(self.index.cursor(term))
     }
 
+    fn first_posting(
+        &self,
+        _alloc: Global,
+        term: u32,
+        doc: u32,
+    ) -> Result<Option<(u32, u32)>, NoMemory> {
+        Ok(self.index.first_posting(term, doc))
+    }
+
     fn push_cursor(
         &self,
         _alloc: Global,

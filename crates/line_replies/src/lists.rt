@@ -1,10 +1,11 @@
-ghost use Rattle.std.specs.Prelude.{◌≡◌, ◌<◌, ◌^◌, ◌+◌, ◌++◌, ◌∷◌, [], map, length, vec_len, vec_capacity, IfOk, OnOk};
+ghost use Rattle.std.specs.Prelude.{◌≡◌, ◌<◌, ◌^◌, ◌+◌, ◌++◌, ◌∷◌, [], map, length, option_map, vec_len, vec_capacity, IfOk, OnOk};
 ghost use Rattle.std.specs.List.{All};
-ghost use Rattle.collection_model.specs.Collection.{Collection, list_of};
+ghost use Rattle.collection_model.specs.Collection.{Collection, first_at_least, list_of};
 ghost use Rattle.scan_plans.specs.IsTop.{IsTop};
 ghost use Rattle.scan_plans.specs.TopQuery.{IsTopQuery};
 ghost use Rattle.segments.specs.Laws.{IsInRange};
 
+use crate::reply::first_posting;
 use cursor_api::DocCursor;
 use no_memory::NoMemory;
 use std::alloc::Global;
@@ -30,6 +31,24 @@ pub trait TermLists {
         requires { term < length (collection self.now).lists }
         ensures list { IfOk result (λ cursor. Self.Cursor.list cursor ≡ list_of (collection self.now) term) }
         ensures start { IfOk result (λ cursor. Self.Cursor.place cursor ≡ 0) };
+
+    /// The first posting of a term's list whose document is at least this one, as document and frequency.
+    fn first_posting(
+        &self,
+        alloc: Global,
+        term: u32,
+        doc: u32,
+    ) -> Result<Option<(u32, u32)>, NoMemory>
+        requires { term < length (collection self.now).lists }
+        ensures { IfOk result (λ found. found ≡ option_map (λ p. (p.doc, p.freq)) (first_at_least (list_of (collection self.now) term) doc)) }
+    {
+        // The cursor is not moved out of the result.
+        let mut opened = self.cursor(alloc, term);
+        match &mut opened {
+            Ok(cursor) => Ok(first_posting(cursor, doc)),
+            Err(_) => Err(NoMemory),
+        }
+    }
 
     /// Puts a cursor at the start of a term's list behind others. There is room for it.
     fn push_cursor(

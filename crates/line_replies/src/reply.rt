@@ -56,16 +56,11 @@ fn next_answer<L: TermLists>(
     requires { term < length (L.collection lists.now).lists }
     ensures { IfOk result (λ text. text.items ≡ next_text (option_map (λ p. (p.doc, p.freq)) (first_at_least (list_of (L.collection lists.now) term) doc))) }
 {
-    // The cursor is not moved out of the result.
-    let mut opened = lists.cursor(alloc, term);
-    match &mut opened {
-        Ok(cursor) => next_reply(alloc, first_posting(cursor, doc)),
-        Err(_) => Err(NoMemory),
-    }
+    next_reply(alloc, lists.first_posting(alloc, term, doc)?)
 }
 
 // The first posting of a list whose document is at least this one, as document and frequency.
-fn first_posting<C: DocCursor>(cursor: &mut C, doc: u32) -> Option<(u32, u32)>
+pub(crate) fn first_posting<C: DocCursor>(cursor: &mut C, doc: u32) -> Option<(u32, u32)>
     requires { C.place cursor.old ≡ 0 }
     ensures { result ≡ option_map (λ p. (p.doc, p.freq)) (first_at_least (C.list cursor.old) doc) }
 {

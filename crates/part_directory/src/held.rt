@@ -2,7 +2,7 @@ ghost use Rattle.std.specs.Prelude.{◌≡◌, ℕ, ◌≤◌, ◌<◌, ◌+◌,
 ghost use Rattle.collection_model.specs.NextBelow.{AreNextBelow};
 ghost use Rattle.std.specs.List.Sorted.{IsStrictlyIncreasing};
 ghost use Rattle.part_cost.specs.Payload.{widest_low};
-ghost use Rattle.part_cost.specs.Span.{past, relative_values};
+ghost use Rattle.part_cost.specs.Span.{past, universe, relative_values};
 ghost use Rattle.part_cost.specs.Stored.{IsFirstAtLeast};
 ghost use Rattle.part_codec.specs.PartView.{Holds, count_of};
 ghost use Rattle.part_codec.specs.Sought.{IsSought};
@@ -101,6 +101,23 @@ impl<'a> HeldPart<'a> {
             self.part.last + 1 - self.part.u
         } else {
             self.value(place - 1) + 1
+        }
+    }
+
+    // How far the value at a place in the part lies past the value before it.
+    fn step(&self, place: u32) -> u64
+        requires values { (xs : List ℕ) × HoldsValues self.now xs × IsStrictlyIncreasing xs }
+        requires after { self.now.part.from ≤ place }
+        requires before { place < self.now.part.to }
+        ensures { (xs : List ℕ) → HoldsValues self.now xs → IsStrictlyIncreasing xs
+            → result ≡ universe xs place (place + 1) }
+    {
+        if place == self.part.from {
+            let past = self.part.last + 1 - self.part.u;
+            self.first() + 1 - past
+        } else {
+            let before = self.value(place - 1);
+            self.value_after(place - 1, before) - before
         }
     }
 
@@ -298,5 +315,13 @@ impl<'a> Directory<'a> {
         ensures { result ≡ slice_index (sequence_of self.now).values place }
     {
         self.hold_place(place).value(place)
+    }
+
+    /// How far the value at a place of the sequence lies past the value before it; the first value counts from -1.
+    pub fn step_at(&self, place: u32) -> u64
+        requires within { place < length (sequence_of self.now).values }
+        ensures { result ≡ universe (sequence_of self.now).values place (place + 1) }
+    {
+        self.hold_place(place).step(place)
     }
 }

@@ -2,3 +2,4 @@ mod Steps
 mod Lists
 mod Written
 mod Blocks
+pub mod FirstPosting

@@ -2,11 +2,13 @@
 #![tactic(auto)]
 
 mod cursor;
+mod first;
 mod laws;
 mod sums;
 mod write;
 
 pub use cursor::PostingCursor;
+pub use first::first_posting;
 pub use laws::{
     cursors_stand_in_lists, sequences_are_a_list, sequences_give_their_list,
     sequences_of_a_list_rise,

@@ -67,6 +67,22 @@ impl<'a> SeqCursor<'a> {
         }
     }
 
+    // A cursor at the first value of a sequence that is at least x, else at its end.
+    pub(crate) fn at_value(directory: Directory<'a>, x: u64) -> SeqCursor<'a>
+        ensures sequence { result.sequence ≡ sequence_of directory.entry }
+        ensures place { result.place ≡ place_at_least (sequence_of directory.entry).values 0 x }
+    {
+        let mut held = None;
+        let (counted, known, value) = directory.first_from_part(0, x, &mut held);
+        SeqCursor {
+            directory,
+            counted,
+            known,
+            held,
+            value,
+        }
+    }
+
     /// The place.
     pub fn place(&self) -> u32
         ensures { result ≡ self.now.place }

@@ -236,6 +236,14 @@ impl<'a> SeqView<'a> {
         self.directory.value_at(k)
     }
 
+    /// How far value k lies past the value before it; the first value counts from -1. One part is read.
+    pub fn step(&self, k: u32) -> u64
+        requires within { k < length self.now.values }
+        ensures { result ≡ slice_index (steps_from 0 self.now.values) k }
+    {
+        self.directory.step_at(k)
+    }
+
     /// How many parts there are.
     pub fn parts(&self) -> u32
         ensures { result ≡ length self.now.ends }
@@ -279,6 +287,14 @@ impl<'a> SeqView<'a> {
         ensures start { result.place ≡ 0 }
     {
         SeqCursor::at_start(self.directory)
+    }
+
+    /// A cursor at the first value that is at least x, else at the end. No part is held but that of the value.
+    pub fn cursor_from(&self, x: u64) -> SeqCursor<'a>
+        ensures sequence { result.sequence ≡ self.now }
+        ensures place { result.place ≡ place_at_least self.now.values 0 x }
+    {
+        SeqCursor::at_value(self.directory, x)
     }
 
     /// A cursor at place k, which may be the end. No other part is looked at.

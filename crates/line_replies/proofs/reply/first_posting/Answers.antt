@@ -1,6 +1,6 @@
 use Rattle.std.proofs.Common.{sym, ◌∙◌}
 use Rattle.cursor_api.proofs.FirstPosting.{doc-within}
-use Rattle.line_replies.proofs.CursorLists.{none-found, found}
+use Rattle.postings.proofs.FirstPosting.{none-found, found}
 use Rattle.line_replies.proofs.reply.first_posting.Goals as goal
 
 pub returns-in_err-found : goal.returns-in_err-found
