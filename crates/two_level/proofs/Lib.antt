@@ -1,3 +1,4 @@
 mod Steps
 mod LongSteps
 mod ValuesGiven
+mod Fields
