@@ -1,12 +1,13 @@
 ghost use Rattle.std.specs.Prelude.{◌≡◌, ◌<◌, ◌^◌, length, IfSome};
 ghost use Rattle.std.specs.List.{All};
-ghost use Rattle.collection_model.specs.Collection.{greatest};
-ghost use Rattle.collection_model.specs.Sequences.{steps_from};
+ghost use Rattle.collection_model.specs.Collection.{greatest, greatest_freq};
+ghost use Rattle.collection_model.specs.Sequences.{steps_from, postings_in};
+ghost use Rattle.cursor_api.specs.NextGeq.{IsCursorList};
 
 use crate::sequences::written;
 use cursor_api::DocCursor;
 use part_cost::Format;
-use postings::{PostingCursor, cursors_stand_in_lists, sequences_are_a_list};
+use postings::{PostingCursor, cursors_stand_in_lists, first_posting, sequences_are_a_list};
 use std::process::Abort;
 use two_level::SeqView;
 
@@ -31,8 +32,32 @@ fn greatest_step(sums: &SeqView, m: u32) -> Option<u32>
     Some(most as u32)
 }
 
-// A cursor over m documents below 1000 whose two sequences these words of a format are, in so many
-// parts.
+// The two sequences of m documents below 1000 that these words of a format are, in so many parts,
+// and the greatest frequency.
+fn views<'a>(
+    rt: &impl Abort,
+    format: Format,
+    docs: &'a [u64],
+    sums: &'a [u64],
+    doc_parts: u32,
+    sum_parts: u32,
+    m: u32,
+) -> (SeqView<'a>, SeqView<'a>, u32)
+    requires docs { length docs.now < 2 ^ 57 }
+    requires sums { length sums.now < 2 ^ 57 }
+    ensures same_length { length result.0.values ≡ length result.1.values }
+    ensures list { IsCursorList (postings_in result.0.values result.1.values) }
+    ensures greatest { result.2 ≡ greatest_freq (postings_in result.0.values result.1.values) }
+{
+    sequences_are_a_list();
+    cursors_stand_in_lists();
+    let docs = SeqView::check(docs, doc_parts, m, 1000, format).expect(rt, "documents");
+    let sums = SeqView::check(sums, sum_parts, m, format.most_sum(), format).expect(rt, "sums");
+    let max = greatest_step(&sums, m).expect(rt, "frequencies that fit");
+    (docs, sums, max)
+}
+
+// A cursor over them.
 fn opened<'a>(
     rt: &impl Abort,
     format: Format,
@@ -45,11 +70,7 @@ fn opened<'a>(
     requires docs { length docs.now < 2 ^ 57 }
     requires sums { length sums.now < 2 ^ 57 }
 {
-    sequences_are_a_list();
-    cursors_stand_in_lists();
-    let docs = SeqView::check(docs, doc_parts, m, 1000, format).expect(rt, "documents");
-    let sums = SeqView::check(sums, sum_parts, m, format.most_sum(), format).expect(rt, "sums");
-    let max = greatest_step(&sums, m).expect(rt, "frequencies that fit");
+    let (docs, sums, max) = views(rt, format, docs, sums, doc_parts, sum_parts, m);
     PostingCursor::new(docs, sums, max)
 }
 
@@ -119,6 +140,23 @@ fn reads_the_postings_back(rt: HostRuntime) {
         assert_eq!(rt; next_posting(&mut cursor), None);
         assert_eq!(rt; cursor.max_freq(), freq);
         assert_eq!(rt; cursor.len(), 2);
+    }
+}
+
+// The first posting whose document is large enough: of the second part of the documents, and of both
+// parts of the frequencies.
+#[test]
+fn finds_the_first_posting(rt: HostRuntime) {
+    let docs = [68_719_476_736, 0, 137_438_953_474, 0, 2];
+    let sums = [68_719_476_736, 0, 137_438_953_474, 0, 2];
+    let (docs, sums, _) = views(&rt, Format::One, &docs, &sums, 2, 2, 2);
+    for (d, posting) in [
+        (0, Some((0, 1))),
+        (1, Some((2, 2))),
+        (2, Some((2, 2))),
+        (3, None),
+    ] {
+        assert_eq!(rt; first_posting(&docs, &sums, d), posting, "from {d}");
     }
 }
 

@@ -5,14 +5,18 @@ use std::process::Abort;
 use std::test::Fail;
 use two_level::{Check, Part, SeqView};
 
-// Whether a view gives these values by their places, and a cursor one after another.
+// Whether a view gives these values and their steps by their places, and a cursor one after another.
 fn reads_back(rt: &impl Abort, view: &SeqView, values: &[u64]) {
     let m = view.len();
     assert_eq!(rt; m as usize, values.len());
     let mut cursor = view.cursor();
+    let mut past = 0;
     for k in 0..m {
         let value = values[k as usize];
         assert_eq!(rt; (view.get(k), cursor.value()), (value, value));
+        assert!(rt; past <= value && value < 1 << 48);
+        assert_eq!(rt; view.step(k), value + 1 - past);
+        past = value + 1;
         assert_eq!(rt; cursor.place(), k);
         cursor.next();
     }
@@ -32,6 +36,9 @@ fn finds_places(rt: &impl Abort, view: &SeqView, values: &[u64]) {
         assert_eq!(rt; (cursor.current(), cursor.place()), (Some(value), k));
         cursor.next();
         assert_eq!(rt; cursor.place(), k + 1);
+        let found = view.cursor_from(value);
+        assert_eq!(rt; (found.current(), found.place()), (Some(value), k));
+        assert_eq!(rt; view.cursor_from(value.saturating_add(1)).place(), k + 1);
         assert_eq!(rt; view.cursor_at(k).current(), Some(value));
         cursor.move_to(m - k);
         cursor.move_to(k);
@@ -43,6 +50,7 @@ fn finds_places(rt: &impl Abort, view: &SeqView, values: &[u64]) {
     let mut cursor = view.cursor();
     cursor.next_geq(u64::MAX);
     assert_eq!(rt; cursor.place(), m);
+    assert_eq!(rt; view.cursor_from(u64::MAX).current(), None);
 }
 
 // Whether the parts of a view of these values are those that end at such places.

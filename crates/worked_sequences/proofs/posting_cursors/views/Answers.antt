@@ -13,7 +13,7 @@ use Rattle.cursor_api.specs.NextGeq.{IsCursorList}
 use Rattle.two_level.specs.SequenceWords.{BeginsSequence}
 use Rattle.two_level.specs.SequenceView.{SequenceView}
 use Rattle.postings.specs.Laws.{SequencesAreAList, CursorsStandInLists}
-use Rattle.worked_sequences.proofs.posting_cursors.opened.Goals as goal
+use Rattle.worked_sequences.proofs.posting_cursors.views.Goals as goal
 
 -- two sequences of one length with steps that fit are those of a cursor's list
 cursor-list : SequencesAreAList → CursorsStandInLists → (format : FormatNumbers) (docs sums doc_ends sum_ends doc_words sum_words : List ℕ) (m doc_parts sum_parts : ℕ)
@@ -27,8 +27,8 @@ cursor-list lists stand format docs sums doc_ends sum_ends doc_words sum_words m
 freqs-are_steps : (docs sums : List ℕ) → length docs ≡ length sums → freqs_of (postings_in docs sums) ≡ steps_from 0 sums
 freqs-are_steps docs sums same = freqs-of_postings docs (steps_from 0 sums) (same-steps docs sums same)
 
-pub new-requires-clause-list : goal.new-requires-clause-list
-new-requires-clause-list g c =
+pub returns-clause-list : goal.returns-clause-list
+returns-clause-list g c =
     let docs : SequenceView = c.expect-docs.result in
     let sums : SequenceView = c.expect-sums.result in
     let d : (used : ℕ) × BeginsSequence (numbers_of c.args.format) c.args.m 1000 c.args.doc_parts docs.values docs.ends c.args.docs.now used =
@@ -39,8 +39,8 @@ new-requires-clause-list g c =
     let fit : All (λ f. f < 2 ^ 32) (steps_from 0 sums.values) = subst (λ o. IfSome o (λ x. All (λ f. f < 2 ^ 32) (steps_from 0 sums.values))) c.expect-max.ensures c.greatest_step.ensures.fit in
     cursor-list c.sequences_are_a_list.ensures c.cursors_stand_in_lists.ensures (numbers_of c.args.format) docs.values sums.values docs.ends sums.ends c.args.docs.now c.args.sums.now c.args.m c.args.doc_parts c.args.sum_parts d s fit
 
-pub new-requires-clause-greatest : goal.new-requires-clause-greatest
-new-requires-clause-greatest g c =
+pub returns-clause-greatest : goal.returns-clause-greatest
+returns-clause-greatest g c =
     let docs : SequenceView = c.expect-docs.result in
     let sums : SequenceView = c.expect-sums.result in
     let is : c.expect-max.result ≡ greatest (steps_from 0 sums.values) = subst (λ o. IfSome o (λ x. x ≡ greatest (steps_from 0 sums.values))) c.expect-max.ensures c.greatest_step.ensures.greatest in
