@@ -82,6 +82,25 @@ pub extern "C" fn pefidx_next(words: &[u64], term: u32, doc: u32, found: &mut Po
     }
 }
 
+/// How many postings a term's list has.
+#[unsafe(no_mangle)]
+pub extern "C" fn pefidx_count(words: &[u64], term: u32, postings: &mut u32) -> u32
+    requires few { length words.now < 2 ^ 57 }
+    requires index { IsIndex words.now }
+    ensures no_term { length (collection_in words.now).lists ≤ term
+        → (result ≡ number_of Status.NoTerm) × (postings.new ≡ postings.old) }
+    ensures count { term < length (collection_in words.now).lists
+        → (result ≡ number_of Status.Done)
+        × (postings.new ≡ length (list_of (collection_in words.now) term)) }
+{
+    let index = Index::known(words);
+    if term >= index.terms() {
+        return Status::NoTerm.number();
+    }
+    *postings = index.cursor(term).len();
+    Status::Done.number()
+}
+
 /// The postings of a term's list from a place on, as many as there is room for, and how many these are. Places count from 0. From a
 /// place at or behind the end there are none.
 #[unsafe(no_mangle)]

@@ -9,6 +9,7 @@ mod cursors;
 mod given_lists;
 mod matching;
 mod ranking;
+mod replying;
 mod room;
 mod status;
 #[cfg(test)]

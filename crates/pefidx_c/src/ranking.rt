@@ -28,7 +28,7 @@ const EXHAUSTIVE: u32 = 0;
 
 const WAND: u32 = 1;
 
-const LAST_PLAN: u32 = 2;
+pub(crate) const LAST_PLAN: u32 = 2;
 
 /// The first k of the documents that are in the list of any of these terms, by score falling and then document rising, each with its
 /// score: the sum over the terms of the weight times the frequency. The plan is 0, that scores every document, 1, WAND, or 2, MaxScore, and
@@ -132,7 +132,7 @@ fn best_by(
 }
 
 // The plan of a number.
-fn plan_of(number: u32) -> Plan {
+pub(crate) fn plan_of(number: u32) -> Plan {
     match number {
         EXHAUSTIVE => Plan::Exhaustive,
         WAND => Plan::Wand,

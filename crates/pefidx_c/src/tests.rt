@@ -1,15 +1,17 @@
-// Two lists over three documents, built, checked and asked; what is asked and cannot be; and lists that are none.
+// Two lists over three documents, built, checked, and asked by calls and by lines; what is asked and cannot be; and lists that are none.
 ghost use Rattle.std.specs.Prelude.{◌≤◌, take};
 ghost use Rattle.index_file.specs.FileWords.{IsIndex};
 
 use crate::asking::{
-    Posting, pefidx_documents, pefidx_next, pefidx_postings, pefidx_size_of, pefidx_terms,
+    Posting, pefidx_count, pefidx_documents, pefidx_next, pefidx_postings, pefidx_size_of,
+    pefidx_terms,
 };
 use crate::building::pefidx_build;
 use crate::checking::{Fault, pefidx_check};
 use crate::given_lists::BadPosting;
 use crate::matching::{pefidx_and, pefidx_or};
 use crate::ranking::{Scored, pefidx_top};
+use crate::replying::pefidx_reply;
 use std::alloc::Global;
 use std::process::Abort;
 
@@ -72,6 +74,9 @@ fn postings_are_asked(rt: HostRuntime) {
         assert_eq!(&rt; pefidx_next(words, term, doc, &mut found), status);
         assert_eq!(&rt; (found.doc, found.freq), (2, 1));
     }
+    let mut postings = 9;
+    assert_eq!(&rt; pefidx_count(words, 2, &mut postings), 4);
+    assert_eq!(&rt; (pefidx_count(words, 0, &mut postings), postings), (0, 2));
     let mut given = 0;
     let mut list = [found; 1];
     for (place, doc, freq) in [(0, 0, 2), (1, 2, 1)] {
@@ -120,6 +125,32 @@ fn the_best_are_found_by_each_plan(rt: HostRuntime) {
         assert_eq!(&rt; (status, matches), (0, 2));
         assert_eq!(&rt; (best[0].doc, best[0].score), (2, 41));
         assert_eq!(&rt; (best[1].doc, best[1].score), (0, 2));
+    }
+}
+
+#[test]
+fn lines_are_answered(rt: HostRuntime) {
+    let mut room = [0u64; 64];
+    let count = built(&rt, rt.alloc(), &mut room);
+    let words = &room[..count];
+    for (plan, line, status, length, reply) in [
+        (0, "next 0 1", 0, 4, "2 1\n...."),
+        (1, "top 1 0 1*10", 0, 7, "1 2:41\n."),
+        (2, "or 2", 2, 9, "bad term"),
+        (3, "or 0", 8, 0, "........"),
+    ] {
+        let mut text = [b'.'; 8];
+        let mut given = 0;
+        let ended = pefidx_reply(
+            rt.alloc(),
+            words,
+            plan,
+            line.as_bytes(),
+            &mut text,
+            &mut given,
+        );
+        assert_eq!(&rt; (ended, given), (status, length));
+        assert_eq!(&rt; text.as_slice(), reply.as_bytes());
     }
 }
 
