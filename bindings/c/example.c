@@ -30,7 +30,8 @@ static int asked(const uint64_t *words, size_t count)
     const uint32_t terms[] = {0, 1}, weights[] = {1, 10};
     pefidx_posting found, list[8];
     pefidx_scored best[2];
-    uint32_t matches[3], size;
+    uint32_t matches[3], size, postings;
+    char reply[64];
     size_t given, number, i;
 
     printf("%u documents, %u terms\n", (unsigned)pefidx_documents(words, count), (unsigned)pefidx_terms(words, count));
@@ -48,7 +49,10 @@ static int asked(const uint64_t *words, size_t count)
     if (ended("pefidx_postings", pefidx_postings(words, count, 0, 0, list, 8, &given), PEFIDX_DONE)) {
         return 1;
     }
-    printf("term 0:");
+    if (ended("pefidx_count", pefidx_count(words, count, 0, &postings), PEFIDX_DONE)) {
+        return 1;
+    }
+    printf("term 0, %u postings:", (unsigned)postings);
     for (i = 0; i < given; i++) {
         printf(" %u:%u", (unsigned)list[i].doc, (unsigned)list[i].freq);
     }
@@ -66,6 +70,10 @@ static int asked(const uint64_t *words, size_t count)
     for (i = 0; i < number; i++) {
         printf("best: %u:%llu\n", (unsigned)best[i].doc, (unsigned long long)best[i].score);
     }
+    if (ended("pefidx_reply", pefidx_reply(words, count, PEFIDX_MAXSCORE, "top 2 0 1*10", 12, reply, sizeof reply, &number), PEFIDX_DONE)) {
+        return 1;
+    }
+    printf("top 2 0 1*10: %.*s", (int)number, reply);
     return ended("pefidx_next", pefidx_next(words, count, 2, 0, &found), PEFIDX_NO_TERM);
 }
 

@@ -59,7 +59,7 @@ enum {
 /* The most terms that are asked together. */
 #define PEFIDX_MOST_TERMS 1024
 
-/* The plans of pefidx_top. No answer depends on the plan. */
+/* The plans of pefidx_top, and of `top` in pefidx_reply. No answer depends on the plan. */
 enum {
     /* Every document that has a term is scored. */
     PEFIDX_EXHAUSTIVE = 0,
@@ -116,6 +116,11 @@ uint32_t pefidx_size_of(const uint64_t *words, size_t count, uint32_t doc, uint3
  * It takes no memory. */
 uint32_t pefidx_next(const uint64_t *words, size_t count, uint32_t term, uint32_t doc, pefidx_posting *found);
 
+/* PEFIDX_DONE: *postings is how many postings the term's list has.
+ * PEFIDX_NO_TERM: exactly where term is not below pefidx_terms.
+ * It takes no memory. */
+uint32_t pefidx_count(const uint64_t *words, size_t count, uint32_t term, uint32_t *postings);
+
 /* PEFIDX_DONE: the postings of the term's list from `place` on stand in `postings`, as many as there are or there is room for, and *given
  * is how many these are: 0 from the end of the list on. Places count from 0, so the next block begins at place + *given.
  * PEFIDX_NO_TERM: exactly where term is not below pefidx_terms.
@@ -141,6 +146,13 @@ uint32_t pefidx_or(const uint64_t *words, size_t count, const uint32_t *terms, s
  * PEFIDX_NO_MEMORY: memory is taken for them, for the terms, and for a window of scores. */
 uint32_t pefidx_top(const uint64_t *words, size_t count, uint32_t plan, const uint32_t *terms, size_t terms_count, const uint32_t *weights,
     size_t weights_count, uint32_t k, pefidx_scored *best, size_t room, size_t *found);
+
+/* The reply to a query line, of `length` bytes without its newline, as `pefidx query` writes it: also to a line that breaks a rule.
+ *
+ * PEFIDX_DONE: the reply and its newline stand in `text`, and *written is how many bytes they are.
+ * PEFIDX_ROOM: *written is how many they are, which is more than room; the first `room` of them stand in `text`.
+ * PEFIDX_NO_PLAN: exactly then. PEFIDX_NO_MEMORY: memory is taken for what is asked, and for the reply. */
+uint32_t pefidx_reply(const uint64_t *words, size_t count, uint32_t plan, const char *line, size_t length, char *text, size_t room, size_t *written);
 
 /* The words of the index file, in the second format, of some lists. lengths[t] is how many postings list t has; the documents of all lists
  * stand one after the other in docs, and their frequencies in freqs. There is a document for each size. In a list documents rise, each is

@@ -50,7 +50,7 @@ def built(name, path):
 
 
 def drawn_queries(index, count):
-    lengths = [len(postings.docs) for postings in index]
+    lengths = [index.count(term) for term in range(index.terms)]
     terms = [term for term, length in enumerate(lengths) if length]
     draw = random.Random(1)
     for _ in range(count if terms else 0):

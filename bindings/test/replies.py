@@ -121,14 +121,15 @@ def same_search(program, path, index, lines):
         for given in asked, text, text.encode(), text[:-1], text.encode().splitlines(keepends=True), (line for line in asked):
             got = list(itertools.islice(index.search(given, plan), len(asked) + 1))
             assert got == wanted, next((line[:80], one[:80], other[:80]) for line, one, other in zip(asked, got, wanted) if one != other)
-    assert list(index.search("")) == list(index.search([])) == [] and list(index.search("\n")) == ["bad verb"]
+        assert [index.reply(line, plan) for line in asked] == wanted
+    assert list(index.search("")) == list(index.search([])) == [] and list(index.search("\n")) == ["bad verb"] == [index.reply("\n")]
     print(f"search: {len(asked)} lines under each plan, the same")
 
 
 def walked(index):
     """The lists of an index and its sizes, however they are walked."""
     lists = list(index)
-    assert len(lists) == len(index) == index.terms
+    assert len(lists) == len(index) == index.terms and [len(postings.docs) for postings in lists] == [index.count(term) for term in range(index.terms)]
     draw = random.Random(1)
     longest = max(range(index.terms), key=lambda term: len(lists[term].docs))
     for term in [longest, *draw.sample(range(index.terms), min(index.terms, 300))]:
@@ -226,7 +227,7 @@ def causes(path):
     index = pefidx.Index(path)
     assert repr(index) == f"<pefidx.Index {path!r}: {index.documents} documents, {index.terms} terms>" and not index.closed
     for term in index.terms, -1, 2**32, -(2**70):
-        for call in (lambda: index.next(term, 0), lambda: index.postings(term), lambda: index[term], lambda: index.blocks(term)):
+        for call in (lambda: index.next(term, 0), lambda: index.postings(term), lambda: index[term], lambda: index.blocks(term), lambda: index.count(term)):
             refuses(IndexError, call)
         for call in (lambda: index.and_([term]), lambda: index.or_([0, term]), lambda: index.top(1, {term: 1}), lambda: index.postings_into(bytearray(), term)):
             refuses(IndexError, call)
@@ -249,14 +250,15 @@ def causes(path):
         refuses(ValueError, lambda: index.top(1, weights))
     for call in (lambda: index.or_([0] * 1025), lambda: index.top(1, {0: 1}, plan="none"), lambda: index.search("", "none")):
         refuses(ValueError, call)
-    refuses(ValueError, lambda: list(index.search(["a\nb"])))
+    for call in (lambda: list(index.search(["a\nb"])), lambda: index.reply("a\nb"), lambda: index.reply("or 0", "none")):
+        refuses(ValueError, call)
     assert index.next(0, 2**32 - 1) is None and list(index.blocks(0, 2**32 - 1)) == [] and len(index.and_([])) == 0 and index.top(1, {}) == []
     with index as same:
         assert same is index
     assert index.closed and repr(index) == f"<pefidx.Index {path!r}: closed>"
     for call in (lambda: index.next(0, 0), lambda: index.postings(0), lambda: index.or_([0]), lambda: index.top(1, {})):
         refuses(ValueError, call)
-    for call in (lambda: index.search(""), lambda: index.size_of(0)):
+    for call in (lambda: index.search(""), lambda: index.size_of(0), lambda: index.count(0), lambda: index.reply("or 0")):
         refuses(ValueError, call)
     refuses(FileNotFoundError, lambda: pefidx.Index(path + "-none"))
     print("what is refused is refused by the exception of the table")

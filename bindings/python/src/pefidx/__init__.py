@@ -6,10 +6,12 @@
     with pefidx.Index("NAME.pefindex") as index:
         index.documents, index.terms              # 3, 2
         index.next(0, 1)                          # (2, 1): a document and its frequency, or None
+        index.count(0)                            # 2 postings
         docs, freqs = index.postings(0)           # numpy arrays where numpy is there, else arrays of the standard library
         index.and_([0, 1]), index.or_([0, 1])     # documents, rising
         index.top(10, {0: 1, 1: 3}, plan="wand")  # [(document, score), ..]
-        list(index.search("or 0 1\\nnext 0 1\\n")) # ["2 0 2", "2 1"], as `pefidx query` replies
+        index.reply("or 0 1")                     # "2 0 2", as `pefidx query` replies
+        list(index.search("or 0 1\\nnext 0 1\\n")) # ["2 0 2", "2 1"]
 
 Terms and documents are numbered from 0. Every number may be of any type that is a whole number (`operator.index`); one out of range is an
 IndexError. The module calls a shared library by ctypes: the one beside it, or the one that the environment names as PEFIDX_LIBRARY.

@@ -120,6 +120,12 @@ class Index:
             return None
         return (found.doc, found.freq) if status == DONE else refuse(status)
 
+    def count(self, term: SupportsIndex) -> int:
+        """How many postings a term has, without its list. IndexError: there is no such term."""
+        words, postings = self._open(), ctypes.c_uint32()
+        status = library.pefidx_count(ctypes.addressof(words), len(words), self._term(term), postings)
+        return postings.value if status == DONE else refuse(status)
+
     def postings_into(self, into: Any, term: SupportsIndex, place: SupportsIndex = 0) -> int:
         """Writes the postings of a term into memory of the caller, without a copy, and gives how many it wrote.
 
@@ -213,14 +219,13 @@ class Index:
         IndexError: there is no such term, or k is below 0 or above 2^32 - 1. ValueError: there is no such plan, there are more than 1,024
         terms, a weight is below 1, or the weights sum to 2^26 or more.
         """
-        if plan not in PLANS:
-            refuse(NO_PLAN)
+        number = _plan(plan)
         words, k, found = self._open(), one_of(k, 0, MOST, "k"), ctypes.c_size_t()
         terms, values = held(self._terms(list(weights.keys()))), held(_weights(weights.values()))
         room = max(1, min(k, self.documents))
         best = (Scored * room)()
         status = library.pefidx_top(
-            ctypes.addressof(words), len(words), PLANS[plan], terms.address, terms.length, values.address, values.length, k, ctypes.addressof(best), room, found
+            ctypes.addressof(words), len(words), number, terms.address, terms.length, values.address, values.length, k, ctypes.addressof(best), room, found
         )
         if status != DONE:
             refuse(status)
@@ -234,10 +239,33 @@ class Index:
 
         ValueError: there is no such plan, or a newline stands within a line.
         """
-        if plan not in PLANS:
-            refuse(NO_PLAN)
+        number = _plan(plan)
         self._open()
-        return (_lines.reply(self, line, plan) for line in _lines.cut(lines))
+        return (self._reply(line, number) for line in _lines.cut(lines))
+
+    def reply(self, line: str | bytes, plan: str = "maxscore") -> str:
+        """The reply to one query line, with its newline or without, as `pefidx query` writes it, without its newline.
+
+        A line that breaks a rule gets its reply, `bad ..`, and raises nothing.
+
+        ValueError: there is no such plan, or a newline stands within the line.
+        """
+        return self._reply(_lines.one(line), _plan(plan))
+
+    def _reply(self, line: bytes, plan: int) -> str:
+        words, written, room = self._open(), ctypes.c_size_t(), 4096
+        while True:
+            text = ctypes.create_string_buffer(room)
+            status = library.pefidx_reply(ctypes.addressof(words), len(words), plan, line, len(line), text, room, written)
+            if status == DONE:
+                return text.raw[: written.value - 1].decode()
+            if status != ROOM:
+                refuse(status)
+            room = written.value
+
+
+def _plan(name: str) -> int:
+    return PLANS[name] if name in PLANS else refuse(NO_PLAN)
 
 
 def _weights(values: Iterable[int]) -> Numbers:

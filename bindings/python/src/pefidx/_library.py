@@ -62,10 +62,12 @@ def _loaded() -> ctypes.CDLL:
         "terms": [],
         "size_of": [number, ctypes.POINTER(number)],
         "next": [number, number, ctypes.POINTER(Posting)],
+        "count": [number, ctypes.POINTER(number)],
         "postings": [number, number, *items, ctypes.POINTER(size)],
         "and": [*items, *items, ctypes.POINTER(size)],
         "or": [*items, *items, ctypes.POINTER(size)],
         "top": [number, *items, *items, number, *items, ctypes.POINTER(size)],
+        "reply": [number, *items, *items, ctypes.POINTER(size)],
     }
     for name, rest in calls.items():
         call = getattr(loaded, f"pefidx_{name}")
