@@ -6,20 +6,20 @@ use part_cost::SpanCost;
 use std::sync::ledger::Ledger;
 use step_count::Steps;
 
-// The part from a place to an end, and what is known of its cost and of that of the part that is one number longer.
+/// The part from a place to an end, and what is known of its cost and of that of the part that is one number longer.
 #[derive(Clone, Copy)]
-pub(crate) struct Edge {
+pub struct Edge {
     /// Where the part ends; at the place itself there is no part yet.
-    pub(crate) end: u64,
+    pub end: u64,
     /// What the part costs, where that was asked.
-    pub(crate) cost: Option<u64>,
+    pub cost: Option<u64>,
     /// What the part that is one number longer costs, where that was asked.
-    next: Option<u64>,
+    pub next: Option<u64>,
 }
 
 impl Edge {
-    // The part to this end, nothing known of its cost.
-    pub(crate) fn at(end: u64) -> Edge
+    /// The part to this end, nothing known of its cost.
+    pub fn at(end: u64) -> Edge
         ensures { result ≡ record { end = end; cost = None; next = None } }
     {
         Edge {
@@ -29,8 +29,9 @@ impl Edge {
         }
     }
 
-    // The part to the longest end under the bound, by asking for one number more at a time.
-    fn lengthened<C: SpanCost, L: Ledger>(
+    /// The part to the longest end under the bound, by asking for one number more at a time; this one where the part that is
+    /// one number longer costs more than the bound, whatever this one costs. It counts at most one cost for each number, and one.
+    pub fn lengthened<C: SpanCost, L: Ledger>(
         self,
         i: u64,
         bound: u64,
@@ -39,9 +40,13 @@ impl Edge {
     ) -> Edge
         requires some { i < C.count cost.now }
         requires knows { Knows (C.cost_of cost.now) (C.count cost.now) i self }
-        requires affordable { i < self.end → C.cost_of cost.now i self.end ≤ bound }
         ensures knows { Knows (C.cost_of cost.now) (C.count cost.now) i result }
-        ensures stands { StandsAt (C.cost_of cost.now) (C.count cost.now) bound i result.end }
+        ensures stands { (i < self.end → C.cost_of cost.now i self.end ≤ bound)
+            → StandsAt (C.cost_of cost.now) (C.count cost.now) bound i result.end }
+        ensures affordable { self.end < result.end → IsSome result.cost
+            × (C.cost_of cost.now i result.end ≤ bound) }
+        ensures over { result.end < C.count cost.now
+            → bound < C.cost_of cost.now i (result.end + 1) }
         ensures forward { self.end ≤ result.end }
         ensures same { result.end ≡ self.end → result.cost ≡ self.cost }
         ensures counted { steps.old ≤ steps.new }

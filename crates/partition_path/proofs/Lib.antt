@@ -1,9 +1,8 @@
 mod Near
 mod Traces
-mod Places
-mod Extending
-mod Rises
-mod Search
+mod Offering
+mod Windowing
+mod Searching
 mod LeastRests
 mod SinglePart
-mod RestWindow
+mod Shifting

@@ -2,3 +2,4 @@ pub mod FoundCuts
 pub mod Tables
 pub mod Chains
 pub mod Rests
+pub mod Joints

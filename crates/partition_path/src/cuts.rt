@@ -3,7 +3,8 @@ ghost use Rattle.part_cost.specs.Formats.{numbers_of};
 ghost use Rattle.part_cost.specs.Partition.{IsNear, partition_cost};
 ghost use Rattle.cost_windows.specs.WindowBounds.{window_bounds};
 
-use crate::routes::Routes;
+use crate::joints::{shift_ends, total_cost};
+use crate::search::routes_found;
 use crate::whole::cost_as_one_part;
 use no_memory::NoMemory;
 use part_cost::SpanCost;
@@ -44,12 +45,13 @@ impl Cuts {
 }
 
 /// A partition into parts that are allowed in the costs' format, at most 103/100 of the cheapest such, after the
-/// approximation of Ottaviano and Venturini (Partitioned Elias-Fano Indexes, SIGIR 2014): for each bound of the format a
-/// window slides over the sequence, and the parts that are tried are those to the windows' ends. A sequence that costs
-/// no more as one part than two parts without payload is not cut, and from a place where two more such parts would not be
-/// cheaper than a known route to the end, only the part to the end is tried. For each number and one more it counts at
-/// most three times as many costs as there are window bounds, and it takes room for a few numbers at each place. An `Err`
-/// comes only where memory is refused.
+/// approximation of Ottaviano and Venturini (Partitioned Elias-Fano Indexes, SIGIR 2014): from each place in order, parts are
+/// tried to the longest ends under the format's window bounds. A bound is passed over where a known route leads past its
+/// end at its cost, and a place where the next one costs no more. From a place where two more parts without payload would not
+/// be cheaper than a known route to the end, only the part to the end is tried, and a sequence that costs no more as one
+/// part than two such parts is not cut. At last each cut is moved to a place near by where that is cheaper. For each number and
+/// one more it counts at most three times as many costs as there are window bounds, and it takes room for a few numbers at
+/// each place. An `Err` comes only where memory is refused.
 pub fn partition<C: SpanCost, L: Ledger>(
     alloc: Global,
     cost: &C,
@@ -65,8 +67,9 @@ pub fn partition<C: SpanCost, L: Ledger>(
         ends.push(cost.len())?;
         return Ok(Cuts { ends, total });
     }
-    let routes = Routes::found(alloc, cost, steps)?;
-    let ends = routes.ends(alloc)?;
-    let total = routes.total();
+    let routes = routes_found(alloc, cost, steps)?;
+    let mut ends = routes.ends(alloc)?;
+    shift_ends(&mut ends, cost, steps);
+    let total = total_cost(&ends, cost, steps);
     Ok(Cuts { ends, total })
 }

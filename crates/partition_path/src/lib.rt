@@ -3,8 +3,9 @@
 
 mod cuts;
 mod exact;
-mod rival;
+mod joints;
 mod routes;
+mod search;
 mod whole;
 
 pub use cuts::{Cuts, partition};

@@ -1,11 +1,12 @@
 use Rattle.std.proofs.Common.{◌≡◌, ◌+◌, ◌-◌, ◌<◌, ◌≤◌, None}
+use Rattle.std.specs.Prelude.{IsSome}
 use Rattle.cost_windows.specs.EdgeFacts.{Knows}
 use Rattle.cost_windows.proofs.edge.Edge.lengthened.Given as goal
 
 abbrev pub invariant-loop-edge : goal.invariant-loop-edge
 invariant-loop-edge g l =
     Knows (g.C.SpanCost.cost_of l.cost) (g.C.SpanCost.count l.cost) l.i l.edge
-    × (l.i < l.edge.end → g.C.SpanCost.cost_of l.cost l.i l.edge.end ≤ l.bound)
+    × (l.initial.edge.end < l.edge.end → IsSome l.edge.cost × (g.C.SpanCost.cost_of l.cost l.i l.edge.end ≤ l.bound))
     × (l.initial.edge.end ≤ l.edge.end)
     × (l.edge.end ≡ l.initial.edge.end → (l.edge ≡ l.initial.edge) × (l.steps ≡ l.initial.steps))
     × (l.steps + l.initial.edge.end ≤ l.initial.steps + l.edge.end)

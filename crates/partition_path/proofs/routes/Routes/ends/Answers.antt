@@ -12,4 +12,4 @@ loop-end-preserved c =
     let within : end ≤ n = c.loop-end.invariant.1 in
     let pushed : c.push.new.self.items ≡ c.loop-end.ends.items ++ end ∷ [] = grind (arith, common_steps) in
     let link = c.requires.linked end some (omega (arith, within, c.requires.some)) c.loop-end.invariant.2 in
-    (chain-more t c.to-end.result.start end n c.loop-end.ends.items c.push.new.self.items c.loop-end.invariant.0 some within c.to-end.ensures.start pushed, omega (arith, link.0, c.to-end.ensures.start, within), rw c.to-end.ensures.start link.1)
+    (chain-more t c.start-end.result end n c.loop-end.ends.items c.push.new.self.items c.loop-end.invariant.0 some within c.start-end.ensures pushed, omega (arith, link.0, c.start-end.ensures, within), rw c.start-end.ensures link.1)

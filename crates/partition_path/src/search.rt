@@ -1,0 +1,180 @@
+ghost use Rattle.std.specs.Prelude.{◌≡◌, ℕ, ◌+◌, ◌*◌, ◌<◌, ◌≤◌, length, IsSome, IfSome, IfNone, IfOk, List, slice_index_or};
+ghost use Rattle.std.specs.List.{sum};
+ghost use Rattle.part_cost.specs.Formats.{numbers_of};
+ghost use Rattle.part_cost.specs.Partition.{IsAllowed, partition_cost};
+ghost use Rattle.cost_windows.specs.EdgeFacts.{Knows};
+ghost use Rattle.cost_windows.specs.WindowBounds.{window_bounds};
+ghost use Rattle.partition_path.specs.Tables.{AreRoutes, AreTried, IsAnswered, IsReached, StandCheap, cost_to, unreached};
+
+use crate::routes::Routes;
+use cost_windows::{Edge, bounds, bounds_follow_rule};
+use no_memory::NoMemory;
+use part_cost::{SpanCost, bounds_cover, formats_have_room};
+use std::alloc::Global;
+use std::sync::ledger::Ledger;
+use step_count::Steps;
+
+// The routes that are found from all places in order: from each place that costs less than the next, parts are tried whose
+// ends no known route reaches at nearly their cost.
+pub(crate) fn routes_found<C: SpanCost, L: Ledger>(
+    alloc: Global,
+    cost: &C,
+    steps: &mut Steps<L>,
+) -> Result<Routes, NoMemory>
+    ensures routes { IfOk result (λ t. AreRoutes (numbers_of (C.format_of cost.now)).limit
+        (C.cost_of cost.now) (C.count cost.now) (C.count cost.now) t) }
+    ensures reached { IfOk result (λ t. IsReached t (C.count cost.now)) }
+    ensures near { IfOk result (λ t. (others : List ℕ)
+        → IsAllowed (numbers_of (C.format_of cost.now)).limit (C.cost_of cost.now)
+        (C.count cost.now) others
+        → 100 * cost_to t (C.count cost.now) ≤ 103 * partition_cost (C.cost_of cost.now) others) }
+    ensures counted { steps.old ≤ steps.new }
+    ensures bounded { steps.new ≤ steps.old
+        + 2 * length (window_bounds (C.format_of cost.now)) * C.count cost.now }
+{
+    formats_have_room();
+    bounds_follow_rule();
+    bounds_cover();
+    let count = cost.len();
+    let charge = cost.format().charge();
+    let mut routes = Routes::new(alloc, count as usize)?;
+    let mut stands = vec![in alloc; 0; bounds(cost.format()).len()]?;
+    for i in 0..count {
+        if routes.cost(i) < routes.cost(i + 1) {
+            if routes.cost(count) <= routes.cost(i) + 2 * charge {
+                try_rest(&mut routes, i, cost, steps);
+            } else {
+                try_windows(&mut routes, i, &mut stands, cost, steps);
+            }
+        }
+    }
+    Ok(routes)
+}
+
+// Tries the part from place i to the last place, where it is allowed.
+fn try_rest<C: SpanCost, L: Ledger>(routes: &mut Routes, i: u64, cost: &C, steps: &mut Steps<L>)
+    requires within { i < C.count cost.now }
+    requires routes { AreRoutes (numbers_of (C.format_of cost.now)).limit (C.cost_of cost.now)
+        (C.count cost.now) i routes.old }
+    requires reached { IsReached routes.old i }
+    requires room { cost_to routes.old i + (numbers_of (C.format_of cost.now)).limit < unreached }
+    ensures tried { AreTried (numbers_of (C.format_of cost.now)).limit (C.cost_of cost.now)
+        (C.count cost.now) i routes.old routes.new }
+    ensures offered { C.cost_of cost.now i (C.count cost.now)
+        ≤ (numbers_of (C.format_of cost.now)).limit
+        → cost_to routes.new (C.count cost.now)
+        ≤ cost_to routes.old i + C.cost_of cost.now i (C.count cost.now) }
+    ensures step { steps.new ≡ steps.old + 1 }
+{
+    let rest = cost.cost(i, cost.len(), steps);
+    if rest <= cost.format().limit() {
+        routes.offer(i, cost.len(), routes.cost(i) + rest);
+    }
+}
+
+// Tries parts from place i, so that each allowed one is answered. Of each window that is looked at it is known how far a route
+// leads that costs at most its bound more than the route to this place; those whose bound the next part is above are passed.
+fn try_windows<C: SpanCost, L: Ledger>(
+    routes: &mut Routes,
+    i: u64,
+    stands: &mut Vec<u64>,
+    cost: &C,
+    steps: &mut Steps<L>,
+)
+    requires within { i < C.count cost.now }
+    requires routes { AreRoutes (numbers_of (C.format_of cost.now)).limit (C.cost_of cost.now)
+        (C.count cost.now) i routes.old }
+    requires reached { IsReached routes.old i }
+    requires stands { StandCheap (window_bounds (C.format_of cost.now)) (C.count cost.now)
+        (cost_to routes.old i) routes.old stands.old.items }
+    requires room { cost_to routes.old i + (numbers_of (C.format_of cost.now)).limit < unreached }
+    ensures tried { AreTried (numbers_of (C.format_of cost.now)).limit (C.cost_of cost.now)
+        (C.count cost.now) i routes.old routes.new }
+    ensures answered { (e : ℕ) → i < e → e ≤ C.count cost.now
+        → IsAnswered (numbers_of (C.format_of cost.now)).limit (C.cost_of cost.now) i
+        (cost_to routes.old i) routes.new e }
+    ensures stands { StandCheap (window_bounds (C.format_of cost.now)) (C.count cost.now)
+        (cost_to routes.old i) routes.new stands.new.items }
+    ensures counted { steps.old ≤ steps.new }
+    // At most one cost for each place that a window moved on, and one for each window.
+    ensures bounded { steps.new + sum stands.old.items
+        ≤ steps.old + sum stands.new.items + length (window_bounds (C.format_of cost.now)) }
+{
+    bounds_cover();
+    bounds_follow_rule();
+    let bounds = bounds(cost.format());
+    let mut edge = Edge::at(i);
+    let mut k = 0;
+    while k < bounds.len() && edge.end < cost.len() {
+        edge = stretched(routes, i, stands[k], bounds[k], edge, cost, steps);
+        stands[k] = edge.end;
+        k = covering(bounds, k + 1, edge.next);
+    }
+}
+
+// The first bound from k on that is no less than what the next part costs, where that is known.
+fn covering(bounds: &[u64], k: usize, next: Option<u64>) -> usize
+    requires { k ≤ length bounds.now }
+    ensures forward { k ≤ result }
+    ensures within { result ≤ length bounds.now }
+    ensures passed { IfSome next
+        (λ c. (m : ℕ) → k ≤ m → m < result → slice_index_or bounds.now m 0 < c) }
+    ensures covers { IfSome next
+        (λ c. result < length bounds.now → c ≤ slice_index_or bounds.now result 0) }
+    ensures unknown { IfNone next (result ≡ k) }
+{
+    let Some(part) = next else {
+        return k;
+    };
+    let mut first = k;
+    while first < bounds.len() && bounds[first] < part {
+        first += 1;
+    }
+    first
+}
+
+// The edge behind which the next part from place i costs more than the bound: up to there each place is reached by a route that
+// costs at most the bound more than the one to place i. Where no known route leads there, the part to it is tried.
+fn stretched<C: SpanCost, L: Ledger>(
+    routes: &mut Routes,
+    i: u64,
+    stand: u64,
+    bound: u64,
+    edge: Edge,
+    cost: &C,
+    steps: &mut Steps<L>,
+) -> Edge
+    requires within { i < C.count cost.now }
+    requires routes { AreRoutes (numbers_of (C.format_of cost.now)).limit (C.cost_of cost.now)
+        (C.count cost.now) (i + 1) routes.old }
+    requires reached { IsReached routes.old i }
+    requires knows { Knows (C.cost_of cost.now) (C.count cost.now) i edge }
+    requires stand { stand ≤ C.count cost.now }
+    requires cheap_stand { cost_to routes.old stand ≤ cost_to routes.old i + bound }
+    requires cheap_edge { cost_to routes.old edge.end ≤ cost_to routes.old i + bound }
+    requires allowed { bound ≤ (numbers_of (C.format_of cost.now)).limit }
+    requires room { cost_to routes.old i + (numbers_of (C.format_of cost.now)).limit < unreached }
+    ensures tried { AreTried (numbers_of (C.format_of cost.now)).limit (C.cost_of cost.now)
+        (C.count cost.now) i routes.old routes.new }
+    ensures knows { Knows (C.cost_of cost.now) (C.count cost.now) i result }
+    ensures cheap { cost_to routes.new result.end ≤ cost_to routes.old i + bound }
+    ensures over { result.end < C.count cost.now → bound < C.cost_of cost.now i (result.end + 1) }
+    ensures known { result.end < C.count cost.now → IsSome result.next }
+    ensures forward { edge.end ≤ result.end }
+    ensures stand { stand ≤ result.end }
+    ensures counted { steps.old ≤ steps.new }
+    ensures bounded { steps.new + stand ≤ steps.old + result.end + 1 }
+{
+    let most = routes.cost(i) + bound;
+    let reached = routes.furthest(edge.end.max(stand), most);
+    let from = if edge.end < reached {
+        Edge::at(reached)
+    } else {
+        Edge { cost: None, ..edge }
+    };
+    let longer = from.lengthened(i, bound, cost, steps);
+    if let Some(part) = longer.cost {
+        routes.offer(i, longer.end, routes.cost(i) + part);
+    }
+    longer
+}
