@@ -202,7 +202,8 @@ impl<'a> Index<'a> {
     /// The first posting of list t whose document is at least d, as document and frequency.
     pub fn first_posting(&self, t: u32, d: u32) -> Option<(u32, u32)>
         requires within { t < length self.now.collection.lists }
-        ensures { result ≡ option_map (λ p. (p.doc, p.freq)) (first_at_least (list_of self.now.collection t) d) }
+        ensures { result ≡ option_map (λ p. (p.doc, p.freq))
+            (first_at_least (list_of self.now.collection t) d) }
     {
         posting_from(self.words, t, d, self.format())
     }
@@ -226,7 +227,8 @@ fn posting_from(words: &[u64], t: u32, d: u32, format: Format) -> Option<(u32, u
     requires words { length words.now < 2 ^ 57 }
     requires index { IsIndexIn (numbers_of format) words.now }
     requires within { t < stated_terms words.now }
-    ensures { (c : Collection) (parts : List ListParts) → Spells (numbers_of format) words.now c parts
+    ensures { (c : Collection) (parts : List ListParts)
+        → Spells (numbers_of format) words.now c parts
         → result ≡ option_map (λ p. (p.doc, p.freq)) (first_at_least (list_of c t) d) }
 {
     sequence_laws();

@@ -40,7 +40,8 @@ pub trait TermLists {
         doc: u32,
     ) -> Result<Option<(u32, u32)>, NoMemory>
         requires { term < length (collection self.now).lists }
-        ensures { IfOk result (λ found. found ≡ option_map (λ p. (p.doc, p.freq)) (first_at_least (list_of (collection self.now) term) doc)) }
+        ensures { IfOk result (λ found. found ≡ option_map (λ p. (p.doc, p.freq))
+            (first_at_least (list_of (collection self.now) term) doc)) }
     {
         // The cursor is not moved out of the result.
         let mut opened = self.cursor(alloc, term);

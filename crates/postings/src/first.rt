@@ -10,7 +10,8 @@ use two_level::SeqView;
 pub fn first_posting(docs: &SeqView<'_>, freqs: &SeqView<'_>, d: u32) -> Option<(u32, u32)>
     requires same_length { length docs.now.values ≡ length freqs.now.values }
     requires list { IsCursorList (postings_in docs.now.values freqs.now.values) }
-    ensures { result ≡ option_map (λ p. (p.doc, p.freq)) (first_at_least (postings_in docs.now.values freqs.now.values) d) }
+    ensures { result ≡ option_map (λ p. (p.doc, p.freq))
+        (first_at_least (postings_in docs.now.values freqs.now.values) d) }
 {
     let cursor = docs.cursor_from(u64::from(d));
     match cursor.current() {
