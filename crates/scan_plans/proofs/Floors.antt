@@ -1,7 +1,7 @@
 -- Lemmas on the documents whose scores reach a floor.
-use Rattle.std.proofs.Common.{◌≡◌, refl, sym, ap, inl, inr, ◌⊎◌, ◌∙◌, subst, ℕ, zero, suc, ◌+◌, ◌*◌, ◌<◌, ◌≤◌, Bool, true, false, cond, leb, min, List, [], ◌∷◌, map, length, get_or, arith}
+use Rattle.std.proofs.Common.{◌≡◌, refl, sym, ap, inl, inr, ◌⊎◌, ◌∙◌, subst, ℕ, zero, suc, ◌+◌, ◌*◌, ◌<◌, ◌≤◌, Bool, true, false, cond, leb, List, [], ◌∷◌, length, get_or, arith}
 use Rattle.std.specs.Prelude.{Contains}
-use Rattle.std.specs.List.{All, filter, list_any, count_by, range_with_len, sum_by, zip}
+use Rattle.std.specs.List.{All, filter, list_any, range_with_len, sum_by, zip}
 use Rattle.std.proofs.lemmas.Bool.{cases_lt, cases_Bool, leb-true, leb-false, le-leb}
 use Rattle.std.proofs.lemmas.List.{length-map}
 use Rattle.std.proofs.lemmas.List.Elements.{All-contains, All-weaker, filter_passes}
@@ -15,7 +15,7 @@ use Rattle.cursor_api.specs.NextGeq.{IsCursorList}
 use Rattle.scan_plans.specs.Matches.{has_doc, freq_of_doc, in_any, in_any_from, score}
 use Rattle.scan_plans.specs.Scan.{StandsFrom}
 use Rattle.scan_plans.specs.IsTop.{Before, IsTopOf, IsTopFrom, IsTop, TopAboveFloor, ScoresOfFrequent}
-use Rattle.scan_plans.proofs.Postings.{IsAt, at-doc, doc_at-within, docs-rise}
+use Rattle.scan_plans.proofs.Postings.{at-doc, doc_at-within, docs-rise}
 use Rattle.scan_plans.proofs.Scans.{contains-first, contains-later, contains-split}
 use Rattle.scan_plans.proofs.Steps.{share}
 

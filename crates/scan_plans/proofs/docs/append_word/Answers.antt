@@ -1,29 +1,27 @@
 use Rattle.std.proofs.Common.{◌≡◌, ap, ◌∙◌, subst, ℕ, ◌+◌, ◌^◌, ◌<◌, [], ◌∷◌, ◌++◌, arith}
 use Rattle.scan_plans.proofs.Marks.{IsRest, rest-all, rest-more, rest-less, lowest, lowest-from, lowest-one, none-between, taken-none, taken-more, taken-all}
 use Rattle.scan_plans.proofs.docs.append_word.Goals as goal
+use Rattle.scan_plans.proofs.docs.append_word.Goals.{After-from}
 
 pub loop-rest-init : goal.loop-rest-init
 loop-rest-init c = record { low = 0; rest = rest-all c.args.word; taken = taken-none c.args.base c.args.word c.args.docs.now.items }
 
-pub overflow_add-base : goal.overflow_add-base
-overflow_add-base c =
+-- the document of the lowest bit is one of 32 bits
+fits : (c : After-from) → c.args.base + c.from.result < 2 ^ 32
+fits c =
     let so_far = c.loop-rest.invariant in
     let some = c.loop-rest-test.true in
-    let fits = c.loop-rest.auto.rest-fits in
+    let word = c.loop-rest.auto.rest-fits in
     let is = lowest-one c.args.word so_far.low c.loop-rest.rest (omega arith) (omega arith) so_far.rest in
     let fit = c.requires.fit _ is.0 is.1 in
     let one = c.from.ensures in
     omega arith
 
+pub overflow_add-base : goal.overflow_add-base
+overflow_add-base c = omega (arith, fits (goal.at.overflow_add-base c).After-from)
+
 pub overflow_cast-base : goal.overflow_cast-base
-overflow_cast-base c =
-    let so_far = c.loop-rest.invariant in
-    let some = c.loop-rest-test.true in
-    let fits = c.loop-rest.auto.rest-fits in
-    let is = lowest-one c.args.word so_far.low c.loop-rest.rest (omega arith) (omega arith) so_far.rest in
-    let fit = c.requires.fit _ is.0 is.1 in
-    let one = c.from.ensures in
-    omega arith
+overflow_cast-base c = omega (arith, fits (goal.at.overflow_cast-base c).After-from)
 
 pub loop-rest-smaller : goal.loop-rest-smaller
 loop-rest-smaller c =

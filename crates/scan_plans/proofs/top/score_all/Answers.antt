@@ -12,9 +12,15 @@ use Rattle.scan_plans.specs.Ranking.{Ranking}
 use Rattle.scan_plans.specs.Scan.{StandsFrom}
 use Rattle.scan_plans.specs.Window.{AreScored}
 use Rattle.scan_plans.proofs.Bests.{best-none, best-below, best-top, any-below}
-use Rattle.scan_plans.proofs.Scans.{next-doc, no-next-doc, any-bound}
+use Rattle.scan_plans.proofs.Scans.{IsNextDoc, next-doc, no-next-doc, any-bound}
 use Rattle.scan_plans.proofs.Steps.{passing-leaves-less, starts-stand}
+use Rattle.scan_plans.proofs.top.score_all.Given as given
 use Rattle.scan_plans.proofs.top.score_all.Goals as goal
+use Rattle.scan_plans.proofs.top.score_all.Goals.{In-Some}
+
+-- the next document that a list has
+next-known : (g : given.Over) (c : In-Some g) → IsNextDoc g.C.DocCursor.list g.C.DocCursor.place g.met.C.DocCursor.well_formed c.loop-first.cursors c.loop-first.invariant.low c.in-Some.first
+next-known g c = next-doc g.C.DocCursor.list g.C.DocCursor.place g.met.C.DocCursor.well_formed c.loop-first.cursors c.loop-first.invariant.low c.in-Some.first c.loop-first.invariant.stand (sym c.least_doc.ensures ∙ c.in-Some.is)
 
 -- a number that is not above 0
 zero-unless : (n : ℕ) → ¬ (0 < n) → n ≡ 0
@@ -39,9 +45,7 @@ loop-first-init g c =
     }
 
 pub add_lists-reached-requires-clause-stand : goal.add_lists-reached-requires-clause-stand
-add_lists-reached-requires-clause-stand g c =
-    let next = next-doc g.C.DocCursor.list g.C.DocCursor.place g.met.C.DocCursor.well_formed c.loop-first.cursors c.loop-first.invariant.low c.in-Some.first c.loop-first.invariant.stand (sym c.least_doc.ensures ∙ c.in-Some.is) in
-    next.stand
+add_lists-reached-requires-clause-stand g c = (next-known g (goal.at.add_lists-reached-requires-clause-stand g c).In-Some).stand
 
 pub add_lists-reached-requires-clause-each : goal.add_lists-reached-requires-clause-each
 add_lists-reached-requires-clause-each g c =
@@ -85,12 +89,12 @@ offer_marked-requires-clause-above g c =
     let first : ℕ = c.in-Some.first in
     let low : ℕ = c.loop-first.invariant.low in
     let lists : List (List Posting) = map g.C.DocCursor.list c.args.cursors.now in
-    let next = next-doc g.C.DocCursor.list g.C.DocCursor.place g.met.C.DocCursor.well_formed c.loop-first.cursors c.loop-first.invariant.low c.in-Some.first c.loop-first.invariant.stand (sym c.least_doc.ensures ∙ c.in-Some.is) in
+    let next = next-known g (goal.at.offer_marked-requires-clause-above g c).In-Some in
     best-below c.args.k lists c.args.weights.now (in_any low lists) c.loop-first.top.held first c.loop-first.invariant.best (any-below low first lists next.low_first)
 
 pub loop-first-smaller : goal.loop-first-smaller
 loop-first-smaller g c =
-    let next = next-doc g.C.DocCursor.list g.C.DocCursor.place g.met.C.DocCursor.well_formed c.loop-first.cursors c.loop-first.invariant.low c.in-Some.first c.loop-first.invariant.stand (sym c.least_doc.ensures ∙ c.in-Some.is) in
+    let next = next-known g (goal.at.loop-first-smaller g c).In-Some in
     let some = c.loop-first.invariant.some in
     let same = c.loop-first.invariant.same in
     passing-leaves-less g.C.DocCursor.list g.C.DocCursor.place g.met.C.DocCursor.well_formed c.in-Some.first (c.in-Some.first + length c.loop-first.scores) c.loop-first.cursors c.add_lists-reached.new.cursors (omega arith) c.add_lists-reached.ensures.lists next.stand c.add_lists-reached.ensures.stand next.at
@@ -103,7 +107,7 @@ loop-first-preserved g c =
     let lists : List (List Posting) = map g.C.DocCursor.list c.args.cursors.now in
     let weights : List ℕ = c.args.weights.now in
     let held : List (ℕ × ℕ) = c.loop-first.top.held in
-    let next = next-doc g.C.DocCursor.list g.C.DocCursor.place g.met.C.DocCursor.well_formed c.loop-first.cursors c.loop-first.invariant.low c.in-Some.first c.loop-first.invariant.stand (sym c.least_doc.ensures ∙ c.in-Some.is) in
+    let next = next-known g (goal.at.loop-first-preserved g c).In-Some in
     let skipped : in_any low lists ≡ in_any first lists = subst (λ (ls : List (List Posting)). in_any low ls ≡ in_any first ls) same next.skipped in
     let scored : AreScored lists weights first c.add_lists-reached.new.scores = subst (λ (ls : List (List Posting)). AreScored ls weights first c.add_lists-reached.new.scores) same c.add_lists-reached.ensures.scores in
     let k = c.loop-first.invariant.k in

@@ -78,44 +78,27 @@ loop-reached-preserved g c =
       below = λ i f lt. (let b = step-below list good.well_formed c.args.first place (length c.args.scores.now) above block count next some i (omega arith) in omega arith);
     }
 
-pub returns-clause-stand : goal.returns-clause-stand
-returns-clause-stand g c =
+pub returns : goal.returns
+returns g c =
     let so_far = c.loop-reached.invariant in
     let list : List Posting = g.C.DocCursor.list c.args.cursor.now in
-    let place : ℕ = g.C.DocCursor.place c.loop-reached.cursor in
-    let end = end-is list (g.C.DocCursor.list c.loop-reached.cursor) c.args.first c.from.result (length c.args.scores.now) (g.C.DocCursor.place c.args.cursor.now) place c.loop-reached.reached so_far.list c.from.ensures (g.met.C.DocCursor.well_formed c.loop-reached.cursor) c.requires.stand so_far.within so_far.below (c.loop-reached-test.ensures.behind refl) in
-    subst (λ (l : List Posting). StandsFrom (c.args.first + length c.args.scores.now) l place) (sym so_far.list) end.1
-
-pub returns-clause-scores : goal.returns-clause-scores
-returns-clause-scores g c =
-    let so_far = c.loop-reached.invariant in
-    let list : List Posting = g.C.DocCursor.list c.args.cursor.now in
-    let place : ℕ = g.C.DocCursor.place c.loop-reached.cursor in
-    let end = end-is list (g.C.DocCursor.list c.loop-reached.cursor) c.args.first c.from.result (length c.args.scores.now) (g.C.DocCursor.place c.args.cursor.now) place c.loop-reached.reached so_far.list c.from.ensures (g.met.C.DocCursor.well_formed c.loop-reached.cursor) c.requires.stand so_far.within so_far.below (c.loop-reached-test.ensures.behind refl) in
-    given-scores list c.args.weight c.args.first (g.C.DocCursor.place c.args.cursor.now) place c.args.scores.now c.loop-reached.scores end.0 c.requires.stand end.1 so_far.given
-
-pub returns-clause-bound : goal.returns-clause-bound
-returns-clause-bound g c = λ k inside.
-    let so_far = c.loop-reached.invariant in
-    let list : List Posting = g.C.DocCursor.list c.args.cursor.now in
-    let place : ℕ = g.C.DocCursor.place c.loop-reached.cursor in
-    let end = end-is list (g.C.DocCursor.list c.loop-reached.cursor) c.args.first c.from.result (length c.args.scores.now) (g.C.DocCursor.place c.args.cursor.now) place c.loop-reached.reached so_far.list c.from.ensures (g.met.C.DocCursor.well_formed c.loop-reached.cursor) c.requires.stand so_far.within so_far.below (c.loop-reached-test.ensures.behind refl) in
-    let scored = given-scores list c.args.weight c.args.first (g.C.DocCursor.place c.args.cursor.now) place c.args.scores.now c.loop-reached.scores end.0 c.requires.stand end.1 so_far.given k inside in
-    let most = most-freq list c.args.weight (c.args.first + k) end.0.well_formed in
-    omega arith
-
-pub returns-clause-marks : goal.returns-clause-marks
-returns-clause-marks g c =
-    let so_far = c.loop-reached.invariant in
-    let list : List Posting = g.C.DocCursor.list c.args.cursor.now in
-    let place : ℕ = g.C.DocCursor.place c.loop-reached.cursor in
     let from : ℕ = g.C.DocCursor.place c.args.cursor.now in
+    let place : ℕ = g.C.DocCursor.place c.loop-reached.cursor in
     let n : ℕ = length c.args.scores.now in
     let end = end-is list (g.C.DocCursor.list c.loop-reached.cursor) c.args.first c.from.result n from place c.loop-reached.reached so_far.list c.from.ensures (g.met.C.DocCursor.well_formed c.loop-reached.cursor) c.requires.stand so_far.within so_far.below (c.loop-reached-test.ensures.behind refl) in
-    given-whole ◌||◌ c.args.first false or-none list (λ _. true) (λ d. has_doc d list) from place n (is_marked c.args.marks.now) (is_marked c.loop-reached.marks) end.0.within c.requires.stand end.1
-    (λ i inside. (doc-there list i end.0.well_formed inside).has) (λ d nowhere. nowhere) so_far.marked
-
-pub returns-clause-behind : goal.returns-clause-behind
-returns-clause-behind g c = λ k reached.
-    let so_far = c.loop-reached.invariant in
-    given-behind ◌||◌ c.args.first (docs_of (g.C.DocCursor.list c.args.cursor.now)) (λ _. true) (g.C.DocCursor.place c.args.cursor.now) (g.C.DocCursor.place c.loop-reached.cursor) c.loop-reached.reached (is_marked c.args.marks.now) (is_marked c.loop-reached.marks) so_far.below so_far.marked k reached
+    let scored = given-scores list c.args.weight c.args.first from place c.args.scores.now c.loop-reached.scores end.0 c.requires.stand end.1 so_far.given in
+    record {
+      list = so_far.list;
+      stand = subst (λ (l : List Posting). StandsFrom (c.args.first + n) l place) (sym so_far.list) end.1;
+      count = so_far.count;
+      marks_count = so_far.marks_count;
+      scores = scored;
+      marks = given-whole ◌||◌ c.args.first false or-none list (λ _. true) (λ d. has_doc d list) from place n (is_marked c.args.marks.now) (is_marked c.loop-reached.marks) end.0.within c.requires.stand end.1
+          (λ i inside. (doc-there list i end.0.well_formed inside).has) (λ d nowhere. nowhere) so_far.marked;
+      bound = λ k inside.
+          let is = scored k inside in
+          let most = most-freq list c.args.weight (c.args.first + k) end.0.well_formed in
+          omega arith;
+      within = so_far.within;
+      behind = given-behind ◌||◌ c.args.first (docs_of list) (λ _. true) from place c.loop-reached.reached (is_marked c.args.marks.now) (is_marked c.loop-reached.marks) so_far.below so_far.marked;
+    }

@@ -83,48 +83,38 @@ loop-i-preserved g c =
       behind = λ k from inside. c.add_list.ensures.behind k (omega arith) ∙ so_far.behind k (omega arith) inside;
     }
 
-pub returns-clause-stand : goal.returns-clause-stand
-returns-clause-stand g c = λ k d within. c.loop-i.invariant.done k d (omega arith) (let mapped = ap length c.loop-i.invariant.lists in let now-mapped = length-map c.loop-i.cursors g.C.DocCursor.list in let old-mapped = length-map c.args.cursors.now g.C.DocCursor.list in omega arith)
-
-pub returns-clause-scores : goal.returns-clause-scores
-returns-clause-scores g c =
+pub returns : goal.returns
+returns g c =
     let so_far = c.loop-i.invariant in
     let weights : List ℕ = c.args.weights.now in
     let lists : List (List Posting) = map g.C.DocCursor.list c.args.cursors.now in
     let count = so_far.count in
-    let old-mapped = length-map c.args.cursors.now g.C.DocCursor.list in
+    let marks_count = so_far.marks_count in
+    let whole = c.requires.same in
     let each = c.requires.each in
+    let mapped = ap length so_far.lists in
+    let now-mapped = length-map c.loop-i.cursors g.C.DocCursor.list in
+    let old-mapped = length-map c.args.cursors.now g.C.DocCursor.list in
+    let all : c.loop-i.i ≡ length lists = omega arith in
     let scored : (k : ℕ) → k < length c.loop-i.scores → get_or c.loop-i.scores k 0 ≡ score lists weights (c.args.first + k) = λ k within.
     score-whole g.C.DocCursor.list g.C.DocCursor.place (c.args.first + k) c.args.cursors.now weights c.loop-i.i (get_or c.loop-i.scores k 0) (omega arith) (so_far.scored k (omega arith)) in
     record {
-      scored = scored;
-      found = λ k within. subst (λ (s : ℕ). (0 < s) ↔ (list_any (has_doc (c.args.first + k)) lists ≡ true)) (sym (scored k within))
-          (score-found lists weights (c.args.first + k) (omega arith) c.requires.some (all-rising g.C.DocCursor.list g.C.DocCursor.place g.met.C.DocCursor.well_formed c.args.cursors.now));
+      lists = so_far.lists;
+      stand = λ k d within. so_far.done k d (omega arith) (omega arith);
+      count = count;
+      marks_count = marks_count;
+      scores = record {
+        scored = scored;
+        found = λ k within. subst (λ (s : ℕ). (0 < s) ↔ (list_any (has_doc (c.args.first + k)) lists ≡ true)) (sym (scored k within))
+            (score-found lists weights (c.args.first + k) (omega arith) c.requires.some (all-rising g.C.DocCursor.list g.C.DocCursor.place g.met.C.DocCursor.well_formed c.args.cursors.now));
+      };
+      marks = λ k within. so_far.marked k (omega arith) ∙ ap (list_any (has_doc (c.args.first + k))) (take_all c.loop-i.i lists (omega arith));
+      bound = λ k d within.
+          let read = get_or_default c.loop-i.scores k d 0 within in
+          let bound = so_far.bound k (omega arith) in
+          let heavy = sum_by-take-le (λ w. w) weights c.loop-i.i in
+          let light = c.requires.light in
+          omega arith;
+      within = so_far.within;
+      behind = so_far.behind;
     }
-
-pub returns-clause-marks : goal.returns-clause-marks
-returns-clause-marks g c = λ k within.
-    let so_far = c.loop-i.invariant in
-    let lists : List (List Posting) = map g.C.DocCursor.list c.args.cursors.now in
-    let count = so_far.marks_count in
-    let whole = c.requires.same in
-    let mapped = length-map c.args.cursors.now g.C.DocCursor.list in
-    let now-mapped = length-map c.loop-i.cursors g.C.DocCursor.list in
-    let same = ap length so_far.lists in
-    so_far.marked k (omega arith) ∙ ap (list_any (has_doc (c.args.first + k))) (take_all c.loop-i.i lists (omega arith))
-
-pub returns-clause-bound : goal.returns-clause-bound
-returns-clause-bound g c = λ k d within.
-    let so_far = c.loop-i.invariant in
-    let count = so_far.count in
-    let read = get_or_default c.loop-i.scores k d 0 within in
-    let bound = so_far.bound k (omega arith) in
-    let whole = sum_by-take-le (λ w. w) c.args.weights.now c.loop-i.i in
-    let light = c.requires.light in
-    omega arith
-
-pub returns-clause-within : goal.returns-clause-within
-returns-clause-within g c = c.loop-i.invariant.within
-
-pub returns-clause-behind : goal.returns-clause-behind
-returns-clause-behind g c = c.loop-i.invariant.behind
