@@ -5,7 +5,13 @@ use Rattle.block_max.specs.SideWords.{block_freqs}
 use Rattle.block_max.proofs.SideChecks.{block-broken, count-broken, fault-differs, length-broken}
 use Rattle.block_max.proofs.Words.{all-before, words-are}
 use Rattle.block_max.proofs.side.Side.view.Goals.{then-stated-total-via-then-stated-total, then-stated-total-via-else-stated-total+then-words-total}
+use Rattle.block_max.proofs.side.Side.view.Goals.{After-blocks_before-total}
+use Rattle.block_max.proofs.side.Side.view.Given as given
 use Rattle.block_max.proofs.side.Side.view.Goals as goal
+
+-- how many blocks the lists have
+total-is : (g : given.Over) (c : After-blocks_before-total g) → c.blocks_before-total.result ≡ length (block_freqs (g.S.BlockSource.lists c.args.source.now))
+total-is g c = let cs : List BlockList = g.S.BlockSource.lists c.args.source.now in c.blocks_before-total.ensures ∙ ap (blocks_before cs) c.terms.ensures ∙ all-before cs
 
 pub returns-in-Err-clause-other_words : goal.returns-in-Err-clause-other_words
 returns-in-Err-clause-other_words g c =
@@ -16,8 +22,8 @@ pub returns-then-stated-total-clause-first : goal.returns-then-stated-total-clau
 returns-then-stated-total-clause-first g c =
     let cs : List BlockList = g.S.BlockSource.lists c.args.source.now in
     let words : List ℕ = c.args.words.now in
-    let frame : HasFrame words c.in-Ok.stated = c.in-Ok.ensures.ok in
-    let total : c.blocks_before-total.result ≡ length (block_freqs cs) = c.blocks_before-total.ensures ∙ ap (blocks_before cs) c.terms.ensures ∙ all-before cs in
+    let frame = c.in-Ok.ensures.ok in
+    let total = total-is g (goal.at.returns-then-stated-total-clause-first g c).After-blocks_before-total in
     let long = frame.long in
     subst (IsFirstSideFault cs words) (sym c.whole-then-stated-total.ensures)
     (elim c.then-stated-total.branch [
@@ -33,16 +39,16 @@ returns-then-stated-total-clause-other_words g c =
 pub first_wrong-requires : goal.first_wrong-requires
 first_wrong-requires g c =
     let cs : List BlockList = g.S.BlockSource.lists c.args.source.now in
-    let frame : HasFrame c.args.words.now c.in-Ok.stated = c.in-Ok.ensures.ok in
-    let total : c.blocks_before-total.result ≡ length (block_freqs cs) = c.blocks_before-total.ensures ∙ ap (blocks_before cs) c.terms.ensures ∙ all-before cs in
+    let frame = c.in-Ok.ensures.ok in
+    let total = total-is g (goal.at.first_wrong-requires g c).After-blocks_before-total in
     omega (arith, c.if-words-total.false, total, frame.long)
 
 pub returns-in-Some-clause-first : goal.returns-in-Some-clause-first
 returns-in-Some-clause-first g c =
     let cs : List BlockList = g.S.BlockSource.lists c.args.source.now in
     let words : List ℕ = c.args.words.now in
-    let frame : HasFrame words c.in-Ok.stated = c.in-Ok.ensures.ok in
-    let total : c.blocks_before-total.result ≡ length (block_freqs cs) = c.blocks_before-total.ensures ∙ ap (blocks_before cs) c.terms.ensures ∙ all-before cs in
+    let frame = c.in-Ok.ensures.ok in
+    let total = total-is g (goal.at.returns-in-Some-clause-first g c).After-blocks_before-total in
     block-broken cs words c.in-Ok.stated frame c.in-Some.term c.in-Some.part (omega (arith, c.if-stated-total.false, total)) (omega (arith, c.if-words-total.false, total, frame.long)) c.in-Some.ensures.some
 
 pub returns-in-Some-clause-other_words : goal.returns-in-Some-clause-other_words
@@ -54,7 +60,7 @@ pub returns-in-None-clause-ok : goal.returns-in-None-clause-ok
 returns-in-None-clause-ok g c =
     let cs : List BlockList = g.S.BlockSource.lists c.args.source.now in
     let words : List ℕ = c.args.words.now in
-    let frame : HasFrame words c.in-Ok.stated = c.in-Ok.ensures.ok in
-    let total : c.blocks_before-total.result ≡ length (block_freqs cs) = c.blocks_before-total.ensures ∙ ap (blocks_before cs) c.terms.ensures ∙ all-before cs in
+    let frame = c.in-Ok.ensures.ok in
+    let total = total-is g (goal.at.returns-in-None-clause-ok g c).After-blocks_before-total in
     let count : c.in-Ok.stated ≡ length (block_freqs cs) = omega (arith, c.if-stated-total.false, total) in
     words-are cs words (subst (HasFrame words) count frame) (omega (arith, c.if-words-total.false, total, frame.long)) c.in-None.ensures.none
