@@ -6,7 +6,7 @@ use Rattle.bit_words.proofs.Value.{bits-bits_of}
 use Rattle.part_cost.specs.Stored.{IsFirstAtLeast}
 use Rattle.elias_fano.specs.declared.EfView.{EfView}
 use Rattle.elias_fano.specs.EfBits.{high_place}
-use Rattle.elias_fano.specs.EfPlaces.{low_field, sample_at, past_place, AreBelow}
+use Rattle.elias_fano.specs.EfPlaces.{low_field, low_fields_at, sample_at, past_place, AreBelow}
 use Rattle.elias_fano.specs.EfView.{Holds}
 use Rattle.elias_fano.specs.Laws.{PlacesFit}
 use Rattle.elias_fano.proofs.Rising.{place-within, places-rise}
@@ -78,6 +78,10 @@ next-after q v ys k h lt = omega (arith, places-rise ys v.low h.values.rising k 
 
 pub place-below : (q : ℕ) (v : EfView q) (ys : List ℕ) (k : ℕ) → Holds q v ys → k < v.part.m → high_place v.low k (get_or ys k 0) ≤ k + (v.part.u - 1) / 2 ^ v.low
 place-below q v ys k h lt = place-within v.part.u v.part.m v.low ys h.values k lt
+
+-- the place behind the one of a number lies within the high bits
+pub behind-within : (q : ℕ) (v : EfView q) (ys : List ℕ) (k number : ℕ) → Holds q v ys → k < v.part.m → number ≡ get_or ys k 0 → v.part.place + number / 2 ^ v.low + k + 1 ≤ v.part.place + low_fields_at v.part.u v.part.m v.low
+behind-within q v ys k number h lt is = omega (arith, ap (λ n. n / 2 ^ v.low) is, place-below q v ys k h lt)
 
 -- a number below what is asked is not the last
 pub not-last : (q : ℕ) (v : EfView q) (ys : List ℕ) (k number x : ℕ) → Holds q v ys → k < v.part.m → number ≡ get_or ys k 0 → number < x → x < v.part.u → k + 1 < v.part.m

@@ -1,6 +1,6 @@
 -- The low fields of numbers, one behind another, and what they are joined to.
-use Rattle.std.proofs.Common.{◌≡◌, ℕ, zero, suc, ◌+◌, ◌-◌, ◌*◌, ◌/◌, ◌^◌, ◌<◌, ◌≤◌, List, length, ap, ◌∙◌, arith}
-use Rattle.std.proofs.Math.Nat.{div-mul-le_self, mul-le-mul_left, mul-le-mul_right}
+use Rattle.std.proofs.Common.{◌≡◌, ℕ, zero, suc, ◌+◌, ◌-◌, ◌*◌, ◌/◌, ◌%◌, ◌^◌, ◌<◌, ◌≤◌, List, length, ap, ◌∙◌, arith}
+use Rattle.std.proofs.Math.Nat.{div-mul-le_self, mod-eq_of_lt, mul-le-mul_left, mul-le-mul_right}
 use Rattle.bit_words.specs.Bits.{bits_of, field_at}
 use Rattle.bit_words.proofs.Value.{bits-bits_of, two_pow-suc}
 use Rattle.bit_words.proofs.Pieces.{field-below}
@@ -29,6 +29,11 @@ joined-below q v k one field below fits =
     let some : high + 1 ≤ v.part.m + all = omega (arith, v.part.some) in
     let wide : (high + 1) * 2 ^ v.low ≤ (v.part.m + all) * 2 ^ v.low = mul-le-mul_right (2 ^ v.low) some in
     omega (arith, wide, div-mul-le_self (v.part.u - 1) (2 ^ v.low), v.short, v.part.in_range)
+
+-- Its high part is no more than a word.
+pub joined-high : (q : ℕ) (v : EfView q) (k one field : ℕ) → one < v.part.place + low_fields_at v.part.u v.part.m v.low → field < 2 ^ v.low
+    → ((one - v.part.place - k) * 2 ^ v.low) % 2 ^ 64 ≡ (one - v.part.place - k) * 2 ^ v.low
+joined-high q v k one field below fits = let small = joined-below q v k one field below fits in mod-eq_of_lt (omega arith)
 
 -- The next field begins where this one ends.
 pub next-field : (p l k : ℕ) → p + l * k + l ≡ p + l * (k + 1)

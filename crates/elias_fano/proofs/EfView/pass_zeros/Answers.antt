@@ -5,7 +5,9 @@ use Rattle.elias_fano.specs.EfView.{Holds}
 use Rattle.elias_fano.proofs.Views.{within-held}
 use Rattle.elias_fano.proofs.Passing.{not-all-below, ones-passed}
 use Rattle.elias_fano.proofs.Numbered.{IsPastZeros, zero-passed, zero-absent, past-inside}
+use Rattle.elias_fano.proofs.EfView.pass_zeros.Given as given
 use Rattle.elias_fano.proofs.EfView.pass_zeros.Goals as goal
+use Rattle.elias_fano.proofs.EfView.pass_zeros.Goals.{In-Some}
 
 pub low_fields-requires : goal.low_fields-requires
 low_fields-requires g c = (omega arith, within-held g.row.Q c.args.self.now c.requires.held.0 c.requires.held.1)
@@ -45,28 +47,23 @@ pass_gap-requires g c =
     let some = not-all-below v.part.u v.part.m zs held.values a.from (a.passed + c.ones.result) (a.high * 2 ^ v.low) c.requires.within (past zs held).few c.requires.reached (below zs held) in
     (omega arith, (c.requires.held, (c.requires.within, (c.requires.reached, (some, (past, below))))))
 
+-- what is passed behind that zero
+zero-known : (g : given.Over) (c : In-Some g) → (ys : List ℕ) → Holds g.row.Q c.args.self.now ys → IsPastZeros g.row.Q c.args.self.now ys c.args.high (c.in-Some.zero + 1 - c.args.self.now.part.place - c.args.high) (c.in-Some.zero + 1)
+zero-known g c ys h =
+    let v = c.args.self.now in
+    zero-passed g.row.Q v ys h c.args.passed c.args.place c.min-near.result c.args.high c.in-Some.zero (c.requires.past ys h) (omega (arith, c.if-zeros-high.false)) (omega (arith, c.min-near.ensures, c.low_fields.ensures))
+    c.in-Some.ensures.some
+
 pub returns-in-Some-clause-within : goal.returns-in-Some-clause-within
 returns-in-Some-clause-within g c =
     let v = c.args.self.now in
     let ys = c.requires.held.0 in
     let h = c.requires.held.1 in
-    let passed : IsPastZeros g.row.Q v ys c.args.high (c.in-Some.zero + 1 - v.part.place - c.args.high) (c.in-Some.zero + 1) =
-    zero-passed g.row.Q v ys h c.args.passed c.args.place c.min-near.result c.args.high c.in-Some.zero (c.requires.past ys h) (omega (arith, c.if-zeros-high.false)) (omega (arith, c.min-near.ensures, c.low_fields.ensures))
-    c.in-Some.ensures.some in
+    let passed = zero-known g (goal.at.returns-in-Some-clause-within g c).In-Some ys h in
     not-all-below v.part.u v.part.m ys h.values c.args.from (c.in-Some.zero + 1 - v.part.place - c.args.high) (c.args.high * 2 ^ v.low) c.requires.within passed.past.few c.requires.reached (passed.below c.args.from)
 
 pub returns-in-Some-clause-past : goal.returns-in-Some-clause-past
-returns-in-Some-clause-past g c = λ ys h.
-    let v = c.args.self.now in
-    let passed : IsPastZeros g.row.Q v ys c.args.high (c.in-Some.zero + 1 - v.part.place - c.args.high) (c.in-Some.zero + 1) =
-    zero-passed g.row.Q v ys h c.args.passed c.args.place c.min-near.result c.args.high c.in-Some.zero (c.requires.past ys h) (omega (arith, c.if-zeros-high.false)) (omega (arith, c.min-near.ensures, c.low_fields.ensures))
-    c.in-Some.ensures.some in
-    passed.past
+returns-in-Some-clause-past g c = λ ys h. (zero-known g (goal.at.returns-in-Some-clause-past g c).In-Some ys h).past
 
 pub returns-in-Some-clause-below : goal.returns-in-Some-clause-below
-returns-in-Some-clause-below g c = λ ys h.
-    let v = c.args.self.now in
-    let passed : IsPastZeros g.row.Q v ys c.args.high (c.in-Some.zero + 1 - v.part.place - c.args.high) (c.in-Some.zero + 1) =
-    zero-passed g.row.Q v ys h c.args.passed c.args.place c.min-near.result c.args.high c.in-Some.zero (c.requires.past ys h) (omega (arith, c.if-zeros-high.false)) (omega (arith, c.min-near.ensures, c.low_fields.ensures))
-    c.in-Some.ensures.some in
-    passed.below c.args.from
+returns-in-Some-clause-below g c = λ ys h. (zero-known g (goal.at.returns-in-Some-clause-below g c).In-Some ys h).below c.args.from

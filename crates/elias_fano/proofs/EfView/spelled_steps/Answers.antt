@@ -1,10 +1,11 @@
-use Rattle.std.proofs.Common.{◌≡◌, ℕ, suc, ◌+◌, ◌-◌, ◌*◌, ◌^◌, ◌<◌, ◌≤◌, [], ◌∷◌, ◌++◌, length, get_or, refl, ap, ◌∙◌, subst, sym, arith}
+use Rattle.std.proofs.Common.{◌≡◌, ℕ, suc, ◌+◌, ◌-◌, ◌*◌, ◌^◌, ◌<◌, ◌≤◌, List, [], ◌∷◌, ◌++◌, length, get_or, refl, ap, ◌∙◌, subst, sym, arith}
 use Rattle.std.proofs.Math.Nat.{mul-le-mul_left}
 use Rattle.bit_words.specs.Bits.{bits_of}
 use Rattle.bit_words.proofs.Value.{bits-bits_of, length-bits_of}
 use Rattle.part_cost.specs.Span.{past}
 use Rattle.elias_fano.specs.EfBits.{high_place}
-use Rattle.elias_fano.specs.EfPlaces.{low_fields_at, sample_at}
+use Rattle.elias_fano.specs.EfPlaces.{low_field, low_fields_at, sample_at}
+use Rattle.elias_fano.specs.EfView.{Holds}
 use Rattle.part_cost.proofs.Parts.{past-number}
 use Rattle.elias_fano.proofs.Scanning.{sample-read}
 use Rattle.elias_fano.proofs.Views.{view-read-at, read-view-at, places-fit-at}
@@ -13,8 +14,22 @@ use Rattle.elias_fano.proofs.Lookups.{number-is, past-next}
 use Rattle.elias_fano.proofs.LowFields.{next-field, field-within, field-read, low_field-below}
 use Rattle.elias_fano.proofs.Passing.{none-next, one-next, past-exactly, same-range}
 use Rattle.elias_fano.proofs.Steps.{greatest-step}
+use Rattle.elias_fano.proofs.EfView.spelled_steps.Given as given
 use Rattle.elias_fano.proofs.EfView.spelled_steps.Goals as goal
-use Rattle.elias_fano.proofs.EfView.spelled_steps.Goals.{then-k-sampled+else-not-is_sampled, else-k-sampled}
+use Rattle.elias_fano.proofs.EfView.spelled_steps.Goals.{then-k-sampled+else-not-is_sampled, else-k-sampled, In-Some, After-next-in-loop-k}
+
+-- the next one is that of the number, of all that the bits can be
+one-is : (g : given.Over) (c : In-Some g) → (zs : List ℕ) → Holds g.row.Q c.args.self.now zs
+    → (c.loop-k.k < c.args.self.now.part.m) × (c.in-Some.one ≡ c.args.self.now.part.place + high_place c.args.self.now.low c.loop-k.k (get_or zs c.loop-k.k 0))
+one-is g c zs h =
+    let v = c.args.self.now in
+    let i = c.loop-k.invariant in
+    one-next g.row.Q v zs h c.loop-k.k i.bits i.end (past-exactly g.row.Q v zs h c.loop-k.k c.loop-k.ones.at (omega arith) (i.all zs h).0) c.in-Some.ensures.first
+
+-- and what is read is its low field
+field-is : (g : given.Over) (c : After-next-in-loop-k g)
+    → c.next-in-loop-k.result ≡ low_field (bits_of c.args.self.now.part.bits.words.now) c.args.self.now.part.place c.args.self.now.part.u c.args.self.now.part.m c.args.self.now.low c.loop-k.k
+field-is g c = let i = c.loop-k.invariant in field-read g.row.Q c.args.self.now c.loop-k.k i.row i.field i.width c.next-in-loop-k.ensures.value
 
 pub returns-in_default-clause-none : goal.returns-in_default-clause-none
 returns-in_default-clause-none g c = λ zs h.
@@ -34,28 +49,23 @@ pub joined-number-requires : goal.joined-number-requires
 joined-number-requires g c =
     let v = c.args.self.now in
     let i = c.loop-k.invariant in
-    let k = c.loop-k.k in
-    let read = field-read g.row.Q v k i.row i.field i.width c.next-in-loop-k.ensures.value in
-    let small : c.next-in-loop-k.result < 2 ^ v.low = omega (arith, read, low_field-below g.row.Q v k) in
+    let small : c.next-in-loop-k.result < 2 ^ v.low = omega (arith, field-is g (goal.at.joined-number-requires g c).After-next-in-loop-k, low_field-below g.row.Q v c.loop-k.k) in
     (omega arith, (omega (arith, c.in-Some.ensures.first.at_or_after, i.low), (omega (arith, c.in-Some.ensures.first.before_end, i.end), small)))
 
 -- what is read is the number of all that the bits can be
 pub returns-then-number-least-clause-none : goal.returns-then-number-least-clause-none
 returns-then-number-least-clause-none g c = λ zs h.
     let v = c.args.self.now in
-    let i = c.loop-k.invariant in
-    let from = i.all zs h in
     let within : c.loop-k.k < length zs = omega (arith, h.values.count, c.loop-k-test.true) in
-    let one = one-next g.row.Q v zs h c.loop-k.k i.bits i.end (past-exactly g.row.Q v zs h c.loop-k.k c.loop-k.ones.at (omega arith) from.0) c.in-Some.ensures.first in
+    let one = one-is g (goal.at.returns-then-number-least-clause-none g c).In-Some zs h in
     let number = number-is g.row.Q v zs c.loop-k.k c.in-Some.one h one.0 one.1 in
-    let read = field-read g.row.Q v c.loop-k.k i.row i.field i.width c.next-in-loop-k.ensures.value in
-    omega (arith, c.joined-number.ensures.value, read, number, from.1, past-number zs h.values.rising c.loop-k.k within, c.if-number-least.true)
+    let read = field-is g (goal.at.returns-then-number-least-clause-none g c).After-next-in-loop-k in
+    omega (arith, c.joined-number.ensures.value, read, number, (c.loop-k.invariant.all zs h).1, past-number zs h.values.rising c.loop-k.k within, c.if-number-least.true)
 
 pub returns-then-not-is_sampled-clause-none : goal.returns-then-not-is_sampled-clause-none
 returns-then-not-is_sampled-clause-none g c = λ zs h.
     let v = c.args.self.now in
-    let from = c.loop-k.invariant.all zs h in
-    let one = one-next g.row.Q v zs h c.loop-k.k c.loop-k.invariant.bits c.loop-k.invariant.end (past-exactly g.row.Q v zs h c.loop-k.k c.loop-k.ones.at (omega arith) from.0) c.in-Some.ensures.first in
+    let one = one-is g (goal.at.returns-then-not-is_sampled-clause-none g c).In-Some zs h in
     let sampled = c.if-not-is_sampled.ensures.1
     (λ j e.
     sample-read (bits_of v.part.bits.words.now) v.part.place v.part.u v.part.m v.low g.row.Q zs (view-read-at g.row.Q v zs h) v.spacing j (omega (arith, e, c.loop-k-test.true))
@@ -90,7 +100,7 @@ loop-k-preserved g c =
     let k = c.loop-k.k in
     let number = c.joined-number.result in
     let begun = i.begun in
-    let read = field-read g.row.Q v k i.row i.field i.width c.next-in-loop-k.ensures.value in
+    let read = field-is g (goal.at.loop-k-preserved g c).After-next-in-loop-k in
     let is = c.joined-number.ensures.value ∙ ap (λ f. (c.in-Some.one - v.part.place - k) * 2 ^ v.low + f) read in
     let q = g.row.Q in
     let now : IsNextSampled q k c.loop-k.sampled = record { multiple = i.multiple; some = i.some; ahead = i.ahead; between = i.between } in
@@ -118,7 +128,7 @@ loop-k-preserved g c =
       );
       all = λ zs h.
           let from = i.all zs h in
-          let one = one-next g.row.Q v zs h k i.bits i.end (past-exactly g.row.Q v zs h k c.loop-k.ones.at (omega arith) from.0) c.in-Some.ensures.first in
+          let one = one-is g (goal.at.loop-k-preserved g c).In-Some zs h in
           let number = number-is g.row.Q v zs k c.in-Some.one h one.0 one.1 in
           (omega (arith, one.1, past-next v.low k zs, c.in-Some.ensures.behind), omega (arith, is, number, ap (λ n. past zs n) (let e : k + 1 ≡ suc k = omega arith in e)));
       bits = c.in-Some.ensures.bits ∙ i.bits;

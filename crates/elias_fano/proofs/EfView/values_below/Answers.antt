@@ -1,14 +1,29 @@
-use Rattle.std.proofs.Common.{◌≡◌, ◌+◌, ◌-◌, ◌*◌, ◌^◌, ◌<◌, ◌∙◌, length, ap, arith, slice_index, slice_set, subst, sym}
+use Rattle.std.proofs.Common.{◌≡◌, ℕ, ◌+◌, ◌-◌, ◌*◌, ◌^◌, ◌<◌, ◌∙◌, List, length, get_or, ap, arith, slice_index, slice_set, subst, sym}
 use Rattle.bit_words.proofs.Value.{length-bits_of}
 use Rattle.std.proofs.lemmas.List.{length-set}
 use Rattle.collection_model.specs.NextBelow.{AreNextBelow}
-use Rattle.elias_fano.specs.EfPlaces.{low_fields_at, IsPast}
+use Rattle.bit_words.specs.Bits.{bits_of}
+use Rattle.elias_fano.specs.EfBits.{high_place}
+use Rattle.elias_fano.specs.EfPlaces.{low_field, low_fields_at, IsPast}
+use Rattle.elias_fano.specs.EfView.{Holds}
 use Rattle.collection_model.proofs.NextBelow.{given-none, given-all, given-more}
 use Rattle.elias_fano.proofs.Lookups.{number-got}
 use Rattle.elias_fano.proofs.LowFields.{next-field, field-within, field-read, low_field-below}
 use Rattle.elias_fano.proofs.Passing.{none-next, one-next, past-number}
 use Rattle.elias_fano.proofs.Views.{within-held}
+use Rattle.elias_fano.proofs.EfView.values_below.Given as given
 use Rattle.elias_fano.proofs.EfView.values_below.Goals as goal
+use Rattle.elias_fano.proofs.EfView.values_below.Goals.{In-Some, After-next-in-loop-i}
+
+-- the next one is that of the number
+one-is : (g : given.Over) (c : In-Some g) → (ys : List ℕ) → Holds g.row.Q c.args.self.now ys
+    → (c.args.k + c.loop-i.i + 1 < c.args.self.now.part.m) × (c.in-Some.one ≡ c.args.self.now.part.place + high_place c.args.self.now.low (c.args.k + c.loop-i.i + 1) (get_or ys (c.args.k + c.loop-i.i + 1) 0))
+one-is g c ys h = let i = c.loop-i.invariant in one-next g.row.Q c.args.self.now ys h (c.args.k + c.loop-i.i + 1) i.bits i.end (i.past ys h) c.in-Some.ensures.first
+
+-- and what is read is its low field
+field-is : (g : given.Over) (c : After-next-in-loop-i g)
+    → c.next-in-loop-i.result ≡ low_field (bits_of c.args.self.now.part.bits.words.now) c.args.self.now.part.place c.args.self.now.part.u c.args.self.now.part.m c.args.self.now.low (c.args.k + c.loop-i.i + 1)
+field-is g c = let i = c.loop-i.invariant in field-read g.row.Q c.args.self.now (c.args.k + c.loop-i.i + 1) i.row i.field i.width c.next-in-loop-i.ensures.value
 
 pub returns-in_default-clause-values : goal.returns-in_default-clause-values
 returns-in_default-clause-values g c = λ ys h.
@@ -46,21 +61,16 @@ next-requires-in-loop-i g c =
     let ys = c.requires.held.0 in
     let h = c.requires.held.1 in
     let i = c.loop-i.invariant in
-    let k = c.args.k + c.loop-i.i + 1 in
-    let next = one-next g.row.Q v ys h k i.bits i.end (i.past ys h) c.in-Some.ensures.first in
-    omega (arith, i.field, i.width, ap length i.row, length-bits_of v.part.bits.words.now, field-within g.row.Q v k (within-held g.row.Q v ys h) next.0)
+    let next = one-is g (goal.at.next-requires-in-loop-i g c).In-Some ys h in
+    omega (arith, i.field, i.width, ap length i.row, length-bits_of v.part.bits.words.now, field-within g.row.Q v (c.args.k + c.loop-i.i + 1) (within-held g.row.Q v ys h) next.0)
 
 pub joined-number-requires : goal.joined-number-requires
 joined-number-requires g c =
     let v = c.args.self.now in
-    let k = c.args.k + c.loop-i.i + 1 in
-    let ys = c.requires.held.0 in
-    let h = c.requires.held.1 in
-    let i = c.loop-i.invariant in
-    let next = one-next g.row.Q v ys h k i.bits i.end (i.past ys h) c.in-Some.ensures.first in
-    let read = field-read g.row.Q v k i.row i.field i.width c.next-in-loop-i.ensures.value in
-    let small : c.next-in-loop-i.result < 2 ^ v.low = omega (arith, read, low_field-below g.row.Q v k) in
-    (omega arith, (omega (arith, next.1), (omega (arith, c.in-Some.ensures.first.before_end, i.end), small)))
+    let next = one-is g (goal.at.joined-number-requires g c).In-Some c.requires.held.0 c.requires.held.1 in
+    let read = field-is g (goal.at.joined-number-requires g c).After-next-in-loop-i in
+    let small : c.next-in-loop-i.result < 2 ^ v.low = omega (arith, read, low_field-below g.row.Q v (c.args.k + c.loop-i.i + 1)) in
+    (omega arith, (omega (arith, next.1), (omega (arith, c.in-Some.ensures.first.before_end, c.loop-i.invariant.end), small)))
 
 pub loop-i-preserved : goal.loop-i-preserved
 loop-i-preserved g c =
@@ -69,14 +79,12 @@ loop-i-preserved g c =
     let k = a.k + c.loop-i.i + 1 in
     let i = c.loop-i.invariant in
     let same : a.k + c.loop-i.i + 1 ≡ a.k + (c.loop-i.i + 1) = omega arith in
-    let zs = c.requires.held.0 in
-    let held = c.requires.held.1 in
-    let next = one-next g.row.Q v zs held k i.bits i.end (i.past zs held) c.in-Some.ensures.first in
-    let read = field-read g.row.Q v k i.row i.field i.width c.next-in-loop-i.ensures.value in
+    let next = one-is g (goal.at.loop-i-preserved g c).In-Some c.requires.held.0 c.requires.held.1 in
+    let read = field-is g (goal.at.loop-i-preserved g c).After-next-in-loop-i in
     record {
       within = omega (arith, next.0);
       number = λ ys h.
-          let one = one-next g.row.Q v ys h k i.bits i.end (i.past ys h) c.in-Some.ensures.first in
+          let one = one-is g (goal.at.loop-i-preserved g c).In-Some ys h in
           number-got g.row.Q v ys k c.in-Some.one c.joined-number.result h one.0 one.1 (c.joined-number.ensures.value ∙ ap (λ f. (c.in-Some.one - v.part.place - k) * 2 ^ v.low + f) read) ∙ ap (λ n. slice_index ys n) same;
       given = λ ys h. given-more ys a.k a.x c.loop-i.to c.loop-i.i c.loop-i.number (i.given ys h) (omega arith) (i.number ys h) (omega arith);
       bits = c.in-Some.ensures.bits ∙ i.bits;
@@ -85,7 +93,7 @@ loop-i-preserved g c =
       width = c.next-in-loop-i.ensures.width ∙ i.width;
       field = omega (arith, c.next-in-loop-i.ensures.behind, i.field, i.width, next-field (v.part.place + low_fields_at v.part.u v.part.m v.low) v.low k, ap (λ n. v.low * n) same);
       past = λ ys h.
-          let one = one-next g.row.Q v ys h k i.bits i.end (i.past ys h) c.in-Some.ensures.first in
+          let one = one-is g (goal.at.loop-i-preserved g c).In-Some ys h in
           subst (λ n. IsPast v.part.place v.part.m v.low ys (n + 1) c.next.new.self.at) same
           (subst (λ n. IsPast v.part.place v.part.m v.low ys (k + 1) n) (sym c.in-Some.ensures.behind)
           (past-number v.part.place v.part.m v.low ys h.values.rising h.values.count k c.in-Some.one one.0 one.1));

@@ -5,12 +5,14 @@ use Rattle.bit_words.specs.Bits.{AppendsBits}
 use Rattle.bit_words.proofs.Fronts.{appends-front, appends-behind, appends-both}
 use Rattle.bit_words.proofs.Outcomes.{on-err}
 use Rattle.part_cost.specs.Payload.{widest_low, low_width_of}
-use Rattle.part_cost.specs.Span.{past, AreRelative}
+use Rattle.part_cost.specs.Span.{AreRelative}
 use Rattle.elias_fano.specs.EfBits.{high_bits, low_fields, ef_samples, ef_bits}
 use Rattle.part_cost.proofs.Parts.{past-is}
 use Rattle.elias_fano.proofs.Rising.{relative-fit}
 use Rattle.elias_fano.proofs.Reading.{pieces, part-is}
+use Rattle.elias_fano.proofs.writer.ef_write.Given as given
 use Rattle.elias_fano.proofs.writer.ef_write.Goals as goal
+use Rattle.elias_fano.proofs.writer.ef_write.Goals.{In_ok-write_high_bits}
 
 pub low_width-low-requires-clause-fit : goal.low_width-low-requires-clause-fit
 low_width-low-requires-clause-fit g c = relative-fit c.args.u (length c.args.values.now) c.args.values.now c.requires.values
@@ -23,9 +25,9 @@ rooms : (q u low : ℕ) (ys : List ℕ) → low ≡ low_width_of u (length ys)
 rooms q u low ys e =
     omega (arith, ap length (whole q u low ys e), length-append (high_bits low u ys ++ low_fields low ys) (ef_samples q low ys), length-append (high_bits low u ys) (low_fields low ys))
 
--- the high bits of a part are those of its numbers up to the last
-highs : (u low : ℕ) (old new ys : List ℕ) → AreRelative u (length ys) ys → new ≡ old ++ high_bits low (past ys (length ys)) ys → new ≡ old ++ high_bits low u ys
-highs u low old new ys h e = e ∙ ap (λ v. old ++ high_bits low v ys) (past-is u ys h)
+-- the high bits that are written are those of the part
+highs : (g : given.Over) (c : In_ok-write_high_bits g) → c.write_high_bits.new.to ≡ c.args.to.now ++ high_bits c.low_width-low.result c.args.u c.args.values.now
+highs g c = c.in_ok-write_high_bits.ensures.ok ∙ ap (λ v. c.args.to.now ++ high_bits c.low_width-low.result v c.args.values.now) (past-is c.args.u c.args.values.now c.requires.values)
 
 pub write_high_bits-requires-clause-room : goal.write_high_bits-requires-clause-room
 write_high_bits-requires-clause-room g c =
@@ -50,7 +52,7 @@ pub write_low_fields-requires-clause-room : goal.write_low_fields-requires-claus
 write_low_fields-requires-clause-room g c =
     let l = c.low_width-low.result in
     let ys = c.args.values.now in
-    omega (arith, c.requires.room, rooms g.row.Q c.args.u l ys c.low_width-low.ensures.value, ap length (highs c.args.u c.low_width-low.result c.args.to.now c.write_high_bits.new.to c.args.values.now c.requires.values c.in_ok-write_high_bits.ensures.ok), length-append c.args.to.now (high_bits l c.args.u ys))
+    omega (arith, c.requires.room, rooms g.row.Q c.args.u l ys c.low_width-low.ensures.value, ap length (highs g (goal.at.write_low_fields-requires-clause-room g c).In_ok-write_high_bits), length-append c.args.to.now (high_bits l c.args.u ys))
 
 pub returns-in_err-write_low_fields-clause-err : goal.returns-in_err-write_low_fields-clause-err
 returns-in_err-write_low_fields-clause-err g c =
@@ -59,7 +61,7 @@ returns-in_err-write_low_fields-clause-err g c =
     on-err _ _
     (subst (λ xs. AppendsBits c.args.to.now c.write_low_fields.new.to xs) (sym (whole g.row.Q c.args.u l ys c.low_width-low.ensures.value))
     (appends-front c.args.to.now c.write_low_fields.new.to (high_bits l c.args.u ys ++ low_fields l ys) (ef_samples g.row.Q l ys)
-    (appends-behind c.args.to.now c.write_high_bits.new.to c.write_low_fields.new.to (high_bits l c.args.u ys) (low_fields l ys) (highs c.args.u c.low_width-low.result c.args.to.now c.write_high_bits.new.to c.args.values.now c.requires.values c.in_ok-write_high_bits.ensures.ok) c.in_err-write_low_fields.ensures.err)))
+    (appends-behind c.args.to.now c.write_high_bits.new.to c.write_low_fields.new.to (high_bits l c.args.u ys) (low_fields l ys) (highs g (goal.at.returns-in_err-write_low_fields-clause-err g c).In_ok-write_high_bits) c.in_err-write_low_fields.ensures.err)))
 
 pub write_samples-requires-clause-values : goal.write_samples-requires-clause-values
 write_samples-requires-clause-values g c =
@@ -83,7 +85,7 @@ write_samples-requires-clause-room g c =
       arith,
       c.requires.room,
       rooms g.row.Q c.args.u l ys c.low_width-low.ensures.value,
-      ap length (highs c.args.u c.low_width-low.result c.args.to.now c.write_high_bits.new.to c.args.values.now c.requires.values c.in_ok-write_high_bits.ensures.ok),
+      ap length (highs g (goal.at.write_samples-requires-clause-room g c).In_ok-write_high_bits),
       length-append c.args.to.now (high_bits l c.args.u ys),
       ap length c.in_ok-write_low_fields.ensures.ok,
       length-append c.write_high_bits.new.to (low_fields l ys),
@@ -96,7 +98,7 @@ returns-clause-ok g c =
     on_ok_weaker c.write_samples.result
     (λ e.
     appends-both c.args.to.now c.write_low_fields.new.to c.write_samples.new.to (high_bits l c.args.u ys ++ low_fields l ys) (ef_samples g.row.Q l ys)
-    (appends-both c.args.to.now c.write_high_bits.new.to c.write_low_fields.new.to (high_bits l c.args.u ys) (low_fields l ys) (highs c.args.u c.low_width-low.result c.args.to.now c.write_high_bits.new.to c.args.values.now c.requires.values c.in_ok-write_high_bits.ensures.ok) c.in_ok-write_low_fields.ensures.ok) e
+    (appends-both c.args.to.now c.write_high_bits.new.to c.write_low_fields.new.to (high_bits l c.args.u ys) (low_fields l ys) (highs g (goal.at.returns-clause-ok g c).In_ok-write_high_bits) c.in_ok-write_low_fields.ensures.ok) e
     ∙ ap (λ xs. c.args.to.now ++ xs) (sym (whole g.row.Q c.args.u l ys c.low_width-low.ensures.value)))
     c.write_samples.ensures.ok
 
@@ -108,5 +110,5 @@ returns-clause-err g c =
     (λ e.
     subst (λ xs. AppendsBits c.args.to.now c.write_samples.new.to xs) (sym (whole g.row.Q c.args.u l ys c.low_width-low.ensures.value))
     (appends-behind c.args.to.now c.write_low_fields.new.to c.write_samples.new.to (high_bits l c.args.u ys ++ low_fields l ys) (ef_samples g.row.Q l ys)
-    (appends-both c.args.to.now c.write_high_bits.new.to c.write_low_fields.new.to (high_bits l c.args.u ys) (low_fields l ys) (highs c.args.u c.low_width-low.result c.args.to.now c.write_high_bits.new.to c.args.values.now c.requires.values c.in_ok-write_high_bits.ensures.ok) c.in_ok-write_low_fields.ensures.ok) e))
+    (appends-both c.args.to.now c.write_high_bits.new.to c.write_low_fields.new.to (high_bits l c.args.u ys) (low_fields l ys) (highs g (goal.at.returns-clause-err g c).In_ok-write_high_bits) c.in_ok-write_low_fields.ensures.ok) e))
     c.write_samples.ensures.err
