@@ -1,4 +1,4 @@
-use Rattle.std.proofs.Common.{◌≡◌, ◌≢◌, ℕ, ◌+◌, ◌≤◌, ◌<◌, ◌⊎◌, IsTrue, List, [], ◌++◌, length, take, drop, All, Result, Ok, Err, refl, ◌↔◌, sym, ◌∙◌, ap, subst, inl, inr, add-zero, arith}
+use Rattle.std.proofs.Common.{◌≡◌, ℕ, ◌+◌, ◌≤◌, ◌<◌, ◌⊎◌, IsTrue, List, [], ◌++◌, length, take, drop, All, Result, Ok, Err, refl, ◌↔◌, sym, ◌∙◌, ap, subst, inl, inr, add-zero, arith}
 use Rattle.std.specs.Prelude.{is_ok, IsErrOf, OnErr}
 use Rattle.std.proofs.Math.Seq.{take-append-add}
 use Rattle.std.proofs.lemmas.Result.{IfOk-at_ok}
@@ -13,8 +13,7 @@ use Rattle.pef_io.specs.Calls.{Rose}
 use Rattle.pef_io.specs.DepotState.{DepotState, SameStarts, OnlyReads, ReadsSlot, SameButCounts}
 use Rattle.pef_io.specs.Loads.{FillsPiece, Loads, TakesBytes, load_error}
 use Rattle.pef_io.proofs.Fronts.{no_more_at_ok}
-use Rattle.pef_io.proofs.OnlyReads.{OnlyReads-same}
-use Rattle.pef_io.proofs.Ops.{same_or_other}
+use Rattle.pef_io.proofs.OnlyReads.{OnlyReads-same, OnlyReads-then}
 
 -- what stands in front after a piece was read into a part of a list
 pub read_into : (held k n count : ℕ) (bytes lent piece tail : List ℕ) → lent ≡ bytes → held ≤ length bytes → count ≤ length piece → held + count ≤ n →
@@ -42,36 +41,6 @@ put_front held k count bytes piece within some =
 pub front_kept : (held k n : ℕ) (bytes lent piece tail : List ℕ) → lent ≡ bytes → held ≤ length bytes → held ≤ n → take held (take n (put_mid held k lent piece ++ tail)) ≡ take held bytes
 front_kept held k n bytes lent piece tail same within fits =
     rw add-zero at (read_into held k n 0 bytes lent piece tail same within (omega arith) (omega arith)) ∙ append-nil (take held bytes)
-
--- reads, and then a read of a slot
-pub OnlyReads-then : {touched : Slot → Type 0} {a b c : DepotState} {slot : Slot} {before after : List ℕ} {result : Result ℕ IoFail} → OnlyReads touched a b → touched slot → ReadsSlot b c slot before after result → OnlyReads touched a c
-OnlyReads-then {touched} {a} {b} {c} {slot} p it r = record {
-  tells = r.tells ∙ p.tells;
-  files = λ t name. r.files (p.tells ∙ t) name ∙ p.files t name;
-  writing = (r.writing.0 ∙ p.writing.0, λ t. r.writing.1 (p.tells ∙ t) ∙ p.writing.1 t);
-  writing_count = r.counts.writing ∙ p.writing_count;
-  stay_started = λ s h. elim (same_or_other s slot) [
-    | inl e ↦ ap c.started e ∙ r.started ∙ sym (ap b.started e) ∙ p.stay_started s h
-    | inr n ↦ (r.other_slots s n).0 ∙ p.stay_started s h
-  ];
-  other_slots = λ s n.
-      let other : s ≢ slot = λ e. n (subst touched (sym e) it) in (
-        (r.other_slots s other).0 ∙ (p.other_slots s n).0,
-        λ t. (r.other_slots s other).1 (p.tells ∙ t) ∙ (p.other_slots s n).1 t,
-      );
-  never_fall = λ s. elim (same_or_other s slot) [
-    | inl e ↦ omega (arith, p.never_fall s, r.counts.this.never_falls, ap b.faults e, ap c.faults e)
-    | inr n ↦ omega (arith, p.never_fall s, r.counts.others s n)
-  ];
-  other_counts = λ s n.
-      let other : s ≢ slot = λ e. n (subst touched (sym e) it) in
-      r.counts.others s other ∙ p.other_counts s n;
-  create_count = r.counts.create_count ∙ p.create_count;
-  finish_count = r.counts.finish_count ∙ p.finish_count;
-  starts_never_fall = λ s. omega (arith, p.starts_never_fall s, r.starts s);
-  other_starts = λ s n. r.starts s ∙ p.other_starts s n;
-  refusals_never_fall = omega (arith, p.refusals_never_fall, r.counts.refusals.never_falls);
-}
 
 -- These bytes were read from a slot, and no call failed.
 pub record HasRead (old new : DepotState) (slot : Slot) (bytes : List ℕ) : Type 0 where

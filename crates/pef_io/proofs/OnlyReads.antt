@@ -1,9 +1,9 @@
 -- Starts and reads of some slots: none of them, one behind the other, and among more slots; and that no slot is started twice.
-use Rattle.std.proofs.Common.{◌≡◌, ◌≤◌, refl, ◌∙◌, ap, sym, arith, inl, inr, ℕ, List, IsTrue, Result, Ok, Err}
+use Rattle.std.proofs.Common.{◌≡◌, ◌≢◌, ◌≤◌, ◌⊎◌, refl, ◌∙◌, ap, subst, sym, arith, inl, inr, ℕ, List, IsTrue, Result, Ok, Err}
 use Rattle.pef_io.specs.declared.fail.IoFail.{IoFail}
 use Rattle.pef_io.specs.declared.fail.Slot.{Slot}
 use Rattle.pef_io.specs.Calls.{one_more}
-use Rattle.pef_io.specs.DepotState.{DepotState, SameStarts, NoneStartedTwice, OnlyReads, Starts}
+use Rattle.pef_io.specs.DepotState.{DepotState, SameStarts, NoneStartedTwice, OnlyReads, ReadsSlot, Starts}
 use Rattle.pef_io.proofs.Ops.{same_or_other}
 
 -- nothing read
@@ -93,6 +93,40 @@ OnlyReads-start old new slot name result s = record {
     this : (result : Result (Unit {0}) IoFail) → Starts old new slot name result → IsTrue (old.started slot) → IsTrue (new.started slot)
     this (Ok u) s h = s.started
     this (Err e) s h = (s.unchanged.slots slot).0 ∙ h
+
+-- reads, and then a read of a slot
+pub OnlyReads-then : {touched : Slot → Type 0} {a b c : DepotState} {slot : Slot} {before after : List ℕ} {result : Result ℕ IoFail} → OnlyReads touched a b → touched slot → ReadsSlot b c slot before after result → OnlyReads touched a c
+OnlyReads-then {touched} {a} {b} {c} {slot} p it r = record {
+  tells = r.tells ∙ p.tells;
+  files = λ t name. r.files (p.tells ∙ t) name ∙ p.files t name;
+  writing = (r.writing.0 ∙ p.writing.0, λ t. r.writing.1 (p.tells ∙ t) ∙ p.writing.1 t);
+  writing_count = r.counts.writing ∙ p.writing_count;
+  stay_started = λ s h. elim (same_or_other s slot) [
+    | inl e ↦ ap c.started e ∙ r.started ∙ sym (ap b.started e) ∙ p.stay_started s h
+    | inr n ↦ (r.other_slots s n).0 ∙ p.stay_started s h
+  ];
+  other_slots = λ s n.
+      let other : s ≢ slot = λ e. n (subst touched (sym e) it) in (
+        (r.other_slots s other).0 ∙ (p.other_slots s n).0,
+        λ t. (r.other_slots s other).1 (p.tells ∙ t) ∙ (p.other_slots s n).1 t,
+      );
+  never_fall = λ s. elim (same_or_other s slot) [
+    | inl e ↦ omega (arith, p.never_fall s, r.counts.this.never_falls, ap b.faults e, ap c.faults e)
+    | inr n ↦ omega (arith, p.never_fall s, r.counts.others s n)
+  ];
+  other_counts = λ s n.
+      let other : s ≢ slot = λ e. n (subst touched (sym e) it) in
+      r.counts.others s other ∙ p.other_counts s n;
+  create_count = r.counts.create_count ∙ p.create_count;
+  finish_count = r.counts.finish_count ∙ p.finish_count;
+  starts_never_fall = λ s. omega (arith, p.starts_never_fall s, r.starts s);
+  other_starts = λ s n. r.starts s ∙ p.other_starts s n;
+  refusals_never_fall = omega (arith, p.refusals_never_fall, r.counts.refusals.never_falls);
+}
+
+-- a read changes no count of faults but that of its slot
+pub faults-there : {old new : DepotState} {slot : Slot} {before after : List ℕ} {result : Result ℕ IoFail} → ReadsSlot old new slot before after result → (other : Slot) → (other ≡ slot) ⊎ (new.faults other ≡ old.faults other)
+faults-there {slot = slot} r other = elim (same_or_other other slot) [ inl e ↦ inl e | inr n ↦ inr (r.counts.others other n) ]
 
 -- no start
 pub NoneStartedTwice-same : (a : DepotState) → NoneStartedTwice a a

@@ -1,10 +1,11 @@
-use Rattle.std.proofs.Common.{arith, ◌≡◌, ◌≢◌, ◌⊎◌, ◌+◌, ◌-◌, ◌^◌, ◌≤◌, min, inl, inr, ℕ, Bool, true, false, refl, ap, Decides, ◌&&◌, nat_eq}
+use Rattle.std.proofs.Common.{arith, ◌≡◌, ◌≢◌, ◌⊎◌, ◌∙◌, ◌+◌, ◌-◌, ◌^◌, ◌≤◌, min, inl, inr, ℕ, Bool, true, false, refl, sym, ap, Decides, ◌&&◌, nat_eq}
 use Rattle.std.proofs.lemmas.Bool.Decides.{Decides-eqb}
+use denote.Enum.Bare.{same_true, true_same}
 use Rattle.pef_io.specs.declared.fail.Slot.{Slot}
-use Rattle.pef_io.specs.declared.fail.Slot.TheVariants.{Docs, Freqs, Sizes, Index, Side, Map}
 use Rattle.pef_io.specs.declared.calls.Op.{Op}
 use Rattle.pef_io.specs.Calls.{one_more}
 use Rattle.pef_io.specs.declared.calls.Op.TheVariants.{Start, Read, Create, Write, Finish}
+use Rattle.pef_io.specs.contracts.fail.Slot.{the_type}
 use Rattle.pef_io.specs.contracts.fail.SlotPartialEq.TheImpl as slot
 use Rattle.pef_io.specs.contracts.calls.OpPartialEq.TheImpl as op
 
@@ -14,13 +15,7 @@ one_more-min raised n e fits = omega (arith, e, fits)
 
 -- `==` of slots is equality
 pub slot_eq : (a b : Slot) → Decides (slot.ghosts.eq a b) (a ≡ b)
-slot_eq Docs Docs = (λ _. refl, λ _. refl)
-slot_eq Freqs Freqs = (λ _. refl, λ _. refl)
-slot_eq Sizes Sizes = (λ _. refl, λ _. refl)
-slot_eq Index Index = (λ _. refl, λ _. refl)
-slot_eq Side Side = (λ _. refl, λ _. refl)
-slot_eq Map Map = (λ _. refl, λ _. refl)
-slot_eq a b = (λ e. cc, λ e. cc)
+slot_eq a b = (same_true the_type tt a b, true_same the_type a b)
 
 pub same_or_other : (a b : Slot) → (a ≡ b) ⊎ (a ≢ b)
 same_or_other a b = by_test (slot.ghosts.eq a b) (slot_eq a b)
@@ -31,12 +26,22 @@ same_or_other a b = by_test (slot.ghosts.eq a b) (slot_eq a b)
 
 -- `==` of kinds of call is equality
 pub op_eq : (a b : Op) → Decides (op.ghosts.eq a b) (a ≡ b)
-op_eq (Start s) (Start t) = (λ e. ap Start ((slot_eq s t).0 e), λ e. let same : s ≡ t = cc in (slot_eq s t).1 same)
-op_eq (Read s) (Read t) = (λ e. ap Read ((slot_eq s t).0 e), λ e. let same : s ≡ t = cc in (slot_eq s t).1 same)
-op_eq Create Create = (λ _. refl, λ _. refl)
-op_eq Write Write = (λ _. refl, λ _. refl)
-op_eq Finish Finish = (λ _. refl, λ _. refl)
-op_eq a b = (λ e. cc, λ e. cc)
+op_eq a b = (same a b, λ e. ap (op.ghosts.eq a) (sym e) ∙ itself a)
+  where
+    same : (a b : Op) → op.ghosts.eq a b ≡ true → a ≡ b
+    same (Start s) (Start t) e = ap Start ((slot_eq s t).0 e)
+    same (Read s) (Read t) e = ap Read ((slot_eq s t).0 e)
+    same Create Create e = refl
+    same Write Write e = refl
+    same Finish Finish e = refl
+    same a b e = cc
+
+    itself : (a : Op) → op.ghosts.eq a a ≡ true
+    itself (Start s) = (slot_eq s s).1 refl
+    itself (Read s) = (slot_eq s s).1 refl
+    itself Create = refl
+    itself Write = refl
+    itself Finish = refl
 
 -- `==` of numbered calls is equality
 pub numbered_eq : (a b : Op × ℕ) → Decides (op.ghosts.eq a.0 b.0 && nat_eq a.1 b.1) (a ≡ b)
