@@ -4,7 +4,7 @@ use Rattle.std.specs.Prelude.{◌||◌, option_to_list}
 use Rattle.std.specs.List.{All, reduce}
 use Rattle.std.specs.Option.{IfSome}
 use Rattle.std.proofs.lemmas.Bool.{cases_lt, or_from, or_left, or_right}
-use Rattle.std.proofs.lemmas.List.{map-set, set-get_or, get_or-map}
+use Rattle.std.proofs.lemmas.List.{map-set, set-get_or, get_or-map, length-map}
 use Rattle.std.proofs.lemmas.List.Folds.{list_any_more}
 use Rattle.collection_model.specs.Collection.{Posting}
 use Rattle.cursor_api.specs.NextGeq.{IsCursorAt}
@@ -23,6 +23,14 @@ module _ {X : Type 0} (list : X → List Posting) (place : X → ℕ) where
   -- the list of a cursor among the lists
   pub list-read : (cs : List X) (lists : List (List Posting)) (i : ℕ) (d : X) → map list cs ≡ lists → i < length cs → list (get_or cs i d) ≡ get_or lists i []
   list-read cs lists i d same within = sym (get_or-map list cs i d [] within) ∙ ap (λ (ls : List (List Posting)). get_or ls i []) same
+
+  -- the list of a term is that of a cursor
+  pub term-inside : (cs : List X) (lists : List (List Posting)) (terms : List Term) (i : ℕ) (t : Term) → map list cs ≡ lists → All (λ t. t.list < length lists) terms → i < length terms → (get_or terms i t).list < length cs
+  term-inside cs lists terms i t same all within =
+      let here = all i t within in
+      let count = ap length same in
+      let l = length-map cs list in
+      omega arith
 
   pub later-passed : (cs : List X) (d e : ℕ) → d ≤ e → All (λ c. HasPassed d (list c) (place c)) cs → All (λ c. HasPassed e (list c) (place c)) cs
   later-passed cs d e le all k x within = record { passed = λ j lt. let h = (all k x within).passed j lt in omega arith }

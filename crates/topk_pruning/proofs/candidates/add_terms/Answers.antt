@@ -1,6 +1,6 @@
-use Rattle.std.proofs.Common.{◌≡◌, refl, sym, ap, ◌∙◌, subst, ℕ, ◌+◌, ◌*◌, ◌<◌, ◌||◌, max, List, map, take, length, get_or, arith}
+use Rattle.std.proofs.Common.{◌≡◌, refl, sym, ap, ◌∙◌, subst, ℕ, ◌+◌, ◌*◌, ◌||◌, max, List, map, take, length, get_or, arith}
 use Rattle.std.specs.List.{list_any}
-use Rattle.std.proofs.lemmas.List.{length-map, get_or_default}
+use Rattle.std.proofs.lemmas.List.{get_or_default}
 use Rattle.std.proofs.lemmas.List.Elements.{All-set}
 use Rattle.std.proofs.lemmas.List.Folds.{list_any_more}
 use Rattle.std.proofs.lemmas.List.Sums.{sum_by_more, sum_by-take-le}
@@ -9,7 +9,7 @@ use Rattle.scan_plans.specs.Matches.{has_doc, freq_of_doc}
 use Rattle.scan_plans.specs.Scan.{HasPassed}
 use Rattle.topk_pruning.specs.declared.term.Term.{Term}
 use Rattle.topk_pruning.specs.Terms.{list_of, share}
-use Rattle.topk_pruning.proofs.Moves.{lists-set, list-read, later-passed}
+use Rattle.topk_pruning.proofs.Moves.{lists-set, list-read, term-inside, later-passed}
 use Rattle.topk_pruning.proofs.Scores.{shares-within}
 use Rattle.topk_pruning.proofs.Windows.{no_term, kept-read, kept-none, kept-more, are-take}
 use Rattle.topk_pruning.proofs.candidates.add_terms.Goals as goal
@@ -37,14 +37,9 @@ add_term-requires-clause-passed g c =
     let i : ℕ = c.loop-term.term-index in
     let t : Term = get_or terms i no_term in
     let d = c.index-cursors-term.result in
-    let l = length-map cs list in
-    let m = length-map c.args.cursors.now list in
     let so_far = c.loop-term.invariant in
-    let same_count = ap length so_far.lists in
-    let inside = c.requires.terms.within i no_term c.loop-term-test.true in
-    let within : t.list < length cs = omega arith in
     let same = kept-read terms c.args.cursors.now cs i no_term d c.loop-term-test.true c.requires.apart so_far.kept in
-    subst (λ x. HasPassed c.args.first (list x) (place x)) (sym same) (c.requires.passed t.list d (omega arith))
+    subst (λ x. HasPassed c.args.first (list x) (place x)) (sym same) (c.requires.passed t.list d (term-inside list place c.args.cursors.now lists terms i no_term refl c.requires.terms.within c.loop-term-test.true))
 
 pub add_term-requires-clause-room : goal.add_term-requires-clause-room
 add_term-requires-clause-room g c = λ k e inside_scores.
@@ -71,12 +66,8 @@ loop-term-preserved g c =
     let i : ℕ = c.loop-term.term-index in
     let t : Term = get_or terms i no_term in
     let d = c.index-cursors-term.result in
-    let l = length-map cs list in
-    let m = length-map c.args.cursors.now list in
     let so_far = c.loop-term.invariant in
-    let same_count = ap length so_far.lists in
-    let inside = c.requires.terms.within i no_term c.loop-term-test.true in
-    let within : t.list < length cs = omega arith in
+    let within = term-inside list place cs lists terms i no_term so_far.lists c.requires.terms.within c.loop-term-test.true in
     let new = c.add_term.new.cursor in
     let first : ℕ = c.args.first in
     let kept = c.add_term.ensures in

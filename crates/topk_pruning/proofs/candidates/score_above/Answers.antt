@@ -1,5 +1,4 @@
-use Rattle.std.proofs.Common.{◌≡◌, sym, ap, ◌∙◌, ℕ, ◌+◌, ◌*◌, ◌<◌, ◌≤◌, List, map, take, drop, length, get_or, arith, rules, tests}
-use Rattle.std.proofs.lemmas.List.{length-map}
+use Rattle.std.proofs.Common.{◌≡◌, sym, ap, ◌∙◌, ℕ, ◌+◌, ◌*◌, ◌≤◌, List, map, take, drop, get_or, arith, rules, tests}
 use Rattle.std.proofs.lemmas.List.Elements.{All-set, All-take, All-drop}
 use Rattle.std.proofs.lemmas.List.Sums.{sum_by_more, sum_by-drop_more, sum_by-take-drop}
 use Rattle.collection_model.specs.Collection.{Posting}
@@ -7,7 +6,7 @@ use Rattle.scan_plans.specs.Matches.{freq_of_doc}
 use Rattle.scan_plans.specs.Scan.{HasPassed}
 use Rattle.topk_pruning.specs.declared.term.Term.{Term}
 use Rattle.topk_pruning.specs.Terms.{share, score_in, bounds, AreTermsIn}
-use Rattle.topk_pruning.proofs.Moves.{lists-set, list-read}
+use Rattle.topk_pruning.proofs.Moves.{lists-set, list-read, term-inside}
 use Rattle.topk_pruning.proofs.Scores.{shares-within, beats-lower}
 use Rattle.topk_pruning.proofs.Windows.{no_term, before-set}
 use Rattle.topk_pruning.proofs.candidates.score_above.Goals as goal
@@ -50,11 +49,7 @@ overflow_add-score-in-loop-term g c =
     let i : ℕ = c.loop-term.term-index in
     let t : Term = get_or terms i no_term in
     let d = c.index-cursors-term.result in
-    let l = length-map cs list in
-    let m = length-map c.args.cursors.now list in
-    let same_count = ap length c.loop-term.invariant.lists in
-    let inside = c.requires.terms.within i no_term c.loop-term-test.true in
-    let within : t.list < length cs = omega arith in
+    let within = term-inside list place cs lists terms i no_term c.loop-term.invariant.lists c.requires.terms.within c.loop-term-test.true in
     let value : c.probe-score.result ≡ share lists c.args.doc t = c.probe-score.ensures.value ∙ ap (λ (l : List Posting). t.weight * freq_of_doc c.args.doc l) (list-read list place cs lists t.list d c.loop-term.invariant.lists within) in
     let le : share lists c.args.doc t ≤ t.bound = c.requires.terms.bounded c.args.doc (omega arith) (omega arith) i no_term c.loop-term-test.true in
     let less = sum_by-drop_more (λ (t : Term). t.bound) terms i no_term c.loop-term-test.true in
@@ -71,11 +66,7 @@ loop-term-preserved g c =
     let i : ℕ = c.loop-term.term-index in
     let t : Term = get_or terms i no_term in
     let d = c.index-cursors-term.result in
-    let l = length-map cs list in
-    let m = length-map c.args.cursors.now list in
-    let same_count = ap length c.loop-term.invariant.lists in
-    let inside = c.requires.terms.within i no_term c.loop-term-test.true in
-    let within : t.list < length cs = omega arith in
+    let within = term-inside list place cs lists terms i no_term c.loop-term.invariant.lists c.requires.terms.within c.loop-term-test.true in
     let value : c.probe-score.result ≡ share lists c.args.doc t = c.probe-score.ensures.value ∙ ap (λ (l : List Posting). t.weight * freq_of_doc c.args.doc l) (list-read list place cs lists t.list d c.loop-term.invariant.lists within) in
     let new = c.probe-score.new.cursor in
     let more = sum_by_more (share lists c.args.doc) terms i no_term c.loop-term-test.true in

@@ -1,10 +1,9 @@
-use Rattle.std.proofs.Common.{◌≡◌, refl, ap, ◌∙◌, ℕ, ◌<◌, ◌≤◌, List, map, length, get_or, arith}
-use Rattle.std.proofs.lemmas.List.{length-map}
+use Rattle.std.proofs.Common.{◌≡◌, refl, ap, ◌∙◌, ℕ, ◌≤◌, List, map, get_or, arith}
 use Rattle.collection_model.specs.Collection.{Posting}
 use Rattle.scan_plans.specs.Matches.{freq_of_doc}
 use Rattle.topk_pruning.specs.declared.term.Term.{Term}
 use Rattle.topk_pruning.specs.Terms.{list_of}
-use Rattle.topk_pruning.proofs.Moves.{list-read}
+use Rattle.topk_pruning.proofs.Moves.{list-read, term-inside}
 use Rattle.topk_pruning.proofs.Near.{set-more, set-all, share-under}
 use Rattle.topk_pruning.proofs.Windows.{no_term}
 use Rattle.topk_pruning.proofs.ceilings.bound_each.Goals as goal
@@ -20,9 +19,7 @@ loop-place-preserved g c =
     let t : Term = get_or terms i no_term in
     let set_to : Term = record { list = t.list; weight = t.weight; bound = c.most_under-bound.result } in
     let so_far = c.loop-place.invariant in
-    let l = length-map cs list in
-    let inside = c.requires.terms.within i no_term c.loop-place-test.true in
-    let within : t.list < length cs = omega arith in
+    let within = term-inside list place cs lists terms i no_term refl c.requires.terms.within c.loop-place-test.true in
     let least = c.min-reach.ensures in
     let next = c.saturating_add.ensures in
     let bound = c.most_under-bound.ensures in

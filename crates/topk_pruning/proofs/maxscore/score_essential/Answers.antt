@@ -13,7 +13,17 @@ use Rattle.topk_pruning.proofs.Tops.{IsStep, next-step, next-same, last-step, sc
 use Rattle.topk_pruning.proofs.Windows.{query-terms, terms-weighty}
 use Rattle.topk_pruning.proofs.maxscore.score_essential.Given as given
 use Rattle.topk_pruning.proofs.maxscore.score_essential.Goals as goal
-use Rattle.topk_pruning.proofs.maxscore.score_essential.Goals.{In-Some, In_default}
+use Rattle.topk_pruning.proofs.maxscore.score_essential.Goals.{In_ok-terms, In-Some, In_default}
+
+-- the terms are those of the query
+known : (g : given.Over) (c : In_ok-terms g) → AreTerms (map g.C.DocCursor.list c.args.cursors.now) c.in_ok-terms.terms.items × AreAllTerms (map g.C.DocCursor.list c.args.cursors.now) c.args.weights.now c.in_ok-terms.terms.items
+known g c =
+    let lists : List (List Posting) = map g.C.DocCursor.list c.args.cursors.now in
+    let weights : List ℕ = c.args.weights.now in
+    let count = length-map c.args.cursors.now g.C.DocCursor.list in (
+      terms-are lists weights c.in_ok-terms.terms.items c.in_ok-terms.ensures.all c.in_ok-terms.ensures.light,
+      all-terms lists weights c.in_ok-terms.terms.items (omega (arith, c.requires.each, count)) c.in_ok-terms.ensures.all,
+    )
 
 -- what is known of the first document of a window
 first-step : (g : given.Over) (c : In-Some g) → IsStep c.args.n (map g.C.DocCursor.list c.args.cursors.now) c.args.weights.now c.common_score-floor.result c.args.k c.loop-first.from c.in-Some.first c.loop-first.top.held
@@ -22,12 +32,10 @@ first-step g c =
     let lists : List (List Posting) = map list c.args.cursors.now in
     let weights : List ℕ = c.args.weights.now in
     let terms : List Term = c.in_ok-terms.terms.items in
-    let count = length-map c.args.cursors.now list in
-    let all : AreAllTerms lists weights terms = all-terms lists weights terms (omega (arith, c.requires.each, count)) c.in_ok-terms.ensures.all in
     let so_far = c.loop-first.invariant in
     let next = next-same (map list c.loop-first.cursors) lists c.deref-in-loop-first.result.now terms c.loop-first.top.floor c.common_score-floor.result c.loop-first.top.k c.args.k c.loop-first.from c.loop-first.top.held (Some c.in-Some.first) so_far.lists c.deref-in-loop-first.ensures.value so_far.floor so_far.k c.in-Some.ensures.next in
     let grows = c.top_list_grows.ensures in
-    next-step grows.skipped grows.below grows.in_range c.args.n lists weights terms c.common_score-floor.result c.args.k c.loop-first.from c.in-Some.first c.loop-first.top.held c.requires.in_range all so_far.held next
+    next-step grows.skipped grows.below grows.in_range c.args.n lists weights terms c.common_score-floor.result c.args.k c.loop-first.from c.in-Some.first c.loop-first.top.held c.requires.in_range (known g (goal.at.In-Some g c).In_ok-terms).1 so_far.held next
 
 -- what is held where no list has a further document
 top-of_none : (g : given.Over) (c : In_default g) → IsTop c.args.n (map g.C.DocCursor.list c.args.cursors.now) c.args.weights.now c.args.k c.loop-first.top.held
@@ -37,28 +45,24 @@ top-of_none g c =
     let weights : List ℕ = c.args.weights.now in
     let terms : List Term = c.in_ok-terms.terms.items in
     let floor : ℕ = c.common_score-floor.result in
-    let count = length-map c.args.cursors.now list in
-    let all : AreAllTerms lists weights terms = all-terms lists weights terms (omega (arith, c.requires.each, count)) c.in_ok-terms.ensures.all in
     let so_far = c.loop-first.invariant in
     let next = next-same (map list c.loop-first.cursors) lists c.deref-in-loop-first.result.now terms c.loop-first.top.floor floor c.loop-first.top.k c.args.k c.loop-first.from c.loop-first.top.held None so_far.lists c.deref-in-loop-first.ensures.value so_far.floor so_far.k c.in_default.ensures.next in
-    let top = last-step c.top_list_grows.ensures.skipped c.args.n lists weights terms floor c.args.k c.loop-first.from c.loop-first.top.held all so_far.in_range so_far.held next in
-    c.top_list_has_a_floor.ensures floor c.args.n lists weights c.args.k c.loop-first.top.held (c.common_score-floor.ensures c.args.n weights c.requires.in_range (subst (AreAllTerms lists weights) (sym c.deref.ensures.value) all)) top
+    let top = last-step c.top_list_grows.ensures.skipped c.args.n lists weights terms floor c.args.k c.loop-first.from c.loop-first.top.held (known g (goal.at.In_default g c).In_ok-terms).1 so_far.in_range so_far.held next in
+    c.top_list_has_a_floor.ensures floor c.args.n lists weights c.args.k c.loop-first.top.held (c.common_score-floor.ensures c.args.n weights c.requires.in_range (subst (AreAllTerms lists weights) (sym c.deref.ensures.value) (known g (goal.at.In_default g c).In_ok-terms).1)) top
 
 pub common_score-floor-requires-clause-within : goal.common_score-floor-requires-clause-within
 common_score-floor-requires-clause-within g c =
     let list = g.C.DocCursor.list in
     let lists : List (List Posting) = map list c.args.cursors.now in
     let terms : List Term = c.in_ok-terms.terms.items in
-    let are : AreTerms lists terms = terms-are lists c.args.weights.now terms c.in_ok-terms.ensures.all c.in_ok-terms.ensures.light in
-    subst (λ (ts : List Term). All (λ t. t.list < length c.args.cursors.now) ts) (sym c.deref.ensures.value) (within-all list c.args.cursors.now terms are)
+    subst (λ (ts : List Term). All (λ t. t.list < length c.args.cursors.now) ts) (sym c.deref.ensures.value) (within-all list c.args.cursors.now terms (known g (goal.at.common_score-floor-requires-clause-within g c).In_ok-terms).0)
 
 pub next_candidate-requires-clause-terms : goal.next_candidate-requires-clause-terms
 next_candidate-requires-clause-terms g c =
     let list = g.C.DocCursor.list in
     let lists : List (List Posting) = map list c.args.cursors.now in
     let terms : List Term = c.in_ok-terms.terms.items in
-    let are : AreTerms lists terms = terms-are lists c.args.weights.now terms c.in_ok-terms.ensures.all c.in_ok-terms.ensures.light in
-    subst (λ (ls : List (List Posting)). AreTerms ls c.deref-in-loop-first.result.now) (sym c.loop-first.invariant.lists) (subst (AreTerms lists) (sym c.deref-in-loop-first.ensures.value) are)
+    subst (λ (ls : List (List Posting)). AreTerms ls c.deref-in-loop-first.result.now) (sym c.loop-first.invariant.lists) (subst (AreTerms lists) (sym c.deref-in-loop-first.ensures.value) (known g (goal.at.next_candidate-requires-clause-terms g c).In_ok-terms).0)
 
 pub next_candidate-requires-clause-weighty : goal.next_candidate-requires-clause-weighty
 next_candidate-requires-clause-weighty g c =
@@ -71,9 +75,8 @@ postings_between-requires g c =
     let list = g.C.DocCursor.list in
     let lists : List (List Posting) = map list c.args.cursors.now in
     let terms : List Term = c.in_ok-terms.terms.items in
-    let are : AreTerms lists terms = terms-are lists c.args.weights.now terms c.in_ok-terms.ensures.all c.in_ok-terms.ensures.light in
     let same = c.in-Some.ensures.lists ∙ c.loop-first.invariant.lists in
-    record { within = subst (λ (ts : List Term). All (λ t. t.list < length c.next_candidate.new.cursors) ts) (sym c.deref-in-Some.ensures.value) (within-all list c.next_candidate.new.cursors terms (subst (λ (ls : List (List Posting)). AreTerms ls terms) (sym same) are)) }
+    record { within = subst (λ (ts : List Term). All (λ t. t.list < length c.next_candidate.new.cursors) ts) (sym c.deref-in-Some.ensures.value) (within-all list c.next_candidate.new.cursors terms (subst (λ (ls : List (List Posting)). AreTerms ls terms) (sym same) (known g (goal.at.postings_between-requires g c).In_ok-terms).0)) }
 
 pub score_from-from-requires-clause-terms : goal.score_from-from-requires-clause-terms
 score_from-from-requires-clause-terms g c =
@@ -114,8 +117,6 @@ loop-first-preserved g c =
     let lists : List (List Posting) = map list c.args.cursors.now in
     let weights : List ℕ = c.args.weights.now in
     let terms : List Term = c.in_ok-terms.terms.items in
-    let count = length-map c.args.cursors.now list in
-    let all : AreAllTerms lists weights terms = all-terms lists weights terms (omega (arith, c.requires.each, count)) c.in_ok-terms.ensures.all in
     let so_far = c.loop-first.invariant in
     let step = first-step g (goal.at.loop-first-preserved g c).In-Some in
     let same = c.in-Some.ensures.lists ∙ so_far.lists in
@@ -138,7 +139,7 @@ loop-first-preserved g c =
       k = scored.k ∙ so_far.k;
       n = scored.n ∙ so_far.n;
       floor = scored.floor ∙ so_far.floor;
-      held = follows weights all step.top;
+      held = follows weights (known g (goal.at.loop-first-preserved g c).In_ok-terms).1 step.top;
     }
 
 pub returns-clause-first : goal.returns-clause-first
@@ -152,8 +153,6 @@ returns-clause-bound g c =
     let lists : List (List Posting) = map g.C.DocCursor.list c.args.cursors.now in
     let weights : List ℕ = c.args.weights.now in
     let terms : List Term = c.in_ok-terms.terms.items in
-    let are : AreTerms lists terms = terms-are lists weights terms c.in_ok-terms.ensures.all c.in_ok-terms.ensures.light in
-    let count = length-map c.args.cursors.now g.C.DocCursor.list in
-    let all : AreAllTerms lists weights terms = all-terms lists weights terms (omega (arith, c.requires.each, count)) c.in_ok-terms.ensures.all in
-    let light = scores-light (in_any c.args.n lists) lists weights terms c.args.k c.loop-first.top.held all are (top-of_none g (goal.at.returns-clause-bound g c).In_default) in
+    let is = known g (goal.at.returns-clause-bound g c).In_ok-terms in
+    let light = scores-light (in_any c.args.n lists) lists weights terms c.args.k c.loop-first.top.held is.1 is.0 (top-of_none g (goal.at.returns-clause-bound g c).In_default) in
     IfOk-weaker c.into_list.result (λ r. r.items ≡ c.loop-first.top.held) (λ r. All (λ e. e.1 < 2 ^ 58) r.items) (λ r is. subst (λ (h : List (ℕ × ℕ)). All (λ e. e.1 < 2 ^ 58) h) (sym is) light) c.into_list.ensures

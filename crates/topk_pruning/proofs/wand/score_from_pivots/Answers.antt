@@ -20,21 +20,30 @@ use Rattle.topk_pruning.proofs.Tops.{IsStep, next-step, last-step, scores-light,
 use Rattle.topk_pruning.proofs.Windows.{query-terms}
 use Rattle.topk_pruning.proofs.wand.score_from_pivots.Given as given
 use Rattle.topk_pruning.proofs.wand.score_from_pivots.Goals as goal
-use Rattle.topk_pruning.proofs.wand.score_from_pivots.Goals.{In-Some, In_default}
+use Rattle.topk_pruning.proofs.wand.score_from_pivots.Goals.{In_ok-terms, In_ok-catch_up, In-Some, In_default}
+
+-- the terms are those of the query
+known : (g : given.Over) (c : In_ok-terms g) → AreTerms (map g.C.DocCursor.list c.args.cursors.now) c.in_ok-terms.terms.items × AreAllTerms (map g.C.DocCursor.list c.args.cursors.now) c.args.weights.now c.in_ok-terms.terms.items
+known g c =
+    let lists : List (List Posting) = map g.C.DocCursor.list c.args.cursors.now in
+    let weights : List ℕ = c.args.weights.now in
+    let count = length-map c.args.cursors.now g.C.DocCursor.list in (
+      terms-are lists weights c.in_ok-terms.terms.items c.in_ok-terms.ensures.all c.in_ok-terms.ensures.light,
+      all-terms lists weights c.in_ok-terms.terms.items (omega (arith, c.requires.each, count)) c.in_ok-terms.ensures.all,
+    )
+
+-- the order once the cursors caught up
+caught : (g : given.Over) (c : In_ok-catch_up g) → IsOrder (map g.C.DocCursor.list c.args.cursors.now) c.in_ok-terms.terms.items c.loop-room.from c.catch_up.new.order.items
+caught g c = caught-order (map g.C.DocCursor.list c.loop-room.cursors) (map g.C.DocCursor.list c.args.cursors.now) c.in_ok-terms.terms.items c.loop-room.from c.loop-room.order.items c.catch_up.new.order.items c.loop-room.invariant.lists c.in_ok-catch_up.ensures.order c.loop-room.invariant.order
 
 pub order_of-requires-clause-terms : goal.order_of-requires-clause-terms
 order_of-requires-clause-terms g c =
-    let lists : List (List Posting) = map g.C.DocCursor.list c.args.cursors.now in
-    let are : AreTerms lists c.in_ok-terms.terms.items = terms-are lists c.args.weights.now c.in_ok-terms.terms.items c.in_ok-terms.ensures.all c.in_ok-terms.ensures.light in
-    subst (AreTerms lists) (sym c.deref-2.ensures.value) are
+    subst (AreTerms (map g.C.DocCursor.list c.args.cursors.now)) (sym c.deref-2.ensures.value) (known g (goal.at.order_of-requires-clause-terms g c).In_ok-terms).0
 
 pub common_score-floor-requires-clause-within : goal.common_score-floor-requires-clause-within
 common_score-floor-requires-clause-within g c =
-    let list = g.C.DocCursor.list in
-    let lists : List (List Posting) = map list c.args.cursors.now in
-    let terms : List Term = c.in_ok-terms.terms.items in
-    let are : AreTerms lists terms = terms-are lists c.args.weights.now terms c.in_ok-terms.ensures.all c.in_ok-terms.ensures.light in
-    subst (λ (ts : List Term). All (λ t. t.list < length c.args.cursors.now) ts) (sym c.deref.ensures.value) (within-all list c.args.cursors.now terms are)
+    subst (λ (ts : List Term). All (λ t. t.list < length c.args.cursors.now) ts) (sym c.deref.ensures.value)
+    (within-all g.C.DocCursor.list c.args.cursors.now c.in_ok-terms.terms.items (known g (goal.at.common_score-floor-requires-clause-within g c).In_ok-terms).0)
 
 pub loop-room-init : goal.loop-room-init
 loop-room-init g c =
@@ -55,9 +64,7 @@ loop-room-init g c =
 pub catch_up-requires-clause-within : goal.catch_up-requires-clause-within
 catch_up-requires-clause-within g c =
     let lists : List (List Posting) = map g.C.DocCursor.list c.args.cursors.now in
-    let terms : List Term = c.in_ok-terms.terms.items in
-    let are : AreTerms lists terms = terms-are lists c.args.weights.now terms c.in_ok-terms.ensures.all c.in_ok-terms.ensures.light in
-    let standing : AreTerms lists (terms_at c.loop-room.order.items) = standing-are lists terms c.loop-room.from c.loop-room.order.items c.loop-room.invariant.order are in
+    let standing = standing-are lists c.in_ok-terms.terms.items c.loop-room.from c.loop-room.order.items c.loop-room.invariant.order (known g (goal.at.catch_up-requires-clause-within g c).In_ok-terms).0 in
     let l = length-map c.loop-room.cursors g.C.DocCursor.list in
     let same = ap length c.loop-room.invariant.lists in
     λ k t inside. let h = standing.within k t inside in omega arith
@@ -70,11 +77,7 @@ catch_up-requires-clause-falling g c = c.loop-room.invariant.falling
 
 pub pivot-requires : goal.pivot-requires
 pivot-requires g c =
-    let lists : List (List Posting) = map g.C.DocCursor.list c.args.cursors.now in
-    let terms : List Term = c.in_ok-terms.terms.items in
-    let are : AreTerms lists terms = terms-are lists c.args.weights.now terms c.in_ok-terms.ensures.all c.in_ok-terms.ensures.light in
-    let standing : AreTerms lists (terms_at c.catch_up.new.order.items) = standing-are lists terms c.loop-room.from c.catch_up.new.order.items (caught-order (map g.C.DocCursor.list c.loop-room.cursors) (map g.C.DocCursor.list c.args.cursors.now) c.in_ok-terms.terms.items c.loop-room.from c.loop-room.order.items c.catch_up.new.order.items c.loop-room.invariant.lists c.in_ok-catch_up.ensures.order c.loop-room.invariant.order) are in
-    let light = standing.light in
+    let light = (standing-are (map g.C.DocCursor.list c.args.cursors.now) c.in_ok-terms.terms.items c.loop-room.from c.catch_up.new.order.items (caught g (goal.at.pivot-requires g c).In_ok-catch_up) (known g (goal.at.pivot-requires g c).In_ok-terms).0).light in
     let same = ap (λ (o : List Standing). bounds (terms_at o)) c.deref-in-loop-room.ensures.value in
     record { light = omega arith }
 
@@ -84,20 +87,19 @@ pivot-known g c =
     let lists : List (List Posting) = map g.C.DocCursor.list c.args.cursors.now in
     let weights : List ℕ = c.args.weights.now in
     let terms : List Term = c.in_ok-terms.terms.items in
-    let are : AreTerms lists terms = terms-are lists weights terms c.in_ok-terms.ensures.all c.in_ok-terms.ensures.light in
-    let count = length-map c.args.cursors.now g.C.DocCursor.list in
-    let all : AreAllTerms lists weights terms = all-terms lists weights terms (omega (arith, c.requires.each, count)) c.in_ok-terms.ensures.all in
+    let at = goal.at.In-Some g c in
+    let is = known g at.In_ok-terms in
     let so_far = c.loop-room.invariant in
     let from : ℕ = c.loop-room.from in
     let k : ℕ = c.args.k in
     let held : List (ℕ × ℕ) = c.loop-room.top.held in
     let order : List Standing = c.catch_up.new.order.items in
-    let caught : IsOrder lists terms from order = caught-order (map g.C.DocCursor.list c.loop-room.cursors) lists terms from c.loop-room.order.items order so_far.lists c.in_ok-catch_up.ensures.order so_far.order in
+    let stand = caught g at.In_ok-catch_up in
     let bars = bars-at c.bar.result c.loop-room.top.floor c.common_score-floor.result c.loop-room.top.k k held so_far.floor so_far.k c.bar.ensures in
     let pivot : IsPivot order c.bar.result (Some c.in-Some.first) = subst (λ (o : List Standing). IsPivot o c.bar.result (Some c.in-Some.first)) c.deref-in-loop-room.ensures.value c.in-Some.ensures in
     let grows = c.top_list_grows.ensures in
-    next-step grows.skipped grows.below grows.in_range c.args.n lists weights (all-of lists terms from order caught) c.common_score-floor.result k from c.in-Some.first held c.requires.in_range (all-again lists weights terms from order caught all) so_far.held
-    (pivot-step lists terms c.common_score-floor.result k from c.in-Some.first order c.bar.result held are caught c.in_ok-catch_up.ensures.falling c.in_ok-catch_up.ensures.caught_up bars pivot)
+    next-step grows.skipped grows.below grows.in_range c.args.n lists weights (all-of lists terms from order stand) c.common_score-floor.result k from c.in-Some.first held c.requires.in_range (all-again lists weights terms from order stand is.1) so_far.held
+    (pivot-step lists terms c.common_score-floor.result k from c.in-Some.first order c.bar.result held is.0 stand c.in_ok-catch_up.ensures.falling c.in_ok-catch_up.ensures.caught_up bars pivot)
 
 -- what is held where there is none
 top-of_none : (g : given.Over) (c : In_default g) → IsTop c.args.n (map g.C.DocCursor.list c.args.cursors.now) c.args.weights.now c.args.k c.loop-room.top.held
@@ -105,20 +107,19 @@ top-of_none g c =
     let lists : List (List Posting) = map g.C.DocCursor.list c.args.cursors.now in
     let weights : List ℕ = c.args.weights.now in
     let terms : List Term = c.in_ok-terms.terms.items in
-    let are : AreTerms lists terms = terms-are lists weights terms c.in_ok-terms.ensures.all c.in_ok-terms.ensures.light in
-    let count = length-map c.args.cursors.now g.C.DocCursor.list in
-    let all : AreAllTerms lists weights terms = all-terms lists weights terms (omega (arith, c.requires.each, count)) c.in_ok-terms.ensures.all in
+    let at = goal.at.In_default g c in
+    let is = known g at.In_ok-terms in
     let so_far = c.loop-room.invariant in
     let from : ℕ = c.loop-room.from in
     let k : ℕ = c.args.k in
     let held : List (ℕ × ℕ) = c.loop-room.top.held in
     let order : List Standing = c.catch_up.new.order.items in
-    let caught : IsOrder lists terms from order = caught-order (map g.C.DocCursor.list c.loop-room.cursors) lists terms from c.loop-room.order.items order so_far.lists c.in_ok-catch_up.ensures.order so_far.order in
+    let stand = caught g at.In_ok-catch_up in
     let bars = bars-at c.bar.result c.loop-room.top.floor c.common_score-floor.result c.loop-room.top.k k held so_far.floor so_far.k c.bar.ensures in
     let pivot : IsPivot order c.bar.result None = subst (λ (o : List Standing). IsPivot o c.bar.result None) c.deref-in-loop-room.ensures.value c.in_default.ensures in
-    let top = last-step c.top_list_grows.ensures.skipped c.args.n lists weights (all-of lists terms from order caught) c.common_score-floor.result k from held (all-again lists weights terms from order caught all) so_far.in_range so_far.held
-    (pivot-end lists terms c.common_score-floor.result k from order c.bar.result held are caught bars pivot) in
-    c.top_list_has_a_floor.ensures c.common_score-floor.result c.args.n lists weights k held (c.common_score-floor.ensures c.args.n weights c.requires.in_range (subst (AreAllTerms lists weights) (sym c.deref.ensures.value) all)) top
+    let top = last-step c.top_list_grows.ensures.skipped c.args.n lists weights (all-of lists terms from order stand) c.common_score-floor.result k from held (all-again lists weights terms from order stand is.1) so_far.in_range so_far.held
+    (pivot-end lists terms c.common_score-floor.result k from order c.bar.result held is.0 stand bars pivot) in
+    c.top_list_has_a_floor.ensures c.common_score-floor.result c.args.n lists weights k held (c.common_score-floor.ensures c.args.n weights c.requires.in_range (subst (AreAllTerms lists weights) (sym c.deref.ensures.value) is.1)) top
 
 pub returns-in_default-clause-first : goal.returns-in_default-clause-first
 returns-in_default-clause-first g c =
@@ -131,10 +132,9 @@ returns-in_default-clause-bound g c =
     let lists : List (List Posting) = map g.C.DocCursor.list c.args.cursors.now in
     let weights : List ℕ = c.args.weights.now in
     let terms : List Term = c.in_ok-terms.terms.items in
-    let are : AreTerms lists terms = terms-are lists weights terms c.in_ok-terms.ensures.all c.in_ok-terms.ensures.light in
-    let count = length-map c.args.cursors.now g.C.DocCursor.list in
-    let all : AreAllTerms lists weights terms = all-terms lists weights terms (omega (arith, c.requires.each, count)) c.in_ok-terms.ensures.all in
-    let light = scores-light (in_any c.args.n lists) lists weights terms c.args.k c.loop-room.top.held all are (top-of_none g (goal.at.returns-in_default-clause-bound g c).In_default) in
+    let at = goal.at.returns-in_default-clause-bound g c in
+    let is = known g at.In_ok-terms in
+    let light = scores-light (in_any c.args.n lists) lists weights terms c.args.k c.loop-room.top.held is.1 is.0 (top-of_none g at.In_default) in
     IfOk-weaker c.into_list.result (λ r. r.items ≡ c.loop-room.top.held) (λ r. All (λ e. e.1 < 2 ^ 58) r.items) (λ r is. subst (λ (h : List (ℕ × ℕ)). All (λ e. e.1 < 2 ^ 58) h) (sym is) light) c.into_list.ensures
 
 pub score_from-from-requires-clause-terms : goal.score_from-from-requires-clause-terms
@@ -175,17 +175,15 @@ loop-room-preserved g c =
     let lists : List (List Posting) = map g.C.DocCursor.list c.args.cursors.now in
     let weights : List ℕ = c.args.weights.now in
     let terms : List Term = c.in_ok-terms.terms.items in
-    let count = length-map c.args.cursors.now g.C.DocCursor.list in
-    let all : AreAllTerms lists weights terms = all-terms lists weights terms (omega (arith, c.requires.each, count)) c.in_ok-terms.ensures.all in
     let so_far = c.loop-room.invariant in
-    let known = pivot-known g (goal.at.loop-room-preserved g c).In-Some in
+    let step = pivot-known g (goal.at.loop-room-preserved g c).In-Some in
     let same = c.catch_up.ensures.lists ∙ so_far.lists in
     let scored = c.score_from-from.ensures in
     let first : ℕ = c.in-Some.first in
     let to : ℕ = c.score_from-from.result in
     let held : List (ℕ × ℕ) = c.loop-room.top.held in
     let new : List (ℕ × ℕ) = c.score_from-from.new.top.held in
-    let after = known.later in
+    let after = step.later in
     let later = scored.later in
     let follows : FollowsTo lists terms c.common_score-floor.result c.args.k first to held new =
     subst (λ (j : ℕ). FollowsTo lists terms c.common_score-floor.result j first to held new) so_far.k
@@ -200,7 +198,7 @@ loop-room-preserved g c =
       k = scored.k ∙ so_far.k;
       n = scored.n ∙ so_far.n;
       floor = scored.floor ∙ so_far.floor;
-      held = follows weights all known.top;
-      order = order-later lists terms c.loop-room.from to c.catch_up.new.order.items (omega arith) (caught-order (map g.C.DocCursor.list c.loop-room.cursors) lists terms c.loop-room.from c.loop-room.order.items c.catch_up.new.order.items so_far.lists c.in_ok-catch_up.ensures.order so_far.order);
+      held = follows weights (known g (goal.at.loop-room-preserved g c).In_ok-terms).1 step.top;
+      order = order-later lists terms c.loop-room.from to c.catch_up.new.order.items (omega arith) (caught g (goal.at.loop-room-preserved g c).In_ok-catch_up);
       falling = c.in_ok-catch_up.ensures.falling;
     }
