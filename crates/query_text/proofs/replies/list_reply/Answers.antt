@@ -1,7 +1,6 @@
-use Rattle.std.proofs.Common.{ap, ◌∙◌, ℕ, ◌-◌, ◌≤◌, List, [], ◌∷◌, ◌++◌, length, drop, decimal, arith}
-use Rattle.std.proofs.lemmas.Fmt.{length-decimal-le}
+use Rattle.std.proofs.Common.{ap, ◌∙◌, ℕ, ◌-◌, List, [], ◌∷◌, ◌++◌, length, drop, decimal, arith}
 use Rattle.query_text.specs.Lines.{newline, space}
-use Rattle.query_text.proofs.Written.{written-more}
+use Rattle.query_text.proofs.Written.{digits-of_32, digits-of_64, written-more}
 use Rattle.query_text.proofs.replies.list_reply.Goals as goal
 
 pub write_after-at-requires-clause-room : goal.write_after-at-requires-clause-room
@@ -10,7 +9,7 @@ write_after-at-requires-clause-room c =
     let some = c.loop-left-test.true in
     let doc = c.from.ensures in
     let fits = c.type_inv.docs (c.loop-left.left - 1) in
-    let digits : length (decimal c.from.result) ≤ 10 = length-decimal-le 10 c.from.result (omega arith) (omega arith) (omega arith) in
+    let digits = digits-of_32 c.from.result (omega arith) in
     omega arith
 
 pub loop-left-preserved : goal.loop-left-preserved
@@ -23,7 +22,7 @@ loop-left-preserved c =
     let i : ℕ = left - 1 in
     let doc = c.from.ensures in
     let fits = c.type_inv.docs i in
-    let digits : length (decimal c.from.result) ≤ 10 = length-decimal-le 10 c.from.result (omega arith) (omega arith) (omega arith) in
+    let digits = digits-of_32 c.from.result (omega arith) in
     let start = c.write_after-at.ensures.start in
     let count = c.write_after-at.ensures.count in
     record {
@@ -38,5 +37,5 @@ pub write_digits-start-requires : goal.write_digits-start-requires
 write_digits-start-requires c =
     let so_far = c.loop-left.invariant in
     let n : ℕ = length c.args.docs.now in
-    let digits : length (decimal n) ≤ 20 = length-decimal-le 20 n (omega arith) (omega arith) (omega arith) in
+    let digits = digits-of_64 n (omega arith) in
     (omega arith, omega arith)

@@ -1,8 +1,7 @@
-use Rattle.std.proofs.Common.{sym, ap, ◌∙◌, ℕ, ◌-◌, ◌≤◌, List, [], ◌∷◌, ◌++◌, length, get_or, drop, decimal, append_assoc, arith}
-use Rattle.std.proofs.lemmas.Fmt.{length-decimal-le}
+use Rattle.std.proofs.Common.{sym, ap, ◌∙◌, ℕ, ◌-◌, List, [], ◌∷◌, ◌++◌, length, get_or, drop, decimal, append_assoc, arith}
 use Rattle.query_text.specs.Lines.{newline, space}
 use Rattle.query_text.specs.Texts.{colon}
-use Rattle.query_text.proofs.Written.{written-more}
+use Rattle.query_text.proofs.Written.{digits-of_32, digits-of_64, written-more}
 use Rattle.query_text.proofs.replies.top_reply.Goals as goal
 
 pub write_after-middle-requires-clause-room : goal.write_after-middle-requires-clause-room
@@ -10,7 +9,7 @@ write_after-middle-requires-clause-room c =
     let so_far = c.loop-left.invariant in
     let some = c.loop-left-test.true in
     let score : ℕ = (get_or c.args.top.now (c.loop-left.left - 1) (0, 0)).1 in
-    let digits : length (decimal score) ≤ 20 = length-decimal-le 20 score (omega arith) (omega arith) (omega arith) in
+    let digits = digits-of_64 score (omega arith) in
     omega arith
 
 pub write_after-at-requires-clause-room : goal.write_after-at-requires-clause-room
@@ -18,10 +17,10 @@ write_after-at-requires-clause-room c =
     let so_far = c.loop-left.invariant in
     let some = c.loop-left-test.true in
     let score : ℕ = (get_or c.args.top.now (c.loop-left.left - 1) (0, 0)).1 in
-    let digits : length (decimal score) ≤ 20 = length-decimal-le 20 score (omega arith) (omega arith) (omega arith) in
+    let digits = digits-of_64 score (omega arith) in
     let middle = c.write_after-middle.ensures.start in
     let doc = c.from.ensures in
-    let shorter : length (decimal c.from.result) ≤ 10 = length-decimal-le 10 c.from.result (omega arith) (omega arith) (omega arith) in
+    let shorter = digits-of_32 c.from.result (omega arith) in
     omega arith
 
 pub loop-left-preserved : goal.loop-left-preserved
@@ -34,9 +33,9 @@ loop-left-preserved c =
     let i : ℕ = left - 1 in
     let e : ℕ × ℕ = get_or top i (0, 0) in
     let score : ℕ = e.1 in
-    let digits : length (decimal score) ≤ 20 = length-decimal-le 20 score (omega arith) (omega arith) (omega arith) in
+    let digits = digits-of_64 score (omega arith) in
     let doc = c.from.ensures in
-    let shorter : length (decimal c.from.result) ≤ 10 = length-decimal-le 10 c.from.result (omega arith) (omega arith) (omega arith) in
+    let shorter = digits-of_32 c.from.result (omega arith) in
     let middle = c.write_after-middle.ensures.start in
     let middle-count = c.write_after-middle.ensures.count in
     let start = c.write_after-at.ensures.start in
@@ -58,5 +57,5 @@ pub write_digits-start-requires : goal.write_digits-start-requires
 write_digits-start-requires c =
     let so_far = c.loop-left.invariant in
     let n : ℕ = length c.args.top.now in
-    let digits : length (decimal n) ≤ 20 = length-decimal-le 20 n (omega arith) (omega arith) (omega arith) in
+    let digits = digits-of_64 n (omega arith) in
     (omega arith, omega arith)
