@@ -5,6 +5,7 @@ mod Fronts
 mod FirstFaults
 mod Limits
 mod ReadsFrom
+mod Ahead
 mod SameAnswer
 mod Bytes
 mod Heads
