@@ -1,29 +1,77 @@
--- What a run leaves that builds words: where they are not built, and what is known where they are.
-use Rattle.std.proofs.Common.{◌≡◌, ℕ, ◌≤◌, ◌<◌, refl, ap, subst, List, length, inl, inr}
-use Rattle.std.specs.Prelude.{Some, None, ◌≢◌, IsTrue, Result, Ok, Err}
+-- What a run leaves that builds the words of a collection: where they are not built, and what is known where they are.
+use Rattle.std.proofs.Common.{◌≡◌, ℕ, ◌≤◌, ◌<◌, ◌^◌, arith, refl, sym, ap, subst, List, length, inl, inr}
+use Rattle.std.specs.Prelude.{Some, None, IsTrue, Option, Result, Ok, Err, unwrap_or}
+use Rattle.collection_model.specs.FormatNumbers.{FormatNumbers}
 use Rattle.collection_model.specs.Collection.{Collection}
+use Rattle.collection_model.specs.Spelling.{Files}
 use Rattle.part_cost.specs.declared.formats.Format.{Format}
+use Rattle.part_cost.specs.declared.formats.Format.TheVariants.{One, Two, Three}
 use Rattle.part_cost.specs.Formats.{numbers_of}
 use Rattle.pef_io.specs.declared.fail.Slot.{Slot}
 use Rattle.pef_io.specs.declared.fail.Slot.TheVariants.{Index}
 use Rattle.pef_io.specs.DepotState.{DepotState}
 use Rattle.collection_reader.specs.declared.fault.Fault.{Fault}
-use Rattle.collection_reader.specs.ReadCollection.{IsCollectionSlot}
+use Rattle.collection_reader.specs.FirstFault.{IsFirstFault}
+use Rattle.collection_reader.specs.Laws.{OneFirstFault, SpelledHasNoFault}
+use Rattle.collection_reader.specs.ReadCollection.{IsCollectionSlot, files_at}
 use Rattle.index_file.specs.FileWords.{ListParts, file_words}
 use Rattle.index_file.specs.Builder.{most_words}
-use Rattle.command_model.specs.Found.{FindsCollection, HasFault}
+use Rattle.command_model.specs.Found.{FindsCollection}
 use Rattle.index_building.specs.declared.build.BuildError.{BuildError}
 use Rattle.index_building.specs.declared.build.BuildError.TheVariants as building
 use Rattle.index_building.specs.WordsOfFiles.{BuildsWords}
-use Rattle.command_ends.specs.Outside.{Outside, NoCallFailed, OfFile, OfWriting, OfInput, OfOut}
-use Rattle.command_ends.specs.Outcome.{Outcome, Done, BrokenCollection, FileFault, NoMemory, TooLarge, fault_of}
-use Rattle.command_ends.specs.Ends.{EndsByFault, FirstFaultEnds, OrTooLarge}
-use Rattle.command_ends.specs.WordsThen.{AreBuilt, BuildsWordsThen}
-use Rattle.command_ends.specs.ReadingCollection.{ReadsCollectionThen, RefusesBrokenCollection}
-use Rattle.command_ends.specs.Steps.Stops.{outcome_of_stop, stop_of_building}
+use Rattle.command_ends.specs.Outside.{Outside, OfFile}
+use Rattle.command_ends.specs.Outcome.{Outcome, BrokenCollection, NoMemory, TooLarge, fault_of}
+use Rattle.command_ends.specs.Ends.{EndsByFault}
+use Rattle.command_ends.specs.WordsThen.{AreBuilt, AreTooMany}
+use Rattle.command_ends.specs.Sources.{Source, CollectionAt, IsRefusedAs, Stands, Starts}
+use Rattle.command_ends.specs.Products.{Product, Does}
 use Rattle.command_ends.specs.Starts.{StartsOnly}
+use Rattle.command_ends.specs.Steps.Leaves.{Leaves}
+use Rattle.command_ends.specs.Steps.Stops.{outcome_of_stop, stop_of_building}
 use Rattle.command_ends.proofs.Started.{built_starts}
-use Rattle.command_ends.proofs.Counted.{stays, second, none_of, Of, all_end}
+use Rattle.command_ends.proofs.Counted.{second, Of}
+use Rattle.command_ends.proofs.SourceRead.{IsRead, IsStill, Laws, too_many, unread}
+
+-- ---- the source
+
+-- the laws of first faults, in every format whose document numbers fit four bytes
+pub record FaultLaws : Type 0 where
+  pub one : (format : FormatNumbers) → format.most_documents < 2 ^ 32 → OneFirstFault format
+  pub none : (format : FormatNumbers) → format.most_documents < 2 ^ 32 → SpelledHasNoFault format
+
+few_documents : (format : Format) → (numbers_of format).most_documents < 2 ^ 32
+few_documents One = omega arith
+few_documents Two = omega arith
+few_documents Three = omega arith
+
+same_fault : (f g : Fault) → Some f ≡ Some g → f ≡ g
+same_fault f g h = cc
+
+module _ (laws : FaultLaws) (format : Format) (base : List ℕ) where
+  abbrev numbers : FormatNumbers
+  numbers = numbers_of format
+
+  abbrev this : Source
+  this = CollectionAt numbers base
+
+  one : (d : DepotState) → IsTrue d.tells → (a b : Outcome) → IsRefusedAs this d a → IsRefusedAs this d b → a ≡ b
+  one d t (BrokenCollection f) (BrokenCollection g) x y =
+      ap BrokenCollection (same_fault f g (laws.one numbers (few_documents format) (files_at d base) (Some f) (Some g) (x t) (y t)))
+  one d t (BrokenCollection f) b x y = absurd y
+  one d t a b x y = absurd x
+
+  none : (d : DepotState) → Stands this d → (a : Outcome) → IsRefusedAs this d a → ⊥
+  none d (t, (c, found)) (BrokenCollection f) x =
+      let P : Files → Type 0 = λ files. IsFirstFault numbers files None in
+      let good : P (files_at d base) = subst P (sym (found.files t)) (laws.none numbers (few_documents format) c found.well_formed) in
+      let bad : Some f ≡ None = laws.one numbers (few_documents format) (files_at d base) (Some f) None (x t) good in cc
+  none d stands a x = x
+
+  pub collection_laws : Laws this
+  collection_laws = record { one = one; none = none }
+
+-- ---- words that are not built
 
 -- how a run ends whose words are not built
 abbrev pub unbuilt : BuildError → Outcome
@@ -35,57 +83,20 @@ refused e = Err e
 same_error : (e f : BuildError) → refused e ≡ refused f → e ≡ f
 same_error e f h = cc
 
-is_broken : (e : BuildError) (fault : Fault) → unbuilt e ≡ BrokenCollection fault → e ≡ building.Broken fault
-is_broken (building.Broken f) fault h = let s : BrokenCollection f ≡ BrokenCollection fault = h in cc
-is_broken (building.Read slot) fault h = let s : FileFault slot ≡ BrokenCollection fault = h in cc
-is_broken (building.TooLarge n) fault h = let s : (TooLarge Index) ≡ BrokenCollection fault = h in cc
-is_broken building.NoMemory fault h = let s : NoMemory ≡ BrokenCollection fault = h in cc
-
 is_read : (e : BuildError) (slot : Slot) → Of (fault_of (unbuilt e)) (OfFile slot) → e ≡ building.Read slot
-is_read (building.Broken f) slot h = let s : Of None (OfFile slot) = h in cc
 is_read (building.Read other) slot h = let s : Of (Some (OfFile other)) (OfFile slot) = h in cc
-is_read (building.TooLarge n) slot h = let s : Of None (OfFile slot) = h in cc
-is_read building.NoMemory slot h = let s : Of None (OfFile slot) = h in cc
+is_read e slot h = let s : Of None (OfFile slot) = h in cc
 
-not_writing : (e : BuildError) → ¬ Of (fault_of (unbuilt e)) OfWriting
-not_writing (building.Broken f) h = let s : Of None OfWriting = h in cc
-not_writing (building.Read slot) h = let s : Of (Some (OfFile slot)) OfWriting = h in cc
-not_writing (building.TooLarge n) h = let s : Of None OfWriting = h in cc
-not_writing building.NoMemory h = let s : Of None OfWriting = h in cc
+module _ (laws : FaultLaws) (format : Format) (base : List ℕ) (product : Product) (Makes : Outside → Outside → Outcome → Type 0) (old new : Outside)
+    (input : new.input ≡ old.input) (out : new.out ≡ old.out) where
+  abbrev Is : Collection → Type 0
+  Is = FindsCollection (numbers_of format) base old.depot
 
-not_input : (e : BuildError) → ¬ Of (fault_of (unbuilt e)) OfInput
-not_input (building.Broken f) h = let s : Of None OfInput = h in cc
-not_input (building.Read slot) h = let s : Of (Some (OfFile slot)) OfInput = h in cc
-not_input (building.TooLarge n) h = let s : Of None OfInput = h in cc
-not_input building.NoMemory h = let s : Of None OfInput = h in cc
+  abbrev Built : BuildError → Type 0
+  Built e = BuildsWords format base old.depot new.depot old.costs new.costs (Err e)
 
-not_out : (e : BuildError) → ¬ Of (fault_of (unbuilt e)) OfOut
-not_out (building.Broken f) h = let s : Of None OfOut = h in cc
-not_out (building.Read slot) h = let s : Of (Some (OfFile slot)) OfOut = h in cc
-not_out (building.TooLarge n) h = let s : Of None OfOut = h in cc
-not_out building.NoMemory h = let s : Of None OfOut = h in cc
-
-pub not_done : (e : BuildError) → unbuilt e ≢ Done
-not_done (building.Broken fault) h = let s : BrokenCollection fault ≡ Done = h in cc
-not_done (building.Read slot) h = let s : FileFault slot ≡ Done = h in cc
-not_done (building.TooLarge n) h = let s : (TooLarge Index) ≡ Done = h in cc
-not_done building.NoMemory h = let s : NoMemory ≡ Done = h in cc
-
--- The words of the collection under a base were not built.
-module _ (format : Format) (base : List ℕ) (old new : Outside) (e : BuildError)
-    (w : BuildsWords format base old.depot new.depot old.costs new.costs (Err e)) where
-  pub unbuilt_refuses : RefusesBrokenCollection (numbers_of format) base old (unbuilt e)
-  unbuilt_refuses = record {
-    broken = λ t fault h. elim (w.broken t fault h) [
-      | inl is ↦ inl (ap unbuilt (same_error e (building.Broken fault) is))
-      | inr (inl read) ↦ inr (inl (read.0, ap unbuilt (same_error e (building.Read read.0) read.1)))
-      | inr (inr none) ↦ inr (inr (ap unbuilt (same_error e building.NoMemory none)))
-    ];
-    sound = λ t c found fault is. w.no_fault t c found fault (ap refused (is_broken e fault is));
-  }
-
-  slot_ends : (slot : Slot) → EndsByFault (OfFile slot) (unbuilt e) (old.depot.faults slot) (new.depot.faults slot)
-  slot_ends slot = record {
+  slot_ends : (e : BuildError) → Built e → (slot : Slot) → EndsByFault (OfFile slot) (unbuilt e) (old.depot.faults slot) (new.depot.faults slot)
+  slot_ends e w slot = record {
     only_where_it_rose = λ is. (w.read_only_where_it_rose slot (ap refused (is_read e slot is))).1;
     changes_only_there = elim (w.count_rises_only_there slot) [
       | inl is ↦ inl (ap (λ x. fault_of (unbuilt x)) (same_error e (building.Read slot) is))
@@ -94,40 +105,35 @@ module _ (format : Format) (base : List ℕ) (old new : Outside) (e : BuildError
     never_falls = w.reads.never_fall slot;
   }
 
-  pub unbuilt_faults : new.input ≡ old.input → new.out ≡ old.out → FirstFaultEnds old new (unbuilt e)
-  unbuilt_faults input out = all_end _ _ _ (record {
-    slots = slot_ends;
-    writing = stays OfWriting (unbuilt e) _ _ (not_writing e) w.reads.writing_count;
-    input = stays OfInput (unbuilt e) _ _ (not_input e) (ap (λ s. s.faults) input);
-    out = stays OfOut (unbuilt e) _ _ (not_out e) (ap (λ s. s.faults) out);
-  })
+  still : (e : BuildError) → Built e → IsStill (this laws format base) old new (unbuilt e)
+  still e w = record {
+    reads = w.reads;
+    starts = built_starts format base old.depot new.depot old.costs new.costs (refused e) (unbuilt e) w
+        (λ slot is. ap unbuilt (same_error e (building.Read slot) is)) (λ is. ap unbuilt (same_error e building.NoMemory is));
+    files = slot_ends e w;
+    input = input;
+    out = out;
+  }
 
-  pub unbuilt_starts : StartsOnly IsCollectionSlot (unbuilt e) old.depot new.depot
-  unbuilt_starts =
-      built_starts format base old.depot new.depot old.costs new.costs (refused e) (unbuilt e) w
-      (λ slot is. ap unbuilt (same_error e (building.Read slot) is)) (λ is. ap unbuilt (same_error e building.NoMemory is))
+  abbrev Left : Outcome → Type 0
+  Left outcome = Leaves (Does (this laws format base) product Makes) (Starts (this laws format base)) old new outcome
 
--- what it ends as, where more would come
-pub unbuilt_ends : (format : Format) (base : List ℕ) (old new : Outside) (e : BuildError) (Then : Outcome → Type 0) → Then NoMemory
-    → BuildsWords format base old.depot new.depot old.costs new.costs (Err e)
-    → ReadsCollectionThen (numbers_of format) base old (BuildsWordsThen format (FindsCollection (numbers_of format) base old.depot) old new Then) (unbuilt e)
-unbuilt_ends format base old new (building.Broken fault) Then none w = λ t. w.first_fault t fault refl
-unbuilt_ends format base old new (building.Read slot) Then none w = (w.read_only_where_it_rose slot refl).0
-unbuilt_ends format base old new (building.TooLarge n) Then none w =
-    let found = w.too_large n refl in
-    let it = found.1 in (refl, (it.0, it.1, it.2, subst (λ k. most_words < k) it.3 found.0))
-unbuilt_ends format base old new building.NoMemory Then none w = none
+  -- where the words are too many that were to be built, or memory was refused before anything was made
+  pub unbuilt_left : Makes old new NoMemory → (AreTooMany format Is old.costs new.costs → Makes old new (TooLarge Index)) → (e : BuildError) → Built e → Left (unbuilt e)
+  unbuilt_left none large (building.TooLarge n) w =
+      let found = w.too_large n refl in
+      let it = found.1 in
+      too_many (this laws format base) product Makes old new (collection_laws laws format base) refl (it.0, it.2.collection) (still (building.TooLarge n) w)
+      (large (it.0, it.1, it.2, subst (λ k. most_words < k) it.3 found.0))
+  unbuilt_left none large (building.Broken fault) w =
+      unread (this laws format base) product Makes old new (collection_laws laws format base) (BrokenCollection fault) none (inl (λ t. w.first_fault t fault refl), still (building.Broken fault) w)
+  unbuilt_left none large (building.Read slot) w =
+      unread (this laws format base) product Makes old new (collection_laws laws format base) (unbuilt (building.Read slot)) none
+      (inl (w.read_only_where_it_rose slot refl).0, still (building.Read slot) w)
+  unbuilt_left none large building.NoMemory w =
+      unread (this laws format base) product Makes old new (collection_laws laws format base) NoMemory none (inr refl, still building.NoMemory w)
 
--- where a collection stands under the base and no call failed, there were too many words, or memory was refused
-pub unbuilt_complete : (format : Format) (base : List ℕ) (old new : Outside) (e : BuildError) (this : Outcome)
-    → BuildsWords format base old.depot new.depot old.costs new.costs (Err e)
-    → IsTrue old.depot.tells → (c : Collection) → FindsCollection (numbers_of format) base old.depot c → NoCallFailed old new → OrTooLarge this (unbuilt e)
-unbuilt_complete format base old new (building.Broken fault) this w t c found none = absurd (w.no_fault t c found fault refl)
-unbuilt_complete format base old new (building.Read slot) this w t c found none = absurd (none (OfFile slot) (w.read_only_where_it_rose slot refl).1)
-unbuilt_complete format base old new (building.TooLarge n) this w t c found none = inr (inl refl)
-unbuilt_complete format base old new building.NoMemory this w t c found none = inr (inr refl)
-
--- The words were built.
+-- ---- words that are built
 module _ (format : Format) (base : List ℕ) (d d' : DepotState) (s s' : ℕ) (words : List ℕ) (w : BuildsWords format base d d' s s' (Ok words)) where
   abbrev pub Cut : Type 0
   Cut = (c : Collection) × (parts : List ListParts) × AreBuilt format (FindsCollection (numbers_of format) base d) s s' c parts
@@ -142,11 +148,6 @@ module _ (format : Format) (base : List ℕ) (d d' : DepotState) (s s' : ℕ) (w
   not_refused : (e : BuildError) → ◌≡◌ {A = Result (List ℕ) BuildError} (Ok words) (Err e) → ⊥
   not_refused e h = cc
 
-  -- there is no fault
-  pub unbroken : {P : Type 0} → IsTrue d.tells → (fault : Fault) → HasFault (numbers_of format) base d fault → P
-  unbroken t fault h =
-      none_of (w.broken t fault h) (not_refused (building.Broken fault)) (λ read. not_refused (building.Read read.0) read.1) (not_refused building.NoMemory)
-
   -- each count is as it was
   pub same_counts : (slot : Slot) → d'.faults slot ≡ d.faults slot
   same_counts slot = second (w.count_rises_only_there slot) (not_refused (building.Read slot))
@@ -154,3 +155,7 @@ module _ (format : Format) (base : List ℕ) (d d' : DepotState) (s s' : ℕ) (w
   -- each file was started once
   pub starts : (outcome : Outcome) → StartsOnly IsCollectionSlot outcome d d'
   starts outcome = built_starts format base d d' s s' (Ok words) outcome w (λ slot is. absurd (not_refused (building.Read slot) is)) (λ is. absurd (not_refused building.NoMemory is))
+
+  -- the collection was read
+  pub built_read : IsRead (CollectionAt (numbers_of format) base) d d'
+  built_read = record { accepted = (cut_of.0, cut_of.2.cut.collection); reads = w.reads; starts = λ outcome read. starts outcome; counts = same_counts }

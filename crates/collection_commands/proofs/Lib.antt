@@ -2,4 +2,5 @@ mod BuildRefused
 mod BaseBuilt
 mod BaseAnswered
 mod GenerationPrinted
+mod MapRead
 mod ImageMoved

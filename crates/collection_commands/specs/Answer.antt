@@ -3,15 +3,15 @@ use Rattle.collection_model.specs.Collection.{Collection}
 use Rattle.part_cost.specs.declared.formats.Format.{Format}
 use Rattle.part_cost.specs.declared.formats.Format.TheVariants.{Two}
 use Rattle.part_cost.specs.Formats.{numbers_of}
-use Rattle.pef_io.specs.DepotState.{DepotState, OnlyReads}
-use Rattle.collection_reader.specs.ReadCollection.{IsCollectionSlot}
+use Rattle.pef_io.specs.DepotState.{DepotState}
 use Rattle.index_file.specs.FileWords.{ListParts}
 use Rattle.command_model.specs.Found.{FindsCollection}
 use Rattle.command_ends.specs.Outside.{Outside}
 use Rattle.command_ends.specs.Outcome.{Outcome}
 use Rattle.command_ends.specs.WordsThen.{AreBuilt, BuildsWordsThen}
-use Rattle.command_ends.specs.ReadingCollection.{ReadsCollectionThen, RefusesBrokenCollection}
-use Rattle.command_ends.specs.AnsweredText.{AnswersInput, MustAnswer}
+use Rattle.command_ends.specs.AnsweredText.{AnswersInput}
+use Rattle.command_ends.specs.Sources.{CollectionAt}
+use Rattle.command_ends.specs.Products.{Does, Replies}
 
 -- the format with whose limits `answer` reads, and in which it builds
 abbrev pub answer_format : Format
@@ -25,11 +25,13 @@ IsAnswerable base depot c = FindsCollection (numbers_of answer_format) base depo
 abbrev pub IsBuiltFrom : List ℕ → Outside → Outside → Collection → Type 0
 IsBuiltFrom base old new c = (parts : List ListParts) × AreBuilt answer_format (IsAnswerable base old.depot) old.costs new.costs c parts
 
--- `answer BASE` reads a collection, builds its words and answers the input; the three files are read, and no file is changed.
-pub record Answers (base : List ℕ) (old new : Outside) (outcome : Outcome) : Type 0 where
-  pub ends : ReadsCollectionThen (numbers_of answer_format) base old
-      (BuildsWordsThen answer_format (IsAnswerable base old.depot) old new
-      (AnswersInput (IsBuiltFrom base old new) old new)) outcome
-  pub refuses : RefusesBrokenCollection (numbers_of answer_format) base old outcome
-  pub answers : MustAnswer (IsAnswerable base old.depot) old new outcome
-  pub depot : OnlyReads IsCollectionSlot old.depot new.depot
+-- A run builds the words of a collection, and answers the input.
+abbrev pub MakesAnswers : List ℕ → Outside → Outside → Outcome → Type 0
+MakesAnswers base old new =
+    BuildsWordsThen answer_format (IsAnswerable base old.depot) old new
+    (AnswersInput (IsBuiltFrom base old new) old new)
+
+-- `answer BASE` reads a collection and does so.
+abbrev pub Answers : List ℕ → Outside → Outside → Outcome → Type 0
+Answers base old new outcome =
+    Does (CollectionAt (numbers_of answer_format) base) Replies (MakesAnswers base) old new outcome

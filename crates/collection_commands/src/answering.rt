@@ -9,6 +9,7 @@ ghost use Rattle.command_ends.specs.Steps.Stops.{outcome_of};
 ghost use Rattle.command_ends.specs.Starts.{StartsOnly};
 ghost use Rattle.collection_reader.specs.ReadCollection.{IsCollectionSlot};
 
+use collection_reader::{files_have_one_first_fault, spelled_files_have_no_fault};
 use command_ends::{LONGEST_TEXT, Stop};
 use index_building::build_words;
 use index_file::{Index, one_index};
@@ -35,6 +36,8 @@ pub fn answer<D: Depot, I: Source, O: Sink, L: Ledger>(
     ensures refused { IsTrue (is_refusal (outcome_of result)) → (input.new ≡ input.old) × (out.new ≡ out.old) }
     ensures unaccepted { ¬ ((c : Collection) × IsAnswerable base.now (D.state depot.old) c) → (input.new ≡ input.old) × (out.new ≡ out.old) }
 {
+    files_have_one_first_fault();
+    spelled_files_have_no_fault();
     one_index();
     let words = build_words(alloc, base, depot, Format::Two, steps)?;
     let index = Index::known(&words);

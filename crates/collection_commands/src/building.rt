@@ -10,6 +10,7 @@ ghost use Rattle.command_ends.specs.Starts.{StartsOnly};
 ghost use Rattle.collection_commands.specs.Build.{Builds};
 ghost use Rattle.collection_reader.specs.ReadCollection.{IsCollectionSlot};
 
+use collection_reader::{files_have_one_first_fault, spelled_files_have_no_fault};
 use command_ends::{Stop, after_writing, words_fit};
 use index_building::build_words;
 use part_cost::Format;
@@ -33,6 +34,8 @@ pub fn build<D: Depot, L: Ledger>(
     ensures { (i : SourceState) (o e e' : SinkState) → Leaves (Builds format base.now index.now) (StartsOnly IsCollectionSlot)
         (outside (D.state depot.old) i o e steps.old) (outside (D.state depot.new) i o e' steps.new) (outcome_of result) }
 {
+    files_have_one_first_fault();
+    spelled_files_have_no_fault();
     let words = build_words(alloc, base, depot, format, steps)?;
     words_fit(&words);
     let written = write_words(alloc, &words, index, depot);

@@ -2,13 +2,16 @@ ghost use Rattle.std.specs.Prelude.{ℕ};
 ghost use Rattle.pef_io.specs.SourceState.{SourceState};
 ghost use Rattle.pef_io.specs.SinkState.{SinkState};
 ghost use Rattle.command_ends.specs.Outside.{outside};
+ghost use Rattle.command_ends.specs.Sources.{MapAt, Starts};
 ghost use Rattle.command_ends.specs.Steps.Leaves.{Leaves};
 ghost use Rattle.command_ends.specs.Steps.Stops.{outcome_of};
-ghost use Rattle.collection_commands.specs.Remap.{Remaps, RemapStarts};
+ghost use Rattle.collection_commands.specs.Remap.{Remaps};
 
+use collection_model::files_spell_one_collection;
+use collection_reader::{files_have_one_first_fault, spelled_files_have_no_fault};
 use command_ends::Stop;
 use pef_io::Depot;
-use remap::image_is_well_formed;
+use remap::{image_is_well_formed, maps_have_one_first_fault};
 use remapped_files::{image_files, write_image};
 use std::alloc::Global;
 
@@ -20,9 +23,13 @@ pub fn reorder<D: Depot>(
     to: &str,
     depot: &mut D,
 ) -> Result<(), Stop>
-    ensures { (i : SourceState) (o e e' : SinkState) (costs : ℕ) → Leaves (Remaps base.now map.now to.now) RemapStarts
+    ensures { (i : SourceState) (o e e' : SinkState) (costs : ℕ) → Leaves (Remaps base.now map.now to.now) (Starts (MapAt base.now map.now))
         (outside (D.state depot.old) i o e costs) (outside (D.state depot.new) i o e' costs) (outcome_of result) }
 {
+    files_spell_one_collection();
+    files_have_one_first_fault();
+    spelled_files_have_no_fault();
+    maps_have_one_first_fault();
     image_is_well_formed();
     let files = image_files(alloc, base, map, to, depot)?;
     write_image(&files, depot)?;

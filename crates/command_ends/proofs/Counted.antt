@@ -46,11 +46,6 @@ all_end old new outcome each = record { counts = go }
     go OfInput = each.input
     go OfOut = each.out
 
--- the fault of a file is that of its slot
-pub is_file_fault : (outcome : Outcome) (slot : Slot) → Of (fault_of outcome) (OfFile slot) → outcome ≡ FileFault slot
-is_file_fault (FileFault other) slot h = let s : Of (Some (OfFile other)) (OfFile slot) = h in cc
-is_file_fault outcome slot h = let s : Of (fault_of outcome) (OfFile slot) = h in cc
-
 -- one of two, where it is not the first
 pub second : {A B : Type 0} → (A ⊎ B) → ¬ A → B
 second (inl a) not_first = absurd (not_first a)
@@ -78,11 +73,6 @@ slot_is a b = inr (λ e. cc)
 -- what holds of a slot and of each other slot
 pub by_slot : (it : Slot) (P : Slot → Type 0) → P it → ((slot : Slot) → slot ≢ it → P slot) → (slot : Slot) → P slot
 by_slot it P this others slot = elim (slot_is slot it) [ inl e ↦ subst P (sym e) this | inr other ↦ others slot other ]
-
--- counts that stood before as at the start
-pub faults_before : (old mid new : Outside) (outcome : Outcome) → ((count : Count) → failed count mid ≡ failed count old) → FirstFaultEnds mid new outcome → FirstFaultEnds old new outcome
-faults_before old mid new outcome same f =
-    record { counts = λ count. subst (λ n. EndsByFault count outcome n (failed count new)) (same count) (f.counts count) }
 
 pub not_both_lengths : (a b : ℕ) → a ≤ b → b < a → ⊥
 not_both_lengths a b le lt = omega (arith, le, lt)

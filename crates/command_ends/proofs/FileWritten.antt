@@ -1,81 +1,84 @@
--- What a run leaves that wrote bytes as the file of a slot, or stopped at that.
+-- What a run leaves that wrote bytes as the file of a slot behind a source that was read, or stopped at that.
 use Rattle.std.proofs.Common.{◌≡◌, ℕ, ◌≤◌, arith, refl, sym, ◌∙◌, ap, subst, List, inl, inr, ◌⊎◌}
-use Rattle.std.specs.Prelude.{Some, None, ◌≢◌, IsTrue, Result, Ok, Err}
+use Rattle.std.specs.Prelude.{Some, None, IsTrue, Result, Ok, Err}
 use Rattle.pef_io.specs.declared.fail.IoFail.{IoFail}
 use Rattle.pef_io.specs.declared.fail.IoFail.TheVariants as call
 use Rattle.pef_io.specs.declared.fail.Slot.{Slot}
+use Rattle.pef_io.specs.declared.fail.Slot.TheVariants.{Index}
 use Rattle.pef_io.specs.Calls.{Rose}
 use Rattle.pef_io.specs.SourceState.{SourceState}
 use Rattle.pef_io.specs.SinkState.{SinkState}
 use Rattle.pef_io.specs.DepotState.{DepotState, OnlyReads}
-use Rattle.collection_reader.specs.declared.fault.Fault.{Fault}
-use Rattle.index_file.specs.declared.fault.OpenFault.{OpenFault}
 use Rattle.command_model.specs.Written.{IsWritten, IsUnwritten, IsWrittenInPart, IsBeingWritten, IsLeftByFault}
 use Rattle.word_files.specs.WriteFile.{WritesBytes}
 use Rattle.command_ends.specs.Outside.{Outside, NoCallFailed, outside, OfFile, OfWriting, OfInput, OfOut}
-use Rattle.command_ends.specs.Outcome.{Outcome, Done, BrokenCollection, BrokenIndex, WriteFault, NoMemory, TooLarge, is_refusal, fault_of}
+use Rattle.command_ends.specs.Outcome.{Outcome, Done, WriteFault, NoMemory, is_refusal, fault_of}
 use Rattle.command_ends.specs.Ends.{EndsByFault, FirstFaultEnds, OrNoMemory}
 use Rattle.command_ends.specs.WrittenFile.{IsLeftInPart, WritesFile, EndsByWriting, WritesOnlyAccepted}
+use Rattle.command_ends.specs.Sources.{Source, Accepts, IndexesAt, ReadsFrom, StartedIn, Starts}
+use Rattle.command_ends.specs.Products.{Does, File, builds_words}
+use Rattle.command_ends.specs.Steps.Leaves.{Leaves}
 use Rattle.command_ends.specs.Steps.Stops.{written_outcome}
+use Rattle.command_ends.proofs.SourceRead.{IsRead, Laws, is_complete, refuses_none, was_read}
+use Rattle.command_ends.proofs.Started.{written_starts}
 use Rattle.command_ends.proofs.Counted.{stays, rises, second, not_true, Of, all_end}
 
 abbrev pub Written : Type 0
 Written = Result (Unit {0}) IoFail
 
--- it ends by none of these
-pub not_broken : (slot : Slot) (r : Written) (fault : Fault) → written_outcome slot r ≢ BrokenCollection fault
-not_broken slot (Ok u) fault h = let s : Done ≡ BrokenCollection fault = h in cc
-not_broken slot (Err call.Failed) fault h = let s : (WriteFault slot) ≡ BrokenCollection fault = h in cc
-not_broken slot (Err call.NoMemory) fault h = let s : NoMemory ≡ BrokenCollection fault = h in cc
-
-pub not_no_index : (slot : Slot) (r : Written) (fault : OpenFault) → written_outcome slot r ≢ BrokenIndex fault
-not_no_index slot (Ok u) fault h = let s : Done ≡ BrokenIndex fault = h in cc
-not_no_index slot (Err call.Failed) fault h = let s : (WriteFault slot) ≡ BrokenIndex fault = h in cc
-not_no_index slot (Err call.NoMemory) fault h = let s : NoMemory ≡ BrokenIndex fault = h in cc
-
-pub not_too_large : (slot : Slot) (r : Written) (other : Slot) → written_outcome slot r ≢ TooLarge other
-not_too_large slot (Ok u) other h = let s : Done ≡ TooLarge other = h in cc
-not_too_large slot (Err call.Failed) other h = let s : (WriteFault slot) ≡ TooLarge other = h in cc
-not_too_large slot (Err call.NoMemory) other h = let s : NoMemory ≡ TooLarge other = h in cc
-
 pub not_file : (slot : Slot) (r : Written) (other : Slot) → ¬ Of (fault_of (written_outcome slot r)) (OfFile other)
-not_file slot (Ok u) other h = let s : Of None (OfFile other) = h in cc
 not_file slot (Err call.Failed) other h = let s : Of (Some OfWriting) (OfFile other) = h in cc
-not_file slot (Err call.NoMemory) other h = let s : Of None (OfFile other) = h in cc
+not_file slot r other h = let s : Of None (OfFile other) = h in cc
 
 pub not_input : (slot : Slot) (r : Written) → ¬ Of (fault_of (written_outcome slot r)) OfInput
-not_input slot (Ok u) h = let s : Of None OfInput = h in cc
 not_input slot (Err call.Failed) h = let s : Of (Some OfWriting) OfInput = h in cc
-not_input slot (Err call.NoMemory) h = let s : Of None OfInput = h in cc
+not_input slot r h = let s : Of None OfInput = h in cc
 
 pub not_out : (slot : Slot) (r : Written) → ¬ Of (fault_of (written_outcome slot r)) OfOut
-not_out slot (Ok u) h = let s : Of None OfOut = h in cc
 not_out slot (Err call.Failed) h = let s : Of (Some OfWriting) OfOut = h in cc
-not_out slot (Err call.NoMemory) h = let s : Of None OfOut = h in cc
+not_out slot r h = let s : Of None OfOut = h in cc
 
 pub not_refusal : (slot : Slot) (r : Written) → IsTrue (is_refusal (written_outcome slot r)) → ⊥
 not_refusal slot (Ok u) h = not_true h
 not_refusal slot (Err call.Failed) h = not_true h
 not_refusal slot (Err call.NoMemory) h = not_true h
 
--- What such a run leaves.
-pub record IsLeft (slot : Slot) (touched : Slot → Type 0) (accepted : Type 0) (name bytes : List ℕ) (OnBytes : (List ℕ → Type 0) → Type 0) (old new : Outside)
-    (outcome : Outcome) : Type 0 where
-  pub ends : WritesFile slot name OnBytes old new outcome
-  pub file : outcome ≡ Done → IsTrue new.depot.tells → new.depot.file name ≡ Some bytes
-  pub complete : NoCallFailed old new → OrNoMemory Done outcome
-  pub depot : WritesOnlyAccepted touched (λ s. s ≡ slot) accepted old new outcome
-  pub faults : FirstFaultEnds old new outcome
-  pub tells : new.depot.tells ≡ old.depot.tells
+-- where all is done, the bytes stand under the name
+pub stands_written : (slot : Slot) (bytes name : List ℕ) (d1 d2 : DepotState) (r : Written) → WritesBytes bytes name d1 d2 r → written_outcome slot r ≡ Done
+    → IsTrue d2.tells → d2.file name ≡ Some bytes
+stands_written slot bytes name d1 d2 (Ok u) v is t = v.written.file (sym v.writes.tells ∙ t)
+stands_written slot bytes name d1 d2 (Err call.Failed) v is t = let bad : (WriteFault slot) ≡ Done = is in cc
+stands_written slot bytes name d1 d2 (Err call.NoMemory) v is t = let bad : NoMemory ≡ Done = is in cc
 
--- Bytes of which OnBytes tells were made over depot `d`, which is `d1` then and was only read, and written or not, which leaves `d2`.
-module _ (slot : Slot) (touched : Slot → Type 0) (name bytes : List ℕ) (d d1 d2 : DepotState) (i : SourceState) (o e e' : SinkState) (s s' : ℕ)
-    (reads : OnlyReads touched d d1) (OnBytes : (List ℕ → Type 0) → Type 0) (on : (P : List ℕ → Type 0) → P bytes → OnBytes P) where
+was_written : (slot : Slot) (r : Written) → IsTrue (was_read (written_outcome slot r))
+was_written slot (Ok u) = refl
+was_written slot (Err call.Failed) = refl
+was_written slot (Err call.NoMemory) = refl
+
+-- a writing starts nothing
+then_written : (source : Source) (bytes name : List ℕ) (d d1 d2 : DepotState) (r : Written) (outcome : Outcome) → Starts source outcome d d1 → WritesBytes bytes name d1 d2 r
+    → (r ≡ Err call.NoMemory → outcome ≡ NoMemory) → Starts source outcome d d2
+then_written (IndexesAt names) bytes name d d1 d2 r outcome s v refused = record {
+  in_turn = (s.in_turn.0, s.in_turn.1, s.in_turn.2, v.writes.starts Index ∙ s.in_turn.3);
+  no_others = λ slot other. v.writes.starts slot ∙ s.no_others slot other;
+  refusals = elim v.refusals_rise_only_there [
+    | inl is ↦ inl (refused is)
+    | inr same ↦ elim s.refusals [ inl is ↦ inl is | inr before ↦ inr (same ∙ before) ]
+  ];
+}
+then_written source bytes name d d1 d2 r outcome s v refused = written_starts (StartedIn source outcome) bytes name d d1 d2 r outcome s v refused
+
+-- Bytes of which OnBytes tells were made of a source over depot `d`, which is `d1` then, and written as the file of a slot or not, which leaves `d2`.
+module _ (source : Source) (laws : Laws source) (Makes : Outside → Outside → Outcome → Type 0) (slot : Slot) (d d1 d2 : DepotState) (read : IsRead source d d1)
+    (i : SourceState) (o e e' : SinkState) (s s' : ℕ) (name bytes : List ℕ) (OnBytes : (List ℕ → Type 0) → Type 0) (on : (P : List ℕ → Type 0) → P bytes → OnBytes P) where
   abbrev old : Outside
   old = outside d i o e s
 
   abbrev new : Outside
   new = outside d2 i o e' s'
+
+  reads : OnlyReads (ReadsFrom source) d d1
+  reads = read.reads
 
   told : IsTrue d.tells → IsTrue d1.tells
   told t = reads.tells ∙ t
@@ -123,11 +126,6 @@ module _ (slot : Slot) (touched : Slot → Type 0) (name bytes : List ℕ) (d d1
     | inr rose ↦ inr (rose_from rose, on (IsLeftInPart name d d2) (left_from v.refused v.begun))
   ]
 
-  file_written : (r : Written) → WritesBytes bytes name d1 d2 r → written_outcome slot r ≡ Done → IsTrue d2.tells → d2.file name ≡ Some bytes
-  file_written (Ok u) v is t = v.written.file (sym v.writes.tells ∙ t)
-  file_written (Err call.Failed) v is t = let bad : (WriteFault slot) ≡ Done = is in cc
-  file_written (Err call.NoMemory) v is t = let bad : NoMemory ≡ Done = is in cc
-
   same_writing : d1.writing_faults ≡ d.writing_faults
   same_writing = reads.writing_count
 
@@ -141,10 +139,9 @@ module _ (slot : Slot) (touched : Slot → Type 0) (name bytes : List ℕ) (d d1
   writing_ends (Err call.NoMemory) v =
       stays OfWriting NoMemory _ _ (λ h. cc) (second v.count_rises_only_there (λ h. let b : ◌≡◌ {A = Written} (Err call.NoMemory) (Err call.Failed) = h in cc) ∙ same_writing)
 
-  -- all counts, where those of the slots stood at the reading's end as before
-  faults_end : ((slot : Slot) → d1.faults slot ≡ d.faults slot) → (r : Written) → WritesBytes bytes name d1 d2 r → FirstFaultEnds old new (written_outcome slot r)
-  faults_end counts r v = all_end _ _ _ (record {
-    slots = λ other. stays (OfFile other) (written_outcome slot r) _ _ (not_file slot r other) (v.writes.slot_counts other ∙ counts other);
+  faults_end : (r : Written) → WritesBytes bytes name d1 d2 r → FirstFaultEnds old new (written_outcome slot r)
+  faults_end r v = all_end _ _ _ (record {
+    slots = λ other. stays (OfFile other) (written_outcome slot r) _ _ (not_file slot r other) (v.writes.slot_counts other ∙ read.counts other);
     writing = writing_ends r v;
     input = stays OfInput (written_outcome slot r) _ _ (not_input slot r) refl;
     out = stays OfOut (written_outcome slot r) _ _ (not_out slot r) refl;
@@ -163,11 +160,10 @@ module _ (slot : Slot) (touched : Slot → Type 0) (name bytes : List ℕ) (d d1
   or_same r now before (inl is) same = inl (slot, refl, ap (written_outcome slot) is)
   or_same r now before (inr stands) same = inr (stands ∙ same)
 
-  only_accepted : (accepted : Type 0) → accepted → (r : Written) → WritesBytes bytes name d1 d2 r
-      → WritesOnlyAccepted touched (λ s. s ≡ slot) accepted old new (written_outcome slot r)
-  only_accepted accepted is r v = record {
+  only_accepted : (r : Written) → WritesBytes bytes name d1 d2 r → WritesOnlyAccepted (ReadsFrom source) (λ s. s ≡ slot) (Accepts source d) old new (written_outcome slot r)
+  only_accepted r v = record {
     refused = λ h. absurd (not_refusal slot r h);
-    unaccepted = λ denied. absurd (denied is);
+    unaccepted = λ denied. absurd (denied read.accepted);
     stay_started = λ other h. (v.writes.slots other).0 ∙ reads.stay_started other h;
     other_slots = λ other ne. (
       (v.writes.slots other).0 ∙ (reads.other_slots other ne).0,
@@ -177,28 +173,19 @@ module _ (slot : Slot) (touched : Slot → Type 0) (name bytes : List ℕ) (d d1
     finish_count = or_same r _ _ v.finish_count reads.finish_count;
   }
 
-  -- all of it
-  pub left : (accepted : Type 0) → accepted → ((slot : Slot) → d1.faults slot ≡ d.faults slot) → (r : Written) → WritesBytes bytes name d1 d2 r
-      → IsLeft slot touched accepted name bytes OnBytes old new (written_outcome slot r)
-  left accepted is counts r v = record {
-    ends = writes r v;
-    file = file_written r v;
-    complete = complete r v;
-    depot = only_accepted accepted is r v;
-    faults = faults_end counts r v;
-    tells = v.writes.tells ∙ reads.tells;
+  -- all that is left
+  pub file_written : (r : Written) → WritesBytes bytes name d1 d2 r → (WritesFile slot name OnBytes old new (written_outcome slot r) → Makes old new (written_outcome slot r))
+      → Leaves (Does source (File slot) Makes) (Starts source) old new (written_outcome slot r)
+  file_written r v makes = record {
+    performs = record {
+      ends = inr (makes (writes r v));
+      refuses = refuses_none source laws d read.accepted (written_outcome slot r);
+      complete = λ stands none. is_complete (builds_words source (File slot)) (written_outcome slot r) (complete r v none);
+      depot = only_accepted r v;
+    };
+    faults = faults_end r v;
+    starts = then_written source bytes name d d1 d2 r (written_outcome slot r) (read.starts (written_outcome slot r) (was_written slot r)) v (ap (written_outcome slot));
+    depot_tells = v.writes.tells ∙ reads.tells;
+    input_tells = refl;
+    out_tells = refl;
   }
-
--- ---- a run that comes to no writing
-
--- where files are only read, none is written
-pub only_read : (touched written : Slot → Type 0) (accepted : Type 0) (before after : Outside) (outcome : Outcome) → OnlyReads touched before.depot after.depot
-    → WritesOnlyAccepted touched written accepted before after outcome
-only_read touched written accepted before after outcome reads = record {
-  refused = λ h. reads;
-  unaccepted = λ h. reads;
-  stay_started = reads.stay_started;
-  other_slots = reads.other_slots;
-  create_count = inr reads.create_count;
-  finish_count = inr reads.finish_count;
-}

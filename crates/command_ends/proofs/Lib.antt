@@ -1,13 +1,14 @@
 pub mod Counted
 pub mod Told
 pub mod Started
-pub mod WordsRefused
 pub mod WordsLoaded
 pub mod TextAnswered
 pub mod TextPrinted
 pub mod FileWritten
 pub mod IndexWritten
 pub mod IndexLoaded
-pub mod IndexRefused
+pub mod SourceRead
+pub mod IndexRead
+pub mod TextMade
 mod ErrPieces
 mod Rows

@@ -15,8 +15,6 @@ use Rattle.command_ends.specs.Outside.{Outside, OfFile, OfWriting, OfInput, OfOu
 use Rattle.command_ends.specs.Outcome.{Outcome, Done, BrokenCollection, BrokenIndex, InputFault, OutFault, NoMemory, TooLarge, InputTooLarge, is_refusal, fault_of}
 use Rattle.command_ends.specs.Ends.{EndsByFault}
 use Rattle.command_ends.specs.WordsThen.{BuildsWordsThen}
-use Rattle.command_ends.specs.ReadingCollection.{ReadsCollectionThen}
-use Rattle.command_ends.specs.ReadingIndex.{ReadsIndexThen}
 use Rattle.command_ends.specs.AnsweredText.{AnswersInput, MustAnswer, longest_text}
 use Rattle.command_ends.specs.Steps.Stops.{outcome_of_stop, stop_of_answering}
 use Rattle.command_ends.proofs.Counted.{stays, rises, second, not_true, not_both_lengths, longer_than, Of}
@@ -29,65 +27,15 @@ abbrev pub text_outcome : Answer → Outcome
 text_outcome (Ok u) = Done
 text_outcome (Err e) = outcome_of_stop (stop_of_answering e)
 
--- it ends by none of these
-pub not_broken : (r : Answer) (fault : Fault) → text_outcome r ≢ BrokenCollection fault
-not_broken (Ok u) fault h = let s : Done ≡ BrokenCollection fault = h in cc
-not_broken (Err answering.Read) fault h = let s : InputFault ≡ BrokenCollection fault = h in cc
-not_broken (Err answering.Write) fault h = let s : OutFault ≡ BrokenCollection fault = h in cc
-not_broken (Err answering.TooLarge) fault h = let s : InputTooLarge ≡ BrokenCollection fault = h in cc
-not_broken (Err answering.NoMemory) fault h = let s : NoMemory ≡ BrokenCollection fault = h in cc
-
-pub not_no_index : (r : Answer) (fault : OpenFault) → text_outcome r ≢ BrokenIndex fault
-not_no_index (Ok u) fault h = let s : Done ≡ BrokenIndex fault = h in cc
-not_no_index (Err answering.Read) fault h = let s : InputFault ≡ BrokenIndex fault = h in cc
-not_no_index (Err answering.Write) fault h = let s : OutFault ≡ BrokenIndex fault = h in cc
-not_no_index (Err answering.TooLarge) fault h = let s : InputTooLarge ≡ BrokenIndex fault = h in cc
-not_no_index (Err answering.NoMemory) fault h = let s : NoMemory ≡ BrokenIndex fault = h in cc
-
-pub not_too_large : (r : Answer) → text_outcome r ≢ TooLarge Index
-not_too_large (Ok u) h = let s : Done ≡ TooLarge Index = h in cc
-not_too_large (Err answering.Read) h = let s : InputFault ≡ TooLarge Index = h in cc
-not_too_large (Err answering.Write) h = let s : OutFault ≡ TooLarge Index = h in cc
-not_too_large (Err answering.TooLarge) h = let s : InputTooLarge ≡ TooLarge Index = h in cc
-not_too_large (Err answering.NoMemory) h = let s : NoMemory ≡ TooLarge Index = h in cc
-
 pub not_file : (r : Answer) (slot : Slot) → ¬ Of (fault_of (text_outcome r)) (OfFile slot)
-not_file (Ok u) slot h = let s : Of None (OfFile slot) = h in cc
 not_file (Err answering.Read) slot h = let s : Of (Some OfInput) (OfFile slot) = h in cc
 not_file (Err answering.Write) slot h = let s : Of (Some OfOut) (OfFile slot) = h in cc
-not_file (Err answering.TooLarge) slot h = let s : Of None (OfFile slot) = h in cc
-not_file (Err answering.NoMemory) slot h = let s : Of None (OfFile slot) = h in cc
+not_file r slot h = let s : Of None (OfFile slot) = h in cc
 
 pub not_writing : (r : Answer) → ¬ Of (fault_of (text_outcome r)) OfWriting
-not_writing (Ok u) h = let s : Of None OfWriting = h in cc
 not_writing (Err answering.Read) h = let s : Of (Some OfInput) OfWriting = h in cc
 not_writing (Err answering.Write) h = let s : Of (Some OfOut) OfWriting = h in cc
-not_writing (Err answering.TooLarge) h = let s : Of None OfWriting = h in cc
-not_writing (Err answering.NoMemory) h = let s : Of None OfWriting = h in cc
-
-pub not_refusal : (r : Answer) → IsTrue (is_refusal (text_outcome r)) → ⊥
-not_refusal (Ok u) h = not_true h
-not_refusal (Err answering.Read) h = not_true h
-not_refusal (Err answering.Write) h = not_true h
-not_refusal (Err answering.TooLarge) h = not_true h
-not_refusal (Err answering.NoMemory) h = not_true h
-
--- what comes behind the building of words, and behind the reading of an index
-pub behind_building : (format : Format) (base : List ℕ) (Is : Collection → Type 0) (old new : Outside) (Then : Outcome → Type 0) (r : Answer)
-    → Then (text_outcome r) → ReadsCollectionThen (numbers_of format) base old (BuildsWordsThen format Is old new Then) (text_outcome r)
-behind_building format base Is old new Then (Ok u) then = then
-behind_building format base Is old new Then (Err answering.Read) then = then
-behind_building format base Is old new Then (Err answering.Write) then = then
-behind_building format base Is old new Then (Err answering.TooLarge) then = then
-behind_building format base Is old new Then (Err answering.NoMemory) then = then
-
-pub behind_reading : (name : List ℕ) (old : Outside) (Then : Outcome → Type 0) (r : Answer)
-    → Then (text_outcome r) → ReadsIndexThen name old Then (text_outcome r)
-behind_reading name old Then (Ok u) then = then
-behind_reading name old Then (Err answering.Read) then = then
-behind_reading name old Then (Err answering.Write) then = then
-behind_reading name old Then (Err answering.TooLarge) then = then
-behind_reading name old Then (Err answering.NoMemory) then = then
+not_writing r h = let s : Of None OfWriting = h in cc
 
 -- what `answer_text` promises over a collection that was found is what the run promises of its text
 pub answers_input : (Is : Collection → Type 0) (c : Collection) → Is c → (old new : Outside) (r : Answer)

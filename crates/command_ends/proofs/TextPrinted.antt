@@ -10,24 +10,12 @@ use Rattle.index_printing.specs.PrintLine.{PrintsLine}
 use Rattle.command_ends.specs.Outside.{Outside, NoCallFailed, OfFile, OfWriting, OfInput, OfOut}
 use Rattle.command_ends.specs.Outcome.{Outcome, Done, BrokenIndex, OutFault, NoMemory, TooLarge, is_refusal, fault_of}
 use Rattle.command_ends.specs.Ends.{EndsByFault, OrNoMemory}
-use Rattle.command_ends.specs.ReadingIndex.{ReadsIndexThen}
 use Rattle.command_ends.specs.PrintedText.{PrintsText}
 use Rattle.command_ends.specs.Steps.Stops.{printed_outcome}
 use Rattle.command_ends.proofs.Counted.{stays, rises, second, not_true, Of}
 
 abbrev pub Printed : Type 0
 Printed = Result (Unit {0}) IoFail
-
--- it ends by none of these
-pub not_no_index : (r : Printed) (fault : OpenFault) → printed_outcome r ≢ BrokenIndex fault
-not_no_index (Ok u) fault h = let s : Done ≡ BrokenIndex fault = h in cc
-not_no_index (Err call.Failed) fault h = let s : OutFault ≡ BrokenIndex fault = h in cc
-not_no_index (Err call.NoMemory) fault h = let s : NoMemory ≡ BrokenIndex fault = h in cc
-
-pub not_too_large : (r : Printed) → printed_outcome r ≢ TooLarge Index
-not_too_large (Ok u) h = let s : Done ≡ TooLarge Index = h in cc
-not_too_large (Err call.Failed) h = let s : OutFault ≡ TooLarge Index = h in cc
-not_too_large (Err call.NoMemory) h = let s : NoMemory ≡ TooLarge Index = h in cc
 
 pub not_file : (r : Printed) (slot : Slot) → ¬ Of (fault_of (printed_outcome r)) (OfFile slot)
 not_file (Ok u) slot h = let s : Of None (OfFile slot) = h in cc
@@ -48,12 +36,6 @@ pub no_print_refuses : (r : Printed) → IsTrue (is_refusal (printed_outcome r))
 no_print_refuses (Ok u) h = not_true h
 no_print_refuses (Err call.Failed) h = not_true h
 no_print_refuses (Err call.NoMemory) h = not_true h
-
--- what comes behind the reading of an index
-pub behind_index : (name : List ℕ) (old : Outside) (Then : Outcome → Type 0) (r : Printed) → Then (printed_outcome r) → ReadsIndexThen name old Then (printed_outcome r)
-behind_index name old Then (Ok u) then = then
-behind_index name old Then (Err call.Failed) then = then
-behind_index name old Then (Err call.NoMemory) then = then
 
 -- what printing promises of a text is what the run promises of it
 pub prints : (Is : List ℕ → Type 0) (line : List ℕ) → Is line → (old new : Outside) (r : Printed) → PrintsLine line old.out new.out r → PrintsText Is old new (printed_outcome r)

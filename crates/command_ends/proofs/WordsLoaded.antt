@@ -3,8 +3,6 @@ use Rattle.std.proofs.Common.{◌≡◌, ℕ, ◌*◌, ◌≤◌, arith, refl, s
 use Rattle.std.specs.Prelude.{Some, None, ◌%◌, Result, Ok, Err, Vec}
 use Rattle.std.specs.declared.alloc.Global.{Global}
 use Rattle.pef_io.specs.declared.fail.Slot.{Slot}
-use Rattle.pef_io.specs.SourceState.{SourceState}
-use Rattle.pef_io.specs.SinkState.{SinkState}
 use Rattle.pef_io.specs.DepotState.{DepotState}
 use Rattle.index_file.specs.Builder.{most_words}
 use Rattle.command_model.specs.Found.{AreOfWords, most_bytes}
@@ -13,13 +11,13 @@ use Rattle.word_files.specs.declared.loading.LoadWordsError.{LoadWordsError}
 use Rattle.word_files.specs.declared.loading.LoadWordsError.TheVariants as loading
 use Rattle.word_files.specs.LoadWords.{LoadsWords, words_loaded}
 use Rattle.command_ends.specs.declared.stop.Stop.{Stop}
-use Rattle.command_ends.specs.Outside.{outside, Count, OfFile, OfWriting, OfInput, OfOut}
+use Rattle.command_ends.specs.Outside.{Count, OfFile}
 use Rattle.command_ends.specs.Outcome.{Outcome, fault_of}
-use Rattle.command_ends.specs.Ends.{EndsByFault, FirstFaultEnds}
+use Rattle.command_ends.specs.Ends.{EndsByFault}
 use Rattle.command_ends.specs.Steps.Stops.{outcome_of_stop, stop_of_loading}
 use Rattle.command_ends.specs.Starts.{StartsOnly}
 use Rattle.command_ends.proofs.Started.{loaded_starts}
-use Rattle.command_ends.proofs.Counted.{stays, second, by_slot, Of, all_end}
+use Rattle.command_ends.proofs.Counted.{stays, second, by_slot, Of}
 
 -- ---- bytes and words
 
@@ -50,35 +48,15 @@ module _ (slot : Slot) (ragged : Stop) (no_fault : (count : Count) → ¬ Of (fa
   is_read : (e : LoadWordsError) (other : Slot) → Of (fault_of (unloaded slot ragged e)) (OfFile other) → e ≡ loading.Read
   is_read loading.Ragged other h = absurd (no_fault (OfFile other) h)
   is_read loading.Read other h = refl
-  is_read loading.TooLarge other h = let s : Of None (OfFile other) = h in cc
-  is_read loading.NoMemory other h = let s : Of None (OfFile other) = h in cc
+  is_read e other h = let s : Of None (OfFile other) = h in cc
 
   is_slot : (e : LoadWordsError) (other : Slot) → Of (fault_of (unloaded slot ragged e)) (OfFile other) → other ≡ slot
   is_slot loading.Ragged other h = absurd (no_fault (OfFile other) h)
   is_slot loading.Read other h = let s : Of (Some (OfFile slot)) (OfFile other) = h in cc
-  is_slot loading.TooLarge other h = let s : Of None (OfFile other) = h in cc
-  is_slot loading.NoMemory other h = let s : Of None (OfFile other) = h in cc
-
-  not_writing : (e : LoadWordsError) → ¬ Of (fault_of (unloaded slot ragged e)) OfWriting
-  not_writing loading.Ragged h = no_fault OfWriting h
-  not_writing loading.Read h = let s : Of (Some (OfFile slot)) OfWriting = h in cc
-  not_writing loading.TooLarge h = let s : Of None OfWriting = h in cc
-  not_writing loading.NoMemory h = let s : Of None OfWriting = h in cc
-
-  not_input : (e : LoadWordsError) → ¬ Of (fault_of (unloaded slot ragged e)) OfInput
-  not_input loading.Ragged h = no_fault OfInput h
-  not_input loading.Read h = let s : Of (Some (OfFile slot)) OfInput = h in cc
-  not_input loading.TooLarge h = let s : Of None OfInput = h in cc
-  not_input loading.NoMemory h = let s : Of None OfInput = h in cc
-
-  not_out : (e : LoadWordsError) → ¬ Of (fault_of (unloaded slot ragged e)) OfOut
-  not_out loading.Ragged h = no_fault OfOut h
-  not_out loading.Read h = let s : Of (Some (OfFile slot)) OfOut = h in cc
-  not_out loading.TooLarge h = let s : Of None OfOut = h in cc
-  not_out loading.NoMemory h = let s : Of None OfOut = h in cc
+  is_slot e other h = let s : Of None (OfFile other) = h in cc
 
   module _ (name : List ℕ) (d d' : DepotState) (error : LoadWordsError) (w : LoadsWords slot name d d' (Err error)) where
-    slots_unloaded : (other : Slot) → EndsByFault (OfFile other) (unloaded slot ragged error) (d.faults other) (d'.faults other)
+    pub slots_unloaded : (other : Slot) → EndsByFault (OfFile other) (unloaded slot ragged error) (d.faults other) (d'.faults other)
     slots_unloaded =
         by_slot slot (λ other. EndsByFault (OfFile other) (unloaded slot ragged error) (d.faults other) (d'.faults other))
         (record {
@@ -90,14 +68,6 @@ module _ (slot : Slot) (ragged : Stop) (no_fault : (count : Count) → ¬ Of (fa
           never_falls = w.reads.never_fall slot;
         })
         (λ other ne. stays (OfFile other) (unloaded slot ragged error) _ _ (λ h. ne (is_slot error other h)) (w.reads.other_counts other ne))
-
-    pub unloaded_faults : (i : SourceState) (o e e' : SinkState) (n : ℕ) → FirstFaultEnds (outside d i o e n) (outside d' i o e' n) (unloaded slot ragged error)
-    unloaded_faults i o e e' n = all_end _ _ _ (record {
-      slots = slots_unloaded;
-      writing = stays OfWriting (unloaded slot ragged error) _ _ (not_writing error) w.reads.writing_count;
-      input = stays OfInput (unloaded slot ragged error) _ _ (not_input error) refl;
-      out = stays OfOut (unloaded slot ragged error) _ _ (not_out error) refl;
-    })
 
     pub unloaded_starts : StartsOnly (λ s. s ≡ slot) (unloaded slot ragged error) d d'
     unloaded_starts = loaded_starts slot name d d' (refused error) (unloaded slot ragged error) w (λ is. ap (unloaded slot ragged) (same_error error loading.NoMemory is))

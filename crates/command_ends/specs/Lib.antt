@@ -5,9 +5,12 @@ pub mod Outcome
 pub mod Ends
 pub mod Starts
 pub mod FoundIndex
+pub mod FoundSide
+pub mod FoundSegments
+pub mod SegmentStarts
+pub mod Sources
+pub mod Products
 pub mod WordsThen
-pub mod ReadingCollection
-pub mod ReadingIndex
 pub mod AnsweredText
 pub mod PrintedText
 pub mod WrittenFile

@@ -1,16 +1,14 @@
 use Rattle.std.specs.Prelude.{◌≡◌, ◌≢◌, ℕ, ◌+◌, ◌≤◌, ◌⊎◌, IsTrue, List}
-use Rattle.collection_model.specs.Collection.{Collection}
 use Rattle.part_cost.specs.Formats.{numbers_of}
-use Rattle.pef_io.specs.DepotState.{DepotState, OnlyReads}
+use Rattle.pef_io.specs.DepotState.{DepotState}
 use Rattle.index_file.specs.IndexView.{IndexView}
-use Rattle.command_model.specs.Found.{IsIndexSlot}
 use Rattle.command_model.specs.AuditText.{IsAuditText, fewest_audited, most_audited}
-use Rattle.command_ends.specs.Outside.{Outside, NoCallFailed}
+use Rattle.command_ends.specs.Outside.{Outside}
 use Rattle.command_ends.specs.Outcome.{Outcome, Done, is_refusal}
-use Rattle.command_ends.specs.Ends.{OrNoMemory}
-use Rattle.command_ends.specs.FoundIndex.{FindsIndex, FindsIndexOf}
-use Rattle.command_ends.specs.ReadingIndex.{ReadsIndexThen, RefusesBrokenIndex}
+use Rattle.command_ends.specs.FoundIndex.{FindsIndex}
 use Rattle.command_ends.specs.PrintedText.{PrintsText}
+use Rattle.command_ends.specs.Sources.{IndexAt}
+use Rattle.command_ends.specs.Products.{Does, Text}
 
 -- The text is the lines of an index that stands under the name.
 abbrev pub IsAudit : List ℕ → DepotState → List ℕ → Type 0
@@ -23,12 +21,9 @@ pub record IsCounted (name : List ℕ) (old new : Outside) (outcome : Outcome) :
   pub at_least : outcome ≡ Done → old.costs + fewest_audited index ≤ new.costs
   pub at_most : new.costs ≤ old.costs + most_audited index
 
--- `audit INDEX` reads an index of either format and prints its lines; only that file is read, and no file is changed.
+-- `audit INDEX` reads an index of either format and prints its lines.
 pub record Audits (index : List ℕ) (old new : Outside) (outcome : Outcome) : Type 0 where
-  pub ends : ReadsIndexThen index old (PrintsText (IsAudit index old.depot) old new) outcome
-  pub refuses : RefusesBrokenIndex index old outcome
-  pub complete : IsTrue old.depot.tells → (c : Collection) → FindsIndexOf index old.depot c → NoCallFailed old new → OrNoMemory Done outcome
-  pub depot : OnlyReads IsIndexSlot old.depot new.depot
+  pub does : Does (IndexAt index) Text (PrintsText (IsAudit index old.depot)) old new outcome
   -- Before the lines are begun no part cost is counted.
   pub costs : ((outcome ≢ Done) × (new.costs ≡ old.costs)) ⊎ IsCounted index old new outcome
   pub refused : IsTrue (is_refusal outcome) → new.costs ≡ old.costs

@@ -1,5 +1,5 @@
 -- A file that `build` or `migrate` leaves, and then `query` of it: the replies are those of the collection that was found.
-use Rattle.std.proofs.Common.{◌≡◌, refl, sym, ◌∙◌, subst, ℕ, List}
+use Rattle.std.proofs.Common.{◌≡◌, refl, sym, ◌∙◌, subst, ℕ, List, inl, inr}
 use Rattle.std.specs.Prelude.{IsTrue}
 use Rattle.collection_model.specs.Collection.{Collection}
 use Rattle.part_cost.specs.declared.formats.Format.{Format}
@@ -34,7 +34,7 @@ same_index one read name d a c f g t =
 pub replies_of_each : OneIndex → WordsAreRead → (name : List ℕ) (old new : Outside) → Queries name old new Done → Told old
     → (c : Collection) → FindsIndexOf name old.depot c → GotReplies c (text_lines old.input.left) old.out new.out
 replies_of_each one read name old new queries told c found =
-    let all : AnswersAll (FindsIndexOf name old.depot) old new = queries.ends in
+    let all : AnswersAll (FindsIndexOf name old.depot) old new = elim queries.does.ends [ inl at ↦ absurd at | inr all ↦ all ] in
     let accepted = all.replies in
     let same : accepted.0 ≡ c = same_index one read name old.depot accepted.0 c accepted.1 found told.depot in
     subst (λ d. GotReplies d (text_lines old.input.left) old.out new.out) same (accepted.2 (record { input = told.input; out = told.out }))

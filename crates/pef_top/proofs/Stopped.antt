@@ -1,36 +1,23 @@
 -- What a run leaves that did not come to its command.
-use Rattle.std.proofs.Common.{inl, inr, ◌≡◌, refl, ℕ, arith}
+use Rattle.std.proofs.Common.{◌≡◌, refl, ℕ}
 use Rattle.std.specs.Prelude.{Option, Some, None}
 use Rattle.pef_io.specs.SourceState.{SourceState}
 use Rattle.pef_io.specs.SinkState.{SinkState}
 use Rattle.pef_io.specs.DepotState.{DepotState}
-use Rattle.command_line.specs.Command.{Command, Build, Query, Answer, Inspect, Generate, Migrate, Audit, Blocks, BlockQuery, Remap, Segments}
+use Rattle.command_line.specs.Command.{Command}
 use Rattle.command_ends.specs.Outside.{outside, OfFile, OfWriting, OfInput, OfOut}
 use Rattle.command_ends.specs.Outcome.{NoMemory}
 use Rattle.command_ends.specs.Steps.Leaves.{Leaves}
 use Rattle.command_line.specs.declared.error.WordsError.{WordsError}
 use Rattle.command_line.specs.WordsErrors.{error_of_words}
 use Rattle.command_ends.specs.Steps.Stops.{outcome_of_stop, stop_of_words}
-use Rattle.pef_top.specs.Starts.{StartedIn, Starts}
-use Rattle.command_ends.proofs.Started.{uncalled}
+use Rattle.pef_top.specs.SourceAndProduct.{source_of}
+use Rattle.pef_top.specs.Starts.{Starts}
+use Rattle.command_ends.proofs.SourceRead.{none_started}
 use Rattle.command_ends.proofs.Counted.{stays, all_end}
 use Rattle.pef_top.proofs.RunEnds.{no_command}
 use Rattle.pef_top.proofs.Without.{performs}
 use Rattle.pef_top.specs.Commands.{Performs}
-
--- nothing is started
-starts_none : (command : Command) (d : DepotState) → Starts (Some command) NoMemory d d
-starts_none (Build base index format) d = uncalled (StartedIn (Some (Build base index format)) NoMemory) NoMemory d (inl refl)
-starts_none (Query index plan) d = uncalled (StartedIn (Some (Query index plan)) NoMemory) NoMemory d (inl refl)
-starts_none (Answer base plan) d = uncalled (StartedIn (Some (Answer base plan)) NoMemory) NoMemory d (inl refl)
-starts_none (Inspect index) d = uncalled (StartedIn (Some (Inspect index)) NoMemory) NoMemory d (inl refl)
-starts_none (Generate seed n t) d = uncalled (StartedIn (Some (Generate seed n t)) NoMemory) NoMemory d (inl refl)
-starts_none (Migrate from to) d = uncalled (StartedIn (Some (Migrate from to)) NoMemory) NoMemory d (inl refl)
-starts_none (Audit index) d = uncalled (StartedIn (Some (Audit index)) NoMemory) NoMemory d (inl refl)
-starts_none (Blocks index side) d = uncalled (StartedIn (Some (Blocks index side)) NoMemory) NoMemory d (inl refl)
-starts_none (BlockQuery index side) d = uncalled (StartedIn (Some (BlockQuery index side)) NoMemory) NoMemory d (inl refl)
-starts_none (Remap base map to) d = uncalled (StartedIn (Some (Remap base map to)) NoMemory) NoMemory d (inl refl)
-starts_none (Segments indexes plan) d = record { in_turn = (0, omega arith, λ s lt. absurd (omega (arith, lt)), refl); no_others = λ slot other. refl; refusals = inr refl }
 
 no_memory : (command : Command) (d : DepotState) (i : SourceState) (o e e' : SinkState) (s : ℕ) → Leaves (Performs (Some command)) (Starts (Some command)) (outside d i o e s) (outside d i o e' s) NoMemory
 no_memory command d i o e e' s = record {
@@ -41,7 +28,7 @@ no_memory command d i o e e' s = record {
     input = stays OfInput NoMemory _ _ (λ h. cc) refl;
     out = stays OfOut NoMemory _ _ (λ h. cc) refl;
   });
-  starts = starts_none command d;
+  starts = none_started (source_of command) d;
   depot_tells = refl;
   input_tells = refl;
   out_tells = refl;

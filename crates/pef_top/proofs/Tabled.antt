@@ -1,180 +1,131 @@
 -- A command ends as the table of outcomes says.
-use Rattle.std.proofs.Common.{refl, inl, inr}
-use Rattle.std.specs.Prelude.{Some}
-use Rattle.pef_io.specs.declared.fail.Slot.TheVariants.{Docs}
+use Rattle.std.proofs.Common.{◌≡◌, refl, inl, inr, ◌⊎◌, ℕ, List}
+use Rattle.std.specs.Prelude.{IsTrue, Some}
+use Rattle.collection_model.specs.Collection.{Collection}
+use Rattle.pef_io.specs.declared.fail.Slot.{Slot}
+use Rattle.part_cost.specs.declared.formats.Format.{Format}
+use Rattle.part_cost.specs.Formats.{numbers_of}
+use Rattle.pef_io.specs.declared.fail.Slot.TheVariants.{Docs, Index, Side}
+use Rattle.pef_io.specs.DepotState.{DepotState}
 use Rattle.collection_reader.specs.ReadCollection.{IsCollectionSlot}
 use Rattle.command_line.specs.Command.{Command, Build, Query, Answer, Inspect, Generate, Migrate, Audit, Blocks, BlockQuery, Remap, Segments}
+use Rattle.command_model.specs.Found.{FindsCollection}
 use Rattle.command_ends.specs.Outside.{Outside}
-use Rattle.command_ends.specs.Outcome.{Outcome, Done, Usage, BrokenCollection, BrokenIndex, BrokenSide, BrokenMap, FileFault, InputFault, WriteFault, OutFault, NoMemory, TooLarge, InputTooLarge, BrokenSegment, UnfitSegment}
+use Rattle.command_ends.specs.Outcome.{Outcome, Done, BrokenCollection, BrokenIndex, BrokenSide, BrokenMap, FileFault, InputFault, WriteFault, OutFault, NoMemory, TooLarge, InputTooLarge, BrokenSegment, UnfitSegment}
+use Rattle.command_ends.specs.FoundIndex.{FindsIndexOf}
+use Rattle.command_ends.specs.FoundSide.{FindsWithSide}
+use Rattle.command_ends.specs.FoundSegments.{FindsJoined}
+use Rattle.command_ends.specs.AnsweredText.{AnswersInput}
+use Rattle.command_ends.specs.PrintedText.{PrintsText}
+use Rattle.command_ends.specs.WordsThen.{BuildsWordsThen}
+use Rattle.command_ends.specs.WrittenFile.{WritesFile}
+use Rattle.command_ends.specs.WrittenIndex.{OnBuiltBytes, WritesIndex}
+use Rattle.command_ends.specs.Sources.{Source, Nothing, CollectionAt, IndexAt, SideAt, MapAt, IndexesAt, EndsAt}
+use Rattle.command_ends.specs.Products.{Product, File, Files, Replies, Text, builds_words}
+use Rattle.collection_commands.specs.Answer.{IsAnswerable, IsBuiltFrom, answer_format}
+use Rattle.collection_commands.specs.Generate.{MakesGeneration}
+use Rattle.collection_commands.specs.Remap.{WritesImage}
+use Rattle.index_commands.specs.Inspect.{IsInspection}
+use Rattle.index_commands.specs.Audit.{IsAudit}
+use Rattle.index_commands.specs.Migrate.{migrate_format}
+use Rattle.side_commands.specs.Blocks.{OnSideBytes}
 use Rattle.pef_top.specs.Commands.{Performs}
-use Rattle.pef_top.specs.MayEnd.{MayEnd}
+use Rattle.pef_top.specs.MayEnd.{MayEnd, MayEndAt, MayMake}
 
 docs : IsCollectionSlot Docs
 docs = inl refl
 
+-- what comes of a source
+at_source : (source : Source) (depot : DepotState) (outcome : Outcome) → EndsAt source depot outcome → MayEndAt source outcome
+at_source (CollectionAt format base) depot (BrokenCollection fault) h = docs
+at_source (CollectionAt format base) depot (FileFault slot) h = h
+at_source (IndexAt name) depot (BrokenIndex fault) h = refl
+at_source (IndexAt name) depot (FileFault slot) h = h
+at_source (IndexAt name) depot (TooLarge slot) h = h.0
+at_source (SideAt index side) depot (BrokenIndex fault) h = inl refl
+at_source (SideAt index side) depot (BrokenSide fault) h = inr refl
+at_source (SideAt index side) depot (FileFault slot) h = elim h [ inl is ↦ inl is | inr is ↦ inr is.0 ]
+at_source (SideAt index side) depot (TooLarge slot) h = elim h [ inl is ↦ inl is.0 | inr is ↦ inr is.0 ]
+at_source (MapAt base map) depot (BrokenCollection fault) h = inl docs
+at_source (MapAt base map) depot (BrokenMap fault) h = inr refl
+at_source (MapAt base map) depot (FileFault slot) h = elim h [ inl is ↦ inl is | inr is ↦ inr is.0 ]
+at_source (IndexesAt names) depot (BrokenSegment fault segment) h = tt
+at_source (IndexesAt names) depot (UnfitSegment rule segment) h = tt
+at_source (IndexesAt names) depot (FileFault slot) h = h
+at_source (IndexesAt names) depot (TooLarge slot) h = h.0
+at_source source depot outcome h = absurd h
+
+-- what comes of a product
+answers : (source : Source) (Is : Collection → Type 0) (old new : Outside) (outcome : Outcome) → AnswersInput Is old new outcome → MayMake source Replies outcome
+answers source Is old new Done h = tt
+answers source Is old new InputFault h = refl
+answers source Is old new OutFault h = refl
+answers source Is old new NoMemory h = tt
+answers source Is old new InputTooLarge h = refl
+answers source Is old new outcome h = absurd h
+
+prints : (source : Source) (Is : List ℕ → Type 0) (old new : Outside) (outcome : Outcome) → PrintsText Is old new outcome → MayMake source Text outcome
+prints source Is old new Done h = tt
+prints source Is old new OutFault h = refl
+prints source Is old new NoMemory h = tt
+prints source Is old new outcome h = absurd h
+
+writes : (source : Source) (slot : Slot) (name : List ℕ) (OnBytes : (List ℕ → Type 0) → Type 0) (old new : Outside) (outcome : Outcome)
+    → WritesFile slot name OnBytes old new outcome → MayMake source (File slot) outcome
+writes source slot name OnBytes old new Done h = tt
+writes source slot name OnBytes old new (WriteFault written) h = h.0
+writes source slot name OnBytes old new NoMemory h = tt
+writes source slot name OnBytes old new outcome h = absurd h
+
+moves : (base map to : List ℕ) (old new : Outside) (outcome : Outcome) → WritesImage base map to old new outcome → MayMake (MapAt base map) Files outcome
+moves base map to old new Done h = tt
+moves base map to old new (WriteFault slot) h = h.0
+moves base map to old new NoMemory h = tt
+moves base map to old new outcome h = absurd h
+
+-- and where the words of an index are built for it
+builds : (source : Source) (product : Product) (format : Format) (Is : Collection → Type 0) (old new : Outside) (Then : Outcome → Type 0) (outcome : Outcome)
+    → IsTrue (builds_words source product) → (Then outcome → MayMake source product outcome) → BuildsWordsThen format Is old new Then outcome → MayMake source product outcome
+builds source product format Is old new Then (TooLarge slot) words more h = (h.0, words)
+builds source product format Is old new Then outcome words more h = more h
+
+generates : (seed n t : ℕ) (old new : Outside) (outcome : Outcome) → MakesGeneration seed n t old new outcome → MayMake Nothing Text outcome
+generates seed n t old new Done h = tt
+generates seed n t old new OutFault h = refl
+generates seed n t old new NoMemory h = tt
+generates seed n t old new (TooLarge slot) h = (h.0, refl)
+generates seed n t old new outcome h = absurd h
+
+-- what comes of both
+either : {A B C D : Type 0} → (A → C) → (B → D) → (A ⊎ B) → C ⊎ D
+either f g (inl a) = inl (f a)
+either f g (inr b) = inr (g b)
+
 pub may_end : (command : Command) (old new : Outside) (outcome : Outcome) → Performs (Some command) old new outcome → MayEnd command outcome
-may_end (Build base index format) old new Done h = tt
-may_end (Build base index format) old new Usage h = h.ends
-may_end (Build base index format) old new (BrokenCollection fault) h = docs
-may_end (Build base index format) old new (BrokenIndex fault) h = absurd h.ends
-may_end (Build base index format) old new (BrokenSide fault) h = absurd h.ends
-may_end (Build base index format) old new (BrokenMap fault) h = absurd h.ends
-may_end (Build base index format) old new (FileFault slot) h = h.ends
-may_end (Build base index format) old new InputFault h = absurd h.ends
-may_end (Build base index format) old new (WriteFault slot) h = h.ends.0
-may_end (Build base index format) old new OutFault h = absurd h.ends
-may_end (Build base index format) old new NoMemory h = tt
-may_end (Build base index format) old new (TooLarge slot) h = h.ends.0
-may_end (Build base index format) old new InputTooLarge h = absurd h.ends
-may_end (Build base index format) old new (BrokenSegment fault segment) h = absurd h.ends
-may_end (Build base index format) old new (UnfitSegment rule segment) h = absurd h.ends
-may_end (Query index plan) old new Done h = tt
-may_end (Query index plan) old new Usage h = h.ends
-may_end (Query index plan) old new (BrokenCollection fault) h = absurd h.ends
-may_end (Query index plan) old new (BrokenIndex fault) h = refl
-may_end (Query index plan) old new (BrokenSide fault) h = absurd h.ends
-may_end (Query index plan) old new (BrokenMap fault) h = absurd h.ends
-may_end (Query index plan) old new (FileFault slot) h = h.ends
-may_end (Query index plan) old new InputFault h = refl
-may_end (Query index plan) old new (WriteFault slot) h = absurd h.ends
-may_end (Query index plan) old new OutFault h = refl
-may_end (Query index plan) old new NoMemory h = tt
-may_end (Query index plan) old new (TooLarge slot) h = h.ends.0
-may_end (Query index plan) old new InputTooLarge h = refl
-may_end (Query index plan) old new (BrokenSegment fault segment) h = absurd h.ends
-may_end (Query index plan) old new (UnfitSegment rule segment) h = absurd h.ends
-may_end (Answer base plan) old new Done h = tt
-may_end (Answer base plan) old new Usage h = h.ends
-may_end (Answer base plan) old new (BrokenCollection fault) h = docs
-may_end (Answer base plan) old new (BrokenIndex fault) h = absurd h.ends
-may_end (Answer base plan) old new (BrokenSide fault) h = absurd h.ends
-may_end (Answer base plan) old new (BrokenMap fault) h = absurd h.ends
-may_end (Answer base plan) old new (FileFault slot) h = h.ends
-may_end (Answer base plan) old new InputFault h = refl
-may_end (Answer base plan) old new (WriteFault slot) h = absurd h.ends
-may_end (Answer base plan) old new OutFault h = refl
-may_end (Answer base plan) old new NoMemory h = tt
-may_end (Answer base plan) old new (TooLarge slot) h = h.ends.0
-may_end (Answer base plan) old new InputTooLarge h = refl
-may_end (Answer base plan) old new (BrokenSegment fault segment) h = absurd h.ends
-may_end (Answer base plan) old new (UnfitSegment rule segment) h = absurd h.ends
-may_end (Inspect index) old new Done h = tt
-may_end (Inspect index) old new Usage h = h.ends
-may_end (Inspect index) old new (BrokenCollection fault) h = absurd h.ends
-may_end (Inspect index) old new (BrokenIndex fault) h = refl
-may_end (Inspect index) old new (BrokenSide fault) h = absurd h.ends
-may_end (Inspect index) old new (BrokenMap fault) h = absurd h.ends
-may_end (Inspect index) old new (FileFault slot) h = h.ends
-may_end (Inspect index) old new InputFault h = absurd h.ends
-may_end (Inspect index) old new (WriteFault slot) h = absurd h.ends
-may_end (Inspect index) old new OutFault h = refl
-may_end (Inspect index) old new NoMemory h = tt
-may_end (Inspect index) old new (TooLarge slot) h = h.ends.0
-may_end (Inspect index) old new InputTooLarge h = absurd h.ends
-may_end (Inspect index) old new (BrokenSegment fault segment) h = absurd h.ends
-may_end (Inspect index) old new (UnfitSegment rule segment) h = absurd h.ends
-may_end (Generate seed n t) old new Done h = tt
-may_end (Generate seed n t) old new Usage h = h.ends
-may_end (Generate seed n t) old new (BrokenCollection fault) h = absurd h.ends
-may_end (Generate seed n t) old new (BrokenIndex fault) h = absurd h.ends
-may_end (Generate seed n t) old new (BrokenSide fault) h = absurd h.ends
-may_end (Generate seed n t) old new (BrokenMap fault) h = absurd h.ends
-may_end (Generate seed n t) old new (FileFault slot) h = h.ends
-may_end (Generate seed n t) old new InputFault h = absurd h.ends
-may_end (Generate seed n t) old new (WriteFault slot) h = absurd h.ends
-may_end (Generate seed n t) old new OutFault h = refl
-may_end (Generate seed n t) old new NoMemory h = tt
-may_end (Generate seed n t) old new (TooLarge slot) h = h.ends.0
-may_end (Generate seed n t) old new InputTooLarge h = absurd h.ends
-may_end (Generate seed n t) old new (BrokenSegment fault segment) h = absurd h.ends
-may_end (Generate seed n t) old new (UnfitSegment rule segment) h = absurd h.ends
-may_end (Migrate from to) old new Done h = tt
-may_end (Migrate from to) old new Usage h = h.ends
-may_end (Migrate from to) old new (BrokenCollection fault) h = absurd h.ends
-may_end (Migrate from to) old new (BrokenIndex fault) h = refl
-may_end (Migrate from to) old new (BrokenSide fault) h = absurd h.ends
-may_end (Migrate from to) old new (BrokenMap fault) h = absurd h.ends
-may_end (Migrate from to) old new (FileFault slot) h = h.ends
-may_end (Migrate from to) old new InputFault h = absurd h.ends
-may_end (Migrate from to) old new (WriteFault slot) h = h.ends.0
-may_end (Migrate from to) old new OutFault h = absurd h.ends
-may_end (Migrate from to) old new NoMemory h = tt
-may_end (Migrate from to) old new (TooLarge slot) h = elim h.ends [ inl long ↦ long.0 | inr many ↦ many.0 ]
-may_end (Migrate from to) old new InputTooLarge h = absurd h.ends
-may_end (Migrate from to) old new (BrokenSegment fault segment) h = absurd h.ends
-may_end (Migrate from to) old new (UnfitSegment rule segment) h = absurd h.ends
-may_end (Audit index) old new Done h = tt
-may_end (Audit index) old new Usage h = h.ends
-may_end (Audit index) old new (BrokenCollection fault) h = absurd h.ends
-may_end (Audit index) old new (BrokenIndex fault) h = refl
-may_end (Audit index) old new (BrokenSide fault) h = absurd h.ends
-may_end (Audit index) old new (BrokenMap fault) h = absurd h.ends
-may_end (Audit index) old new (FileFault slot) h = h.ends
-may_end (Audit index) old new InputFault h = absurd h.ends
-may_end (Audit index) old new (WriteFault slot) h = absurd h.ends
-may_end (Audit index) old new OutFault h = refl
-may_end (Audit index) old new NoMemory h = tt
-may_end (Audit index) old new (TooLarge slot) h = h.ends.0
-may_end (Audit index) old new InputTooLarge h = absurd h.ends
-may_end (Audit index) old new (BrokenSegment fault segment) h = absurd h.ends
-may_end (Audit index) old new (UnfitSegment rule segment) h = absurd h.ends
-may_end (Blocks index side) old new Done h = tt
-may_end (Blocks index side) old new Usage h = h.ends
-may_end (Blocks index side) old new (BrokenCollection fault) h = absurd h.ends
-may_end (Blocks index side) old new (BrokenIndex fault) h = refl
-may_end (Blocks index side) old new (BrokenSide fault) h = absurd h.ends
-may_end (Blocks index side) old new (BrokenMap fault) h = absurd h.ends
-may_end (Blocks index side) old new (FileFault slot) h = h.ends
-may_end (Blocks index side) old new InputFault h = absurd h.ends
-may_end (Blocks index side) old new (WriteFault slot) h = h.ends.0
-may_end (Blocks index side) old new OutFault h = absurd h.ends
-may_end (Blocks index side) old new NoMemory h = tt
-may_end (Blocks index side) old new (TooLarge slot) h = h.ends.0
-may_end (Blocks index side) old new InputTooLarge h = absurd h.ends
-may_end (Blocks index side) old new (BrokenSegment fault segment) h = absurd h.ends
-may_end (Blocks index side) old new (UnfitSegment rule segment) h = absurd h.ends
-may_end (BlockQuery index side) old new Done h = tt
-may_end (BlockQuery index side) old new Usage h = h.ends
-may_end (BlockQuery index side) old new (BrokenCollection fault) h = absurd h.ends
-may_end (BlockQuery index side) old new (BrokenIndex fault) h = inl refl
-may_end (BlockQuery index side) old new (BrokenSide fault) h = inr refl
-may_end (BlockQuery index side) old new (BrokenMap fault) h = absurd h.ends
-may_end (BlockQuery index side) old new (BrokenSegment fault segment) h = absurd h.ends
-may_end (BlockQuery index side) old new (UnfitSegment rule segment) h = absurd h.ends
-may_end (BlockQuery index side) old new (FileFault slot) h = elim h.ends [ inl is ↦ inl is | inr is ↦ inr is.0 ]
-may_end (BlockQuery index side) old new InputFault h = refl
-may_end (BlockQuery index side) old new (WriteFault slot) h = absurd h.ends
-may_end (BlockQuery index side) old new OutFault h = refl
-may_end (BlockQuery index side) old new NoMemory h = tt
-may_end (BlockQuery index side) old new (TooLarge slot) h = elim h.ends [ inl is ↦ inl is.0 | inr is ↦ inr is.0 ]
-may_end (BlockQuery index side) old new InputTooLarge h = refl
-may_end (Remap base map to) old new Done h = tt
-may_end (Remap base map to) old new Usage h = h.ends
-may_end (Remap base map to) old new (BrokenCollection fault) h = inl docs
-may_end (Remap base map to) old new (BrokenIndex fault) h = absurd h.ends
-may_end (Remap base map to) old new (BrokenSide fault) h = absurd h.ends
-may_end (Remap base map to) old new (BrokenMap fault) h = inr refl
-may_end (Remap base map to) old new (FileFault slot) h = elim h.ends [ inl is ↦ inl is | inr map ↦ inr map.0 ]
-may_end (Remap base map to) old new InputFault h = absurd h.ends
-may_end (Remap base map to) old new (WriteFault slot) h = h.ends.0
-may_end (Remap base map to) old new OutFault h = absurd h.ends
-may_end (Remap base map to) old new NoMemory h = tt
-may_end (Remap base map to) old new (TooLarge slot) h = absurd h.ends
-may_end (Remap base map to) old new InputTooLarge h = absurd h.ends
-may_end (Remap base map to) old new (BrokenSegment fault segment) h = absurd h.ends
-may_end (Remap base map to) old new (UnfitSegment rule segment) h = absurd h.ends
-may_end (Segments indexes plan) old new Done h = tt
-may_end (Segments indexes plan) old new Usage h = h.ends
-may_end (Segments indexes plan) old new (BrokenCollection fault) h = absurd h.ends
-may_end (Segments indexes plan) old new (BrokenIndex fault) h = absurd h.ends
-may_end (Segments indexes plan) old new (BrokenMap fault) h = absurd h.ends
-may_end (Segments indexes plan) old new (BrokenSide fault) h = absurd h.ends
-may_end (Segments indexes plan) old new (FileFault slot) h = h.ends
-may_end (Segments indexes plan) old new InputFault h = refl
-may_end (Segments indexes plan) old new (WriteFault slot) h = absurd h.ends
-may_end (Segments indexes plan) old new OutFault h = refl
-may_end (Segments indexes plan) old new NoMemory h = tt
-may_end (Segments indexes plan) old new (TooLarge slot) h = h.ends.0
-may_end (Segments indexes plan) old new InputTooLarge h = refl
-may_end (Segments indexes plan) old new (BrokenSegment fault segment) h = refl
-may_end (Segments indexes plan) old new (UnfitSegment rule segment) h = refl
+may_end (Build base index format) old new outcome h =
+    let from : Source = CollectionAt (numbers_of format) base in
+    let Is : Collection → Type 0 = FindsCollection (numbers_of format) base old.depot in
+    either (at_source from old.depot outcome)
+    (builds from (File Index) format Is old new (WritesIndex format Is index old new) outcome refl (writes from Index index (OnBuiltBytes format Is old new) old new outcome)) h.does.ends
+may_end (Query index plan) old new outcome h =
+    either (at_source (IndexAt index) old.depot outcome) (answers (IndexAt index) (FindsIndexOf index old.depot) old new outcome) h.does.ends
+may_end (Answer base plan) old new outcome h =
+    let from : Source = CollectionAt (numbers_of answer_format) base in
+    let Is : Collection → Type 0 = IsBuiltFrom base old new in
+    either (at_source from old.depot outcome)
+    (builds from Replies answer_format (IsAnswerable base old.depot) old new (AnswersInput Is old new) outcome refl (answers from Is old new outcome)) h.ends
+may_end (Inspect index) old new outcome h = either (at_source (IndexAt index) old.depot outcome) (prints (IndexAt index) (IsInspection index old.depot) old new outcome) h.does.ends
+may_end (Generate seed n t) old new outcome h = either (at_source Nothing old.depot outcome) (generates seed n t old new outcome) h.ends
+may_end (Migrate from to) old new outcome h =
+    let Is : Collection → Type 0 = FindsIndexOf from old.depot in
+    either (at_source (IndexAt from) old.depot outcome)
+    (builds (IndexAt from) (File Index) migrate_format Is old new (WritesIndex migrate_format Is to old new) outcome refl
+    (writes (IndexAt from) Index to (OnBuiltBytes migrate_format Is old new) old new outcome)) h.does.ends
+may_end (Audit index) old new outcome h = either (at_source (IndexAt index) old.depot outcome) (prints (IndexAt index) (IsAudit index old.depot) old new outcome) h.does.ends
+may_end (Blocks index side) old new outcome h =
+    either (at_source (IndexAt index) old.depot outcome) (writes (IndexAt index) Side side (OnSideBytes index old.depot) old new outcome) h.does.ends
+may_end (BlockQuery index side) old new outcome h =
+    either (at_source (SideAt index side) old.depot outcome) (answers (SideAt index side) (FindsWithSide index side old.depot) old new outcome) h.does.ends
+may_end (Remap base map to) old new outcome h = either (at_source (MapAt base map) old.depot outcome) (moves base map to old new outcome) h.does.ends
+may_end (Segments indexes plan) old new outcome h =
+    either (at_source (IndexesAt indexes) old.depot outcome) (answers (IndexesAt indexes) (FindsJoined indexes old.depot) old new outcome) h.does.ends

@@ -1,115 +1,81 @@
-use Rattle.std.proofs.Common.{refl, ℕ, inl, inr, arith}
-use Rattle.std.specs.Prelude.{◌≡◌, Some}
+-- A run that was refused memory before it came to its command.
+use Rattle.std.proofs.Common.{refl, ℕ, inl, inr}
+use Rattle.std.specs.Prelude.{Some}
 use Rattle.pef_io.specs.SourceState.{SourceState}
 use Rattle.pef_io.specs.SinkState.{SinkState}
 use Rattle.pef_io.specs.DepotState.{DepotState}
-use Rattle.pef_io.proofs.OnlyReads.{OnlyReads-same}
-use Rattle.command_ends.proofs.Counted.{all_end}
-use Rattle.command_ends.specs.declared.status.Status.TheVariants as status
-use Rattle.command_ends.specs.Outside.{outside, GotText}
-use Rattle.command_ends.specs.ErrLines.{memory_line}
-use Rattle.command_ends.specs.Outcome.{NoMemory}
-use Rattle.command_ends.specs.Ends.{Ends}
+use Rattle.part_cost.specs.Formats.{numbers_of}
+use Rattle.pef_io.specs.declared.fail.Slot.TheVariants.{Index, Side}
+use Rattle.command_model.specs.Written.{IsUnwritten}
+use Rattle.command_ends.specs.Outside.{Outside, outside}
+use Rattle.command_ends.specs.Outcome.{Outcome, NoMemory}
+use Rattle.command_ends.specs.FoundIndex.{FindsIndexOf}
+use Rattle.command_ends.specs.FoundSide.{FindsWithSide}
+use Rattle.command_ends.specs.FoundSegments.{FindsJoined}
+use Rattle.command_ends.specs.AnsweredText.{AnswersInput}
+use Rattle.command_ends.specs.PrintedText.{PrintsText}
+use Rattle.command_ends.specs.WrittenFile.{WritesFile}
+use Rattle.command_ends.specs.Sources.{Source, CollectionAt, IndexAt, IndexesAt, MapAt, Nothing, SideAt}
+use Rattle.command_ends.specs.Products.{Product, Does, File, Files, Replies, Text}
+use Rattle.command_ends.proofs.SourceRead.{uncalled}
 use Rattle.command_line.specs.Command.{Command, Build, Query, Answer, Inspect, Generate, Migrate, Audit, Blocks, BlockQuery, Remap, Segments}
+use Rattle.collection_commands.specs.Answer.{MakesAnswers, answer_format}
+use Rattle.collection_commands.specs.Build.{MakesBuilt}
+use Rattle.collection_commands.specs.Generate.{MakesGeneration}
+use Rattle.collection_commands.specs.Remap.{WritesImage}
+use Rattle.index_commands.specs.Inspect.{IsInspection}
+use Rattle.index_commands.specs.Audit.{IsAudit}
+use Rattle.index_commands.specs.Migrate.{MakesMigrated}
+use Rattle.side_commands.specs.Blocks.{OnSideBytes}
 use Rattle.pef_top.specs.Commands.{Performs}
 
--- a run that is refused memory ends so
-pub ends : (d : DepotState) (i : SourceState) (o e e' : SinkState) (s : ℕ) → GotText e e' memory_line → e'.tells ≡ e.tells
-    → Ends (outside d i o e s) (outside d i o e' s) NoMemory status.NoMemory
-ends d i o e e' s got tells = record {
-  status = refl;
-  line = λ h. got;
-  faults = all_end _ _ _ (record {
-    slots = λ slot. record { only_where_it_rose = λ h. cc; changes_only_there = inr refl; never_falls = omega arith };
-    writing = record { only_where_it_rose = λ h. cc; changes_only_there = inr refl; never_falls = omega arith };
-    input = record { only_where_it_rose = λ h. cc; changes_only_there = inr refl; never_falls = omega arith };
-    out = record { only_where_it_rose = λ h. cc; changes_only_there = inr refl; never_falls = omega arith };
-  });
-  telling = record { depot = refl; input = refl; out = refl; err = tells };
-}
+-- what is promised of a run that makes a product of a source
+without : (source : Source) (product : Product) (Makes : Outside → Outside → Outcome → Type 0) (d : DepotState) (i : SourceState) (o e e' : SinkState) (s : ℕ)
+    → Makes (outside d i o e s) (outside d i o e' s) NoMemory → Does source product Makes (outside d i o e s) (outside d i o e' s) NoMemory
+without source product Makes d i o e e' s makes = (uncalled source product Makes d i o e e' s makes).performs
+
+unwritten : (d : DepotState) → IsUnwritten d d
+unwritten d = record { files = λ t name. refl; writing = (refl, λ t. refl) }
 
 -- what each command promises holds of it
 pub performs : (command : Command) (d : DepotState) (i : SourceState) (o e e' : SinkState) (s : ℕ)
     → Performs (Some command) (outside d i o e s) (outside d i o e' s) NoMemory
 performs (Build base index format) d i o e e' s = record {
-  ends = inl (record { files = λ t name. refl; writing = (refl, λ t. refl) });
-  refuses = record { broken = λ t f h. inr (inr refl); sound = λ t c h f e. cc };
+  does = without (CollectionAt (numbers_of format) base) (File Index) (MakesBuilt format base index) d i o e e' s (inl (unwritten d));
   opens = λ h. cc;
-  complete = λ t c h n. inr (inr refl);
-  depot = record { refused = λ h. OnlyReads-same d; unaccepted = λ h. OnlyReads-same d; stay_started = λ slot h. h; other_slots = λ slot h. (refl, λ t. refl); create_count = inr refl; finish_count = inr refl };
 }
 performs (Query index plan) d i o e e' s = record {
-  ends = inl (record { input = refl; out = refl });
-  refuses = record { broken = λ t f h. inr (inr refl); longer = λ t h. inr (inr refl); sound = λ t c h. (λ e. cc, λ f e. cc) };
-  answers = record { complete = λ t c h n l. inr (inr refl); limited = λ t c h n l. inr (inr refl) };
-  depot = OnlyReads-same d;
+  does = without (IndexAt index) Replies (AnswersInput (FindsIndexOf index d)) d i o e e' s (inl (record { input = refl; out = refl }));
   costs = refl;
 }
-performs (Answer base plan) d i o e e' s = record {
-  ends = inl (record { input = refl; out = refl });
-  refuses = record { broken = λ t f h. inr (inr refl); sound = λ t c h f e. cc };
-  answers = record { complete = λ t c h n l. inr (inr refl); limited = λ t c h n l. inr (inr refl) };
-  depot = OnlyReads-same d;
-}
-performs (Inspect index) d i o e e' s = record {
-  ends = inl refl;
-  refuses = record { broken = λ t f h. inr (inr refl); longer = λ t h. inr (inr refl); sound = λ t c h. (λ e. cc, λ f e. cc) };
-  complete = λ t c h n. inr refl;
-  depot = OnlyReads-same d;
-  costs = refl;
-}
-performs (Generate seed n t) d i o e e' s = record {
-  ends = inl refl;
-  complete = λ none. inr (inr refl);
-}
+performs (Answer base plan) d i o e e' s =
+    without (CollectionAt (numbers_of answer_format) base) Replies (MakesAnswers base) d i o e e' s (inl (record { input = refl; out = refl }))
+performs (Inspect index) d i o e e' s = record { does = without (IndexAt index) Text (PrintsText (IsInspection index d)) d i o e e' s (inl refl); costs = refl }
+performs (Generate seed n t) d i o e e' s = without Nothing Text (MakesGeneration seed n t) d i o e e' s (inl refl)
 performs (Migrate from to) d i o e e' s = record {
-  ends = inl (record { files = λ t name. refl; writing = (refl, λ t. refl) });
+  does = without (IndexAt from) (File Index) (MakesMigrated from to) d i o e e' s (inl (unwritten d));
   opens = λ h. cc;
-  refuses = inr (record { broken = λ t f h. inr (inr refl); longer = λ t h. inr (inr refl); sound = λ t c h. (λ e. cc, λ f e. cc) });
-  complete = λ t c h n. inr (inr refl);
-  depot = record { refused = λ h. OnlyReads-same d; unaccepted = λ h. OnlyReads-same d; stay_started = λ slot h. h; other_slots = λ slot h. (refl, λ t. refl); create_count = inr refl; finish_count = inr refl };
 }
 performs (Audit index) d i o e e' s = record {
-  ends = inl refl;
-  refuses = record { broken = λ t f h. inr (inr refl); longer = λ t h. inr (inr refl); sound = λ t c h. (λ e. cc, λ f e. cc) };
-  complete = λ t c h n. inr refl;
-  depot = OnlyReads-same d;
+  does = without (IndexAt index) Text (PrintsText (IsAudit index d)) d i o e e' s (inl refl);
   costs = inl ((λ h. cc), refl);
   refused = λ h. refl;
 }
 performs (Blocks index side) d i o e e' s = record {
-  ends = inl (record { files = λ t name. refl; writing = (refl, λ t. refl) });
+  does = without (IndexAt index) (File Side) (WritesFile Side side (OnSideBytes index d)) d i o e e' s (inl (unwritten d));
   opens = λ h. cc;
-  refuses = record { broken = λ t f h. inr (inr refl); longer = λ t h. inr (inr refl); sound = λ t c h. (λ e. cc, λ f e. cc) };
-  complete = λ t c h n. inr refl;
-  depot = record { refused = λ h. OnlyReads-same d; unaccepted = λ h. OnlyReads-same d; stay_started = λ slot h. h; other_slots = λ slot h. (refl, λ t. refl); create_count = inr refl; finish_count = inr refl };
   costs = refl;
 }
 performs (BlockQuery index side) d i o e e' s = record {
-  ends = inl (record { input = refl; out = refl });
-  refuses = record { broken = λ t f h. inr (inr refl); longer = λ t h. inr (inr refl); sound = λ t c h. (λ e. cc, λ f e. cc) };
-  refuses_side = record { broken = λ t f h. inr (inr refl); longer = λ t has h. inr (inr refl); sound = λ t c h. (λ e. cc, λ f e. cc) };
-  answers = record { complete = λ t c h n l. inr (inr refl); limited = λ t c h n l. inr (inr refl) };
-  depot = OnlyReads-same d;
+  does = without (SideAt index side) Replies (AnswersInput (FindsWithSide index side d)) d i o e e' s (inl (record { input = refl; out = refl }));
   costs = refl;
 }
 performs (Remap base map to) d i o e e' s = record {
-  ends = inl (record { files = λ t name. refl; writing = (refl, λ t. refl) });
+  does = without (MapAt base map) Files (WritesImage base map to) d i o e e' s (inl (unwritten d));
   opens = λ h. cc;
-  refuses = record {
-    broken_collection = λ t f h. inr (inr refl);
-    broken_map = λ t f h. inr (inr refl);
-    sound_collection = λ t c h f e. cc;
-    sound_map = λ t c ids h f e. cc;
-  };
-  complete = λ t h n. inr refl;
-  depot = record { refused = λ h. OnlyReads-same d; unaccepted = λ h. OnlyReads-same d; stay_started = λ slot h. h; other_slots = λ slot h. (refl, λ t. refl); create_count = inr refl; finish_count = inr refl };
   costs = refl;
 }
 performs (Segments indexes plan) d i o e e' s = record {
-  ends = inl (record { input = refl; out = refl });
-  refuses = record { refused = λ t this h. inr (inr refl); sound = λ t c h r. r };
-  answers = record { complete = λ t c h n l. inr (inr refl); limited = λ t c h n l. inr (inr refl) };
-  depot = OnlyReads-same d;
+  does = without (IndexesAt indexes) Replies (AnswersInput (FindsJoined indexes d)) d i o e e' s (inl (record { input = refl; out = refl }));
   costs = refl;
 }

@@ -1,3 +1,4 @@
+pub mod SourceAndProduct
 pub mod Commands
 pub mod Uncalled
 pub mod Starts

@@ -84,7 +84,7 @@ module _ (name : List ℕ) (s : ℕ) (before : Pushed) (d d' : DepotState) where
   segment_unloaded read one it (inr (fault, found, is)) =
       let P : Stop → Type 0 = λ x. Rejected (outcome_of_stop (at_segment s x)) in
       subst P (sym is) (record {
-        ends = (refl, λ t. breaks read one name d d' found.words found.loads fault found.first t);
+        ends = (refl, λ t. breaks name d d' found.words found.loads fault found.first t);
         reads = found.loads.reads;
         faults = stays (OfFile Index) (BrokenSegment fault s) _ _ (λ h. let b : Of None (OfFile Index) = h in cc) (same_faults found.words found.loads);
         starts = found.loads.started_once Index refl;
@@ -97,7 +97,7 @@ module _ (name : List ℕ) (s : ℕ) (before : Pushed) (d d' : DepotState) where
       (spells : Spells (numbers_of index.format) lent index.collection index.parts) (stated : index ≡ index_stated lent) (documents terms : ℕ)
       (counted : documents ≡ index.collection.documents) (listed : terms ≡ length index.collection.lists) where
     found : FindsIndexOf name d index.collection
-    found = let V : List ℕ → Type 0 = λ ws. LoadsWords Index name d d' (Ok ws) in found_index read one name d d' lent (subst V (sym lends) w.loads) index spells
+    found = let V : List ℕ → Type 0 = λ ws. LoadsWords Index name d d' (Ok ws) in found_index name d d' lent (subst V (sym lends) w.loads) index spells
 
     its : index ≡ index_stated words
     its = stated ∙ ap index_stated lends

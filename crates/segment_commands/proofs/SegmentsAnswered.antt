@@ -1,6 +1,6 @@
 -- What `segments` leaves.
 use Rattle.std.proofs.Common.{◌≡◌, ℕ, refl, sym, ◌∙◌, ap, subst, List, length, inl, inr, arith}
-use Rattle.std.specs.Prelude.{◌≢◌, ◌⊎◌, IsTrue, Some, None, Result, Ok, Err}
+use Rattle.std.specs.Prelude.{IsTrue, Result, Ok, Err}
 use Rattle.std.proofs.lemmas.List.{take_all}
 use Rattle.collection_model.specs.Collection.{Collection}
 use Rattle.pef_io.specs.declared.fail.Slot.{Slot}
@@ -11,231 +11,117 @@ use Rattle.pef_io.specs.DepotState.{DepotState}
 use Rattle.index_file.specs.Laws.{WordsAreRead, OneBrokenCheck, OneIndex}
 use Rattle.segments.specs.Joined.{joined}
 use Rattle.segments.specs.Segments.{Pushed}
-use Rattle.text_replies.specs.declared.text.RunFault.{RunFault}
-use Rattle.text_replies.specs.declared.text.RunFault.TheVariants as answering
 use Rattle.text_replies.specs.AnswerText.{AnswersText}
 use Rattle.line_replies.specs.AnswerJoined.{collections_of}
 use Rattle.command_ends.specs.declared.stop.Stop.{Stop}
-use Rattle.command_ends.specs.Outside.{Outside, NoCallFailed, outside, OfFile, OfWriting, OfInput, OfOut}
-use Rattle.command_ends.specs.Outcome.{Outcome, Done, Usage, BrokenCollection, BrokenIndex, BrokenMap, BrokenSegment, UnfitSegment, FileFault, InputFault, WriteFault, OutFault, NoMemory, TooLarge, InputTooLarge, fault_of, BrokenSide}
-use Rattle.command_ends.specs.Ends.{EndsByFault, OrNoMemory}
-use Rattle.segment_commands.specs.FoundSegments.{FindsSegments, FindsJoined, IsRefusedAt}
-use Rattle.segment_commands.specs.ReadingSegments.{ReadsSegmentsThen}
+use Rattle.command_ends.specs.Outside.{Outside, outside, OfFile}
+use Rattle.command_ends.specs.Outcome.{Outcome, BrokenSegment, UnfitSegment, FileFault, NoMemory, TooLarge}
+use Rattle.command_ends.specs.Ends.{EndsByFault}
+use Rattle.command_ends.specs.FoundSegments.{FindsSegments, FindsJoined, IsRefusedAt}
+use Rattle.command_ends.specs.SegmentStarts.{IsSegmentCount}
 use Rattle.command_ends.specs.AnsweredText.{AnswersInput, longest_text}
-use Rattle.segment_commands.specs.SegmentStarts.{IsSegmentCount, StartsEach}
+use Rattle.command_ends.specs.Sources.{IndexesAt, IsRefusedAs, Stands, Starts}
+use Rattle.command_ends.specs.Products.{Replies}
 use Rattle.command_ends.specs.Steps.Leaves.{Leaves}
-use Rattle.segment_commands.specs.Private.ReadSegments.{AreAccepted, AreRejected}
 use Rattle.command_ends.specs.Steps.Stops.{outcome_of, outcome_of_stop}
-use Rattle.command_ends.proofs.Counted.{stays, by_slot, or_larger, all_end, Of}
-use Rattle.segment_commands.proofs.SegmentsFound.{none_refused, one_refused, come}
-use Rattle.command_ends.proofs.TextAnswered.{text_outcome, not_file, not_writing, answers_input, must_answer, input_ends, out_ends}
+use Rattle.command_ends.proofs.Counted.{by_slot, not_true, stays}
+use Rattle.command_ends.proofs.SourceRead.{IsRead, IsUnread, Laws, comes_to, promised, unread, was_read}
+use Rattle.command_ends.proofs.TextAnswered.{Answer, answers_input, text_outcome}
+use Rattle.command_ends.proofs.TextMade.{text_answered}
 use Rattle.segment_commands.specs.AnswerSegments.{AnswersSegments}
+use Rattle.segment_commands.specs.Private.ReadSegments.{AreAccepted, AreRejected}
+use Rattle.segment_commands.proofs.SegmentsFound.{none_refused, one_refused, come}
 
--- an outcome that is want of memory alone
-only_memory : (names : List (List ℕ)) (d : DepotState) (P : Outcome → Type 0) (outcome : Outcome) → P NoMemory → ReadsSegmentsThen names d (λ other. other ≡ NoMemory) outcome → ReadsSegmentsThen names d P outcome
-only_memory names d P Done p h = cc
-only_memory names d P Usage p h = cc
-only_memory names d P (BrokenCollection fault) p h = cc
-only_memory names d P (BrokenIndex fault) p h = cc
-only_memory names d P (BrokenMap fault) p h = cc
-only_memory names d P (BrokenSide fault) p h = cc
-only_memory names d P (BrokenSegment fault s) p h = h
-only_memory names d P (UnfitSegment rule s) p h = h
-only_memory names d P (FileFault slot) p h = h
-only_memory names d P InputFault p h = cc
-only_memory names d P (WriteFault slot) p h = cc
-only_memory names d P OutFault p h = cc
-only_memory names d P NoMemory p h = p
-only_memory names d P (TooLarge slot) p h = h
-only_memory names d P InputTooLarge p h = cc
+-- ---- the source
 
--- such an end is a refusal, or the fault of a file, or want of memory
-abbrev IsEnd : List (List ℕ) → DepotState → Outcome → Type 0
-IsEnd names d outcome = IsRefusedAt names d outcome ⊎ (outcome ≡ FileFault Index) ⊎ (outcome ≡ NoMemory)
+-- as the depot tells
+told : (names : List (List ℕ)) (d : DepotState) (outcome : Outcome) → IsTrue d.tells → IsRefusedAs (IndexesAt names) d outcome → IsRefusedAt names d outcome
+told names d (BrokenSegment fault s) t h = h t
+told names d (UnfitSegment rule s) t h = h
+told names d (TooLarge slot) t h = h.1 t
+told names d outcome t h = absurd h
 
-is_end : (names : List (List ℕ)) (d : DepotState) (outcome : Outcome) → IsTrue d.tells → ReadsSegmentsThen names d (λ other. other ≡ NoMemory) outcome → IsEnd names d outcome
-is_end names d Done t h = inr (inr h)
-is_end names d Usage t h = inr (inr h)
-is_end names d (BrokenCollection fault) t h = inr (inr h)
-is_end names d (BrokenIndex fault) t h = inr (inr h)
-is_end names d (BrokenMap fault) t h = inr (inr h)
-is_end names d (BrokenSide fault) t h = inr (inr h)
-is_end names d (BrokenSegment fault s) t h = inl (h t)
-is_end names d (UnfitSegment rule s) t h = inl h
-is_end names d (FileFault slot) t h = inr (inl (ap FileFault h))
-is_end names d InputFault t h = inr (inr h)
-is_end names d (WriteFault slot) t h = inr (inr h)
-is_end names d OutFault t h = inr (inr h)
-is_end names d NoMemory t h = inr (inr h)
-is_end names d (TooLarge slot) t h = inl (h.1 t)
-is_end names d InputTooLarge t h = inr (inr h)
+module _ (read : WordsAreRead) (check : OneBrokenCheck) (index : OneIndex) (names : List (List ℕ)) where
+  one : (d : DepotState) → IsTrue d.tells → (a b : Outcome) → IsRefusedAs (IndexesAt names) d a → IsRefusedAs (IndexesAt names) d b → a ≡ b
+  one d t a b x y = one_refused read check index d t names a b (told names d a t x) (told names d b t y)
 
--- it is no fault of another count
-abbrev None_of : Outcome → Type 0
-None_of outcome = ((slot : Slot) → slot ≢ Index → ¬ Of (fault_of outcome) (OfFile slot)) × (¬ Of (fault_of outcome) OfWriting) × (¬ Of (fault_of outcome) OfInput) × (¬ Of (fault_of outcome) OfOut)
+  none : (d : DepotState) → Stands (IndexesAt names) d → (a : Outcome) → IsRefusedAs (IndexesAt names) d a → ⊥
+  none d (t, (c, (cs, found, is))) a x = none_refused read check index d t names cs a found (told names d a t x)
 
-not_other : (names : List (List ℕ)) (d : DepotState) (outcome : Outcome) → ReadsSegmentsThen names d (λ other. other ≡ NoMemory) outcome → None_of outcome
-not_other names d outcome h = go outcome h
-  where
-    no_fault : (outcome : Outcome) → fault_of outcome ≡ None → None_of outcome
-    no_fault outcome e = (
-      λ slot ne h. let s : Of None (OfFile slot) = sym e ∙ h in cc,
-      λ h. let s : Of None OfWriting = sym e ∙ h in cc,
-      λ h. let s : Of None OfInput = sym e ∙ h in cc,
-      λ h. let s : Of None OfOut = sym e ∙ h in cc,
-    )
+  segments_laws : Laws (IndexesAt names)
+  segments_laws = record { one = one; none = none }
 
-    memory : (outcome : Outcome) → outcome ≡ NoMemory → None_of outcome
-    memory outcome e = no_fault outcome (ap fault_of e)
+module _ (names : List (List ℕ)) (d d' : DepotState) where
+  -- a segment was rejected
+  rejected : (i : SourceState) (o e e' : SinkState) (n : ℕ) (outcome : Outcome) → AreRejected names d d' outcome
+      → IsUnread (IndexesAt names) (outside d i o e n) (outside d' i o e' n) outcome
+  rejected i o e e' n outcome w = (
+    w.ends,
+    record {
+      reads = w.reads;
+      starts = record { in_turn = w.starts; no_others = λ slot other. w.reads.other_starts slot other; refusals = w.refusals };
+      files = by_slot Index (λ slot. EndsByFault (OfFile slot) outcome (d.faults slot) (d'.faults slot)) w.faults
+          (λ slot other. stays (OfFile slot) outcome _ _ (λ h. other (comes_to (IndexesAt names) d outcome w.ends slot h)) (w.reads.other_counts slot other));
+      input = refl;
+      out = refl;
+    },
+  )
 
-    go : (outcome : Outcome) → ReadsSegmentsThen names d (λ other. other ≡ NoMemory) outcome → None_of outcome
-    go Done h = memory Done h
-    go Usage h = memory Usage h
-    go (BrokenCollection fault) h = memory (BrokenCollection fault) h
-    go (BrokenIndex fault) h = memory (BrokenIndex fault) h
-    go (BrokenMap fault) h = memory (BrokenMap fault) h
-    go (BrokenSide fault) h = memory (BrokenSide fault) h
-    go (BrokenSegment fault s) h = no_fault (BrokenSegment fault s) refl
-    go (UnfitSegment rule s) h = no_fault (UnfitSegment rule s) refl
-    go (FileFault slot) h = (
-      λ other ne e. let s : Of (Some (OfFile slot)) (OfFile other) = e in ne (sym (same slot other s) ∙ h),
-      λ e. let s : Of (Some (OfFile slot)) OfWriting = e in cc,
-      λ e. let s : Of (Some (OfFile slot)) OfInput = e in cc,
-      λ e. let s : Of (Some (OfFile slot)) OfOut = e in cc,
-    )
-      where
-        same : (a b : Slot) → Of (Some (OfFile a)) (OfFile b) → a ≡ b
-        same a b e = cc
-    go InputFault h = memory InputFault h
-    go (WriteFault slot) h = memory (WriteFault slot) h
-    go OutFault h = memory OutFault h
-    go NoMemory h = memory NoMemory h
-    go (TooLarge slot) h = no_fault (TooLarge slot) refl
-    go InputTooLarge h = memory InputTooLarge h
+  module _ (pushed : Pushed) (files : List (List ℕ)) (w : AreAccepted names (length names) pushed d d' files) where
+    -- all are accepted, and this is what they are joined to
+    are_found : FindsJoined names d (joined (collections_of files))
+    are_found = (collections_of files, subst (λ ns. FindsSegments ns d (collections_of files)) (take_all (length names) names (omega arith)) w.found, refl)
 
-module _ (read : WordsAreRead) (one : OneBrokenCheck) (one_index : OneIndex) (names : List (List ℕ)) (d d' : DepotState) where
-  -- no run refuses a segment where all are accepted
-  all_sound : (outcome : Outcome) → IsTrue d.tells → (c : Collection) → FindsJoined names d c → ¬ IsRefusedAt names d outcome
-  all_sound outcome t c (cs, found, is) refused = none_refused read one one_index d t names cs outcome found refused
+    count : (outcome : Outcome) → IsTrue (was_read outcome) → IsSegmentCount names d outcome (length names)
+    count NoMemory h = omega arith
+    count (BrokenSegment fault s) h = absurd (not_true h)
+    count (UnfitSegment rule s) h = absurd (not_true h)
+    count (FileFault slot) h = absurd (not_true h)
+    count (TooLarge slot) h = absurd (not_true h)
+    count outcome h = refl
 
-  -- a segment was rejected, and nothing was called on the input or out
-  pub segments_stop : (i : SourceState) (o e e' : SinkState) (n : ℕ) (outcome : Outcome) → AreRejected names d d' outcome → Leaves (AnswersSegments names) (StartsEach names) (outside d i o e n) (outside d' i o e' n) outcome
-  segments_stop i o e e' n outcome w = record {
-    performs = record {
-      ends = only_memory names d (AnswersInput (FindsJoined names d) before after) outcome (inl (record { input = refl; out = refl })) w.ends;
-      refuses = record {
-        refused = λ t this h. elim (is_end names d outcome t w.ends) [
-          | inl refused ↦ inl (one_refused read one one_index d t names outcome this refused h)
-          | inr other ↦ inr other
-        ];
-        sound = λ t c found. all_sound outcome t c found;
+    segments_read : IsRead (IndexesAt names) d d'
+    segments_read = record {
+      accepted = (joined (collections_of files), are_found);
+      reads = w.reads;
+      starts = λ outcome read. record {
+        in_turn = (length names, count outcome read, come names d (collections_of files) (length names) (length names) w.found (omega arith) (omega arith), w.starts);
+        no_others = λ slot other. w.reads.other_starts slot other;
+        refusals = inr w.refusals;
       };
-      answers = record {
-        complete = λ t c found none len. or_larger Done outcome (incomplete Done t.depot c found none);
-        limited = λ t c found none len. or_larger InputTooLarge outcome (incomplete InputTooLarge t.depot c found none);
-      };
-      depot = w.reads;
-      costs = refl;
-    };
-    faults = all_end before after outcome (record {
-      slots = by_slot Index (λ slot. EndsByFault (OfFile slot) outcome (d.faults slot) (d'.faults slot)) w.faults
-          (λ slot other. stays (OfFile slot) outcome _ _ (faults.0 slot other) (w.reads.other_counts slot other));
-      writing = stays OfWriting outcome _ _ faults.1 w.reads.writing_count;
-      input = stays OfInput outcome _ _ faults.2 refl;
-      out = stays OfOut outcome _ _ faults.3 refl;
-    });
-    starts = record { in_turn = w.starts; no_others = λ slot other. w.reads.other_starts slot other; refusals = w.refusals };
-    depot_tells = w.reads.tells;
-    input_tells = refl;
-    out_tells = refl;
-  }
-    where
-      before : Outside
-      before = outside d i o e n
+      counts = by_slot Index (λ slot. d'.faults slot ≡ d.faults slot) w.faults (λ slot other. w.reads.other_counts slot other);
+    }
 
-      after : Outside
-      after = outside d' i o e' n
+    pub segments_found : (c : Collection) × FindsJoined names d c
+    segments_found = (joined (collections_of files), are_found)
 
-      faults : None_of outcome
-      faults = not_other names d outcome w.ends
+-- ---- what the command leaves
 
-      incomplete : (this : Outcome) → IsTrue d.tells → (c : Collection) → FindsJoined names d c → NoCallFailed before after → OrNoMemory this outcome
-      incomplete this t c found none = elim (is_end names d outcome t w.ends) [
-        | inl refused ↦ absurd (all_sound outcome t c found refused)
-        | inr (inl fault) ↦ absurd (none (OfFile Index) (w.faults.only_where_it_rose (ap fault_of fault)))
-        | inr (inr memory) ↦ inr memory
-      ]
+module _ (read : WordsAreRead) (check : OneBrokenCheck) (index : OneIndex) (names : List (List ℕ)) (d d' : DepotState) (i i' : SourceState) (o o' e e' : SinkState) (n : ℕ) where
+  abbrev old : Outside
+  old = outside d i o e n
 
-  -- all are accepted
-  are_found : (pushed : Pushed) (files : List (List ℕ)) → AreAccepted names (length names) pushed d d' files → FindsJoined names d (joined (collections_of files))
-  are_found pushed files w = (collections_of files, subst (λ ns. FindsSegments ns d (collections_of files)) (take_all (length names) names (omega arith)) w.found, refl)
+  abbrev new : SourceState → SinkState → Outside
+  new i' o' = outside d' i' o' e' n
 
-  -- all are accepted, and the text was answered from what they are joined to, or a part of the text
-  pub segments_answered : (i i' : SourceState) (o o' e e' : SinkState) (n : ℕ) (pushed : Pushed) (files : List (List ℕ)) → AreAccepted names (length names) pushed d d' files
-      → (r : Result (Unit {0}) RunFault) → AnswersText (joined (collections_of files)) longest_text i i' o o' r
-      → Leaves (AnswersSegments names) (StartsEach names) (outside d i o e n) (outside d' i' o' e' n) (text_outcome r)
-  segments_answered i i' o o' e e' n pushed files w r a = record {
-    performs = record {
-      ends = behind r (answers_input (FindsJoined names d) (joined (collections_of files)) found before after r a);
-      refuses = record {
-        refused = λ t this h. absurd (all_sound this t (joined (collections_of files)) found h);
-        sound = λ t c f. all_sound (text_outcome r) t c f;
-      };
-      answers = must_answer (FindsJoined names d) (joined (collections_of files)) before after r a;
-      depot = w.reads;
-      costs = refl;
-    };
-    faults = all_end before after (text_outcome r) (record {
-      slots = by_slot Index (λ slot. EndsByFault (OfFile slot) (text_outcome r) (d.faults slot) (d'.faults slot)) (stays (OfFile Index) (text_outcome r) _ _ (not_file r Index) w.faults)
-          (λ slot other. stays (OfFile slot) (text_outcome r) _ _ (not_file r slot) (w.reads.other_counts slot other));
-      writing = stays OfWriting (text_outcome r) _ _ (not_writing r) w.reads.writing_count;
-      input = input_ends (joined (collections_of files)) before after r a;
-      out = out_ends (joined (collections_of files)) before after r a;
-    });
-    starts = record { in_turn = (length names, count r, come names d (collections_of files) (length names) (length names) w.found (omega arith) (omega arith), w.starts); no_others = λ slot other. w.reads.other_starts slot other; refusals = inr w.refusals };
-    depot_tells = w.reads.tells;
-    input_tells = a.input_tells;
-    out_tells = a.out_tells;
-  }
-    where
-      before : Outside
-      before = outside d i o e n
+  abbrev Left : SourceState → SinkState → Outcome → Type 0
+  Left i' o' outcome = Leaves (AnswersSegments names) (Starts (IndexesAt names)) old (new i' o') outcome
 
-      after : Outside
-      after = outside d' i' o' e' n
+  pub segments_unread : (it : Stop) (r : Result (Unit {0}) Stop) → AreRejected names d d' (outcome_of_stop it) → r ≡ Err it → Left i o (outcome_of r)
+  segments_unread it r w is =
+      subst (Left i o) (sym (ap outcome_of is))
+      (promised old (new i o) (outcome_of_stop it) (λ does. record { does = does; costs = refl })
+      (unread (IndexesAt names) Replies (AnswersInput (FindsJoined names d)) old (new i o) (segments_laws read check index names) (outcome_of_stop it)
+      (inl (record { input = refl; out = refl })) (rejected names d d' i o e e' n (outcome_of_stop it) w)))
 
-      found : FindsJoined names d (joined (collections_of files))
-      found = are_found pushed files w
-
-      behind : (r : Result (Unit {0}) RunFault) → AnswersInput (FindsJoined names d) before after (text_outcome r) → ReadsSegmentsThen names d (AnswersInput (FindsJoined names d) before after) (text_outcome r)
-      behind (Ok u) h = h
-      behind (Err answering.Read) h = h
-      behind (Err answering.Write) h = h
-      behind (Err answering.TooLarge) h = h
-      behind (Err answering.NoMemory) h = h
-
-      count : (r : Result (Unit {0}) RunFault) → IsSegmentCount names d (text_outcome r) (length names)
-      count (Ok u) = refl
-      count (Err answering.Read) = refl
-      count (Err answering.Write) = refl
-      count (Err answering.TooLarge) = refl
-      count (Err answering.NoMemory) = omega arith
-
-  -- the same of the run's result
-  pub segments_unread : (i : SourceState) (o e e' : SinkState) (n : ℕ) (it : Stop) (r : Result (Unit {0}) Stop) → AreRejected names d d' (outcome_of_stop it) → r ≡ Err it
-      → Leaves (AnswersSegments names) (StartsEach names) (outside d i o e n) (outside d' i o e' n) (outcome_of r)
-  segments_unread i o e e' n it r w is =
-      let P : Outcome → Type 0 = λ outcome. Leaves (AnswersSegments names) (StartsEach names) (outside d i o e n) (outside d' i o e' n) outcome in
-      subst P (sym (ap outcome_of is)) (segments_stop i o e e' n (outcome_of_stop it) w)
-
-  pub segments_ended : (i i' : SourceState) (o o' e e' : SinkState) (n : ℕ) (pushed : Pushed) (files lent : List (List ℕ)) → AreAccepted names (length names) pushed d d' files → lent ≡ files
-      → (r : Result (Unit {0}) RunFault) → AnswersText (joined (collections_of lent)) longest_text i i' o o' r → (result : Result (Unit {0}) Stop) → outcome_of result ≡ text_outcome r
-      → Leaves (AnswersSegments names) (StartsEach names) (outside d i o e n) (outside d' i' o' e' n) (outcome_of result)
-  segments_ended i i' o o' e e' n pushed files lent w lends r a result is =
-      let P : Outcome → Type 0 = λ outcome. Leaves (AnswersSegments names) (StartsEach names) (outside d i o e n) (outside d' i' o' e' n) outcome in
-      let A : List (List ℕ) → Type 0 = λ fs. AnswersText (joined (collections_of fs)) longest_text i i' o o' r in
-      subst P (sym is) (segments_answered i i' o o' e e' n pushed files w r (subst A lends a))
-
-  -- an accepted collection stands there
-  pub segments_found : (pushed : Pushed) (files : List (List ℕ)) → AreAccepted names (length names) pushed d d' files → (c : Collection) × FindsJoined names d c
-  segments_found pushed files w = (joined (collections_of files), are_found pushed files w)
+  pub segments_ended : (pushed : Pushed) (files lent : List (List ℕ)) → AreAccepted names (length names) pushed d d' files → lent ≡ files
+      → (r : Answer) → AnswersText (joined (collections_of lent)) longest_text i i' o o' r → (result : Result (Unit {0}) Stop) → outcome_of result ≡ text_outcome r
+      → Left i' o' (outcome_of result)
+  segments_ended pushed files lent w lends r a result is =
+      let Is : Collection → Type 0 = FindsJoined names d in
+      let c : Collection = joined (collections_of files) in
+      let answers : AnswersText c longest_text i i' o o' r = subst (λ fs. AnswersText (joined (collections_of fs)) longest_text i i' o o' r) lends a in
+      subst (Left i' o') (sym is)
+      (promised old (new i' o') (text_outcome r) (λ does. record { does = does; costs = refl })
+      (text_answered (IndexesAt names) (segments_laws read check index names) (AnswersInput Is) d d' (segments_read names d d' pushed files w) i i' o o' e e' n n c r answers
+      (answers_input Is c (are_found names d d' pushed files w) old (new i' o') r answers)))

@@ -18,13 +18,14 @@ use Rattle.segments.specs.declared.pushed.SegRule.{SegRule}
 use Rattle.segments.specs.declared.pushed.SegRule.TheVariants.{G1, G2}
 use Rattle.segments.specs.Joined.{FitTogether, terms_in}
 use Rattle.command_model.specs.Found.{AreOfWords, most_bytes}
-use Rattle.command_ends.specs.Outcome.{Outcome, Done, Usage, BrokenCollection, BrokenIndex, BrokenMap, BrokenSegment, UnfitSegment, FileFault, InputFault, WriteFault, OutFault, NoMemory, TooLarge, InputTooLarge, BrokenSide}
+use Rattle.command_ends.specs.Outcome.{Outcome, BrokenSegment, UnfitSegment, TooLarge}
 use Rattle.command_ends.specs.FoundIndex.{FindsIndexOf, IsFirstBrokenOfFile, HasBroken}
-use Rattle.segment_commands.specs.FoundSegments.{no_collection, FindsSegments, IsUnfit, IsRefusedAt}
-use Rattle.segment_commands.specs.SegmentStarts.{ComesTo}
+use Rattle.command_ends.specs.FoundSegments.{no_collection, FindsSegments, IsUnfit, IsRefusedAt}
+use Rattle.command_ends.specs.SegmentStarts.{ComesTo}
 use Rattle.command_ends.specs.Steps.Stops.{ragged_index}
 use Rattle.command_ends.proofs.Counted.{not_both_lengths}
-use Rattle.command_ends.proofs.IndexLoaded.{index_words, index_is_short, words_broken}
+use Rattle.command_ends.proofs.IndexLoaded.{index_is_short}
+use Rattle.command_ends.proofs.IndexRead.{one_first, whole}
 
 -- ---- collections that fit together
 
@@ -62,23 +63,6 @@ one_rule cs c G1 G1 x y = refl
 one_rule cs c G1 G2 x y = absurd (x.1 (y.0 ∙ terms_first cs c x.0))
 one_rule cs c G2 G1 x y = absurd (y.1 (x.0 ∙ terms_first cs c y.0))
 one_rule cs c G2 G2 x y = refl
-
--- ---- the first check that breaks
-
-one_first : WordsAreRead → OneBrokenCheck → (bytes : List ℕ) (f g : OpenFault) → IsFirstBrokenOfFile bytes f → IsFirstBrokenOfFile bytes g → f ≡ g
-one_first read one bytes f g = go (not (length bytes % 8 == 0))
-  where
-    Words : OpenFault → Type 0
-    Words fault = (words : List ℕ) × AreOfWords bytes words × IsFirstBroken words fault
-
-    Is : Bool → OpenFault → Type 0
-    Is b fault = MatchBool b (fault ≡ ragged_index) (Words fault)
-
-    go : (b : Bool) → Is b f → Is b g → f ≡ g
-    go true x y = x ∙ sym y
-    go false (v, a, x) (w, b, y) =
-        let same : w ≡ v = read w v b.fit a.fit (sym b.bytes_are ∙ a.bytes_are) in
-        one.one v f g x (subst (λ ws. IsFirstBroken ws g) same y)
 
 -- ---- the first of some files
 
@@ -128,14 +112,6 @@ module _ (read : WordsAreRead) (one : OneBrokenCheck) (one_index : OneIndex) (de
       (one_index v w (file_words (numbers_of v) c e) c d e g
       (record { plain = f.plain; well_formed = f.well_formed; partitions = f.partitions; spelled = refl }) (record { plain = h.plain; well_formed = h.well_formed; partitions = h.partitions; spelled = same })).1
 
-  whole : (name : List ℕ) (c : Collection) (fault : OpenFault) → FindsIndexOf name depot c → HasBroken name depot fault → ⊥
-  whole name c fault found broken = go found
-    where
-      go : FindsIndexOf name depot c → ⊥
-      go (v, e, f) =
-          let words : List ℕ = file_words (numbers_of v) c e in
-          one.none_in_index words fault (index_words read name depot words c t (f.bytes t) found) (words_broken read (bytes_under depot name) words fault (f.bytes t) broken.first)
-
   -- such a segment, where those before it have these collections
   abbrev RefusedAs : List Collection → List ℕ → Way → Type 0
   RefusedAs cs name (Broken fault) = HasBroken name depot fault
@@ -144,9 +120,9 @@ module _ (read : WordsAreRead) (one : OneBrokenCheck) (one_index : OneIndex) (de
 
   one_way : (cs : List Collection) (name : List ℕ) (a b : Way) → RefusedAs cs name a → RefusedAs cs name b → a ≡ b
   one_way cs name (Broken f) (Broken g) x y = ap Broken (one_first read one (bytes_under depot name) f g x.first y.first)
-  one_way cs name (Broken f) (Unfit q) x (c, found, y) = absurd (whole name c f found x)
+  one_way cs name (Broken f) (Unfit q) x (c, found, y) = absurd (whole read one name depot t c f found x)
   one_way cs name (Broken f) Long x y = absurd (not_both_lengths _ _ x.within y)
-  one_way cs name (Unfit r) (Broken g) (c, found, x) y = absurd (whole name c g found y)
+  one_way cs name (Unfit r) (Broken g) (c, found, x) y = absurd (whole read one name depot t c g found y)
   one_way cs name (Unfit r) (Unfit q) (c, found, x) (d, found', y) = ap Unfit (one_rule cs c r q x (subst (λ e. IsUnfit cs e q) (same_index name d c found' found) y))
   one_way cs name (Unfit r) Long (c, found, x) y = absurd (not_both_lengths _ _ (index_is_short name depot c t found) y)
   one_way cs name Long (Broken g) x y = absurd (not_both_lengths _ _ y.within x)
@@ -163,7 +139,7 @@ module _ (read : WordsAreRead) (one : OneBrokenCheck) (one_index : OneIndex) (de
   -- one of them is not refused
   not_refused : (names : List (List ℕ)) (cs ds : List Collection) (s : ℕ) (way : Way) → FindsSegments names depot cs → s < length names → FindsSegments (take s names) depot ds
       → RefusedAs ds (get_or names s []) way → ⊥
-  not_refused names cs ds s (Broken fault) f lt g broken = whole (get_or names s []) (get_or cs s no_collection) fault (f.each s lt) broken
+  not_refused names cs ds s (Broken fault) f lt g broken = whole read one (get_or names s []) depot t (get_or cs s no_collection) fault (f.each s lt) broken
   not_refused names cs ds s (Unfit rule) f lt g (c, found, unfit) =
       let this : c ≡ get_or cs s no_collection = same_index (get_or names s []) c (get_or cs s no_collection) found (f.each s lt) in
       let these : ds ≡ take s cs = same_collections (take s names) ds (take s cs) g (before names depot cs s f (omega (arith, lt))) in
@@ -178,18 +154,7 @@ module _ (read : WordsAreRead) (one : OneBrokenCheck) (one_index : OneIndex) (de
   at_place names (BrokenSegment fault s) refused = (s, Broken fault, refl, refused)
   at_place names (UnfitSegment rule s) refused = (s, Unfit rule, refl, refused)
   at_place names (TooLarge slot) (is, (s, refused)) = (s, Long, ap TooLarge is, refused)
-  at_place names Done refused = absurd refused
-  at_place names Usage refused = absurd refused
-  at_place names (BrokenCollection fault) refused = absurd refused
-  at_place names (BrokenIndex fault) refused = absurd refused
-  at_place names (BrokenMap fault) refused = absurd refused
-  at_place names (BrokenSide fault) refused = absurd refused
-  at_place names (FileFault slot) refused = absurd refused
-  at_place names InputFault refused = absurd refused
-  at_place names (WriteFault slot) refused = absurd refused
-  at_place names OutFault refused = absurd refused
-  at_place names NoMemory refused = absurd refused
-  at_place names InputTooLarge refused = absurd refused
+  at_place names other refused = absurd refused
 
   -- where all are accepted, none is refused
   pub none_refused : (names : List (List ℕ)) (cs : List Collection) (outcome : Outcome) → FindsSegments names depot cs → IsRefusedAt names depot outcome → ⊥

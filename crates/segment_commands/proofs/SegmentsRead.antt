@@ -1,6 +1,6 @@
 -- Segments that are read one after the other.
 use Rattle.std.proofs.Common.{◌≡◌, refl, sym, ◌∙◌, ap, subst, ℕ, suc, ◌+◌, ◌-◌, ◌<◌, ◌≤◌, List, [], ◌∷◌, ◌++◌, length, take, get_or, inl, inr, arith}
-use Rattle.std.specs.Prelude.{◌≢◌, ◌==◌, ◌^◌, not, nat_lt, if◌then◌else◌, Bool, true, false, IsTrue, Some, None, unwrap_or, String, string_bytes}
+use Rattle.std.specs.Prelude.{◌≢◌, ◌⊎◌, ◌==◌, ◌^◌, not, nat_lt, if◌then◌else◌, Bool, true, false, IsTrue, Some, None, unwrap_or, String, string_bytes}
 use Rattle.std.specs.declared.alloc.Global.{Global}
 use Rattle.std.specs.List.{All}
 use Rattle.std.proofs.lemmas.Bool.{cases_lt, eqb-true, eqb-false, ltb-true, ltb-false, not-true}
@@ -24,12 +24,12 @@ use Rattle.command_model.specs.Found.{IsIndexSlot, AreOfWords, most_bytes}
 use Rattle.command_line.specs.Command.{texts}
 use Rattle.line_replies.specs.AnswerJoined.{collections_of}
 use Rattle.command_ends.specs.Outside.{OfFile}
-use Rattle.command_ends.specs.Outcome.{Outcome, Done, Usage, BrokenCollection, BrokenIndex, BrokenMap, BrokenSegment, UnfitSegment, FileFault, InputFault, WriteFault, OutFault, NoMemory, TooLarge, InputTooLarge, BrokenSide}
+use Rattle.command_ends.specs.Outcome.{Outcome, BrokenSegment, UnfitSegment, FileFault, NoMemory, TooLarge}
 use Rattle.command_ends.specs.Ends.{EndsByFault}
 use Rattle.command_ends.specs.FoundIndex.{FindsIndexOf, HasBroken, IsFirstBrokenOfFile}
-use Rattle.segment_commands.specs.FoundSegments.{no_collection, OnSegment, IsUnfit}
-use Rattle.segment_commands.specs.ReadingSegments.{ReadsSegmentsThen}
-use Rattle.segment_commands.specs.SegmentStarts.{raised, IsSegmentCount}
+use Rattle.command_ends.specs.FoundSegments.{no_collection, OnSegment, IsUnfit}
+use Rattle.command_ends.specs.Sources.{EndsAt, IndexesAt}
+use Rattle.command_ends.specs.SegmentStarts.{raised, IsSegmentCount}
 use Rattle.segment_commands.specs.Private.ReadSegments.{first_terms, pushed_of, IsAccepted, RejectedAs, IsRejected, AreAccepted, AreRejected}
 use Rattle.command_ends.proofs.Counted.{stays, Of}
 use Rattle.segment_commands.proofs.SegmentsFound.{come}
@@ -196,34 +196,25 @@ module _ (names : List (List ℕ)) (k : ℕ) (name : List ℕ) (before : Pushed)
           subst (λ n. most_bytes < length (bytes_under old n)) is
           (subst (λ bytes. most_bytes < length bytes) (bytes_stay old mid name accepted.reads t) (h (accepted.reads.tells ∙ t)))
 
-      told : (outcome : Outcome) → RejectedAs name k before mid outcome → ReadsSegmentsThen names old (λ other. other ≡ NoMemory) outcome × IsSegmentCount names old outcome (suc k)
+      told : (outcome : Outcome) → RejectedAs name k before mid outcome → (EndsAt (IndexesAt names) old outcome ⊎ (outcome ≡ NoMemory)) × IsSegmentCount names old outcome (suc k)
       told (BrokenSegment fault j) (e, broken) = (
-        λ t. subst (λ s. OnSegment names old s (λ cs n. HasBroken n old fault)) (sym e)
-            (on_segment (λ cs n. HasBroken n old fault) (subst (λ n. HasBroken n old fault) is (broken_before old mid name fault accepted.reads t (broken (accepted.reads.tells ∙ t))))),
+        inl (λ t. subst (λ s. OnSegment names old s (λ cs n. HasBroken n old fault)) (sym e)
+            (on_segment (λ cs n. HasBroken n old fault) (subst (λ n. HasBroken n old fault) is (broken_before old mid name fault accepted.reads t (broken (accepted.reads.tells ∙ t)))))),
         ap suc (sym e),
       )
       told (UnfitSegment rule j) (e, (c, found, unfit)) =
           let P : List Collection → List ℕ → Type 0 = λ cs n. (c : Collection) × FindsIndexOf n old c × IsUnfit cs c rule in (
-            subst (λ s. OnSegment names old s P) (sym e)
-                (on_segment P (c, subst (λ n. FindsIndexOf n old c) is (found_before old mid name c accepted.reads found), is_unfit cs c rule (ap (λ p. rule_broken p c.documents (length c.lists)) (sym accepted.pushed) ∙ unfit))),
+            inl (subst (λ s. OnSegment names old s P) (sym e)
+                (on_segment P (c, subst (λ n. FindsIndexOf n old c) is (found_before old mid name c accepted.reads found), is_unfit cs c rule (ap (λ p. rule_broken p c.documents (length c.lists)) (sym accepted.pushed) ∙ unfit)))),
             ap suc (sym e),
           )
-      told (FileFault slot) h = (h, (omega arith, omega (arith, lt)))
+      told (FileFault slot) h = (inl h, (omega arith, omega (arith, lt)))
       told (TooLarge slot) (h, far) = (
-        (h, λ t. (h, (k, on_segment (λ cs n. most_bytes < length (bytes_under old n)) (long t far)))),
+        inl (h, λ t. (h, (k, on_segment (λ cs n. most_bytes < length (bytes_under old n)) (long t far)))),
         (k, refl, lt, λ t. on_segment (λ cs n. most_bytes < length (bytes_under old n)) (long t far)),
       )
-      told NoMemory h = (refl, omega (arith, lt))
-      told Done h = absurd h
-      told Usage h = absurd h
-      told (BrokenCollection fault) h = absurd h
-      told (BrokenIndex fault) h = absurd h
-      told (BrokenMap fault) h = absurd h
-      told (BrokenSide fault) h = absurd h
-      told InputFault h = absurd h
-      told (WriteFault slot) h = absurd h
-      told OutFault h = absurd h
-      told InputTooLarge h = absurd h
+      told NoMemory h = (inr refl, omega (arith, lt))
+      told other h = absurd h
 
 -- the name of a segment
 pub name_at : (names : List (String Global)) (k : ℕ) (name : String Global) (text : List ℕ) → k < length names → name ≡ get_or names k name → text ≡ string_bytes name → text ≡ get_or (texts names) k []
@@ -232,7 +223,7 @@ name_at names k name text lt is so = so ∙ ap string_bytes is ∙ sym (get_or-m
 -- memory was refused behind some of them
 pub no_room : (names : List (List ℕ)) (k : ℕ) (pushed : Pushed) (old mid : DepotState) (files : List (List ℕ)) → AreAccepted names k pushed old mid files → k ≤ length names → AreRejected names old mid NoMemory
 no_room names k pushed old mid files accepted le = record {
-  ends = refl;
+  ends = inr refl;
   reads = accepted.reads;
   faults = stays (OfFile Index) NoMemory _ _ (λ h. let s : Of None (OfFile Index) = h in cc) accepted.faults;
   starts = (k, le, come names old (collections_of files) k k accepted.found (omega arith) le, accepted.starts);

@@ -3,14 +3,14 @@ ghost use Rattle.collection_model.specs.Collection.{Collection};
 ghost use Rattle.pef_io.specs.SinkState.{SinkState};
 ghost use Rattle.segments.specs.Segments.{Pushed};
 ghost use Rattle.command_line.specs.Command.{texts};
-ghost use Rattle.segment_commands.specs.FoundSegments.{FindsJoined};
+ghost use Rattle.command_ends.specs.FoundSegments.{FindsJoined};
 ghost use Rattle.command_ends.specs.Outside.{outside};
+ghost use Rattle.command_ends.specs.Sources.{IndexesAt, Starts};
 ghost use Rattle.command_ends.specs.Outcome.{is_refusal};
 ghost use Rattle.command_ends.specs.Steps.Leaves.{Leaves};
 ghost use Rattle.segment_commands.specs.Private.ReadSegments.{AreAccepted, AreRejected, IsAccepted, IsRejected};
 ghost use Rattle.command_ends.specs.Steps.Stops.{outcome_of, outcome_of_stop};
 ghost use Rattle.segment_commands.specs.AnswerSegments.{AnswersSegments};
-ghost use Rattle.segment_commands.specs.SegmentStarts.{StartsEach};
 
 use command_ends::{LONGEST_TEXT, Stop, load_index};
 use index_file::{Index, one_broken_check, one_index, words_and_bytes_undo_each_other};
@@ -28,7 +28,7 @@ pub fn answer_segments<D: Depot, I: Source, O: Sink>(
     input: &mut I,
     out: &mut O,
 ) -> Result<(), Stop>
-    ensures leaves { (e e' : SinkState) (costs : ℕ) → Leaves (AnswersSegments (texts indexes.now)) (StartsEach (texts indexes.now))
+    ensures leaves { (e e' : SinkState) (costs : ℕ) → Leaves (AnswersSegments (texts indexes.now)) (Starts (IndexesAt (texts indexes.now)))
         (outside (D.state depot.old) (I.state input.old) (O.state out.old) e costs)
         (outside (D.state depot.new) (I.state input.new) (O.state out.new) e' costs) (outcome_of result) }
     ensures refused { IsTrue (is_refusal (outcome_of result)) → (input.new ≡ input.old) × (out.new ≡ out.old) }

@@ -1,5 +1,4 @@
-mod SideLoaded
+mod SideFound
+mod SideRead
 mod SideWritten
-mod SideStarted
-mod SideRefused
 mod SideAnswered

@@ -1,5 +1,3 @@
-pub mod FoundSide
-pub mod ReadingSide
 pub mod Blocks
 pub mod BlockQuery
 pub mod Private

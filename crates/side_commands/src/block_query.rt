@@ -1,12 +1,13 @@
 ghost use Rattle.std.specs.Prelude.{◌≡◌, ℕ, IsTrue};
 ghost use Rattle.collection_model.specs.Collection.{Collection};
 ghost use Rattle.pef_io.specs.SinkState.{SinkState};
-ghost use Rattle.side_commands.specs.FoundSide.{FindsWithSide};
+ghost use Rattle.command_ends.specs.FoundSide.{FindsWithSide};
 ghost use Rattle.command_ends.specs.Outside.{outside};
+ghost use Rattle.command_ends.specs.Sources.{SideAt, Starts};
 ghost use Rattle.command_ends.specs.Outcome.{is_refusal};
 ghost use Rattle.command_ends.specs.Steps.Leaves.{Leaves};
 ghost use Rattle.command_ends.specs.Steps.Stops.{outcome_of};
-ghost use Rattle.side_commands.specs.BlockQuery.{QueriesBlocks, BlockQueryStarts};
+ghost use Rattle.side_commands.specs.BlockQuery.{QueriesBlocks};
 
 use crate::side_loading::load_side;
 use block_max::{Side, one_side_fault};
@@ -26,7 +27,7 @@ pub fn query_blocks<D: Depot, I: Source, O: Sink>(
     input: &mut I,
     out: &mut O,
 ) -> Result<(), Stop>
-    ensures leaves { (e e' : SinkState) (costs : ℕ) → Leaves (QueriesBlocks index.now side.now) BlockQueryStarts
+    ensures leaves { (e e' : SinkState) (costs : ℕ) → Leaves (QueriesBlocks index.now side.now) (Starts (SideAt index.now side.now))
         (outside (D.state depot.old) (I.state input.old) (O.state out.old) e costs)
         (outside (D.state depot.new) (I.state input.new) (O.state out.new) e' costs) (outcome_of result) }
     ensures refused { IsTrue (is_refusal (outcome_of result)) → (input.new ≡ input.old) × (out.new ≡ out.old) }

@@ -13,9 +13,9 @@ use Rattle.command_ends.specs.Outside.{OfFile}
 use Rattle.command_ends.specs.Outcome.{Outcome, BrokenSegment, UnfitSegment, FileFault, TooLarge, NoMemory}
 use Rattle.command_ends.specs.Ends.{EndsByFault}
 use Rattle.command_ends.specs.FoundIndex.{FindsIndexOf, HasBroken}
-use Rattle.segment_commands.specs.FoundSegments.{FindsSegments}
-use Rattle.segment_commands.specs.ReadingSegments.{ReadsSegmentsThen}
-use Rattle.segment_commands.specs.SegmentStarts.{raised, StartsInTurn}
+use Rattle.command_ends.specs.FoundSegments.{FindsSegments}
+use Rattle.command_ends.specs.Sources.{EndsAt, IndexesAt}
+use Rattle.command_ends.specs.SegmentStarts.{raised, StartsInTurn}
 
 -- how many terms the first of some collections has, where there is one
 abbrev pub first_terms : List Collection → Option ℕ
@@ -67,7 +67,7 @@ pub record AreAccepted (names : List (List ℕ)) (k : ℕ) (after : Pushed) (old
 
 -- A run ends before all segments are accepted.
 pub record AreRejected (names : List (List ℕ)) (old now : DepotState) (outcome : Outcome) : Type 0 where
-  pub ends : ReadsSegmentsThen names old (λ other. other ≡ NoMemory) outcome
+  pub ends : EndsAt (IndexesAt names) old outcome ⊎ (outcome ≡ NoMemory)
   pub reads : OnlyReads IsIndexSlot old now
   pub faults : EndsByFault (OfFile Index) outcome (old.faults Index) (now.faults Index)
   pub starts : StartsInTurn names outcome old now

@@ -4,15 +4,15 @@ use Rattle.std.proofs.lemmas.Result.{err_from_is_err_and}
 use Rattle.command_ends.specs.Outcome.{Outcome, is_refusal}
 use Rattle.index_commands.proofs.AuditPrinted.{audit_stops, audit_ended}
 use Rattle.command_ends.proofs.IndexLoaded.{lent_is_index, loaded_is_found}
-use Rattle.command_ends.proofs.IndexRefused.{refused}
+use Rattle.command_ends.proofs.IndexRead.{index_refused}
 use Rattle.command_ends.proofs.TextPrinted.{no_print_refuses}
 use Rattle.index_commands.proofs.auditing.audit.Goals as goal
 
 pub returns-in_err-words-clause-leaves : goal.returns-in_err-words-clause-leaves
 returns-in_err-words-clause-leaves g c = λ i e e'.
     let p = err_from_is_err_and c.from_residual.result c.from_residual.ensures.1 in
-    audit_stops c.args.index.now _ _ i _ e e' _ _
-    (refused c.args.index.now _ _ i _ e e' _ c.words_and_bytes_undo_each_other.ensures.read c.one_broken_check.ensures _ c.in_err-words.ensures.refused
+    audit_stops c.words_and_bytes_undo_each_other.ensures.read c.one_broken_check.ensures c.args.index.now _ _ i _ (g.O.Sink.state c.args.out.now) e e' _ c.args.steps.now _
+    (index_refused c.words_and_bytes_undo_each_other.ensures.read c.one_broken_check.ensures c.args.index.now _ _ i _ e e' _ _ c.in_err-words.ensures.refused
     c.from_residual.result (p.1 ∙ ap Err p.2))
 
 pub known-index-requires-clause-index : goal.known-index-requires-clause-index

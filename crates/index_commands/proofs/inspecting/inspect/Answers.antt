@@ -3,7 +3,7 @@ use Rattle.std.specs.Prelude.{IsTrue}
 use Rattle.std.proofs.lemmas.Result.{err_from_is_err_and}
 use Rattle.command_ends.specs.Outcome.{Outcome, is_refusal}
 use Rattle.command_ends.proofs.IndexLoaded.{lent_is_index, loaded_is_found}
-use Rattle.command_ends.proofs.IndexRefused.{refused}
+use Rattle.command_ends.proofs.IndexRead.{index_refused}
 use Rattle.command_ends.proofs.TextPrinted.{no_print_refuses}
 use Rattle.index_commands.proofs.SummaryPrinted.{inspect_stops, inspect_ended}
 use Rattle.index_commands.proofs.inspecting.inspect.Goals as goal
@@ -11,8 +11,8 @@ use Rattle.index_commands.proofs.inspecting.inspect.Goals as goal
 pub returns-in_err-words-clause-leaves : goal.returns-in_err-words-clause-leaves
 returns-in_err-words-clause-leaves g c = λ i e e' n.
     let p = err_from_is_err_and c.from_residual.result c.from_residual.ensures.1 in
-    inspect_stops c.args.index.now _ _ i _ e e' n _
-    (refused c.args.index.now _ _ i _ e e' n c.words_and_bytes_undo_each_other.ensures.read c.one_broken_check.ensures _ c.in_err-words.ensures.refused
+    inspect_stops c.words_and_bytes_undo_each_other.ensures.read c.one_broken_check.ensures c.args.index.now _ _ i _ (g.O.Sink.state c.args.out.now) e e' n _
+    (index_refused c.words_and_bytes_undo_each_other.ensures.read c.one_broken_check.ensures c.args.index.now _ _ i _ e e' n _ c.in_err-words.ensures.refused
     c.from_residual.result (p.1 ∙ ap Err p.2))
 
 pub known-index-requires-clause-index : goal.known-index-requires-clause-index

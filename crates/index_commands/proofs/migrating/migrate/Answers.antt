@@ -3,14 +3,14 @@ use Rattle.std.specs.List.{All}
 use Rattle.std.proofs.lemmas.Result.{err_from_is_err_and}
 use Rattle.command_ends.proofs.IndexLoaded.{lent_is_index}
 use Rattle.index_commands.proofs.IndexMigrated.{migrate_stops, migrate_unmade, migrate_ended}
-use Rattle.command_ends.proofs.IndexRefused.{refused}
+use Rattle.command_ends.proofs.IndexRead.{index_refused}
 use Rattle.index_commands.proofs.migrating.migrate.Goals as goal
 
 pub returns-in_err-words : goal.returns-in_err-words
 returns-in_err-words g c = λ i o e e'.
     let p = err_from_is_err_and c.from_residual.result c.from_residual.ensures.1 in
-    migrate_stops c.args.from.now c.args.to.now _ _ i o e e' _ _
-    (refused c.args.from.now _ _ i o e e' _ c.words_and_bytes_undo_each_other.ensures.read c.one_broken_check.ensures _ c.in_err-words.ensures.refused
+    migrate_stops c.words_and_bytes_undo_each_other.ensures.read c.one_broken_check.ensures c.args.from.now c.args.to.now _ _ i o e e' _ c.args.steps.now _
+    (index_refused c.words_and_bytes_undo_each_other.ensures.read c.one_broken_check.ensures c.args.from.now _ _ i o e e' _ _ c.in_err-words.ensures.refused
     c.from_residual.result (p.1 ∙ ap Err p.2))
 
 pub known-index-requires-clause-index : goal.known-index-requires-clause-index
@@ -20,14 +20,14 @@ pub returns-in_err-migrated : goal.returns-in_err-migrated
 returns-in_err-migrated g c = λ i o e e'.
     let p = err_from_is_err_and c.from_residual-in_err-migrated.result c.from_residual-in_err-migrated.ensures.1 in
     migrate_unmade c.words_and_bytes_undo_each_other.ensures.read c.one_broken_check.ensures c.args.from.now c.args.to.now _ _ i o e e' _ _
-    c.in_ok-words.words.items c.deref.result.now c.known-index.result c.migrated_words.result _ c.from_residual-in_err-migrated.result
-    c.in_ok-words.ensures.loaded c.deref.ensures.value c.known-index.ensures.spells c.migrated_words.ensures.too_large c.in_err-migrated.was (p.1 ∙ ap Err p.2)
+    c.in_ok-words.words.items c.deref.result.now c.known-index.result c.in_ok-words.ensures.loaded c.deref.ensures.value c.known-index.ensures.spells
+    c.migrated_words.result _ c.from_residual-in_err-migrated.result c.migrated_words.ensures.too_large c.in_err-migrated.was (p.1 ∙ ap Err p.2)
 
 pub returns : goal.returns
 returns g c = λ i o e e'.
     let P : List ℕ → Type 0 = λ ws. All (λ w. w < 2 ^ 64) ws in
-    migrate_ended c.words_and_bytes_undo_each_other.ensures.read c.one_broken_check.ensures c.args.from.now c.args.to.now _ _ _ i o e e' _ _
-    c.in_ok-words.words.items c.deref.result.now c.known-index.result c.in_ok-migrated.migrated.items c.deref-3.result.now c.write_words-written.result c.after_writing.result
-    c.in_ok-words.ensures.loaded c.deref.ensures.value c.known-index.ensures.spells
+    migrate_ended c.words_and_bytes_undo_each_other.ensures.read c.one_broken_check.ensures c.args.from.now c.args.to.now _ _ i o e e' _ _
+    c.in_ok-words.words.items c.deref.result.now c.known-index.result c.in_ok-words.ensures.loaded c.deref.ensures.value c.known-index.ensures.spells
+    _ c.in_ok-migrated.migrated.items c.deref-3.result.now c.write_words-written.result c.after_writing.result
     c.in_ok-migrated.ensures.words c.deref-3.ensures.value (subst P c.deref-2.ensures.value c.words_fit.ensures) c.write_words-written.ensures
     c.after_writing.ensures

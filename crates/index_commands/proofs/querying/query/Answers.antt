@@ -3,15 +3,15 @@ use Rattle.std.proofs.lemmas.Result.{err_from_is_err_and}
 use Rattle.command_ends.specs.Steps.Stops.{outcome_of}
 use Rattle.index_commands.proofs.IndexAnswered.{query_stops, query_ended}
 use Rattle.command_ends.proofs.IndexLoaded.{lent_is_index, loaded_is_found}
-use Rattle.command_ends.proofs.IndexRefused.{refused}
+use Rattle.command_ends.proofs.IndexRead.{index_refused}
 use Rattle.command_ends.proofs.TextAnswered.{text_outcome}
 use Rattle.index_commands.proofs.querying.query.Goals as goal
 
 pub returns-in_err-words-clause-leaves : goal.returns-in_err-words-clause-leaves
 returns-in_err-words-clause-leaves g c = λ e e' n.
     let p = err_from_is_err_and c.from_residual.result c.from_residual.ensures.1 in
-    query_stops c.args.index.now _ _ _ _ e e' n _
-    (refused c.args.index.now _ _ _ _ e e' n c.words_and_bytes_undo_each_other.ensures.read c.one_broken_check.ensures _ c.in_err-words.ensures.refused
+    query_stops c.words_and_bytes_undo_each_other.ensures.read c.one_broken_check.ensures c.args.index.now _ _ _ (g.I.Source.state c.args.input.now) _ (g.O.Sink.state c.args.out.now) e e' n _
+    (index_refused c.words_and_bytes_undo_each_other.ensures.read c.one_broken_check.ensures c.args.index.now _ _ _ _ e e' n _ c.in_err-words.ensures.refused
     c.from_residual.result (p.1 ∙ ap Err p.2))
 
 pub known-index-requires-clause-index : goal.known-index-requires-clause-index

@@ -1,8 +1,10 @@
-use Rattle.std.proofs.Common.{rules, ◌≡◌, refl, sym, ◌∙◌, ap, subst}
-use Rattle.std.specs.Prelude.{Option, Some, Result, Err}
+use Rattle.std.proofs.Common.{rules, ◌≡◌, ℕ, List, Bool, true, false, IsTrue, refl, sym, ◌∙◌, ap, subst}
+use Rattle.std.specs.Prelude.{Some, Result, Err}
 use Rattle.command_ends.specs.declared.stop.Stop.{Stop}
-use Rattle.command_line.specs.Command.{Command, command_of, texts}
-use Rattle.command_ends.specs.Outside.{outside}
+use Rattle.command_line.specs.Command.{command_of, texts}
+use Rattle.command_line.specs.declared.words.Command as words
+use Rattle.command_ends.specs.Outside.{Outside, outside}
+use Rattle.command_ends.specs.Outcome.{Outcome}
 use Rattle.command_line.specs.Asked.{asked}
 use Rattle.command_ends.specs.Steps.Leaves.{Leaves}
 use Rattle.command_ends.specs.Steps.Stops.{outcome_of, stop_of_words}
@@ -10,8 +12,14 @@ use Rattle.pef_top.proofs.Stopped.{stopped}
 use Rattle.pef_top.proofs.top.perform.Goals as goal
 use Rattle.pef_top.specs.Commands.{Performs}
 use Rattle.pef_top.specs.Starts.{Starts}
-use Rattle.pef_top.specs.Uncalled.{objects, Accepts, IsSilent, LeavesUncalled}
+use Rattle.pef_top.specs.Uncalled.{objects, Accepts, IsSilent, LeavesUncalled, Objects}
 use Rattle.command_ends.proofs.Counted.{not_true}
+
+-- what is left of the command that was asked is left of that of the words
+left : (ws : List (List ℕ)) (it other : words.Command) → it ≡ other → Some (asked it) ≡ command_of ws → (old new : Outside) (outcome : Outcome)
+    → Leaves (Performs (Some (asked other))) (Starts (Some (asked other))) old new outcome → Leaves (Performs (command_of ws)) (Starts (command_of ws)) old new outcome
+left ws it other is was old new outcome =
+    subst (λ command. Leaves (Performs command) (Starts command) old new outcome) (sym (ap (λ x. Some (asked x)) is) ∙ was)
 
 pub returns-in_err-command-clause-leaves : goal.returns-in_err-command-clause-leaves
 returns-in_err-command-clause-leaves g c = λ e e'.
@@ -28,85 +36,37 @@ build-requires g c =
     record { plain = c.words_name_plain_formats.ensures (texts c.args.words.now) _ _ _ (sym (sym (ap (λ x. Some (asked x)) c.in-Build.is) ∙ c.in_ok-command.ensures.command)) }
 
 pub returns-in-Build-clause-leaves : goal.returns-in-Build-clause-leaves
-returns-in-Build-clause-leaves g c = λ e e'.
-    let P : Option Command → Type 0 = λ command. Leaves (Performs command) (Starts command)
-    (outside (g.D.Depot.state c.args.depot.now) (g.I.Source.state c.args.input.now) (g.O.Sink.state c.args.out.now) e c.args.steps.now)
-    (outside (g.D.Depot.state c.build.new.depot) (g.I.Source.state c.args.input.now) (g.O.Sink.state c.args.out.now) e' c.build.new.steps) (outcome_of c.build.result) in
-    subst P (sym (ap (λ x. Some (asked x)) c.in-Build.is) ∙ c.in_ok-command.ensures.command) (c.build.ensures (g.I.Source.state c.args.input.now) (g.O.Sink.state c.args.out.now) e e')
+returns-in-Build-clause-leaves g c = λ e e'. left _ _ _ c.in-Build.is c.in_ok-command.ensures.command _ _ _ (c.build.ensures (g.I.Source.state c.args.input.now) (g.O.Sink.state c.args.out.now) e e')
 
 pub returns-in-Query-clause-leaves : goal.returns-in-Query-clause-leaves
-returns-in-Query-clause-leaves g c = λ e e'.
-    let P : Option Command → Type 0 = λ command. Leaves (Performs command) (Starts command)
-    (outside (g.D.Depot.state c.args.depot.now) (g.I.Source.state c.args.input.now) (g.O.Sink.state c.args.out.now) e c.args.steps.now)
-    (outside (g.D.Depot.state c.query.new.depot) (g.I.Source.state c.query.new.input) (g.O.Sink.state c.query.new.out) e' c.args.steps.now) (outcome_of c.query.result) in
-    subst P (sym (ap (λ x. Some (asked x)) c.in-Query.is) ∙ c.in_ok-command.ensures.command) (c.query.ensures.leaves e e' c.args.steps.now)
+returns-in-Query-clause-leaves g c = λ e e'. left _ _ _ c.in-Query.is c.in_ok-command.ensures.command _ _ _ (c.query.ensures.leaves e e' c.args.steps.now)
 
 pub returns-in-Inspect-clause-leaves : goal.returns-in-Inspect-clause-leaves
-returns-in-Inspect-clause-leaves g c = λ e e'.
-    let P : Option Command → Type 0 = λ command. Leaves (Performs command) (Starts command)
-    (outside (g.D.Depot.state c.args.depot.now) (g.I.Source.state c.args.input.now) (g.O.Sink.state c.args.out.now) e c.args.steps.now)
-    (outside (g.D.Depot.state c.inspect.new.depot) (g.I.Source.state c.args.input.now) (g.O.Sink.state c.inspect.new.out) e' c.args.steps.now) (outcome_of c.inspect.result) in
-    subst P (sym (ap (λ x. Some (asked x)) c.in-Inspect.is) ∙ c.in_ok-command.ensures.command) (c.inspect.ensures.leaves (g.I.Source.state c.args.input.now) e e' c.args.steps.now)
+returns-in-Inspect-clause-leaves g c = λ e e'. left _ _ _ c.in-Inspect.is c.in_ok-command.ensures.command _ _ _ (c.inspect.ensures.leaves (g.I.Source.state c.args.input.now) e e' c.args.steps.now)
 
 pub returns-in-Answer-clause-leaves : goal.returns-in-Answer-clause-leaves
-returns-in-Answer-clause-leaves g c = λ e e'.
-    let P : Option Command → Type 0 = λ command. Leaves (Performs command) (Starts command)
-    (outside (g.D.Depot.state c.args.depot.now) (g.I.Source.state c.args.input.now) (g.O.Sink.state c.args.out.now) e c.args.steps.now)
-    (outside (g.D.Depot.state c.answer.new.depot) (g.I.Source.state c.answer.new.input) (g.O.Sink.state c.answer.new.out) e' c.answer.new.steps) (outcome_of c.answer.result) in
-    subst P (sym (ap (λ x. Some (asked x)) c.in-Answer.is) ∙ c.in_ok-command.ensures.command) (c.answer.ensures.leaves e e')
+returns-in-Answer-clause-leaves g c = λ e e'. left _ _ _ c.in-Answer.is c.in_ok-command.ensures.command _ _ _ (c.answer.ensures.leaves e e')
 
 pub returns-in-Generate-clause-leaves : goal.returns-in-Generate-clause-leaves
-returns-in-Generate-clause-leaves g c = λ e e'.
-    let P : Option Command → Type 0 = λ command. Leaves (Performs command) (Starts command)
-    (outside (g.D.Depot.state c.args.depot.now) (g.I.Source.state c.args.input.now) (g.O.Sink.state c.args.out.now) e c.args.steps.now)
-    (outside (g.D.Depot.state c.args.depot.now) (g.I.Source.state c.args.input.now) (g.O.Sink.state c.generate.new.out) e' c.generate.new.steps) (outcome_of c.generate.result) in
-    subst P (sym (ap (λ x. Some (asked x)) c.in-Generate.is) ∙ c.in_ok-command.ensures.command)
-    (c.generate.ensures.leaves (g.D.Depot.state c.args.depot.now) (g.I.Source.state c.args.input.now) e e')
+returns-in-Generate-clause-leaves g c = λ e e'. left _ _ _ c.in-Generate.is c.in_ok-command.ensures.command _ _ _ (c.generate.ensures.leaves (g.D.Depot.state c.args.depot.now) (g.I.Source.state c.args.input.now) e e')
 
 pub returns-in-Migrate-clause-leaves : goal.returns-in-Migrate-clause-leaves
-returns-in-Migrate-clause-leaves g c = λ e e'.
-    let P : Option Command → Type 0 = λ command. Leaves (Performs command) (Starts command)
-    (outside (g.D.Depot.state c.args.depot.now) (g.I.Source.state c.args.input.now) (g.O.Sink.state c.args.out.now) e c.args.steps.now)
-    (outside (g.D.Depot.state c.migrate.new.depot) (g.I.Source.state c.args.input.now) (g.O.Sink.state c.args.out.now) e' c.migrate.new.steps) (outcome_of c.migrate.result) in
-    subst P (sym (ap (λ x. Some (asked x)) c.in-Migrate.is) ∙ c.in_ok-command.ensures.command)
-    (c.migrate.ensures (g.I.Source.state c.args.input.now) (g.O.Sink.state c.args.out.now) e e')
+returns-in-Migrate-clause-leaves g c = λ e e'. left _ _ _ c.in-Migrate.is c.in_ok-command.ensures.command _ _ _ (c.migrate.ensures (g.I.Source.state c.args.input.now) (g.O.Sink.state c.args.out.now) e e')
 
 pub returns-in-Audit-clause-leaves : goal.returns-in-Audit-clause-leaves
-returns-in-Audit-clause-leaves g c = λ e e'.
-    let P : Option Command → Type 0 = λ command. Leaves (Performs command) (Starts command)
-    (outside (g.D.Depot.state c.args.depot.now) (g.I.Source.state c.args.input.now) (g.O.Sink.state c.args.out.now) e c.args.steps.now)
-    (outside (g.D.Depot.state c.audit.new.depot) (g.I.Source.state c.args.input.now) (g.O.Sink.state c.audit.new.out) e' c.audit.new.steps) (outcome_of c.audit.result) in
-    subst P (sym (ap (λ x. Some (asked x)) c.in-Audit.is) ∙ c.in_ok-command.ensures.command) (c.audit.ensures.leaves (g.I.Source.state c.args.input.now) e e')
+returns-in-Audit-clause-leaves g c = λ e e'. left _ _ _ c.in-Audit.is c.in_ok-command.ensures.command _ _ _ (c.audit.ensures.leaves (g.I.Source.state c.args.input.now) e e')
 
 pub returns-in-Blocks-clause-leaves : goal.returns-in-Blocks-clause-leaves
-returns-in-Blocks-clause-leaves g c = λ e e'.
-    let P : Option Command → Type 0 = λ command. Leaves (Performs command) (Starts command)
-    (outside (g.D.Depot.state c.args.depot.now) (g.I.Source.state c.args.input.now) (g.O.Sink.state c.args.out.now) e c.args.steps.now)
-    (outside (g.D.Depot.state c.write_blocks.new.depot) (g.I.Source.state c.args.input.now) (g.O.Sink.state c.args.out.now) e' c.args.steps.now) (outcome_of c.write_blocks.result) in
-    subst P (sym (ap (λ x. Some (asked x)) c.in-Blocks.is) ∙ c.in_ok-command.ensures.command)
-    (c.write_blocks.ensures (g.I.Source.state c.args.input.now) (g.O.Sink.state c.args.out.now) e e' c.args.steps.now)
+returns-in-Blocks-clause-leaves g c = λ e e'. left _ _ _ c.in-Blocks.is c.in_ok-command.ensures.command _ _ _ (c.write_blocks.ensures (g.I.Source.state c.args.input.now) (g.O.Sink.state c.args.out.now) e e' c.args.steps.now)
 
 pub returns-in-BlockQuery-clause-leaves : goal.returns-in-BlockQuery-clause-leaves
-returns-in-BlockQuery-clause-leaves g c = λ e e'.
-    let P : Option Command → Type 0 = λ command. Leaves (Performs command) (Starts command)
-    (outside (g.D.Depot.state c.args.depot.now) (g.I.Source.state c.args.input.now) (g.O.Sink.state c.args.out.now) e c.args.steps.now)
-    (outside (g.D.Depot.state c.query_blocks.new.depot) (g.I.Source.state c.query_blocks.new.input) (g.O.Sink.state c.query_blocks.new.out) e' c.args.steps.now) (outcome_of c.query_blocks.result) in
-    subst P (sym (ap (λ x. Some (asked x)) c.in-BlockQuery.is) ∙ c.in_ok-command.ensures.command) (c.query_blocks.ensures.leaves e e' c.args.steps.now)
+returns-in-BlockQuery-clause-leaves g c = λ e e'. left _ _ _ c.in-BlockQuery.is c.in_ok-command.ensures.command _ _ _ (c.query_blocks.ensures.leaves e e' c.args.steps.now)
 
 pub returns-in-Remap-clause-leaves : goal.returns-in-Remap-clause-leaves
-returns-in-Remap-clause-leaves g c = λ e e'.
-    let P : Option Command → Type 0 = λ command. Leaves (Performs command) (Starts command)
-    (outside (g.D.Depot.state c.args.depot.now) (g.I.Source.state c.args.input.now) (g.O.Sink.state c.args.out.now) e c.args.steps.now)
-    (outside (g.D.Depot.state c.reorder.new.depot) (g.I.Source.state c.args.input.now) (g.O.Sink.state c.args.out.now) e' c.args.steps.now) (outcome_of c.reorder.result) in
-    subst P (sym (ap (λ x. Some (asked x)) c.in-Remap.is) ∙ c.in_ok-command.ensures.command)
-    (c.reorder.ensures (g.I.Source.state c.args.input.now) (g.O.Sink.state c.args.out.now) e e' c.args.steps.now)
+returns-in-Remap-clause-leaves g c = λ e e'. left _ _ _ c.in-Remap.is c.in_ok-command.ensures.command _ _ _ (c.reorder.ensures (g.I.Source.state c.args.input.now) (g.O.Sink.state c.args.out.now) e e' c.args.steps.now)
 
 pub returns-in-Segments-clause-leaves : goal.returns-in-Segments-clause-leaves
-returns-in-Segments-clause-leaves g c = λ e e'.
-    let P : Option Command → Type 0 = λ command. Leaves (Performs command) (Starts command)
-    (outside (g.D.Depot.state c.args.depot.now) (g.I.Source.state c.args.input.now) (g.O.Sink.state c.args.out.now) e c.args.steps.now)
-    (outside (g.D.Depot.state c.answer_segments.new.depot) (g.I.Source.state c.answer_segments.new.input) (g.O.Sink.state c.answer_segments.new.out) e' c.args.steps.now) (outcome_of c.answer_segments.result) in
-    subst P (sym (ap (λ x. Some (asked x)) c.in-Segments.is) ∙ c.in_ok-command.ensures.command) (c.answer_segments.ensures.leaves e e' c.args.steps.now)
+returns-in-Segments-clause-leaves g c = λ e e'. left _ _ _ c.in-Segments.is c.in_ok-command.ensures.command _ _ _ (c.answer_segments.ensures.leaves e e' c.args.steps.now)
 
 -- neither the input nor out was called
 silent : {D I O : Type 0} (depot depot' : D) (input input' : I) (out out' : O) → (input' ≡ input) × (out' ≡ out)

@@ -5,7 +5,7 @@ use Rattle.pef_io.specs.Calls.{one_more}
 use Rattle.pef_io.specs.DepotState.{DepotState, bytes_under}
 use Rattle.command_model.specs.Found.{IsIndexSlot, most_bytes}
 use Rattle.command_ends.specs.Outcome.{Outcome, BrokenSegment, UnfitSegment, FileFault, NoMemory, TooLarge}
-use Rattle.segment_commands.specs.FoundSegments.{OnSegment}
+use Rattle.command_ends.specs.FoundSegments.{OnSegment}
 
 -- a count that was raised so often
 abbrev pub raised : ℕ → ℕ → ℕ

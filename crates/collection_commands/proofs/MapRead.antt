@@ -1,0 +1,191 @@
+-- A collection and an order of its documents: they are refused in one way only, and in none where they stand there; and what a run leaves at them.
+use Rattle.std.proofs.Common.{◌≡◌, ℕ, ◌<◌, ◌^◌, refl, sym, ◌∙◌, ap, subst, List, length, inl, inr, ◌⊎◌, arith}
+use Rattle.std.specs.Prelude.{◌≢◌, IsTrue, Some, Result, Ok, Err}
+use Rattle.collection_model.specs.FormatNumbers.{FormatNumbers}
+use Rattle.collection_model.specs.Bytes.{number_sequence}
+use Rattle.collection_model.specs.Collection.{Collection}
+use Rattle.collection_model.specs.Laws.{OneCollection}
+use Rattle.part_cost.specs.declared.formats.Format.TheVariants.{Two}
+use Rattle.pef_io.specs.declared.fail.Slot.{Slot}
+use Rattle.pef_io.specs.declared.fail.Slot.TheVariants.{Map}
+use Rattle.pef_io.specs.DepotState.{DepotState, bytes_under}
+use Rattle.pef_io.specs.SourceState.{SourceState}
+use Rattle.pef_io.specs.SinkState.{SinkState}
+use Rattle.collection_reader.specs.declared.fault.Fault.{Fault}
+use Rattle.collection_reader.specs.ReadCollection.{IsCollectionSlot}
+use Rattle.remap.specs.declared.fault.MapFault.{MapFault}
+use Rattle.remap.specs.MapFaults.{IsMapFault}
+use Rattle.remap.specs.ReadMap.{OneMapFault}
+use Rattle.command_model.specs.Found.{FindsCollection}
+use Rattle.command_model.specs.FoundMap.{remap_numbers, HasMapFault, IsCollectionOrMap}
+use Rattle.command_model.specs.FilesWritten.{NamedFile}
+use Rattle.remapped_files.specs.declared.image.ImageError.{ImageError}
+use Rattle.remapped_files.specs.declared.image.ImageError.TheVariants as making
+use Rattle.remapped_files.specs.MakeImage.{MakesImage}
+use Rattle.command_ends.specs.Outside.{outside, OfFile}
+use Rattle.command_ends.specs.Outcome.{Outcome, BrokenCollection, BrokenMap, FileFault, NoMemory, fault_of}
+use Rattle.command_ends.specs.Ends.{EndsByFault}
+use Rattle.command_ends.specs.Sources.{CollectionAt, EndsAt, IsRefusedAs, MapAt, Stands, Starts}
+use Rattle.command_ends.specs.Starts.{StartsOnly}
+use Rattle.command_ends.specs.Steps.Stops.{outcome_of_stop, stop_of_image}
+use Rattle.command_ends.proofs.Counted.{Of, not_true, second}
+use Rattle.command_ends.proofs.SourceRead as source
+use Rattle.command_ends.proofs.SourceRead.{IsRead, IsStill, IsUnread, was_read}
+use Rattle.collection_commands.proofs.BuildRefused.{FaultLaws, collection_laws}
+
+-- the laws of collections and of maps
+pub record Laws : Type 0 where
+  pub faults : FaultLaws
+  pub one : OneCollection remap_numbers
+  pub maps : OneMapFault
+
+-- ---- the source
+
+module _ (laws : Laws) (base map : List ℕ) where
+  alone : source.Laws (CollectionAt remap_numbers base)
+  alone = collection_laws laws.faults Two base
+
+  -- a collection that stands there is not refused
+  accepted : {P : Type 0} (d : DepotState) → IsTrue d.tells → (c : Collection) → FindsCollection remap_numbers base d c → (fault : Fault)
+      → IsRefusedAs (CollectionAt remap_numbers base) d (BrokenCollection fault) → P
+  accepted d t c found fault x = absurd (alone.none d (t, (c, found)) (BrokenCollection fault) x)
+
+  same : (d : DepotState) → IsTrue d.tells → (c e : Collection) → FindsCollection remap_numbers base d c → FindsCollection remap_numbers base d e → c ≡ e
+  same d t c e f g = laws.one c e f.well_formed g.well_formed (sym (f.files t) ∙ g.files t)
+
+  one : (d : DepotState) → IsTrue d.tells → (a b : Outcome) → IsRefusedAs (MapAt base map) d a → IsRefusedAs (MapAt base map) d b → a ≡ b
+  one d t (BrokenCollection f) (BrokenCollection g) x y = alone.one d t (BrokenCollection f) (BrokenCollection g) x y
+  one d t (BrokenCollection f) (BrokenMap g) x y = accepted d t y.0.0 y.0.1 f x
+  one d t (BrokenCollection f) b x y = absurd y
+  one d t (BrokenMap f) (BrokenCollection g) x y = accepted d t x.0.0 x.0.1 g y
+  one d t (BrokenMap f) (BrokenMap g) x y =
+      let p = x.1 t in
+      let q = y.1 t in
+      let broken : IsMapFault p.0.documents (bytes_under d map) g = subst (λ (c : Collection). IsMapFault c.documents (bytes_under d map) g) (same d t q.0 p.0 q.1 p.1) q.2 in
+      ap BrokenMap (laws.maps.one p.0.documents (bytes_under d map) f g p.2 broken)
+  one d t (BrokenMap f) b x y = absurd y
+  one d t a b x y = absurd x
+
+  none : (d : DepotState) → Stands (MapAt base map) d → (a : Outcome) → IsRefusedAs (MapAt base map) d a → ⊥
+  none d (t, (c, (ids, both))) (BrokenCollection f) x = accepted d t c both.collection f x
+  none d (t, (c, (ids, both))) (BrokenMap f) x =
+      let p = x.1 t in
+      let order = both.order in
+      let here : IsMapFault c.documents (bytes_under d map) f = subst (λ (e : Collection). IsMapFault e.documents (bytes_under d map) f) (same d t p.0 c p.1 both.collection) p.2 in
+      let broken : IsMapFault (length ids) (number_sequence ids) f =
+      subst (λ n. IsMapFault n (number_sequence ids) f) (sym order.each) (subst (λ bytes. IsMapFault c.documents bytes f) (order.bytes t) here) in
+      laws.maps.none_in_order ids f order.new_ids (omega (arith, order.each, both.collection.well_formed.documents)) broken
+  none d stands a x = x
+
+  pub map_laws : source.Laws (MapAt base map)
+  map_laws = record { one = one; none = none }
+
+-- ---- the files are not made
+
+-- how a run ends whose files are not made
+abbrev pub unmade : ImageError → Outcome
+unmade e = outcome_of_stop (stop_of_image e)
+
+abbrev refused : ImageError → Result (List NamedFile) ImageError
+refused e = Err e
+
+same_error : (e f : ImageError) → refused e ≡ refused f → e ≡ f
+same_error e f h = cc
+
+is_read : (e : ImageError) (slot : Slot) → Of (fault_of (unmade e)) (OfFile slot) → e ≡ making.Read slot
+is_read (making.Read other) slot h = let s : Of (Some (OfFile other)) (OfFile slot) = h in cc
+is_read (making.Broken f) slot h = cc
+is_read (making.BrokenMap f) slot h = cc
+is_read making.NoMemory slot h = cc
+
+is_map : (slot : Slot) → (slot ≡ Map) ⊎ (slot ≢ Map)
+is_map Map = inl refl
+is_map slot = inr (λ h. cc)
+
+module _ (base map to : List ℕ) (d d1 : DepotState) where
+  -- a collection that is refused starts no map
+  broken_starts : (fault : Fault) → MakesImage base map to d d1 (Err (making.Broken fault)) → StartsOnly IsCollectionSlot (BrokenCollection fault) d d1
+  broken_starts fault w = record {
+    none_twice = w.none_twice;
+    no_others = λ slot other. elim (is_map slot) as (λ _. d1.starts slot ≡ d.starts slot) [
+      | inl is ↦ subst (λ s. d1.starts s ≡ d.starts s) (sym is) (w.map_not_started fault refl)
+      | inr no_map ↦ w.reads.other_starts slot (λ h. elim h [ inl c ↦ other c | inr m ↦ no_map m ])
+    ];
+    once = λ files memory. w.started_once (λ slot h. let bad : making.Broken fault ≡ making.Read slot = same_error _ _ h in cc) (λ h. let bad : making.Broken fault ≡ making.NoMemory = same_error _ _ h in cc);
+    refusals = elim w.refusals_rise_only_there [ inl h ↦ let bad : making.Broken fault ≡ making.NoMemory = same_error _ _ h in cc | inr same ↦ inr same ];
+  }
+
+  module _ (error : ImageError) (w : MakesImage base map to d d1 (Err error)) where
+    -- any other refusal has come to all four files, where no call and no memory was refused
+    all_starts : ((fault : Fault) → error ≢ making.Broken fault) → StartsOnly IsCollectionOrMap (unmade error) d d1
+    all_starts sound = record {
+      none_twice = w.none_twice;
+      no_others = λ slot other. w.reads.other_starts slot other;
+      once = λ files memory slot is.
+          let not_read : (slot : Slot) → refused error ≢ refused (making.Read slot) = λ slot h. files slot (ap unmade (same_error error (making.Read slot) h)) in
+          let not_wanted : refused error ≢ refused making.NoMemory = λ h. memory (ap unmade (same_error error making.NoMemory h)) in
+          elim is [
+            | inl c ↦ w.started_once not_read not_wanted slot c
+            | inr m ↦ w.map_started_once not_read not_wanted (λ fault h. sound fault (same_error error (making.Broken fault) h)) slot m
+          ];
+      refusals = elim w.refusals_rise_only_there [ inl h ↦ inl (ap unmade (same_error error making.NoMemory h)) | inr same ↦ inr same ];
+    }
+
+    slot_ends : (slot : Slot) → EndsByFault (OfFile slot) (unmade error) (d.faults slot) (d1.faults slot)
+    slot_ends slot = record {
+      only_where_it_rose = λ is. (w.read_only_where_it_rose slot (ap refused (is_read error slot is))).1;
+      changes_only_there = elim (w.count_rises_only_there slot) [
+        | inl is ↦ inl (ap (λ x. fault_of (unmade x)) (same_error error (making.Read slot) is))
+        | inr same ↦ inr same
+      ];
+      never_falls = w.reads.never_fall slot;
+    }
+
+  module _ (i : SourceState) (o e e' : SinkState) (s : ℕ) where
+    abbrev Unread : Outcome → Type 0
+    Unread outcome = IsUnread (MapAt base map) (outside d i o e s) (outside d1 i o e' s) outcome
+
+    unread : (error : ImageError) → MakesImage base map to d d1 (Err error) → Starts (MapAt base map) (unmade error) d d1
+        → EndsAt (MapAt base map) d (unmade error) ⊎ (unmade error ≡ NoMemory) → Unread (unmade error)
+    unread error w started ends = (ends, record { reads = w.reads; starts = started; files = slot_ends error w; input = refl; out = refl })
+
+    pub image_unmade : (error : ImageError) → MakesImage base map to d d1 (Err error) → Unread (unmade error)
+    image_unmade (making.Broken fault) w = unread (making.Broken fault) w (broken_starts fault w) (inl (λ t. w.first_fault t fault refl))
+    image_unmade (making.BrokenMap fault) w =
+        unread (making.BrokenMap fault) w (all_starts (making.BrokenMap fault) w (λ f h. cc)) (inl (w.accepted_at_map fault refl, λ t. w.first_map_fault t fault refl))
+    image_unmade (making.Read slot) w =
+        unread (making.Read slot) w (all_starts (making.Read slot) w (λ f h. cc)) (inl (elim (w.read_only_where_it_rose slot refl).0 [
+          | inl is ↦ inl is
+          | inr is ↦ inr (is, w.accepted_at_read (ap (λ s. refused (making.Read s)) is))
+        ]))
+    image_unmade making.NoMemory w = unread making.NoMemory w (all_starts making.NoMemory w (λ f h. cc)) (inr refl)
+
+-- ---- they are made
+
+module _ (base map to : List ℕ) (d d1 : DepotState) (files : List NamedFile) (w : MakesImage base map to d d1 (Ok files)) where
+  not_refused : (error : ImageError) → ◌≡◌ {A = Result (List NamedFile) ImageError} (Ok files) (Err error) → ⊥
+  not_refused error h = cc
+
+  pub starts_made : (outcome : Outcome) → StartsOnly IsCollectionOrMap outcome d d1
+  starts_made outcome = record {
+    none_twice = w.none_twice;
+    no_others = λ slot other. w.reads.other_starts slot other;
+    once = λ is_read is_wanted slot is. elim is [
+      | inl c ↦ w.started_once (λ s. not_refused (making.Read s)) (not_refused making.NoMemory) slot c
+      | inr m ↦ w.map_started_once (λ s. not_refused (making.Read s)) (not_refused making.NoMemory) (λ fault. not_refused (making.Broken fault)) slot m
+    ];
+    refusals = inr (second w.refusals_rise_only_there (not_refused making.NoMemory));
+  }
+
+  -- both were read
+  both_started : (outcome : Outcome) → IsTrue (was_read outcome) → Starts (MapAt base map) outcome d d1
+  both_started (BrokenCollection fault) read = absurd (not_true read)
+  both_started outcome read = starts_made outcome
+
+  pub map_read : IsRead (MapAt base map) d d1
+  map_read = record {
+    accepted = (w.files.0, (w.files.1, w.files.3));
+    reads = w.reads;
+    starts = both_started;
+    counts = λ slot. second (w.count_rises_only_there slot) (not_refused (making.Read slot));
+  }

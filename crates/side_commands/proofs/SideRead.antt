@@ -1,0 +1,241 @@
+-- What a run leaves at an index and its side file: it came to no index, or to no side file, or both were read.
+use Rattle.std.proofs.Common.{◌≡◌, ℕ, ◌≤◌, ◌<◌, refl, sym, ◌∙◌, ap, subst, List, [], length, inl, inr}
+use Rattle.std.specs.Prelude.{◌≢◌, ◌%◌, IsTrue, Ok, Err, unwrap_or}
+use Rattle.part_cost.specs.Formats.{numbers_of}
+use Rattle.pef_io.specs.declared.fail.Slot.{Slot}
+use Rattle.pef_io.specs.declared.fail.Slot.TheVariants.{Index, Side}
+use Rattle.pef_io.specs.Calls.{one_more}
+use Rattle.pef_io.specs.DepotState.{DepotState, OnlyReads, bytes_under}
+use Rattle.pef_io.specs.SourceState.{SourceState}
+use Rattle.pef_io.specs.SinkState.{SinkState}
+use Rattle.pef_io.proofs.OnlyReads.{OnlyReads-trans, OnlyReads-wider}
+use Rattle.index_file.specs.FileWords.{Spells}
+use Rattle.index_file.specs.IndexView.{IndexView}
+use Rattle.block_max.specs.declared.fault.SideFault.{SideFault}
+use Rattle.block_max.specs.SideFaults.{IsFirstSideFault}
+use Rattle.index_blocks.specs.BlockLists.{blocks_of_index}
+use Rattle.command_model.specs.Found.{AreOfWords, IsIndexSlot, most_bytes}
+use Rattle.word_files.specs.declared.loading.LoadWordsError.{LoadWordsError}
+use Rattle.word_files.specs.declared.loading.LoadWordsError.TheVariants as loading
+use Rattle.word_files.specs.LoadWords.{LoadsWords}
+use Rattle.command_ends.specs.declared.stop.Stop.{Stop}
+use Rattle.command_ends.specs.declared.stop.Stop.TheVariants as stop
+use Rattle.command_ends.specs.Outside.{Count, Outside, outside, OfFile}
+use Rattle.command_ends.specs.Outcome.{Outcome, Done, BrokenIndex, BrokenSide, FileFault, NoMemory, TooLarge, fault_of}
+use Rattle.command_ends.specs.Ends.{EndsByFault, IsStopped}
+use Rattle.command_ends.specs.FoundIndex.{FindsIndex}
+use Rattle.command_ends.specs.FoundSide.{FindsWithSide, HasBrokenSide, IsFirstSideFaultOfFile, IsIndexOrSide, IsSideSlot}
+use Rattle.command_ends.specs.Sources.{Accepts, EndsAt, IndexAt, SideAt, Starts}
+use Rattle.command_ends.specs.Starts.{StartsOnly}
+use Rattle.command_ends.specs.Steps.LoadedIndex.{IsLoaded}
+use Rattle.command_ends.specs.Steps.Stops.{outcome_of_stop}
+use Rattle.command_ends.proofs.Counted.{Of, by_slot, not_true, second, stays}
+use Rattle.command_ends.proofs.IndexLoaded.{found_parts, is_even, is_ragged, lent_index}
+use Rattle.command_ends.proofs.SourceRead.{IsRead, IsStill, IsUnread, was_read}
+use Rattle.command_ends.proofs.WordsLoaded.{even, loaded_counts, short, slots_unloaded, starts, unloaded_starts}
+use Rattle.side_commands.specs.Private.LoadedSide.{IsLoadedSide, IsUnloadedSide, ragged_side, stop_of_side}
+use Rattle.side_commands.proofs.SideFound.{Checked, Laws}
+
+-- An index was loaded from the file under the name.
+pub record IsOpened (index : List ℕ) (d d1 : DepotState) (view : IndexView) : Type 0 where
+  pub words : List ℕ
+  pub loads : LoadsWords Index index d d1 (Ok words)
+  pub spells : Spells (numbers_of view.format) words view.collection view.parts
+
+-- the words that were loaded, as they are lent, are one
+pub is_opened : (index : List ℕ) (d d1 : DepotState) (words lent : List ℕ) (view : IndexView) → IsLoaded index d d1 words → lent ≡ words
+    → Spells (numbers_of view.format) lent view.collection view.parts → IsOpened index d d1 view
+is_opened index d d1 words lent view w lends spells = record { words = lent; loads = lent_index index d d1 words lent w lends; spells = spells }
+
+-- a side file that is no whole words is no failed call
+no_fault : (count : Count) → ¬ Of (fault_of (BrokenSide ragged_side)) count
+no_fault count h = cc
+
+-- ---- what is started
+
+-- the index alone, where a call on its file failed or memory was refused
+widened : (outcome : Outcome) (d d' : DepotState) → IsStopped outcome → StartsOnly IsIndexSlot outcome d d' → StartsOnly IsIndexOrSide outcome d d'
+widened outcome d d' why s = record {
+  none_twice = s.none_twice;
+  no_others = λ slot other. s.no_others slot (λ is. other (inl is));
+  once = λ files memory slot is. elim why [ inl file ↦ absurd (files file.0 file.1) | inr refused ↦ absurd (memory refused) ];
+  refusals = s.refusals;
+}
+
+not_side : (slot : Slot) → slot ≡ Index → slot ≢ Side
+not_side slot is h = let bad : Index ≡ Side = sym is ∙ h in cc
+
+not_index : (slot : Slot) → slot ≡ Side → slot ≢ Index
+not_index slot is h = let bad : Side ≡ Index = sym is ∙ h in cc
+
+-- both, by a run that was not refused the index
+both_started : (index side : List ℕ) (d d2 : DepotState) (outcome : Outcome) → IsTrue (was_read outcome) → StartsOnly IsIndexOrSide outcome d d2 → Starts (SideAt index side) outcome d d2
+both_started index side d d2 (BrokenIndex fault) read s = absurd (not_true read)
+both_started index side d d2 (TooLarge Index) read s = absurd (not_true read)
+both_started index side d d2 outcome read s = s
+
+-- ---- no index was read
+
+-- how a run ends at the index it ends at the two
+at_index : (index side : List ℕ) (d : DepotState) (outcome : Outcome) → EndsAt (IndexAt index) d outcome → EndsAt (SideAt index side) d outcome
+at_index index side d (BrokenIndex fault) h = h
+at_index index side d (FileFault slot) h = inl h
+at_index index side d (TooLarge slot) h = inl h
+at_index index side d outcome h = absurd h
+
+index_started : (index side : List ℕ) (d d1 : DepotState) (outcome : Outcome) → EndsAt (IndexAt index) d outcome → StartsOnly IsIndexSlot outcome d d1
+    → Starts (SideAt index side) outcome d d1
+index_started index side d d1 (BrokenIndex fault) h s = s
+index_started index side d d1 (FileFault slot) h s = widened (FileFault slot) d d1 (inl (slot, refl)) s
+index_started index side d d1 (TooLarge Index) h s = s
+index_started index side d d1 (TooLarge slot) h s = let bad : slot ≡ Index = h.0 in cc
+index_started index side d d1 outcome h s = absurd h
+
+pub as_unread : (index side : List ℕ) (old new : Outside) (outcome : Outcome) → IsUnread (IndexAt index) old new outcome → IsUnread (SideAt index side) old new outcome
+as_unread index side old new outcome (why, w) = (
+  elim why [ inl at ↦ inl (at_index index side old.depot outcome at) | inr memory ↦ inr memory ],
+  record {
+    reads = OnlyReads-wider (λ slot is. inl is) w.reads;
+    starts = elim why [
+      | inl at ↦ index_started index side old.depot new.depot outcome at w.starts
+      | inr memory ↦
+          subst (λ x. Starts (SideAt index side) x old.depot new.depot) (sym memory)
+          (widened NoMemory old.depot new.depot (inr refl) (subst (λ x. StartsOnly IsIndexSlot x old.depot new.depot) memory w.starts))
+    ];
+    files = w.files;
+    input = w.input;
+    out = w.out;
+  },
+)
+
+-- ---- an index was loaded
+
+module _ (laws : Laws) (index side : List ℕ) (d d1 : DepotState) (view : IndexView) (opened : IsOpened index d d1 view) where
+  found : FindsIndex (numbers_of view.format) index d view.collection view.parts
+  found = found_parts index d d1 opened.words opened.loads view opened.spells
+
+  has_index : Accepts (IndexAt index) d
+  has_index = (view.collection, (view.format, view.parts, found))
+
+  -- memory was refused to the table of its blocks
+  pub no_table : (i : SourceState) (o e e' : SinkState) (n : ℕ) → IsUnread (SideAt index side) (outside d i o e n) (outside d1 i o e' n) NoMemory
+  no_table i o e e' n = (
+    inr refl,
+    record {
+      reads = OnlyReads-wider (λ slot is. inl is) opened.loads.reads;
+      starts = widened NoMemory d d1 (inr refl) (starts Index index d d1 opened.words opened.loads NoMemory);
+      files = λ slot. stays (OfFile slot) NoMemory _ _ (λ h. cc) (loaded_counts Index index d d1 opened.words opened.loads slot);
+      input = refl;
+      out = refl;
+    },
+  )
+
+  -- the side file is as it was
+  over_same : (P : List ℕ → Type 0) → IsTrue d.tells → P (bytes_under d1 side) → P (bytes_under d side)
+  over_same P t p = subst P (ap (λ file. unwrap_or file []) (opened.loads.reads.files t side)) p
+
+  module _ (d2 : DepotState) where
+    both_read : OnlyReads IsSideSlot d1 d2 → OnlyReads IsIndexOrSide d d2
+    both_read r = OnlyReads-trans (OnlyReads-wider (λ slot is. inl is) opened.loads.reads) (OnlyReads-wider (λ slot is. inr is) r)
+
+    both_start : (outcome : Outcome) → StartsOnly IsSideSlot outcome d1 d2 → StartsOnly IsIndexOrSide outcome d d2
+    both_start outcome s =
+        let w = opened.loads in
+        let first : StartsOnly IsIndexSlot Done d d1 = starts Index index d d1 opened.words w Done in
+        record {
+          none_twice = by_slot Side (λ slot. d2.starts slot ≤ one_more (d.starts slot))
+              (subst (λ n. d2.starts Side ≤ one_more n) (w.reads.other_starts Side (not_index Side refl)) (s.none_twice Side))
+              (λ slot other. subst (λ n. n ≤ one_more (d.starts slot)) (sym (s.no_others slot other)) (first.none_twice slot));
+          no_others = λ slot other. s.no_others slot (λ is. other (inr is)) ∙ w.reads.other_starts slot (λ is. other (inl is));
+          once = λ files memory slot is. elim is [
+            | inl one ↦ s.no_others slot (not_side slot one) ∙ w.started_once slot one
+            | inr two ↦ s.once files memory slot two ∙ ap one_more (w.reads.other_starts slot (not_index slot two))
+          ];
+          refusals = elim s.refusals [ inl refused ↦ inl refused | inr same ↦ inr (same ∙ second first.refusals (λ h. let bad : Done ≡ NoMemory = h in cc)) ];
+        }
+
+    from_start : (outcome : Outcome) (slot : Slot) → EndsByFault (OfFile slot) outcome (d1.faults slot) (d2.faults slot) → EndsByFault (OfFile slot) outcome (d.faults slot) (d2.faults slot)
+    from_start outcome slot h = subst (λ n. EndsByFault (OfFile slot) outcome n (d2.faults slot)) (loaded_counts Index index d d1 opened.words opened.loads slot) h
+
+    -- ---- no side file was read
+
+    module _ (i : SourceState) (o e e' : SinkState) (n : ℕ) where
+      abbrev Unread : Outcome → Type 0
+      Unread outcome = IsUnread (SideAt index side) (outside d i o e n) (outside d2 i o e' n) outcome
+
+      still : (error : LoadWordsError) → LoadsWords Side side d1 d2 (Err error) → Starts (SideAt index side) (outcome_of_stop (stop_of_side error)) d d2
+          → IsStill (SideAt index side) (outside d i o e n) (outside d2 i o e' n) (outcome_of_stop (stop_of_side error))
+      still error w started = record {
+        reads = both_read w.reads;
+        starts = started;
+        files = λ slot. from_start (outcome_of_stop (stop_of_side error)) slot
+            (slots_unloaded Side (stop.Side ragged_side) no_fault side d1 d2 error w slot);
+        input = refl;
+        out = refl;
+      }
+
+      started : (error : LoadWordsError) → LoadsWords Side side d1 d2 (Err error) → StartsOnly IsIndexOrSide (outcome_of_stop (stop_of_side error)) d d2
+      started error w = both_start (outcome_of_stop (stop_of_side error)) (unloaded_starts Side (stop.Side ragged_side) no_fault side d1 d2 error w)
+
+      -- the file breaks this check
+      broken : (fault : SideFault) → IsTrue d.tells → length (bytes_under d side) ≤ most_bytes → IsFirstSideFaultOfFile (blocks_of_index view) (bytes_under d side) fault
+          → HasBrokenSide index side d fault
+      broken fault t within first =
+          record { format = view.format; collection = view.collection; parts = view.parts; found = found; within = within; first = first }
+
+      not_loaded : (error : LoadWordsError) → LoadsWords Side side d1 d2 (Err error) → Unread (outcome_of_stop (stop_of_side error))
+      not_loaded loading.Ragged w = (
+        inl (
+          has_index,
+          λ t. let r = w.ragged (opened.loads.reads.tells ∙ t) refl in
+              broken ragged_side t (over_same (λ b. length b ≤ most_bytes) t r.0)
+              (subst (Checked (blocks_of_index view) (bytes_under d side) ragged_side) (sym (is_ragged (length (bytes_under d side) % 8) (over_same (λ b. length b % 8 ≢ 0) t r.1))) refl),
+        ),
+        still loading.Ragged w (started loading.Ragged w),
+      )
+      not_loaded loading.Read w = (inl (inr (refl, has_index)), still loading.Read w (started loading.Read w))
+      not_loaded loading.TooLarge w = (
+        inl (inr (refl, has_index, λ t. over_same (λ b. most_bytes < length b) t (w.too_large (opened.loads.reads.tells ∙ t) refl))),
+        still loading.TooLarge w (started loading.TooLarge w),
+      )
+      not_loaded loading.NoMemory w = (inr refl, still loading.NoMemory w (started loading.NoMemory w))
+
+      -- words that are none, of which this is the first check that breaks
+      not_accepted : (words : List ℕ) → LoadsWords Side side d1 d2 (Ok words) → (fault : SideFault) → IsFirstSideFault (blocks_of_index view) words fault → Unread (BrokenSide fault)
+      not_accepted words w fault first = (
+        inl (
+          has_index,
+          λ t. let of : AreOfWords (bytes_under d side) words = over_same (λ bytes. AreOfWords bytes words) t (w.words (opened.loads.reads.tells ∙ t)) in
+              broken fault t (short (bytes_under d side) words of w.within)
+              (subst (Checked (blocks_of_index view) (bytes_under d side) fault) (sym (is_even (length (bytes_under d side) % 8) (even (bytes_under d side) words of))) (words, of, first)),
+        ),
+        record {
+          reads = both_read w.reads;
+          starts = both_start (BrokenSide fault) (starts Side side d1 d2 words w (BrokenSide fault));
+          files = λ slot. from_start (BrokenSide fault) slot (stays (OfFile slot) (BrokenSide fault) _ _ (λ h. cc) (loaded_counts Side side d1 d2 words w slot));
+          input = refl;
+          out = refl;
+        },
+      )
+
+      pub side_unread : (it : Stop) → IsUnloadedSide (blocks_of_index view) side d1 d2 it → Unread (outcome_of_stop it)
+      side_unread it (inl (error, w, is)) = subst (λ x. Unread (outcome_of_stop x)) (sym is) (not_loaded error w)
+      side_unread it (inr (fault, none, is)) = subst (λ x. Unread (outcome_of_stop x)) (sym is) (not_accepted none.words none.loads fault none.first)
+
+    -- ---- both were read
+
+    pub both_found : (words : List ℕ) → IsLoadedSide (blocks_of_index view) side d1 d2 words → FindsWithSide index side d view.collection
+    both_found words w = (
+      view.format,
+      view.parts,
+      found,
+      λ t. subst (λ ws. AreOfWords (bytes_under d side) ws) w.side (over_same (λ bytes. AreOfWords bytes words) t (w.loads.words (opened.loads.reads.tells ∙ t))),
+    )
+
+    pub side_read : (words : List ℕ) → IsLoadedSide (blocks_of_index view) side d1 d2 words → IsRead (SideAt index side) d d2
+    side_read words w = record {
+      accepted = (view.collection, both_found words w);
+      reads = both_read w.loads.reads;
+      starts = λ outcome read. both_started index side d d2 outcome read (both_start outcome (starts Side side d1 d2 words w.loads outcome));
+      counts = λ slot. loaded_counts Side side d1 d2 words w.loads slot ∙ loaded_counts Index index d d1 opened.words opened.loads slot;
+    }
