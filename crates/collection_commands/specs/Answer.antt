@@ -23,7 +23,9 @@ IsAnswerable base depot c = FindsCollection (numbers_of answer_format) base depo
 
 -- It is accepted, and its words were built, of which the costs were counted.
 abbrev pub IsBuiltFrom : List ℕ → Outside → Outside → Collection → Type 0
-IsBuiltFrom base old new c = (parts : List ListParts) × AreBuilt answer_format (IsAnswerable base old.depot) old.costs new.costs c parts
+IsBuiltFrom base old new c =
+    (parts : List ListParts)
+    × AreBuilt answer_format (IsAnswerable base old.depot) old.costs new.costs c parts
 
 -- A run builds the words of a collection, and answers the input.
 abbrev pub MakesAnswers : List ℕ → Outside → Outside → Outcome → Type 0

@@ -20,7 +20,10 @@ MakesBuilt format base index old new =
 
 -- `build BASE INDEX` reads a collection with the limits of a format and does so; what it writes is then found
 -- as an index of that collection.
-pub record Builds (format : Format) (base index : List ℕ) (old new : Outside) (outcome : Outcome) : Type 0 where
-  pub does : Does (CollectionAt (numbers_of format) base) (File Index) (MakesBuilt format base index) old new outcome
+pub record Builds (format : Format) (base index : List ℕ) (old new : Outside) (outcome : Outcome)
+    : Type 0 where
+  pub does : Does (CollectionAt (numbers_of format) base) (File Index)
+      (MakesBuilt format base index) old new outcome
   pub opens : outcome ≡ Done →
-      (c : Collection) × FindsCollection (numbers_of format) base old.depot c × FindsIndexOf index new.depot c
+      (c : Collection) × FindsCollection (numbers_of format) base old.depot c
+      × FindsIndexOf index new.depot c

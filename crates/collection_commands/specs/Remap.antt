@@ -17,19 +17,25 @@ use Rattle.command_ends.specs.Products.{Does, Files}
 -- A run writes the three files of the image, one after the other, and ends so. A failed write names its file. Want of memory may come before
 -- the first is begun, and behind that only of the depot.
 abbrev pub WritesImage : List ℕ → List ℕ → List ℕ → Outside → Outside → Outcome → Type 0
-WritesImage base map to old new Done = OnImageFiles base map to old.depot (λ files. AreWritten files old.depot new.depot)
+WritesImage base map to old new Done =
+    OnImageFiles base map to old.depot (λ files. AreWritten files old.depot new.depot)
 WritesImage base map to old new (WriteFault slot) = IsCollectionSlot slot
-    × OnImageFiles base map to old.depot (λ files. StopsAtFile files (turn slot) old.depot new.depot × FileLeftByFault files (turn slot) old.depot new.depot)
+    × OnImageFiles base map to old.depot (λ files.
+    StopsAtFile files (turn slot) old.depot new.depot
+    × FileLeftByFault files (turn slot) old.depot new.depot)
 WritesImage base map to old new NoMemory =
     IsUnwritten old.depot new.depot
     ⊎ (Rose old.depot.refusals new.depot.refusals
-    × OnImageFiles base map to old.depot (λ files. (slot : Slot) × IsCollectionSlot slot × StopsAtFile files (turn slot) old.depot new.depot))
+    × OnImageFiles base map to old.depot (λ files.
+    (slot : Slot) × IsCollectionSlot slot × StopsAtFile files (turn slot) old.depot new.depot))
 WritesImage base map to old new outcome = ⊥
 
 -- `remap BASE MAP NEW` reads a collection with the limits of the second format, and an order of its documents, and writes the three files of
 -- its image under a new base, where that is then found; no part cost is counted.
 pub record Remaps (base map to : List ℕ) (old new : Outside) (outcome : Outcome) : Type 0 where
   pub does : Does (MapAt base map) Files (WritesImage base map to) old new outcome
-  pub opens : outcome ≡ Done → (c : Collection) × (ids : List ℕ) × (image : Collection) × FindsBothOf base map old.depot c ids × IsImage ids c image
+  pub opens : outcome ≡ Done →
+      (c : Collection) × (ids : List ℕ) × (image : Collection)
+      × FindsBothOf base map old.depot c ids × IsImage ids c image
       × FindsCollection remap_numbers to new.depot image
   pub costs : new.costs ≡ old.costs

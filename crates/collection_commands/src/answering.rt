@@ -32,9 +32,12 @@ pub fn answer<D: Depot, I: Source, O: Sink, L: Ledger>(
 ) -> Result<(), Stop>
     ensures leaves { (e e' : SinkState) → Leaves (Answers base.now) (StartsOnly IsCollectionSlot)
         (outside (D.state depot.old) (I.state input.old) (O.state out.old) e steps.old)
-        (outside (D.state depot.new) (I.state input.new) (O.state out.new) e' steps.new) (outcome_of result) }
-    ensures refused { IsTrue (is_refusal (outcome_of result)) → (input.new ≡ input.old) × (out.new ≡ out.old) }
-    ensures unaccepted { ¬ ((c : Collection) × IsAnswerable base.now (D.state depot.old) c) → (input.new ≡ input.old) × (out.new ≡ out.old) }
+        (outside (D.state depot.new) (I.state input.new) (O.state out.new) e' steps.new)
+        (outcome_of result) }
+    ensures refused { IsTrue (is_refusal (outcome_of result))
+        → (input.new ≡ input.old) × (out.new ≡ out.old) }
+    ensures unaccepted { ¬ ((c : Collection) × IsAnswerable base.now (D.state depot.old) c)
+        → (input.new ≡ input.old) × (out.new ≡ out.old) }
 {
     files_have_one_first_fault();
     spelled_files_have_no_fault();

@@ -31,8 +31,10 @@ pub fn build<D: Depot, L: Ledger>(
     steps: &mut Steps<L>,
 ) -> Result<(), Stop>
     requires plain { (numbers_of format).kind ≡ Plain }
-    ensures { (i : SourceState) (o e e' : SinkState) → Leaves (Builds format base.now index.now) (StartsOnly IsCollectionSlot)
-        (outside (D.state depot.old) i o e steps.old) (outside (D.state depot.new) i o e' steps.new) (outcome_of result) }
+    ensures { (i : SourceState) (o e e' : SinkState)
+        → Leaves (Builds format base.now index.now) (StartsOnly IsCollectionSlot)
+        (outside (D.state depot.old) i o e steps.old) (outside (D.state depot.new) i o e' steps.new)
+        (outcome_of result) }
 {
     files_have_one_first_fault();
     spelled_files_have_no_fault();

@@ -27,8 +27,10 @@ pub fn generate<O: Sink, L: Ledger>(
     out: &mut O,
     steps: &mut Steps<L>,
 ) -> Result<(), Stop>
-    ensures leaves { (d : DepotState) (i : SourceState) (e e' : SinkState) → Leaves (Generates seed documents terms) (StartsOnly (λ slot. ⊥))
-        (outside d i (O.state out.old) e steps.old) (outside d i (O.state out.new) e' steps.new) (outcome_of result) }
+    ensures leaves { (d : DepotState) (i : SourceState) (e e' : SinkState)
+        → Leaves (Generates seed documents terms) (StartsOnly (λ slot. ⊥))
+        (outside d i (O.state out.old) e steps.old) (outside d i (O.state out.new) e' steps.new)
+        (outcome_of result) }
     ensures refused { IsTrue (is_refusal (outcome_of result)) → out.new ≡ out.old }
 {
     one_index();

@@ -23,8 +23,10 @@ pub fn reorder<D: Depot>(
     to: &str,
     depot: &mut D,
 ) -> Result<(), Stop>
-    ensures { (i : SourceState) (o e e' : SinkState) (costs : ℕ) → Leaves (Remaps base.now map.now to.now) (Starts (MapAt base.now map.now))
-        (outside (D.state depot.old) i o e costs) (outside (D.state depot.new) i o e' costs) (outcome_of result) }
+    ensures { (i : SourceState) (o e e' : SinkState) (costs : ℕ)
+        → Leaves (Remaps base.now map.now to.now) (Starts (MapAt base.now map.now))
+        (outside (D.state depot.old) i o e costs) (outside (D.state depot.new) i o e' costs)
+        (outcome_of result) }
 {
     files_spell_one_collection();
     files_have_one_first_fault();

@@ -98,8 +98,11 @@ module _ (read : WordsAreRead) (check : OneBrokenCheck) (from to : List ℕ) (d 
           opens = λ done. (
             c,
             found,
-            (are.parts, found_written migrate_format Is old (new d2 s') made c are.parts built are.spelled.spelled fit are.spelled.plain are.spelled.well_formed to d2
-                (stands_written Index (word_bytes made) to d1 d2 written wrote done)),
+            (
+              are.parts,
+              found_written migrate_format Is old (new d2 s') made c are.parts built are.spelled.spelled fit are.spelled.plain are.spelled.well_formed to d2
+                  (stands_written Index (word_bytes made) to d1 d2 written wrote done),
+            ),
           );
         })
         (file_written (IndexAt from) (index_laws read check from) (MakesMigrated from to) Index d d1 d2 (index_read from d d1 words w) i o e e' s s' to (word_bytes made)

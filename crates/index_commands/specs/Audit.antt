@@ -12,7 +12,9 @@ use Rattle.command_ends.specs.Products.{Does, Text}
 
 -- The text is the lines of an index that stands under the name.
 abbrev pub IsAudit : List ℕ → DepotState → List ℕ → Type 0
-IsAudit name depot text = (i : IndexView) × FindsIndex (numbers_of i.format) name depot i.collection i.parts × IsAuditText i text
+IsAudit name depot text =
+    (i : IndexView) × FindsIndex (numbers_of i.format) name depot i.collection i.parts
+    × IsAuditText i text
 
 -- An index stands under the name, and no more part costs were counted than its sequences allow, and where all is done no fewer than they ask for.
 pub record IsCounted (name : List ℕ) (old new : Outside) (outcome : Outcome) : Type 0 where

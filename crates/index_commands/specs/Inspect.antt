@@ -12,7 +12,9 @@ use Rattle.command_ends.specs.Products.{Does, Text}
 
 -- The text is the line of an index that stands under the name.
 abbrev pub IsInspection : List ℕ → DepotState → List ℕ → Type 0
-IsInspection name depot text = (i : IndexView) × FindsIndex (numbers_of i.format) name depot i.collection i.parts × (text ≡ summary_line i)
+IsInspection name depot text =
+    (i : IndexView) × FindsIndex (numbers_of i.format) name depot i.collection i.parts
+    × (text ≡ summary_line i)
 
 -- `inspect INDEX` reads an index of either format and prints its line; no part cost is counted.
 pub record Inspects (index : List ℕ) (old new : Outside) (outcome : Outcome) : Type 0 where

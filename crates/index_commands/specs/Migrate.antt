@@ -20,7 +20,8 @@ migrate_format = Two
 
 -- An index of this collection, in that format and some parts, stands under the name.
 abbrev pub FindsMigrated : List ℕ → DepotState → Collection → Type 0
-FindsMigrated name depot c = (parts : List ListParts) × FindsIndex (numbers_of migrate_format) name depot c parts
+FindsMigrated name depot c =
+    (parts : List ListParts) × FindsIndex (numbers_of migrate_format) name depot c parts
 
 -- A run builds the words of the collection of an index in that format, and writes them under the other name.
 abbrev pub MakesMigrated : List ℕ → List ℕ → Outside → Outside → Outcome → Type 0
@@ -32,4 +33,5 @@ MakesMigrated from to old new =
 -- that collection.
 pub record Migrates (from to : List ℕ) (old new : Outside) (outcome : Outcome) : Type 0 where
   pub does : Does (IndexAt from) (File Index) (MakesMigrated from to) old new outcome
-  pub opens : outcome ≡ Done → (c : Collection) × FindsIndexOf from old.depot c × FindsMigrated to new.depot c
+  pub opens : outcome ≡ Done →
+      (c : Collection) × FindsIndexOf from old.depot c × FindsMigrated to new.depot c

@@ -27,11 +27,13 @@ pub fn audit<D: Depot, O: Sink, L: Ledger>(
     out: &mut O,
     steps: &mut Steps<L>,
 ) -> Result<(), Stop>
-    ensures leaves { (i : SourceState) (e e' : SinkState) → Leaves (Audits index.now) (StartsOnly IsIndexSlot)
+    ensures leaves { (i : SourceState) (e e' : SinkState)
+        → Leaves (Audits index.now) (StartsOnly IsIndexSlot)
         (outside (D.state depot.old) i (O.state out.old) e steps.old)
         (outside (D.state depot.new) i (O.state out.new) e' steps.new) (outcome_of result) }
     ensures refused { IsTrue (is_refusal (outcome_of result)) → out.new ≡ out.old }
-    ensures unaccepted { ¬ ((c : Collection) × FindsIndexOf index.now (D.state depot.old) c) → out.new ≡ out.old }
+    ensures unaccepted { ¬ ((c : Collection) × FindsIndexOf index.now (D.state depot.old) c)
+        → out.new ≡ out.old }
 {
     one_broken_check();
     words_and_bytes_undo_each_other();

@@ -24,11 +24,13 @@ pub fn inspect<D: Depot, O: Sink>(
     depot: &mut D,
     out: &mut O,
 ) -> Result<(), Stop>
-    ensures leaves { (i : SourceState) (e e' : SinkState) (costs : ℕ) → Leaves (Inspects index.now) (StartsOnly IsIndexSlot)
+    ensures leaves { (i : SourceState) (e e' : SinkState) (costs : ℕ)
+        → Leaves (Inspects index.now) (StartsOnly IsIndexSlot)
         (outside (D.state depot.old) i (O.state out.old) e costs)
         (outside (D.state depot.new) i (O.state out.new) e' costs) (outcome_of result) }
     ensures refused { IsTrue (is_refusal (outcome_of result)) → out.new ≡ out.old }
-    ensures unaccepted { ¬ ((c : Collection) × FindsIndexOf index.now (D.state depot.old) c) → out.new ≡ out.old }
+    ensures unaccepted { ¬ ((c : Collection) × FindsIndexOf index.now (D.state depot.old) c)
+        → out.new ≡ out.old }
 {
     one_broken_check();
     words_and_bytes_undo_each_other();

@@ -24,8 +24,10 @@ pub fn migrate<D: Depot, L: Ledger>(
     depot: &mut D,
     steps: &mut Steps<L>,
 ) -> Result<(), Stop>
-    ensures { (i : SourceState) (o e e' : SinkState) → Leaves (Migrates from.now to.now) (StartsOnly IsIndexSlot)
-        (outside (D.state depot.old) i o e steps.old) (outside (D.state depot.new) i o e' steps.new) (outcome_of result) }
+    ensures { (i : SourceState) (o e e' : SinkState)
+        → Leaves (Migrates from.now to.now) (StartsOnly IsIndexSlot)
+        (outside (D.state depot.old) i o e steps.old) (outside (D.state depot.new) i o e' steps.new)
+        (outcome_of result) }
 {
     one_broken_check();
     words_and_bytes_undo_each_other();

@@ -25,11 +25,15 @@ pub fn query<D: Depot, I: Source, O: Sink>(
     input: &mut I,
     out: &mut O,
 ) -> Result<(), Stop>
-    ensures leaves { (e e' : SinkState) (costs : ℕ) → Leaves (Queries index.now) (StartsOnly IsIndexSlot)
+    ensures leaves { (e e' : SinkState) (costs : ℕ)
+        → Leaves (Queries index.now) (StartsOnly IsIndexSlot)
         (outside (D.state depot.old) (I.state input.old) (O.state out.old) e costs)
-        (outside (D.state depot.new) (I.state input.new) (O.state out.new) e' costs) (outcome_of result) }
-    ensures refused { IsTrue (is_refusal (outcome_of result)) → (input.new ≡ input.old) × (out.new ≡ out.old) }
-    ensures unaccepted { ¬ ((c : Collection) × FindsIndexOf index.now (D.state depot.old) c) → (input.new ≡ input.old) × (out.new ≡ out.old) }
+        (outside (D.state depot.new) (I.state input.new) (O.state out.new) e' costs)
+        (outcome_of result) }
+    ensures refused { IsTrue (is_refusal (outcome_of result))
+        → (input.new ≡ input.old) × (out.new ≡ out.old) }
+    ensures unaccepted { ¬ ((c : Collection) × FindsIndexOf index.now (D.state depot.old) c)
+        → (input.new ≡ input.old) × (out.new ≡ out.old) }
 {
     one_broken_check();
     words_and_bytes_undo_each_other();
