@@ -1,10 +1,11 @@
-use Rattle.std.proofs.Common.{rules, ◌≡◌, ℕ, List, Bool, true, false, IsTrue, refl, sym, ◌∙◌, ap, subst}
-use Rattle.std.specs.Prelude.{Some, Result, Err}
+use Rattle.std.proofs.Common.{rules, ◌≡◌, ℕ, List, refl, sym, ◌∙◌, ap, subst}
+use Rattle.std.specs.Prelude.{true, not, IsTrue, Option, Some, Result, Err}
+use Rattle.pef_io.specs.DepotState.{DepotState}
 use Rattle.command_ends.specs.declared.stop.Stop.{Stop}
-use Rattle.command_line.specs.Command.{command_of, texts}
+use Rattle.command_line.specs.Command.{Command, command_of, texts}
 use Rattle.command_line.specs.declared.words.Command as words
 use Rattle.command_ends.specs.Outside.{Outside, outside}
-use Rattle.command_ends.specs.Outcome.{Outcome}
+use Rattle.command_ends.specs.Outcome.{Outcome, is_refusal}
 use Rattle.command_line.specs.Asked.{asked}
 use Rattle.command_ends.specs.Steps.Leaves.{Leaves}
 use Rattle.command_ends.specs.Steps.Stops.{outcome_of, stop_of_words}
@@ -12,7 +13,7 @@ use Rattle.pef_top.proofs.Stopped.{stopped}
 use Rattle.pef_top.proofs.top.perform.Goals as goal
 use Rattle.pef_top.specs.Commands.{Performs}
 use Rattle.pef_top.specs.Starts.{Starts}
-use Rattle.pef_top.specs.Uncalled.{objects, Accepts, IsSilent, LeavesUncalled, Objects}
+use Rattle.pef_top.specs.Uncalled.{objects, calls_depot, prints, reads_input, Accepts, IsSilent, LeavesUncalled, Objects}
 use Rattle.command_ends.proofs.Counted.{not_true}
 
 -- what is left of the command that was asked is left of that of the words
@@ -68,79 +69,47 @@ returns-in-Remap-clause-leaves g c = λ e e'. left _ _ _ c.in-Remap.is c.in_ok-c
 pub returns-in-Segments-clause-leaves : goal.returns-in-Segments-clause-leaves
 returns-in-Segments-clause-leaves g c = λ e e'. left _ _ _ c.in-Segments.is c.in_ok-command.ensures.command _ _ _ (c.answer_segments.ensures.leaves e e' c.args.steps.now)
 
--- neither the input nor out was called
+-- Neither the input nor out was called.
 silent : {D I O : Type 0} (depot depot' : D) (input input' : I) (out out' : O) → (input' ≡ input) × (out' ≡ out)
     → IsSilent (objects depot input out) (objects depot' input' out')
 silent depot depot' input input' out out' same = record { input = same.0; out = same.1 }
 
+-- what a command leaves uncalled that calls the depot and prints
+uncalled : {D I O : Type 0} (ws : List (List ℕ)) (it other : words.Command) → it ≡ other → Some (asked it) ≡ command_of ws
+    → (d : DepotState) (outcome : Outcome) (old new : Objects D I O) → calls_depot (Some (asked other)) ≡ true → prints (Some (asked other)) ≡ true
+    → (IsTrue (not (reads_input (Some (asked other)))) → new.input ≡ old.input) → (IsTrue (is_refusal outcome) → IsSilent old new)
+    → (¬ Accepts (Some (asked other)) d → IsSilent old new) → LeavesUncalled (command_of ws) (Accepts (command_of ws) d) outcome old new
+uncalled {D} {I} {O} ws it other is was d outcome old new calls prints input refused unaccepted =
+    let P : Option Command → Type 0 = λ command. LeavesUncalled command (Accepts command d) outcome old new in
+    subst P (sym (ap (λ x. Some (asked x)) is) ∙ was)
+    (record {
+      depot = λ h. absurd (not_true (subst (λ b. IsTrue (not b)) calls h));
+      input = input;
+      out = λ h. absurd (not_true (subst (λ b. IsTrue (not b)) prints h));
+      refused = refused;
+      unaccepted = unaccepted;
+    })
+
 pub returns-in-Query-clause-uncalled : goal.returns-in-Query-clause-uncalled
 returns-in-Query-clause-uncalled g c =
-    let P : Option Command → Type 0 = λ command. LeavesUncalled command (Accepts command (g.D.Depot.state c.args.depot.now)) (outcome_of c.query.result)
-    (objects c.args.depot.now c.args.input.now c.args.out.now) (objects c.query.new.depot c.query.new.input c.query.new.out) in
-    subst P (sym (ap (λ x. Some (asked x)) c.in-Query.is) ∙ c.in_ok-command.ensures.command) (record {
-      depot = λ h. absurd (not_true h);
-      input = λ h. absurd (not_true h);
-      out = λ h. absurd (not_true h);
-      refused = λ h. silent _ _ _ _ _ _ (c.query.ensures.refused h);
-      unaccepted = λ h. silent _ _ _ _ _ _ (c.query.ensures.unaccepted h);
-    })
+    uncalled _ _ _ c.in-Query.is c.in_ok-command.ensures.command _ _ _ _ refl refl (λ h. absurd (not_true h)) (λ h. silent _ _ _ _ _ _ (c.query.ensures.refused h)) (λ h. silent _ _ _ _ _ _ (c.query.ensures.unaccepted h))
 
 pub returns-in-Answer-clause-uncalled : goal.returns-in-Answer-clause-uncalled
 returns-in-Answer-clause-uncalled g c =
-    let P : Option Command → Type 0 = λ command. LeavesUncalled command (Accepts command (g.D.Depot.state c.args.depot.now)) (outcome_of c.answer.result)
-    (objects c.args.depot.now c.args.input.now c.args.out.now) (objects c.answer.new.depot c.answer.new.input c.answer.new.out) in
-    subst P (sym (ap (λ x. Some (asked x)) c.in-Answer.is) ∙ c.in_ok-command.ensures.command) (record {
-      depot = λ h. absurd (not_true h);
-      input = λ h. absurd (not_true h);
-      out = λ h. absurd (not_true h);
-      refused = λ h. silent _ _ _ _ _ _ (c.answer.ensures.refused h);
-      unaccepted = λ h. silent _ _ _ _ _ _ (c.answer.ensures.unaccepted h);
-    })
+    uncalled _ _ _ c.in-Answer.is c.in_ok-command.ensures.command _ _ _ _ refl refl (λ h. absurd (not_true h)) (λ h. silent _ _ _ _ _ _ (c.answer.ensures.refused h)) (λ h. silent _ _ _ _ _ _ (c.answer.ensures.unaccepted h))
 
 pub returns-in-Inspect-clause-uncalled : goal.returns-in-Inspect-clause-uncalled
 returns-in-Inspect-clause-uncalled g c =
-    let P : Option Command → Type 0 = λ command. LeavesUncalled command (Accepts command (g.D.Depot.state c.args.depot.now)) (outcome_of c.inspect.result)
-    (objects c.args.depot.now c.args.input.now c.args.out.now) (objects c.inspect.new.depot c.args.input.now c.inspect.new.out) in
-    subst P (sym (ap (λ x. Some (asked x)) c.in-Inspect.is) ∙ c.in_ok-command.ensures.command) (record {
-      depot = λ h. absurd (not_true h);
-      input = λ h. refl;
-      out = λ h. absurd (not_true h);
-      refused = λ h. silent _ _ _ _ _ _ (refl, c.inspect.ensures.refused h);
-      unaccepted = λ h. silent _ _ _ _ _ _ (refl, c.inspect.ensures.unaccepted h);
-    })
+    uncalled _ _ _ c.in-Inspect.is c.in_ok-command.ensures.command _ _ _ _ refl refl (λ h. refl) (λ h. silent _ _ _ _ _ _ (refl, c.inspect.ensures.refused h)) (λ h. silent _ _ _ _ _ _ (refl, c.inspect.ensures.unaccepted h))
 
 pub returns-in-Audit-clause-uncalled : goal.returns-in-Audit-clause-uncalled
 returns-in-Audit-clause-uncalled g c =
-    let P : Option Command → Type 0 = λ command. LeavesUncalled command (Accepts command (g.D.Depot.state c.args.depot.now)) (outcome_of c.audit.result)
-    (objects c.args.depot.now c.args.input.now c.args.out.now) (objects c.audit.new.depot c.args.input.now c.audit.new.out) in
-    subst P (sym (ap (λ x. Some (asked x)) c.in-Audit.is) ∙ c.in_ok-command.ensures.command) (record {
-      depot = λ h. absurd (not_true h);
-      input = λ h. refl;
-      out = λ h. absurd (not_true h);
-      refused = λ h. silent _ _ _ _ _ _ (refl, c.audit.ensures.refused h);
-      unaccepted = λ h. silent _ _ _ _ _ _ (refl, c.audit.ensures.unaccepted h);
-    })
+    uncalled _ _ _ c.in-Audit.is c.in_ok-command.ensures.command _ _ _ _ refl refl (λ h. refl) (λ h. silent _ _ _ _ _ _ (refl, c.audit.ensures.refused h)) (λ h. silent _ _ _ _ _ _ (refl, c.audit.ensures.unaccepted h))
 
 pub returns-in-BlockQuery-clause-uncalled : goal.returns-in-BlockQuery-clause-uncalled
 returns-in-BlockQuery-clause-uncalled g c =
-    let P : Option Command → Type 0 = λ command. LeavesUncalled command (Accepts command (g.D.Depot.state c.args.depot.now)) (outcome_of c.query_blocks.result)
-    (objects c.args.depot.now c.args.input.now c.args.out.now) (objects c.query_blocks.new.depot c.query_blocks.new.input c.query_blocks.new.out) in
-    subst P (sym (ap (λ x. Some (asked x)) c.in-BlockQuery.is) ∙ c.in_ok-command.ensures.command) (record {
-      depot = λ h. absurd (not_true h);
-      input = λ h. absurd (not_true h);
-      out = λ h. absurd (not_true h);
-      refused = λ h. silent _ _ _ _ _ _ (c.query_blocks.ensures.refused h);
-      unaccepted = λ h. silent _ _ _ _ _ _ (c.query_blocks.ensures.unaccepted h);
-    })
+    uncalled _ _ _ c.in-BlockQuery.is c.in_ok-command.ensures.command _ _ _ _ refl refl (λ h. absurd (not_true h)) (λ h. silent _ _ _ _ _ _ (c.query_blocks.ensures.refused h)) (λ h. silent _ _ _ _ _ _ (c.query_blocks.ensures.unaccepted h))
 
 pub returns-in-Segments-clause-uncalled : goal.returns-in-Segments-clause-uncalled
 returns-in-Segments-clause-uncalled g c =
-    let P : Option Command → Type 0 = λ command. LeavesUncalled command (Accepts command (g.D.Depot.state c.args.depot.now)) (outcome_of c.answer_segments.result)
-    (objects c.args.depot.now c.args.input.now c.args.out.now) (objects c.answer_segments.new.depot c.answer_segments.new.input c.answer_segments.new.out) in
-    subst P (sym (ap (λ x. Some (asked x)) c.in-Segments.is) ∙ c.in_ok-command.ensures.command) (record {
-      depot = λ h. absurd (not_true h);
-      input = λ h. absurd (not_true h);
-      out = λ h. absurd (not_true h);
-      refused = λ h. silent _ _ _ _ _ _ (c.answer_segments.ensures.refused h);
-      unaccepted = λ h. silent _ _ _ _ _ _ (c.answer_segments.ensures.unaccepted h);
-    })
+    uncalled _ _ _ c.in-Segments.is c.in_ok-command.ensures.command _ _ _ _ refl refl (λ h. absurd (not_true h)) (λ h. silent _ _ _ _ _ _ (c.answer_segments.ensures.refused h)) (λ h. silent _ _ _ _ _ _ (c.answer_segments.ensures.unaccepted h))
