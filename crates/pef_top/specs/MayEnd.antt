@@ -44,5 +44,5 @@ MayEnd command outcome =
 -- A command ends as the table says.
 abbrev pub EndsByTheTable : Type 0
 EndsByTheTable =
-    (command : Command) (old new : Outside) (outcome : Outcome) → Performs (Some command) old new outcome
-    → MayEnd command outcome
+    (command : Command) (old new : Outside) (outcome : Outcome)
+    → Performs (Some command) old new outcome → MayEnd command outcome

@@ -41,8 +41,10 @@ pub record IsSilent {D I O : Type 0} (old new : Objects D I O) : Type 0 where
   pub input : new.input ≡ old.input
   pub out : new.out ≡ old.out
 
--- What is not called is the same object: what the command has no use for, and the input and out of a run that is refused or accepts nothing.
-pub record LeavesUncalled {D I O : Type 0} (command : Option Command) (accepted : Type 0) (outcome : Outcome) (old new : Objects D I O) : Type 0 where
+-- What is not called is the same object: what the command has no use for, and the input and out of a run
+-- that is refused or accepts nothing.
+pub record LeavesUncalled {D I O : Type 0} (command : Option Command) (accepted : Type 0)
+    (outcome : Outcome) (old new : Objects D I O) : Type 0 where
   pub depot : IsTrue (not (calls_depot command)) → new.depot ≡ old.depot
   pub input : IsTrue (not (reads_input command)) → new.input ≡ old.input
   pub out : IsTrue (not (prints command)) → new.out ≡ old.out

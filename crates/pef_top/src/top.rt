@@ -48,9 +48,12 @@ pub fn run<D: Depot, I: Source, O: Sink, E: Sink, L: Ledger>(
     steps: &mut Steps<L>,
 ) -> Status
     ensures { Runs (command_of (texts words.now))
-        (outside (D.state depot.old) (I.state input.old) (O.state out.old) (E.state err.old) steps.old)
-        (outside (D.state depot.new) (I.state input.new) (O.state out.new) (E.state err.new) steps.new)
-        (objects depot.old input.old out.old) (objects depot.new input.new out.new) err.old err.new result }
+        (outside (D.state depot.old) (I.state input.old) (O.state out.old) (E.state err.old)
+        steps.old)
+        (outside (D.state depot.new) (I.state input.new) (O.state out.new) (E.state err.new)
+        steps.new)
+        (objects depot.old input.old out.old) (objects depot.new input.new out.new)
+        err.old err.new result }
 {
     let ending = perform(alloc, words, depot, input, out, steps);
     report(err, ending)
@@ -67,8 +70,10 @@ pub fn run_uncounted<D: Depot, I: Source, O: Sink, E: Sink>(
 ) -> Status
     ensures { (counted : ℕ) × Runs (command_of (texts words.now))
         (outside (D.state depot.old) (I.state input.old) (O.state out.old) (E.state err.old) 0)
-        (outside (D.state depot.new) (I.state input.new) (O.state out.new) (E.state err.new) counted)
-        (objects depot.old input.old out.old) (objects depot.new input.new out.new) err.old err.new result }
+        (outside (D.state depot.new) (I.state input.new) (O.state out.new) (E.state err.new)
+        counted)
+        (objects depot.old input.old out.old) (objects depot.new input.new out.new)
+        err.old err.new result }
 {
     run_counted::<_, _, _, _, Brand>(alloc, words, depot, input, out, err, Blank::new(1))
 }
@@ -88,8 +93,10 @@ fn run_counted<D: Depot, I: Source, O: Sink, E: Sink, L: Ledger>(
     requires some { 0 < L.parts }
     ensures { (counted : ℕ) × Runs (command_of (texts words.now))
         (outside (D.state depot.old) (I.state input.old) (O.state out.old) (E.state err.old) 0)
-        (outside (D.state depot.new) (I.state input.new) (O.state out.new) (E.state err.new) counted)
-        (objects depot.old input.old out.old) (objects depot.new input.new out.new) err.old err.new result }
+        (outside (D.state depot.new) (I.state input.new) (O.state out.new) (E.state err.new)
+        counted)
+        (objects depot.old input.old out.old) (objects depot.new input.new out.new)
+        err.old err.new result }
 {
     let mut steps = Steps::<L>::new(blank);
     run(alloc, words, depot, input, out, err, &mut steps)
@@ -104,9 +111,11 @@ fn perform<D: Depot, I: Source, O: Sink, L: Ledger>(
     out: &mut O,
     steps: &mut Steps<L>,
 ) -> Result<(), Stop>
-    ensures leaves { let command = command_of (texts words.now) in (e e' : SinkState) → Leaves (Performs command) (Starts command)
+    ensures leaves { let command = command_of (texts words.now) in (e e' : SinkState) →
+        Leaves (Performs command) (Starts command)
         (outside (D.state depot.old) (I.state input.old) (O.state out.old) e steps.old)
-        (outside (D.state depot.new) (I.state input.new) (O.state out.new) e' steps.new) (outcome_of result) }
+        (outside (D.state depot.new) (I.state input.new) (O.state out.new) e' steps.new)
+        (outcome_of result) }
     ensures uncalled { let command = command_of (texts words.now) in
         LeavesUncalled command (Accepts command (D.state depot.old)) (outcome_of result)
         (objects depot.old input.old out.old) (objects depot.new input.new out.new) }

@@ -23,10 +23,13 @@ pub(crate) fn process<D: Depot, I: Source, O: Sink, E: Sink>(
     out: &mut O,
     err: &mut E,
 ) -> ExitCode
-    ensures { (status : ended.Status) × (exit_status result ≡ status_number status) × Processes words
+    ensures { (status : ended.Status) × (exit_status result ≡ status_number status)
+        × Processes words
         (outside (D.state depot.old) (I.state input.old) (O.state out.old) (E.state err.old) 0)
-        (λ costs. outside (D.state depot.new) (I.state input.new) (O.state out.new) (E.state err.new) costs)
-        (objects depot.old input.old out.old) (objects depot.new input.new out.new) err.old err.new status }
+        (λ costs. outside (D.state depot.new) (I.state input.new) (O.state out.new)
+        (E.state err.new) costs)
+        (objects depot.old input.old out.old) (objects depot.new input.new out.new)
+        err.old err.new status }
 {
     exit_code(run_words(alloc, words, depot, input, out, err))
 }
@@ -42,8 +45,10 @@ fn run_words<D: Depot, I: Source, O: Sink, E: Sink>(
 ) -> Status
     ensures { Processes words
         (outside (D.state depot.old) (I.state input.old) (O.state out.old) (E.state err.old) 0)
-        (λ costs. outside (D.state depot.new) (I.state input.new) (O.state out.new) (E.state err.new) costs)
-        (objects depot.old input.old out.old) (objects depot.new input.new out.new) err.old err.new result }
+        (λ costs. outside (D.state depot.new) (I.state input.new) (O.state out.new)
+        (E.state err.new) costs)
+        (objects depot.old input.old out.old) (objects depot.new input.new out.new)
+        err.old err.new result }
 {
     match words {
         Ok(words) => run_uncounted(alloc, words.as_slice(), depot, input, out, err),

@@ -28,11 +28,16 @@ pub fn answer_segments<D: Depot, I: Source, O: Sink>(
     input: &mut I,
     out: &mut O,
 ) -> Result<(), Stop>
-    ensures leaves { (e e' : SinkState) (costs : ℕ) → Leaves (AnswersSegments (texts indexes.now)) (Starts (IndexesAt (texts indexes.now)))
+    ensures leaves { (e e' : SinkState) (costs : ℕ) →
+        Leaves (AnswersSegments (texts indexes.now)) (Starts (IndexesAt (texts indexes.now)))
         (outside (D.state depot.old) (I.state input.old) (O.state out.old) e costs)
-        (outside (D.state depot.new) (I.state input.new) (O.state out.new) e' costs) (outcome_of result) }
-    ensures refused { IsTrue (is_refusal (outcome_of result)) → (input.new ≡ input.old) × (out.new ≡ out.old) }
-    ensures unaccepted { ¬ ((c : Collection) × FindsJoined (texts indexes.now) (D.state depot.old) c) → (input.new ≡ input.old) × (out.new ≡ out.old) }
+        (outside (D.state depot.new) (I.state input.new) (O.state out.new) e' costs)
+        (outcome_of result) }
+    ensures refused { IsTrue (is_refusal (outcome_of result)) →
+        (input.new ≡ input.old) × (out.new ≡ out.old) }
+    ensures unaccepted { ¬ ((c : Collection)
+        × FindsJoined (texts indexes.now) (D.state depot.old) c) →
+        (input.new ≡ input.old) × (out.new ≡ out.old) }
 {
     one_index();
     one_broken_check();
@@ -48,8 +53,11 @@ fn load_segments<D: Depot>(
     names: &[String],
     depot: &mut D,
 ) -> Result<Vec<Vec<u64>>, Stop>
-    ensures accepted { IfOk result (λ files. (pushed : Pushed) × AreAccepted (texts names.now) (length (texts names.now)) pushed (D.state depot.old) (D.state depot.new) (map (λ file. file.items) files.items)) }
-    ensures rejected { IfErr result (λ stop. AreRejected (texts names.now) (D.state depot.old) (D.state depot.new) (outcome_of_stop stop)) }
+    ensures accepted { IfOk result (λ files. (pushed : Pushed) × AreAccepted (texts names.now)
+        (length (texts names.now)) pushed (D.state depot.old) (D.state depot.new)
+        (map (λ file. file.items) files.items)) }
+    ensures rejected { IfErr result (λ stop. AreRejected (texts names.now)
+        (D.state depot.old) (D.state depot.new) (outcome_of_stop stop)) }
 {
     let mut joined = Segments::new();
     let mut files = Vec::with_capacity(alloc, names.len())?;
@@ -68,8 +76,10 @@ fn load_segment<D: Depot>(
     joined: &mut Segments,
     depot: &mut D,
 ) -> Result<Vec<u64>, Stop>
-    ensures accepted { IfOk result (λ words. IsAccepted name.now joined.old joined.new (D.state depot.old) (D.state depot.new) words.items) }
-    ensures rejected { IfErr result (λ stop. IsRejected name.now s joined.old (D.state depot.old) (D.state depot.new) (outcome_of_stop stop)) }
+    ensures accepted { IfOk result (λ words. IsAccepted name.now joined.old joined.new
+        (D.state depot.old) (D.state depot.new) words.items) }
+    ensures rejected { IfErr result (λ stop. IsRejected name.now s joined.old
+        (D.state depot.old) (D.state depot.new) (outcome_of_stop stop)) }
 {
     one_broken_check();
     words_and_bytes_undo_each_other();

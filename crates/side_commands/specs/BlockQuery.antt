@@ -8,6 +8,8 @@ use Rattle.command_ends.specs.Products.{Does, Replies}
 
 -- `bquery INDEX SIDE` reads an index of either format and then its side file, and answers the input; no part
 -- cost is counted.
-pub record QueriesBlocks (index side : List ℕ) (old new : Outside) (outcome : Outcome) : Type 0 where
-  pub does : Does (SideAt index side) Replies (AnswersInput (FindsWithSide index side old.depot)) old new outcome
+pub record QueriesBlocks (index side : List ℕ) (old new : Outside) (outcome : Outcome)
+    : Type 0 where
+  pub does : Does (SideAt index side) Replies (AnswersInput (FindsWithSide index side old.depot))
+      old new outcome
   pub costs : new.costs ≡ old.costs

@@ -27,11 +27,16 @@ pub fn query_blocks<D: Depot, I: Source, O: Sink>(
     input: &mut I,
     out: &mut O,
 ) -> Result<(), Stop>
-    ensures leaves { (e e' : SinkState) (costs : ℕ) → Leaves (QueriesBlocks index.now side.now) (Starts (SideAt index.now side.now))
+    ensures leaves { (e e' : SinkState) (costs : ℕ) →
+        Leaves (QueriesBlocks index.now side.now) (Starts (SideAt index.now side.now))
         (outside (D.state depot.old) (I.state input.old) (O.state out.old) e costs)
-        (outside (D.state depot.new) (I.state input.new) (O.state out.new) e' costs) (outcome_of result) }
-    ensures refused { IsTrue (is_refusal (outcome_of result)) → (input.new ≡ input.old) × (out.new ≡ out.old) }
-    ensures unaccepted { ¬ ((c : Collection) × FindsWithSide index.now side.now (D.state depot.old) c) → (input.new ≡ input.old) × (out.new ≡ out.old) }
+        (outside (D.state depot.new) (I.state input.new) (O.state out.new) e' costs)
+        (outcome_of result) }
+    ensures refused { IsTrue (is_refusal (outcome_of result)) →
+        (input.new ≡ input.old) × (out.new ≡ out.old) }
+    ensures unaccepted { ¬ ((c : Collection)
+        × FindsWithSide index.now side.now (D.state depot.old) c) →
+        (input.new ≡ input.old) × (out.new ≡ out.old) }
 {
     one_broken_check();
     words_and_bytes_undo_each_other();

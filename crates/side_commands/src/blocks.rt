@@ -22,8 +22,10 @@ pub fn write_blocks<D: Depot>(
     side: &str,
     depot: &mut D,
 ) -> Result<(), Stop>
-    ensures { (i : SourceState) (o e e' : SinkState) (costs : ℕ) → Leaves (WritesBlocks index.now side.now) (StartsOnly IsIndexSlot)
-        (outside (D.state depot.old) i o e costs) (outside (D.state depot.new) i o e' costs) (outcome_of result) }
+    ensures { (i : SourceState) (o e e' : SinkState) (costs : ℕ) →
+        Leaves (WritesBlocks index.now side.now) (StartsOnly IsIndexSlot)
+        (outside (D.state depot.old) i o e costs) (outside (D.state depot.new) i o e' costs)
+        (outcome_of result) }
 {
     one_broken_check();
     words_and_bytes_undo_each_other();

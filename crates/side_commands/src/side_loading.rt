@@ -14,8 +14,10 @@ pub(crate) fn load_side<D: Depot, S: BlockSource>(
     source: &S,
     depot: &mut D,
 ) -> Result<Vec<u64>, Stop>
-    ensures loaded { IfOk result (λ words. IsLoadedSide (S.lists source.now) name.now (D.state depot.old) (D.state depot.new) words.items) }
-    ensures refused { IfErr result (λ stop. IsUnloadedSide (S.lists source.now) name.now (D.state depot.old) (D.state depot.new) stop) }
+    ensures loaded { IfOk result (λ words. IsLoadedSide (S.lists source.now) name.now
+        (D.state depot.old) (D.state depot.new) words.items) }
+    ensures refused { IfErr result (λ stop. IsUnloadedSide (S.lists source.now) name.now
+        (D.state depot.old) (D.state depot.new) stop) }
 {
     let words = load_words(alloc, Slot::Side, name, depot).map_err(stop_of_side)?;
     Side::view(&words, source)?;

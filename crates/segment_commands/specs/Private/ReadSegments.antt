@@ -27,12 +27,15 @@ abbrev pub pushed_of : List Collection → Pushed
 pushed_of cs = record { documents = documents_in cs; terms = first_terms cs }
 
 -- The words of the index under the name were read, and it is accepted behind what was pushed.
-pub record IsAccepted (name : List ℕ) (before after : Pushed) (old now : DepotState) (words : List ℕ) : Type 0 where
+pub record IsAccepted (name : List ℕ) (before after : Pushed) (old now : DepotState)
+    (words : List ℕ) : Type 0 where
   pub few : length words < 2 ^ 57
   pub index : IsIndex words
   pub found : FindsIndexOf name old (index_stated words).collection
-  pub fits : rule_broken before (index_stated words).collection.documents (length (index_stated words).collection.lists) ≡ None
-  pub pushed : after ≡ with_segment before (index_stated words).collection.documents (length (index_stated words).collection.lists)
+  pub fits : rule_broken before (index_stated words).collection.documents
+      (length (index_stated words).collection.lists) ≡ None
+  pub pushed : after ≡ with_segment before (index_stated words).collection.documents
+      (length (index_stated words).collection.lists)
   pub reads : OnlyReads IsIndexSlot old now
   pub faults : now.faults Index ≡ old.faults Index
   pub starts : now.starts Index ≡ one_more (old.starts Index)
@@ -40,15 +43,20 @@ pub record IsAccepted (name : List ℕ) (before after : Pushed) (old now : Depot
 
 -- How a run ends at the index under the name, which is segment s behind what was pushed.
 abbrev pub RejectedAs : List ℕ → ℕ → Pushed → DepotState → Outcome → Type 0
-RejectedAs name s before old (BrokenSegment fault k) = (k ≡ s) × (IsTrue old.tells → HasBroken name old fault)
-RejectedAs name s before old (UnfitSegment rule k) = (k ≡ s) × ((c : Collection) × FindsIndexOf name old c × (rule_broken before c.documents (length c.lists) ≡ Some rule))
+RejectedAs name s before old (BrokenSegment fault k) =
+    (k ≡ s) × (IsTrue old.tells → HasBroken name old fault)
+RejectedAs name s before old (UnfitSegment rule k) =
+    (k ≡ s) × ((c : Collection) × FindsIndexOf name old c
+    × (rule_broken before c.documents (length c.lists) ≡ Some rule))
 RejectedAs name s before old (FileFault slot) = IsIndexSlot slot
-RejectedAs name s before old (TooLarge slot) = IsIndexSlot slot × (IsTrue old.tells → most_bytes < length (bytes_under old name))
+RejectedAs name s before old (TooLarge slot) =
+    IsIndexSlot slot × (IsTrue old.tells → most_bytes < length (bytes_under old name))
 RejectedAs name s before old NoMemory = ⊤
 RejectedAs name s before old outcome = ⊥
 
 -- It ends so, and the calls on the depot that were made.
-pub record IsRejected (name : List ℕ) (s : ℕ) (before : Pushed) (old now : DepotState) (outcome : Outcome) : Type 0 where
+pub record IsRejected (name : List ℕ) (s : ℕ) (before : Pushed) (old now : DepotState)
+    (outcome : Outcome) : Type 0 where
   pub ends : RejectedAs name s before old outcome
   pub reads : OnlyReads IsIndexSlot old now
   pub faults : EndsByFault (OfFile Index) outcome (old.faults Index) (now.faults Index)
@@ -56,7 +64,8 @@ pub record IsRejected (name : List ℕ) (s : ℕ) (before : Pushed) (old now : D
   pub refusals : (outcome ≡ NoMemory) ⊎ (now.refusals ≡ old.refusals)
 
 -- The words of the first k segments were read, and these are accepted.
-pub record AreAccepted (names : List (List ℕ)) (k : ℕ) (after : Pushed) (old now : DepotState) (files : List (List ℕ)) : Type 0 where
+pub record AreAccepted (names : List (List ℕ)) (k : ℕ) (after : Pushed) (old now : DepotState)
+    (files : List (List ℕ)) : Type 0 where
   pub joins : CanBeJoined files
   pub found : FindsSegments (take k names) old (collections_of files)
   pub pushed : after ≡ pushed_of (collections_of files)
@@ -66,7 +75,8 @@ pub record AreAccepted (names : List (List ℕ)) (k : ℕ) (after : Pushed) (old
   pub refusals : now.refusals ≡ old.refusals
 
 -- A run ends before all segments are accepted.
-pub record AreRejected (names : List (List ℕ)) (old now : DepotState) (outcome : Outcome) : Type 0 where
+pub record AreRejected (names : List (List ℕ)) (old now : DepotState) (outcome : Outcome)
+    : Type 0 where
   pub ends : EndsAt (IndexesAt names) old outcome ⊎ (outcome ≡ NoMemory)
   pub reads : OnlyReads IsIndexSlot old now
   pub faults : EndsByFault (OfFile Index) outcome (old.faults Index) (now.faults Index)

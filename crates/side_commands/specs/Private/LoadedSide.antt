@@ -13,12 +13,14 @@ use Rattle.command_ends.specs.declared.stop.Stop.TheVariants as stop
 use Rattle.command_ends.specs.Steps.Stops.{stop_of_loading}
 
 -- These words were loaded from the file under the name, and are the side words of some lists.
-pub record IsLoadedSide (lists : List BlockList) (name : List ℕ) (old new : DepotState) (words : List ℕ) : Type 0 where
+pub record IsLoadedSide (lists : List BlockList) (name : List ℕ) (old new : DepotState)
+    (words : List ℕ) : Type 0 where
   pub loads : LoadsWords Side name old new (Ok words)
   pub side : words ≡ side_words lists
 
 -- Words were loaded that are not, of which this is the first check that breaks.
-pub record IsNoSide (lists : List BlockList) (name : List ℕ) (old new : DepotState) (fault : SideFault) : Type 0 where
+pub record IsNoSide (lists : List BlockList) (name : List ℕ) (old new : DepotState)
+    (fault : SideFault) : Type 0 where
   pub words : List ℕ
   pub loads : LoadsWords Side name old new (Ok words)
   pub no_side : words ≢ side_words lists
@@ -35,5 +37,6 @@ stop_of_side error = stop_of_loading Side (stop.Side ragged_side) error
 -- Where a run stops that loaded no side file of some lists: no words were loaded, or they are none.
 abbrev pub IsUnloadedSide : List BlockList → List ℕ → DepotState → DepotState → Stop → Type 0
 IsUnloadedSide lists name old new it =
-    ((error : LoadWordsError) × LoadsWords Side name old new (Err error) × (it ≡ stop_of_side error))
+    ((error : LoadWordsError) × LoadsWords Side name old new (Err error)
+    × (it ≡ stop_of_side error))
     ⊎ ((fault : SideFault) × IsNoSide lists name old new fault × (it ≡ stop.Side fault))

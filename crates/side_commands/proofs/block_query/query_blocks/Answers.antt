@@ -91,9 +91,12 @@ returns-in_err-answer_by_blocks-clause-unaccepted g c = λ denied.
       short = c.side_files_are_short.ensures;
     } in
     let L : List BlockList → Type 0 = λ lists. IsLoadedSide lists c.args.side.now (g.D.Depot.state c.load_index.new.depot) (g.D.Depot.state c.load_side.new.depot) c.in_ok-greatest.greatest.items in
-    absurd (denied (c.known-index.result.collection, both_found laws c.args.index.now c.args.side.now _ _ c.known-index.result
-    (is_opened c.args.index.now _ _ c.in_ok-words.words.items c.deref.result.now c.known-index.result c.in_ok-words.ensures.loaded c.deref.ensures.value c.known-index.ensures.spells) _ _
-    (subst L c.new-blocks.ensures.lists c.in_ok-greatest.ensures.loaded)))
+    absurd (denied (
+      c.known-index.result.collection,
+      both_found laws c.args.index.now c.args.side.now _ _ c.known-index.result
+          (is_opened c.args.index.now _ _ c.in_ok-words.words.items c.deref.result.now c.known-index.result c.in_ok-words.ensures.loaded c.deref.ensures.value c.known-index.ensures.spells) _ _
+          (subst L c.new-blocks.ensures.lists c.in_ok-greatest.ensures.loaded),
+    ))
 
 pub returns-clause-leaves : goal.returns-clause-leaves
 returns-clause-leaves g c = λ e e' n.
@@ -122,6 +125,9 @@ returns-clause-unaccepted g c = λ denied.
       short = c.side_files_are_short.ensures;
     } in
     let L : List BlockList → Type 0 = λ lists. IsLoadedSide lists c.args.side.now (g.D.Depot.state c.load_index.new.depot) (g.D.Depot.state c.load_side.new.depot) c.in_ok-greatest.greatest.items in
-    absurd (denied (c.known-index.result.collection, both_found laws c.args.index.now c.args.side.now _ _ c.known-index.result
-    (is_opened c.args.index.now _ _ c.in_ok-words.words.items c.deref.result.now c.known-index.result c.in_ok-words.ensures.loaded c.deref.ensures.value c.known-index.ensures.spells) _ _
-    (subst L c.new-blocks.ensures.lists c.in_ok-greatest.ensures.loaded)))
+    absurd (denied (
+      c.known-index.result.collection,
+      both_found laws c.args.index.now c.args.side.now _ _ c.known-index.result
+          (is_opened c.args.index.now _ _ c.in_ok-words.words.items c.deref.result.now c.known-index.result c.in_ok-words.ensures.loaded c.deref.ensures.value c.known-index.ensures.spells) _ _
+          (subst L c.new-blocks.ensures.lists c.in_ok-greatest.ensures.loaded),
+    ))
