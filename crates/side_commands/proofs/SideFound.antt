@@ -35,6 +35,9 @@ pub record Laws : Type 0 where
   pub fault : OneSideFault
   pub short : SideFilesAreShort
 
+pub laws_of : WordsAreRead → OneBrokenCheck → OneIndex → OneSideFault → SideFilesAreShort → Laws
+laws_of read check index fault short = record { read = read; check = check; index = index; fault = fault; short = short }
+
 -- the first check of bytes that are no whole words, and of those of words
 abbrev pub Checked : List BlockList → List ℕ → SideFault → Bool → Type 0
 Checked lists bytes fault b = MatchBool b (fault ≡ ragged_side) ((ws : List ℕ) × AreOfWords bytes ws × IsFirstSideFault lists ws fault)
