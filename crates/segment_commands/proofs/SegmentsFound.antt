@@ -1,6 +1,6 @@
 -- One segment at most is refused, and none where all are accepted.
 use Rattle.std.proofs.Common.{◌≡◌, refl, sym, ◌∙◌, ap, subst, ℕ, zero, suc, ◌+◌, ◌<◌, ◌≤◌, List, [], ◌∷◌, ◌++◌, length, take, get_or, inl, inr, arith}
-use Rattle.std.specs.Prelude.{◌%◌, ◌==◌, not, Bool, true, false, IsTrue, MatchBool}
+use Rattle.std.specs.Prelude.{IsTrue}
 use Rattle.std.specs.List.{All}
 use Rattle.std.proofs.lemmas.Bool.{cases_lt}
 use Rattle.std.proofs.lemmas.List.{take-take, length-take, get_or-take, ext_get_or}
@@ -12,17 +12,15 @@ use Rattle.pef_io.specs.declared.fail.Slot.TheVariants.{Index}
 use Rattle.pef_io.specs.DepotState.{DepotState, bytes_under}
 use Rattle.index_file.specs.declared.fault.OpenFault.{OpenFault}
 use Rattle.index_file.specs.FileWords.{file_words}
-use Rattle.index_file.specs.FirstBroken.{IsFirstBroken}
 use Rattle.index_file.specs.Laws.{WordsAreRead, OneBrokenCheck, OneIndex}
 use Rattle.segments.specs.declared.pushed.SegRule.{SegRule}
 use Rattle.segments.specs.declared.pushed.SegRule.TheVariants.{G1, G2}
 use Rattle.segments.specs.Joined.{FitTogether, terms_in}
-use Rattle.command_model.specs.Found.{AreOfWords, most_bytes}
+use Rattle.command_model.specs.Found.{most_bytes}
 use Rattle.command_ends.specs.Outcome.{Outcome, BrokenSegment, UnfitSegment, TooLarge}
-use Rattle.command_ends.specs.FoundIndex.{FindsIndexOf, IsFirstBrokenOfFile, HasBroken}
+use Rattle.command_ends.specs.FoundIndex.{FindsIndexOf, HasBroken}
 use Rattle.command_ends.specs.FoundSegments.{no_collection, FindsSegments, IsUnfit, IsRefusedAt}
 use Rattle.command_ends.specs.SegmentStarts.{ComesTo}
-use Rattle.command_ends.specs.Steps.Stops.{ragged_index}
 use Rattle.command_ends.proofs.Counted.{not_both_lengths}
 use Rattle.command_ends.proofs.IndexLoaded.{index_is_short}
 use Rattle.command_ends.proofs.IndexRead.{one_first, whole}
