@@ -6,7 +6,7 @@ use Rattle.pef_io.specs.declared.fail.Slot.{Slot}
 use Rattle.pef_io.specs.declared.fail.Slot.TheVariants.{Docs, Freqs, Sizes, Index, Side, Map}
 use Rattle.pef_io.specs.Calls.{Rose}
 use Rattle.command_ends.specs.Outside.{Outside, Count, OfFile, OfWriting, OfInput, OfOut, failed}
-use Rattle.command_ends.specs.Outcome.{Outcome, FileFault, fault_of}
+use Rattle.command_ends.specs.Outcome.{Outcome, fault_of}
 use Rattle.command_ends.specs.Ends.{EndsByFault, FirstFaultEnds, OrNoMemory, OrTooLarge}
 
 -- of which count a fault is, where that is known

@@ -1,30 +1,26 @@
 -- The words of an index that a run loads, and what is found under its name.
-use Rattle.std.proofs.Common.{◌≡◌, ℕ, zero, suc, ◌≤◌, refl, sym, ◌∙◌, ap, subst, List, length, inl, inr}
-use Rattle.std.specs.Prelude.{None, ◌≢◌, ◌%◌, ◌==◌, not, true, false, IsTrue, MatchBool, Ok, Err}
+use Rattle.std.proofs.Common.{◌≡◌, ℕ, zero, suc, ◌≤◌, refl, sym, ◌∙◌, ap, subst, List, length}
+use Rattle.std.specs.Prelude.{None, ◌≢◌, ◌%◌, ◌==◌, not, true, false, IsTrue, MatchBool, Ok}
 use Rattle.std.proofs.Math.Dec.{eqb-suc-zero}
 use Rattle.collection_model.specs.Collection.{Collection}
 use Rattle.part_cost.specs.Formats.{numbers_of}
 use Rattle.pef_io.specs.declared.fail.Slot.TheVariants.{Index}
-use Rattle.pef_io.specs.SourceState.{SourceState}
-use Rattle.pef_io.specs.SinkState.{SinkState}
 use Rattle.pef_io.specs.DepotState.{DepotState, bytes_under}
 use Rattle.index_file.specs.declared.fault.OpenFault.{OpenFault}
 use Rattle.index_file.specs.FileWords.{IsIndex, Spells, file_words}
 use Rattle.index_file.specs.FirstBroken.{IsFirstBroken}
 use Rattle.index_file.specs.IndexView.{IndexView}
 use Rattle.index_file.specs.Builder.{most_words}
-use Rattle.index_file.specs.Laws.{WordsAreRead, OneBrokenCheck}
+use Rattle.index_file.specs.Laws.{WordsAreRead}
 use Rattle.command_model.specs.Found.{AreOfWords, most_bytes}
 use Rattle.word_files.specs.declared.loading.LoadWordsError.{LoadWordsError}
-use Rattle.word_files.specs.declared.loading.LoadWordsError.TheVariants as loading
 use Rattle.word_files.specs.LoadWords.{LoadsWords}
-use Rattle.command_ends.specs.Outside.{Outside, Count, NoCallFailed, outside, OfFile}
-use Rattle.command_ends.specs.Outcome.{Outcome, BrokenIndex, FileFault, NoMemory, TooLarge, fault_of}
-use Rattle.command_ends.specs.Ends.{OrNoMemory}
+use Rattle.command_ends.specs.Outside.{Count}
+use Rattle.command_ends.specs.Outcome.{Outcome, BrokenIndex, fault_of}
 use Rattle.command_ends.specs.FoundIndex.{FindsIndex, FindsIndexOf, IsFirstBrokenOfFile, HasBroken}
 use Rattle.command_ends.specs.Steps.LoadedIndex.{IsLoaded}
 use Rattle.command_ends.specs.Steps.Stops.{outcome_of_stop, ragged_index, stop_of_index}
-use Rattle.command_ends.proofs.Counted.{not_both_lengths, Of}
+use Rattle.command_ends.proofs.Counted.{Of}
 use Rattle.command_ends.proofs.WordsLoaded.{even, short}
 
 -- ---- bytes and words

@@ -1,6 +1,6 @@
 -- What a run leaves at an index: it is refused in one way only, and in none where it stands there.
 use Rattle.std.proofs.Common.{◌≡◌, ℕ, refl, sym, ◌∙◌, ap, subst, List, length, inl, inr}
-use Rattle.std.specs.Prelude.{◌%◌, ◌==◌, not, Bool, true, false, IsTrue, MatchBool, Result, Ok, Err}
+use Rattle.std.specs.Prelude.{◌%◌, ◌==◌, not, Bool, true, false, IsTrue, MatchBool, Result, Err}
 use Rattle.collection_model.specs.Collection.{Collection}
 use Rattle.part_cost.specs.Formats.{numbers_of}
 use Rattle.pef_io.specs.declared.fail.Slot.TheVariants.{Index}

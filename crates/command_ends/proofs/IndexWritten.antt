@@ -17,7 +17,7 @@ use Rattle.command_ends.specs.Outside.{Outside}
 use Rattle.command_ends.specs.Outcome.{Outcome}
 use Rattle.command_ends.specs.FoundIndex.{FindsIndex}
 use Rattle.command_ends.specs.WordsThen.{AreBuilt, BuildsWordsThen}
-use Rattle.command_ends.specs.WrittenIndex.{OnBuiltBytes, WritesIndex}
+use Rattle.command_ends.specs.WrittenIndex.{OnBuiltBytes}
 use Rattle.command_ends.specs.Steps.Stops.{outcome_of_stop, stop_of_making, written_outcome}
 use Rattle.command_ends.proofs.FileWritten.{Written}
 

@@ -1,6 +1,6 @@
 -- What a run leaves at its source: it is refused, or a call on one of its files failed, or it was read.
 use Rattle.std.proofs.Common.{◌≡◌, ℕ, arith, refl, sym, ◌∙◌, ap, subst, inl, inr}
-use Rattle.std.specs.Prelude.{◌≢◌, ◌⊎◌, true, false, Bool, IsTrue, Option, Some, None}
+use Rattle.std.specs.Prelude.{◌≢◌, ◌⊎◌, true, false, Bool, IsTrue, Some, None}
 use Rattle.collection_model.specs.Collection.{Collection}
 use Rattle.pef_io.specs.declared.fail.Slot.{Slot}
 use Rattle.pef_io.specs.declared.fail.Slot.TheVariants.{Index}
@@ -9,8 +9,8 @@ use Rattle.pef_io.specs.SourceState.{SourceState}
 use Rattle.pef_io.specs.SinkState.{SinkState}
 use Rattle.pef_io.proofs.OnlyReads.{OnlyReads-same}
 use Rattle.command_ends.specs.Outside.{Outside, outside, Count, NoCallFailed, OfFile, OfWriting, OfInput, OfOut}
-use Rattle.command_ends.specs.Outcome.{Outcome, Done, Usage, FileFault, InputFault, WriteFault, OutFault, NoMemory, TooLarge, InputTooLarge, fault_of}
-use Rattle.command_ends.specs.Ends.{EndsByFault, FirstFaultEnds, OrNoMemory}
+use Rattle.command_ends.specs.Outcome.{Outcome, Done, FileFault, InputFault, WriteFault, OutFault, NoMemory, TooLarge, InputTooLarge, fault_of}
+use Rattle.command_ends.specs.Ends.{EndsByFault, OrNoMemory}
 use Rattle.command_ends.specs.WrittenFile.{WritesOnlyAccepted}
 use Rattle.command_ends.specs.Sources.{Source, Nothing, IndexesAt, Accepts, ComesTo, EndsAt, Finds, IsRefusedAs, ReadsFrom, Refuses, Stands, StartedIn, Starts}
 use Rattle.command_ends.specs.Products.{Product, Replies, File, Files, Completes, Does, IsComplete, Touches, WritesTo, builds_words}

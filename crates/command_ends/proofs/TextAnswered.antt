@@ -1,23 +1,17 @@
 -- What a run leaves that answers a text from a collection that it found.
-use Rattle.std.proofs.Common.{◌≡◌, ℕ, refl, List, inl, inr}
-use Rattle.std.specs.Prelude.{Some, None, ◌≢◌, IsTrue, Result, Ok, Err}
+use Rattle.std.proofs.Common.{◌≡◌, refl, inl, inr}
+use Rattle.std.specs.Prelude.{Some, None, Result, Ok, Err}
 use Rattle.collection_model.specs.Collection.{Collection}
-use Rattle.part_cost.specs.declared.formats.Format.{Format}
-use Rattle.part_cost.specs.Formats.{numbers_of}
 use Rattle.pef_io.specs.declared.fail.Slot.{Slot}
-use Rattle.pef_io.specs.declared.fail.Slot.TheVariants.{Index}
-use Rattle.collection_reader.specs.declared.fault.Fault.{Fault}
-use Rattle.index_file.specs.declared.fault.OpenFault.{OpenFault}
 use Rattle.text_replies.specs.declared.text.RunFault.{RunFault}
 use Rattle.text_replies.specs.declared.text.RunFault.TheVariants as answering
 use Rattle.text_replies.specs.AnswerText.{AnswersText}
 use Rattle.command_ends.specs.Outside.{Outside, OfFile, OfWriting, OfInput, OfOut}
-use Rattle.command_ends.specs.Outcome.{Outcome, Done, BrokenCollection, BrokenIndex, InputFault, OutFault, NoMemory, TooLarge, InputTooLarge, is_refusal, fault_of}
+use Rattle.command_ends.specs.Outcome.{Outcome, Done, InputFault, OutFault, NoMemory, InputTooLarge, fault_of}
 use Rattle.command_ends.specs.Ends.{EndsByFault}
-use Rattle.command_ends.specs.WordsThen.{BuildsWordsThen}
 use Rattle.command_ends.specs.AnsweredText.{AnswersInput, MustAnswer, longest_text}
 use Rattle.command_ends.specs.Steps.Stops.{outcome_of_stop, stop_of_answering}
-use Rattle.command_ends.proofs.Counted.{stays, rises, second, not_true, not_both_lengths, longer_than, Of}
+use Rattle.command_ends.proofs.Counted.{stays, rises, second, not_both_lengths, longer_than, Of}
 
 abbrev pub Answer : Type 0
 Answer = Result (Unit {0}) RunFault

@@ -1,5 +1,5 @@
 -- What a run leaves that prints a text, or answers one, behind a source that was read.
-use Rattle.std.proofs.Common.{◌≡◌, ℕ, refl, List, inr}
+use Rattle.std.proofs.Common.{ℕ, refl, List, inr}
 use Rattle.std.specs.Prelude.{IsTrue, Ok, Err}
 use Rattle.collection_model.specs.Collection.{Collection}
 use Rattle.pef_io.specs.declared.fail.IoFail.TheVariants as call

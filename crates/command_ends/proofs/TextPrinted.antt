@@ -1,14 +1,12 @@
 -- What a run leaves that prints a text.
 use Rattle.std.proofs.Common.{◌≡◌, ℕ, refl, List, inl, inr}
-use Rattle.std.specs.Prelude.{Some, None, ◌≢◌, IsTrue, Result, Ok, Err}
+use Rattle.std.specs.Prelude.{Some, None, IsTrue, Result, Ok, Err}
 use Rattle.pef_io.specs.declared.fail.IoFail.{IoFail}
 use Rattle.pef_io.specs.declared.fail.IoFail.TheVariants as call
 use Rattle.pef_io.specs.declared.fail.Slot.{Slot}
-use Rattle.pef_io.specs.declared.fail.Slot.TheVariants.{Index}
-use Rattle.index_file.specs.declared.fault.OpenFault.{OpenFault}
 use Rattle.index_printing.specs.PrintLine.{PrintsLine}
 use Rattle.command_ends.specs.Outside.{Outside, NoCallFailed, OfFile, OfWriting, OfInput, OfOut}
-use Rattle.command_ends.specs.Outcome.{Outcome, Done, BrokenIndex, OutFault, NoMemory, TooLarge, is_refusal, fault_of}
+use Rattle.command_ends.specs.Outcome.{Done, OutFault, NoMemory, is_refusal, fault_of}
 use Rattle.command_ends.specs.Ends.{EndsByFault, OrNoMemory}
 use Rattle.command_ends.specs.PrintedText.{PrintsText}
 use Rattle.command_ends.specs.Steps.Stops.{printed_outcome}
