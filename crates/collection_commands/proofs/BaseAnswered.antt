@@ -23,7 +23,7 @@ use Rattle.command_ends.specs.Steps.Leaves.{Leaves}
 use Rattle.command_ends.specs.Steps.Stops.{outcome_of, stop_of_building}
 use Rattle.command_ends.proofs.TextAnswered.{Answer, answers_input, text_outcome}
 use Rattle.command_ends.proofs.TextMade.{text_answered}
-use Rattle.collection_commands.proofs.BuildRefused.{Cut, FaultLaws, built_read, collection_laws, cut_of, unbuilt, unbuilt_left}
+use Rattle.collection_commands.proofs.BuildRefused.{Cut, FaultLaws, built_read, collection_laws, cut_of, unbuilt_left}
 use Rattle.collection_commands.specs.Answer.{Answers, IsBuiltFrom, MakesAnswers, answer_format}
 
 -- what comes behind the building of words

@@ -1,6 +1,6 @@
 -- What a run leaves that builds the words of a collection: where they are not built, and what is known where they are.
 use Rattle.std.proofs.Common.{◌≡◌, ℕ, ◌≤◌, ◌<◌, ◌^◌, arith, refl, sym, ap, subst, List, length, inl, inr}
-use Rattle.std.specs.Prelude.{Some, None, IsTrue, Option, Result, Ok, Err, unwrap_or}
+use Rattle.std.specs.Prelude.{Some, None, IsTrue, Result, Ok, Err}
 use Rattle.collection_model.specs.FormatNumbers.{FormatNumbers}
 use Rattle.collection_model.specs.Collection.{Collection}
 use Rattle.collection_model.specs.Spelling.{Files}

@@ -1,5 +1,5 @@
 -- What `generate` leaves.
-use Rattle.std.proofs.Common.{◌≡◌, ℕ, ◌^◌, ◌≤◌, ◌<◌, arith, refl, sym, ◌∙◌, ap, subst, List, length, inl, inr}
+use Rattle.std.proofs.Common.{◌≡◌, ℕ, ◌≤◌, ◌<◌, refl, sym, ◌∙◌, ap, subst, List, length, inl, inr}
 use Rattle.std.specs.Prelude.{Result, Ok, Err, Vec}
 use Rattle.std.specs.declared.alloc.Global.{Global}
 use Rattle.collection_model.specs.Collection.{Collection}
@@ -19,7 +19,6 @@ use Rattle.command_model.specs.GeneratedText.{IsGeneratedText}
 use Rattle.index_file.specs.declared.builder.FinishError.{FinishError}
 use Rattle.index_file.specs.declared.builder.FinishError.TheVariants as making
 use Rattle.index_building.specs.WordsOfCollection.{AreWordsOf, WouldBeTooMany}
-use Rattle.index_printing.specs.PrintLine.{PrintsLine}
 use Rattle.index_printing.specs.PrintText.{MakesAndPrints}
 use Rattle.command_ends.specs.declared.stop.Stop.{Stop}
 use Rattle.command_ends.specs.Outside.{Outside, outside}

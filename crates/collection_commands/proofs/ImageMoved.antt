@@ -2,7 +2,7 @@
 use Rattle.std.proofs.Common.{◌≡◌, ℕ, zero, suc, ◌≤◌, refl, sym, ◌∙◌, ap, subst, List, [], get_or, inl, inr, ◌⊎◌, arith}
 use Rattle.std.proofs.lemmas.List.{append_cancel_left}
 use Rattle.std.proofs.lemmas.List.Elements.{All-get_or}
-use Rattle.std.specs.Prelude.{◌≢◌, IsTrue, Option, Some, None, Result, Ok, Err, unwrap_or, codes}
+use Rattle.std.specs.Prelude.{IsTrue, Option, Some, Result, Ok, Err, unwrap_or, codes}
 use Rattle.std.specs.List.{All}
 use Rattle.collection_model.specs.Collection.{Collection}
 use Rattle.collection_model.specs.Spelling.{Files, spelled}

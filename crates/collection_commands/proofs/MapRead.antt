@@ -1,7 +1,6 @@
 -- A collection and an order of its documents: they are refused in one way only, and in none where they stand there; and what a run leaves at them.
-use Rattle.std.proofs.Common.{◌≡◌, ℕ, ◌<◌, ◌^◌, refl, sym, ◌∙◌, ap, subst, List, length, inl, inr, ◌⊎◌, arith}
+use Rattle.std.proofs.Common.{◌≡◌, ℕ, refl, sym, ◌∙◌, ap, subst, List, length, inl, inr, ◌⊎◌, arith}
 use Rattle.std.specs.Prelude.{◌≢◌, IsTrue, Some, Result, Ok, Err}
-use Rattle.collection_model.specs.FormatNumbers.{FormatNumbers}
 use Rattle.collection_model.specs.Bytes.{number_sequence}
 use Rattle.collection_model.specs.Collection.{Collection}
 use Rattle.collection_model.specs.Laws.{OneCollection}
@@ -13,17 +12,16 @@ use Rattle.pef_io.specs.SourceState.{SourceState}
 use Rattle.pef_io.specs.SinkState.{SinkState}
 use Rattle.collection_reader.specs.declared.fault.Fault.{Fault}
 use Rattle.collection_reader.specs.ReadCollection.{IsCollectionSlot}
-use Rattle.remap.specs.declared.fault.MapFault.{MapFault}
 use Rattle.remap.specs.MapFaults.{IsMapFault}
 use Rattle.remap.specs.ReadMap.{OneMapFault}
 use Rattle.command_model.specs.Found.{FindsCollection}
-use Rattle.command_model.specs.FoundMap.{remap_numbers, HasMapFault, IsCollectionOrMap}
+use Rattle.command_model.specs.FoundMap.{remap_numbers, IsCollectionOrMap}
 use Rattle.command_model.specs.FilesWritten.{NamedFile}
 use Rattle.remapped_files.specs.declared.image.ImageError.{ImageError}
 use Rattle.remapped_files.specs.declared.image.ImageError.TheVariants as making
 use Rattle.remapped_files.specs.MakeImage.{MakesImage}
 use Rattle.command_ends.specs.Outside.{outside, OfFile}
-use Rattle.command_ends.specs.Outcome.{Outcome, BrokenCollection, BrokenMap, FileFault, NoMemory, fault_of}
+use Rattle.command_ends.specs.Outcome.{Outcome, BrokenCollection, BrokenMap, NoMemory, fault_of}
 use Rattle.command_ends.specs.Ends.{EndsByFault}
 use Rattle.command_ends.specs.Sources.{CollectionAt, EndsAt, IsRefusedAs, MapAt, Stands, Starts}
 use Rattle.command_ends.specs.Starts.{StartsOnly}
