@@ -37,6 +37,7 @@ docs = inl refl
 
 -- what comes of a source
 at_source : (source : Source) (depot : DepotState) (outcome : Outcome) → EndsAt source depot outcome → MayEndAt source outcome
+at_source Nothing depot (FileFault slot) h = h
 at_source (CollectionAt format base) depot (BrokenCollection fault) h = docs
 at_source (CollectionAt format base) depot (FileFault slot) h = h
 at_source (IndexAt name) depot (BrokenIndex fault) h = refl

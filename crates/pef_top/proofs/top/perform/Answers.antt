@@ -37,37 +37,37 @@ build-requires g c =
     record { plain = c.words_name_plain_formats.ensures (texts c.args.words.now) _ _ _ (sym (sym (ap (λ x. Some (asked x)) c.in-Build.is) ∙ c.in_ok-command.ensures.command)) }
 
 pub returns-in-Build-clause-leaves : goal.returns-in-Build-clause-leaves
-returns-in-Build-clause-leaves g c = λ e e'. left _ _ _ c.in-Build.is c.in_ok-command.ensures.command _ _ _ (c.build.ensures (g.I.Source.state c.args.input.now) (g.O.Sink.state c.args.out.now) e e')
+returns-in-Build-clause-leaves g c = λ e e'. left (texts c.args.words.now) _ _ c.in-Build.is c.in_ok-command.ensures.command _ _ _ (c.build.ensures (g.I.Source.state c.args.input.now) (g.O.Sink.state c.args.out.now) e e')
 
 pub returns-in-Query-clause-leaves : goal.returns-in-Query-clause-leaves
-returns-in-Query-clause-leaves g c = λ e e'. left _ _ _ c.in-Query.is c.in_ok-command.ensures.command _ _ _ (c.query.ensures.leaves e e' c.args.steps.now)
+returns-in-Query-clause-leaves g c = λ e e'. left (texts c.args.words.now) _ _ c.in-Query.is c.in_ok-command.ensures.command _ _ _ (c.query.ensures.leaves e e' c.args.steps.now)
 
 pub returns-in-Inspect-clause-leaves : goal.returns-in-Inspect-clause-leaves
-returns-in-Inspect-clause-leaves g c = λ e e'. left _ _ _ c.in-Inspect.is c.in_ok-command.ensures.command _ _ _ (c.inspect.ensures.leaves (g.I.Source.state c.args.input.now) e e' c.args.steps.now)
+returns-in-Inspect-clause-leaves g c = λ e e'. left (texts c.args.words.now) _ _ c.in-Inspect.is c.in_ok-command.ensures.command _ _ _ (c.inspect.ensures.leaves (g.I.Source.state c.args.input.now) e e' c.args.steps.now)
 
 pub returns-in-Answer-clause-leaves : goal.returns-in-Answer-clause-leaves
-returns-in-Answer-clause-leaves g c = λ e e'. left _ _ _ c.in-Answer.is c.in_ok-command.ensures.command _ _ _ (c.answer.ensures.leaves e e')
+returns-in-Answer-clause-leaves g c = λ e e'. left (texts c.args.words.now) _ _ c.in-Answer.is c.in_ok-command.ensures.command _ _ _ (c.answer.ensures.leaves e e')
 
 pub returns-in-Generate-clause-leaves : goal.returns-in-Generate-clause-leaves
-returns-in-Generate-clause-leaves g c = λ e e'. left _ _ _ c.in-Generate.is c.in_ok-command.ensures.command _ _ _ (c.generate.ensures.leaves (g.D.Depot.state c.args.depot.now) (g.I.Source.state c.args.input.now) e e')
+returns-in-Generate-clause-leaves g c = λ e e'. left (texts c.args.words.now) _ _ c.in-Generate.is c.in_ok-command.ensures.command _ _ _ (c.generate.ensures.leaves (g.D.Depot.state c.args.depot.now) (g.I.Source.state c.args.input.now) e e')
 
 pub returns-in-Migrate-clause-leaves : goal.returns-in-Migrate-clause-leaves
-returns-in-Migrate-clause-leaves g c = λ e e'. left _ _ _ c.in-Migrate.is c.in_ok-command.ensures.command _ _ _ (c.migrate.ensures (g.I.Source.state c.args.input.now) (g.O.Sink.state c.args.out.now) e e')
+returns-in-Migrate-clause-leaves g c = λ e e'. left (texts c.args.words.now) _ _ c.in-Migrate.is c.in_ok-command.ensures.command _ _ _ (c.migrate.ensures (g.I.Source.state c.args.input.now) (g.O.Sink.state c.args.out.now) e e')
 
 pub returns-in-Audit-clause-leaves : goal.returns-in-Audit-clause-leaves
-returns-in-Audit-clause-leaves g c = λ e e'. left _ _ _ c.in-Audit.is c.in_ok-command.ensures.command _ _ _ (c.audit.ensures.leaves (g.I.Source.state c.args.input.now) e e')
+returns-in-Audit-clause-leaves g c = λ e e'. left (texts c.args.words.now) _ _ c.in-Audit.is c.in_ok-command.ensures.command _ _ _ (c.audit.ensures.leaves (g.I.Source.state c.args.input.now) e e')
 
 pub returns-in-Blocks-clause-leaves : goal.returns-in-Blocks-clause-leaves
-returns-in-Blocks-clause-leaves g c = λ e e'. left _ _ _ c.in-Blocks.is c.in_ok-command.ensures.command _ _ _ (c.write_blocks.ensures (g.I.Source.state c.args.input.now) (g.O.Sink.state c.args.out.now) e e' c.args.steps.now)
+returns-in-Blocks-clause-leaves g c = λ e e'. left (texts c.args.words.now) _ _ c.in-Blocks.is c.in_ok-command.ensures.command _ _ _ (c.write_blocks.ensures (g.I.Source.state c.args.input.now) (g.O.Sink.state c.args.out.now) e e' c.args.steps.now)
 
 pub returns-in-BlockQuery-clause-leaves : goal.returns-in-BlockQuery-clause-leaves
-returns-in-BlockQuery-clause-leaves g c = λ e e'. left _ _ _ c.in-BlockQuery.is c.in_ok-command.ensures.command _ _ _ (c.query_blocks.ensures.leaves e e' c.args.steps.now)
+returns-in-BlockQuery-clause-leaves g c = λ e e'. left (texts c.args.words.now) _ _ c.in-BlockQuery.is c.in_ok-command.ensures.command _ _ _ (c.query_blocks.ensures.leaves e e' c.args.steps.now)
 
 pub returns-in-Remap-clause-leaves : goal.returns-in-Remap-clause-leaves
-returns-in-Remap-clause-leaves g c = λ e e'. left _ _ _ c.in-Remap.is c.in_ok-command.ensures.command _ _ _ (c.reorder.ensures (g.I.Source.state c.args.input.now) (g.O.Sink.state c.args.out.now) e e' c.args.steps.now)
+returns-in-Remap-clause-leaves g c = λ e e'. left (texts c.args.words.now) _ _ c.in-Remap.is c.in_ok-command.ensures.command _ _ _ (c.reorder.ensures (g.I.Source.state c.args.input.now) (g.O.Sink.state c.args.out.now) e e' c.args.steps.now)
 
 pub returns-in-Segments-clause-leaves : goal.returns-in-Segments-clause-leaves
-returns-in-Segments-clause-leaves g c = λ e e'. left _ _ _ c.in-Segments.is c.in_ok-command.ensures.command _ _ _ (c.answer_segments.ensures.leaves e e' c.args.steps.now)
+returns-in-Segments-clause-leaves g c = λ e e'. left (texts c.args.words.now) _ _ c.in-Segments.is c.in_ok-command.ensures.command _ _ _ (c.answer_segments.ensures.leaves e e' c.args.steps.now)
 
 -- Neither the input nor out was called.
 silent : {D I O : Type 0} (depot depot' : D) (input input' : I) (out out' : O) → (input' ≡ input) × (out' ≡ out)
@@ -92,24 +92,24 @@ uncalled {D} {I} {O} ws it other is was d outcome old new calls prints input ref
 
 pub returns-in-Query-clause-uncalled : goal.returns-in-Query-clause-uncalled
 returns-in-Query-clause-uncalled g c =
-    uncalled _ _ _ c.in-Query.is c.in_ok-command.ensures.command _ _ _ _ refl refl (λ h. absurd (not_true h)) (λ h. silent _ _ _ _ _ _ (c.query.ensures.refused h)) (λ h. silent _ _ _ _ _ _ (c.query.ensures.unaccepted h))
+    uncalled (texts c.args.words.now) _ _ c.in-Query.is c.in_ok-command.ensures.command _ _ _ _ refl refl (λ h. absurd (not_true h)) (λ h. silent _ _ _ _ _ _ (c.query.ensures.refused h)) (λ h. silent _ _ _ _ _ _ (c.query.ensures.unaccepted h))
 
 pub returns-in-Answer-clause-uncalled : goal.returns-in-Answer-clause-uncalled
 returns-in-Answer-clause-uncalled g c =
-    uncalled _ _ _ c.in-Answer.is c.in_ok-command.ensures.command _ _ _ _ refl refl (λ h. absurd (not_true h)) (λ h. silent _ _ _ _ _ _ (c.answer.ensures.refused h)) (λ h. silent _ _ _ _ _ _ (c.answer.ensures.unaccepted h))
+    uncalled (texts c.args.words.now) _ _ c.in-Answer.is c.in_ok-command.ensures.command _ _ _ _ refl refl (λ h. absurd (not_true h)) (λ h. silent _ _ _ _ _ _ (c.answer.ensures.refused h)) (λ h. silent _ _ _ _ _ _ (c.answer.ensures.unaccepted h))
 
 pub returns-in-Inspect-clause-uncalled : goal.returns-in-Inspect-clause-uncalled
 returns-in-Inspect-clause-uncalled g c =
-    uncalled _ _ _ c.in-Inspect.is c.in_ok-command.ensures.command _ _ _ _ refl refl (λ h. refl) (λ h. silent _ _ _ _ _ _ (refl, c.inspect.ensures.refused h)) (λ h. silent _ _ _ _ _ _ (refl, c.inspect.ensures.unaccepted h))
+    uncalled (texts c.args.words.now) _ _ c.in-Inspect.is c.in_ok-command.ensures.command _ _ _ _ refl refl (λ h. refl) (λ h. silent _ _ _ _ _ _ (refl, c.inspect.ensures.refused h)) (λ h. silent _ _ _ _ _ _ (refl, c.inspect.ensures.unaccepted h))
 
 pub returns-in-Audit-clause-uncalled : goal.returns-in-Audit-clause-uncalled
 returns-in-Audit-clause-uncalled g c =
-    uncalled _ _ _ c.in-Audit.is c.in_ok-command.ensures.command _ _ _ _ refl refl (λ h. refl) (λ h. silent _ _ _ _ _ _ (refl, c.audit.ensures.refused h)) (λ h. silent _ _ _ _ _ _ (refl, c.audit.ensures.unaccepted h))
+    uncalled (texts c.args.words.now) _ _ c.in-Audit.is c.in_ok-command.ensures.command _ _ _ _ refl refl (λ h. refl) (λ h. silent _ _ _ _ _ _ (refl, c.audit.ensures.refused h)) (λ h. silent _ _ _ _ _ _ (refl, c.audit.ensures.unaccepted h))
 
 pub returns-in-BlockQuery-clause-uncalled : goal.returns-in-BlockQuery-clause-uncalled
 returns-in-BlockQuery-clause-uncalled g c =
-    uncalled _ _ _ c.in-BlockQuery.is c.in_ok-command.ensures.command _ _ _ _ refl refl (λ h. absurd (not_true h)) (λ h. silent _ _ _ _ _ _ (c.query_blocks.ensures.refused h)) (λ h. silent _ _ _ _ _ _ (c.query_blocks.ensures.unaccepted h))
+    uncalled (texts c.args.words.now) _ _ c.in-BlockQuery.is c.in_ok-command.ensures.command _ _ _ _ refl refl (λ h. absurd (not_true h)) (λ h. silent _ _ _ _ _ _ (c.query_blocks.ensures.refused h)) (λ h. silent _ _ _ _ _ _ (c.query_blocks.ensures.unaccepted h))
 
 pub returns-in-Segments-clause-uncalled : goal.returns-in-Segments-clause-uncalled
 returns-in-Segments-clause-uncalled g c =
-    uncalled _ _ _ c.in-Segments.is c.in_ok-command.ensures.command _ _ _ _ refl refl (λ h. absurd (not_true h)) (λ h. silent _ _ _ _ _ _ (c.answer_segments.ensures.refused h)) (λ h. silent _ _ _ _ _ _ (c.answer_segments.ensures.unaccepted h))
+    uncalled (texts c.args.words.now) _ _ c.in-Segments.is c.in_ok-command.ensures.command _ _ _ _ refl refl (λ h. absurd (not_true h)) (λ h. silent _ _ _ _ _ _ (c.answer_segments.ensures.refused h)) (λ h. silent _ _ _ _ _ _ (c.answer_segments.ensures.unaccepted h))
