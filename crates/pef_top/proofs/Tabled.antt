@@ -1,5 +1,5 @@
 -- A command ends as the table of outcomes says.
-use Rattle.std.proofs.Common.{◌≡◌, refl, inl, inr, ◌⊎◌, ℕ, List}
+use Rattle.std.proofs.Common.{refl, inl, inr, ◌⊎◌, ℕ, List}
 use Rattle.std.specs.Prelude.{IsTrue, Some}
 use Rattle.collection_model.specs.Collection.{Collection}
 use Rattle.pef_io.specs.declared.fail.Slot.{Slot}

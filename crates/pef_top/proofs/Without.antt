@@ -1,5 +1,5 @@
 -- A run that was refused memory before it came to its command.
-use Rattle.std.proofs.Common.{refl, ℕ, inl, inr}
+use Rattle.std.proofs.Common.{refl, ℕ, inl}
 use Rattle.std.specs.Prelude.{Some}
 use Rattle.pef_io.specs.SourceState.{SourceState}
 use Rattle.pef_io.specs.SinkState.{SinkState}
