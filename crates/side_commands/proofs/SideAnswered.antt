@@ -1,6 +1,6 @@
 -- What `bquery` leaves.
 use Rattle.std.proofs.Common.{◌≡◌, ℕ, refl, sym, subst, List, inl}
-use Rattle.std.specs.Prelude.{Result, Err}
+use Rattle.std.specs.Prelude.{Result}
 use Rattle.pef_io.specs.SourceState.{SourceState}
 use Rattle.pef_io.specs.SinkState.{SinkState}
 use Rattle.pef_io.specs.DepotState.{DepotState}

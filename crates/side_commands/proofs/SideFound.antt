@@ -1,10 +1,9 @@
 -- An index and its side file: they are refused in one way only, and in none where they stand there.
-use Rattle.std.proofs.Common.{◌≡◌, ℕ, ◌≤◌, arith, refl, sym, ◌∙◌, ap, subst, List, length, inl, inr}
+use Rattle.std.proofs.Common.{◌≡◌, ℕ, arith, refl, sym, ◌∙◌, ap, subst, List, length, inl, inr}
 use Rattle.std.specs.Prelude.{◌%◌, ◌==◌, not, true, false, IsTrue, Bool, MatchBool}
 use Rattle.collection_model.specs.Collection.{Collection}
 use Rattle.part_cost.specs.declared.formats.Format.{Format}
 use Rattle.part_cost.specs.Formats.{numbers_of}
-use Rattle.pef_io.specs.declared.fail.Slot.TheVariants.{Index, Side}
 use Rattle.pef_io.specs.DepotState.{DepotState, bytes_under}
 use Rattle.index_file.specs.FileWords.{ListParts, file_words}
 use Rattle.index_file.specs.Laws.{WordsAreRead, OneBrokenCheck, OneIndex}
@@ -15,10 +14,10 @@ use Rattle.block_max.specs.SideFaults.{IsFirstSideFault}
 use Rattle.block_max.specs.SideWords.{side_words}
 use Rattle.index_blocks.specs.BlockLists.{block_lists}
 use Rattle.index_blocks.specs.Laws.{SideFilesAreShort}
-use Rattle.command_model.specs.Found.{AreOfWords, most_bytes}
+use Rattle.command_model.specs.Found.{AreOfWords}
 use Rattle.command_ends.specs.Outcome.{Outcome, BrokenIndex, BrokenSide, TooLarge}
-use Rattle.command_ends.specs.FoundIndex.{FindsIndex, FindsIndexOf}
-use Rattle.command_ends.specs.FoundSide.{FindsWithSide, HasBrokenSide, IsFirstSideFaultOfFile, side_of}
+use Rattle.command_ends.specs.FoundIndex.{FindsIndex}
+use Rattle.command_ends.specs.FoundSide.{HasBrokenSide, IsFirstSideFaultOfFile, side_of}
 use Rattle.command_ends.specs.Sources.{Accepts, IndexAt, IsRefusedAs, SideAt, Stands}
 use Rattle.command_ends.proofs.Counted.{not_both_lengths}
 use Rattle.command_ends.proofs.IndexLoaded.{is_even}
