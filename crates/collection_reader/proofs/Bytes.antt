@@ -1,8 +1,5 @@
-use Rattle.std.proofs.Common.{zero, refl, lit<, ◌≡◌, ◌∙◌, sym, ap, ℕ, suc, ◌+◌, ◌-◌, ◌<◌, ◌≤◌, ◌∷◌, ◌++◌, List, [], length, take, drop, get_or, arith, add-one, Ok, Err, Bool, true, IsTrue, drop-cons}
+use Rattle.std.proofs.Common.{◌≡◌, ◌∙◌, sym, ap, ℕ, suc, ◌+◌, ◌-◌, ◌<◌, ◌≤◌, ◌∷◌, ◌++◌, List, [], length, take, drop, get_or, arith, add-one, Ok, Err, Bool, true, IsTrue, drop-cons}
 use Rattle.std.proofs.lemmas.List.{length-append, length-take}
-use Rattle.std.proofs.lemmas.Nat.{le_bytes_4}
-use Rattle.std.specs.Int.{from_le_bytes, w32}
-use Rattle.collection_model.specs.Bytes.{le32}
 use Rattle.pef_io.specs.DepotState.{DepotState}
 use Rattle.collection_reader.specs.declared.fault.CollError.{CollError}
 use Rattle.collection_reader.specs.declared.position.Position.{Position}

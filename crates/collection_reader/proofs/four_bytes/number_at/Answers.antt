@@ -1,4 +1,4 @@
-use Rattle.std.proofs.Common.{◌∙◌, ap, ℕ, ◌<◌, ◌-◌, drop, length, get_or, arith}
+use Rattle.std.proofs.Common.{◌∙◌, ap, ◌-◌, drop, length, arith}
 use Rattle.std.proofs.lemmas.List.{length-drop, take_all}
 use Rattle.byteorder.specs.Endian.{little_number}
 use Rattle.collection_reader.proofs.HeldNumbers.{read_behind}
