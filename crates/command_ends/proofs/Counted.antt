@@ -51,12 +51,6 @@ pub second : {A B : Type 0} → (A ⊎ B) → ¬ A → B
 second (inl a) not_first = absurd (not_first a)
 second (inr b) not_first = b
 
--- none of three
-pub none_of : {A B C P : Type 0} → (A ⊎ B ⊎ C) → ¬ A → ¬ B → ¬ C → P
-none_of (inl a) x y z = absurd (x a)
-none_of (inr (inl b)) x y z = absurd (y b)
-none_of (inr (inr c)) x y z = absurd (z c)
-
 pub not_true : IsTrue false → ⊥
 not_true h = cc
 

@@ -22,19 +22,24 @@ pub record AnswersAll (Is : Collection → Type 0) (old new : Outside) : Type 0 
 
 -- The lines that ended within the bytes read are answered.
 abbrev pub AnswersRead : (Collection → Type 0) → Outside → Outside → Type 0
-AnswersRead Is old new = OnAccepted Is old (λ c. (read : List ℕ) × (old.input.left ≡ read ++ new.input.left) × (length read ≤ longest_text)
+AnswersRead Is old new =
+    OnAccepted Is old (λ c.
+    (read : List ℕ) × (old.input.left ≡ read ++ new.input.left) × (length read ≤ longest_text)
     × GotReplies c (ended_lines read) old.out new.out)
 
 -- Out got a front of the replies, also of those to the lines of the bytes within the limit, and what is left of the input is what was not read.
 pub record AnswersInPart (Is : Collection → Type 0) (old new : Outside) : Type 0 where
-  pub replies : OnAccepted Is old (λ c. GotFrontOfReplies c (text_lines old.input.left) old.out new.out
+  pub replies : OnAccepted Is old (λ c.
+      GotFrontOfReplies c (text_lines old.input.left) old.out new.out
       × GotFrontOfReplies c (text_lines (take longest_text old.input.left)) old.out new.out)
   pub taken : IsTrue old.input.tells → (read : List ℕ) × (old.input.left ≡ read ++ new.input.left)
 
 -- More bytes than the limit were read, and the lines that ended within the limit are answered.
 pub record AnswersWithin (Is : Collection → Type 0) (old new : Outside) : Type 0 where
-  pub replies : OnAccepted Is old (λ c. GotReplies c (ended_lines (take longest_text old.input.left)) old.out new.out)
-  pub longer : IsTrue old.input.tells → (read : List ℕ) × (old.input.left ≡ read ++ new.input.left) × (longest_text < length read)
+  pub replies : OnAccepted Is old (λ c.
+      GotReplies c (ended_lines (take longest_text old.input.left)) old.out new.out)
+  pub longer : IsTrue old.input.tells →
+      (read : List ℕ) × (old.input.left ≡ read ++ new.input.left) × (longest_text < length read)
 
 -- A run answers the input from a collection of this property, and ends so. Want of memory may come before one is accepted.
 abbrev pub AnswersInput : (Collection → Type 0) → Outside → Outside → Outcome → Type 0
@@ -46,6 +51,9 @@ AnswersInput Is old new InputTooLarge = AnswersWithin Is old new
 AnswersInput Is old new outcome = ⊥
 
 -- A text within the limit is answered whole, and a longer one is refused, where no call fails, no index is too large and memory is not refused.
-pub record MustAnswer (Is : Collection → Type 0) (old new : Outside) (outcome : Outcome) : Type 0 where
-  pub complete : Told old → (c : Collection) → Is c → NoCallFailed old new → length old.input.left ≤ longest_text → OrTooLarge Done outcome
-  pub limited : Told old → (c : Collection) → Is c → NoCallFailed old new → longest_text < length old.input.left → OrTooLarge InputTooLarge outcome
+pub record MustAnswer (Is : Collection → Type 0) (old new : Outside) (outcome : Outcome)
+    : Type 0 where
+  pub complete : Told old → (c : Collection) → Is c → NoCallFailed old new
+      → length old.input.left ≤ longest_text → OrTooLarge Done outcome
+  pub limited : Told old → (c : Collection) → Is c → NoCallFailed old new
+      → longest_text < length old.input.left → OrTooLarge InputTooLarge outcome

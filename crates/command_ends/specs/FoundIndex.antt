@@ -12,7 +12,8 @@ use Rattle.index_file.specs.Builder.{most_words}
 use Rattle.command_model.specs.Found.{AreOfWords, most_bytes}
 
 -- An index in this format, of this collection in these parts, which is not too large, stands under the name, as far as the depot tells.
-pub record FindsIndex (format : FormatNumbers) (name : List ℕ) (depot : DepotState) (c : Collection) (parts : List ListParts) : Type 0 where
+pub record FindsIndex (format : FormatNumbers) (name : List ℕ) (depot : DepotState)
+    (c : Collection) (parts : List ListParts) : Type 0 where
   pub plain : format.kind ≡ Plain
   pub well_formed : WellFormed format c
   pub partitions : ArePartitions c.lists parts
@@ -21,7 +22,9 @@ pub record FindsIndex (format : FormatNumbers) (name : List ℕ) (depot : DepotS
 
 -- An index of this collection, in some format and some parts, stands under the name.
 abbrev pub FindsIndexOf : List ℕ → DepotState → Collection → Type 0
-FindsIndexOf name depot c = (format : Format) × (parts : List ListParts) × FindsIndex (numbers_of format) name depot c parts
+FindsIndexOf name depot c =
+    (format : Format) × (parts : List ListParts)
+    × FindsIndex (numbers_of format) name depot c parts
 
 -- The first check of a file's bytes that breaks: that they are whole words, and then the checks of the words, in the format of their version.
 abbrev pub IsFirstBrokenOfFile : List ℕ → OpenFault → Type 0

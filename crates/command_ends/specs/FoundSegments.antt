@@ -14,9 +14,11 @@ no_collection = record { documents = 0; lists = []; sizes = [] }
 
 -- The segments under these names are accepted: an index of each of these collections stands under the name at its place, as far as the depot
 -- tells, and together they can be joined.
-pub record FindsSegments (names : List (List ℕ)) (depot : DepotState) (cs : List Collection) : Type 0 where
+pub record FindsSegments (names : List (List ℕ)) (depot : DepotState) (cs : List Collection)
+    : Type 0 where
   pub as_many : length cs ≡ length names
-  pub each : (s : ℕ) → s < length names → FindsIndexOf (get_or names s []) depot (get_or cs s no_collection)
+  pub each : (s : ℕ) → s < length names
+      → FindsIndexOf (get_or names s []) depot (get_or cs s no_collection)
   pub fit : FitTogether cs
 
 -- The segments under these names are accepted, and this is the collection that they are joined to.
@@ -25,17 +27,25 @@ FindsJoined names depot c = (cs : List Collection) × FindsSegments names depot 
 
 -- The segments before this one are accepted, and P holds of their collections and of its name.
 abbrev pub OnSegment : List (List ℕ) → DepotState → ℕ → (List Collection → List ℕ → Type 0) → Type 0
-OnSegment names depot s P = (s < length names) × ((cs : List Collection) × FindsSegments (take s names) depot cs × P cs (get_or names s []))
+OnSegment names depot s P =
+    (s < length names)
+    × ((cs : List Collection) × FindsSegments (take s names) depot cs × P cs (get_or names s []))
 
 -- A collection cannot be joined behind others: it has another number of terms than the first of them, or else too many documents.
 abbrev pub IsUnfit : List Collection → Collection → SegRule → Type 0
 IsUnfit cs c G1 = (0 < length cs) × (length c.lists ≢ terms_in cs)
-IsUnfit cs c G2 = (length c.lists ≡ terms_in (cs ++ c ∷ [])) × (most_joined < documents_in cs + c.documents)
+IsUnfit cs c G2 =
+    (length c.lists ≡ terms_in (cs ++ c ∷ [])) × (most_joined < documents_in cs + c.documents)
 
 -- A segment is refused so, and those before it are accepted: it is no index, and this is its first check that breaks; or it is an index that
 -- cannot be joined to those before it, by this rule; or it has more bytes than the limit.
 abbrev pub IsRefusedAt : List (List ℕ) → DepotState → Outcome → Type 0
-IsRefusedAt names depot (BrokenSegment fault s) = OnSegment names depot s (λ cs name. HasBroken name depot fault)
-IsRefusedAt names depot (UnfitSegment rule s) = OnSegment names depot s (λ cs name. (c : Collection) × FindsIndexOf name depot c × IsUnfit cs c rule)
-IsRefusedAt names depot (TooLarge slot) = IsIndexSlot slot × ((s : ℕ) × OnSegment names depot s (λ cs name. most_bytes < length (bytes_under depot name)))
+IsRefusedAt names depot (BrokenSegment fault s) =
+    OnSegment names depot s (λ cs name. HasBroken name depot fault)
+IsRefusedAt names depot (UnfitSegment rule s) =
+    OnSegment names depot s (λ cs name.
+    (c : Collection) × FindsIndexOf name depot c × IsUnfit cs c rule)
+IsRefusedAt names depot (TooLarge slot) =
+    IsIndexSlot slot
+    × ((s : ℕ) × OnSegment names depot s (λ cs name. most_bytes < length (bytes_under depot name)))
 IsRefusedAt names depot outcome = ⊥

@@ -29,12 +29,14 @@ side_of c parts = side_words (block_lists c.lists parts)
 
 -- That side file stands under the name, as far as the depot tells.
 abbrev pub FindsSide : List ℕ → DepotState → Collection → List ListParts → Type 0
-FindsSide name depot c parts = IsTrue depot.tells → AreOfWords (bytes_under depot name) (side_of c parts)
+FindsSide name depot c parts =
+    IsTrue depot.tells → AreOfWords (bytes_under depot name) (side_of c parts)
 
 -- An index of this collection stands under one name, and its side file under another.
 abbrev pub FindsWithSide : List ℕ → List ℕ → DepotState → Collection → Type 0
 FindsWithSide index side depot c =
-    (format : Format) × (parts : List ListParts) × FindsIndex (numbers_of format) index depot c parts × FindsSide side depot c parts
+    (format : Format) × (parts : List ListParts)
+    × FindsIndex (numbers_of format) index depot c parts × FindsSide side depot c parts
 
 -- The first check that a file's bytes break as the side file of some lists: that they are whole words, and then the checks of the words.
 abbrev pub IsFirstSideFaultOfFile : List BlockList → List ℕ → SideFault → Type 0
@@ -43,10 +45,12 @@ IsFirstSideFaultOfFile lists bytes fault =
     ((words : List ℕ) × AreOfWords bytes words × IsFirstSideFault lists words fault)
 
 -- An index stands under one name; the file under another is not too large, and this is the first check that it breaks as its side file.
-pub record HasBrokenSide (index side : List ℕ) (depot : DepotState) (fault : SideFault) : Type 0 where
+pub record HasBrokenSide (index side : List ℕ) (depot : DepotState) (fault : SideFault)
+    : Type 0 where
   pub format : Format
   pub collection : Collection
   pub parts : List ListParts
   pub found : FindsIndex (numbers_of format) index depot collection parts
   pub within : length (bytes_under depot side) ≤ most_bytes
-  pub first : IsFirstSideFaultOfFile (block_lists collection.lists parts) (bytes_under depot side) fault
+  pub first : IsFirstSideFaultOfFile (block_lists collection.lists parts) (bytes_under depot side)
+      fault

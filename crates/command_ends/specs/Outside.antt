@@ -16,7 +16,8 @@ pub record Outside : Type 0 where
 
 -- one put together
 abbrev pub outside : DepotState → SourceState → SinkState → SinkState → ℕ → Outside
-outside depot input out err costs = record { depot = depot; input = input; out = out; err = err; costs = costs }
+outside depot input out err costs =
+    record { depot = depot; input = input; out = out; err = err; costs = costs }
 
 -- The depot, the input and out tell their bytes.
 pub record Told (old : Outside) : Type 0 where
@@ -58,4 +59,7 @@ pub record IsUnanswered (old new : Outside) : Type 0 where
 -- A sink got a text whole, or, only where it failed or was refused memory, a front of it.
 abbrev pub GotText : SinkState → SinkState → List ℕ → Type 0
 GotText old new text =
-    IsTrue old.tells → (new.written ≡ old.written ++ text) ⊎ ((Rose old.faults new.faults ⊎ Rose old.refusals new.refusals) × AppendsFront old.written new.written text)
+    IsTrue old.tells →
+    (new.written ≡ old.written ++ text)
+    ⊎ ((Rose old.faults new.faults ⊎ Rose old.refusals new.refusals)
+    × AppendsFront old.written new.written text)

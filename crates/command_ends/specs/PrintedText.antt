@@ -5,11 +5,14 @@ use Rattle.command_ends.specs.Outcome.{Outcome, Done, OutFault, NoMemory}
 
 -- Out got a text of this property.
 abbrev pub GotWhole : (List ℕ → Type 0) → Outside → Outside → Type 0
-GotWhole Is old new = (text : List ℕ) × Is text × (IsTrue old.out.tells → new.out.written ≡ old.out.written ++ text)
+GotWhole Is old new =
+    (text : List ℕ) × Is text × (IsTrue old.out.tells → new.out.written ≡ old.out.written ++ text)
 
 -- Out got a front of a text of this property.
 abbrev pub GotFront : (List ℕ → Type 0) → Outside → Outside → Type 0
-GotFront Is old new = (text : List ℕ) × Is text × (IsTrue old.out.tells → AppendsFront old.out.written new.out.written text)
+GotFront Is old new =
+    (text : List ℕ) × Is text
+    × (IsTrue old.out.tells → AppendsFront old.out.written new.out.written text)
 
 -- A run prints a text of this property, and ends so. Want of memory may come before there is one.
 abbrev pub PrintsText : (List ℕ → Type 0) → Outside → Outside → Outcome → Type 0

@@ -19,7 +19,9 @@ IsSegmentCount names depot (UnfitSegment rule s) n = n ≡ suc s
 IsSegmentCount names depot (FileFault slot) n = (1 ≤ n) × (n ≤ length names)
 IsSegmentCount names depot NoMemory n = n ≤ length names
 IsSegmentCount names depot (TooLarge slot) n =
-    (s : ℕ) × (n ≡ suc s) × (s < length names) × (IsTrue depot.tells → OnSegment names depot s (λ cs name. most_bytes < length (bytes_under depot name)))
+    (s : ℕ) × (n ≡ suc s) × (s < length names)
+    × (IsTrue depot.tells
+    → OnSegment names depot s (λ cs name. most_bytes < length (bytes_under depot name)))
 IsSegmentCount names depot outcome n = n ≡ length names
 
 -- The segments before each of the first n are accepted.
@@ -28,10 +30,13 @@ ComesTo names depot n = (s : ℕ) → s < n → OnSegment names depot s (λ cs n
 
 -- The slot of the index is started once for each segment that is read, and of each only once those before it are accepted.
 abbrev pub StartsInTurn : List (List ℕ) → Outcome → DepotState → DepotState → Type 0
-StartsInTurn names outcome old new = (n : ℕ) × IsSegmentCount names old outcome n × ComesTo names old n × (new.starts Index ≡ raised n (old.starts Index))
+StartsInTurn names outcome old new =
+    (n : ℕ) × IsSegmentCount names old outcome n × ComesTo names old n
+    × (new.starts Index ≡ raised n (old.starts Index))
 
 -- What a run that reads the segments under these names starts, and what memory its depot is refused.
-pub record StartsEach (names : List (List ℕ)) (outcome : Outcome) (old new : DepotState) : Type 0 where
+pub record StartsEach (names : List (List ℕ)) (outcome : Outcome) (old new : DepotState)
+    : Type 0 where
   -- The slot of the index is started for each segment in turn, and no other is started.
   pub in_turn : StartsInTurn names outcome old new
   pub no_others : (slot : Slot) → ¬ IsIndexSlot slot → new.starts slot ≡ old.starts slot

@@ -8,16 +8,21 @@ use Rattle.command_ends.specs.Outcome.{Outcome, Done, WriteFault, NoMemory, is_r
 
 -- Nothing is written, or the name is still the one that is being written, and a front of these bytes may stand under it.
 abbrev pub IsLeftInPart : List ℕ → DepotState → DepotState → List ℕ → Type 0
-IsLeftInPart name old new bytes = IsUnwritten old new ⊎ (IsBeingWritten name old new × IsWrittenInPart name old new bytes)
+IsLeftInPart name old new bytes =
+    IsUnwritten old new ⊎ (IsBeingWritten name old new × IsWrittenInPart name old new bytes)
 
 -- A run writes the file of a slot under the name, and ends so: it gets the bytes of which OnBytes tells, or a front of them. Want of memory
 -- may come before they are made, and behind the create only of the depot.
-abbrev pub WritesFile : Slot → List ℕ → ((List ℕ → Type 0) → Type 0) → Outside → Outside → Outcome → Type 0
+abbrev pub WritesFile : Slot → List ℕ → ((List ℕ → Type 0) → Type 0) → Outside → Outside
+    → Outcome → Type 0
 WritesFile slot name OnBytes old new Done = OnBytes (IsWritten name old.depot new.depot)
 WritesFile slot name OnBytes old new (WriteFault written) = (written ≡ slot)
-    × OnBytes (λ bytes. IsLeftInPart name old.depot new.depot bytes × IsLeftByFault name old.depot new.depot bytes)
+    × OnBytes (λ bytes.
+    IsLeftInPart name old.depot new.depot bytes × IsLeftByFault name old.depot new.depot bytes)
 WritesFile slot name OnBytes old new NoMemory =
-    IsUnwritten old.depot new.depot ⊎ (Rose old.depot.refusals new.depot.refusals × OnBytes (IsLeftInPart name old.depot new.depot))
+    IsUnwritten old.depot new.depot
+    ⊎ (Rose old.depot.refusals new.depot.refusals
+    × OnBytes (IsLeftInPart name old.depot new.depot))
 WritesFile slot name OnBytes old new outcome = ⊥
 
 -- A run ends by the failed write of one of these files.
@@ -26,11 +31,16 @@ EndsByWriting written outcome = (slot : Slot) × written slot × (outcome ≡ Wr
 
 -- Only these slots are started and read; files are changed, and names created, only where what is read is accepted and the run is not refused;
 -- a create or a finish fails only where the run ends by the failed write of one of the files that are written.
-pub record WritesOnlyAccepted (touched written : Slot → Type 0) (accepted : Type 0) (old new : Outside) (outcome : Outcome) : Type 0 where
+pub record WritesOnlyAccepted (touched written : Slot → Type 0) (accepted : Type 0)
+    (old new : Outside) (outcome : Outcome) : Type 0 where
   pub refused : IsTrue (is_refusal outcome) → OnlyReads touched old.depot new.depot
   pub unaccepted : ¬ accepted → OnlyReads touched old.depot new.depot
-  pub stay_started : (slot : Slot) → IsTrue (old.depot.started slot) → IsTrue (new.depot.started slot)
+  pub stay_started : (slot : Slot) →
+      IsTrue (old.depot.started slot) → IsTrue (new.depot.started slot)
   pub other_slots : (slot : Slot) → ¬ touched slot →
-      (new.depot.started slot ≡ old.depot.started slot) × (IsTrue old.depot.tells → new.depot.left slot ≡ old.depot.left slot)
-  pub create_count : EndsByWriting written outcome ⊎ (new.depot.create_faults ≡ old.depot.create_faults)
-  pub finish_count : EndsByWriting written outcome ⊎ (new.depot.finish_faults ≡ old.depot.finish_faults)
+      (new.depot.started slot ≡ old.depot.started slot)
+      × (IsTrue old.depot.tells → new.depot.left slot ≡ old.depot.left slot)
+  pub create_count : EndsByWriting written outcome
+      ⊎ (new.depot.create_faults ≡ old.depot.create_faults)
+  pub finish_count : EndsByWriting written outcome
+      ⊎ (new.depot.finish_faults ≡ old.depot.finish_faults)

@@ -29,7 +29,8 @@ type Line = ArrayVec<u8, LINE_ROOM>;
 
 /// Writes the line of a run that stopped, without memory. All of it is given to err at once, and again what err did not take.
 pub fn write_line<E: Sink>(err: &mut E, stop: Stop) -> Result<(), IoFail>
-    ensures { WritesAll (E.state err.old) (E.state err.new) (line_of (outcome_of_stop stop)) result }
+    ensures { WritesAll (E.state err.old) (E.state err.new) (line_of (outcome_of_stop stop))
+        result }
 {
     let line = spelled(stop);
     write_all_own(err, line.as_slice())

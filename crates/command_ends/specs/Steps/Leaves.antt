@@ -5,8 +5,9 @@ use Rattle.command_ends.specs.Outcome.{Outcome}
 use Rattle.command_ends.specs.Ends.{FirstFaultEnds}
 
 -- What a command leaves, err apart: what it promises, the counts of faults, what it starts, and that the objects go on telling.
-pub record Leaves (Promises : Outside → Outside → Outcome → Type 0) (Starts : Outcome → DepotState → DepotState → Type 0) (old new : Outside)
-    (outcome : Outcome) : Type 0 where
+pub record Leaves (Promises : Outside → Outside → Outcome → Type 0)
+    (Starts : Outcome → DepotState → DepotState → Type 0) (old new : Outside) (outcome : Outcome)
+    : Type 0 where
   pub performs : Promises old new outcome
   pub faults : FirstFaultEnds old new outcome
   pub starts : Starts outcome old.depot new.depot

@@ -25,5 +25,6 @@ pub record IsNoIndex (name : List ℕ) (old new : DepotState) (fault : OpenFault
 -- Where a run stops that loaded no index: no words were loaded, or they are none.
 abbrev pub IsUnloaded : List ℕ → DepotState → DepotState → Stop → Type 0
 IsUnloaded name old new it =
-    ((error : LoadWordsError) × LoadsWords Index name old new (Err error) × (it ≡ stop_of_index error))
+    ((error : LoadWordsError)
+    × LoadsWords Index name old new (Err error) × (it ≡ stop_of_index error))
     ⊎ ((fault : OpenFault) × IsNoIndex name old new fault × (it ≡ stop.Index fault))
