@@ -1,5 +1,5 @@
 -- What `migrate` leaves.
-use Rattle.std.proofs.Common.{◌≡◌, ℕ, ◌≤◌, ◌<◌, ◌^◌, refl, sym, ◌∙◌, ap, subst, List, length, inl}
+use Rattle.std.proofs.Common.{◌≡◌, ℕ, ◌≤◌, ◌<◌, ◌^◌, refl, sym, ◌∙◌, ap, subst, List, length, inl, inr}
 use Rattle.std.specs.Prelude.{Result, Err, Vec}
 use Rattle.std.specs.List.{All}
 use Rattle.std.specs.declared.alloc.Global.{Global}
@@ -22,14 +22,15 @@ use Rattle.command_ends.specs.declared.stop.Stop.{Stop}
 use Rattle.command_ends.specs.Outside.{Outside, outside}
 use Rattle.command_ends.specs.Outcome.{Outcome, Done, NoMemory, TooLarge}
 use Rattle.command_ends.specs.FoundIndex.{FindsIndexOf}
-use Rattle.command_ends.specs.WordsThen.{AreBuilt}
+use Rattle.command_ends.specs.WordsThen.{AreBuilt, AreTooMany}
 use Rattle.command_ends.specs.WrittenIndex.{OnBuiltBytes, WritesIndex}
 use Rattle.command_ends.specs.Sources.{IndexAt, Starts}
 use Rattle.command_ends.specs.Products.{File}
 use Rattle.command_ends.specs.Steps.Leaves.{Leaves}
 use Rattle.command_ends.specs.Steps.LoadedIndex.{IsLoaded}
 use Rattle.command_ends.specs.Steps.Stops.{outcome_of, written_outcome, stop_of_making}
-use Rattle.command_ends.proofs.FileWritten.{Written, file_written, stands_written}
+use Rattle.command_ends.proofs.Counted.{not_true}
+use Rattle.command_ends.proofs.FileWritten.{Written, file_written, not_refusal, stands_written}
 use Rattle.command_ends.proofs.IndexRead.{found_lent, index_laws, index_read}
 use Rattle.command_ends.proofs.IndexWritten.{behind_building, found_written, on_built, unmade_words}
 use Rattle.command_ends.proofs.SourceRead.{IsUnread, no_memory, not_done, promised, still_read, too_many, unread}
@@ -52,7 +53,12 @@ module _ (read : WordsAreRead) (check : OneBrokenCheck) (from to : List ℕ) (d 
   -- the old index was not read
   pub migrate_stops : (outcome : Outcome) → IsUnread (IndexAt from) old (new d1 s) outcome → Left d1 s outcome
   migrate_stops outcome w =
-      promised old (new d1 s) outcome (λ does. record { does = does; opens = λ is. absurd (not_done (IndexAt from) old (new d1 s) outcome w is) })
+      promised old (new d1 s) outcome (λ does. record {
+        does = does;
+        opens = λ is. absurd (not_done (IndexAt from) old (new d1 s) outcome w is);
+        unaccepted = λ denied. refl;
+        refused = λ h. inl refl;
+      })
       (unread (IndexAt from) (File Index) (MakesMigrated from to) old (new d1 s) (index_laws read check from) outcome
       (inl (record { files = w.1.reads.files; writing = w.1.reads.writing })) w)
 
@@ -65,12 +71,29 @@ module _ (read : WordsAreRead) (check : OneBrokenCheck) (from to : List ℕ) (d 
     not_made : (error : FinishError) → ((n : ℕ) → error ≡ making.TooLarge n → WouldBeTooMany migrate_format index.collection s s' n) → Left d1 s' (unmade_words error)
     not_made (making.TooLarge n) too_large =
         let are = too_large n refl in
-        promised old (new d1 s') (TooLarge Index) (λ does. record { does = does; opens = λ is. let bad : (TooLarge Index) ≡ Done = is in cc })
+        let it : AreTooMany migrate_format Is s s' = (
+          index.collection,
+          are.parts,
+          record { collection = found; near = are.cut.near; counted = are.cut.counted },
+          subst (λ m. most_words < m) are.count are.too_many,
+        ) in
+        promised old (new d1 s') (TooLarge Index)
+        (λ does. record {
+          does = does;
+          opens = λ is. let bad : (TooLarge Index) ≡ Done = is in cc;
+          unaccepted = λ denied. absurd (denied (index.collection, found));
+          refused = λ h. inr it;
+        })
         (too_many (IndexAt from) (File Index) (MakesMigrated from to) old (new d1 s') (index_laws read check from) refl (index.collection, found)
         (still_read (IndexAt from) d d1 (index_read from d d1 words w) i o e e' s s' (TooLarge Index) refl (starts Index from d d1 words w.loads (TooLarge Index)))
-        (refl, (index.collection, are.parts, record { collection = found; near = are.cut.near; counted = are.cut.counted }, subst (λ m. most_words < m) are.count are.too_many)))
+        (refl, it))
     not_made making.NoMemory too_large =
-        promised old (new d1 s') NoMemory (λ does. record { does = does; opens = λ is. let bad : NoMemory ≡ Done = is in cc })
+        promised old (new d1 s') NoMemory (λ does. record {
+          does = does;
+          opens = λ is. let bad : NoMemory ≡ Done = is in cc;
+          unaccepted = λ denied. absurd (denied (index.collection, found));
+          refused = λ h. absurd (not_true h);
+        })
         (no_memory (IndexAt from) (File Index) (MakesMigrated from to) old (new d1 s')
         (still_read (IndexAt from) d d1 (index_read from d d1 words w) i o e e' s s' NoMemory refl (starts Index from d d1 words w.loads NoMemory))
         (inl (record { files = w.loads.reads.files; writing = w.loads.reads.writing })))
@@ -104,6 +127,8 @@ module _ (read : WordsAreRead) (check : OneBrokenCheck) (from to : List ℕ) (d 
                   (stands_written Index (word_bytes made) to d1 d2 written wrote done),
             ),
           );
+          unaccepted = λ denied. absurd (denied (c, found));
+          refused = λ h. absurd (not_refusal Index written h);
         })
         (file_written (IndexAt from) (index_laws read check from) (MakesMigrated from to) Index d d1 d2 (index_read from d d1 words w) i o e e' s s' to (word_bytes made)
         (OnBuiltBytes migrate_format Is old (new d2 s')) (on_built migrate_format Is old (new d2 s') made c are.parts built are.spelled.spelled) written wrote

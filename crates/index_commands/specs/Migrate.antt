@@ -1,4 +1,4 @@
-use Rattle.std.specs.Prelude.{◌≡◌, ℕ, List}
+use Rattle.std.specs.Prelude.{◌≡◌, ◌⊎◌, ℕ, IsTrue, List}
 use Rattle.collection_model.specs.Collection.{Collection}
 use Rattle.part_cost.specs.declared.formats.Format.{Format}
 use Rattle.part_cost.specs.declared.formats.Format.TheVariants.{Two}
@@ -7,9 +7,9 @@ use Rattle.pef_io.specs.DepotState.{DepotState}
 use Rattle.pef_io.specs.declared.fail.Slot.TheVariants.{Index}
 use Rattle.index_file.specs.FileWords.{ListParts}
 use Rattle.command_ends.specs.Outside.{Outside}
-use Rattle.command_ends.specs.Outcome.{Outcome, Done}
+use Rattle.command_ends.specs.Outcome.{Outcome, Done, is_refusal}
 use Rattle.command_ends.specs.FoundIndex.{FindsIndex, FindsIndexOf}
-use Rattle.command_ends.specs.WordsThen.{BuildsWordsThen}
+use Rattle.command_ends.specs.WordsThen.{AreTooMany, BuildsWordsThen}
 use Rattle.command_ends.specs.WrittenIndex.{WritesIndex}
 use Rattle.command_ends.specs.Sources.{IndexAt}
 use Rattle.command_ends.specs.Products.{Does, File}
@@ -35,3 +35,9 @@ pub record Migrates (from to : List ℕ) (old new : Outside) (outcome : Outcome)
   pub does : Does (IndexAt from) (File Index) (MakesMigrated from to) old new outcome
   pub opens : outcome ≡ Done →
       (c : Collection) × FindsIndexOf from old.depot c × FindsMigrated to new.depot c
+  -- No part cost is counted before the old index is accepted, nor where it is refused, but that its
+  -- new words are found to be too many by counting.
+  pub unaccepted : ¬ ((c : Collection) × FindsIndexOf from old.depot c) → new.costs ≡ old.costs
+  pub refused : IsTrue (is_refusal outcome) →
+      (new.costs ≡ old.costs)
+      ⊎ AreTooMany migrate_format (FindsIndexOf from old.depot) old.costs new.costs

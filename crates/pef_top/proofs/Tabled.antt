@@ -1,5 +1,5 @@
 -- A command ends as the table of outcomes says.
-use Rattle.std.proofs.Common.{refl, inl, inr, ◌⊎◌, ℕ, List}
+use Rattle.std.proofs.Common.{refl, sym, subst, inl, inr, ◌⊎◌, ℕ, List}
 use Rattle.std.specs.Prelude.{IsTrue, Some}
 use Rattle.collection_model.specs.Collection.{Collection}
 use Rattle.pef_io.specs.declared.fail.Slot.{Slot}
@@ -9,6 +9,7 @@ use Rattle.pef_io.specs.declared.fail.Slot.TheVariants.{Docs, Index, Side}
 use Rattle.pef_io.specs.DepotState.{DepotState}
 use Rattle.collection_reader.specs.ReadCollection.{IsCollectionSlot}
 use Rattle.command_line.specs.Command.{Command, Build, Query, Answer, Inspect, Generate, Migrate, Audit, Blocks, BlockQuery, Remap, Segments}
+use Rattle.command_model.specs.AuditText.{IsAuditText}
 use Rattle.command_model.specs.Found.{FindsCollection}
 use Rattle.command_ends.specs.Outside.{Outside}
 use Rattle.command_ends.specs.Outcome.{Outcome, Done, BrokenCollection, BrokenIndex, BrokenSide, BrokenMap, FileFault, InputFault, WriteFault, OutFault, NoMemory, TooLarge, InputTooLarge, BrokenSegment, UnfitSegment}
@@ -26,7 +27,7 @@ use Rattle.collection_commands.specs.Answer.{IsAnswerable, IsBuiltFrom, answer_f
 use Rattle.collection_commands.specs.Generate.{MakesGeneration}
 use Rattle.collection_commands.specs.Remap.{WritesImage}
 use Rattle.index_commands.specs.Inspect.{IsInspection}
-use Rattle.index_commands.specs.Audit.{IsAudit}
+use Rattle.index_commands.specs.Audit.{PrintsFoundAudit}
 use Rattle.index_commands.specs.Migrate.{migrate_format}
 use Rattle.side_commands.specs.Blocks.{OnSideBytes}
 use Rattle.pef_top.specs.Commands.{Performs}
@@ -90,6 +91,10 @@ builds : (source : Source) (product : Product) (format : Format) (Is : Collectio
 builds source product format Is old new Then (TooLarge slot) words more h = (h.0, words)
 builds source product format Is old new Then outcome words more h = more h
 
+audits : (index : List ℕ) (old new : Outside) (outcome : Outcome) → PrintsFoundAudit index old new outcome → MayMake (IndexAt index) Text outcome
+audits index old new outcome (inl before) = subst (MayMake (IndexAt index) Text) (sym before.no_memory) tt
+audits index old new outcome (inr (i, of_it)) = prints (IndexAt index) (IsAuditText i) old new outcome of_it.lines
+
 generates : (seed n t : ℕ) (old new : Outside) (outcome : Outcome) → MakesGeneration seed n t old new outcome → MayMake Nothing Text outcome
 generates seed n t old new Done h = tt
 generates seed n t old new OutFault h = refl
@@ -122,7 +127,7 @@ may_end (Migrate from to) old new outcome h =
     either (at_source (IndexAt from) old.depot outcome)
     (builds (IndexAt from) (File Index) migrate_format Is old new (WritesIndex migrate_format Is to old new) outcome refl
     (writes (IndexAt from) Index to (OnBuiltBytes migrate_format Is old new) old new outcome)) h.does.ends
-may_end (Audit index) old new outcome h = either (at_source (IndexAt index) old.depot outcome) (prints (IndexAt index) (IsAudit index old.depot) old new outcome) h.does.ends
+may_end (Audit index) old new outcome h = either (at_source (IndexAt index) old.depot outcome) (audits index old new outcome) h.does.ends
 may_end (Blocks index side) old new outcome h =
     either (at_source (IndexAt index) old.depot outcome) (writes (IndexAt index) Side side (OnSideBytes index old.depot) old new outcome) h.does.ends
 may_end (BlockQuery index side) old new outcome h =

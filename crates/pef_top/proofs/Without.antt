@@ -24,7 +24,7 @@ use Rattle.collection_commands.specs.Build.{MakesBuilt}
 use Rattle.collection_commands.specs.Generate.{MakesGeneration}
 use Rattle.collection_commands.specs.Remap.{WritesImage}
 use Rattle.index_commands.specs.Inspect.{IsInspection}
-use Rattle.index_commands.specs.Audit.{IsAudit}
+use Rattle.index_commands.specs.Audit.{PrintsFoundAudit}
 use Rattle.index_commands.specs.Migrate.{MakesMigrated}
 use Rattle.side_commands.specs.Blocks.{OnSideBytes}
 use Rattle.pef_top.specs.Commands.{Performs}
@@ -55,10 +55,11 @@ performs (Generate seed n t) d i o e e' s = without Nothing Text (MakesGeneratio
 performs (Migrate from to) d i o e e' s = record {
   does = without (IndexAt from) (File Index) (MakesMigrated from to) d i o e e' s (inl (unwritten d));
   opens = λ h. cc;
+  unaccepted = λ denied. refl;
+  refused = λ h. inl refl;
 }
 performs (Audit index) d i o e e' s = record {
-  does = without (IndexAt index) Text (PrintsText (IsAudit index d)) d i o e e' s (inl refl);
-  costs = inl ((λ h. cc), refl);
+  does = without (IndexAt index) Text (PrintsFoundAudit index) d i o e e' s (inl (record { no_memory = refl; out = refl; costs = refl }));
   refused = λ h. refl;
 }
 performs (Blocks index side) d i o e e' s = record {
