@@ -11,4 +11,5 @@ pub mod SourceRead
 pub mod IndexRead
 pub mod TextMade
 mod ErrPieces
+mod OtherFile
 mod Rows

@@ -7,12 +7,17 @@ use pef_io::{Depot, Slot};
 use std::alloc::Global;
 use word_files::load_words;
 
-/// The words of the file under the name, which are an index.
+// The word with which an index begins, the bytes `PEFINDEX`.
+const OPENING: u64 = 6_360_565_151_758_173_520;
+
+/// The words of the file under the name, which are an index. Of a file that begins with another word only a piece is kept.
 pub fn load_index<D: Depot>(alloc: Global, name: &str, depot: &mut D) -> Result<Vec<u64>, Stop>
-    ensures loaded { IfOk result (λ words. IsLoaded name.now (D.state depot.old) (D.state depot.new) words.items) }
-    ensures refused { IfErr result (λ stop. IsUnloaded name.now (D.state depot.old) (D.state depot.new) stop) }
+    ensures loaded { IfOk result (λ words.
+        IsLoaded name.now (D.state depot.old) (D.state depot.new) words.items) }
+    ensures refused { IfErr result (λ stop.
+        IsUnloaded name.now (D.state depot.old) (D.state depot.new) stop) }
 {
-    let words = load_words(alloc, Slot::Index, name, depot).map_err(stop_of_index)?;
+    let words = load_words(alloc, Slot::Index, OPENING, name, depot).map_err(stop_of_index)?;
     Index::view(&words)?;
     Ok(words)
 }

@@ -2,3 +2,4 @@ mod SideFound
 mod SideRead
 mod SideWritten
 mod SideAnswered
+mod OtherSide

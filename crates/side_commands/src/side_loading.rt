@@ -7,7 +7,11 @@ use pef_io::{Depot, Slot};
 use std::alloc::Global;
 use word_files::{LoadWordsError, load_words};
 
-// The words of the file under the name, which are the side file of some lists.
+// The word with which a side file begins, the bytes `PEFBLOCK`.
+const OPENING: u64 = 5_423_265_565_232_219_472;
+
+// The words of the file under the name, which are the side file of some lists. Of a file that begins with another word only a piece is
+// kept.
 pub(crate) fn load_side<D: Depot, S: BlockSource>(
     alloc: Global,
     name: &str,
@@ -19,7 +23,7 @@ pub(crate) fn load_side<D: Depot, S: BlockSource>(
     ensures refused { IfErr result (λ stop. IsUnloadedSide (S.lists source.now) name.now
         (D.state depot.old) (D.state depot.new) stop) }
 {
-    let words = load_words(alloc, Slot::Side, name, depot).map_err(stop_of_side)?;
+    let words = load_words(alloc, Slot::Side, OPENING, name, depot).map_err(stop_of_side)?;
     Side::view(&words, source)?;
     Ok(words)
 }

@@ -10,6 +10,9 @@ use word_files::{LoadWordsError, load_words, write_file, write_words};
 // The words of the file with no list over no document, in the second format.
 const NO_LISTS: &[u64] = &[6360565151758173520, 2, 0, 0, 2, 5784106577086924120];
 
+// The word with which the files begin of which all words are kept.
+const OPENING: u64 = 6360565151758173520;
+
 // A depot with this file, of which each call moves at most `most` bytes, and where these calls fail.
 fn depot_of(alloc: Global, bytes: &[u8], most: usize, fails: &[(Op, u64)]) -> Result<MemDepot, Fail>
     requires { 1 ≤ most }
@@ -29,7 +32,7 @@ fn loaded(
     fails: &[(Op, u64)],
 ) -> Result<Result<Vec<u64>, LoadWordsError>, Fail> {
     let mut depot = depot_of(alloc, bytes, 4, fails)?;
-    Ok(load_words(alloc, Slot::Side, "x", &mut depot))
+    Ok(load_words(alloc, Slot::Side, OPENING, "x", &mut depot))
 }
 
 #[test]
@@ -59,7 +62,7 @@ fn files_are_loaded(rt: HostRuntime) -> Result<(), Fail> {
 #[test]
 fn missing_file_is_not_loaded(rt: HostRuntime) -> Result<(), Fail> {
     let mut depot = depot_of(rt.alloc(), b"PEFINDEX", 4, &[])?;
-    let refused = load_words(rt.alloc(), Slot::Index, "y", &mut depot).err();
+    let refused = load_words(rt.alloc(), Slot::Index, OPENING, "y", &mut depot).err();
     assert_eq!(rt; refused, Some(LoadWordsError::Read));
     assert_eq!(rt; depot.calls(Op::Read(Slot::Index)), 0);
     Ok(())
@@ -90,8 +93,45 @@ fn words_are_written_and_loaded(rt: HostRuntime) -> Result<(), Fail> {
         assert_eq!(rt; depot.file("y"), Some(bytes.as_slice()), "{count}");
         assert_eq!(rt; depot.file("x"), Some(b"other".as_slice()), "{count}");
         assert_eq!(rt; depot.calls(Op::Finish), 2, "{count}");
-        let found = load_words(alloc, Slot::Index, "y", &mut depot).expect(&rt, "words");
+        let found = load_words(alloc, Slot::Index, OPENING, "y", &mut depot).expect(&rt, "words");
         assert_eq!(rt; found.as_slice(), words.as_slice(), "{count}");
+    }
+    Ok(())
+}
+
+// How many words are kept of a file of so many bytes that begins with this word; none where it is refused, with the error.
+fn kept(alloc: Global, first: u64, length: usize) -> Result<Result<usize, LoadWordsError>, Fail> {
+    let mut bytes = Vec::from_slice(alloc, &first.to_le_bytes())?;
+    bytes.resize(length, 7)?;
+    let mut depot = depot_of(alloc, &bytes, 3000, &[])?;
+    let words = match load_words(alloc, Slot::Index, OPENING, "x", &mut depot) {
+        Ok(words) => words,
+        Err(e) => return Ok(Err(e)),
+    };
+    Ok(Ok(words.len()))
+}
+
+#[test]
+fn of_another_file_a_piece_is_kept(rt: HostRuntime) -> Result<(), Fail> {
+    let alloc = rt.alloc();
+    for (length, words, others) in [
+        (65_528, 8191, 8191),
+        (65_536, 8192, 8192),
+        (65_544, 8193, 8192),
+        (131_072, 16_384, 8192),
+        (200_000, 25_000, 8192),
+    ] {
+        assert_eq!(rt; kept(alloc, OPENING, length)?, Ok(words), "{length}");
+        assert_eq!(rt; kept(alloc, 7, length)?, Ok(others), "{length}");
+        for more in 1..8 {
+            let ragged = Err(LoadWordsError::Ragged);
+            assert_eq!(rt;
+                kept(alloc, OPENING, length + more)?,
+                ragged,
+                "{length} {more}"
+            );
+            assert_eq!(rt; kept(alloc, 7, length + more)?, ragged, "{length} {more}");
+        }
     }
     Ok(())
 }

@@ -1,15 +1,16 @@
 -- How the words of a file are read piece by piece, and what loading them gives.
-use Rattle.std.proofs.Common.{◌≡◌, ◌≢◌, refl, sym, ap, ◌∙◌, subst, ℕ, ◌+◌, ◌*◌, ◌%◌, ◌^◌, ◌<◌, ◌≤◌, List, [], ◌++◌, take, length, inl, inr, IsTrue, Result, Ok, Err, arith}
-use Rattle.std.specs.Prelude.{◌⊎◌, IsErrOf}
+use Rattle.std.proofs.Common.{◌≡◌, ◌≢◌, refl, sym, ap, ◌∙◌, subst, ℕ, ◌+◌, ◌*◌, ◌%◌, ◌^◌, ◌<◌, ◌≤◌, List, [], ◌∷◌, ◌++◌, take, length, inl, inr, IsTrue, Result, Ok, Err, arith}
+use Rattle.std.specs.Prelude.{◌⊎◌, IsErrOf, slice_index}
 use Rattle.std.specs.List.{All}
 use Rattle.std.proofs.lemmas.Bool.{cases_lt}
 use Rattle.std.proofs.lemmas.List.{append_assoc, append-nil, length-append, length-take}
-use Rattle.collection_model.specs.Bytes.{word_bytes}
+use Rattle.std.proofs.lemmas.List.Elements.{All-append}
+use Rattle.collection_model.specs.Bytes.{le64, word_bytes}
 use Rattle.pef_io.specs.declared.fail.IoFail.{IoFail}
 use Rattle.pef_io.specs.declared.fail.IoFail.TheVariants as call
 use Rattle.pef_io.specs.declared.fail.Slot.{Slot}
 use Rattle.pef_io.specs.Calls.{Rose, one_more}
-use Rattle.pef_io.specs.DepotState.{DepotState, SameStarts, StartedOnce, OnlyReads, Starts, bytes_under}
+use Rattle.pef_io.specs.DepotState.{DepotState, StartedOnce, Starts, bytes_under}
 use Rattle.pef_io.proofs.OnlyReads.{OnlyReads-same, OnlyReads-start, OnlyReads-trans}
 use Rattle.pef_io.specs.Loads.{FillsPiece}
 use Rattle.index_file.specs.declared.bytes.WordsError.{WordsError}
@@ -19,8 +20,8 @@ use Rattle.command_model.specs.Found.{most_bytes}
 use Rattle.command_model.proofs.WordBytes.{word_bytes-length}
 use Rattle.word_files.specs.declared.loading.LoadWordsError.{LoadWordsError}
 use Rattle.word_files.specs.declared.loading.LoadWordsError.TheVariants.{Ragged, Read, TooLarge, NoMemory}
-use Rattle.word_files.specs.LoadWords.{LoadsWords}
-use Rattle.word_files.specs.ReadWords.{call_error, words_error, ReadsWords}
+use Rattle.word_files.specs.LoadWords.{LoadsKept, LoadsWords}
+use Rattle.word_files.specs.ReadWords.{call_error, words_error, HasWords, PassesWords, ReadsBehind, ReadsKept, ReadsWords}
 
 -- ---- counts
 -- a count that stays as it was where a call is not refused so
@@ -46,19 +47,27 @@ started-well : (let r : Result (Unit {0}) IoFail = Ok tt in IsErrOf r call.NoMem
 started-well h = cc
 
 -- ---- pieces
--- The bytes of these words were read from a slot, and no call failed.
-pub record HasWords (slot : Slot) (old new : DepotState) (words : List ℕ) : Type 0 where
-  pub front : IsTrue old.tells → old.left slot ≡ word_bytes words ++ new.left slot
-  pub count : new.faults slot ≡ old.faults slot
-  pub starts : SameStarts old new
-  pub refusals : new.refusals ≡ old.refusals
-  pub reads : OnlyReads (λ s. s ≡ slot) old new
-
 pub no-words : (slot : Slot) (a : DepotState) → HasWords slot a a []
 no-words slot a = record { front = λ t. refl; count = refl; starts = λ s. refl; refusals = refl; reads = OnlyReads-same a }
 
 filled-well : (n : ℕ) (fail : IoFail) → (let r : Result ℕ IoFail = Ok n in IsErrOf r fail) → ⊥
 filled-well n fail h = cc
+
+-- the bytes of words in a row
+pub word_bytes-append : (xs ys : List ℕ) → word_bytes (xs ++ ys) ≡ word_bytes xs ++ word_bytes ys
+word_bytes-append [] ys = refl
+word_bytes-append (x ∷ xs) ys = ap (λ bs. le64 x ++ bs) (word_bytes-append xs ys) ∙ sym (append_assoc (le64 x) (word_bytes xs) (word_bytes ys))
+
+-- words, and those behind them
+pub both-words : (slot : Slot) (old mid new : DepotState) (front rest : List ℕ) → HasWords slot old mid front → HasWords slot mid new rest → HasWords slot old new (front ++ rest)
+both-words slot old mid new front rest h r = record {
+  front = λ t. h.front t ∙ ap (λ bs. word_bytes front ++ bs) (r.front (h.reads.tells ∙ t)) ∙ sym (append_assoc (word_bytes front) (word_bytes rest) (new.left slot))
+      ∙ ap (λ bs. bs ++ new.left slot) (sym (word_bytes-append front rest));
+  count = r.count ∙ h.count;
+  starts = λ s. r.starts s ∙ h.starts s;
+  refusals = r.refusals ∙ h.refusals;
+  reads = OnlyReads-trans h.reads r.reads;
+}
 
 -- one more piece
 pub more-words : (slot : Slot) (old mid new : DepotState) (words more piece : List ℕ) (n : ℕ) → HasWords slot old mid words → FillsPiece mid new slot piece (Ok n) → word_bytes more ≡ word_bytes words ++ take n piece → HasWords slot old new more
@@ -179,6 +188,77 @@ room-refused slot a spelled.NoMemory is = record {
   refusals_rise_only_there = inl refl;
 }
 
+-- ---- words that are passed over
+-- So many words have come, those behind the ones that are held from a slot, and no call failed.
+abbrev pub HasPassed : Slot → ℕ → ℕ → DepotState → DepotState → Type 0
+HasPassed slot held passed old new = (rest : List ℕ) × (passed ≡ held + length rest) × All (λ w. w < 2 ^ 64) rest × HasWords slot old new rest
+
+pub passed-nothing : (slot : Slot) (held : ℕ) (a : DepotState) → HasPassed slot held held a a
+passed-nothing slot held a = ([], omega arith, λ k d lt. absurd (omega (arith, lt)), no-words slot a)
+
+-- one more piece
+pub passed-more : (slot : Slot) (held passed : ℕ) (old mid new : DepotState) (more piece : List ℕ) (n : ℕ) → HasPassed slot held passed old mid
+    → FillsPiece mid new slot piece (Ok n) → word_bytes more ≡ take n piece → All (λ w. w < 2 ^ 64) more → HasPassed slot held (passed + length more) old new
+passed-more slot held passed old mid new more piece n (rest, count, fit, r) f are fits = (
+  rest ++ more,
+  omega (arith, count, length-append rest more),
+  All-append (λ w. w < 2 ^ 64) rest more fit fits,
+  more-words slot old mid new rest (rest ++ more) piece n r f (word_bytes-append rest more ∙ ap (λ bs. word_bytes rest ++ bs) are),
+)
+
+-- the last piece
+pub passed-all : (slot : Slot) (held passed : ℕ) (old mid new : DepotState) (more piece : List ℕ) (n : ℕ) → HasPassed slot held passed old mid
+    → FillsPiece mid new slot piece (Ok n) → word_bytes more ≡ take n piece → All (λ w. w < 2 ^ 64) more → n < length piece → passed + length more ≤ most_words
+    → PassesWords slot held old new (Ok tt)
+passed-all slot held passed old mid new more piece n (rest, count, fit, r) f are fits less within before front e h = (
+  rest ++ more,
+  All-append (λ w. w < 2 ^ 64) rest more fit fits,
+  all-words slot before mid new (front ++ rest) (front ++ (rest ++ more)) piece n (both-words slot before old mid front rest h r) f
+      (ap word_bytes (sym (append_assoc front rest more)) ∙ word_bytes-append (front ++ rest) more ∙ ap (λ bs. word_bytes (front ++ rest) ++ bs) are) less
+      (omega (arith, within, count, e, length-append front (rest ++ more), length-append rest more)),
+)
+
+-- a piece that is refused
+pub passed-refused : (slot : Slot) (held passed : ℕ) (old mid new : DepotState) (piece : List ℕ) (fail : IoFail) → HasPassed slot held passed old mid
+    → FillsPiece mid new slot piece (Err fail) → PassesWords slot held old new (Err (call_error fail))
+passed-refused slot held passed old mid new piece fail (rest, count, fit, r) f before front e h =
+    piece-refused slot before mid new (front ++ rest) piece fail (both-words slot before old mid front rest h r) f
+
+-- a piece with which there are too many bytes
+pub passed-too_large : (slot : Slot) (held passed : ℕ) (old mid new : DepotState) (piece : List ℕ) (n : ℕ) → HasPassed slot held passed old mid
+    → FillsPiece mid new slot piece (Ok n) → most_bytes < 8 * passed + n → PassesWords slot held old new (Err TooLarge)
+passed-too_large slot held passed old mid new piece n (rest, count, fit, r) f many before front e h =
+    piece-too_large slot before mid new (front ++ rest) piece n (both-words slot before old mid front rest h r) f
+    (omega (arith, many, count, e, length-append front rest))
+
+-- a piece that is no words, or whose words find no memory
+pub passed-no_words : (slot : Slot) (held passed : ℕ) (old mid new : DepotState) (piece : List ℕ) (n : ℕ) (e : WordsError) → HasPassed slot held passed old mid
+    → FillsPiece mid new slot piece (Ok n) → length piece % 8 ≡ 0 → 8 * passed + n ≤ most_bytes → (e ≡ spelled.Ragged → n % 8 ≢ 0)
+    → PassesWords slot held old new (Err (words_error e))
+passed-no_words slot held passed old mid new piece n error (rest, count, fit, r) f whole few ragged before front e h =
+    words-refused slot before mid new (front ++ rest) piece n error (both-words slot before old mid front rest h r) f whole
+    (omega (arith, few, count, e, length-append front rest)) ragged
+
+-- ---- words that are not kept
+first-of-front : (front rest : List ℕ) → 0 < length front → slice_index (front ++ rest) 0 ≡ slice_index front 0
+first-of-front [] rest some = absurd (omega (arith, some))
+first-of-front (x ∷ front) rest some = refl
+
+-- words whose rest was passed over
+pub front-kept : (opening : ℕ) (slot : Slot) (old new : DepotState) (front : List ℕ) → ReadsBehind slot front old new (Ok tt) → All (λ w. w < 2 ^ 64) front
+    → 6 ≤ length front → slice_index front 0 ≢ opening → ReadsKept opening slot old new (Ok front)
+front-kept opening slot old new front (rest, fit, reads) first many other = (
+  front ++ rest,
+  inr (record {
+    many = many;
+    no_more = omega (arith, length-append front rest);
+    same_first = first-of-front front rest (omega (arith, many));
+    other = other;
+  }),
+  All-append (λ w. w < 2 ^ 64) front rest first fit,
+  reads,
+)
+
 -- ---- the file
 -- the start is refused
 pub start-refused : (slot : Slot) (name : List ℕ) (old new : DepotState) (fail : IoFail) → Starts old new slot name (Err fail) → LoadsWords slot name old new (Err (call_error fail))
@@ -264,3 +344,9 @@ loading-refused slot name old mid new e s r = record {
     refused Read r t many = inr (inl refl)
     refused TooLarge r t many = inl refl
     refused NoMemory r t many = inr (inr refl)
+
+-- its words are read, and kept or not
+pub kept-loaded : (opening : ℕ) (slot : Slot) (name : List ℕ) (old mid new : DepotState) (r : Result (List ℕ) LoadWordsError) → Starts old mid slot name (Ok tt)
+    → ReadsKept opening slot mid new r → LoadsKept opening slot name old new r
+kept-loaded opening slot name old mid new (Ok words) s (all, kept, fit, reads) = (all, kept, words-loaded slot name old mid new all s reads fit)
+kept-loaded opening slot name old mid new (Err e) s reads = loading-refused slot name old mid new e s reads

@@ -8,6 +8,7 @@ use Rattle.index_file.specs.Builder.{most_words}
 use Rattle.command_model.specs.Found.{most_bytes, AreOfWords}
 use Rattle.word_files.specs.declared.loading.LoadWordsError.{LoadWordsError}
 use Rattle.word_files.specs.declared.loading.LoadWordsError.TheVariants.{Ragged, Read, TooLarge, NoMemory}
+use Rattle.word_files.specs.ReadWords.{AreKept}
 
 -- the words of a vector that was loaded
 abbrev pub words_loaded : Result (Vec ℕ Global) LoadWordsError → Result (List ℕ) LoadWordsError
@@ -36,3 +37,8 @@ pub record LoadsWords (slot : Slot) (name : List ℕ) (old new : DepotState) (re
   -- It is started exactly once, whatever comes of it, and the first memory that the depot is refused ends the loading.
   pub started_once : StartedOnce (λ s. s ≡ slot) old new
   pub refusals_rise_only_there : (result ≡ Err NoMemory) ⊎ (new.refusals ≡ old.refusals)
+
+-- What loading a file gives of which all words are kept only where it begins with this word.
+abbrev pub LoadsKept : ℕ → Slot → List ℕ → DepotState → DepotState → Result (List ℕ) LoadWordsError → Type 0
+LoadsKept opening slot name old new (Ok words) = (all : List ℕ) × AreKept opening words all × LoadsWords slot name old new (Ok all)
+LoadsKept opening slot name old new (Err e) = LoadsWords slot name old new (Err e)

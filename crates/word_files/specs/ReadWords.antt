@@ -1,4 +1,5 @@
-use Rattle.std.specs.Prelude.{◌≡◌, ◌≢◌, ℕ, ◌<◌, ◌≤◌, ◌%◌, ◌⊎◌, IsTrue, List, length, Result, Err, IfOk}
+use Rattle.std.specs.Prelude.{◌≡◌, ◌≢◌, ℕ, ◌<◌, ◌≤◌, ◌%◌, ◌^◌, ◌⊎◌, ◌++◌, IsTrue, List, length, slice_index, Result, Ok, Err, IfOk}
+use Rattle.std.specs.List.{All}
 use Rattle.collection_model.specs.Bytes.{word_bytes}
 use Rattle.pef_io.specs.declared.fail.IoFail.{IoFail}
 use Rattle.pef_io.specs.declared.fail.IoFail.TheVariants as call
@@ -7,7 +8,7 @@ use Rattle.pef_io.specs.Calls.{Rose}
 use Rattle.pef_io.specs.DepotState.{DepotState, SameStarts, OnlyReads}
 use Rattle.index_file.specs.declared.bytes.WordsError.{WordsError}
 use Rattle.index_file.specs.declared.bytes.WordsError.TheVariants as spelled
-use Rattle.index_file.specs.Builder.{most_words}
+pub use Rattle.index_file.specs.Builder.{most_words}
 use Rattle.command_model.specs.Found.{most_bytes}
 use Rattle.word_files.specs.declared.loading.LoadWordsError.{LoadWordsError}
 use Rattle.word_files.specs.declared.loading.LoadWordsError.TheVariants.{Ragged, Read, TooLarge, NoMemory}
@@ -33,3 +34,37 @@ pub record ReadsWords (slot : Slot) (old new : DepotState) (result : Result (Lis
   pub reads : OnlyReads (λ s. s ≡ slot) old new
   pub starts : SameStarts old new
   pub refusals_rise_only_there : (result ≡ Err NoMemory) ⊎ (new.refusals ≡ old.refusals)
+
+-- Some words of a file that has no fewer, and begins with another word: enough that this is the first check that breaks.
+pub record AreOfOther (opening : ℕ) (words all : List ℕ) : Type 0 where
+  pub many : 6 ≤ length words
+  pub no_more : length words ≤ length all
+  pub same_first : slice_index all 0 ≡ slice_index words 0
+  pub other : slice_index words 0 ≢ opening
+
+-- The words that are kept of those of a file: all, or some where it begins with another word.
+abbrev pub AreKept : ℕ → List ℕ → List ℕ → Type 0
+AreKept opening words all = (words ≡ all) ⊎ AreOfOther opening words all
+
+-- What reading the words of all bytes that a started slot has left gives, where all are kept only if they begin with this word.
+abbrev pub ReadsKept : ℕ → Slot → DepotState → DepotState → Result (List ℕ) LoadWordsError → Type 0
+ReadsKept opening slot old new (Ok words) = (all : List ℕ) × AreKept opening words all × All (λ w. w < 2 ^ 64) all × ReadsWords slot old new (Ok all)
+ReadsKept opening slot old new (Err e) = ReadsWords slot old new (Err e)
+
+-- The bytes of these words were read from a slot, and no call failed.
+pub record HasWords (slot : Slot) (old new : DepotState) (words : List ℕ) : Type 0 where
+  pub front : IsTrue old.tells → old.left slot ≡ word_bytes words ++ new.left slot
+  pub count : new.faults slot ≡ old.faults slot
+  pub starts : SameStarts old new
+  pub refusals : new.refusals ≡ old.refusals
+  pub reads : OnlyReads (λ s. s ≡ slot) old new
+
+-- What reading the rest gives, once these words have come: together they are all words, or they are refused.
+abbrev pub ReadsBehind : Slot → List ℕ → DepotState → DepotState → Result (Unit {0}) LoadWordsError → Type 0
+ReadsBehind slot front old new (Ok u) = (rest : List ℕ) × All (λ w. w < 2 ^ 64) rest × ReadsWords slot old new (Ok (front ++ rest))
+ReadsBehind slot front old new (Err e) = ReadsWords slot old new (Err e)
+
+-- What passing over the words of all bytes that a started slot has left gives, behind any so many words that have come.
+abbrev pub PassesWords : Slot → ℕ → DepotState → DepotState → Result (Unit {0}) LoadWordsError → Type 0
+PassesWords slot held mid new result =
+    (old : DepotState) (front : List ℕ) → length front ≡ held → HasWords slot old mid front → ReadsBehind slot front old new result

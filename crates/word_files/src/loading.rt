@@ -2,8 +2,8 @@ ghost use Rattle.std.specs.Prelude.{◌≡◌, ◌≢◌, ◌+◌, ◌/◌, ◌%
 ghost use Rattle.std.specs.List.{All};
 ghost use Rattle.collection_model.specs.Bytes.{word_bytes};
 ghost use Rattle.index_file.specs.declared.bytes.WordsError.TheVariants.{Ragged, NoMemory};
-ghost use Rattle.word_files.specs.LoadWords.{LoadsWords, words_loaded};
-ghost use Rattle.word_files.specs.ReadWords.{ReadsWords};
+ghost use Rattle.word_files.specs.LoadWords.{LoadsKept, words_loaded};
+ghost use Rattle.word_files.specs.ReadWords.{PassesWords, ReadsKept, most_words};
 
 use index_file::{WordsError, read_words_into};
 use pef_io::{Depot, IoFail, Slot, fill_piece};
@@ -54,20 +54,21 @@ impl From<WordsError> for LoadWordsError {
     }
 }
 
-/// The words of the file under the name, at most 2^37, which is read from the slot. What they stand for is not checked here. Room is
-/// taken for the words that have come and a quarter more, and for a piece of the file.
+/// The words of the file under the name, at most 2^37, which is read from the slot. What they stand for is not checked here, but of a
+/// file that begins with another word than `opening` no more are kept than those of its first piece: the rest is read to its end, so
+/// that it is refused as any other where it is ragged or too large. Room is taken for the words that are kept and a quarter more, for a
+/// piece of the file, and, where the rest is not kept, for the words of a piece.
 pub fn load_words<D: Depot>(
     alloc: Global,
     slot: Slot,
+    opening: u64,
     name: &str,
     depot: &mut D,
 ) -> Result<Vec<u64>, LoadWordsError>
-    ensures { LoadsWords slot name.now (D.state depot.old) (D.state depot.new) (words_loaded result) }
+    ensures { LoadsKept opening slot name.now (D.state depot.old) (D.state depot.new) (words_loaded result) }
 {
     depot.start(slot, name)?;
-    let words = read_file(alloc, slot, depot)?;
-    words_fit(&words);
-    Ok(words)
+    read_file(alloc, slot, opening, depot)
 }
 
 // Words are numbers of 64 bits.
@@ -75,10 +76,16 @@ fn words_fit(words: &[u64])
     ensures { All (λ w. w < 2 ^ 64) words.now }
 {}
 
-// The words of all bytes that a started slot has left, at most 2^40, piece by piece.
-fn read_file<D: Depot>(alloc: Global, slot: Slot, depot: &mut D) -> Result<Vec<u64>, LoadWordsError>
+// The words of all bytes that a started slot has left, at most 2^40, piece by piece; of those that begin with another word than
+// `opening`, the words of the first piece.
+fn read_file<D: Depot>(
+    alloc: Global,
+    slot: Slot,
+    opening: u64,
+    depot: &mut D,
+) -> Result<Vec<u64>, LoadWordsError>
     requires { IsTrue ((D.state depot.old).started slot) }
-    ensures { ReadsWords slot (D.state depot.old) (D.state depot.new) (words_loaded result) }
+    ensures { ReadsKept opening slot (D.state depot.old) (D.state depot.new) (words_loaded result) }
 {
     let mut piece = room_for_a_piece(alloc)?;
     let mut words = Vec::new(alloc);
@@ -88,9 +95,44 @@ fn read_file<D: Depot>(alloc: Global, slot: Slot, depot: &mut D) -> Result<Vec<u
             return Err(LoadWordsError::TooLarge);
         }
         add_words(&mut words, &piece[..count])?;
+        words_fit(&words);
         if count < PIECE_BYTES {
             return Ok(words);
         }
+        if words[0] != opening {
+            pass_rest(alloc, slot, words.len() as u64, piece.as_mut_slice(), depot)?;
+            return Ok(words);
+        }
+    }
+}
+
+// Reads all bytes that a started slot has left behind so many words, piece by piece, and keeps none of them.
+fn pass_rest<D: Depot>(
+    alloc: Global,
+    slot: Slot,
+    held: u64,
+    piece: &mut [u8],
+    depot: &mut D,
+) -> Result<(), LoadWordsError>
+    requires room { length piece.old ≡ PIECE_BYTES }
+    requires few { held ≤ most_words }
+    requires started { IsTrue ((D.state depot.old).started slot) }
+    ensures { PassesWords slot held (D.state depot.old) (D.state depot.new) result }
+{
+    let mut words = Vec::new(alloc);
+    let mut passed = held;
+    loop {
+        let count = fill_piece(depot, slot, piece)?;
+        if 8 * passed + count as u64 > LONGEST_FILE {
+            return Err(LoadWordsError::TooLarge);
+        }
+        words.clear();
+        add_words(&mut words, &piece[..count])?;
+        words_fit(&words);
+        if count < piece.len() {
+            return Ok(());
+        }
+        passed += words.len() as u64;
     }
 }
 

@@ -1,9 +1,10 @@
-use Rattle.std.proofs.Common.{◌≡◌, sym, ◌∙◌, ap, ℕ, ◌+◌, ◌*◌, ◌%◌, ◌≤◌, ◌++◌, List, take, drop, length, arith}
+use Rattle.std.proofs.Common.{◌≡◌, sym, ◌∙◌, ap, subst, refl, inl, ℕ, ◌+◌, ◌*◌, ◌%◌, ◌^◌, ◌<◌, ◌≤◌, ◌++◌, List, [], ◌∷◌, get_or, slice_index, take, drop, length, arith}
+use Rattle.std.specs.List.{All}
 use Rattle.std.proofs.lemmas.List.{length-append, length-take, take_at}
 use Rattle.std.proofs.lemmas.Result.{err_from_is_err_and}
 use Rattle.collection_model.specs.Bytes.{word_bytes}
 use Rattle.command_model.proofs.WordBytes.{word_bytes-length}
-use Rattle.word_files.proofs.LoadedWords.{more-words, all-words, piece-too_large, words-refused}
+use Rattle.word_files.proofs.LoadedWords.{more-words, all-words, piece-too_large, words-refused, front-kept}
 use Rattle.word_files.proofs.loading.read_file.Given as given
 use Rattle.word_files.proofs.loading.read_file.Goals as goal
 use Rattle.word_files.proofs.loading.read_file.Goals.{After-deref}
@@ -24,6 +25,10 @@ lent-is g c =
 -- it has room for whole words
 whole : (g : given.Over) (c : After-deref g) → length c.fill_piece.new.piece ≡ 65536
 whole g c = omega (arith, c.in_ok-count.ensures.room, ap length c.as_mut_slice.ensures.value, c.loop-words.invariant.room)
+
+same-first : (words : List ℕ) (word : ℕ) → 0 < length words → word ≡ get_or words 0 word → word ≡ slice_index words 0
+same-first [] word some e = absurd (omega (arith, some))
+same-first (x ∷ words) word some e = e
 
 pub returns-then-len-count-gt-LONGEST_FILE : goal.returns-then-len-count-gt-LONGEST_FILE
 returns-then-len-count-gt-LONGEST_FILE g c =
@@ -46,11 +51,60 @@ returns-then-count-lt-PIECE_BYTES g c =
     let at = (goal.at.returns-then-count-lt-PIECE_BYTES g c).After-deref in
     let count = c.in_ok-count.count in
     let words = c.loop-words.words.items in
-    let more = c.add_words.new.words.items in
+    let more : List ℕ = c.add_words.new.words.items in
     let filled = c.in_ok-count.ensures.filled in
+    let P : List ℕ → Type 0 = λ ws. All (λ w. w < 2 ^ 64) ws in
+    let are : word_bytes more ≡ word_bytes words ++ take count c.fill_piece.new.piece = c.in_ok-add_words.ensures.added ∙ ap (λ xs. word_bytes words ++ take count xs) (lent-is g at) in (
+      more,
+      inl refl,
+      subst P c.deref-in-loop-words.ensures.value c.words_fit.ensures,
+      all-words c.args.slot (g.D.Depot.state c.args.depot.now) (g.D.Depot.state c.loop-words.depot) (g.D.Depot.state c.fill_piece.new.depot) words more c.fill_piece.new.piece count c.loop-words.invariant.read filled are
+          (omega (arith, whole g at, c.if-count-lt-PIECE_BYTES.true)) (omega (arith, grown words more c.fill_piece.new.piece count filled.within are, c.if-len-count-gt-LONGEST_FILE.false, c.len.ensures, c.loop-words.words.ok.0)),
+    )
+
+pub pass_rest-requires-clause-few : goal.pass_rest-requires-clause-few
+pass_rest-requires-clause-few g c =
+    let at = (goal.at.pass_rest-requires-clause-few g c).After-deref in
+    let count = c.in_ok-count.count in
+    let words = c.loop-words.words.items in
+    let more : List ℕ = c.add_words.new.words.items in
     let are : word_bytes more ≡ word_bytes words ++ take count c.fill_piece.new.piece = c.in_ok-add_words.ensures.added ∙ ap (λ xs. word_bytes words ++ take count xs) (lent-is g at) in
-    all-words c.args.slot (g.D.Depot.state c.args.depot.now) (g.D.Depot.state c.loop-words.depot) (g.D.Depot.state c.fill_piece.new.depot) words more c.fill_piece.new.piece count c.loop-words.invariant.read filled are
-    (omega (arith, whole g at, c.if-count-lt-PIECE_BYTES.true)) (omega (arith, grown words more c.fill_piece.new.piece count filled.within are, c.if-len-count-gt-LONGEST_FILE.false, c.len.ensures, c.loop-words.words.ok.0))
+    omega (
+      arith,
+      grown words more c.fill_piece.new.piece count c.in_ok-count.ensures.filled.within are,
+      c.if-len-count-gt-LONGEST_FILE.false,
+      c.len.ensures,
+      c.loop-words.words.ok.0,
+      c.len-then-index-opening.ensures,
+      c.add_words.new.words.ok.0,
+    )
+
+pub returns-in_err-pass_rest : goal.returns-in_err-pass_rest
+returns-in_err-pass_rest g c =
+    let p = err_from_is_err_and c.from_residual-in_err-pass_rest.result c.from_residual-in_err-pass_rest.ensures.1 in
+    let at = (goal.at.returns-in_err-pass_rest g c).After-deref in
+    let count = c.in_ok-count.count in
+    let words = c.loop-words.words.items in
+    let more : List ℕ = c.add_words.new.words.items in
+    let are : word_bytes more ≡ word_bytes words ++ take count c.fill_piece.new.piece = c.in_ok-add_words.ensures.added ∙ ap (λ xs. word_bytes words ++ take count xs) (lent-is g at) in
+    let held : length more ≡ c.len-then-index-opening.result = omega (arith, c.len-then-index-opening.ensures, c.add_words.new.words.ok.0) in
+    rw (p.1, p.2) (c.in_err-pass_rest.ensures (g.D.Depot.state c.args.depot.now) more held
+    (more-words c.args.slot (g.D.Depot.state c.args.depot.now) (g.D.Depot.state c.loop-words.depot) (g.D.Depot.state c.fill_piece.new.depot) words more c.fill_piece.new.piece count c.loop-words.invariant.read c.in_ok-count.ensures.filled are))
+
+pub returns-then-index-opening : goal.returns-then-index-opening
+returns-then-index-opening g c =
+    let at = (goal.at.returns-then-index-opening g c).After-deref in
+    let count = c.in_ok-count.count in
+    let words = c.loop-words.words.items in
+    let more : List ℕ = c.add_words.new.words.items in
+    let P : List ℕ → Type 0 = λ ws. All (λ w. w < 2 ^ 64) ws in
+    let are : word_bytes more ≡ word_bytes words ++ take count c.fill_piece.new.piece = c.in_ok-add_words.ensures.added ∙ ap (λ xs. word_bytes words ++ take count xs) (lent-is g at) in
+    let held : length more ≡ c.len-then-index-opening.result = omega (arith, c.len-then-index-opening.ensures, c.add_words.new.words.ok.0) in
+    let many : 6 ≤ length more = omega (arith, grown words more c.fill_piece.new.piece count c.in_ok-count.ensures.filled.within are, c.if-count-lt-PIECE_BYTES.false) in
+    front-kept c.args.opening c.args.slot (g.D.Depot.state c.args.depot.now) (g.D.Depot.state c.pass_rest.new.depot) more
+    (c.in_ok-pass_rest.ensures (g.D.Depot.state c.args.depot.now) more held
+    (more-words c.args.slot (g.D.Depot.state c.args.depot.now) (g.D.Depot.state c.loop-words.depot) (g.D.Depot.state c.fill_piece.new.depot) words more c.fill_piece.new.piece count c.loop-words.invariant.read c.in_ok-count.ensures.filled are))
+    (subst P c.deref-in-loop-words.ensures.value c.words_fit.ensures) many (λ is. c.if-index-opening.true (same-first more c.index.result.now (omega (arith, many)) c.index.ensures ∙ is))
 
 pub loop-words-smaller : goal.loop-words-smaller
 loop-words-smaller g c =

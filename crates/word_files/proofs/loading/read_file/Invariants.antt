@@ -1,6 +1,6 @@
 use Rattle.std.proofs.Common.{◌≡◌, ◌-◌, ◌≤◌, length}
 use Rattle.index_file.specs.Builder.{most_words}
-use Rattle.word_files.proofs.LoadedWords.{HasWords}
+use Rattle.word_files.specs.ReadWords.{HasWords}
 use Rattle.word_files.proofs.loading.read_file.Given as goal
 
 abbrev pub invariant-loop-words : goal.invariant-loop-words

@@ -1,0 +1,81 @@
+-- A file that begins with another word than an index: which check it breaks, whatever stands behind that word.
+use Rattle.std.proofs.Common.{◌≡◌, ◌≢◌, ℕ, ◌+◌, ◌-◌, ◌≤◌, Bool, true, false, List, length, slice_index, refl, sym, ap, ◌∙◌, subst, inl, inr, arith, Ok}
+use Rattle.std.proofs.lemmas.Bool.{le-ltb, ne_eqb}
+use Rattle.std.specs.Prelude.{Option, Some, None, not, ◌==◌, nat_lt, if◌then◌else◌, MatchOption, MatchBool}
+use Rattle.collection_model.specs.FormatNumbers.{FormatNumbers}
+use Rattle.part_cost.specs.Formats.{numbers_of}
+use Rattle.pef_io.specs.declared.fail.Slot.TheVariants.{Index}
+use Rattle.pef_io.specs.DepotState.{DepotState}
+use Rattle.sequence_words.specs.declared.check.Check.{Check}
+use Rattle.sequence_words.specs.declared.check.Check.TheVariants.{K1, K2, K3, K4, K5}
+use Rattle.index_file.specs.declared.fault.OpenFault.{OpenFault}
+use Rattle.index_file.specs.FileWords.{CutList, opening_magic, end_magic, format_read, lists_words, IsIndex}
+use Rattle.index_file.specs.FirstBroken.{stated_documents, stated_terms, stated_sizes, numbers_break, frame_broken, IsLongestFileFront, IsTermFault, IsClosingFault, IsFirstBroken}
+use Rattle.word_files.specs.LoadWords.{LoadsKept, LoadsWords}
+use Rattle.command_ends.specs.Steps.LoadedIndex.{IsLoaded, IsNoIndex}
+
+broken-later : (b : Bool) (k : Check) (o : Option Check) → b ≡ false → (if b then Some k else o) ≡ o
+broken-later true k o h = absurd (cc)
+broken-later false k o h = refl
+
+broken-now : (b : Bool) (k : Check) (o : Option Check) → b ≡ false → (if not b then Some k else o) ≡ Some k
+broken-now true k o h = absurd (cc)
+broken-now false k o h = refl
+
+-- the frame breaks at the first word
+frame-of-other : (format : FormatNumbers) (words : List ℕ) → 6 ≤ length words → slice_index words 0 ≢ opening_magic → frame_broken format words ≡ Some K2
+frame-of-other format words many other =
+    let count : ℕ = length words in
+    let five : Option Check = if numbers_break format (stated_documents words) (stated_terms words) (stated_sizes words) count then Some K5 else None in
+    let four : Option Check = if not (slice_index words (count - 1) == end_magic) then Some K4 else five in
+    let three : Option Check = if not (slice_index words 1 == format.version) then Some K3 else four in
+    let two : Option Check = if not (slice_index words 0 == opening_magic) then Some K2 else three in
+    broken-later (nat_lt count 6) K1 two (le-ltb count 6 many)
+    ∙ broken-now (slice_index words 0 == opening_magic) K2 three (ne_eqb (slice_index words 0) opening_magic other)
+
+-- what breaks behind the frame
+abbrev Behind : List ℕ → OpenFault → Type 0
+Behind words fault =
+    let format : FormatNumbers = numbers_of (format_read words) in
+    (cs : List CutList) × IsLongestFileFront format words cs
+    × MatchBool (nat_lt (length cs) (stated_terms words))
+    (IsTermFault format words (length cs) (2 + length (lists_words format cs)) fault)
+    (IsClosingFault words (2 + length (lists_words format cs)) fault)
+
+second-only : (words : List ℕ) (fault : OpenFault) → 6 ≤ length words → slice_index words 0 ≢ opening_magic → IsFirstBroken words fault
+    → fault ≡ record { check = K2; term = 0; part = 0 }
+second-only words fault many other first =
+    let At : Option Check → Type 0 = λ o. MatchOption o (Behind words fault) (λ check. fault ≡ record { check = check; term = 0; part = 0 }) in
+    subst At (frame-of-other (numbers_of (format_read words)) words many other) first
+
+second-breaks : (words : List ℕ) (fault : OpenFault) → 6 ≤ length words → slice_index words 0 ≢ opening_magic → fault ≡ record { check = K2; term = 0; part = 0 }
+    → IsFirstBroken words fault
+second-breaks words fault many other is =
+    let At : Option Check → Type 0 = λ o. MatchOption o (Behind words fault) (λ check. fault ≡ record { check = check; term = 0; part = 0 }) in
+    subst At (sym (frame-of-other (numbers_of (format_read words)) words many other)) is
+
+-- an index begins with its opening word
+opens : (words : List ℕ) → IsIndex words → slice_index words 0 ≡ opening_magic
+opens words (format, (c, parts, spells)) = ap (λ ws. slice_index ws 0) spells.spelled
+
+-- words that are an index are all that were loaded
+pub kept_is_loaded : (opening : ℕ) (name : List ℕ) (d d' : DepotState) (words : List ℕ) → opening ≡ opening_magic → LoadsKept opening Index name d d' (Ok words)
+    → IsIndex words → IsLoaded name d d' words
+kept_is_loaded opening name d d' words e (all, inl same, loads) index =
+    record { loads = subst (λ ws. LoadsWords Index name d d' (Ok ws)) (sym same) loads; index = index }
+kept_is_loaded opening name d d' words e (all, inr o, loads) index = absurd (o.other (opens words index ∙ sym e))
+
+-- words that are no index are loaded where some of them are
+pub kept_is_none : (opening : ℕ) (name : List ℕ) (d d' : DepotState) (words : List ℕ) (fault : OpenFault) → opening ≡ opening_magic
+    → LoadsKept opening Index name d d' (Ok words) → ¬ IsIndex words → IsFirstBroken words fault → IsNoIndex name d d' fault
+kept_is_none opening name d d' words fault e (all, inl same, loads) no_index first =
+    record { words = words; loads = subst (λ ws. LoadsWords Index name d d' (Ok ws)) (sym same) loads; no_index = no_index; first = first }
+kept_is_none opening name d d' words fault e (all, inr o, loads) no_index first =
+    let here : slice_index words 0 ≢ opening_magic = λ is. o.other (is ∙ sym e) in
+    let there : slice_index all 0 ≢ opening_magic = λ is. here (sym o.same_first ∙ is) in
+    record {
+      words = all;
+      loads = loads;
+      no_index = λ index. there (opens all index);
+      first = second-breaks all fault (omega (arith, o.many, o.no_more)) there (second-only words fault o.many here first);
+    }
