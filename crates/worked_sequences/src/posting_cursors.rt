@@ -88,6 +88,13 @@ fn next_of<C: DocCursor>(cursor: &mut C, d: u32) -> Option<u32> {
     cursor.doc()
 }
 
+// The next three postings of a cursor.
+fn next_three<C: DocCursor>(cursor: &mut C) -> [Option<(u32, u32)>; 3] {
+    let first = next_posting(cursor);
+    let second = next_posting(cursor);
+    [first, second, next_posting(cursor)]
+}
+
 // The posting where `next_frequent` goes.
 fn frequent_of<C: DocCursor>(cursor: &mut C, f: u32) -> Option<(u32, u32)> {
     cursor.next_frequent(f);
@@ -110,36 +117,84 @@ fn two_docs_below<C: DocCursor>(cursor: &mut C, end: u64) -> (usize, [u64; 2]) {
     (count, docs)
 }
 
-// Frequencies 1, 5 in one part, and 1, 2 in two, in each format.
+// A format, the words of documents and of sums, and in how many parts the sums are.
+type Words = (Format, &'static [u64], &'static [u64], u32);
+
+// Documents 0, 2 with frequencies 1, 5 in one part, and 1, 2 in two, in each format.
+const TWO_POSTINGS: [(Words, u32); 6] = [
+    (
+        (
+            Format::One,
+            &[137_438_953_474, 0, 5],
+            &[137_438_953_477, 0, 33],
+            1,
+        ),
+        5,
+    ),
+    (
+        (
+            Format::One,
+            &[137_438_953_474, 0, 5],
+            &[68_719_476_736, 0, 137_438_953_474, 0, 2],
+            2,
+        ),
+        2,
+    ),
+    ((Format::Two, &[2, 2, 0, 5], &[5, 2, 0, 33], 1), 5),
+    ((Format::Two, &[2, 2, 0, 5], &[0, 1, 0, 2, 2, 0, 2], 2), 2),
+    (
+        (
+            Format::Three,
+            &[562_949_953_421_314, 0, 5],
+            &[562_949_953_421_317, 0, 33],
+            1,
+        ),
+        5,
+    ),
+    (
+        (
+            Format::Three,
+            &[562_949_953_421_314, 0, 5],
+            &[281_474_976_710_656, 0, 562_949_953_421_314, 0, 2],
+            2,
+        ),
+        2,
+    ),
+];
+
+// Documents 0, 1, 2 with frequencies 1, 2, 3 in one part and in two.
+const THREE_POSTINGS: [Words; 3] = [
+    (
+        Format::One,
+        &[206_158_430_210, 0],
+        &[206_158_430_213, 0, 37],
+        1,
+    ),
+    (
+        Format::One,
+        &[206_158_430_210, 0],
+        &[68_719_476_736, 0, 206_158_430_213, 0, 18],
+        2,
+    ),
+    (Format::Two, &[2, 3, 0], &[0, 1, 0, 5, 3, 0, 18], 2),
+];
+
+// A cursor over so many documents, which are in one part.
+fn opened_at(rt: &impl Abort, words: &Words, m: u32) -> PostingCursor<'static> {
+    let (format, docs, sums, parts) = *words;
+    assert!(rt; docs.len() < 10 && sums.len() < 10);
+    opened(rt, format, docs, sums, 1, parts, m)
+}
+
 #[test]
 fn reads_the_postings_back(rt: HostRuntime) {
-    let docs_of_one: &[u64] = &[137_438_953_474, 0, 5];
-    let docs_of_two: &[u64] = &[2, 2, 0, 5];
-    let one: &[u64] = &[137_438_953_477, 0, 33];
-    let one_of_two: &[u64] = &[5, 2, 0, 33];
-    let two: &[u64] = &[68_719_476_736, 0, 137_438_953_474, 0, 2];
-    let two_of_two: &[u64] = &[0, 1, 0, 2, 2, 0, 2];
-    let docs_of_three: &[u64] = &[562_949_953_421_314, 0, 5];
-    let one_of_three: &[u64] = &[562_949_953_421_317, 0, 33];
-    let two_of_three: &[u64] = &[281_474_976_710_656, 0, 562_949_953_421_314, 0, 2];
-    for (format, docs, sums, parts, freq) in [
-        (Format::One, docs_of_one, one, 1, 5),
-        (Format::One, docs_of_one, two, 2, 2),
-        (Format::Two, docs_of_two, one_of_two, 1, 5),
-        (Format::Two, docs_of_two, two_of_two, 2, 2),
-        (Format::Three, docs_of_three, one_of_three, 1, 5),
-        (Format::Three, docs_of_three, two_of_three, 2, 2),
-    ] {
-        assert!(rt; docs.len() <= 4);
-        assert!(rt; sums.len() <= 7);
-        let mut cursor = opened(&rt, format, docs, sums, 1, parts, 2);
-        assert_eq!(rt; cursor.len(), 2);
-        assert_eq!(rt; cursor.max_freq(), freq);
-        assert_eq!(rt; next_posting(&mut cursor), Some((0, 1)));
-        assert_eq!(rt; next_posting(&mut cursor), Some((2, freq)));
-        assert_eq!(rt; next_posting(&mut cursor), None);
-        assert_eq!(rt; cursor.max_freq(), freq);
-        assert_eq!(rt; cursor.len(), 2);
+    for (words, freq) in &TWO_POSTINGS {
+        let mut cursor = opened_at(&rt, words, 2);
+        let told = (cursor.len(), cursor.max_freq());
+        let read = next_three(&mut cursor);
+        let still = (cursor.len(), cursor.max_freq());
+        let postings = [Some((0, 1)), Some((2, *freq)), None];
+        assert_eq!(rt; (told, read, still), ((2, *freq), postings, (2, *freq)));
     }
 }
 
@@ -178,40 +233,22 @@ fn goes_to_a_document(rt: HostRuntime) {
     }
 }
 
-// Frequencies 1, 2, 3 in one part and in two, read from the second on: the first document is
-// skipped.
+// Read from the second on: the first document is skipped.
 #[test]
 fn reads_on_from_a_document(rt: HostRuntime) {
-    let docs_of_one: &[u64] = &[206_158_430_210, 0];
-    let docs_of_two: &[u64] = &[2, 3, 0];
-    let one: &[u64] = &[206_158_430_213, 0, 37];
-    let two: &[u64] = &[68_719_476_736, 0, 206_158_430_213, 0, 18];
-    let two_of_two: &[u64] = &[0, 1, 0, 5, 3, 0, 18];
-    for (format, docs, sums, parts) in [
-        (Format::One, docs_of_one, one, 1),
-        (Format::One, docs_of_one, two, 2),
-        (Format::Two, docs_of_two, two_of_two, 2),
-    ] {
-        assert!(rt; docs.len() <= 3);
-        assert!(rt; sums.len() <= 7);
-        let mut cursor = opened(&rt, format, docs, sums, 1, parts, 3);
-        assert_eq!(rt; next_of(&mut cursor, 1), Some(1));
-        assert_eq!(rt; next_posting(&mut cursor), Some((1, 2)));
-        assert_eq!(rt; next_posting(&mut cursor), Some((2, 3)));
-        assert_eq!(rt; next_posting(&mut cursor), None);
+    for words in &THREE_POSTINGS {
+        let mut cursor = opened_at(&rt, words, 3);
+        let second = next_of(&mut cursor, 1);
+        let postings = [Some((1, 2)), Some((2, 3)), None];
+        assert_eq!(rt; (second, next_three(&mut cursor)), (Some(1), postings));
     }
 }
 
-// Documents 0, 1, 2 of frequencies 1, 2, 3 in one part and in two, by their frequencies, before and
-// behind a document that was read.
+// By their frequencies, before and behind a document that was read.
 #[test]
 fn goes_to_a_frequency(rt: HostRuntime) {
-    let docs = [206_158_430_210, 0];
-    let one: &[u64] = &[206_158_430_213, 0, 37];
-    let two: &[u64] = &[68_719_476_736, 0, 206_158_430_213, 0, 18];
-    for (sums, parts) in [(one, 1), (two, 2)] {
-        assert!(rt; sums.len() <= 5);
-        let mut cursor = opened(&rt, Format::One, &docs, sums, 1, parts, 3);
+    for words in &THREE_POSTINGS[..2] {
+        let mut cursor = opened_at(&rt, words, 3);
         for (f, found) in [
             (0, Some((0, 1))),
             (1, Some((0, 1))),
@@ -223,10 +260,11 @@ fn goes_to_a_frequency(rt: HostRuntime) {
         ] {
             assert_eq!(rt; frequent_of(&mut cursor, f), found, "at least {f}");
         }
-        let mut cursor = opened(&rt, Format::One, &docs, sums, 1, parts, 3);
-        assert_eq!(rt; next_posting(&mut cursor), Some((0, 1)));
-        assert_eq!(rt; frequent_of(&mut cursor, 1), Some((1, 2)));
-        assert_eq!(rt; cursor.common_freq(1), 0);
+        let mut cursor = opened_at(&rt, words, 3);
+        let first = next_posting(&mut cursor);
+        let second = frequent_of(&mut cursor, 1);
+        let common = cursor.common_freq(1);
+        assert_eq!(rt; (first, second, common), (Some((0, 1)), Some((1, 2)), 0));
     }
 }
 
@@ -237,41 +275,35 @@ fn tells_a_common_frequency(rt: HostRuntime) {
     let sums = written(&rt, rt.alloc(), &[0, 1, 101], &[2, 3], Format::One);
     assert!(rt; sums.len() < 100);
     let mut cursor = opened(&rt, Format::One, &docs, &sums, 1, 2, 3);
-    assert_eq!(rt; cursor.common_freq(1), 100);
-    assert_eq!(rt; cursor.common_freq(2), 0);
-    assert_eq!(rt; frequent_of(&mut cursor, 100), Some((2, 100)));
+    let common = (cursor.common_freq(1), cursor.common_freq(2));
+    assert_eq!(rt;
+        (common, frequent_of(&mut cursor, 100)),
+        ((100, 0), Some((2, 100)))
+    );
 }
 
-// Documents 0, 1, 2 of frequencies 1, 2, 3 in one part and in two: all by two, all behind the first
-// document, and the last one.
+// All by two, all behind the first document, and the last one.
 #[test]
 fn reads_the_postings_below(rt: HostRuntime) {
-    let docs_of_one: &[u64] = &[206_158_430_210, 0];
-    let docs_of_two: &[u64] = &[2, 3, 0];
-    let one: &[u64] = &[206_158_430_213, 0, 37];
-    let two: &[u64] = &[68_719_476_736, 0, 206_158_430_213, 0, 18];
-    let two_of_two: &[u64] = &[0, 1, 0, 5, 3, 0, 18];
-    for (format, docs, sums, parts) in [
-        (Format::One, docs_of_one, one, 1),
-        (Format::One, docs_of_one, two, 2),
-        (Format::Two, docs_of_two, two_of_two, 2),
-    ] {
-        assert!(rt; docs.len() <= 3);
-        assert!(rt; sums.len() <= 7);
-        let mut all = opened(&rt, format, docs, sums, 1, parts, 3);
-        assert_eq!(rt; two_below(&mut all, 0), (0, [0, 0], [0, 0]));
-        assert_eq!(rt; two_below(&mut all, 9), (2, [0, 1], [1, 2]));
-        assert_eq!(rt; next_posting(&mut all), Some((2, 3)));
-        assert_eq!(rt; two_below(&mut all, 9), (0, [0, 0], [0, 0]));
-        let mut behind = opened(&rt, format, docs, sums, 1, parts, 3);
-        assert_eq!(rt; two_docs_below(&mut behind, 1), (1, [0, 0]));
-        assert_eq!(rt; two_below(&mut behind, 2), (1, [1, 0], [2, 0]));
-        assert_eq!(rt; two_below(&mut behind, u64::MAX), (1, [2, 0], [3, 0]));
-        assert_eq!(rt; two_docs_below(&mut behind, u64::MAX), (0, [0, 0]));
-        let mut last = opened(&rt, format, docs, sums, 1, parts, 3);
-        assert_eq!(rt; next_of(&mut last, 2), Some(2));
-        assert_eq!(rt; two_below(&mut last, 2), (0, [0, 0], [0, 0]));
-        assert_eq!(rt; two_below(&mut last, 3), (1, [2, 0], [3, 0]));
+    let none = (0, [0, 0], [0, 0]);
+    for words in &THREE_POSTINGS {
+        let mut all = opened_at(&rt, words, 3);
+        let first = (two_below(&mut all, 0), two_below(&mut all, 9));
+        let last = (next_posting(&mut all), two_below(&mut all, 9));
+        assert_eq!(rt; first, (none, (2, [0, 1], [1, 2])));
+        assert_eq!(rt; last, (Some((2, 3)), none));
+        let mut behind = opened_at(&rt, words, 3);
+        let first = (two_docs_below(&mut behind, 1), two_below(&mut behind, 2));
+        let last = (
+            two_below(&mut behind, u64::MAX),
+            two_docs_below(&mut behind, u64::MAX),
+        );
+        assert_eq!(rt; first, ((1, [0, 0]), (1, [1, 0], [2, 0])));
+        assert_eq!(rt; last, ((1, [2, 0], [3, 0]), (0, [0, 0])));
+        let mut last = opened_at(&rt, words, 3);
+        let place = next_of(&mut last, 2);
+        let read = (two_below(&mut last, 2), two_below(&mut last, 3));
+        assert_eq!(rt; (place, read), (Some(2), (none, (1, [2, 0], [3, 0]))));
     }
 }
 
@@ -279,10 +311,9 @@ fn reads_the_postings_below(rt: HostRuntime) {
 fn an_empty_list_is_at_its_end(rt: HostRuntime) {
     for format in [Format::One, Format::Two, Format::Three] {
         let mut cursor = opened(&rt, format, &[], &[], 0, 0, 0);
-        assert_eq!(rt; cursor.len(), 0);
-        assert_eq!(rt; cursor.max_freq(), 0);
-        assert_eq!(rt; next_of(&mut cursor, 0), None);
-        assert_eq!(rt; two_below(&mut cursor, 9), (0, [0, 0], [0, 0]));
+        assert_eq!(rt; (cursor.len(), cursor.max_freq()), (0, 0));
+        let read = (next_of(&mut cursor, 0), two_below(&mut cursor, 9));
+        assert_eq!(rt; read, (None, (0, [0, 0], [0, 0])));
         assert_eq!(rt; next_posting(&mut cursor), None);
     }
 }
