@@ -37,27 +37,23 @@ fn refused(alloc: Global, line: &[u8], terms: u32) -> Option<ParseError> {
 fn lines_ask(rt: HostRuntime) -> Result<(), Fail> {
     let cases = [
         ("next 0 1", "next", [0, 1].as_slice()),
-        (
-            "  next   009 4294967295 ",
-            "next",
-            [9, 4_294_967_295].as_slice(),
-        ),
-        ("and", "and", [].as_slice()),
-        ("and 1 0", "and", [0, 1].as_slice()),
-        ("or 0 0", "or", [0].as_slice()),
+        ("  next   009 4294967295 ", "next", &[9, 4_294_967_295]),
+        ("and", "and", &[]),
+        ("and 1 0", "and", &[0, 1]),
+        ("or 0 0", "or", &[0]),
         (
             "or 9 8 7 6 5 4 3 2 1 0 9 0 5",
             "or",
-            [0, 1, 2, 3, 4, 5, 6, 7, 8, 9].as_slice(),
+            &[0, 1, 2, 3, 4, 5, 6, 7, 8, 9],
         ),
-        ("top 2 0 1", "top", [2, 0, 1, 1, 1].as_slice()),
-        ("top 9 0 0", "top", [9, 0, 2].as_slice()),
-        ("top 3 0*2 1", "top", [3, 0, 2, 1, 1].as_slice()),
-        ("top 2 1*2 0", "top", [2, 0, 1, 1, 2].as_slice()),
-        ("top 1 0*65535", "top", [1, 0, 65_535].as_slice()),
-        ("top 2 0*00002 1", "top", [2, 0, 2, 1, 1].as_slice()),
-        ("top 4 9*3 0 9*4 0*5", "top", [4, 0, 6, 9, 7].as_slice()),
-        ("top 4294967295", "top", [4_294_967_295].as_slice()),
+        ("top 2 0 1", "top", &[2, 0, 1, 1, 1]),
+        ("top 9 0 0", "top", &[9, 0, 2]),
+        ("top 3 0*2 1", "top", &[3, 0, 2, 1, 1]),
+        ("top 2 1*2 0", "top", &[2, 0, 1, 1, 2]),
+        ("top 1 0*65535", "top", &[1, 0, 65_535]),
+        ("top 2 0*00002 1", "top", &[2, 0, 2, 1, 1]),
+        ("top 4 9*3 0 9*4 0*5", "top", &[4, 0, 6, 9, 7]),
+        ("top 4294967295", "top", &[4_294_967_295]),
     ];
     for (line, verb, numbers) in cases {
         let (found_verb, found) = asked(rt.alloc(), line.as_bytes(), 10)?;

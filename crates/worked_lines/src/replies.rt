@@ -17,8 +17,8 @@ fn replies_end_with_a_newline(rt: HostRuntime) -> Result<(), Fail> {
     }
     let lists = [
         ([0, 2].as_slice(), "2 0 2\n"),
-        ([1, 2, 4].as_slice(), "3 1 2 4\n"),
-        ([].as_slice(), "0\n"),
+        (&[1, 2, 4], "3 1 2 4\n"),
+        (&[], "0\n"),
     ];
     for (docs, want) in lists {
         assert_eq!(rt; list_reply(rt.alloc(), docs)?.as_slice(), want.as_bytes());
@@ -26,10 +26,10 @@ fn replies_end_with_a_newline(rt: HostRuntime) -> Result<(), Fail> {
     let tops = [
         ([(4, 4), (1, 3)].as_slice(), "2 4:4 1:3\n"),
         (
-            [(10, 18_446_744_073_709_551_615)].as_slice(),
+            &[(10, 18_446_744_073_709_551_615)],
             "1 10:18446744073709551615\n",
         ),
-        ([].as_slice(), "0\n"),
+        (&[], "0\n"),
     ];
     for (top, want) in tops {
         assert_eq!(rt; top_reply(rt.alloc(), top)?.as_slice(), want.as_bytes());
