@@ -1,6 +1,5 @@
 // Damaged files of what one list of two documents lacks: samples, several parts, a list without postings.
-use crate::hostile_words::{changed, flipped, query, refusal, with_sizes_moved};
-use pef_io::SteadySink;
+use crate::hostile_words::{Change, is_refused, query};
 use pef_top::Status;
 use run_tables::{
     CLOSING, ONE_LIST_WORDS, ONE_LIST_WORDS_OF_TWO, OPENING, THREE_LISTS_WORDS,
@@ -82,12 +81,17 @@ const END: u64 = 1 << 36;
 // One more in the high half of a word.
 const HIGH: u64 = 1 << 32;
 
-// What `query` writes on err over the words with the one at a place moved up by so much, and with it moved down by as much.
-fn refusals(alloc: Global, words: &[u64], at: usize, by: u64) -> Option<(SteadySink, SteadySink)> {
-    let word = *words.get(at)?;
-    let up = changed(alloc, words, at, word.wrapping_add(by))?;
-    let down = changed(alloc, words, at, word.wrapping_sub(by))?;
-    Some((refusal(alloc, &up)?, refusal(alloc, &down)?))
+// Whether the words are refused at these checks where the one at a place is so much more, and where it is so much less.
+fn are_refused(
+    alloc: Global,
+    words: &[u64],
+    at: (usize, u64),
+    higher: &str,
+    lower: &str,
+) -> Option<bool> {
+    let (at, by) = at;
+    let up = is_refused(alloc, words, Change::Up(at, by), higher)?;
+    Some(is_refused(alloc, words, Change::Down(at, by), lower)? && up)
 }
 
 // All these words, in order.
@@ -174,6 +178,33 @@ impl Sampled<'_> {
     }
 }
 
+// Whether a sample that is one too high or one too low, and a one in the padding, are refused at these checks, where they begin at
+// such bits of a word.
+fn is_sample_checked(
+    alloc: Global,
+    words: &[u64],
+    at: usize,
+    bits: [u32; 2],
+    checks: (&str, &str),
+) -> Option<bool> {
+    let [sample, padding] = bits;
+    let by = 1_u64.checked_shl(sample)?;
+    let sampled = are_refused(alloc, words, (at, by), checks.0, checks.0)?;
+    Some(is_refused(alloc, words, Change::Flip(at, padding), checks.1)? && sampled)
+}
+
+// Whether a file has its replies, and the samples of its parts are checked.
+fn is_checked(alloc: Global, file: &Sampled<'_>) -> Option<bool> {
+    let words = file.words(alloc)?;
+    let [docs, freqs] = file.ends;
+    let of_docs = ("K8 term 0 part 0", "K9 term 0 part 0");
+    let of_freqs = ("K8 term 0 part 1", "K9 term 0 part 1");
+    let checked = is_sample_checked(alloc, &words, docs, file.bits, of_docs)?
+        && is_sample_checked(alloc, &words, freqs, file.bits, of_freqs)?;
+    let run = query(alloc, &words, file.text)?;
+    Some(checked && run.status == Status::Done && run.out.bytes() == file.replies)
+}
+
 // A sample is one too high, and one too low, in the part of the documents and in that of the frequencies; or the bit behind it is one.
 #[test]
 fn samples_are_checked(rt: HostRuntime) {
@@ -226,78 +257,132 @@ fn samples_are_checked(rt: HostRuntime) {
             replies: b"301 2\n599 1\n",
         },
     ] {
-        let words = file.words(alloc).expect(&rt, "memory");
-        let version = file.version;
-        let run = query(alloc, &words, file.text).expect(&rt, "memory");
-        assert_eq!(rt; run.status, Status::Done, "{version}");
-        assert_eq!(rt; run.out.bytes(), file.replies, "{version}");
-        let [docs, freqs] = file.ends;
-        let [sample, padding] = file.bits;
-        for (at, k8, k9) in [
-            (docs, "index K8 term 0 part 0\n", "index K9 term 0 part 0\n"),
-            (
-                freqs,
-                "index K8 term 0 part 1\n",
-                "index K9 term 0 part 1\n",
-            ),
-        ] {
-            let by = 1_u64.checked_shl(sample).expect(&rt, "a bit");
-            let (up, down) = refusals(alloc, &words, at, by).expect(&rt, "refused files");
-            assert_eq!(rt; up.bytes(), k8.as_bytes(), "{version} {at} {sample}");
-            assert_eq!(rt; down.bytes(), k8.as_bytes(), "{version} {at} {sample}");
-            let padded = flipped(alloc, &words, at, padding).expect(&rt, "such a bit");
-            let err = refusal(alloc, &padded).expect(&rt, "a refused file");
-            assert_eq!(rt; err.bytes(), k9.as_bytes(), "{version} {at} {padding}");
-        }
+        let (version, bits) = (file.version, file.bits);
+        assert_eq!(rt; is_checked(alloc, &file), Some(true), "{version} {bits:?}");
     }
+}
+
+// Whether the several parts of these words are read.
+fn are_read(alloc: Global, words: &[u64]) -> Option<bool> {
+    let text = b"or 0\nnext 0 0\nnext 0 1\nnext 0 3\nnext 0 4\nnext 0 8\n";
+    let replies = b"4 0 2 3 7\n0 2\n2 1\n3 3\n7 3\nend\n";
+    let run = query(alloc, words, text)?;
+    Some(run.status == Status::Done && run.out.bytes() == replies.as_slice())
 }
 
 #[test]
 fn several_parts_are_read(rt: HostRuntime) {
-    for words in [SEVERAL_PARTS.as_slice(), SEVERAL_PARTS_OF_TWO.as_slice()] {
-        let text = b"or 0\nnext 0 0\nnext 0 1\nnext 0 3\nnext 0 4\nnext 0 8\n";
-        let run = query(rt.alloc(), words, text).expect(&rt, "memory");
-        assert_eq!(rt; run.status, Status::Done);
-        assert_eq!(rt;
-            run.out.bytes(),
-            b"4 0 2 3 7\n0 2\n2 1\n3 3\n7 3\nend\n".as_slice()
-        );
-    }
+    assert_eq!(rt; are_read(rt.alloc(), &SEVERAL_PARTS), Some(true));
+    assert_eq!(rt; are_read(rt.alloc(), &SEVERAL_PARTS_OF_TWO), Some(true));
 }
 
-// Each last value, end and offset is one too high, and one too low. The parts of the documents are 0 and 1, those of the frequencies
-// from 2 on.
-#[test]
-fn entries_that_are_one_off_are_refused(rt: HostRuntime) {
-    for (at, by, at_of_two, higher, lower) in [
-        (2, 1, 2, "K7 term 0 part 1", "K7 term 0 part 1"),
-        (2, END, 3, "K7 term 0 part 1", "K8 term 0 part 0"),
-        (3, 1, 4, "K7 term 0 part 0", "K7 term 0 part 0"),
-        (4, 1, 5, "K8 term 0 part 1", "K8 term 0 part 1"),
-        (4, END, 6, "K7 term 0 part 1", "K7 term 0 part 1"),
-        (5, 1, 7, "K7 term 0 part 1", "K7 term 0 part 1"),
-        (7, 1, 9, "K7 term 0 part 3", "K7 term 0 part 3"),
-        (7, END, 10, "K7 term 0 part 3", "K7 term 0 part 2"),
-        (8, 1, 11, "K7 term 0 part 2", "K7 term 0 part 2"),
-        (9, 1, 12, "K7 term 0 part 4", "K7 term 0 part 4"),
-        (9, END, 13, "K7 term 0 part 4", "K7 term 0 part 4"),
-        (10, 1, 14, "K7 term 0 part 3", "K7 term 0 part 3"),
-        (11, 1, 15, "K8 term 0 part 4", "K8 term 0 part 4"),
-        (11, END, 16, "K7 term 0 part 4", "K7 term 0 part 4"),
-        (12, 1, 17, "K7 term 0 part 4", "K7 term 0 part 4"),
-    ] {
-        for (words, at, by) in [
-            (SEVERAL_PARTS.as_slice(), at, by),
-            (SEVERAL_PARTS_OF_TWO.as_slice(), at_of_two, 1),
-        ] {
-            let alloc = rt.alloc();
-            let (up, down) = refusals(alloc, words, at, by).expect(&rt, "refused files");
-            let higher = format!(in alloc; "index {higher}\n").expect(&rt, "memory");
-            let lower = format!(in alloc; "index {lower}\n").expect(&rt, "memory");
-            assert_eq!(rt; up.bytes(), higher.as_bytes(), "{at} {by}");
-            assert_eq!(rt; down.bytes(), lower.as_bytes(), "{at} {by}");
+// A place in the words of the first format and how much the word there is moved, such a place in the second format, and the checks that
+// break where it is moved up and down.
+type OneOff = ((usize, u64), (usize, u64), &'static str, &'static str);
+
+// Each last value, end and offset is one too high, and one too low, and then the greatest frequency. The parts of the documents are 0
+// and 1, those of the frequencies from 2 on.
+const SEVERAL_PARTS_OFF: [OneOff; 16] = [
+    ((2, 1), (2, 1), "K7 term 0 part 1", "K7 term 0 part 1"),
+    ((2, END), (3, 1), "K7 term 0 part 1", "K8 term 0 part 0"),
+    ((3, 1), (4, 1), "K7 term 0 part 0", "K7 term 0 part 0"),
+    ((4, 1), (5, 1), "K8 term 0 part 1", "K8 term 0 part 1"),
+    ((4, END), (6, 1), "K7 term 0 part 1", "K7 term 0 part 1"),
+    ((5, 1), (7, 1), "K7 term 0 part 1", "K7 term 0 part 1"),
+    ((7, 1), (9, 1), "K7 term 0 part 3", "K7 term 0 part 3"),
+    ((7, END), (10, 1), "K7 term 0 part 3", "K7 term 0 part 2"),
+    ((8, 1), (11, 1), "K7 term 0 part 2", "K7 term 0 part 2"),
+    ((9, 1), (12, 1), "K7 term 0 part 4", "K7 term 0 part 4"),
+    ((9, END), (13, 1), "K7 term 0 part 4", "K7 term 0 part 4"),
+    ((10, 1), (14, 1), "K7 term 0 part 3", "K7 term 0 part 3"),
+    ((11, 1), (15, 1), "K8 term 0 part 4", "K8 term 0 part 4"),
+    ((11, END), (16, 1), "K7 term 0 part 4", "K7 term 0 part 4"),
+    ((12, 1), (17, 1), "K7 term 0 part 4", "K7 term 0 part 4"),
+    (
+        (22, HIGH),
+        (27, HIGH),
+        "K10 term 0 part 0",
+        "K10 term 0 part 0",
+    ),
+];
+
+// The second of the three lists is empty. Of the four words both first words are those at which the next sequence begins, and the
+// halves of the others are zero. Then the greatest frequencies of the other two.
+const THREE_LISTS_OFF: [OneOff; 8] = [
+    ((17, 1), (21, 1), "K6 term 1 part 0", "K6 term 1 part 0"),
+    ((18, 1), (22, 1), "K6 term 1 part 0", "K6 term 1 part 0"),
+    ((19, 1), (23, 1), "K6 term 1 part 0", "K6 term 1 part 0"),
+    (
+        (19, HIGH),
+        (23, HIGH),
+        "K6 term 1 part 0",
+        "K6 term 1 part 0",
+    ),
+    ((20, 1), (24, 1), "K6 term 1 part 0", "K6 term 1 part 0"),
+    (
+        (20, HIGH),
+        (24, HIGH),
+        "K10 term 1 part 0",
+        "K10 term 1 part 0",
+    ),
+    (
+        (16, HIGH),
+        (20, HIGH),
+        "K10 term 0 part 0",
+        "K10 term 0 part 0",
+    ),
+    (
+        (24, HIGH),
+        (28, HIGH),
+        "K10 term 2 part 0",
+        "K10 term 2 part 0",
+    ),
+];
+
+// The greatest frequency of the one list.
+const ONE_LIST_OFF: [OneOff; 1] = [(
+    (13, HIGH),
+    (15, HIGH),
+    "K10 term 0 part 0",
+    "K10 term 0 part 0",
+)];
+
+// The first row that is not refused at its checks, in the words of the first format or in those of the second.
+fn first_wrong(alloc: Global, one: &[u64], two: &[u64], rows: &[OneOff]) -> Option<usize> {
+    for (row, (at, at_of_two, higher, lower)) in rows.iter().enumerate() {
+        if are_refused(alloc, one, *at, higher, lower) != Some(true)
+            || are_refused(alloc, two, *at_of_two, higher, lower) != Some(true)
+        {
+            return Some(row);
         }
     }
+    None
+}
+
+#[test]
+fn words_that_are_one_off_are_refused(rt: HostRuntime) {
+    let alloc = rt.alloc();
+    let of_several = first_wrong(
+        alloc,
+        &SEVERAL_PARTS,
+        &SEVERAL_PARTS_OF_TWO,
+        &SEVERAL_PARTS_OFF,
+    );
+    assert_eq!(rt; of_several, None);
+    let of_three = first_wrong(
+        alloc,
+        &THREE_LISTS_WORDS,
+        &THREE_LISTS_WORDS_OF_TWO,
+        &THREE_LISTS_OFF,
+    );
+    assert_eq!(rt; of_three, None);
+    let of_one = first_wrong(
+        alloc,
+        &ONE_LIST_WORDS,
+        &ONE_LIST_WORDS_OF_TWO,
+        &ONE_LIST_OFF,
+    );
+    assert_eq!(rt; of_one, None);
 }
 
 // The check that breaks where a bit of the documents' last word is flipped, and where one of the frequencies' is: of a part, or of
@@ -317,115 +402,68 @@ fn checks_of_bit(bit: u32) -> (&'static str, &'static str) {
     (docs, freqs)
 }
 
+// The first bit of the documents' last word or of the frequencies' that is flipped and not refused at its check.
+fn first_wrong_bit(alloc: Global, words: &[u64], docs: usize, freqs: usize) -> Option<u32> {
+    for bit in 0..64 {
+        let (docs_check, freqs_check) = checks_of_bit(bit);
+        if is_refused(alloc, words, Change::Flip(docs, bit), docs_check) != Some(true)
+            || is_refused(alloc, words, Change::Flip(freqs, bit), freqs_check) != Some(true)
+        {
+            return Some(bit);
+        }
+    }
+    None
+}
+
 #[test]
 fn each_bit_of_the_payload_and_behind_it_is_checked(rt: HostRuntime) {
-    for (words, docs, freqs) in [
-        (SEVERAL_PARTS.as_slice(), 6, 13),
-        (SEVERAL_PARTS_OF_TWO.as_slice(), 8, 18),
-    ] {
-        for bit in 0..64 {
-            let (docs_check, freqs_check) = checks_of_bit(bit);
-            for (at, check) in [(docs, docs_check), (freqs, freqs_check)] {
-                let alloc = rt.alloc();
-                let flipped = flipped(alloc, words, at, bit).expect(&rt, "such a bit");
-                let err = refusal(alloc, &flipped).expect(&rt, "a refused file");
-                let wanted = format!(in alloc; "index {check}\n").expect(&rt, "memory");
-                assert_eq!(rt; err.bytes(), wanted.as_bytes(), "{at} {bit}");
-            }
-        }
+    assert_eq!(rt; first_wrong_bit(rt.alloc(), &SEVERAL_PARTS, 6, 13), None);
+    assert_eq!(rt;
+        first_wrong_bit(rt.alloc(), &SEVERAL_PARTS_OF_TWO, 8, 18),
+        None
+    );
+}
+
+// The check that breaks where the sequences are cut off before a word: before the last of the documents' words, of the frequencies'
+// words, or at one of them.
+fn check_of_cut(at: usize, docs: usize, freqs: usize) -> &'static str {
+    if at < docs {
+        "K6 term 0 part 0"
+    } else if at == docs {
+        "K7 term 0 part 2"
+    } else if at < freqs {
+        "K6 term 0 part 2"
+    } else {
+        "K7 term 0 part 5"
     }
 }
 
-// The second of the three lists is empty. Of the four words both first words are those at which the next sequence begins, and the
-// halves of the others are zero.
-#[test]
-fn directory_words_of_an_empty_list_are_refused_one_off(rt: HostRuntime) {
-    for (at, at_of_two, by, higher, lower) in [
-        (17, 21, 1, "K6 term 1 part 0", "K6 term 1 part 0"),
-        (18, 22, 1, "K6 term 1 part 0", "K6 term 1 part 0"),
-        (19, 23, 1, "K6 term 1 part 0", "K6 term 1 part 0"),
-        (19, 23, HIGH, "K6 term 1 part 0", "K6 term 1 part 0"),
-        (20, 24, 1, "K6 term 1 part 0", "K6 term 1 part 0"),
-        (20, 24, HIGH, "K10 term 1 part 0", "K10 term 1 part 0"),
-    ] {
-        for (words, at) in [
-            (THREE_LISTS_WORDS.as_slice(), at),
-            (THREE_LISTS_WORDS_OF_TWO.as_slice(), at_of_two),
-        ] {
-            let alloc = rt.alloc();
-            let (up, down) = refusals(alloc, words, at, by).expect(&rt, "refused files");
-            let higher = format!(in alloc; "index {higher}\n").expect(&rt, "memory");
-            let lower = format!(in alloc; "index {lower}\n").expect(&rt, "memory");
-            assert_eq!(rt; up.bytes(), higher.as_bytes(), "{at} {by}");
-            assert_eq!(rt; down.bytes(), lower.as_bytes(), "{at} {by}");
+// The first word before which the sequences are cut off and not refused so.
+fn first_wrong_cut(
+    alloc: Global,
+    words: &[u64],
+    sizes: usize,
+    docs: usize,
+    freqs: usize,
+) -> Option<usize> {
+    for at in 2..sizes {
+        let check = check_of_cut(at, docs, freqs);
+        if is_refused(alloc, words, Change::Move(at, 0, sizes), check) != Some(true) {
+            return Some(at);
         }
     }
-}
-
-#[test]
-fn greatest_frequencies_are_refused_one_off(rt: HostRuntime) {
-    for (words, at, line) in [
-        (ONE_LIST_WORDS.as_slice(), 13, "index K10 term 0 part 0\n"),
-        (
-            ONE_LIST_WORDS_OF_TWO.as_slice(),
-            15,
-            "index K10 term 0 part 0\n",
-        ),
-        (
-            THREE_LISTS_WORDS.as_slice(),
-            16,
-            "index K10 term 0 part 0\n",
-        ),
-        (
-            THREE_LISTS_WORDS.as_slice(),
-            24,
-            "index K10 term 2 part 0\n",
-        ),
-        (
-            THREE_LISTS_WORDS_OF_TWO.as_slice(),
-            20,
-            "index K10 term 0 part 0\n",
-        ),
-        (
-            THREE_LISTS_WORDS_OF_TWO.as_slice(),
-            28,
-            "index K10 term 2 part 0\n",
-        ),
-        (SEVERAL_PARTS.as_slice(), 22, "index K10 term 0 part 0\n"),
-        (
-            SEVERAL_PARTS_OF_TWO.as_slice(),
-            27,
-            "index K10 term 0 part 0\n",
-        ),
-    ] {
-        let alloc = rt.alloc();
-        let (up, down) = refusals(alloc, words, at, HIGH).expect(&rt, "refused files");
-        assert_eq!(rt; up.bytes(), line.as_bytes(), "{at}");
-        assert_eq!(rt; down.bytes(), line.as_bytes(), "{at}");
-    }
+    None
 }
 
 // The sequences are cut off before each word, and the sizes are moved there: the entries or the payload would pass them.
 #[test]
 fn several_parts_do_not_pass_the_sizes(rt: HostRuntime) {
-    for (words, sizes, docs, freqs) in [
-        (SEVERAL_PARTS.as_slice(), 14, 6, 13),
-        (SEVERAL_PARTS_OF_TWO.as_slice(), 19, 8, 18),
-    ] {
-        for moved in 2..sizes {
-            let alloc = rt.alloc();
-            let line = if moved < docs {
-                "index K6 term 0 part 0\n"
-            } else if moved == docs {
-                "index K7 term 0 part 2\n"
-            } else if moved < freqs {
-                "index K6 term 0 part 2\n"
-            } else {
-                "index K7 term 0 part 5\n"
-            };
-            let words = with_sizes_moved(alloc, words, moved, 0, sizes).expect(&rt, "memory");
-            let err = refusal(alloc, &words).expect(&rt, "a refused file");
-            assert_eq!(rt; err.bytes(), line.as_bytes(), "{sizes} {moved}");
-        }
-    }
+    assert_eq!(rt;
+        first_wrong_cut(rt.alloc(), &SEVERAL_PARTS, 14, 6, 13),
+        None
+    );
+    assert_eq!(rt;
+        first_wrong_cut(rt.alloc(), &SEVERAL_PARTS_OF_TWO, 19, 8, 18),
+        None
+    );
 }
