@@ -1,8 +1,10 @@
 // Each call of a run that answers from an index and its side file fails in turn.
-use crate::failures::run_failing;
+use crate::failures::{Files, Runs, ends_so, no_fails, run_failing};
+use crate::in_turn::first_wrong;
 use pef_io::{Op, Slot};
 use pef_top::Status;
 use run_tables::{BQUERY, ONE_LIST_WORDS, index_and_side};
+use std::alloc::Global;
 
 // The words of the side file of the one list.
 const SIDE_WORDS: [u64; 5] = [
@@ -26,23 +28,29 @@ fn reads_of_an_index_and_its_side_file_fail_in_turn(rt: HostRuntime) {
         (Op::Start(Slot::Side), "read fault: side\n", 1),
         (Op::Read(Slot::Side), "read fault: side\n", 5),
     ] {
-        let mut failed = 0;
-        for failing in 1..100 {
-            let alloc = rt.alloc();
-            let held = index_and_side(alloc, &ONE_LIST_WORDS, &SIDE_WORDS).expect(&rt, "memory");
-            let fails = vec![in alloc; (op, failing)].expect(&rt, "memory");
-            let fails = (fails, Vec::new(alloc), Vec::new(alloc));
-            let run = run_failing(alloc, &BQUERY, held, TEXT, 8, fails).expect(&rt, "memory");
-            if run.depot.calls(op) < failing {
-                assert_eq!(rt; run.status, Status::Done, "{op:?} {failing}");
-                assert_eq!(rt; run.out.bytes(), REPLIES, "{op:?} {failing}");
-                break;
-            }
-            assert!(rt; run.ends(Status::Read, line), "{op:?} {failing}");
-            failed = failing;
-        }
-        assert!(rt; least <= failed && failed < 99, "{op:?}");
+        let runs = Runs {
+            words: &BQUERY,
+            files: Files::IndexAndSide(&ONE_LIST_WORDS, &SIDE_WORDS),
+            text: TEXT,
+            most: 8,
+            op,
+            end: (Status::Read, line),
+            replies: REPLIES,
+            made: None,
+        };
+        assert_eq!(rt; first_wrong(rt.alloc(), &runs, least), None, "{op:?}");
     }
+}
+
+// Whether a run over the index and its side file ends so, where this read of the input and this write on out fail.
+fn ends_by_blocks(
+    alloc: Global,
+    fails: (u64, u64),
+    ending: (Status, &str),
+    replies: &str,
+) -> Option<bool> {
+    let files = index_and_side(alloc, &ONE_LIST_WORDS, &SIDE_WORDS)?;
+    ends_so(alloc, (&BQUERY, files, TEXT), fails, ending, replies)
 }
 
 // Four bytes at a time: the first line ends in the third piece.
@@ -50,40 +58,28 @@ fn reads_of_an_index_and_its_side_file_fail_in_turn(rt: HostRuntime) {
 fn reads_of_the_input_and_writes_on_out_by_blocks_fail(rt: HostRuntime) {
     let read = (Status::Read, "read fault: input\n");
     let write = (Status::Write, "write fault: out\n");
-    for (failing_read, failing_write, (status, line), replies) in [
-        (1, 0, read, ""),
-        (4, 0, read, "2 5\n"),
-        (0, 1, write, ""),
-        (0, 2, write, "2 5\n"),
-        (0, 3, write, "2 5\n1 2:"),
+    for (fails, ending, replies) in [
+        ((1, 0), read, ""),
+        ((4, 0), read, "2 5\n"),
+        ((0, 1), write, ""),
+        ((0, 2), write, "2 5\n"),
+        ((0, 3), write, "2 5\n1 2:"),
     ] {
-        let alloc = rt.alloc();
-        let held = index_and_side(alloc, &ONE_LIST_WORDS, &SIDE_WORDS).expect(&rt, "memory");
-        let reads = vec![in alloc; failing_read].expect(&rt, "memory");
-        let writes = vec![in alloc; failing_write].expect(&rt, "memory");
-        let fails = (Vec::new(alloc), reads, writes);
-        let run = run_failing(alloc, &BQUERY, held, TEXT, 4, fails).expect(&rt, "memory");
-        assert_eq!(rt; run.status, status, "{failing_read} {failing_write}");
-        assert_eq!(rt;
-            run.err.bytes(),
-            line.as_bytes(),
-            "{failing_read} {failing_write}"
-        );
-        assert_eq!(rt;
-            run.out.bytes(),
-            replies.as_bytes(),
-            "{failing_read} {failing_write}"
-        );
+        let right = ends_by_blocks(rt.alloc(), fails, ending, replies);
+        assert_eq!(rt; right, Some(true), "{fails:?}");
     }
+}
+
+// Whether a run over a broken index does not start its side file.
+fn is_side_unstarted(alloc: Global) -> Option<bool> {
+    let files = index_and_side(alloc, &[1], &SIDE_WORDS)?;
+    let run = run_failing(alloc, &BQUERY, files, TEXT, 8, no_fails(alloc))?;
+    let unstarted = run.depot.calls(Op::Start(Slot::Side)) == 0;
+    Some(unstarted && run.ends(Status::Index, "index K1 term 0 part 0\n"))
 }
 
 // The side file of an index that is refused is not started.
 #[test]
 fn no_side_file_is_started_of_a_broken_index(rt: HostRuntime) {
-    let alloc = rt.alloc();
-    let held = index_and_side(alloc, &[1], &SIDE_WORDS).expect(&rt, "memory");
-    let none = (Vec::new(alloc), Vec::new(alloc), Vec::new(alloc));
-    let run = run_failing(alloc, &BQUERY, held, TEXT, 8, none).expect(&rt, "memory");
-    assert!(rt; run.ends(Status::Index, "index K1 term 0 part 0\n"));
-    assert_eq!(rt; run.depot.calls(Op::Start(Slot::Side)), 0);
+    assert_eq!(rt; is_side_unstarted(rt.alloc()), Some(true));
 }

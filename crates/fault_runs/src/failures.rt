@@ -5,8 +5,9 @@ use crate::in_turn::{Turn, Turns, first_wrong};
 use pef_io::{MemDepot, MemSink, MemSource, Op, Slot};
 use pef_top::Status;
 use run_tables::{
-    ANSWER, BUILD, BUILD_ONE, FileList, ONE_LIST, OPS, QUERY, THREE_LISTS, THREE_LISTS_WORDS,
-    THREE_LISTS_WORDS_OF_TWO, bytes_of, files_of, run_words,
+    ANSWER, BUILD, BUILD_ONE, FileList, MIGRATE, ONE_LIST, OPS, QUERY, REMAP, THREE_LISTS,
+    THREE_LISTS_WORDS, THREE_LISTS_WORDS_OF_TWO, bytes_of, files_of, index_and_side, only_index,
+    run_words,
 };
 use std::alloc::Global;
 
@@ -101,31 +102,125 @@ pub(crate) fn line_of(op: Op) -> (&'static str, u64) {
     }
 }
 
-// Runs that answer from the three lists, where calls of a kind fail.
-#[derive(Drop)]
-struct Answering {
-    op: Op,
+// The files over which runs are made.
+#[derive(Clone, Copy)]
+pub(crate) enum Files {
+    /// Those of the three lists, under the base `x`.
+    ThreeLists,
+    /// The file `y` of these words.
+    Index(&'static [u64]),
+    /// The files `y` and `z` of these words.
+    IndexAndSide(&'static [u64], &'static [u64]),
 }
 
-impl Turns for Answering {
-    fn turn(&self, alloc: Global, failing: u64) -> Option<Turn> {
-        let held = files_of(alloc, THREE_LISTS)?;
-        let fails = failing_call(alloc, self.op, failing)?;
-        let run = run_failing(alloc, &ANSWER, held, TEXT, 4, fails)?;
-        let made = failing <= run.depot.calls(self.op);
-        let right = if made {
-            run.ends(Status::Read, line_of(self.op).0) && run.depot.calls(Op::Create) == 0
-        } else {
-            run.prints(REPLIES)
-        };
-        Some(Turn::of(made, right))
+impl Files {
+    fn list(self, alloc: Global) -> Option<FileList> {
+        match self {
+            Files::ThreeLists => files_of(alloc, THREE_LISTS),
+            Files::Index(words) => only_index(alloc, &bytes_of(alloc, words)?),
+            Files::IndexAndSide(index, side) => index_and_side(alloc, index, side),
+        }
     }
 }
 
+// Runs of these words over files, in which each call moves at most `most` bytes, and calls of a kind fail.
+#[derive(Clone, Copy)]
+pub(crate) struct Runs {
+    pub(crate) words: &'static [&'static str],
+    pub(crate) files: Files,
+    pub(crate) text: &'static [u8],
+    pub(crate) most: usize,
+    pub(crate) op: Op,
+    /// How a run ends in which a call fails.
+    pub(crate) end: (Status, &'static str),
+    /// What a whole run writes on out.
+    pub(crate) replies: &'static [u8],
+    /// The name and the words of the file that a whole run makes.
+    pub(crate) made: Option<(&'static str, &'static [u64])>,
+}
+
+impl Runs {
+    // The bytes of the file that a whole run makes, or none.
+    fn bytes(&self, alloc: Global) -> Option<Vec<u8>> {
+        match self.made {
+            Some((_, words)) => bytes_of(alloc, words),
+            None => Some(Vec::new(alloc)),
+        }
+    }
+
+    // How much of the bytes of its file a run leaves in which the call of this number fails; none where the file is not there.
+    fn left_by<'a>(&self, failing: u64, bytes: &'a [u8]) -> Option<&'a [u8]> {
+        match self.op {
+            Op::Write => bytes.get(..(failing as usize).checked_sub(1)?.checked_mul(self.most)?),
+            Op::Finish => Some(bytes),
+            _ => None,
+        }
+    }
+
+    // Whether a run in which the call of this number failed ended as it should, with so much of its file.
+    fn failed_well(&self, run: &Failed, failing: u64, bytes: &[u8]) -> bool {
+        let (status, line) = self.end;
+        let created = run.depot.calls(Op::Create) > 0;
+        let left = match self.made {
+            Some((name, _)) => run.depot.file(name) == self.left_by(failing, bytes),
+            None => !created,
+        };
+        left && run.ends(status, line) && (status == Status::Write || !created)
+    }
+
+    // Whether a whole run ended as it should, with its file or its replies.
+    fn is_whole(&self, run: &Failed, bytes: &[u8]) -> bool {
+        match self.made {
+            Some((name, _)) => {
+                let made = run.depot.file(name) == Some(bytes);
+                made && run.ends(Status::Done, "") && run.err.calls() == 0
+            }
+            None => run.prints(self.replies),
+        }
+    }
+}
+
+impl Turns for Runs {
+    fn turn(&self, alloc: Global, failing: u64) -> Option<Turn> {
+        let bytes = self.bytes(alloc)?;
+        let files = self.files.list(alloc)?;
+        let fails = failing_call(alloc, self.op, failing)?;
+        let run = run_failing(alloc, self.words, files, self.text, self.most.max(1), fails)?;
+        let made = failing <= run.depot.calls(self.op);
+        let right = if made {
+            self.failed_well(&run, failing, &bytes)
+        } else {
+            self.is_whole(&run, &bytes)
+        };
+        Some(Turn::of(made, right && is_index_kept(alloc, self.files, &run.depot)?))
+    }
+}
+
+// Whether the file `y` of a run over an index is as it was.
+fn is_index_kept(alloc: Global, files: Files, depot: &MemDepot) -> Option<bool> {
+    match files {
+        Files::ThreeLists => Some(true),
+        Files::Index(words) | Files::IndexAndSide(words, _) => Some(
+            depot.file("y")? == bytes_of(alloc, words)?.as_slice(),
+        ),
+    }
+}
+
+// Runs that answer from the three lists.
 #[test]
 fn calls_on_the_files_fail_in_turn(rt: HostRuntime) {
     for op in OPS {
-        let wrong = first_wrong(rt.alloc(), &Answering { op }, line_of(op).1);
+        let runs = Runs {
+            words: &ANSWER,
+            files: Files::ThreeLists,
+            text: TEXT,
+            most: 4,
+            op,
+            end: (Status::Read, line_of(op).0),
+            replies: REPLIES,
+            made: None,
+        };
+        let wrong = first_wrong(rt.alloc(), &runs, line_of(op).1);
         assert_eq!(rt; wrong, None, "{op:?}");
     }
 }
@@ -164,23 +259,23 @@ const OVER: [(&[&str], &[u64]); 3] = [
     (&QUERY, &THREE_LISTS_WORDS_OF_TWO),
 ];
 
-// Whether a run of these words over the three lists and the file `y` ends so, where this read of the input and this write on out
+// Whether a run of these words over files ends so, where four bytes move at a time, and this read of the input and this write on out
 // fail.
-fn ends_so(
+pub(crate) fn ends_so(
     alloc: Global,
-    over: (&[&str], &[u64]),
+    over: (&[&str], FileList, &[u8]),
     fails: (u64, u64),
     ending: (Status, &str),
     replies: &str,
 ) -> Option<bool> {
-    let held = with_index(alloc, over.1)?;
+    let (words, files, text) = over;
     let reads = vec![in alloc; fails.0].ok()?;
     let writes = vec![in alloc; fails.1].ok()?;
     let run = run_failing(
         alloc,
-        over.0,
-        held,
-        TEXT,
+        words,
+        files,
+        text,
         4,
         (Vec::new(alloc), reads, writes),
     )?;
@@ -188,42 +283,61 @@ fn ends_so(
     Some(told && run.status == ending.0)
 }
 
-#[test]
-fn reads_of_the_input_and_writes_on_out_fail_in_turn(rt: HostRuntime) {
-    for (read, write, ending, replies) in STREAMS {
-        for over in OVER {
-            let right = ends_so(rt.alloc(), over, (read, write), ending, replies);
-            assert_eq!(rt; right, Some(true), "{over:?} {read} {write}");
+// The first row that ends otherwise in runs of these words over the three lists and the file `y` of these words.
+fn first_wrong_stream(alloc: Global, words: &[&str], index: &[u64]) -> Option<usize> {
+    for (row, (read, write, ending, replies)) in STREAMS.iter().enumerate() {
+        let Some(files) = with_index(alloc, index) else {
+            return Some(row);
+        };
+        let right = ends_so(
+            alloc,
+            (words, files, TEXT),
+            (*read, *write),
+            *ending,
+            replies,
+        );
+        if right != Some(true) {
+            return Some(row);
         }
     }
+    None
+}
+
+#[test]
+fn reads_of_the_input_and_writes_on_out_fail_in_turn(rt: HostRuntime) {
+    for (words, index) in OVER {
+        assert_eq!(rt;
+            first_wrong_stream(rt.alloc(), words, index),
+            None,
+            "{words:?}"
+        );
+    }
+}
+
+// Whether the second write on out of two bytes is the last.
+fn second_write_is_last(alloc: Global) -> Option<bool> {
+    let held = files_of(alloc, ONE_LIST)?;
+    let fails = (Vec::new(alloc), Vec::new(alloc), vec![in alloc; 2].ok()?);
+    let text = b"next 0 1\nnext 0 3\nand 0\nor 0 0\ntop 1 0";
+    let run = run_failing(alloc, &ANSWER, held, text, 2, fails)?;
+    let told = run.err.bytes() == b"write fault: out\n".as_slice();
+    Some(told && run.status == Status::Write && run.out.bytes() == b"2 ".as_slice())
 }
 
 #[test]
 fn the_second_write_of_two_bytes_fails(rt: HostRuntime) {
-    let alloc = rt.alloc();
-    let held = files_of(alloc, ONE_LIST).expect(&rt, "memory");
-    let writes = vec![in alloc; 2].expect(&rt, "memory");
-    let fails = (Vec::new(alloc), Vec::new(alloc), writes);
-    let text = b"next 0 1\nnext 0 3\nand 0\nor 0 0\ntop 1 0";
-    let run = run_failing(alloc, &ANSWER, held, text, 2, fails).expect(&rt, "memory");
-    assert_eq!(rt; run.status, Status::Write);
-    assert_eq!(rt; run.err.bytes(), b"write fault: out\n".as_slice());
-    assert_eq!(rt; run.out.bytes(), b"2 ".as_slice());
+    assert_eq!(rt; second_write_is_last(rt.alloc()), Some(true));
 }
 
-// What err has, and how often it was written to, after a run that finds no file, where a write on err moves at most `most` bytes and
-// the second fails.
-fn told_on_err(alloc: Global, most: usize) -> Option<(Vec<u8>, u64)> {
-    if most == 0 {
-        return None;
-    }
+// Whether a run that finds no file, where a write on err moves at most `most` bytes and the second fails, calls err so often, and err
+// then has this.
+fn is_told_on_err(alloc: Global, most: usize, line: &[u8], calls: u64) -> Option<bool> {
     let mut depot = MemDepot::new(alloc, Vec::new(alloc), 8, Vec::new(alloc)).ok()?;
     let mut input = MemSource::new(Vec::new(alloc), 8, Vec::new(alloc));
     let mut out = MemSink::new(alloc, 8, Vec::new(alloc)).ok()?;
-    let mut err = MemSink::new(alloc, most, vec![in alloc; 2].ok()?).ok()?;
+    let mut err = MemSink::new(alloc, most.max(1), vec![in alloc; 2].ok()?).ok()?;
     let status = run_words(alloc, &ANSWER, &mut depot, &mut input, &mut out, &mut err)?;
-    let told = Vec::from_slice(alloc, err.bytes()).ok()?;
-    (status == Status::Read).then_some((told, err.calls()))
+    Some(status == Status::Read && err.bytes() == line && err.calls() == calls)
 }
 
 #[test]
@@ -233,9 +347,8 @@ fn a_line_is_given_to_err_at_once(rt: HostRuntime) {
         (16, b"read fault: docs", 2),
         (4, b"read", 2),
     ] {
-        let told = told_on_err(rt.alloc(), most).expect(&rt, "memory");
-        assert_eq!(rt; told.0.as_slice(), line, "{most}");
-        assert_eq!(rt; told.1, calls, "{most}");
+        let right = is_told_on_err(rt.alloc(), most, line, calls);
+        assert_eq!(rt; right, Some(true), "{most}");
     }
 }
 
@@ -251,24 +364,47 @@ fn misses(alloc: Global, words: &[&str], missing: usize, line: &str) -> Option<b
     Some(untouched && run.ends(Status::Read, line))
 }
 
+// The words of a run over the one list, which of its files is missing, and the line with which the run ends.
+const MISSING: [(&[&str], usize, &str); 9] = [
+    (&ANSWER, 0, "read fault: docs\n"),
+    (&ANSWER, 1, "read fault: freqs\n"),
+    (&ANSWER, 2, "read fault: sizes\n"),
+    (&BUILD, 0, "read fault: docs\n"),
+    (&BUILD, 1, "read fault: freqs\n"),
+    (&BUILD, 2, "read fault: sizes\n"),
+    (&BUILD_ONE, 0, "read fault: docs\n"),
+    (&BUILD_ONE, 1, "read fault: freqs\n"),
+    (&BUILD_ONE, 2, "read fault: sizes\n"),
+];
+
 #[test]
 fn a_missing_file_is_a_read_fault(rt: HostRuntime) {
-    for words in [ANSWER.as_slice(), BUILD.as_slice(), BUILD_ONE.as_slice()] {
-        for (missing, line) in [
-            (0, "read fault: docs\n"),
-            (1, "read fault: freqs\n"),
-            (2, "read fault: sizes\n"),
-        ] {
-            let right = misses(rt.alloc(), words, missing, line);
-            assert_eq!(rt; right, Some(true), "{words:?} {missing}");
-        }
+    for (words, missing, line) in MISSING {
+        let right = misses(rt.alloc(), words, missing, line);
+        assert_eq!(rt; right, Some(true), "{words:?} {missing}");
     }
 }
 
+// The words of runs that need a file that is not there, and the lines with which they end.
+const ABSENT: [(&[&str], Files, &str); 3] = [
+    (&QUERY, Files::ThreeLists, "read fault: index\n"),
+    (&MIGRATE, Files::ThreeLists, "read fault: index\n"),
+    (&REMAP, Files::ThreeLists, "read fault: map\n"),
+];
+
+// Whether a run of these words ends with this line, and creates nothing.
+fn lacks(alloc: Global, words: &[&str], files: Files, line: &str) -> Option<bool> {
+    let run = run_failing(alloc, words, files.list(alloc)?, TEXT, 4, no_fails(alloc))?;
+    Some(run.ends(Status::Read, line) && run.depot.calls(Op::Create) == 0)
+}
+
 #[test]
-fn a_missing_index_is_a_read_fault(rt: HostRuntime) {
-    let alloc = rt.alloc();
-    let held = files_of(alloc, ONE_LIST).expect(&rt, "memory");
-    let run = run_failing(alloc, &QUERY, held, TEXT, 4, no_fails(alloc)).expect(&rt, "memory");
-    assert!(rt; run.ends(Status::Read, "read fault: index\n"));
+fn an_absent_file_is_a_read_fault(rt: HostRuntime) {
+    for (words, files, line) in ABSENT {
+        assert_eq!(rt;
+            lacks(rt.alloc(), words, files, line),
+            Some(true),
+            "{words:?}"
+        );
+    }
 }

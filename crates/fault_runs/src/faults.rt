@@ -124,27 +124,32 @@ fn is_named(alloc: Global, words: &[&str], files: FileList, line: &str) -> Optio
     Some(run.ends(Status::Collection, line) && run.depot.calls(Op::Create) == 0)
 }
 
-// The line of the fault for which no words are built of these files; none where they are, or for another cause.
-fn line_of_build(alloc: Global, files: FileList) -> Option<String> {
+// Whether the fault for which no words are built of these files has this line.
+fn is_named_by_build(alloc: Global, files: FileList, line: &str) -> Option<bool> {
     match built(alloc, files, Format::One)? {
-        Err(BuildError::Broken(fault)) => line_of(alloc, fault),
+        Err(BuildError::Broken(fault)) => {
+            Some(line_of(alloc, fault)?.as_bytes() == line.as_bytes())
+        }
         _ => None,
     }
 }
 
+// Whether a broken collection has the line of its fault in each run and where words are built.
+fn are_named(alloc: Global, numbers: Numbers<'_>, cut: (Slot, usize), line: &str) -> Option<bool> {
+    for words in [ANSWER.as_slice(), &BUILD, &BUILD_ONE] {
+        let files = cut_files(alloc, numbers, cut.0, cut.1)?;
+        if !is_named(alloc, words, files, line)? {
+            return Some(false);
+        }
+    }
+    is_named_by_build(alloc, cut_files(alloc, numbers, cut.0, cut.1)?, line)
+}
+
 #[test]
 fn broken_collections_are_named(rt: HostRuntime) {
-    for ([docs, freqs, sizes], (file, length), line) in BROKEN {
-        let alloc = rt.alloc();
-        let numbers = numbers(docs, freqs, sizes);
-        for words in [ANSWER.as_slice(), BUILD.as_slice(), BUILD_ONE.as_slice()] {
-            let files = cut_files(alloc, numbers, file, length).expect(&rt, "memory");
-            let named = is_named(alloc, words, files, line);
-            assert_eq!(rt; named, Some(true), "{words:?} {line}");
-        }
-        let files = cut_files(alloc, numbers, file, length).expect(&rt, "memory");
-        let found = line_of_build(alloc, files).expect(&rt, "a broken collection");
-        assert_eq!(rt; found.as_bytes(), line.as_bytes());
+    for ([docs, freqs, sizes], cut, line) in BROKEN {
+        let right = are_named(rt.alloc(), numbers(docs, freqs, sizes), cut, line);
+        assert_eq!(rt; right, Some(true), "{line} {docs:?}");
     }
 }
 
@@ -199,17 +204,27 @@ const LARGE_SUM_OF_ONE: &str = "collection C8 freqs term 0 place 16\n";
 
 const LARGE_SUM_OF_TWO: &str = "collection C8 freqs term 0 place 65536\n";
 
+// Whether a full list so ends.
+fn is_sum_named(
+    alloc: Global,
+    list: (u32, u32),
+    words: &[&str],
+    line: &str,
+    replies: &str,
+) -> Option<bool> {
+    let list = full_list(alloc, list.0, u32::MAX, list.1)?;
+    end_so(alloc, words, list.numbers(), line, replies)
+}
+
 // A collection that the first format refuses may be one of the second, or break another rule there.
 #[test]
 fn limits_of_a_run_are_those_of_its_format(rt: HostRuntime) {
-    let alloc = rt.alloc();
     for ([docs, sizes], words, line) in MANY {
-        let right = end_so(alloc, words, numbers(docs, &[], sizes), line, "");
+        let right = end_so(rt.alloc(), words, numbers(docs, &[], sizes), line, "");
         assert_eq!(rt; right, Some(true), "{words:?} {line}");
     }
     for (count, last, words, line, replies) in SUMS {
-        let list = full_list(alloc, count, u32::MAX, last).expect(&rt, "memory");
-        let right = end_so(alloc, words, list.numbers(), line, replies);
+        let right = is_sum_named(rt.alloc(), (count, last), words, line, replies);
         assert_eq!(rt; right, Some(true), "{words:?} {count} {last}");
     }
 }

@@ -24,5 +24,3 @@ mod print_failures;
 mod remap_failures;
 #[cfg(test)]
 mod segment_failures;
-#[cfg(test)]
-mod side_failures;

@@ -1,9 +1,9 @@
 // Each call of a move to another order fails in turn.
-use crate::failures::{failing_call, no_fails, run_failing};
+use crate::failures::{failing_call, run_failing};
 use crate::in_turn::{Turn, Turns, first_wrong};
 use pef_io::{MemDepot, Op, Slot};
 use pef_top::Status;
-use run_tables::{MAP, ONE_LIST, REMAP, files_of, spelled, with_map};
+use run_tables::{MAP, ONE_LIST, REMAP, spelled, with_map};
 use std::alloc::Global;
 
 // The numbers of the files of the one list where documents 0, 1 and 2 have the new ids 2, 0 and 1.
@@ -109,14 +109,4 @@ fn calls_of_a_move_fail_in_turn(rt: HostRuntime) {
         let wrong = first_wrong(rt.alloc(), &Moving { op }, least);
         assert_eq!(rt; wrong, None, "{op:?}");
     }
-}
-
-// There is no map.
-#[test]
-fn a_missing_map_is_a_read_fault(rt: HostRuntime) {
-    let alloc = rt.alloc();
-    let files = files_of(alloc, ONE_LIST).expect(&rt, "memory");
-    let run = run_failing(alloc, &REMAP, files, b"", 4, no_fails(alloc)).expect(&rt, "memory");
-    assert!(rt; run.ends(Status::Read, "read fault: map\n"));
-    assert_eq!(rt; run.depot.calls(Op::Create), 0);
 }

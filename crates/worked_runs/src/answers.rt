@@ -1,17 +1,18 @@
 // Answers and usage.
+use crate::rows::{Lines, Way, first_wrong, is_answered};
 use pef_io::SteadyDepot;
 use pef_top::Status;
 use run_tables::{
-    ANSWER, BUILD, BUILD_ONE, NINE_LISTS, NO_LIST, Numbers, ONE_LIST, OPS, THREE_LISTS, TWO_LISTS,
-    files_of, run_to_replies, steady_run,
+    ANSWER, BUILD, BUILD_ONE, NINE_LISTS, NO_LIST, Numbers, ONE_LIST, OPS, QUERY, THREE_LISTS,
+    TWO_LISTS, files_of, steady_run,
 };
 use std::alloc::Global;
 
-const USAGE: &str =
+pub(crate) const USAGE: &str =
     "usage: pefidx build BASE INDEX [--format FORMAT] | query INDEX [--plan PLAN] | answer BASE [--plan PLAN] | inspect INDEX | generate SEED N T | migrate OLD NEW | audit INDEX | blocks INDEX SIDE | bquery INDEX SIDE | remap BASE MAP NEW | segments INDEX.. [--plan PLAN]\n";
 
 // Words that are no command.
-const NO_COMMANDS: [&[&str]; 43] = [
+const NO_COMMANDS: [&[&str]; 49] = [
     &[],
     &["pefidx"],
     &["pefidx", "answer"],
@@ -57,10 +58,16 @@ const NO_COMMANDS: [&[&str]; 43] = [
     &["pefidx", "remap", "x", "m", "y", "z"],
     &["pefidx", "remap", "x", "m", "x"],
     &["pefidx", "remap", "x", "y.docs", "y"],
+    &["pefidx", "segments"],
+    &["pefidx", "segments", "--plan", "wand"],
+    &["pefidx", "segments", "--plan", "wand", "y"],
+    &["pefidx", "segments", "y", "help"],
+    &["pefidx", "segments", "y", "", "z"],
+    &["pefidx", "segments", "y", "--plan", "wand", "z"],
 ];
 
 // Collections, lines over them, and the replies.
-const LINES: [(Numbers<'static>, &str, &str); 9] = [
+const LINES: [Lines; 9] = [
     (ONE_LIST, "", ""),
     (
         ONE_LIST,
@@ -97,7 +104,7 @@ const LINES: [(Numbers<'static>, &str, &str); 9] = [
 ];
 
 // The same for verbs over several terms.
-const TERMS: [(Numbers<'static>, &str, &str); 8] = [
+const TERMS: [Lines; 8] = [
     (
         ONE_LIST,
         "top 0 0\nand\nor\ntop 5\ntop 9 0 0\ntop 4294967295 0\n",
@@ -140,41 +147,13 @@ const TERMS: [(Numbers<'static>, &str, &str); 8] = [
     ),
 ];
 
-// The words of the runs that answer a collection: at once, and from an index in each format.
-const WAYS: [&[&str]; 3] = [&ANSWER, &BUILD, &BUILD_ONE];
-
-// Whether all is done, these are the replies to the text by these words, and err is not called.
-pub(crate) fn are_replies(
-    alloc: Global,
-    words: &[&str],
-    numbers: Numbers<'_>,
-    text: &[u8],
-    replies: &str,
-) -> Option<bool> {
-    let files = files_of(alloc, numbers)?;
-    let run = run_to_replies(alloc, words, files, text)?;
-    let told = run.out.bytes() == replies.as_bytes();
-    Some(told && run.status == Status::Done && run.err.calls() == 0)
-}
+// The ways to answer a collection: at once, and from an index in each format.
+const WAYS: [Way; 3] = [&[&ANSWER], &[&BUILD, &QUERY], &[&BUILD_ONE, &QUERY]];
 
 #[test]
 fn lines_are_answered(rt: HostRuntime) {
-    for (numbers, text, replies) in LINES {
-        for words in WAYS {
-            let right = are_replies(rt.alloc(), words, numbers, text.as_bytes(), replies);
-            assert_eq!(rt; right, Some(true), "{words:?} {text:?}");
-        }
-    }
-}
-
-#[test]
-fn documents_of_terms_are_found(rt: HostRuntime) {
-    for (numbers, text, replies) in TERMS {
-        for words in WAYS {
-            let right = are_replies(rt.alloc(), words, numbers, text.as_bytes(), replies);
-            assert_eq!(rt; right, Some(true), "{words:?} {text:?}");
-        }
-    }
+    assert_eq!(rt; first_wrong(rt.alloc(), &WAYS, &LINES), None);
+    assert_eq!(rt; first_wrong(rt.alloc(), &WAYS, &TERMS), None);
 }
 
 // A line of a verb and so many times a field, and one line more.
@@ -187,31 +166,39 @@ fn line_of(alloc: Global, verb: &str, field: &str, fields: usize) -> Option<Vec<
     Some(text)
 }
 
-#[test]
-fn a_line_has_at_most_1024_fields_of_terms(rt: HostRuntime) {
-    for (verb, field, fields, replies) in [
-        ("or", " 0", 1_024, "2 1 4\n4 3\n"),
-        ("or", " 0", 1_025, "bad terms\n4 3\n"),
-        ("top 1", " 0*65535", 1_024, "1 4:201323520\n4 3\n"),
-        ("top 1", " 0*1", 1_025, "bad terms\n4 3\n"),
-        ("top 1", " 0*0", 1_025, "bad weight\n4 3\n"),
-    ] {
-        let text = line_of(rt.alloc(), verb, field, fields).expect(&rt, "memory");
-        let right = are_replies(rt.alloc(), &ANSWER, TWO_LISTS, &text, replies);
-        assert_eq!(rt; right, Some(true), "{verb} {field} {fields}");
-    }
+// Whether these are the replies to a line of a verb and so many times a field, and to one line more.
+fn is_long_line_answered(
+    alloc: Global,
+    numbers: Numbers<'_>,
+    verb: &str,
+    fields: (&str, usize),
+    replies: &str,
+) -> Option<bool> {
+    let text = line_of(alloc, verb, fields.0, fields.1)?;
+    let files = files_of(alloc, numbers)?;
+    is_answered(alloc, &[&ANSWER], files, &text, replies.as_bytes())
 }
 
+// A line has at most 1,024 fields of terms, and 65,535 bytes.
 #[test]
-fn a_line_is_at_most_65535_bytes(rt: HostRuntime) {
-    for (length, replies) in [
-        (65_535, "bad verb\n2 5\n"),
-        (65_536, "bad length\n2 5\n"),
-        (200_000, "bad length\n2 5\n"),
+fn long_lines_are_answered(rt: HostRuntime) {
+    for (numbers, verb, fields, replies) in [
+        (TWO_LISTS, "or", (" 0", 1_024), "2 1 4\n4 3\n"),
+        (TWO_LISTS, "or", (" 0", 1_025), "bad terms\n4 3\n"),
+        (
+            TWO_LISTS,
+            "top 1",
+            (" 0*65535", 1_024),
+            "1 4:201323520\n4 3\n",
+        ),
+        (TWO_LISTS, "top 1", (" 0*1", 1_025), "bad terms\n4 3\n"),
+        (TWO_LISTS, "top 1", (" 0*0", 1_025), "bad weight\n4 3\n"),
+        (ONE_LIST, "", ("x", 65_535), "bad verb\n2 5\n"),
+        (ONE_LIST, "", ("x", 65_536), "bad length\n2 5\n"),
+        (ONE_LIST, "", ("x", 200_000), "bad length\n2 5\n"),
     ] {
-        let text = line_of(rt.alloc(), "", "x", length).expect(&rt, "memory");
-        let right = are_replies(rt.alloc(), &ANSWER, ONE_LIST, &text, replies);
-        assert_eq!(rt; right, Some(true), "{length}");
+        let right = is_long_line_answered(rt.alloc(), numbers, verb, fields, replies);
+        assert_eq!(rt; right, Some(true), "{verb} {fields:?}");
     }
 }
 
@@ -231,9 +218,17 @@ fn is_no_command(alloc: Global, words: &[&str]) -> Option<bool> {
     Some(run.ends(Status::Usage, USAGE) && is_uncalled(&run.depot))
 }
 
+// The first words, by their row, by which a run does something else.
+fn first_command(alloc: Global, rows: &[&[&str]]) -> Option<usize> {
+    for (row, words) in rows.iter().enumerate() {
+        if is_no_command(alloc, words) != Some(true) {
+            return Some(row);
+        }
+    }
+    None
+}
+
 #[test]
 fn words_that_are_no_command_call_nothing(rt: HostRuntime) {
-    for words in NO_COMMANDS {
-        assert_eq!(rt; is_no_command(rt.alloc(), words), Some(true), "{words:?}");
-    }
+    assert_eq!(rt; first_command(rt.alloc(), &NO_COMMANDS), None);
 }

@@ -55,49 +55,41 @@ const THOUSAND_WORDS: [(Format, &[u64], &[u64]); 2] = [
     ),
 ];
 
-// Whether the index of a collection has these words by `build_words`.
+// Whether the index of a collection has these words, by `build_words` and in the file that `build` leaves, which does not call err.
 fn has_words(alloc: Global, numbers: Numbers<'_>, format: Format, want: &[u64]) -> Option<bool> {
-    match built(alloc, files_of(alloc, numbers)?, format)? {
-        Ok(words) => Some(words.as_slice() == want),
-        Err(_) => None,
-    }
-}
-
-// Whether `build` leaves these words in the file, and does not call err.
-fn leaves_words(alloc: Global, numbers: Numbers<'_>, format: Format, want: &[u64]) -> Option<bool> {
-    let run = steady_run(alloc, build_of(format)?, files_of(alloc, numbers)?, b"")?;
+    let words = built(alloc, files_of(alloc, numbers)?, format)?.ok()?;
+    let is_built = words.as_slice() == want;
     let bytes = bytes_of(alloc, want)?;
+    let run = steady_run(alloc, build_of(format)?, files_of(alloc, numbers)?, b"")?;
     let left = run.depot.file("y") == Some(bytes.as_slice());
-    Some(left && run.ends(Status::Done, "") && run.err.calls() == 0)
+    Some(is_built && left && run.ends(Status::Done, ""))
 }
 
 #[test]
 fn indexes_have_their_words(rt: HostRuntime) {
-    let alloc = rt.alloc();
     for (numbers, format, want) in WORDS {
-        assert_eq!(rt;
-            has_words(alloc, numbers, format, want),
-            Some(true),
-            "{want:?}"
-        );
-        assert_eq!(rt;
-            leaves_words(alloc, numbers, format, want),
-            Some(true),
-            "{want:?}"
-        );
+        let right = has_words(rt.alloc(), numbers, format, want);
+        assert_eq!(rt; right, Some(true), "{want:?}");
     }
+}
+
+// Whether the index of a thousand documents in one list has these words round 500 zeros.
+fn has_words_round_zeros(
+    alloc: Global,
+    format: Format,
+    before: &[u64],
+    behind: &[u64],
+) -> Option<bool> {
+    let want = around_zeros(alloc, before, 500, behind)?;
+    let list = full_list(alloc, 999, 1, 1)?;
+    has_words(alloc, list.numbers(), format, &want)
 }
 
 #[test]
 fn a_thousand_documents_have_their_words(rt: HostRuntime) {
-    let alloc = rt.alloc();
-    let list = full_list(alloc, 999, 1, 1).expect(&rt, "memory");
     for (format, before, behind) in THOUSAND_WORDS {
-        let want = around_zeros(alloc, before, 500, behind).expect(&rt, "memory");
-        let built = has_words(alloc, list.numbers(), format, &want);
-        assert_eq!(rt; built, Some(true), "{format:?}");
-        let left = leaves_words(alloc, list.numbers(), format, &want);
-        assert_eq!(rt; left, Some(true), "{format:?}");
+        let right = has_words_round_zeros(rt.alloc(), format, before, behind);
+        assert_eq!(rt; right, Some(true), "{format:?}");
     }
 }
 
@@ -112,51 +104,59 @@ fn is_cut(words: &[u64], freqs: u64) -> bool {
 }
 
 // Whether the index of the far document in a format is cut so, and has its replies.
-fn is_cut_off(alloc: Global, numbers: Numbers<'_>, format: Format, freqs: u64) -> Option<bool> {
-    let build = steady_run(alloc, build_of(format)?, files_of(alloc, numbers)?, b"")?;
+fn is_cut_off(alloc: Global, format: Format, freqs: u64) -> Option<bool> {
+    let far = far_document(alloc)?;
+    let build = steady_run(
+        alloc,
+        build_of(format)?,
+        files_of(alloc, far.numbers())?,
+        b"",
+    )?;
     let words = read_words(alloc, build.depot.file("y")?).ok()?;
     let built = build.status == Status::Done && is_cut(&words, freqs);
     let text = b"next 0 100000\nnext 0 99999\ntop 2 0 1\nand 1 0\nnext 1 6\n";
+    let replies = b"1000000 900001\n99999 1\n2 1000000:900001 5:3\n1 5\nend\n";
     let query = run_over(alloc, &QUERY, build.depot, text)?;
-    let replies = b"1000000 900001\n99999 1\n2 1000000:900001 5:3\n1 5\nend\n".as_slice();
-    Some(built && query.status == Status::Done && query.out.bytes() == replies)
+    let told = query.out.bytes() == replies.as_slice();
+    Some(built && told && query.status == Status::Done)
 }
 
 // Both sequences of the first list are cut in two, which costs 277 bits in the first format and 405 in the second.
 #[test]
 fn a_far_document_is_cut_off(rt: HostRuntime) {
-    let alloc = rt.alloc();
-    let far = far_document(alloc).expect(&rt, "memory");
     for (format, freqs) in [(Format::One, 7), (Format::Two, 9)] {
-        let right = is_cut_off(alloc, far.numbers(), format, freqs);
-        assert_eq!(rt; right, Some(true), "{format:?}");
+        assert_eq!(rt;
+            is_cut_off(rt.alloc(), format, freqs),
+            Some(true),
+            "{format:?}"
+        );
     }
 }
 
-// The second format has other limits: more documents than the first are too few sizes.
-#[test]
-fn limits_are_those_of_the_format(rt: HostRuntime) {
-    let alloc = rt.alloc();
+// Whether more documents than the first format has are refused by this rule.
+fn are_too_many(alloc: Global, format: Format, rule: Rule, file: Slot) -> Option<bool> {
     let numbers = Numbers {
         docs: &[1, 268_435_456],
         freqs: &[],
         sizes: &[],
     };
-    for (format, rule, file) in [
-        (Format::One, Rule::C3, Slot::Docs),
-        (Format::Two, Rule::C1, Slot::Sizes),
-    ] {
-        let files = files_of(alloc, numbers).expect(&rt, "memory");
-        let words = built(alloc, files, format).expect(&rt, "memory");
-        let fault = words.err().expect(&rt, "a refusal");
-        let want = Fault {
-            rule,
-            file,
-            term: 0,
-            place: 0,
-        };
-        assert_eq!(rt; fault, BuildError::Broken(want));
-    }
+    let fault = Fault {
+        rule,
+        file,
+        term: 0,
+        place: 0,
+    };
+    let error = built(alloc, files_of(alloc, numbers)?, format)?.err()?;
+    Some(error == BuildError::Broken(fault))
+}
+
+// The second format has other limits: more documents than the first are too few sizes.
+#[test]
+fn limits_are_those_of_the_format(rt: HostRuntime) {
+    let of_one = are_too_many(rt.alloc(), Format::One, Rule::C3, Slot::Docs);
+    assert_eq!(rt; of_one, Some(true));
+    let of_two = are_too_many(rt.alloc(), Format::Two, Rule::C1, Slot::Sizes);
+    assert_eq!(rt; of_two, Some(true));
 }
 
 // Where memory is refused, that is the answer, and nothing else is.

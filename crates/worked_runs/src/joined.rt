@@ -1,149 +1,155 @@
 // Indexes that are answered as one collection.
+use crate::answers::USAGE;
+use crate::rows::run_in_turn;
 use pef_io::{Op, Slot};
 use pef_top::Status;
 use run_tables::{
     BUILD, BUILD_ONE, FileList, NO_LIST_WORDS, Numbers, ONE_LIST_WORDS, ONE_LIST_WORDS_OF_TWO,
-    QUERY, documents_from, files_of, indexes_of, run_over, steady_run, two_long_lists,
+    QUERY, documents_from, files_of, indexes_of, steady_run, two_long_lists,
 };
 use std::alloc::Global;
 
-// The names of the plans.
-const PLANS: [&str; 3] = ["exhaustive", "wand", "maxscore"];
+// The words of runs that answer from the indexes `y` and `z`.
+const BOTH: &[&str] = &["pefidx", "segments", "y", "z"];
 
-// The words of a run that answers from the indexes `y` and `z`.
-const BOTH: [&str; 4] = ["pefidx", "segments", "y", "z"];
+const BY_ALL: &[&str] = &["pefidx", "segments", "y", "z", "--plan", "exhaustive"];
+
+const BY_WAND: &[&str] = &["pefidx", "segments", "y", "z", "--plan", "wand"];
+
+const BY_MAXSCORE: &[&str] = &["pefidx", "segments", "y", "z", "--plan", "maxscore"];
+
+// The words of the one list in the first format, of which one bit behind the documents is changed.
+const BROKEN: &[u64] = &[
+    ONE_LIST_WORDS[0],
+    ONE_LIST_WORDS[1],
+    ONE_LIST_WORDS[2],
+    ONE_LIST_WORDS[3],
+    13,
+    ONE_LIST_WORDS[5],
+    ONE_LIST_WORDS[6],
+    ONE_LIST_WORDS[7],
+    ONE_LIST_WORDS[8],
+    ONE_LIST_WORDS[9],
+    ONE_LIST_WORDS[10],
+    ONE_LIST_WORDS[11],
+    ONE_LIST_WORDS[12],
+    ONE_LIST_WORDS[13],
+    ONE_LIST_WORDS[14],
+    ONE_LIST_WORDS[15],
+    ONE_LIST_WORDS[16],
+    ONE_LIST_WORDS[17],
+];
+
+// Index files, by name.
+type Indexes = &'static [(&'static str, &'static [u64])];
 
 // Twice the one list: three documents, and three more behind them.
+const TWICE: Indexes = &[("y", &ONE_LIST_WORDS), ("z", &ONE_LIST_WORDS_OF_TWO)];
+
+const TWICE_TEXT: &str = "next 0 3\nor 0\ntop 2 0\nand 0\nnext 0 6\nnext 1 0\n";
+
+const TWICE_REPLIES: &str = "3 1\n4 0 2 3 5\n2 2:5 5:5\n4 0 2 3 5\nend\nbad term\n";
+
+// The words of runs over index files, a text, how they end, with replies or refused, and how many files are started. A file that is
+// no index, or cannot be joined to those before it, ends the run before the next is started.
+const JOINED: [(&[&str], Indexes, &str, Result<&str, (Status, &str)>, u64); 10] = [
+    (BY_ALL, TWICE, TWICE_TEXT, Ok(TWICE_REPLIES), 2),
+    (BY_WAND, TWICE, TWICE_TEXT, Ok(TWICE_REPLIES), 2),
+    (BY_MAXSCORE, TWICE, TWICE_TEXT, Ok(TWICE_REPLIES), 2),
+    (
+        &["pefidx", "segments", "y"],
+        &[("y", &NO_LIST_WORDS)],
+        "or",
+        Ok("0\n"),
+        1,
+    ),
+    (
+        BOTH,
+        &[("y", &ONE_LIST_WORDS), ("z", &NO_LIST_WORDS)],
+        "or 0",
+        Err((Status::Segments, "segments G1 segment 1\n")),
+        2,
+    ),
+    (
+        BOTH,
+        &[("y", &NO_LIST_WORDS), ("z", &ONE_LIST_WORDS)],
+        "or 0",
+        Err((Status::Segments, "segments G1 segment 1\n")),
+        2,
+    ),
+    (
+        BOTH,
+        &[("y", &ONE_LIST_WORDS), ("z", BROKEN)],
+        "or 0",
+        Err((Status::Index, "index K9 term 0 part 0 segment 1\n")),
+        2,
+    ),
+    (
+        BOTH,
+        &[("y", BROKEN), ("z", &NO_LIST_WORDS)],
+        "or 0",
+        Err((Status::Index, "index K9 term 0 part 0 segment 0\n")),
+        1,
+    ),
+    (
+        BOTH,
+        &[("y", &[]), ("z", &ONE_LIST_WORDS)],
+        "or 0",
+        Err((Status::Index, "index K1 term 0 part 0 segment 0\n")),
+        1,
+    ),
+    (
+        BOTH,
+        &[("y", BROKEN)],
+        "or 0",
+        Err((Status::Index, "index K9 term 0 part 0 segment 0\n")),
+        1,
+    ),
+];
+
+// Whether a run of these words over index files ends so, with replies or refused, and starts so many files.
+fn ends_so(
+    alloc: Global,
+    words: &[&str],
+    indexes: &[(&str, &[u64])],
+    text: &str,
+    end: Result<&str, (Status, &str)>,
+    starts: u64,
+) -> Option<bool> {
+    let run = steady_run(alloc, words, indexes_of(alloc, indexes)?, text.as_bytes())?;
+    let right = match end {
+        Ok(replies) => {
+            let told = run.out.bytes() == replies.as_bytes();
+            told && run.status == Status::Done && run.err.calls() == 0
+        }
+        Err((status, line)) => run.ends(status, line),
+    };
+    Some(right && run.depot.calls(Op::Start(Slot::Index)) == starts)
+}
+
 #[test]
-fn two_indexes_are_one_collection(rt: HostRuntime) {
-    let text = b"next 0 3\nor 0\ntop 2 0\nand 0\nnext 0 6\nnext 1 0\n";
-    let replies = b"3 1\n4 0 2 3 5\n2 2:5 5:5\n4 0 2 3 5\nend\nbad term\n";
-    for plan in PLANS {
-        let alloc = rt.alloc();
-        let files: [(&str, &[u64]); 2] = [("y", &ONE_LIST_WORDS), ("z", &ONE_LIST_WORDS_OF_TWO)];
-        let files = indexes_of(alloc, &files).expect(&rt, "memory");
-        let words = ["pefidx", "segments", "y", "z", "--plan", plan];
-        let run = steady_run(alloc, &words, files, text).expect(&rt, "memory");
-        assert_eq!(rt; run.status, Status::Done, "{plan}");
-        assert_eq!(rt; run.out.bytes(), replies.as_slice(), "{plan}");
-        assert_eq!(rt; run.err.calls(), 0, "{plan}");
-        assert_eq!(rt; run.depot.calls(Op::Start(Slot::Index)), 2, "{plan}");
+fn indexes_are_one_collection_or_refused(rt: HostRuntime) {
+    for (words, indexes, text, end, starts) in JOINED {
+        let right = ends_so(rt.alloc(), words, indexes, text, end, starts);
+        assert_eq!(rt; right, Some(true), "{words:?} {end:?}");
     }
-}
-
-// Files that are no index, or cannot be joined to those before them, end the run before the next is started.
-#[test]
-fn files_that_are_not_accepted_are_refused(rt: HostRuntime) {
-    let mut broken = ONE_LIST_WORDS;
-    broken[4] = 13;
-    let rows: [(&[u64], &[u64], Status, &str, u64); 5] = [
-        (
-            &ONE_LIST_WORDS,
-            &NO_LIST_WORDS,
-            Status::Segments,
-            "segments G1 segment 1\n",
-            2,
-        ),
-        (
-            &NO_LIST_WORDS,
-            &ONE_LIST_WORDS,
-            Status::Segments,
-            "segments G1 segment 1\n",
-            2,
-        ),
-        (
-            &ONE_LIST_WORDS,
-            &broken,
-            Status::Index,
-            "index K9 term 0 part 0 segment 1\n",
-            2,
-        ),
-        (
-            &broken,
-            &NO_LIST_WORDS,
-            Status::Index,
-            "index K9 term 0 part 0 segment 0\n",
-            1,
-        ),
-        (
-            &[],
-            &ONE_LIST_WORDS,
-            Status::Index,
-            "index K1 term 0 part 0 segment 0\n",
-            1,
-        ),
-    ];
-    for (first, second, status, line, starts) in rows {
-        let alloc = rt.alloc();
-        let files = indexes_of(alloc, &[("y", first), ("z", second)]).expect(&rt, "memory");
-        let run = steady_run(alloc, &BOTH, files, b"or 0").expect(&rt, "memory");
-        assert!(rt; run.ends(status, line), "{line}");
-        assert_eq!(rt; run.depot.calls(Op::Start(Slot::Index)), starts, "{line}");
-    }
-}
-
-// A missing file is not started behind a broken one.
-#[test]
-fn a_missing_file_is_not_started_behind_a_broken_one(rt: HostRuntime) {
-    let mut broken = ONE_LIST_WORDS;
-    broken[4] = 13;
-    let alloc = rt.alloc();
-    let files = indexes_of(alloc, &[("y", &broken)]).expect(&rt, "memory");
-    let run = steady_run(alloc, &BOTH, files, b"or 0").expect(&rt, "memory");
-    assert!(rt; run.ends(Status::Index, "index K9 term 0 part 0 segment 0\n"));
-    assert_eq!(rt; run.depot.calls(Op::Start(Slot::Index)), 1);
-}
-
-#[test]
-fn one_index_and_64_are_joined(rt: HostRuntime) {
-    let alloc = rt.alloc();
-    let files = indexes_of(alloc, &[("y", &NO_LIST_WORDS)]).expect(&rt, "memory");
-    let run = steady_run(alloc, &["pefidx", "segments", "y"], files, b"or").expect(&rt, "memory");
-    assert_eq!(rt; run.status, Status::Done);
-    assert_eq!(rt; run.out.bytes(), b"0\n".as_slice());
-    let mut words = ["y"; 66];
-    words[0] = "pefidx";
-    words[1] = "segments";
-    let files = indexes_of(alloc, &[("y", &ONE_LIST_WORDS)]).expect(&rt, "memory");
-    let text = b"next 0 187\nnext 0 190\nnext 0 192\ntop 2 0\n";
-    let run = steady_run(alloc, &words, files, text).expect(&rt, "memory");
-    assert_eq!(rt; run.status, Status::Done);
-    assert_eq!(rt;
-        run.out.bytes(),
-        b"188 5\n191 5\nend\n2 2:5 5:5\n".as_slice()
-    );
-    assert_eq!(rt; run.depot.calls(Op::Start(Slot::Index)), 64);
 }
 
 // 65 are too many.
 #[test]
-fn more_than_64_indexes_are_refused(rt: HostRuntime) {
-    let alloc = rt.alloc();
+fn at_most_64_indexes_are_joined(rt: HostRuntime) {
     let mut words = ["y"; 67];
     words[0] = "pefidx";
     words[1] = "segments";
-    let files = indexes_of(alloc, &[("y", &ONE_LIST_WORDS)]).expect(&rt, "memory");
-    let run = steady_run(alloc, &words, files, b"").expect(&rt, "memory");
-    assert_eq!(rt; run.status, Status::Usage);
-    assert_eq!(rt; run.depot.calls(Op::Start(Slot::Index)), 0);
-}
-
-#[test]
-fn words_of_no_segments_are_usage(rt: HostRuntime) {
-    let rows: [&[&str]; 6] = [
-        &["pefidx", "segments"],
-        &["pefidx", "segments", "--plan", "wand"],
-        &["pefidx", "segments", "--plan", "wand", "y"],
-        &["pefidx", "segments", "y", "help"],
-        &["pefidx", "segments", "y", "", "z"],
-        &["pefidx", "segments", "y", "--plan", "wand", "z"],
-    ];
-    for words in rows {
-        let alloc = rt.alloc();
-        let files = indexes_of(alloc, &[("y", &ONE_LIST_WORDS)]).expect(&rt, "memory");
-        let run = steady_run(alloc, words, files, b"").expect(&rt, "memory");
-        assert_eq!(rt; run.status, Status::Usage, "{words:?}");
-        assert_eq!(rt; run.depot.calls(Op::Start(Slot::Index)), 0, "{words:?}");
+    let text = "next 0 187\nnext 0 190\nnext 0 192\ntop 2 0\n";
+    for (count, end, starts) in [
+        (66, Ok("188 5\n191 5\nend\n2 2:5 5:5\n"), 64),
+        (67, Err((Status::Usage, USAGE)), 0),
+    ] {
+        let words = words.get(..count).expect(&rt, "so many words");
+        let index: Indexes = &[("y", &ONE_LIST_WORDS)];
+        let right = ends_so(rt.alloc(), words, index, text, end, starts);
+        assert_eq!(rt; right, Some(true), "{count}");
     }
 }
 
@@ -172,21 +178,23 @@ fn cut_indexes(alloc: Global, whole: Numbers<'_>) -> Option<FileList> {
     Some(files)
 }
 
-#[test]
-fn segments_of_a_collection_answer_as_its_index(rt: HostRuntime) {
+// Whether the segments of a collection of two long lists have the replies of its index, by a plan.
+fn answer_as_whole(alloc: Global, plan: &str) -> Option<bool> {
     let text =
         b"or 0\nor 1\nor 0 1\nand 0 1\nnext 0 1696\nnext 1 1698\nnext 0 4996\ntop 5 0 1\ntop 3 0*2 1*3\ntop 2 1\n";
-    let alloc = rt.alloc();
-    let whole = two_long_lists(alloc).expect(&rt, "memory");
-    let files = files_of(alloc, whole.numbers()).expect(&rt, "memory");
-    let built = steady_run(alloc, &BUILD, files, b"").expect(&rt, "memory");
-    let asked = run_over(alloc, &QUERY, built.depot, text).expect(&rt, "memory");
-    assert_eq!(rt; asked.status, Status::Done);
-    for plan in PLANS {
-        let files = cut_indexes(alloc, whole.numbers()).expect(&rt, "memory");
-        let words = ["pefidx", "segments", "a", "b", "c", "d", "--plan", plan];
-        let run = steady_run(alloc, &words, files, text).expect(&rt, "memory");
-        assert_eq!(rt; run.status, Status::Done, "{plan}");
-        assert_eq!(rt; run.out.bytes(), asked.out.bytes(), "{plan}");
+    let whole = two_long_lists(alloc)?;
+    let files = cut_indexes(alloc, whole.numbers())?;
+    let words = ["pefidx", "segments", "a", "b", "c", "d", "--plan", plan];
+    let run = steady_run(alloc, &words, files, text)?;
+    let files = files_of(alloc, whole.numbers())?;
+    let asked = run_in_turn(alloc, &[&BUILD, &QUERY], files, text)?;
+    let done = run.status == Status::Done && asked.status == Status::Done;
+    Some(done && run.out.bytes() == asked.out.bytes())
+}
+
+#[test]
+fn segments_of_a_collection_answer_as_its_index(rt: HostRuntime) {
+    for plan in ["exhaustive", "wand", "maxscore"] {
+        assert_eq!(rt; answer_as_whole(rt.alloc(), plan), Some(true), "{plan}");
     }
 }

@@ -25,4 +25,6 @@ mod plans;
 #[cfg(test)]
 mod remaps;
 #[cfg(test)]
+mod rows;
+#[cfg(test)]
 mod side_files;

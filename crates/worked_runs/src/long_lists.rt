@@ -1,6 +1,6 @@
 // Replies over lists of a thousand documents.
-use pef_top::Status;
-use run_tables::{ANSWER, BUILD, BUILD_ONE, files_of, run_to_replies, two_long_lists};
+use crate::rows::{Way, is_answered};
+use run_tables::{ANSWER, BUILD, BUILD_ONE, QUERY, files_of, two_long_lists};
 use std::alloc::Global;
 
 // One line for each kind of reply, and two for places behind the last document of a list and at it.
@@ -41,15 +41,18 @@ fn replies(alloc: Global) -> Option<String> {
     Some(text)
 }
 
+// Whether these are the replies of runs over the two long lists.
+fn are_asked(alloc: Global, way: Way) -> Option<bool> {
+    let replies = replies(alloc)?;
+    let lists = two_long_lists(alloc)?;
+    let files = files_of(alloc, lists.numbers())?;
+    is_answered(alloc, way, files, LINES.as_bytes(), replies.as_bytes())
+}
+
 #[test]
 fn long_lists_are_asked_by_all_verbs(rt: HostRuntime) {
-    let alloc = rt.alloc();
-    let lists = two_long_lists(alloc).expect(&rt, "memory");
-    let replies = replies(alloc).expect(&rt, "memory");
-    for words in [&ANSWER[..], &BUILD, &BUILD_ONE] {
-        let files = files_of(alloc, lists.numbers()).expect(&rt, "memory");
-        let run = run_to_replies(alloc, words, files, LINES.as_bytes()).expect(&rt, "memory");
-        assert_eq!(rt; run.status, Status::Done, "{words:?}");
-        assert_eq!(rt; run.out.bytes(), replies.as_bytes(), "{words:?}");
+    let ways: [Way; 3] = [&[&ANSWER], &[&BUILD, &QUERY], &[&BUILD_ONE, &QUERY]];
+    for way in ways {
+        assert_eq!(rt; are_asked(rt.alloc(), way), Some(true), "{way:?}");
     }
 }

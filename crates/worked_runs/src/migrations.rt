@@ -1,10 +1,10 @@
 // Indexes that are migrated: the words of the new one, and its replies.
-use pef_io::SteadyDepot;
+use crate::rows::is_answered;
+use crate::side_files::makes;
 use pef_top::Status;
 use run_tables::{
     CLOSING, DOCUMENTS_IN_TWO_PARTS, MIGRATE, ONE_LIST_WORDS, ONE_LIST_WORDS_OF_TWO, OPENING,
-    Outcome, QUERY, THREE_LISTS_WORDS, THREE_LISTS_WORDS_OF_TWO, bytes_of, only_index, run_over,
-    steady_run,
+    Outcome, QUERY, THREE_LISTS_WORDS, THREE_LISTS_WORDS_OF_TWO, bytes_of, only_index, steady_run,
 };
 use std::alloc::Global;
 
@@ -54,40 +54,25 @@ const MIGRATED: [(&[u64], &[u64], (&str, &str)); 6] = [
     ),
 ];
 
-// Whether an index is migrated to these words and stays, and err is not called; the files that then are there.
-fn migrated(alloc: Global, old: &[u64], new: &[u64], text: &str) -> Option<(bool, SteadyDepot)> {
-    let old = bytes_of(alloc, old)?;
-    let new = bytes_of(alloc, new)?;
-    let files = only_index(alloc, old.as_slice())?;
-    let run = steady_run(alloc, &MIGRATE, files, text.as_bytes())?;
-    let kept = run.depot.file("y") == Some(old.as_slice());
-    let made = run.depot.file("z") == Some(new.as_slice());
-    let right = kept && made && run.ends(Status::Done, "") && run.err.calls() == 0;
-    Some((right, run.depot))
+// Whether runs of these words over an index have these replies.
+fn are_replies(alloc: Global, way: &[&[&str]], index: &[u64], lines: (&str, &str)) -> Option<bool> {
+    let bytes = bytes_of(alloc, index)?;
+    let files = only_index(alloc, &bytes)?;
+    is_answered(alloc, way, files, lines.0.as_bytes(), lines.1.as_bytes())
 }
 
-// Whether an index is migrated to these words, and both have these replies to the text.
-fn are_migrated(
-    alloc: Global,
-    old: &[u64],
-    new: &[u64],
-    text: &str,
-    replies: &str,
-) -> Option<bool> {
-    let (right, depot) = migrated(alloc, old, new, text)?;
-    let of_new = run_over(alloc, &QUERY_NEW, depot, text.as_bytes())?;
-    let bytes = bytes_of(alloc, old)?;
-    let files = only_index(alloc, bytes.as_slice())?;
-    let of_old = steady_run(alloc, &QUERY, files, text.as_bytes())?;
-    let same = of_new.out.bytes() == of_old.out.bytes();
-    Some(right && same && of_new.out.bytes() == replies.as_bytes())
+// Whether an index is migrated to these words, and both have these replies.
+fn is_migrated(alloc: Global, old: &[u64], new: &[u64], lines: (&str, &str)) -> Option<bool> {
+    let made = makes(alloc, &MIGRATE, old, new)?;
+    let told_by_old = are_replies(alloc, &[&QUERY], old, lines)?;
+    Some(are_replies(alloc, &[&MIGRATE, &QUERY_NEW], old, lines)? && told_by_old && made)
 }
 
 #[test]
 fn migrated_indexes_have_their_words_and_replies(rt: HostRuntime) {
-    for (old, new, (text, replies)) in MIGRATED {
-        let right = are_migrated(rt.alloc(), old, new, text, replies);
-        assert_eq!(rt; right, Some(true), "{new:?} {text:?}");
+    for (old, new, lines) in MIGRATED {
+        let right = is_migrated(rt.alloc(), old, new, lines);
+        assert_eq!(rt; right, Some(true), "{old:?}");
     }
 }
 
