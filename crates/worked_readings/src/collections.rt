@@ -184,83 +184,106 @@ fn broken(rule: Rule, file: Slot, term: u32, place: u32) -> Result<u32, CollErro
 fn collections_are_broken_in_both_formats(rt: HostRuntime) -> Result<(), Fail> {
     let one = ONE_LIST;
     let whole = (Slot::Index, 0);
-    for (numbers, cut, fault) in [
+    for (docs, freqs, sizes, cut, (rule, file, term, place)) in [
         (
-            in_files(&[1, 268_435_455], &[], &[]),
+            [1, 268_435_455].as_slice(),
+            [].as_slice(),
+            [].as_slice(),
             whole,
-            broken(Rule::C1, Slot::Sizes, 0, 0),
+            (Rule::C1, Slot::Sizes, 0, 0),
         ),
         (
-            in_files(&[1, 3, 4_294_967_295], one.freqs, one.sizes),
+            &[1, 3, 4_294_967_295],
+            one.freqs,
+            one.sizes,
             whole,
-            broken(Rule::C1, Slot::Docs, 0, 0),
+            (Rule::C1, Slot::Docs, 0, 0),
         ),
         (
-            in_files(&[1, 5, 2, 4, 4], &[2, 1, 1], &[5, 0, 0, 0, 0, 0]),
+            &[1, 5, 2, 4, 4],
+            &[2, 1, 1],
+            &[5, 0, 0, 0, 0, 0],
             whole,
-            broken(Rule::C5, Slot::Docs, 0, 1),
+            (Rule::C5, Slot::Docs, 0, 1),
         ),
         (
-            in_files(&[1, 5, 2, 4, 3], &[2, 1, 1], &[5, 0, 0, 0, 0, 0]),
+            &[1, 5, 2, 4, 3],
+            &[2, 1, 1],
+            &[5, 0, 0, 0, 0, 0],
             whole,
-            broken(Rule::C5, Slot::Docs, 0, 1),
+            (Rule::C5, Slot::Docs, 0, 1),
         ),
         (
-            in_files(&[1, 3, 1, 3], &[1, 1], &[3, 0, 0, 0]),
+            &[1, 3, 1, 3],
+            &[1, 1],
+            &[3, 0, 0, 0],
             whole,
-            broken(Rule::C4, Slot::Docs, 0, 0),
+            (Rule::C4, Slot::Docs, 0, 0),
         ),
         (
-            in_files(one.docs, &[2, 1, 0], one.sizes),
+            one.docs,
+            &[2, 1, 0],
+            one.sizes,
             whole,
-            broken(Rule::C7, Slot::Freqs, 0, 1),
+            (Rule::C7, Slot::Freqs, 0, 1),
         ),
         (
-            in_files(&[1, 3], one.freqs, one.sizes),
+            &[1, 3],
+            one.freqs,
+            one.sizes,
             (Slot::Docs, 6),
-            broken(Rule::C1, Slot::Docs, 0, 0),
+            (Rule::C1, Slot::Docs, 0, 0),
         ),
         (
-            in_files(&[2, 3, 2, 0, 2], one.freqs, one.sizes),
+            &[2, 3, 2, 0, 2],
+            one.freqs,
+            one.sizes,
             whole,
-            broken(Rule::C2, Slot::Docs, 0, 0),
+            (Rule::C2, Slot::Docs, 0, 0),
         ),
+        (&[2], &[], &[], whole, (Rule::C2, Slot::Docs, 0, 0)),
         (
-            in_files(&[2], &[], &[]),
+            one.docs,
+            &[],
+            one.sizes,
             whole,
-            broken(Rule::C2, Slot::Docs, 0, 0),
+            (Rule::C1, Slot::Freqs, 0, 0),
         ),
         (
-            in_files(one.docs, &[], one.sizes),
+            one.docs,
+            &[2, 1, 5, 0],
+            one.sizes,
             whole,
-            broken(Rule::C1, Slot::Freqs, 0, 0),
+            (Rule::C10, Slot::Freqs, 1, 0),
         ),
         (
-            in_files(one.docs, &[2, 1, 5, 0], one.sizes),
+            one.docs,
+            &[3, 1, 5, 1],
+            one.sizes,
             whole,
-            broken(Rule::C10, Slot::Freqs, 1, 0),
+            (Rule::C6, Slot::Freqs, 0, 0),
         ),
         (
-            in_files(one.docs, &[3, 1, 5, 1], one.sizes),
+            one.docs,
+            one.freqs,
+            &[2, 4, 0],
             whole,
-            broken(Rule::C6, Slot::Freqs, 0, 0),
+            (Rule::C11, Slot::Sizes, 1, 0),
         ),
         (
-            in_files(one.docs, one.freqs, &[2, 4, 0]),
-            whole,
-            broken(Rule::C11, Slot::Sizes, 1, 0),
-        ),
-        (
-            in_files(one.docs, one.freqs, &[3, 4, 0, 7, 0]),
+            one.docs,
+            one.freqs,
+            &[3, 4, 0, 7, 0],
             (Slot::Sizes, 17),
-            broken(Rule::C12, Slot::Sizes, 1, 3),
+            (Rule::C12, Slot::Sizes, 1, 3),
         ),
     ] {
         let alloc = rt.alloc();
         for format in [Format::One, Format::Two] {
-            let files = cut_files(alloc, &numbers, cut.0, cut.1)?;
+            let files = cut_files(alloc, &in_files(docs, freqs, sizes), cut.0, cut.1)?;
             let mut depot = SteadyDepot::new(alloc, files, 5)?;
-            assert_eq!(rt; documents_read(alloc, &mut depot, format), fault);
+            let read = documents_read(alloc, &mut depot, format);
+            assert_eq!(rt; read, broken(rule, file, term, place));
         }
     }
     Ok(())
@@ -269,14 +292,17 @@ fn collections_are_broken_in_both_formats(rt: HostRuntime) -> Result<(), Fail> {
 #[test]
 fn the_first_format_has_fewer_documents(rt: HostRuntime) -> Result<(), Fail> {
     let alloc = rt.alloc();
-    for documents in [268_435_456, 4_294_967_295] {
+    for (documents, format, rule, file) in [
+        (268_435_456, Format::One, Rule::C3, Slot::Docs),
+        (268_435_456, Format::Two, Rule::C1, Slot::Sizes),
+        (4_294_967_295, Format::One, Rule::C3, Slot::Docs),
+        (4_294_967_295, Format::Two, Rule::C1, Slot::Sizes),
+    ] {
         let docs = [1, documents];
         let sizes = [documents];
-        let head = in_files(&docs, &[], &sizes);
-        let in_one = documents_read(alloc, &mut depot(alloc, &head)?, Format::One);
-        assert_eq!(rt; in_one, broken(Rule::C3, Slot::Docs, 0, 0), "{documents}");
-        let in_two = documents_read(alloc, &mut depot(alloc, &head)?, Format::Two);
-        assert_eq!(rt; in_two, broken(Rule::C1, Slot::Sizes, 0, 0), "{documents}");
+        let mut head = depot(alloc, &in_files(&docs, &[], &sizes))?;
+        let read = documents_read(alloc, &mut head, format);
+        assert_eq!(rt; read, broken(rule, file, 0, 0), "{documents}");
     }
     Ok(())
 }

@@ -16,13 +16,15 @@ fn depots_read_and_write(rt: HostRuntime) {
     let held = files(alloc, &[("a", "abcde"), ("a", "x")]).expect(&rt, "");
     let mut depot = SteadyDepot::new(alloc, held, 4).expect(&rt, "");
     let mut buf = [0u8; 8];
-    assert_eq!(rt; read_twice(&mut depot, "a", &mut buf), Ok(5));
-    assert_eq!(rt; buf, *b"abcde\0\0\0");
-    assert_eq!(rt; read_twice(&mut depot, "none", &mut buf), Ok(0));
+    for (name, count) in [("a", 5), ("none", 0)] {
+        assert_eq!(rt; read_twice(&mut depot, name, &mut buf), Ok(count));
+        assert_eq!(rt; buf, *b"abcde\0\0\0");
+    }
     assert_eq!(rt; put(&mut depot, "a", b"12345"), Ok(()));
     assert_eq!(rt; depot.file("a").unwrap_or_default(), b"12345".as_slice());
-    assert_eq!(rt; depot.calls(Op::Write), 2);
-    assert_eq!(rt; depot.calls(Op::Start(Slot::Docs)), 2);
+    for op in [Op::Write, Op::Start(Slot::Docs)] {
+        assert_eq!(rt; depot.calls(op), 2, "{op:?}");
+    }
 }
 
 #[test]
@@ -43,9 +45,9 @@ fn depots_fail_where_they_are_told_to(rt: HostRuntime) {
         let held = files(alloc, &[("a", "abcde")]).expect(&rt, "");
         let fails = vec![in alloc; (op, number)].expect(&rt, "");
         let mut depot = MemDepot::new(alloc, held, 2, fails).expect(&rt, "");
-        assert_eq!(rt; read_and_put(&mut depot), result, "{op:?} {number}");
+        let outcome = (read_and_put(&mut depot), depot.file("b"));
         let wanted = written.map(|text| text.as_bytes());
-        assert_eq!(rt; depot.file("b"), wanted, "{op:?} {number}");
+        assert_eq!(rt; outcome, (result, wanted), "{op:?} {number}");
         assert_eq!(rt; depot.start(Slot::Index, "none"), Err(IoFail::Failed));
     }
 }

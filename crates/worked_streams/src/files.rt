@@ -84,10 +84,13 @@ fn a_link_is_followed_and_stays(rt: HostRuntime) -> Result<(), Fail> {
     make_old(&rt, "linked", "linked/x")?;
     make_links(&rt)?;
     let mut depot = StdDepot::new(rt);
-    assert_eq!(rt; put(&mut depot, "links/b", b"12345"), Ok(()));
-    assert!(rt; holds(&rt, "linked/x", "12345")?);
-    assert_eq!(rt; put(&mut depot, "links/c", b"6"), Ok(()));
-    assert!(rt; holds(&rt, "linked/new", "6")?);
+    for (link, text, file) in [
+        ("links/b", "12345", "linked/x"),
+        ("links/c", "6", "linked/new"),
+    ] {
+        assert_eq!(rt; put(&mut depot, link, text.as_bytes()), Ok(()));
+        assert!(rt; holds(&rt, file, text)?, "{link}");
+    }
     assert_eq!(rt; put(&mut depot, "links/d", b"7"), Err(IoFail::Failed));
     for link in ["links/a", "links/b", "links/c", "links/d"] {
         assert!(rt; fs::symlink_metadata(&rt, link)?.is_symlink());
@@ -123,11 +126,16 @@ fn a_file_that_was_started_is_not_replaced(rt: HostRuntime) -> Result<(), Fail> 
 fn a_leftover_harms_nothing(rt: HostRuntime) -> Result<(), Fail> {
     make_old(&rt, "left", "left/.pefidx-0")?;
     let mut depot = StdDepot::new(rt);
-    assert_eq!(rt; put(&mut depot, "left/x", b"12345"), Ok(()));
-    assert_eq!(rt; put(&mut depot, "left/.pefidx-1", b"6"), Ok(()));
-    assert!(rt; holds(&rt, "left/x", "12345")?);
-    assert!(rt; holds(&rt, "left/.pefidx-1", "6")?);
-    assert!(rt; holds(&rt, "left/.pefidx-0", "old")?);
+    for (file, text) in [("left/x", "12345"), ("left/.pefidx-1", "6")] {
+        assert_eq!(rt; put(&mut depot, file, text.as_bytes()), Ok(()));
+    }
+    for (file, text) in [
+        ("left/x", "12345"),
+        ("left/.pefidx-1", "6"),
+        ("left/.pefidx-0", "old"),
+    ] {
+        assert!(rt; holds(&rt, file, text)?, "{file}");
+    }
     fs::remove_dir_all(&rt, "left")?;
     Ok(())
 }

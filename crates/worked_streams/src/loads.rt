@@ -1,6 +1,7 @@
 // Files that are loaded up to a limit, and pieces that are filled.
 use crate::calls::load;
 use crate::held::files;
+use no_memory::NoMemory;
 use pef_io::{Depot, IoFail, LoadError, MemDepot, Op, Slot, SteadyDepot, fill_piece, load_bytes};
 use std::alloc::{AllocError, Global};
 
@@ -18,6 +19,18 @@ fn counted_file(alloc: Global, count: usize) -> Result<Vec<(String, Vec<u8>)>, A
     let mut list = files(alloc, &[("b", "abcde")])?;
     list.push((String::from_str(alloc, "a")?, counted(alloc, count)?))?;
     Ok(list)
+}
+
+// What a load of the file `a` of so many bytes gives by a depot without faults, and by one that could have some.
+fn loads(
+    alloc: Global,
+    count: usize,
+    limit: u64,
+) -> Result<[Result<Vec<u8>, LoadError>; 2], NoMemory> {
+    let mut steady = SteadyDepot::new(alloc, counted_file(alloc, count)?, 8_192)?;
+    let by_steady = load(alloc, &mut steady, "a", limit);
+    let mut failing = MemDepot::new(alloc, counted_file(alloc, count)?, 4, Vec::new(alloc))?;
+    Ok([by_steady, load(alloc, &mut failing, "a", limit)])
 }
 
 #[test]
@@ -38,20 +51,9 @@ fn files_are_loaded_up_to_a_limit(rt: HostRuntime) {
         } else {
             Err(LoadError::TooLarge)
         };
-        let held = counted_file(alloc, count).expect(&rt, "");
-        let mut steady = SteadyDepot::new(alloc, held, 8_192).expect(&rt, "");
-        assert_eq!(rt;
-            load(alloc, &mut steady, "a", limit),
-            wanted,
-            "{count} {limit}"
-        );
-        let held = counted_file(alloc, count).expect(&rt, "");
-        let mut failing = MemDepot::new(alloc, held, 4, Vec::new(alloc)).expect(&rt, "");
-        assert_eq!(rt;
-            load(alloc, &mut failing, "a", limit),
-            wanted,
-            "{count} {limit}"
-        );
+        for loaded in loads(alloc, count, limit).expect(&rt, "") {
+            assert_eq!(rt; loaded, wanted, "{count} {limit}");
+        }
     }
 }
 
