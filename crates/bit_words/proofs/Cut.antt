@@ -44,7 +44,7 @@ value-last_cut ws i used last h fits =
     mod_le : (n m : ℕ) → n % m ≤ n
     mod_le n m = omega arith
 
--- a longer front, cut again
+-- a longer prefix, cut again
 pub value-cut_again : (v len longer : ℕ) → len ≤ longer → v % 2 ^ longer % 2 ^ len ≡ v % 2 ^ len
 value-cut_again v len longer h =
     ap (λ k. v % 2 ^ k % 2 ^ len) (let e : longer ≡ longer - len + len = omega arith in e) ∙ mod-mod-pow v (longer - len) len
@@ -52,26 +52,26 @@ value-cut_again v len longer h =
 -- words that are cut where the last one is begun
 pub value-cut : (ws xs : List ℕ) (len i word : ℕ) → xs ≡ take ((len + 63) / 64) ws → len ≤ 64 * length ws → 0 < len % 64 → i + 1 ≡ length xs → get_or xs i 0 < 2 ^ 64 → word ≡ get_or xs i 0
     → bits_value (bits_of (set xs i (bit_and word (1 * 2 ^ (len % 64) % 2 ^ 64 - 1)))) ≡ bits_value (bits_of ws) % 2 ^ len
-value-cut ws xs len i word front h some last fits is =
+value-cut ws xs len i word prefix h some last fits is =
     let n : ℕ = (len + 63) / 64 in
     let used : ℕ = len % 64 in
     let few : used < 64 = omega arith in
-    let count : i + 1 ≡ n = omega (arith, ap length front, length-take n ws) in
+    let count : i + 1 ≡ n = omega (arith, ap length prefix, length-take n ws) in
     let place : used + 64 * i ≡ len = omega arith in
     let masked : bit_and word (1 * 2 ^ used % 2 ^ 64 - 1) ≡ get_or xs i 0 % 2 ^ used =
     ap (λ m. bit_and word (m - 1)) (one_shl used 64 few) ∙ and_mask word used ∙ ap (λ v. v % 2 ^ used) is in
     ap (λ v. bits_value (bits_of (set xs i v))) masked
     ∙ value-last_cut xs i used last few fits
     ∙ ap (λ k. bits_value (bits_of xs) % 2 ^ k) place
-    ∙ ap (λ ys. bits_value (bits_of ys) % 2 ^ len) front
+    ∙ ap (λ ys. bits_value (bits_of ys) % 2 ^ len) prefix
     ∙ ap (λ v. v % 2 ^ len) (value-first_words n ws)
     ∙ value-cut_again (bits_value (bits_of ws)) len (64 * n) (omega arith)
 
 -- the same of whole words
 pub value-cut_whole : (ws xs : List ℕ) (len : ℕ) → xs ≡ take ((len + 63) / 64) ws → len % 64 ≡ 0 → bits_value (bits_of xs) ≡ bits_value (bits_of ws) % 2 ^ len
-value-cut_whole ws xs len front whole =
+value-cut_whole ws xs len prefix whole =
     let place : 64 * ((len + 63) / 64) ≡ len = omega arith in
-    ap (λ ys. bits_value (bits_of ys)) front ∙ value-first_words ((len + 63) / 64) ws ∙ ap (λ k. bits_value (bits_of ws) % 2 ^ k) place
+    ap (λ ys. bits_value (bits_of ys)) prefix ∙ value-first_words ((len + 63) / 64) ws ∙ ap (λ k. bits_value (bits_of ws) % 2 ^ k) place
 
 -- what holds the number of the first bits
 pub held-cut : (ws new : List ℕ) (len : ℕ) → length new ≡ (len + 63) / 64 → bits_value (bits_of new) ≡ bits_value (bits_of ws) % 2 ^ len → HoldNumber new len

@@ -13,6 +13,6 @@ pub mod OnesWritten
 mod WordLaws
 pub mod WordsBehind
 pub mod Pieces
-pub mod Fronts
+pub mod Prefixes
 pub mod AllBits
 pub mod Outcomes

@@ -47,9 +47,9 @@ one-after old to n i rest e is =
     ap (λ xs. whole ++ xs) (one-field rest) ∙ sym (append_assoc whole zeros (1 ∷ [])) ∙ ap (λ xs. xs ++ 1 ∷ []) together in
     ap (λ xs. xs ++ field_bits (rest + 1) (2 ^ rest)) is ∙ append_assoc old whole (field_bits (rest + 1) (2 ^ rest)) ∙ ap (λ xs. old ++ xs) behind
 
--- some of the zeros are a front
-pub zeros-front : (old to : List ℕ) (zeros i : ℕ) → 64 * i ≤ zeros → to ≡ old ++ replicate (64 * i) 0 → AppendsBits old to (one_after zeros)
-zeros-front old to zeros i h e =
+-- some of the zeros are a prefix
+pub zeros-prefix : (old to : List ℕ) (zeros i : ℕ) → 64 * i ≤ zeros → to ≡ old ++ replicate (64 * i) 0 → AppendsBits old to (one_after zeros)
+zeros-prefix old to zeros i h e =
     let all : List ℕ = replicate zeros 0 in
     let count : length all ≡ zeros = length-replicate {A = ℕ} zeros 0 in (
       64 * i,

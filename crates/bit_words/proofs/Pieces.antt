@@ -26,11 +26,11 @@ stands-second bits at a b h =
 pub stands-both : (bits : List ℕ) (at : ℕ) (a b : List ℕ) → StandAt bits at a → StandAt bits (at + length a) b → StandAt bits at (a ++ b)
 stands-both bits at a b h k =
     let whole : List ℕ = take (length a + length b) (drop at bits) in
-    let front : take (length a) whole ≡ a = take-take (length a) (length a + length b) (drop at bits) (omega arith) ∙ h in
+    let prefix : take (length a) whole ≡ a = take-take (length a) (length a + length b) (drop at bits) (omega arith) ∙ h in
     let back : drop (length a) whole ≡ b = drop-take (length a) (length b) (drop at bits) ∙ ap (take (length b)) (drop-drop (length a) at bits) ∙ k in
     ap (λ n. take n (drop at bits)) (length-append a b)
     ∙ sym (take-append-drop (length a) whole)
-    ∙ ap (λ xs. xs ++ drop (length a) whole) front ∙ ap (λ xs. a ++ xs) back
+    ∙ ap (λ xs. xs ++ drop (length a) whole) prefix ∙ ap (λ xs. a ++ xs) back
 
 -- a piece with others before and behind it
 pub stands-between : (before piece behind : List ℕ) (at : ℕ) → length before ≡ at → StandAt (before ++ (piece ++ behind)) at piece

@@ -86,7 +86,7 @@ pub record IsWordWithin (bits : List ℕ) (i from to word : ℕ) : Type 0 where
 abbrev pub one_after : ℕ → List ℕ
 one_after zeros = replicate zeros 0 ++ 1 ∷ []
 
--- The bits after are those before and a front of the new ones.
+-- The bits after are those before and a prefix of the new ones.
 abbrev pub AppendsBits : List ℕ → List ℕ → List ℕ → Type 0
 AppendsBits old new bits = (n : ℕ) × (n ≤ length bits) × (new ≡ old ++ take n bits)
 

@@ -60,7 +60,7 @@ impl BitWriter {
         Ok(())
     }
 
-    /// Appends so many zeros and then a one, by whole words. A refusal leaves a front of them.
+    /// Appends so many zeros and then a one, by whole words. A refusal leaves a prefix of them.
     pub fn put_one_after(&mut self, zeros: u64) -> Result<(), NoMemory>
         requires room { length self.old + zeros + 1 < 2 ^ 63 }
         ensures ok { OnOk result (self.new ≡ self.old ++ one_after zeros) }

@@ -83,7 +83,7 @@ module _ (seed n t : ℕ) (d : DepotState) (i : SourceState) (o o' e e' : SinkSt
     behind_building (Err call.Failed) then = then
     behind_building (Err call.NoMemory) then = then
 
-    -- and a text was printed, or a front of it, or none was made
+    -- and a text was printed, or a prefix of it, or none was made
     is_printed : (r : Printed) → MakesAndPrints (Told index.format index.collection index.parts) o o' r → Left o' (printed_outcome r)
     is_printed r (inl none) = subst (λ x. Left o' (printed_outcome x)) (sym none.0) (no_text none.1)
     is_printed r (inr (text, told, p)) =
@@ -110,7 +110,7 @@ generate_refused seed n t d i o e e' s s' made error r too_large was is =
     let P : Result (Unit {0}) Stop → Type 0 = λ x. Leaves (Generates seed n t) (Starts Nothing) (outside d i o e s) (outside d i o e' s') (outcome_of x) in
     subst P (sym is) (not_generated seed n t d i o o e e' s s' error (λ k is. too_large k (was ∙ ap Err is)))
 
--- they were made, and a text was printed, or a front of it, or none was made
+-- they were made, and a text was printed, or a prefix of it, or none was made
 pub generate_ended : OneIndex → (seed n t : ℕ) (d : DepotState) (i : SourceState) (o o' e e' : SinkState) (s s' : ℕ)
     (words lent : List ℕ) (index : IndexView) (printed : Printed) (r : Result (Unit {0}) Stop)
     → AreWordsOf generate_format (generated seed n t) s s' words → lent ≡ words → Spells (numbers_of index.format) lent index.collection index.parts

@@ -95,7 +95,7 @@ module _ (laws : Laws) (well_formed : ImageIsWellFormed) (base map to : List ℕ
     up_to = record {
       within = h.up_to.within;
       before = λ t. h.up_to.before (told t);
-      this = λ t. elim (h.up_to.this (told t)) [ inl same ↦ inl (same ∙ w.reads.files t (nth_file files at).name) | inr front ↦ inr front ];
+      this = λ t. elim (h.up_to.this (told t)) [ inl same ↦ inl (same ∙ w.reads.files t (nth_file files at).name) | inr prefix ↦ inr prefix ];
       behind = λ t j lt within. h.up_to.behind (told t) j lt within ∙ w.reads.files t (nth_file files j).name;
       others = λ t name other. h.up_to.others (told t) name other ∙ w.reads.files t name;
     };

@@ -22,15 +22,15 @@ pub le32-injective : (m n : ℕ) → m < 2 ^ 32 → n < 2 ^ 32 → le32 m ≡ le
 le32-injective m n p q same = sym (le32-read m p) ∙ ap (from_le_bytes w32) same ∙ le32-read n q
 
 -- two lists of four bytes that each stand first in the same bytes
-pub front-same : (a b x y : List ℕ) (n : ℕ) → length a ≡ n → length b ≡ n → a ++ x ≡ b ++ y → (a ≡ b) × (x ≡ y)
-front-same a b x y n p q same = (
+pub prefix-same : (a b x y : List ℕ) (n : ℕ) → length a ≡ n → length b ≡ n → a ++ x ≡ b ++ y → (a ≡ b) × (x ≡ y)
+prefix-same a b x y n p q same = (
   sym (take_at a x n p) ∙ ap (take n) same ∙ take_at b y n q,
   sym (drop_at a x n p) ∙ ap (drop n) same ∙ drop_at b y n q,
 )
 
 pub le32-split : (m n : ℕ) (x y : List ℕ) → m < 2 ^ 32 → n < 2 ^ 32 → le32 m ++ x ≡ le32 n ++ y → (m ≡ n) × (x ≡ y)
 le32-split m n x y p q same =
-    let both = front-same (le32 m) (le32 n) x y 4 refl refl same in
+    let both = prefix-same (le32 m) (le32 n) x y 4 refl refl same in
     (le32-injective m n p q both.0, both.1)
 
 pub le32s-length : (ns : List ℕ) → length (flat_map le32 ns) ≡ 4 * length ns
@@ -79,10 +79,10 @@ pub numbers-of_bytes : (n : ℕ) (bytes : List ℕ) → AreBytes bytes → lengt
 numbers-of_bytes zero bytes small l = record { numbers = []; many = refl; fit = All-nil (λ k. k < 2 ^ 32); same = sym (nil_from_length bytes (omega arith)) }
 numbers-of_bytes (suc n) bytes small l =
     let rest = numbers-of_bytes n (drop 4 bytes) (All-drop (λ b. b < 256) 4 bytes small) (omega (arith, length-drop 4 bytes)) in
-    let front : AreBytes (take 4 bytes) = All-take (λ b. b < 256) 4 bytes small in
+    let prefix : AreBytes (take 4 bytes) = All-take (λ b. b < 256) 4 bytes small in
     record {
       numbers = from_le_bytes w32 (take 4 bytes) ∷ rest.numbers;
       many = omega (arith, rest.many);
-      fit = All-cons (λ k. k < 2 ^ 32) _ rest.numbers (number-fits (take 4 bytes) front) rest.fit;
-      same = ap (λ x. x ++ flat_map le32 rest.numbers) (le32-of_bytes (take 4 bytes) front (length-take-le 4 bytes (omega arith))) ∙ ap (λ x. take 4 bytes ++ x) rest.same ∙ take-append-drop 4 bytes;
+      fit = All-cons (λ k. k < 2 ^ 32) _ rest.numbers (number-fits (take 4 bytes) prefix) rest.fit;
+      same = ap (λ x. x ++ flat_map le32 rest.numbers) (le32-of_bytes (take 4 bytes) prefix (length-take-le 4 bytes (omega arith))) ∙ ap (λ x. take 4 bytes ++ x) rest.same ∙ take-append-drop 4 bytes;
     }

@@ -12,14 +12,14 @@ use Rattle.collection_reader.specs.declared.fault.Fault.{Fault}
 use Rattle.collection_reader.specs.declared.fault.CollError.{CollError}
 use Rattle.collection_reader.specs.declared.fault.CollError.TheVariants.{Broken, Read, NoMemory}
 use Rattle.collection_reader.specs.declared.whole.Lists.{Lists as ListVectors}
-use Rattle.collection_reader.specs.FirstFault.{IsFront, IsLongestFront, head_fault, end_fault, IsFaultBehind, IsFirstFault}
+use Rattle.collection_reader.specs.FirstFault.{IsPrefix, IsLongestPrefix, head_fault, end_fault, IsFaultBehind, IsFirstFault}
 use Rattle.collection_reader.specs.Starting.{StartsInOrder}
 use Rattle.collection_reader.specs.ReadCollection.{files_at, IsCollectionSlot, ReadsCollection}
 use Rattle.collection_reader.specs.Reading.{Reading, rests, IsReadFault, IsNextFault, OnlyReadsCollection, StartsReading, ReadsSizes}
 use Rattle.collection_reader.specs.ReadLists.{HaveBeenRead, IsFaultBehindLists, ReadsLists}
-use Rattle.collection_reader.proofs.Fronts.{longest-from_blocked, longest-from_full, blocked-at_end}
+use Rattle.collection_reader.proofs.Prefixes.{longest-from_blocked, longest-from_full, blocked-at_end}
 use Rattle.collection_reader.proofs.Breaks.{zero-not, blocked-by_fault}
-use Rattle.collection_reader.proofs.FirstFaults.{one-first_fault, spelled-no_fault, front-head, none-first, match_bool-cases}
+use Rattle.collection_reader.proofs.FirstFaults.{one-first_fault, spelled-no_fault, prefix-head, none-first, match_bool-cases}
 use Rattle.collection_reader.proofs.ListsRead.{calls-then, read_fault-then, no_fault-at_ok, no_refusal-at_ok, not-ok, stay_started}
 use Rattle.pef_io.proofs.OnlyReads.{OnlyReads-trans, NoneStartedTwice-then}
 use Rattle.collection_reader.proofs.Starts.{all-started}
@@ -72,11 +72,11 @@ start-refused format small old new base result e answer starts is answered =
     (subst (λ r. IfErr r (StartsInOrder old new)) is starts.in_order)
     starts.none_twice
 
--- the front of the files that some lists behind the head are
-front-read : (format : FormatNumbers) (old start : DepotState) (base : List ℕ) (first : Reading) (lists : List (List Posting)) (docs freqs : List ℕ) → StartsReading format old start base (Ok first) → IsTrue old.tells
+-- the prefix of the files that some lists behind the head are
+prefix-read : (format : FormatNumbers) (old start : DepotState) (base : List ℕ) (first : Reading) (lists : List (List Posting)) (docs freqs : List ℕ) → StartsReading format old start base (Ok first) → IsTrue old.tells
     → length lists ≤ most_terms → All (IsPostingList format first.documents) lists → (rests first start).docs ≡ docs_bytes lists ++ docs → (rests first start).freqs ≡ freqs_bytes lists ++ freqs
-    → IsFront format (files_at old base) first.documents lists docs freqs
-front-read format old start base first lists docs freqs starts told within each is_docs is_freqs = record {
+    → IsPrefix format (files_at old base) first.documents lists docs freqs
+prefix-read format old start base first lists docs freqs starts told within each is_docs is_freqs = record {
   documents = starts.within;
   terms = within;
   each = each;
@@ -84,10 +84,10 @@ front-read format old start base first lists docs freqs starts told within each 
   freqs = starts.freqs_rest told ∙ is_freqs;
 }
 
--- a first fault behind a longest front
-pub fault-behind : (format : FormatNumbers) → format.most_documents < 2 ^ 32 → (files : Files) (n : ℕ) (lists : List (List Posting)) (docs freqs : List ℕ) (fault : Fault) → IsLongestFront format files n lists docs freqs → IsFaultBehind format n (length lists) docs freqs files.sizes (Some fault) → IsFirstFault format files (Some fault)
+-- a first fault behind a longest prefix
+pub fault-behind : (format : FormatNumbers) → format.most_documents < 2 ^ 32 → (files : Files) (n : ℕ) (lists : List (List Posting)) (docs freqs : List ℕ) (fault : Fault) → IsLongestPrefix format files n lists docs freqs → IsFaultBehind format n (length lists) docs freqs files.sizes (Some fault) → IsFirstFault format files (Some fault)
 fault-behind format small files n lists docs freqs fault longest behind =
-    let no_fault = front-head format small files n lists docs freqs longest.front in
+    let no_fault = prefix-head format small files n lists docs freqs longest.prefix in
     none-first (head_fault format files.docs) _ _ no_fault (n, lists, docs, freqs, longest, behind)
 
 match_bool-at_false : (P Q : Type 0) (b : Bool) → b ≡ false → Q → MatchBool b P Q
@@ -98,13 +98,13 @@ match_bool-at_true : (P Q : Type 0) (b : Bool) → b ≡ true → P → MatchBoo
 match_bool-at_true P Q true is p = p
 match_bool-at_true P Q false is p = absurd cc
 
--- a front is the longest where the next list breaks, and that list has the first fault
-pub next-faulty : (format : FormatNumbers) → format.most_documents < 2 ^ 32 → (files : Files) (n : ℕ) (lists : List (List Posting)) (docs freqs : List ℕ) (fault : Fault) → IsFront format files n lists docs freqs → IsNextFault format n (length lists) (record { docs = docs; freqs = freqs; sizes = files.sizes }) fault → IsFirstFault format files (Some fault)
-next-faulty format small files n lists docs freqs fault front next =
+-- a prefix is the longest where the next list breaks, and that list has the first fault
+pub next-faulty : (format : FormatNumbers) → format.most_documents < 2 ^ 32 → (files : Files) (n : ℕ) (lists : List (List Posting)) (docs freqs : List ℕ) (fault : Fault) → IsPrefix format files n lists docs freqs → IsNextFault format n (length lists) (record { docs = docs; freqs = freqs; sizes = files.sizes }) fault → IsFirstFault format files (Some fault)
+next-faulty format small files n lists docs freqs fault prefix next =
     let some = match_bool-at_false _ _ (length docs == 0) (zero-not (length docs) next.0) in
     match_bool-cases _ _ _ (length lists == most_terms)
-    (λ full is. fault-behind format small files n lists docs freqs fault (longest-from_full format files n lists docs freqs front (eqb-true (length lists) most_terms full)) (some (match_bool-at_true _ _ (length lists == most_terms) full (ap Some is))))
-    (λ more broken. fault-behind format small files n lists docs freqs fault (longest-from_blocked format small files n lists docs freqs front (blocked-by_fault format n (length lists) docs freqs fault (omega (arith, front.documents)) broken)) (some (match_bool-at_false _ _ (length lists == most_terms) more broken)))
+    (λ full is. fault-behind format small files n lists docs freqs fault (longest-from_full format files n lists docs freqs prefix (eqb-true (length lists) most_terms full)) (some (match_bool-at_true _ _ (length lists == most_terms) full (ap Some is))))
+    (λ more broken. fault-behind format small files n lists docs freqs fault (longest-from_blocked format small files n lists docs freqs prefix (blocked-by_fault format n (length lists) docs freqs fault (omega (arith, prefix.documents)) broken)) (some (match_bool-at_false _ _ (length lists == most_terms) more broken)))
     next.1
 
 -- where a list is refused
@@ -115,7 +115,7 @@ lists-refused format small old start new base first now result e answer starts r
     refused format small old new base answer e answered
     (λ told fault h.
     let found = subst (λ f. IsFaultBehindLists f first.documents (rests first start) fault) starts.limits (reads.first_fault (starts.depot.reads.tells ∙ told) fault cc) in
-    next-faulty format small (files_at old base) first.documents found.lists found.docs_rest found.freqs_rest fault (front-read format old start base first found.lists found.docs_rest found.freqs_rest starts told found.within found.each found.docs found.freqs) found.next)
+    next-faulty format small (files_at old base) first.documents found.lists found.docs_rest found.freqs_rest fault (prefix-read format old start base first found.lists found.docs_rest found.freqs_rest starts told found.within found.each found.docs found.freqs) found.next)
     (λ slot h. read_fault-then old start new slot (no_fault slot) (reads.read_only_where_it_rose slot cc))
     (calls-then old start new result answer no_fault (no_refusal-at_ok old start (Ok first) first refl starts.depot) starts.depot.reads reads.depot (λ slot h. cc) (λ h. cc))
     (all-started old new e (record { started = stay_started start new starts.started reads.depot.reads; once = λ slot is. reads.starts slot ∙ starts.started_once slot is }))
@@ -128,7 +128,7 @@ record AllListsRead (format : FormatNumbers) (old start between : DepotState) (b
   each : All (IsPostingList format now.documents) lists
   counted : now.lists ≡ length lists
   refusal : now.refusal ≡ None
-  front : IsTrue old.tells → IsFront format (files_at old base) now.documents lists [] (rests now between).freqs
+  prefix : IsTrue old.tells → IsPrefix format (files_at old base) now.documents lists [] (rests now between).freqs
   sizes : IsTrue old.tells → (files_at old base).sizes ≡ (rests now between).sizes
   no_fault : (slot : Slot) → between.faults slot ≡ old.faults slot
   no_refusal : between.refusals ≡ old.refusals
@@ -146,10 +146,10 @@ all-lists format old start between base first now lists starts given ended =
       each = subst (λ n. All (IsPostingList format n) lists) (sym given.documents) each;
       counted = given.counted;
       refusal = given.refusal;
-      front = λ told.
+      prefix = λ told.
           let told' : IsTrue start.tells = starts.depot.reads.tells ∙ told in
           let is_docs : (rests first start).docs ≡ docs_bytes lists ++ [] = given.docs_rest told' ∙ ap (λ d. docs_bytes lists ++ d) (ended told') in
-          subst (λ n. IsFront format (files_at old base) n lists [] (rests now between).freqs) (sym given.documents) (front-read format old start base first lists [] (rests now between).freqs starts told given.within each is_docs (given.freqs_rest told'));
+          subst (λ n. IsPrefix format (files_at old base) n lists [] (rests now between).freqs) (sym given.documents) (prefix-read format old start base first lists [] (rests now between).freqs starts told given.within each is_docs (given.freqs_rest told'));
       sizes = λ told. starts.sizes_rest told ∙ sym (given.sizes_rest (starts.depot.reads.tells ∙ told));
       no_fault = λ slot. given.no_fault slot ∙ no_fault-at_ok old start (Ok first) first refl starts.depot slot;
       no_refusal = given.no_refusal ∙ no_refusal-at_ok old start (Ok first) first refl starts.depot;
@@ -165,11 +165,11 @@ sizes-refused format small old start between new base first now last lists sizes
     let read = all-lists format old start between base first now lists starts before ended in
     refused format small old new base answer e answered
     (λ told fault h.
-    let front = read.front told in
+    let prefix = read.prefix told in
     let found : end_fault now.documents now.lists (rests now between).freqs (rests now between).sizes ≡ Some fault = reads.first_fault (read.reads.tells ∙ told) read.refusal fault cc in
     let behind : Some fault ≡ end_fault now.documents (length lists) (rests now between).freqs (files_at old base).sizes =
     sym ((λ i. end_fault now.documents (sym read.counted i) (rests now between).freqs (read.sizes told i)) ∙ found) in
-    fault-behind format small (files_at old base) now.documents lists [] (rests now between).freqs fault (longest-from_blocked format small (files_at old base) now.documents lists [] (rests now between).freqs front (blocked-at_end format now.documents (rests now between).freqs)) behind)
+    fault-behind format small (files_at old base) now.documents lists [] (rests now between).freqs fault (longest-from_blocked format small (files_at old base) now.documents lists [] (rests now between).freqs prefix (blocked-at_end format now.documents (rests now between).freqs)) behind)
     (λ slot h. read_fault-then old between new slot (read.no_fault slot) (reads.read_only_where_it_rose read.refusal slot cc))
     (calls-then old between new result answer read.no_fault read.no_refusal read.reads reads.depot (λ slot h. cc) (λ h. cc))
     (all-started old new e (record { started = stay_started between new (stay_started start between starts.started before.reads) reads.depot.reads; once = λ slot is. reads.starts slot ∙ read.once slot is }))
@@ -186,10 +186,10 @@ all-read format small old start between new base first now last lists n sizes c 
     let same : c ≡ whole = is ∙ (λ i. record { documents = (number ∙ reads.documents) i; lists = lists; sizes = sizes }) in
     let good : WellFormed format whole = record { documents = read.documents; terms = read.terms; lists = read.each; size_each = given.count; sizes = subst (λ l. All (λ s. s < 2 ^ 32) l) (ap (λ d. d.sizes) is) fit } in
     let spelling : IsTrue old.tells → files_at old base ≡ spelled whole = λ told.
-    let front = read.front told in
+    let prefix = read.prefix told in
     let told' : IsTrue between.tells = read.reads.tells ∙ told in
-    let docs = front.docs ∙ append-nil (head_bytes now.documents ++ docs_bytes lists) in
-    let freqs = front.freqs ∙ ap (λ f. freqs_bytes lists ++ f) (given.freqs_end told') ∙ append-nil (freqs_bytes lists) in
+    let docs = prefix.docs ∙ append-nil (head_bytes now.documents ++ docs_bytes lists) in
+    let freqs = prefix.freqs ∙ ap (λ f. freqs_bytes lists ++ f) (given.freqs_end told') ∙ append-nil (freqs_bytes lists) in
     let in_sizes = read.sizes told ∙ given.sizes_end told' in
     λ i. record { docs = docs i; freqs = freqs i; sizes = in_sizes i } in
     let good_c : WellFormed format c = subst (WellFormed format) (sym same) good in

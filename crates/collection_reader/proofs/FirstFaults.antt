@@ -12,11 +12,11 @@ use Rattle.collection_model.specs.Spelling.{Files, head_bytes, docs_bytes, freqs
 use Rattle.collection_model.proofs.Numbers.{AreNumbers, number_sequence-length, numbers-of_bytes}
 use Rattle.collection_reader.specs.declared.fault.Rule.{Rule}
 use Rattle.collection_reader.specs.declared.fault.Fault.{Fault}
-use Rattle.collection_reader.specs.FirstFault.{number_at, lacks, FirstBreak, doc_break, freq_break, IsListFault, IsFront, IsLongestFront, head_fault, end_fault, IsFaultBehind, IsFirstFault}
-use Rattle.collection_reader.specs.Laws.{NoFaultMeansSpelled, NoHeadFaultMeansFront, OneFirstFault, SpelledHasNoFault}
+use Rattle.collection_reader.specs.FirstFault.{number_at, lacks, FirstBreak, doc_break, freq_break, IsListFault, IsPrefix, IsLongestPrefix, head_fault, end_fault, IsFaultBehind, IsFirstFault}
+use Rattle.collection_reader.specs.Laws.{NoFaultMeansSpelled, NoHeadFaultMeansPrefix, OneFirstFault, SpelledHasNoFault}
 use Rattle.collection_reader.proofs.Numbers.{number_at-drop, number_at-count, number_at-value, lacks-not, sequence-lacks_not, first-number}
 use Rattle.collection_reader.proofs.Breaks.{same-not}
-use Rattle.collection_reader.proofs.Fronts.{longest-same, longest-from_blocked, blocked-at_end}
+use Rattle.collection_reader.proofs.Prefixes.{longest-same, longest-from_blocked, blocked-at_end}
 
 -- two facts that each depend on one test, or on one option
 match_bool-both : (P P' Q Q' R : Type 0) (b : Bool) → (P → P' → R) → (Q → Q' → R) → MatchBool b P Q → MatchBool b P' Q' → R
@@ -104,10 +104,10 @@ head_fault-none format n rest small within =
     (skip (lacks docs 1) _ _ (sequence-lacks_not (n ∷ []) rest 1 (lit≤ tt))
     (skip (nat_lt format.most_documents (number_at docs 1)) _ _ (le-ltb format.most_documents (number_at docs 1) (omega arith)) refl)))
 
--- none is in the head of a front
-pub front-head : (format : FormatNumbers) → format.most_documents < 2 ^ 32 → (files : Files) (n : ℕ) (lists : List (List Posting)) (docs freqs : List ℕ) → IsFront format files n lists docs freqs → head_fault format files.docs ≡ None
-front-head format small files n lists docs freqs front =
-    ap (head_fault format) (front.docs ∙ append_assoc (head_bytes n) (docs_bytes lists) docs) ∙ head_fault-none format n (docs_bytes lists ++ docs) small front.documents
+-- none is in the head of a prefix
+pub prefix-head : (format : FormatNumbers) → format.most_documents < 2 ^ 32 → (files : Files) (n : ℕ) (lists : List (List Posting)) (docs freqs : List ℕ) → IsPrefix format files n lists docs freqs → head_fault format files.docs ≡ None
+prefix-head format small files n lists docs freqs prefix =
+    ap (head_fault format) (prefix.docs ∙ append_assoc (head_bytes n) (docs_bytes lists) docs) ∙ head_fault-none format n (docs_bytes lists ++ docs) small prefix.documents
 
 -- none is behind the lists where nothing but the sizes is left
 end_fault-none : (n t : ℕ) (sizes : List ℕ) → length sizes ≡ n → n < 2 ^ 32 → end_fault n t [] (number_sequence sizes) ≡ None
@@ -177,20 +177,20 @@ pub match_bool-cases : (P Q R : Type 0) (b : Bool) → (b ≡ true → P → R) 
 match_bool-cases P Q R true at_yes at_no p = at_yes refl p
 match_bool-cases P Q R false at_yes at_no q = at_no refl q
 
--- a longest front with nothing broken behind it is all of the files
-spelled-at_end : (format : FormatNumbers) (files : Files) (n : ℕ) (ls : List (List Posting)) (docs freqs : List ℕ) → AreBytes files.sizes → IsLongestFront format files n ls docs freqs → length docs ≡ 0 → None ≡ end_fault n (length ls) freqs files.sizes → IsSpelled format files
+-- a longest prefix with nothing broken behind it is all of the files
+spelled-at_end : (format : FormatNumbers) (files : Files) (n : ℕ) (ls : List (List Posting)) (docs freqs : List ℕ) → AreBytes files.sizes → IsLongestPrefix format files n ls docs freqs → length docs ≡ 0 → None ≡ end_fault n (length ls) freqs files.sizes → IsSpelled format files
 spelled-at_end format files n ls docs freqs small longest no_docs none =
-    let front = longest.front in
+    let prefix = longest.prefix in
     let end = ends-well n (length ls) freqs files.sizes (sym none) in
     let (sizes, many, fit, same) = sizes-spelled n files.sizes small end.count end.long in
-    let in_docs = front.docs ∙ ap (λ d. head_bytes n ++ docs_bytes ls ++ d) (nil_from_length docs no_docs) ∙ append-nil (head_bytes n ++ docs_bytes ls) in
-    let in_freqs = front.freqs ∙ ap (λ f. freqs_bytes ls ++ f) (nil_from_length freqs end.no_freqs) ∙ append-nil (freqs_bytes ls) in (
+    let in_docs = prefix.docs ∙ ap (λ d. head_bytes n ++ docs_bytes ls ++ d) (nil_from_length docs no_docs) ∙ append-nil (head_bytes n ++ docs_bytes ls) in
+    let in_freqs = prefix.freqs ∙ ap (λ f. freqs_bytes ls ++ f) (nil_from_length freqs end.no_freqs) ∙ append-nil (freqs_bytes ls) in (
       record { documents = n; lists = ls; sizes = sizes },
-      record { documents = front.documents; terms = front.terms; lists = front.each; size_each = many; sizes = fit },
+      record { documents = prefix.documents; terms = prefix.terms; lists = prefix.each; size_each = many; sizes = fit },
       λ i. record { docs = in_docs i; freqs = in_freqs i; sizes = same i },
     )
 
-spelled-behind : (format : FormatNumbers) (files : Files) (n : ℕ) (ls : List (List Posting)) (docs freqs : List ℕ) → AreBytes files.sizes → IsLongestFront format files n ls docs freqs → IsFaultBehind format n (length ls) docs freqs files.sizes None → IsSpelled format files
+spelled-behind : (format : FormatNumbers) (files : Files) (n : ℕ) (ls : List (List Posting)) (docs freqs : List ℕ) → AreBytes files.sizes → IsLongestPrefix format files n ls docs freqs → IsFaultBehind format n (length ls) docs freqs files.sizes None → IsSpelled format files
 spelled-behind format files n ls docs freqs small longest behind =
     match_bool-cases _ _ _ (length docs == 0) (λ yes none. spelled-at_end format files n ls docs freqs small longest (eqb-true (length docs) 0 yes) none)
     (λ no. match_bool-cases _ _ _ (length ls == most_terms) (λ full is. absurd (none-some _ is)) (λ more broken. absurd broken))
@@ -218,8 +218,8 @@ two-numbers bytes small enough =
     ∙ ap (λ b. le32 (number_at bytes 0) ++ b) (first-number (drop 4 bytes) (All-drop (λ b. b < 256) 4 bytes small) (omega (arith, length-drop 4 bytes)) ∙ ap (λ m. le32 m ++ drop 4 (drop 4 bytes)) (number_at-drop bytes 0))
 
 -- bytes whose head has no fault begin with a head
-head-front : (format : FormatNumbers) (files : Files) → AreBytes files.docs → head_fault format files.docs ≡ None → (n : ℕ) × (lists : List (List Posting)) × (docs : List ℕ) × (freqs : List ℕ) × IsFront format files n lists docs freqs
-head-front format files small is =
+head-prefix : (format : FormatNumbers) (files : Files) → AreBytes files.docs → head_fault format files.docs ≡ None → (n : ℕ) × (lists : List (List Posting)) × (docs : List ℕ) × (freqs : List ℕ) × IsPrefix format files n lists docs freqs
+head-prefix format files small is =
     let docs = files.docs in
     let a = skipped (lacks docs 0) _ _ is in
     let b = skipped (not (number_at docs 0 == 1)) _ _ a.1 in
@@ -244,9 +244,9 @@ head-front format files small is =
       },
     )
 
--- the head has no fault exactly where there is a front
-pub no_head_fault-means_front : (format : FormatNumbers) → format.most_documents < 2 ^ 32 → NoHeadFaultMeansFront format
-no_head_fault-means_front format small files bytes = (
-  head-front format files bytes,
-  λ (n, lists, docs, freqs, front). front-head format small files n lists docs freqs front,
+-- the head has no fault exactly where there is a prefix
+pub no_head_fault-means_prefix : (format : FormatNumbers) → format.most_documents < 2 ^ 32 → NoHeadFaultMeansPrefix format
+no_head_fault-means_prefix format small files bytes = (
+  head-prefix format files bytes,
+  λ (n, lists, docs, freqs, prefix). prefix-head format small files n lists docs freqs prefix,
 )

@@ -1,7 +1,7 @@
 pub mod Numbers
 pub mod Begun
 mod Breaks
-mod Fronts
+mod Prefixes
 mod FirstFaults
 mod Limits
 mod ReadsFrom

@@ -96,8 +96,8 @@ pub no_refusal-at_ok : {A : Type 0} (before after : DepotState) (result : Result
 no_refusal-at_ok before after result x is calls = elim calls.refusals_rise_only_there [ inl h ↦ absurd cc | inr same ↦ same ]
 
 -- a list that stands behind others in the same bytes
-bytes-behind : (all front list rest middle : List ℕ) → all ≡ front ++ middle → middle ≡ list ++ rest → all ≡ front ++ list ++ rest
-bytes-behind all front list rest middle is behind = is ∙ ap (λ m. front ++ m) behind ∙ sym (append_assoc front list rest)
+bytes-behind : (all prefix list rest middle : List ℕ) → all ≡ prefix ++ middle → middle ≡ list ++ rest → all ≡ prefix ++ list ++ rest
+bytes-behind all prefix list rest middle is behind = is ∙ ap (λ m. prefix ++ m) behind ∙ sym (append_assoc prefix list rest)
 
 pub read-more : {A : Type 0} (result : Result A CollError) (x : A) (first now new : Reading) (before between after : DepotState) (lists : List (List Posting)) (docs freqs : List ℕ) → HaveBeenRead first now before between lists
     → GivesList now new between after docs freqs → new.format ≡ now.format → new.documents ≡ now.documents → new.refusal ≡ None → result ≡ Ok x → OnlyReadsCollection between after result → SameStarts between after

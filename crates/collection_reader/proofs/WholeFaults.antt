@@ -17,7 +17,7 @@ use Rattle.collection_reader.specs.declared.fault.Rule.TheVariants.{C1, C2, C3, 
 use Rattle.collection_reader.specs.declared.fault.Fault.{Fault}
 use Rattle.collection_reader.specs.FirstFault.{IsFirstFault, IsListFault, end_fault}
 use Rattle.collection_reader.proofs.Rows.{not-increasing, out-of-range, zero-frequency, no-freqs, length-differs}
-use Rattle.collection_reader.proofs.Fronts.{longest-from_blocked, blocked-at_end}
+use Rattle.collection_reader.proofs.Prefixes.{longest-from_blocked, blocked-at_end}
 use Rattle.collection_reader.proofs.FirstFaults.{one-first_fault, spelled-no_fault}
 use Rattle.collection_reader.proofs.CollectionRead.{next-faulty, fault-behind}
 

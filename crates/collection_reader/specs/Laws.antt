@@ -5,7 +5,7 @@ use Rattle.collection_model.specs.Collection.{Posting, Collection, WellFormed}
 use Rattle.collection_model.specs.Spelling.{Files, spelled}
 use Rattle.collection_reader.specs.declared.fault.Rule.TheVariants.{C3}
 use Rattle.collection_reader.specs.declared.fault.Fault.{Fault}
-use Rattle.collection_reader.specs.FirstFault.{IsFront, head_fault, IsFirstFault}
+use Rattle.collection_reader.specs.FirstFault.{IsPrefix, head_fault, IsFirstFault}
 
 -- files of bytes
 pub record AreFilesOfBytes (files : Files) : Type 0 where
@@ -30,8 +30,8 @@ OneFirstFault format = (files : Files) (f g : Option Fault) → IsFirstFault for
 abbrev pub NeverTooManyDocuments : FormatNumbers → Type 0
 NeverTooManyDocuments format = (files : Files) → AreBytes files.docs → (fault : Fault) → IsFirstFault format files (Some fault) → fault.rule ≢ C3
 
--- The head has no fault exactly where there is a front, where the file of documents is of bytes.
-abbrev pub NoHeadFaultMeansFront : FormatNumbers → Type 0
-NoHeadFaultMeansFront format =
+-- The head has no fault exactly where there is a prefix, where the file of documents is of bytes.
+abbrev pub NoHeadFaultMeansPrefix : FormatNumbers → Type 0
+NoHeadFaultMeansPrefix format =
     (files : Files) → AreBytes files.docs →
-    (head_fault format files.docs ≡ None) ↔ ((n : ℕ) × (lists : List (List Posting)) × (docs : List ℕ) × (freqs : List ℕ) × IsFront format files n lists docs freqs)
+    (head_fault format files.docs ≡ None) ↔ ((n : ℕ) × (lists : List (List Posting)) × (docs : List ℕ) × (freqs : List ℕ) × IsPrefix format files n lists docs freqs)

@@ -3,7 +3,7 @@ ghost use Rattle.collection_model.specs.FormatNumbers.{FormatNumbers};
 ghost use Rattle.part_cost.specs.declared.formats.Format.TheVariants.{Two};
 ghost use Rattle.part_cost.specs.Formats.{numbers_of};
 ghost use Rattle.collection_reader.specs.InTurn.{ReadsInTurn};
-ghost use Rattle.collection_reader.specs.Laws.{NeverTooManyDocuments, NoFaultMeansSpelled, NoHeadFaultMeansFront, OneFirstFault, SpelledHasNoFault};
+ghost use Rattle.collection_reader.specs.Laws.{NeverTooManyDocuments, NoFaultMeansSpelled, NoHeadFaultMeansPrefix, OneFirstFault, SpelledHasNoFault};
 
 /// Three files have one first fault only, or none, in every format whose document numbers fit four bytes.
 pub fn files_have_one_first_fault()
@@ -30,7 +30,7 @@ pub fn lists_are_read_in_turn()
     ensures { (format : FormatNumbers) → format.most_documents < 2 ^ 32 → ReadsInTurn format }
 {}
 
-/// The head of a file of bytes has no fault exactly where the files have a front, in every such format.
-pub fn no_head_fault_means_front()
-    ensures { (format : FormatNumbers) → format.most_documents < 2 ^ 32 → NoHeadFaultMeansFront format }
+/// The head of a file of bytes has no fault exactly where the files have a prefix, in every such format.
+pub fn no_head_fault_means_prefix()
+    ensures { (format : FormatNumbers) → format.most_documents < 2 ^ 32 → NoHeadFaultMeansPrefix format }
 {}

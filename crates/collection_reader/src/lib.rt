@@ -18,7 +18,7 @@ pub use fault::{CollError, Fault, Rule};
 pub use four_bytes::number_at;
 pub use laws::{
     files_have_one_first_fault, lists_are_read_in_turn, no_fault_means_spelled,
-    no_head_fault_means_front, second_format_never_has_too_many_documents,
+    no_head_fault_means_prefix, second_format_never_has_too_many_documents,
     spelled_files_have_no_fault,
 };
 pub use reader::ListReader;

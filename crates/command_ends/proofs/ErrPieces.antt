@@ -33,9 +33,9 @@ joined_round ps i d lt =
 pub joined_within : (ps : List (Bor (List ℕ))) (i : ℕ) (d : Bor (List ℕ)) → i < length ps →
     length (joined (take i ps)) + length (get_or ps i d).now ≤ length (joined ps)
 joined_within ps i d lt =
-    let front : List ℕ = joined (take i ps) in
+    let prefix : List ℕ = joined (take i ps) in
     let piece : List ℕ = (get_or ps i d).now in
-    omega (arith, ap length (joined_round ps i d lt), length-append (front ++ piece) (joined (drop (i + 1) ps)), length-append front piece)
+    omega (arith, ap length (joined_round ps i d lt), length-append (prefix ++ piece) (joined (drop (i + 1) ps)), length-append prefix piece)
 
 -- ---- pieces in a row
 three_pieces : (a b c : List ℕ) → concat (a ∷ b ∷ c ∷ []) ≡ a ++ b ++ c

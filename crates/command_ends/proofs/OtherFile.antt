@@ -10,7 +10,7 @@ use Rattle.sequence_words.specs.declared.check.Check.{Check}
 use Rattle.sequence_words.specs.declared.check.Check.TheVariants.{K1, K2, K3, K4, K5}
 use Rattle.index_file.specs.declared.fault.OpenFault.{OpenFault}
 use Rattle.index_file.specs.FileWords.{CutList, opening_magic, end_magic, format_read, lists_words, IsIndex}
-use Rattle.index_file.specs.FirstBroken.{stated_documents, stated_terms, stated_sizes, numbers_break, frame_broken, IsLongestFileFront, IsTermFault, IsClosingFault, IsFirstBroken}
+use Rattle.index_file.specs.FirstBroken.{stated_documents, stated_terms, stated_sizes, numbers_break, frame_broken, IsLongestFilePrefix, IsTermFault, IsClosingFault, IsFirstBroken}
 use Rattle.word_files.specs.LoadWords.{LoadsKept, LoadsWords}
 use Rattle.command_ends.specs.Steps.LoadedIndex.{IsLoaded, IsNoIndex}
 
@@ -37,7 +37,7 @@ frame-of-other format words many other =
 abbrev Behind : List ℕ → OpenFault → Type 0
 Behind words fault =
     let format : FormatNumbers = numbers_of (format_read words) in
-    (cs : List CutList) × IsLongestFileFront format words cs
+    (cs : List CutList) × IsLongestFilePrefix format words cs
     × MatchBool (nat_lt (length cs) (stated_terms words))
     (IsTermFault format words (length cs) (2 + length (lists_words format cs)) fault)
     (IsClosingFault words (2 + length (lists_words format cs)) fault)

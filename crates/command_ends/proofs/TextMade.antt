@@ -36,7 +36,7 @@ answered_read (Err answering.TooLarge) = refl
 answered_read (Err answering.NoMemory) = refl
 
 module _ (source : Source) (laws : Laws source) (Makes : Outside → Outside → Outcome → Type 0) (d d' : DepotState) (read : IsRead source d d') where
-  -- a text was printed, or a front of it
+  -- a text was printed, or a prefix of it
   pub text_printed : (i : SourceState) (o o' e e' : SinkState) (n n' : ℕ) (text : List ℕ) (r : Printed) → PrintsLine text o o' r
       → Makes (outside d i o e n) (outside d' i o' e' n') (printed_outcome r)
       → Leaves (Does source Text Makes) (Starts source) (outside d i o e n) (outside d' i o' e' n') (printed_outcome r)

@@ -38,8 +38,8 @@ no_print_refuses (Err call.NoMemory) h = not_true h
 -- what printing promises of a text is what the run promises of it
 pub prints : (Is : List ℕ → Type 0) (line : List ℕ) → Is line → (old new : Outside) (r : Printed) → PrintsLine line old.out new.out r → PrintsText Is old new (printed_outcome r)
 prints Is line is old new (Ok u) p = (line, is, λ t. p.whole t)
-prints Is line is old new (Err call.Failed) p = (line, is, λ t. p.front t)
-prints Is line is old new (Err call.NoMemory) p = inr (line, is, λ t. p.front t)
+prints Is line is old new (Err call.Failed) p = (line, is, λ t. p.prefix t)
+prints Is line is old new (Err call.NoMemory) p = inr (line, is, λ t. p.prefix t)
 
 pub complete : (line : List ℕ) (old new : Outside) (r : Printed) → PrintsLine line old.out new.out r → NoCallFailed old new → OrNoMemory Done (printed_outcome r)
 complete line old new (Ok u) p none = inl refl

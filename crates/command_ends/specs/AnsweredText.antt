@@ -1,7 +1,7 @@
 use Rattle.std.specs.Prelude.{◌≡◌, ℕ, ◌^◌, ◌<◌, ◌≤◌, ◌⊎◌, IsTrue, List, [], ◌++◌, length, take}
 use Rattle.collection_model.specs.Collection.{Collection}
 use Rattle.query_text.specs.Lines.{text_lines, ended_lines}
-use Rattle.command_model.specs.GotReplies.{TextIsTold, GotReplies, GotFrontOfReplies}
+use Rattle.command_model.specs.GotReplies.{TextIsTold, GotReplies, GotPrefixOfReplies}
 use Rattle.command_ends.specs.Outside.{Outside, Told, NoCallFailed, IsUnanswered}
 use Rattle.command_ends.specs.Outcome.{Outcome, Done, InputFault, OutFault, NoMemory, InputTooLarge}
 use Rattle.command_ends.specs.Ends.{OrTooLarge}
@@ -27,11 +27,11 @@ AnswersRead Is old new =
     (read : List ℕ) × (old.input.left ≡ read ++ new.input.left) × (length read ≤ longest_text)
     × GotReplies c (ended_lines read) old.out new.out)
 
--- Out got a front of the replies, also of those to the lines of the bytes within the limit, and what is left of the input is what was not read.
+-- Out got a prefix of the replies, also of those to the lines of the bytes within the limit, and what is left of the input is what was not read.
 pub record AnswersInPart (Is : Collection → Type 0) (old new : Outside) : Type 0 where
   pub replies : OnAccepted Is old (λ c.
-      GotFrontOfReplies c (text_lines old.input.left) old.out new.out
-      × GotFrontOfReplies c (text_lines (take longest_text old.input.left)) old.out new.out)
+      GotPrefixOfReplies c (text_lines old.input.left) old.out new.out
+      × GotPrefixOfReplies c (text_lines (take longest_text old.input.left)) old.out new.out)
   pub taken : IsTrue old.input.tells → (read : List ℕ) × (old.input.left ≡ read ++ new.input.left)
 
 -- More bytes than the limit were read, and the lines that ended within the limit are answered.

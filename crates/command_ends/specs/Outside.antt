@@ -4,7 +4,7 @@ use Rattle.pef_io.specs.Calls.{Rose}
 use Rattle.pef_io.specs.SourceState.{SourceState}
 use Rattle.pef_io.specs.SinkState.{SinkState}
 use Rattle.pef_io.specs.DepotState.{DepotState}
-use Rattle.pef_io.specs.Helpers.{AppendsFront}
+use Rattle.pef_io.specs.Helpers.{AppendsPrefix}
 
 -- all that a run has outside, and how many part costs were counted
 pub record Outside : Type 0 where
@@ -56,10 +56,10 @@ pub record IsUnanswered (old new : Outside) : Type 0 where
   pub input : new.input ≡ old.input
   pub out : new.out ≡ old.out
 
--- A sink got a text whole, or, only where it failed or was refused memory, a front of it.
+-- A sink got a text whole, or, only where it failed or was refused memory, a prefix of it.
 abbrev pub GotText : SinkState → SinkState → List ℕ → Type 0
 GotText old new text =
     IsTrue old.tells →
     (new.written ≡ old.written ++ text)
     ⊎ ((Rose old.faults new.faults ⊎ Rose old.refusals new.refusals)
-    × AppendsFront old.written new.written text)
+    × AppendsPrefix old.written new.written text)

@@ -6,12 +6,12 @@ use Rattle.command_model.specs.Written.{IsWritten, IsUnwritten, IsWrittenInPart,
 use Rattle.command_ends.specs.Outside.{Outside}
 use Rattle.command_ends.specs.Outcome.{Outcome, Done, WriteFault, NoMemory, is_refusal}
 
--- Nothing is written, or the name is still the one that is being written, and a front of these bytes may stand under it.
+-- Nothing is written, or the name is still the one that is being written, and a prefix of these bytes may stand under it.
 abbrev pub IsLeftInPart : List ℕ → DepotState → DepotState → List ℕ → Type 0
 IsLeftInPart name old new bytes =
     IsUnwritten old new ⊎ (IsBeingWritten name old new × IsWrittenInPart name old new bytes)
 
--- A run writes the file of a slot under the name, and ends so: it gets the bytes of which OnBytes tells, or a front of them. Want of memory
+-- A run writes the file of a slot under the name, and ends so: it gets the bytes of which OnBytes tells, or a prefix of them. Want of memory
 -- may come before they are made, and behind the create only of the depot.
 abbrev pub WritesFile : Slot → List ℕ → ((List ℕ → Type 0) → Type 0) → Outside → Outside
     → Outcome → Type 0

@@ -44,10 +44,10 @@ counted_texts [] = refl
 counted_texts (word ∷ words) = ap (λ n. cond (is_text (string_bytes word)) (1 + n) 0) (counted_texts words)
 
 -- the command of a row, once its texts are counted and its words split
-pub by_count : (row : Row) (words : List (String Global)) (n : ℕ) (b : Bool) (front back : List (String Global)) (value : Option (List ℕ))
-    → n ≡ prefix_len (λ word. is_text (string_bytes word)) words → b ≡ (nat_le row.fewest n && nat_le n row.most) → front ≡ take n words → back ≡ drop n words → value ≡ value_in row.choice (texts back)
-    → by_row row (texts words) ≡ (if b then option_and_then (command_with row.verb (texts front)) value else None)
-by_count row words n b front back value count fits are rest said =
+pub by_count : (row : Row) (words : List (String Global)) (n : ℕ) (b : Bool) (prefix back : List (String Global)) (value : Option (List ℕ))
+    → n ≡ prefix_len (λ word. is_text (string_bytes word)) words → b ≡ (nat_le row.fewest n && nat_le n row.most) → prefix ≡ take n words → back ≡ drop n words → value ≡ value_in row.choice (texts back)
+    → by_row row (texts words) ≡ (if b then option_and_then (command_with row.verb (texts prefix)) value else None)
+by_count row words n b prefix back value count fits are rest said =
     ap (λ k. if nat_le row.fewest k && nat_le k row.most then option_and_then (command_with row.verb (take k (texts words))) (value_in row.choice (drop k (texts words))) else None) (sym (count ∙ counted_texts words))
     ∙ ap (λ b. if b then option_and_then (command_with row.verb (take n (texts words))) (value_in row.choice (drop n (texts words))) else None) (sym fits)
     ∙ ap₂ (λ names said. if b then option_and_then (command_with row.verb names) said else None)

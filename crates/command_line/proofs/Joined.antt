@@ -20,17 +20,17 @@ short-eq (b ∷ text) ending [] lt = refl
 short-eq (b ∷ text) ending (x ∷ name) lt = and-none (nat_eq x b) (bytes_eq name (text ++ ending)) (short-eq text ending name (omega (arith, lt)))
 
 -- the two tests, one after the other
-joined : (text ending name front back : List ℕ) (r s : Bool) → front ≡ take (length text) name → back ≡ drop (length text) name
-    → r ≡ bytes_eq front text → s ≡ bytes_eq back ending → (r && s) ≡ bytes_eq name (text ++ ending)
-joined text ending name front back r s ef eb er es =
-    ap (λ x. x && s) er ∙ ap (λ x. bytes_eq front text && x) es ∙ ap (λ f. bytes_eq f text && bytes_eq back ending) ef
+joined : (text ending name prefix back : List ℕ) (r s : Bool) → prefix ≡ take (length text) name → back ≡ drop (length text) name
+    → r ≡ bytes_eq prefix text → s ≡ bytes_eq back ending → (r && s) ≡ bytes_eq name (text ++ ending)
+joined text ending name prefix back r s ef eb er es =
+    ap (λ x. x && s) er ∙ ap (λ x. bytes_eq prefix text && x) es ∙ ap (λ f. bytes_eq f text && bytes_eq back ending) ef
     ∙ ap (λ b. bytes_eq (take (length text) name) text && bytes_eq b ending) eb ∙ joined-eq text ending name
 
-pub joined-then : (text ending name front back : List ℕ) (r s : Bool) → front ≡ take (length text) name → back ≡ drop (length text) name
-    → r ≡ bytes_eq front text → s ≡ bytes_eq back ending → r ≡ true → s ≡ bytes_eq name (text ++ ending)
-joined-then text ending name front back r s ef eb er es is = ap (λ x. x && s) (sym is) ∙ joined text ending name front back r s ef eb er es
+pub joined-then : (text ending name prefix back : List ℕ) (r s : Bool) → prefix ≡ take (length text) name → back ≡ drop (length text) name
+    → r ≡ bytes_eq prefix text → s ≡ bytes_eq back ending → r ≡ true → s ≡ bytes_eq name (text ++ ending)
+joined-then text ending name prefix back r s ef eb er es is = ap (λ x. x && s) (sym is) ∙ joined text ending name prefix back r s ef eb er es
 
-pub joined-else : (text ending name front back : List ℕ) (r : Bool) → front ≡ take (length text) name → back ≡ drop (length text) name
-    → r ≡ bytes_eq front text → r ≡ false → r ≡ bytes_eq name (text ++ ending)
-joined-else text ending name front back r ef eb er is =
-    is ∙ ap (λ x. x && bytes_eq back ending) (sym is) ∙ joined text ending name front back r (bytes_eq back ending) ef eb er refl
+pub joined-else : (text ending name prefix back : List ℕ) (r : Bool) → prefix ≡ take (length text) name → back ≡ drop (length text) name
+    → r ≡ bytes_eq prefix text → r ≡ false → r ≡ bytes_eq name (text ++ ending)
+joined-else text ending name prefix back r ef eb er is =
+    is ∙ ap (λ x. x && bytes_eq back ending) (sym is) ∙ joined text ending name prefix back r (bytes_eq back ending) ef eb er refl

@@ -320,8 +320,8 @@ fn is_joined(name: &[u8], text: &[u8], ending: &[u8]) -> bool
     if name.len() < text.len() {
         return false;
     }
-    let (front, back) = name.split_at(text.len());
-    front == text && back == ending
+    let (prefix, back) = name.split_at(text.len());
+    prefix == text && back == ending
 }
 
 // Whether a word can be a text of a command: it is not empty, is not `help`, and begins with no minus sign.

@@ -29,7 +29,7 @@ pub record AreWritten (files : List NamedFile) (old new : DepotState) : Type 0 w
   pub others : IsTrue old.tells → SameOthers files old new
   pub none_created : new.created ≡ false
 
--- The files before this one have their bytes, this one is as before or has a front of its own, and all the others are as before.
+-- The files before this one have their bytes, this one is as before or has a prefix of its own, and all the others are as before.
 pub record AreWrittenUpTo (files : List NamedFile) (at : ℕ) (old new : DepotState) : Type 0 where
   pub within : at < length files
   pub before : IsTrue old.tells → (j : ℕ) → j < at → new.file (nth_file files j).name ≡ Some (nth_file files j).bytes

@@ -2,7 +2,7 @@ use Rattle.std.specs.Prelude.{◌≡◌, ℕ, IsTrue, List, ◌++◌, take}
 use Rattle.collection_model.specs.Collection.{Collection}
 use Rattle.pef_io.specs.SourceState.{SourceState}
 use Rattle.pef_io.specs.SinkState.{SinkState}
-use Rattle.pef_io.specs.Helpers.{AppendsFront}
+use Rattle.pef_io.specs.Helpers.{AppendsPrefix}
 use Rattle.command_model.specs.Replies.{AreReplies}
 
 -- The input and out of a text that is answered tell their bytes.
@@ -14,7 +14,7 @@ pub record TextIsTold (source : SourceState) (sink : SinkState) : Type 0 where
 abbrev pub GotReplies : Collection → List (List ℕ) → SinkState → SinkState → Type 0
 GotReplies c lines old new = (text : List ℕ) × AreReplies c lines text × (new.written ≡ old.written ++ text)
 
--- Out got a front of the replies to some first ones of these lines, which is a front of the replies to all of them.
-abbrev pub GotFrontOfReplies : Collection → List (List ℕ) → SinkState → SinkState → Type 0
-GotFrontOfReplies c lines old new =
-    (n : ℕ) × (text : List ℕ) × AreReplies c (take n lines) text × AppendsFront old.written new.written text
+-- Out got a prefix of the replies to some first ones of these lines, which is a prefix of the replies to all of them.
+abbrev pub GotPrefixOfReplies : Collection → List (List ℕ) → SinkState → SinkState → Type 0
+GotPrefixOfReplies c lines old new =
+    (n : ℕ) × (text : List ℕ) × AreReplies c (take n lines) text × AppendsPrefix old.written new.written text

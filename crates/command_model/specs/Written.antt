@@ -14,7 +14,7 @@ pub record IsUnwritten (old new : DepotState) : Type 0 where
   pub files : IsTrue old.tells → SameFiles old new
   pub writing : SameWriting old new
 
--- Nothing is written, or the file has a front of these bytes and all others are as before.
+-- Nothing is written, or the file has a prefix of these bytes and all others are as before.
 abbrev pub IsWrittenInPart : List ℕ → DepotState → DepotState → List ℕ → Type 0
 IsWrittenInPart name old new bytes =
     IsUnwritten old new ⊎ (IsTrue old.tells → (n : ℕ) × (new.file name ≡ Some (take n bytes)) × SameFilesBut name old new)

@@ -14,10 +14,10 @@ rise-more [] new q l = absurd (omega arith)
 rise-more (p ∷ old) [] q l = omega (arith, rise-none old)
 rise-more (p ∷ old) (r ∷ new) q l = omega (arith, rise-more old new q (omega arith))
 
-pub rise-front : (old new more : List ℕ) → rise old new ≤ rise old (new ++ more)
-rise-front [] new more = omega arith
-rise-front (p ∷ old) [] more = omega arith
-rise-front (p ∷ old) (q ∷ new) more = omega (arith, rise-front old new more)
+pub rise-prefix : (old new more : List ℕ) → rise old new ≤ rise old (new ++ more)
+rise-prefix [] new more = omega arith
+rise-prefix (p ∷ old) [] more = omega arith
+rise-prefix (p ∷ old) (q ∷ new) more = omega (arith, rise-prefix old new more)
 
 abbrev from : ℕ → List ℕ → ℕ
 from k ps = length (dedup_from (λ (p q : ℕ). p == q) k ps)
@@ -50,11 +50,11 @@ from-same k (p ∷ ps) q l = elim (cases_Bool (p == k)) [
   | inr e ↦ rw e (omega (arith, from-same p ps q l))
 ]
 
-from-front : (k : ℕ) (ps more : List ℕ) → from k ps ≤ from k (ps ++ more)
-from-front k [] more = from-some k more
-from-front k (p ∷ ps) more = elim (cases_Bool (p == k)) [
-  | inl e ↦ rw e (from-front k ps more)
-  | inr e ↦ rw e (omega (arith, from-front p ps more))
+from-prefix : (k : ℕ) (ps more : List ℕ) → from k ps ≤ from k (ps ++ more)
+from-prefix k [] more = from-some k more
+from-prefix k (p ∷ ps) more = elim (cases_Bool (p == k)) [
+  | inl e ↦ rw e (from-prefix k ps more)
+  | inr e ↦ rw e (omega (arith, from-prefix p ps more))
 ]
 
 -- one more window stands at one more end, where it stands behind the window before it
@@ -71,9 +71,9 @@ ends-same (p ∷ ps) q some l =
     let last : length (p ∷ ps) - 1 ≡ length ps = omega arith in
     from-same p ps q (subst (λ (x : ℕ). get_or (p ∷ ps) x 0 ≡ q) last l)
 
-pub ends-front : (ps more : List ℕ) → end_count ps ≤ end_count (ps ++ more)
-ends-front [] more = omega arith
-ends-front (p ∷ ps) more = from-front p ps more
+pub ends-prefix : (ps more : List ℕ) → end_count ps ≤ end_count (ps ++ more)
+ends-prefix [] more = omega arith
+ends-prefix (p ∷ ps) more = from-prefix p ps more
 
 from-few : (k : ℕ) (ps : List ℕ) → from k ps ≤ length ps + 1
 from-few k [] = omega arith
@@ -88,9 +88,9 @@ ends-few [] = omega arith
 ends-few (p ∷ ps) = omega (arith, from-few p ps)
 
 -- windows below n are open
-pub open-front : (n k : ℕ) (ps : List ℕ) → k ≤ length ps → ((j : ℕ) → j < k → get_or ps j 0 < n) → k ≤ open_count n ps
-open-front n zero ps l below = omega arith
-open-front n (suc k) [] l below = absurd (omega arith)
-open-front n (suc k) (p ∷ ps) l below =
+pub open-prefix : (n k : ℕ) (ps : List ℕ) → k ≤ length ps → ((j : ℕ) → j < k → get_or ps j 0 < n) → k ≤ open_count n ps
+open-prefix n zero ps l below = omega arith
+open-prefix n (suc k) [] l below = absurd (omega arith)
+open-prefix n (suc k) (p ∷ ps) l below =
     let here : nat_lt p n ≡ true = lt-ltb p n (below 0 (omega arith)) in
-    rw here (omega (arith, open-front n k ps (omega arith) (λ j m. below (suc j) (omega arith))))
+    rw here (omega (arith, open-prefix n k ps (omega arith) (λ j m. below (suc j) (omega arith))))

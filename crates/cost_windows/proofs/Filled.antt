@@ -9,8 +9,8 @@ filled-length n xs l =
     omega (arith, length-append xs (replicate (n - length xs) tail), length-replicate {A = ℕ} (n - length xs) tail, l)
 
 -- it begins with what it was
-pub filled-front : (n : ℕ) (xs : List ℕ) (k : ℕ) → k < length xs → get_or (filled_up n xs) k 0 ≡ get_or xs k 0
-filled-front n xs k l = get_or_append_left xs (replicate (n - length xs) (get_or xs (length xs - 1) 0)) 0 k l
+pub filled-prefix : (n : ℕ) (xs : List ℕ) (k : ℕ) → k < length xs → get_or (filled_up n xs) k 0 ≡ get_or xs k 0
+filled-prefix n xs k l = get_or_append_left xs (replicate (n - length xs) (get_or xs (length xs - 1) 0)) 0 k l
 
 -- and goes on with its last number
 pub filled-rest : (n : ℕ) (xs : List ℕ) (k : ℕ) → length xs ≤ k → k < n → get_or (filled_up n xs) k 0 ≡ get_or xs (length xs - 1) 0
@@ -20,7 +20,7 @@ filled-rest n xs k l m =
 
 -- so it stands still from its last number on
 pub filled-last : (n : ℕ) (xs : List ℕ) (k : ℕ) → 0 < length xs → length xs ≤ k → k < n → get_or (filled_up n xs) k 0 ≡ get_or (filled_up n xs) (length xs - 1) 0
-filled-last n xs k some l m = filled-rest n xs k l m ∙ sym (filled-front n xs (length xs - 1) (omega arith))
+filled-last n xs k some l m = filled-rest n xs k l m ∙ sym (filled-prefix n xs (length xs - 1) (omega arith))
 
 -- a list that is long enough is not filled up
 pub filled-full : (n : ℕ) (xs : List ℕ) → n ≤ length xs → filled_up n xs ≡ xs

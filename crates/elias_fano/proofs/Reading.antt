@@ -81,14 +81,14 @@ read-pieces bits place u l q ys placed h stands =
     let high : List ℕ = high_bits l u ys in
     let low : List ℕ = low_fields l ys in
     let samples : List ℕ = ef_samples q l ys in
-    let front : StandAt bits place (high ++ low) = stands-first bits place (high ++ low) samples stands in
-    let highs : StandAt bits place high = stands-first bits place high low front in
+    let prefix : StandAt bits place (high ++ low) = stands-first bits place (high ++ low) samples stands in
+    let highs : StandAt bits place high = stands-first bits place high low prefix in
     let lows : StandAt bits (place + length high) (flat_map (field_bits l) (low_parts l ys)) =
-    subst (λ xs. StandAt bits (place + length high) xs) (sym (low_fields-are l ys)) (stands-second bits place high low front) in
+    subst (λ xs. StandAt bits (place + length high) xs) (sym (low_fields-are l ys)) (stands-second bits place high low prefix) in
     let rest : StandAt bits (place + length (high ++ low)) (flat_map (field_bits (digits (3 * length ys))) (sampled_places q l ys)) =
     subst (λ xs. StandAt bits (place + length (high ++ low)) xs) (sym (samples-are q l ys)) (stands-second bits place (high ++ low) samples stands) in
     let high_count : length high ≡ length ys + (u - 1) / 2 ^ l = length-high_bits l u ys in
-    let front_count : length (high ++ low) ≡ length ys + (u - 1) / 2 ^ l + l * length ys =
+    let prefix_count : length (high ++ low) ≡ length ys + (u - 1) / 2 ^ l + l * length ys =
     omega (arith, length-append high low, length-low_fields l ys) in
     record {
       values = h;
@@ -138,7 +138,7 @@ pieces-read bits place u l q ys each h =
     let count : ℕ = (length ys - 1) / q in
     let room = h.room in
     let high_count : length high ≡ length ys + (u - 1) / 2 ^ l = length-high_bits l u ys in
-    let front_count : length (high ++ low) ≡ length ys + (u - 1) / 2 ^ l + l * length ys =
+    let prefix_count : length (high ++ low) ≡ length ys + (u - 1) / 2 ^ l + l * length ys =
     omega (arith, length-append high low, length-low_fields l ys) in
     let parts_count : length (low_parts l ys) ≡ length ys = length-map ys (λ y. y % 2 ^ l) in
     let places_count : length (sampled_places q l ys) ≡ count = length-map-range_with_len (λ i. high_place l (q * i) (slice_index ys (q * i))) 1 count in

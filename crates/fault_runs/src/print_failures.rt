@@ -33,9 +33,9 @@ impl Turns for Printing {
         let run = run_failing(alloc, self.words, files, b"or 0", most, fails)?;
         let made = failing <= run.out.calls();
         let right = if made {
-            let front = (failing as usize).saturating_sub(1).saturating_mul(most);
+            let prefix = (failing as usize).saturating_sub(1).saturating_mul(most);
             run.status == Status::Write
-                && Some(run.out.bytes()) == self.text.as_bytes().get(..front)
+                && Some(run.out.bytes()) == self.text.as_bytes().get(..prefix)
                 && run.err.bytes() == b"write fault: out\n".as_slice()
         } else {
             run.prints(self.text.as_bytes())

@@ -19,16 +19,16 @@ use Rattle.index_file.specs.IndexView.{IndexView, doc_ends_of}
 use Rattle.index_file.proofs.Measured.{part-rises, part-begins}
 
 -- the steps of the sums of numbers are the numbers
-steps-front : (b n : ℕ) (fs : List ℕ) → All (λ f. 1 ≤ f) fs → steps_from b (take n (lessened (sums_from b fs))) ≡ take n fs
-steps-front b zero [] some = refl
-steps-front b zero (f ∷ fs) some = refl
-steps-front b (suc n) [] some = refl
-steps-front b (suc n) (f ∷ fs) some =
+steps-prefix : (b n : ℕ) (fs : List ℕ) → All (λ f. 1 ≤ f) fs → steps_from b (take n (lessened (sums_from b fs))) ≡ take n fs
+steps-prefix b zero [] some = refl
+steps-prefix b zero (f ∷ fs) some = refl
+steps-prefix b (suc n) [] some = refl
+steps-prefix b (suc n) (f ∷ fs) some =
     let one : 1 ≤ f = All-head (λ x. 1 ≤ x) f fs some in
     let next : b + f - 1 + 1 ≡ b + f = omega (arith, one) in
     ap (λ v. (v - b) ∷ steps_from v (take n (lessened (sums_from (b + f) fs)))) next
     ∙ ap (λ v. v ∷ steps_from (b + f) (take n (lessened (sums_from (b + f) fs)))) (let e : b + f - b ≡ f = omega arith in e)
-    ∙ ap (λ zs. f ∷ zs) (steps-front (b + f) n fs (All-tail (λ x. 1 ≤ x) f fs some))
+    ∙ ap (λ zs. f ∷ zs) (steps-prefix (b + f) n fs (All-tail (λ x. 1 ≤ x) f fs some))
 
 -- one past the value before a place, where so much stands before the first
 behind : ℕ → List ℕ → ℕ → ℕ
@@ -43,12 +43,12 @@ past-behind xs (suc i) = refl
 steps-behind : (b from n : ℕ) (fs : List ℕ) → All (λ f. 1 ≤ f) fs → from ≤ length fs
     → steps_from (behind b (lessened (sums_from b fs)) from) (take n (drop from (lessened (sums_from b fs)))) ≡ take n (drop from fs)
 unfolding behind
-steps-behind b zero n fs some fit = steps-front b n fs some
+steps-behind b zero n fs some fit = steps-prefix b n fs some
 steps-behind b (suc k) n [] some fit = absurd (omega (arith, fit))
 steps-behind b (suc zero) n (f ∷ fs) some fit =
     let one : 1 ≤ f = All-head (λ x. 1 ≤ x) f fs some in
     let next : b + f - 1 + 1 ≡ b + f = omega (arith, one) in
-    ap (λ v. steps_from v (take n (lessened (sums_from (b + f) fs)))) next ∙ steps-front (b + f) n fs (All-tail (λ x. 1 ≤ x) f fs some)
+    ap (λ v. steps_from v (take n (lessened (sums_from (b + f) fs)))) next ∙ steps-prefix (b + f) n fs (All-tail (λ x. 1 ≤ x) f fs some)
 steps-behind b (suc (suc j)) n (f ∷ fs) some fit = steps-behind (b + f) (suc j) n fs (All-tail (λ x. 1 ≤ x) f fs some) (omega (arith, fit))
 
 -- so the greatest step from one place up to another is the greatest frequency there

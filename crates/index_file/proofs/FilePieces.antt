@@ -9,7 +9,7 @@ use Rattle.collection_model.specs.FormatNumbers.{FormatNumbers, most_terms}
 use Rattle.index_file.specs.FileWords.{CutList, opening_magic, end_magic, lists_words, sizes_words, lists_directory, words_of_file}
 use Rattle.index_file.specs.FirstBroken.{stated_documents, stated_terms, stated_sizes, directory_word}
 use Rattle.index_file.specs.ListAt.{HasFrame}
-use Rattle.index_file.proofs.Fronts.{front-of, rest-of, joined, word-of, four-words}
+use Rattle.index_file.proofs.Prefixes.{prefix-of, rest-of, joined, word-of, four-words}
 use Rattle.index_file.proofs.Lengths.{directory-length, sizes-length}
 
 -- the low or the high half of a word
@@ -127,13 +127,13 @@ laid-of format words n cs xs few most count same =
     let e : List ℕ = last_words format n cs in
     let x3 : List ℕ = a ++ l ++ z ++ d in
     let whole : take (length (a ++ l ++ z ++ d ++ e)) words ≡ a ++ l ++ z ++ d ++ e = ap (take (length (a ++ l ++ z ++ d ++ e))) same ∙ take-length (a ++ l ++ z ++ d ++ e) in
-    let t3 : take (length (a ++ l ++ z ++ d)) words ≡ a ++ l ++ z ++ d = front-of (a ++ l ++ z ++ d) e words whole in
+    let t3 : take (length (a ++ l ++ z ++ d)) words ≡ a ++ l ++ z ++ d = prefix-of (a ++ l ++ z ++ d) e words whole in
     let te : take 4 (drop (length (a ++ l ++ z ++ d)) words) ≡ e = rest-of (a ++ l ++ z ++ d) e words whole in
-    let t2 : take (length (a ++ l ++ z)) words ≡ a ++ l ++ z = front-of (a ++ l ++ z) d words t3 in
+    let t2 : take (length (a ++ l ++ z)) words ≡ a ++ l ++ z = prefix-of (a ++ l ++ z) d words t3 in
     let td : take (length d) (drop (length (a ++ l ++ z)) words) ≡ d = rest-of (a ++ l ++ z) d words t3 in
-    let t1 : take (length (a ++ l)) words ≡ a ++ l = front-of (a ++ l) z words t2 in
+    let t1 : take (length (a ++ l)) words ≡ a ++ l = prefix-of (a ++ l) z words t2 in
     let tz : take (length z) (drop (length (a ++ l)) words) ≡ z = rest-of (a ++ l) z words t2 in
-    let t0 : take 2 words ≡ a = front-of a l words t1 in
+    let t0 : take 2 words ≡ a = prefix-of a l words t1 in
     let tl : take (length l) (drop 2 words) ≡ l = rest-of a l words t1 in
     let len1 : length (a ++ l) ≡ 2 + length l = length-append a l in
     let len2 : length (a ++ l ++ z) ≡ 2 + length l + (n + 1) / 2 = omega (arith, length-append (a ++ l) z, len1, sizes-length xs, count) in

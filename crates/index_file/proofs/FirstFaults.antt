@@ -7,7 +7,7 @@ use Rattle.std.proofs.lemmas.Bool.Decides.{nat_tests}
 use Rattle.collection_model.specs.FormatNumbers.{FormatNumbers}
 use Rattle.index_file.specs.declared.fault.OpenFault.{OpenFault}
 use Rattle.index_file.specs.FileWords.{CutList, lists_words}
-use Rattle.index_file.specs.FirstBroken.{stated_terms, IsFileFront, IsTermFault, IsClosingFault, IsFirstBrokenIn}
+use Rattle.index_file.specs.FirstBroken.{stated_terms, IsFilePrefix, IsTermFault, IsClosingFault, IsFirstBrokenIn}
 use Rattle.index_file.specs.ListAt.{HasFrame, IsFirstListFault}
 use Rattle.index_file.proofs.Frames.{behind-frame}
 use Rattle.sequence_words.proofs.Choices.{match-false, match-true}
@@ -26,12 +26,12 @@ list-first format words f frame h =
     )
 
 -- all lists stand, and what closes the file breaks a check
-pub closing-first : (format : FormatNumbers) (words : List ℕ) (cs : List CutList) (p : ℕ) (f : OpenFault) → HasFrame format words → IsFileFront format words cs → length cs ≡ stated_terms words
+pub closing-first : (format : FormatNumbers) (words : List ℕ) (cs : List CutList) (p : ℕ) (f : OpenFault) → HasFrame format words → IsFilePrefix format words cs → length cs ≡ stated_terms words
     → p ≡ 2 + length (lists_words format cs) → IsClosingFault words p f → IsFirstBrokenIn format words f
-closing-first format words cs p f frame front all place h =
+closing-first format words cs p f frame prefix all place h =
     behind-frame format words f frame (
       cs,
-      record { front = front; longest = λ others k. omega (arith, k.terms, all) },
+      record { prefix = prefix; longest = λ others k. omega (arith, k.terms, all) },
       match-false (nat_lt (length cs) (stated_terms words)) (IsTermFault format words (length cs) (2 + length (lists_words format cs)) f)
           (IsClosingFault words (2 + length (lists_words format cs)) f) (le-ltb (length cs) (stated_terms words) (omega (arith, all))) (subst (λ i. IsClosingFault words i f) place h),
     )

@@ -7,7 +7,7 @@ use Rattle.sequence_words.specs.declared.check.Check.{Check}
 use Rattle.sequence_words.specs.declared.check.Check.TheVariants.{K1, K2, K3, K4, K5}
 use Rattle.index_file.specs.declared.fault.OpenFault.{OpenFault}
 use Rattle.index_file.specs.FileWords.{CutList, opening_magic, end_magic, lists_words}
-use Rattle.index_file.specs.FirstBroken.{stated_documents, stated_terms, stated_sizes, numbers_break, frame_broken, IsLongestFileFront, IsTermFault, IsClosingFault, IsFirstBrokenIn}
+use Rattle.index_file.specs.FirstBroken.{stated_documents, stated_terms, stated_sizes, numbers_break, frame_broken, IsLongestFilePrefix, IsTermFault, IsClosingFault, IsFirstBrokenIn}
 use Rattle.index_file.specs.ListAt.{HasFrame}
 
 -- no check breaks
@@ -77,10 +77,10 @@ frame-none format words h =
     (not_from_true (s + (n + 1) / 2 + 4 * t + 4 == count) (eq-eqb (s + (n + 1) / 2 + 4 * t + 4) count h.whole)))
     refl))))
 
--- behind the longest front a list or the end breaks
+-- behind the longest prefix a list or the end breaks
 abbrev pub BreaksBehind : FormatNumbers → List ℕ → OpenFault → Type 0
 BreaksBehind format words fault =
-    (cs : List CutList) × IsLongestFileFront format words cs
+    (cs : List CutList) × IsLongestFilePrefix format words cs
     × MatchBool (nat_lt (length cs) (stated_terms words))
     (IsTermFault format words (length cs) (2 + length (lists_words format cs)) fault)
     (IsClosingFault words (2 + length (lists_words format cs)) fault)

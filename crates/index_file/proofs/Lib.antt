@@ -9,7 +9,7 @@ mod OneList
 mod TermFaults
 mod Agree
 mod Standing
-mod Fronts
+mod Prefixes
 mod Frames
 mod FilePieces
 mod Spelling

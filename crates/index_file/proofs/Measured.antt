@@ -29,7 +29,7 @@ use Rattle.index_file.specs.ListAt.{HasFrame, StandsAt, StandFrom, word_after}
 use Rattle.index_file.specs.Measures.{measure_at, measure_of_part, measure_of_list, IsMeasured}
 use Rattle.index_file.specs.Laws.{SequenceLaws}
 use Rattle.index_file.proofs.Lengths.{some-charge}
-use Rattle.index_file.proofs.Fronts.{stand-from, front-pieces, length-lists}
+use Rattle.index_file.proofs.Prefixes.{stand-from, prefix-pieces, length-lists}
 use Rattle.index_file.proofs.StatedIndex.{opened}
 use Rattle.index_file.proofs.Reading.{OpenedList, opened-stand, docs-read, freqs-read}
 
@@ -122,7 +122,7 @@ index-at_most format room takes rise words c parts h few measure =
     let o = opened format words c parts h in
     let cs : List CutList = with_parts c.lists parts in
     let most : sum_by (measure_of_list measure) (with_parts c.lists parts) ≤ 64 * length (lists_words format (with_parts c.lists parts)) =
-    lists-at_most format room takes rise words 0 2 cs o.laid.frame few (stand-from format words 0 2 cs (front-pieces format words cs o.front)) measure in
+    lists-at_most format room takes rise words 0 2 cs o.laid.frame few (stand-from format words 0 2 cs (prefix-pieces format words cs o.prefix)) measure in
     omega (arith, sum-map (measure_of_list measure) cs, most, o.laid.sizes, o.laid.frame.whole, few)
 
 -- a list among those that stand, in its parts
@@ -146,7 +146,7 @@ measured-at format room laws takes words c parts h few measure t lt =
     let o = opened format words c parts h in
     let cs : List CutList = with_parts c.lists parts in
     let frame = o.laid.frame in
-    let s = cut-at format words 0 2 cs (stand-from format words 0 2 cs (front-pieces format words cs o.front)) t (omega (arith, lt, o.laid.terms)) in
+    let s = cut-at format words 0 2 cs (stand-from format words 0 2 cs (prefix-pieces format words cs o.prefix)) t (omega (arith, lt, o.laid.terms)) in
     let at : StandsAt format words t s.1 s.0 = subst (λ k. StandsAt format words k s.1 s.0) (let e : 0 + t ≡ t = omega arith in e) s.2 in (
       s.0,
       record {

@@ -13,7 +13,7 @@ use Rattle.index_file.specs.FirstBroken.{stated_documents, stated_terms, stated_
 use Rattle.index_file.specs.Laws.{OneIndexIn, OneBrokenCheckIn, SequenceLaws}
 use Rattle.index_file.proofs.Agree.{match-agree, first-agree}
 use Rattle.index_file.proofs.TermFaults.{IsAt, docs_cannot_begin, freqs_cannot_begin, InDocs, InFreqs, PassButGreatest}
-use Rattle.index_file.proofs.Fronts.{stand-from, front-pieces, stand-same}
+use Rattle.index_file.proofs.Prefixes.{stand-from, prefix-pieces, stand-same}
 use Rattle.index_file.proofs.Frames.{BreaksBehind, frame-stands}
 use Rattle.index_file.proofs.StatedIndex.{collection-is, parts-are, none-in-index}
 
@@ -59,8 +59,8 @@ closing-one words p f g h k =
 behind-one : (format : FormatNumbers) (room : HasRoom format) → SequenceLaws format → (words : List ℕ) (f g : OpenFault) → frame_broken format words ≡ None → BreaksBehind format words f → BreaksBehind format words g → f ≡ g
 behind-one format room laws words f g e (cs, lc, mf) (ds, ld, mg) =
     let frame = frame-stands format words e in
-    let same : length cs ≡ length ds = omega (arith, lc.longest ds ld.front, ld.longest cs lc.front) in
-    let is : cs ≡ ds = stand-same format room laws words 0 2 cs ds frame (stand-from format words 0 2 cs (front-pieces format words cs lc.front)) (stand-from format words 0 2 ds (front-pieces format words ds ld.front)) same in
+    let same : length cs ≡ length ds = omega (arith, lc.longest ds ld.prefix, ld.longest cs lc.prefix) in
+    let is : cs ≡ ds = stand-same format room laws words 0 2 cs ds frame (stand-from format words 0 2 cs (prefix-pieces format words cs lc.prefix)) (stand-from format words 0 2 ds (prefix-pieces format words ds ld.prefix)) same in
     let p : ℕ = 2 + length (lists_words format cs) in
     let moved : MatchBool (nat_lt (length cs) (stated_terms words)) (IsTermFault format words (length cs) (2 + length (lists_words format cs)) g) (IsClosingFault words (2 + length (lists_words format cs)) g) =
     subst (λ x. MatchBool (nat_lt (length x) (stated_terms words)) (IsTermFault format words (length x) (2 + length (lists_words format x)) g) (IsClosingFault words (2 + length (lists_words format x)) g)) (sym is) mg in

@@ -16,7 +16,7 @@ use Rattle.index_file.specs.IndexView.{IndexView, index_stated, docs_stated, fre
 use Rattle.index_file.specs.ListAt.{HasFrame, StandsAt, StandFrom, word_after}
 use Rattle.index_file.specs.Laws.{SequenceLaws}
 use Rattle.index_file.proofs.Standing.{counts, docs-from, freqs-from}
-use Rattle.index_file.proofs.Fronts.{stand-from, front-pieces}
+use Rattle.index_file.proofs.Prefixes.{stand-from, prefix-pieces}
 use Rattle.index_file.proofs.FilePieces.{half_of}
 use Rattle.index_file.proofs.CutLists.{lists_in, parts_in}
 use Rattle.index_file.proofs.StatedIndex.{opened, size-stated, stated-is}
@@ -100,7 +100,7 @@ opened-list format room laws words c parts h t lt =
     let o = opened format words c parts h in
     let cs : List CutList = with_parts c.lists parts in
     let frame = o.laid.frame in
-    let s = stand-at format words 0 2 cs (stand-from format words 0 2 cs (front-pieces format words cs o.front)) t (omega (arith, lt, o.laid.terms)) in
+    let s = stand-at format words 0 2 cs (stand-from format words 0 2 cs (prefix-pieces format words cs o.prefix)) t (omega (arith, lt, o.laid.terms)) in
     let x : CutList = s.0 in
     let p : ℕ = s.1 in
     let at : StandsAt format words t s.1 s.0 = subst (λ k. StandsAt format words k s.1 s.0) (let e : 0 + t ≡ t = omega arith in e) s.2 in
@@ -114,7 +114,7 @@ opened-cut format room laws words c parts none h t lt =
     let cs : List CutList = with_parts c.lists parts in
     let frame = o.laid.frame in
     let within : t < length cs = omega (arith, lt, o.laid.terms) in
-    let s = stand-at format words 0 2 cs (stand-from format words 0 2 cs (front-pieces format words cs o.front)) t within in
+    let s = stand-at format words 0 2 cs (stand-from format words 0 2 cs (prefix-pieces format words cs o.prefix)) t within in
     let at : StandsAt format words t s.1 s.0 = subst (λ k. StandsAt format words k s.1 s.0) (let e : 0 + t ≡ t = omega arith in e) s.2 in
     let list : s.0.list ≡ list_of c t = sym s.3 ∙ ap (λ l. get_or l t []) o.lists in
     let its_parts : s.0.parts ≡ get_or parts t none = sym (s.4 none) ∙ ap (λ l. get_or l t none) o.parts_are in

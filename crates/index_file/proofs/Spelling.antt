@@ -8,11 +8,11 @@ use Rattle.std.proofs.lemmas.List.FromFn.{length-map-range_with_len, get_or-map-
 use Rattle.collection_model.specs.FormatNumbers.{FormatNumbers, Plain}
 use Rattle.collection_model.specs.Collection.{Collection, IsPostingList}
 use Rattle.index_file.specs.FileWords.{CutList, lists_words, sizes_words, words_of_file, ArePartitions, IsIndexIn}
-use Rattle.index_file.specs.FirstBroken.{stated_documents, stated_terms, stated_sizes, directory_word, IsFileFront}
+use Rattle.index_file.specs.FirstBroken.{stated_documents, stated_terms, stated_sizes, directory_word, IsFilePrefix}
 use Rattle.index_file.specs.IndexView.{size_stated}
 use Rattle.index_file.specs.ListAt.{HasFrame, PassesClosing}
 use Rattle.index_file.proofs.CutLists.{lists_in, parts_in, with-parts-of}
-use Rattle.index_file.proofs.Fronts.{HasDocParts, HasFreqParts}
+use Rattle.index_file.proofs.Prefixes.{HasDocParts, HasFreqParts}
 use Rattle.index_file.proofs.FilePieces.{half, half_of, sizes-stand, words-of}
 
 partitions-of : (cs : List CutList) → All HasDocParts cs → All HasFreqParts cs → ArePartitions (lists_in cs) (parts_in cs)
@@ -58,9 +58,9 @@ sizes-at format words frame filled =
     ∙ filled (omega (arith, k, odd)))
 
 -- words with a frame, lists that stand up to the sizes, and filled sizes are an index
-pub is-index : (format : FormatNumbers) → format.kind ≡ Plain → (words : List ℕ) (cs : List CutList) → ((k : ℕ) → get_or words k 0 < 2 ^ 64) → HasFrame format words → IsFileFront format words cs → length cs ≡ stated_terms words
+pub is-index : (format : FormatNumbers) → format.kind ≡ Plain → (words : List ℕ) (cs : List CutList) → ((k : ℕ) → get_or words k 0 < 2 ^ 64) → HasFrame format words → IsFilePrefix format words cs → length cs ≡ stated_terms words
     → PassesClosing words (2 + length (lists_words format cs)) → IsIndexIn format words
-is-index format plain words cs small frame front all pass =
+is-index format plain words cs small frame prefix all pass =
     let n : ℕ = stated_documents words in
     let c : Collection = record { documents = n; lists = lists_in cs; sizes = sizes_stated words } in
     let count : length (lists_in cs) ≡ length cs = length-map cs (λ c. c.list) in
@@ -72,12 +72,12 @@ is-index format plain words cs small frame front all pass =
         well_formed = record {
           documents = frame.documents;
           terms = omega (arith, count, all, frame.terms);
-          lists = All-map (IsPostingList format n) (λ x. x.list) cs front.lists;
+          lists = All-map (IsPostingList format n) (λ x. x.list) cs prefix.lists;
           size_each = each;
           sizes = sizes-small words small;
         };
-        partitions = partitions-of cs front.doc_parts front.freq_parts;
-        spelled = words-of format words n cs (sizes_stated words) frame refl each (sym all) (sym pass.next) front.sequences (sizes-at format words frame pass.filled) front.directory
+        partitions = partitions-of cs prefix.doc_parts prefix.freq_parts;
+        spelled = words-of format words n cs (sizes_stated words) frame refl each (sym all) (sym pass.next) prefix.sequences (sizes-at format words frame pass.filled) prefix.directory
             ∙ ap (λ l. words_of_file format n l (sizes_stated words)) (sym (with-parts-of cs));
       },
     )

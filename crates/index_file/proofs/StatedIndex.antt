@@ -17,13 +17,13 @@ use Rattle.two_level.specs.Laws.{WordsState}
 use Rattle.two_level.specs.SequenceView.{words_used, sequence_stated}
 use Rattle.index_file.specs.declared.fault.OpenFault.{OpenFault}
 use Rattle.index_file.specs.FileWords.{CutList, ListParts, with_parts, doc_words, lists_words, sizes_words, ArePartitions, Spells, IsIndexIn}
-use Rattle.index_file.specs.FirstBroken.{stated_documents, stated_terms, stated_sizes, directory_word, stated_length, stated_doc_parts, stated_freq_parts, IsFileFront, IsTermFault, IsClosingFault, IsFirstBrokenIn}
+use Rattle.index_file.specs.FirstBroken.{stated_documents, stated_terms, stated_sizes, directory_word, stated_length, stated_doc_parts, stated_freq_parts, IsFilePrefix, IsTermFault, IsClosingFault, IsFirstBrokenIn}
 use Rattle.index_file.specs.IndexView.{size_stated, docs_stated, freqs_stated, collection_stated, parts_stated, index_stated, docs_view, freqs_view}
 use Rattle.index_file.specs.ListAt.{HasFrame, StandsAt, StandFrom, word_after}
 use Rattle.sequence_words.proofs.Choices.{unmatch}
 use Rattle.index_file.specs.Laws.{SequenceLaws}
 use Rattle.index_file.proofs.Standing.{docs-from, freqs-from}
-use Rattle.index_file.proofs.Fronts.{HasDocParts, HasFreqParts, stand-from, front-pieces, stand-same}
+use Rattle.index_file.proofs.Prefixes.{HasDocParts, HasFreqParts, stand-from, prefix-pieces, stand-same}
 use Rattle.index_file.proofs.Lengths.{sizes-length}
 use Rattle.index_file.proofs.FilePieces.{Laid, half_of, sizes-back, sizes-filled, laid-of}
 use Rattle.index_file.proofs.CutLists.{lists_in, parts_in}
@@ -69,7 +69,7 @@ freqs-good (l ∷ lists) (p ∷ parts) h = All-cons HasFreqParts (record { list 
 -- the pieces of an index, in its words
 pub record Opened (format : FormatNumbers) (words : List ℕ) (c : Collection) (parts : List ListParts) : Type 0 where
   pub laid : Laid format words c.documents (with_parts c.lists parts) c.sizes
-  pub front : IsFileFront format words (with_parts c.lists parts)
+  pub prefix : IsFilePrefix format words (with_parts c.lists parts)
   pub lists : lists_in (with_parts c.lists parts) ≡ c.lists
   pub parts_are : parts_in (with_parts c.lists parts) ≡ parts
   pub count : length (with_parts c.lists parts) ≡ length c.lists
@@ -82,7 +82,7 @@ opened format words c parts h =
     let laid : Laid format words c.documents cs c.sizes = laid-of format words c.documents cs c.sizes h.well_formed.documents (omega (arith, count, h.well_formed.terms)) h.well_formed.size_each h.spelled in
     record {
       laid = laid;
-      front = record {
+      prefix = record {
         lists = subst (λ n. All (IsListOver format n) (with_parts c.lists parts)) (sym laid.docs) (lists-good format c.documents c.lists parts h.partitions h.well_formed.lists);
         doc_parts = docs-good c.lists parts h.partitions;
         freq_parts = freqs-good c.lists parts h.partitions;
@@ -164,7 +164,7 @@ pub collection-is : (format : FormatNumbers) (room : HasRoom format) → Sequenc
 collection-is format room laws state words c parts h =
     let o = opened format words c parts h in
     let cs : List CutList = with_parts c.lists parts in
-    let stand : StandFrom format words 0 2 cs = stand-from format words 0 2 cs (front-pieces format words cs o.front) in
+    let stand : StandFrom format words 0 2 cs = stand-from format words 0 2 cs (prefix-pieces format words cs o.prefix) in
     let lists : map (list_stated format words) (range_with_len 0 (stated_terms words)) ≡ c.lists =
     ap (λ n. map (list_stated format words) (range_with_len 0 n)) o.laid.terms ∙ lists-stated format room laws state words 0 2 cs o.laid.frame stand ∙ o.lists in
     ap (λ x. record { documents = x; lists = map (list_stated format words) (range_with_len 0 (stated_terms words)); sizes = map (size_stated words) (range_with_len 0 (stated_documents words)) }) o.laid.docs
@@ -177,7 +177,7 @@ pub parts-are : (format : FormatNumbers) (room : HasRoom format) → SequenceLaw
 parts-are format room laws state words c parts h =
     let o = opened format words c parts h in
     let cs : List CutList = with_parts c.lists parts in
-    let stand : StandFrom format words 0 2 cs = stand-from format words 0 2 cs (front-pieces format words cs o.front) in
+    let stand : StandFrom format words 0 2 cs = stand-from format words 0 2 cs (prefix-pieces format words cs o.prefix) in
     ap (λ n. map (cut_stated format words) (range_with_len 0 n)) o.laid.terms ∙ parts-stated format room laws state words 0 2 cs o.laid.frame stand ∙ o.parts_are
 
 -- an index is the one that its words state, in the format whose version they state
@@ -197,10 +197,10 @@ none-in-index format room laws words f (c, parts, h) broken =
     let frame = o.laid.frame in
     let b = breaks-behind format words f frame broken in
     let ds : List CutList = b.0 in
-    let most : length (with_parts c.lists parts) ≤ length b.0 = b.1.longest cs o.front in
-    let same : length (with_parts c.lists parts) ≡ length b.0 = omega (arith, most, b.1.front.terms, o.laid.terms) in
+    let most : length (with_parts c.lists parts) ≤ length b.0 = b.1.longest cs o.prefix in
+    let same : length (with_parts c.lists parts) ≡ length b.0 = omega (arith, most, b.1.prefix.terms, o.laid.terms) in
     let is : cs ≡ ds =
-    stand-same format room laws words 0 2 cs ds frame (stand-from format words 0 2 cs (front-pieces format words cs o.front)) (stand-from format words 0 2 ds (front-pieces format words ds b.1.front)) same in
+    stand-same format room laws words 0 2 cs ds frame (stand-from format words 0 2 cs (prefix-pieces format words cs o.prefix)) (stand-from format words 0 2 ds (prefix-pieces format words ds b.1.prefix)) same in
     let p : ℕ = 2 + length (lists_words format ds) in
     let closing : IsClosingFault words p f =
     unmatch (nat_lt (length ds) (stated_terms words)) (IsTermFault format words (length ds) p f) (IsClosingFault words p f) (le-ltb (length ds) (stated_terms words) (omega (arith, same, o.laid.terms))) b.2 in

@@ -46,7 +46,7 @@ freqs_cannot_begin format words t p = not (term_word words t 1 == p) || nat_lt (
 abbrev pub PassButGreatest : FormatNumbers → List ℕ → ℕ → ℕ → OpenFault → Type 0
 PassButGreatest format words t p f = StatesWrongGreatest format (up_to_sizes words p) (stated_length words t) (stated_freq_parts words t) (stated_greatest words t) × IsAt f t K10 0
 
--- the first check that breaks behind the front of the documents, and of the frequencies
+-- the first check that breaks behind the prefix of the documents, and of the frequencies
 abbrev pub InDocs : FormatNumbers → List ℕ → ℕ → ℕ → OpenFault → Type 0
 InDocs format words t p f =
     FirstInSequence format (up_to_sizes words p) (stated_doc_parts words t) (stated_length words t) (stated_documents words) (IsAt f t)

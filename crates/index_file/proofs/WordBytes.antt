@@ -29,13 +29,13 @@ bytes-more words bytes word i before next =
     ∙ sym (take-add (i * 8) 8 bytes)
     ∙ ap (λ n. take n bytes) (let e : i * 8 + 8 ≡ (i + 1) * 8 = omega arith in e)
 
--- the bytes of one more word in the front of a piece
+-- the bytes of one more word in the prefix of a piece
 pub spelled-more : (words piece bytes : List ℕ) (i k at n : ℕ) → at ≡ 8 * i → take at piece ≡ word_bytes (take i words) → at ≤ length piece → i < length words
     → bytes ≡ le64 (get_or words i 0) → n ≡ at + 8 → take n (put_mid at k piece bytes) ≡ word_bytes (take (i + 1) words)
-spelled-more words piece bytes i k at n place front within before are next =
+spelled-more words piece bytes i k at n place prefix within before are next =
     let eight : length bytes ≡ 8 = rw are refl in
     take-put_mid at k piece bytes n (omega (arith, eight, next)) within
-    ∙ (λ t. front t ++ are t)
+    ∙ (λ t. prefix t ++ are t)
     ∙ ap (λ bs. word_bytes (take i words) ++ bs) (sym (append-nil (le64 (get_or words i 0))))
     ∙ sym (flat_map-append le64 (take i words) (get_or words i 0 ∷ []))
     ∙ ap word_bytes (sym (take_more words i 0 before))
@@ -73,11 +73,11 @@ spelled-from : (k : ℕ) (bytes : List ℕ) → AreBytes bytes → length bytes 
 spelled-from zero [] are count = ([], All-nil (λ w. w < 2 ^ 64), refl)
 spelled-from zero (b ∷ bytes) are count = absurd (omega arith)
 spelled-from (suc k) bytes are count =
-    let front : length (take 8 bytes) ≡ 8 = omega (arith, length-take 8 bytes) in
+    let prefix : length (take 8 bytes) ≡ 8 = omega (arith, length-take 8 bytes) in
     let word : ℕ = from_le_bytes w64 (take 8 bytes) in
     let bounds : (i : ℕ) → get_or (take 8 bytes) i 0 < 256 = λ i. byte-below (take 8 bytes) i (All-take (λ b. b < 256) 8 bytes are) in
     let rest = spelled-from k (drop 8 bytes) (All-drop (λ b. b < 256) 8 bytes are) (omega (arith, length-drop 8 bytes)) in
-    let is : le64 word ≡ take 8 bytes = le_bytes_8 (take 8 bytes) word front bounds refl in (
+    let is : le64 word ≡ take 8 bytes = le_bytes_8 (take 8 bytes) word prefix bounds refl in (
       word ∷ rest.0,
       All-cons (λ w. w < 2 ^ 64) word rest.0 (omega (arith, bounds 0, bounds 1, bounds 2, bounds 3, bounds 4, bounds 5, bounds 6, bounds 7)) rest.1,
       sym (take-append-drop 8 bytes) ∙ (λ t. sym is t ++ rest.2 t),

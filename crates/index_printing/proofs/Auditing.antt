@@ -46,7 +46,7 @@ pub prints-none : (o : SinkState) → PrintsLine [] o o (Ok tt)
 prints-none o = record {
   tells = refl;
   whole = λ t. sym (append-nil o.written);
-  front = λ t. tt;
+  prefix = λ t. tt;
   write_only_where_it_rose = λ h. let b : ◌≡◌ {A = Printed} (Ok tt) (Err call.Failed) = h in cc;
   count_rises_only_there = inr refl;
   counts_never_fall = (omega arith, omega arith);
@@ -59,7 +59,7 @@ pub prints-more : (x y : List ℕ) (a b c : SinkState) (r : Printed) → PrintsL
 prints-more x y a b c (Ok u) p q = record {
   tells = q.tells ∙ p.tells;
   whole = λ t. q.whole (p.tells ∙ t) ∙ ap (λ w. w ++ y) (p.whole t) ∙ append_assoc a.written x y;
-  front = λ t. tt;
+  prefix = λ t. tt;
   write_only_where_it_rose = λ h. let b : ◌≡◌ {A = Printed} (Ok tt) (Err call.Failed) = h in cc;
   count_rises_only_there = inr (same-count b c a y q ∙ same-count a b a x p);
   counts_never_fall = (omega (arith, p.counts_never_fall.0, q.counts_never_fall.0), omega (arith, p.counts_never_fall.1, q.counts_never_fall.1));
@@ -67,8 +67,8 @@ prints-more x y a b c (Ok u) p q = record {
 prints-more x y a b c (Err e) p q = record {
   tells = q.tells ∙ p.tells;
   whole = λ t. tt;
-  front = λ t.
-      let f = q.front (p.tells ∙ t) in (
+  prefix = λ t.
+      let f = q.prefix (p.tells ∙ t) in (
         length x + f.0,
         omega (arith, f.1, length-append x y),
         f.2 ∙ ap (λ w. w ++ take f.0 y) (p.whole t) ∙ append_assoc a.written x (take f.0 y) ∙ ap (λ w. a.written ++ w) (sym (take-append-add x y f.0)),
@@ -83,7 +83,7 @@ pub prints-stopped : (x y : List ℕ) (a b : SinkState) (e : IoFail) → PrintsL
 prints-stopped x y a b e p = record {
   tells = p.tells;
   whole = λ t. tt;
-  front = λ t. let f = p.front t in (f.0, omega (arith, f.1, length-append x y), f.2 ∙ ap (λ w. a.written ++ w) (sym (take-append-le f.0 x y f.1)));
+  prefix = λ t. let f = p.prefix t in (f.0, omega (arith, f.1, length-append x y), f.2 ∙ ap (λ w. a.written ++ w) (sym (take-append-le f.0 x y f.1)));
   write_only_where_it_rose = p.write_only_where_it_rose;
   count_rises_only_there = p.count_rises_only_there;
   counts_never_fall = p.counts_never_fall;

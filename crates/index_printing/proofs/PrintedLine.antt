@@ -29,7 +29,7 @@ pub not-made : (text : List ℕ) (o : SinkState) → PrintsLine text o o (Err ca
 not-made text o = record {
   tells = refl;
   whole = λ t. tt;
-  front = λ t. (0, omega arith, sym (append-nil o.written));
+  prefix = λ t. (0, omega arith, sym (append-nil o.written));
   write_only_where_it_rose = λ h. let b : ◌≡◌ {A = Printed} (Err call.NoMemory) (Err call.Failed) = h in cc;
   count_rises_only_there = inr refl;
   counts_never_fall = (omega arith, omega arith);
@@ -40,7 +40,7 @@ not-printed : (text : List ℕ) (o o' : SinkState) (fail : IoFail) → WritesAll
 not-printed text o o' call.Failed w = record {
   tells = w.tells;
   whole = λ t. tt;
-  front = λ t. w.front t;
+  prefix = λ t. w.prefix t;
   write_only_where_it_rose = λ h. w.faults.failed_only_where_it_rose refl;
   count_rises_only_there = inl refl;
   counts_never_fall = (w.faults.never_falls, w.refusals);
@@ -48,7 +48,7 @@ not-printed text o o' call.Failed w = record {
 not-printed text o o' call.NoMemory w = record {
   tells = w.tells;
   whole = λ t. tt;
-  front = λ t. w.front t;
+  prefix = λ t. w.prefix t;
   write_only_where_it_rose = λ h. let b : ◌≡◌ {A = Printed} (Err call.NoMemory) (Err call.Failed) = h in cc;
   count_rises_only_there = inr (w.faults.same_at_no_memory refl);
   counts_never_fall = (w.faults.never_falls, w.refusals);
@@ -59,7 +59,7 @@ printed : (text : List ℕ) (o o' : SinkState) → WritesAll o o' text (Ok tt) �
 printed text o o' w = record {
   tells = w.tells;
   whole = λ t. w.whole t;
-  front = λ t. tt;
+  prefix = λ t. tt;
   write_only_where_it_rose = λ h. let b : ◌≡◌ {A = Printed} (Ok tt) (Err call.Failed) = h in cc;
   count_rises_only_there = inr (w.faults.same_at_ok refl);
   counts_never_fall = (w.faults.never_falls, w.refusals);

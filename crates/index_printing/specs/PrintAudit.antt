@@ -7,7 +7,7 @@ use Rattle.index_file.specs.IndexView.{IndexView, cut_lists}
 use Rattle.command_model.specs.AuditText.{CutSequence, sequences_from, sequences_in, has_line, is_longer, IsAuditText, AreAuditLines, fewest_audited, fewest_counted, most_audited, most_counted}
 use Rattle.index_printing.specs.PrintLine.{PrintsLine}
 
--- What printing the audit of an index gives: its text is printed, or a front of it; no more part costs are counted than its sequences allow,
+-- What printing the audit of an index gives: its text is printed, or a prefix of it; no more part costs are counted than its sequences allow,
 -- and where all is printed no fewer than they ask for.
 pub record PrintsAudit (i : IndexView) (old new : SinkState) (before after : ℕ) (result : Result (Unit {0}) IoFail) : Type 0 where
   pub text : List ℕ

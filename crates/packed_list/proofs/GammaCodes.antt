@@ -32,11 +32,11 @@ high-power n some fit =
     omega (arith, digits-hold n fit, ap (λ d. 2 ^ d) is, pow-suc 2 (digits n - 1))
 
 -- zeros and then a one stand in one way only before other bits
-one-front : (a b : ℕ) (xs ys : List ℕ) → replicate a 0 ++ (1 ∷ xs) ≡ replicate b 0 ++ (1 ∷ ys) → (a ≡ b) × (xs ≡ ys)
-one-front zero zero xs ys h = (refl, ap (drop 1) h)
-one-front zero (suc b) xs ys h = absurd (let e : 1 ≡ 0 = ap (λ l. get_or l 0 0) h in omega (arith, e))
-one-front (suc a) zero xs ys h = absurd (let e : 0 ≡ 1 = ap (λ l. get_or l 0 0) h in omega (arith, e))
-one-front (suc a) (suc b) xs ys h = let rest = one-front a b xs ys (ap (drop 1) h) in (ap suc rest.0, rest.1)
+one-prefix : (a b : ℕ) (xs ys : List ℕ) → replicate a 0 ++ (1 ∷ xs) ≡ replicate b 0 ++ (1 ∷ ys) → (a ≡ b) × (xs ≡ ys)
+one-prefix zero zero xs ys h = (refl, ap (drop 1) h)
+one-prefix zero (suc b) xs ys h = absurd (let e : 1 ≡ 0 = ap (λ l. get_or l 0 0) h in omega (arith, e))
+one-prefix (suc a) zero xs ys h = absurd (let e : 0 ≡ 1 = ap (λ l. get_or l 0 0) h in omega (arith, e))
+one-prefix (suc a) (suc b) xs ys h = let rest = one-prefix a b xs ys (ap (drop 1) h) in (ap suc rest.0, rest.1)
 
 -- a gamma code and bits behind it
 spread : (n : ℕ) (behind : List ℕ) → gamma n ++ behind ≡ replicate (digits n - 1) 0 ++ (1 ∷ (field_bits (digits n - 1) (n - 2 ^ (digits n - 1)) ++ behind))
@@ -45,8 +45,8 @@ spread n behind =
     ∙ append_assoc (replicate (digits n - 1) 0) (1 ∷ []) (field_bits (digits n - 1) (n - 2 ^ (digits n - 1)) ++ behind)
 
 -- fields of one width before other bits are of one number only
-pub one-field_front : (w v u : ℕ) (xs ys : List ℕ) → v < 2 ^ w → u < 2 ^ w → field_bits w v ++ xs ≡ field_bits w u ++ ys → (v ≡ u) × (xs ≡ ys)
-one-field_front w v u xs ys fit also h =
+pub one-field_prefix : (w v u : ℕ) (xs ys : List ℕ) → v < 2 ^ w → u < 2 ^ w → field_bits w v ++ xs ≡ field_bits w u ++ ys → (v ≡ u) × (xs ≡ ys)
+one-field_prefix w v u xs ys fit also h =
     let same : field_bits w v ≡ field_bits w u = sym (take_at (field_bits w v) xs w (length-field_bits w v)) ∙ ap (take w) h ∙ take_at (field_bits w u) ys w (length-field_bits w u) in (
       sym (mod-eq_of_lt fit) ∙ sym (value-field_bits w v) ∙ ap bits_value same ∙ value-field_bits w u ∙ mod-eq_of_lt also,
       sym (drop_at (field_bits w v) xs w (length-field_bits w v)) ∙ ap (drop w) h ∙ drop_at (field_bits w u) ys w (length-field_bits w u),
@@ -55,7 +55,7 @@ one-field_front w v u xs ys fit also h =
 pub one-gamma : OneGamma
 one-gamma n m behind others some fit also fits h =
     let z : ℕ = digits n - 1 in
-    let split = one-front z (digits m - 1) _ _ (sym (spread n behind) ∙ h ∙ spread m others) in
+    let split = one-prefix z (digits m - 1) _ _ (sym (spread n behind) ∙ h ∙ spread m others) in
     let same : field_bits z (n - 2 ^ z) ++ behind ≡ field_bits z (m - 2 ^ z) ++ others =
     split.1 ∙ ap (λ k. field_bits k (m - 2 ^ k) ++ others) (sym split.0) in
     let power : 2 ^ (digits m - 1) ≡ 2 ^ z = ap (λ k. 2 ^ k) (sym split.0) in
@@ -63,7 +63,7 @@ one-gamma n m behind others some fit also fits h =
     let high = high-power n some fit in
     let low_too = low-power m also fits in
     let high_too = high-power m also fits in
-    let fields = one-field_front z (n - 2 ^ z) (m - 2 ^ z) behind others (omega (arith, low, high)) (omega (arith, low_too, high_too, power)) same in
+    let fields = one-field_prefix z (n - 2 ^ z) (m - 2 ^ z) behind others (omega (arith, low, high)) (omega (arith, low_too, high_too, power)) same in
     (omega (arith, fields.0, low, low_too, power), fields.1)
 
 zeros-are-bits : (z : ℕ) → AreBits (replicate z 0)

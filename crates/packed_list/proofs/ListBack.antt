@@ -104,11 +104,11 @@ module _ (payloads : TakesItsPayload) (one_part : OneListAtPlace) (stand : Value
       let few : m < 2 ^ 32 = omega (arith, has.few, small) in
       let sizes = length-append (head ++ docs) freqs in
       let sizes_too = length-append head docs in
-      let front : StandAt bits at (head ++ docs) = stands-first bits at (head ++ docs) freqs stands in
-      let back = head-back n words at xs small has (stands-first bits at head docs front) (omega (arith, within, sizes, sizes_too)) in
+      let prefix : StandAt bits at (head ++ docs) = stands-first bits at (head ++ docs) freqs stands in
+      let back = head-back n words at xs small has (stands-first bits at head docs prefix) (omega (arith, within, sizes, sizes_too)) in
       let here : ℕ = at + length head in
       let first = sequence-back payloads one_part stand appended whole one state passes fit m (omega arith) few words tiny (last_doc n) here (doc_sequence xs) doc_ends (docs-stored n xs doc_ends small h.well_formed has h.docs)
-      (stands-second bits at head docs front) (omega (arith, within, sizes, sizes_too)) in
+      (stands-second bits at head docs prefix) (omega (arith, within, sizes, sizes_too)) in
       let there : at + length (head ++ docs) ≡ here + length docs = omega (arith, sizes_too) in
       let behind : StandAt bits (here + length docs) freqs = subst (λ j. StandAt bits j freqs) there (stands-second bits at (head ++ docs) freqs stands) in
       let second = sequence-back payloads one_part stand appended whole one state passes fit m (omega arith) few words tiny (last_sum m g) (here + length docs) (freq_sequence xs) freq_ends (freqs-stored rise n xs freq_ends small h.well_formed has h.freqs)

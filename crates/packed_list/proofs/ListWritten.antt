@@ -3,7 +3,7 @@ use Rattle.std.proofs.Common.{◌≡◌, ℕ, ◌+◌, ◌-◌, ◌<◌, ◌≤�
 use Rattle.std.proofs.lemmas.Bool.{cases_lt}
 use Rattle.std.proofs.lemmas.List.{length-append}
 use Rattle.bit_words.specs.Bits.{AppendsBits, field_bits}
-use Rattle.bit_words.proofs.Fronts.{appends-front, appends-behind, appends-both}
+use Rattle.bit_words.proofs.Prefixes.{appends-prefix, appends-behind, appends-both}
 use Rattle.collection_model.specs.FormatNumbers.{format_three}
 use Rattle.collection_model.specs.Collection.{Posting, greatest_freq}
 use Rattle.part_cost.specs.Payload.{digits}
@@ -78,21 +78,21 @@ room-of-head n p list old small h some =
       length-head-of (length p.docs.now) p.greatest some (omega (arith, has.few, count-docs list p.docs.now h.of_docs, small)) (omega (arith, has.least, h.most)) (omega (arith, has.most, h.most)),
     )
 
--- fronts in the head
-pub front-count : (n : ℕ) (p : ListParts) (list : List Posting) (old new : List ℕ) → IsPartsOf n p list → 1 ≤ length p.docs.now → AppendsBits old new (gamma (length p.docs.now))
+-- prefixes in the head
+pub prefix-count : (n : ℕ) (p : ListParts) (list : List Posting) (old new : List ℕ) → IsPartsOf n p list → 1 ≤ length p.docs.now → AppendsBits old new (gamma (length p.docs.now))
     → AppendsBits old new (list_bits n (length old) list p.doc_ends.now p.sum_ends.now)
-front-count n p list old new h some f =
+prefix-count n p list old new h some f =
     let w = with-head n (length old) p list h some in
     let m : ℕ = length p.docs.now in
-    subst (AppendsBits old new) (sym w.1) (appends-front old new (head-of m p.greatest) w.0 (appends-front old new (gamma m) (gamma p.greatest) f))
+    subst (AppendsBits old new) (sym w.1) (appends-prefix old new (head-of m p.greatest) w.0 (appends-prefix old new (gamma m) (gamma p.greatest) f))
 
-pub front-most : (n : ℕ) (p : ListParts) (list : List Posting) (old a new : List ℕ) → IsPartsOf n p list → 1 ≤ length p.docs.now → a ≡ old ++ gamma (length p.docs.now) → (g : ℕ) → g ≡ p.greatest
+pub prefix-most : (n : ℕ) (p : ListParts) (list : List Posting) (old a new : List ℕ) → IsPartsOf n p list → 1 ≤ length p.docs.now → a ≡ old ++ gamma (length p.docs.now) → (g : ℕ) → g ≡ p.greatest
     → AppendsBits a new (gamma g) → AppendsBits old new (list_bits n (length old) list p.doc_ends.now p.sum_ends.now)
-front-most n p list old a new h some e g is f =
+prefix-most n p list old a new h some e g is f =
     let w = with-head n (length old) p list h some in
     let m : ℕ = length p.docs.now in
     subst (AppendsBits old new) (sym w.1)
-    (appends-front old new (head-of m p.greatest) w.0 (appends-behind old a new (gamma m) (gamma p.greatest) e (subst (λ k. AppendsBits a new (gamma k)) is f)))
+    (appends-prefix old new (head-of m p.greatest) w.0 (appends-behind old a new (gamma m) (gamma p.greatest) e (subst (λ k. AppendsBits a new (gamma k)) is f)))
 
 -- the whole head
 pub head-whole : (old a b : List ℕ) (m j g : ℕ) → a ≡ old ++ gamma m → b ≡ a ++ gamma j → j ≡ g → b ≡ old ++ head-of m g
@@ -109,9 +109,9 @@ single-whole n p list old b new w h one e is f =
     appends-both old b new (head-of (length xs) p.greatest) (field_bits (digits (n - 1)) (slice_index xs 0)) e (f ∙ ap (λ k. b ++ field_bits k (slice_index xs 0)) is)
     ∙ ap (λ bits. old ++ bits) (sym (single-of n (length old) p.greatest list xs p.doc_ends.now p.sum_ends.now h.of_docs h.most one))
 
-pub single-front : (n : ℕ) (p : ListParts) (list : List Posting) (old b new : List ℕ) → IsPartsOf n p list → length p.docs.now ≡ 1 → b ≡ old ++ head-of (length p.docs.now) p.greatest → new ≡ b
+pub single-prefix : (n : ℕ) (p : ListParts) (list : List Posting) (old b new : List ℕ) → IsPartsOf n p list → length p.docs.now ≡ 1 → b ≡ old ++ head-of (length p.docs.now) p.greatest → new ≡ b
     → AppendsBits old new (list_bits n (length old) list p.doc_ends.now p.sum_ends.now)
-single-front n p list old b new h one e f =
+single-prefix n p list old b new h one e f =
     let xs : List ℕ = p.docs.now in
     subst (AppendsBits old new) (sym (single-of n (length old) p.greatest list xs p.doc_ends.now p.sum_ends.now h.of_docs h.most one))
     (appends-some old new (head-of (length xs) p.greatest) (field_bits (digits (n - 1)) (slice_index xs 0)) (f ∙ e))
@@ -170,11 +170,11 @@ module _ (n : ℕ) (p : ListParts) (list : List Posting) (old : List ℕ) (h : I
         length-append head docs,
       )
 
-  pub docs-front : (b new : List ℕ) (last : LastField) → b ≡ old ++ head → last ≡ last_doc n → AppendsBits b new (sequence_bits last (length b) p.docs.now p.doc_ends.now)
+  pub docs-prefix : (b new : List ℕ) (last : LastField) → b ≡ old ++ head → last ≡ last_doc n → AppendsBits b new (sequence_bits last (length b) p.docs.now p.doc_ends.now)
       → AppendsBits old new (list_bits n (length old) list p.doc_ends.now p.sum_ends.now)
-  docs-front b new last e is f =
+  docs-prefix b new last e is f =
       subst (AppendsBits old new) (sym whole)
-      (appends-front old new (head ++ docs) sums (appends-behind old b new head docs e (subst (AppendsBits b new) (docs-here n p old b last e is) f)))
+      (appends-prefix old new (head ++ docs) sums (appends-behind old b new head docs e (subst (AppendsBits b new) (docs-here n p old b last e is) f)))
 
   pub sums-room : (d : List ℕ) (last : LastField) → d ≡ old ++ (head ++ docs) → last ≡ last_sum m p.greatest
       → length d + length (sequence_bits last (length d) p.sums.now p.sum_ends.now) ≤ length old + length (list_bits n (length old) list p.doc_ends.now p.sum_ends.now)
@@ -188,9 +188,9 @@ module _ (n : ℕ) (p : ListParts) (list : List Posting) (old : List ℕ) (h : I
         length-append (head ++ docs) sums,
       )
 
-  pub sums-front : (d new : List ℕ) (last : LastField) → d ≡ old ++ (head ++ docs) → last ≡ last_sum m p.greatest → AppendsBits d new (sequence_bits last (length d) p.sums.now p.sum_ends.now)
+  pub sums-prefix : (d new : List ℕ) (last : LastField) → d ≡ old ++ (head ++ docs) → last ≡ last_sum m p.greatest → AppendsBits d new (sequence_bits last (length d) p.sums.now p.sum_ends.now)
       → AppendsBits old new (list_bits n (length old) list p.doc_ends.now p.sum_ends.now)
-  sums-front d new last e is f =
+  sums-prefix d new last e is f =
       subst (AppendsBits old new) (sym whole) (appends-behind old d new (head ++ docs) sums e (subst (AppendsBits d new) (sums-here n p old d last e is) f))
 
   pub sums-whole : (d new : List ℕ) (last : LastField) → d ≡ old ++ (head ++ docs) → last ≡ last_sum m p.greatest → new ≡ d ++ sequence_bits last (length d) p.sums.now p.sum_ends.now

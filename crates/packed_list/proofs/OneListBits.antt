@@ -21,7 +21,7 @@ use Rattle.postings.specs.Laws.{SequencesGiveTheirList, SequencesRise}
 use Rattle.packed_list.specs.Gamma.{gamma}
 use Rattle.packed_list.specs.ListBits.{last_doc, last_sum, sequence_bits, head_bits, docs_bits, freqs_bits, list_bits, IsStored, IsCutInto}
 use Rattle.packed_list.specs.Laws.{SequenceWordsFit, OnePackedList}
-use Rattle.packed_list.proofs.GammaCodes.{one-gamma, one-field_front}
+use Rattle.packed_list.proofs.GammaCodes.{one-gamma, one-field_prefix}
 use Rattle.packed_list.proofs.OneSequenceBits.{one-sequence-bits}
 
 -- the greatest of some numbers is no less than each, and is among those below a bound
@@ -208,7 +208,7 @@ module _ (payloads : TakesItsPayload) (one_part : OneListAtPlace) (appended : Bi
       let doc : p.doc < n = h.well_formed.in_range 0 0 (omega arith) in
       let doc_too : q.doc < n = k.well_formed.in_range 0 0 (omega arith) in
       let room : n - 1 < 2 ^ digits (n - 1) = digits-hold (n - 1) (omega (arith, small)) in
-      let docs = one-field_front (digits (n - 1)) p.doc q.doc [] [] (omega (arith, doc, room)) (omega (arith, doc_too, room)) (append-nil _ ∙ split.2 ∙ sym (append-nil _)) in
+      let docs = one-field_prefix (digits (n - 1)) p.doc q.doc [] [] (omega (arith, doc, room)) (omega (arith, doc_too, room)) (append-nil _ ∙ split.2 ∙ sym (append-nil _)) in
       let freq : p.freq ≡ q.freq = (let e : max p.freq 0 ≡ max q.freq 0 = split.1 in omega (arith, e)) in
       let same : p ≡ q = ap (λ (d : ℕ). record { doc = d; freq = p.freq }) docs.0 ∙ ap (λ (f : ℕ). record { doc = q.doc; freq = f }) freq in
       (ap (λ r. r ∷ []) same, one-cut doc_ends h.docs ∙ sym (one-cut doc_cuts k.docs), one-cut freq_ends h.freqs ∙ sym (one-cut freq_cuts k.freqs))

@@ -21,23 +21,23 @@ use Rattle.two_level.specs.Laws.{OneSequence}
 use Rattle.packed_list.specs.declared.last_field.LastField.{LastField}
 use Rattle.packed_list.specs.ListBits.{lone_part_bits, parted_bits, sequence_bits, IsStored}
 use Rattle.packed_list.specs.Laws.{SequenceWordsFit}
-use Rattle.packed_list.proofs.GammaCodes.{one-field_front}
+use Rattle.packed_list.proofs.GammaCodes.{one-field_prefix}
 
 -- bits of one length before others
-pub same-fronts : (n : ℕ) (a b xs ys : List ℕ) → length a ≡ n → length b ≡ n → a ++ xs ≡ b ++ ys → (a ≡ b) × (xs ≡ ys)
-same-fronts n a b xs ys p q h = (sym (take_at a xs n p) ∙ ap (take n) h ∙ take_at b ys n q, sym (drop_at a xs n p) ∙ ap (drop n) h ∙ drop_at b ys n q)
+pub same-prefixes : (n : ℕ) (a b xs ys : List ℕ) → length a ≡ n → length b ≡ n → a ++ xs ≡ b ++ ys → (a ≡ b) × (xs ≡ ys)
+same-prefixes n a b xs ys p q h = (sym (take_at a xs n p) ∙ ap (take n) h ∙ take_at b ys n q, sym (drop_at a xs n p) ∙ ap (drop n) h ∙ drop_at b ys n q)
 
 -- the words of which the bits come first, among those of others
-pub words-front-of : BitsOfAppended → WordsOfBits → (ws vs a b : List ℕ) → All (λ w. w < 2 ^ 64) ws → All (λ v. v < 2 ^ 64) vs → length ws ≤ length vs → bits_of ws ++ a ≡ bits_of vs ++ b → take (length ws) vs ≡ ws
-words-front-of appended whole ws vs a b small tiny le e =
+pub words-prefix-of : BitsOfAppended → WordsOfBits → (ws vs a b : List ℕ) → All (λ w. w < 2 ^ 64) ws → All (λ v. v < 2 ^ 64) vs → length ws ≤ length vs → bits_of ws ++ a ≡ bits_of vs ++ b → take (length ws) vs ≡ ws
+words-prefix-of appended whole ws vs a b small tiny le e =
     let n : ℕ = length ws in
-    let front : List ℕ = take n vs in
-    let count : length front ≡ n = length-take-le n vs le in
-    let split : bits_of vs ≡ bits_of front ++ bits_of (drop n vs) = ap bits_of (sym (take-append-drop n vs)) ∙ appended front (drop n vs) in
-    let same = same-fronts (64 * n) (bits_of ws) (bits_of front) a (bits_of (drop n vs) ++ b) (length-bits_of ws) (length-bits_of front ∙ ap (λ k. 64 * k) count)
-    (e ∙ ap (λ bits. bits ++ b) split ∙ append_assoc (bits_of front) (bits_of (drop n vs)) b) in
-    let narrow : All (λ v. v < 2 ^ 64) front = λ k d lt. (let inside = tiny k d (omega (arith, lt, count, le)) in omega (arith, inside, get_or-take n vs k d (omega (arith, lt, count)))) in
-    sym (whole front narrow) ∙ ap words_of (sym same.0) ∙ whole ws small
+    let prefix : List ℕ = take n vs in
+    let count : length prefix ≡ n = length-take-le n vs le in
+    let split : bits_of vs ≡ bits_of prefix ++ bits_of (drop n vs) = ap bits_of (sym (take-append-drop n vs)) ∙ appended prefix (drop n vs) in
+    let same = same-prefixes (64 * n) (bits_of ws) (bits_of prefix) a (bits_of (drop n vs) ++ b) (length-bits_of ws) (length-bits_of prefix ∙ ap (λ k. 64 * k) count)
+    (e ∙ ap (λ bits. bits ++ b) split ∙ append_assoc (bits_of prefix) (bits_of (drop n vs)) b) in
+    let narrow : All (λ v. v < 2 ^ 64) prefix = λ k d lt. (let inside = tiny k d (omega (arith, lt, count, le)) in omega (arith, inside, get_or-take n vs k d (omega (arith, lt, count)))) in
+    sym (whole prefix narrow) ∙ ap words_of (sym same.0) ∙ whole ws small
 
 module _ (payloads : TakesItsPayload) (one_part : OneListAtPlace) (appended : BitsOfAppended) (whole : WordsOfBits) (one : OneSequence format_three) (fit : SequenceWordsFit) (m : ℕ) (many : 2 ≤ m) (few : m < 2 ^ 32) where
   pub relative : (last : LastField) (xs ends : List ℕ) → IsStored last m xs ends → AreRelative (past xs (length xs)) m xs
@@ -60,11 +60,11 @@ module _ (payloads : TakesItsPayload) (one_part : OneListAtPlace) (appended : Bi
   one-lone last xs ys ends cuts a b h k first second e =
       let u : ℕ = past xs (length xs) in
       let v : ℕ = past ys (length ys) in
-      let front = ap (drop 1) e in
-      let split = one-field_front last.width (u - 1 - last.less) (v - 1 - last.less) (part_bits xs u ++ a) (part_bits ys v ++ b)
+      let prefix = ap (drop 1) e in
+      let split = one-field_prefix last.width (u - 1 - last.less) (v - 1 - last.less) (part_bits xs u ++ a) (part_bits ys v ++ b)
       (subst (λ n. past xs n - 1 - last.less < 2 ^ last.width) (sym h.count) (h.fits first))
       (subst (λ n. past ys n - 1 - last.less < 2 ^ last.width) (sym k.count) (k.fits second))
-      (sym (append_assoc (field_bits last.width (u - 1 - last.less)) (part_bits xs u) a) ∙ front ∙ append_assoc (field_bits last.width (v - 1 - last.less)) (part_bits ys v) b) in
+      (sym (append_assoc (field_bits last.width (u - 1 - last.less)) (part_bits xs u) a) ∙ prefix ∙ append_assoc (field_bits last.width (v - 1 - last.less)) (part_bits ys v) b) in
       let low : last.less ≤ u - 1 = subst (λ n. last.less ≤ past xs n - 1) (sym h.count) (h.less first) in
       let low_too : last.less ≤ v - 1 = subst (λ n. last.less ≤ past ys n - 1) (sym k.count) (k.less second) in
       let at = past-at xs (length xs) (omega (arith, h.count, many)) in
@@ -73,7 +73,7 @@ module _ (payloads : TakesItsPayload) (one_part : OneListAtPlace) (appended : Bi
       let r = relative last xs ends h in
       let s : AreRelative u m ys = subst (λ n. AreRelative n m ys) (sym same) (relative last ys cuts k) in
       let wide = universe-fits last xs ends h in
-      let parts = same-fronts (payload u m) (part_bits xs u) (part_bits ys u) a b (payloads u m xs wide r) (payloads u m ys wide s) (split.1 ∙ ap (λ n. part_bits ys n ++ b) (sym same)) in
+      let parts = same-prefixes (payload u m) (part_bits xs u) (part_bits ys u) a b (payloads u m xs wide r) (payloads u m ys wide s) (split.1 ∙ ap (λ n. part_bits ys n ++ b) (sym same)) in
       let bits : List ℕ = part_bits xs u in
       let first : HoldsPart part_bits bits 0 u m xs = record { values = r; stored = take_all (length bits) bits (omega arith) } in
       let second : HoldsPart part_bits bits 0 u m ys =
@@ -95,8 +95,8 @@ module _ (payloads : TakesItsPayload) (one_part : OneListAtPlace) (appended : Bi
   words-fit last xs ends h = fit xs ends h.rising h.below (omega (arith, h.count, few)) (subst (λ n. IsPartition n ends) (sym h.count) h.partition)
 
   -- the words of which the bits come first, among those of others
-  pub words-front : (ws vs a b : List ℕ) → All (λ w. w < 2 ^ 64) ws → All (λ v. v < 2 ^ 64) vs → length ws ≤ length vs → bits_of ws ++ a ≡ bits_of vs ++ b → take (length ws) vs ≡ ws
-  words-front ws vs a b small tiny le e = words-front-of appended whole ws vs a b small tiny le e
+  pub words-prefix : (ws vs a b : List ℕ) → All (λ w. w < 2 ^ 64) ws → All (λ v. v < 2 ^ 64) vs → length ws ≤ length vs → bits_of ws ++ a ≡ bits_of vs ++ b → take (length ws) vs ≡ ws
+  words-prefix ws vs a b small tiny le e = words-prefix-of appended whole ws vs a b small tiny le e
 
   pub begins : (last : LastField) (xs ends words : List ℕ) → IsStored last m xs ends → length (sequence_words format_three xs ends) ≤ length words
       → take (length (sequence_words format_three xs ends)) words ≡ sequence_words format_three xs ends
@@ -112,8 +112,8 @@ module _ (payloads : TakesItsPayload) (one_part : OneListAtPlace) (appended : Bi
   ordered last xs ys ends cuts a b h k same le e =
       let ws : List ℕ = sequence_words format_three xs ends in
       let vs : List ℕ = sequence_words format_three ys cuts in
-      let front = words-front ws vs a b (words-fit last xs ends h) (words-fit last ys cuts k) le e in
-      let both = one m format_three.most_sum format_three.most_sum (length ends) (length ws) (length vs) xs ys ends cuts vs (omega arith) (omega arith) (begins last xs ends vs h le front)
+      let prefix = words-prefix ws vs a b (words-fit last xs ends h) (words-fit last ys cuts k) le e in
+      let both = one m format_three.most_sum format_three.most_sum (length ends) (length ws) (length vs) xs ys ends cuts vs (omega arith) (omega arith) (begins last xs ends vs h le prefix)
       (subst (λ p. BeginsSequence format_three m format_three.most_sum p ys cuts vs (length vs)) (sym same) (begins last ys cuts vs k (omega arith) (take_all (length vs) vs (omega arith)))) in
       (both.0, both.1)
 
@@ -128,16 +128,16 @@ module _ (payloads : TakesItsPayload) (one_part : OneListAtPlace) (appended : Bi
       let room : m < 2 ^ w = digits-hold m (omega (arith, few)) in
       let parts = few-parts 0 m ends h.partition in
       let parts_too = few-parts 0 m cuts k.partition in
-      let split = one-field_front w (length ends) (length cuts) (zeros ++ (bits_of ws ++ a)) (zeros ++ (bits_of vs ++ b)) (omega (arith, room, parts)) (omega (arith, room, parts_too))
+      let split = one-field_prefix w (length ends) (length cuts) (zeros ++ (bits_of ws ++ a)) (zeros ++ (bits_of vs ++ b)) (omega (arith, room, parts)) (omega (arith, room, parts_too))
       (ap (drop 1) (sym (spread at xs ends a h.count) ∙ e ∙ spread at ys cuts b k.count)) in
-      let rest = same-fronts (padding (at + 1 + w)) zeros zeros (bits_of ws ++ a) (bits_of vs ++ b) (length-replicate {A = ℕ} (padding (at + 1 + w)) 0) (length-replicate {A = ℕ} (padding (at + 1 + w)) 0) split.1 in
+      let rest = same-prefixes (padding (at + 1 + w)) zeros zeros (bits_of ws ++ a) (bits_of vs ++ b) (length-replicate {A = ℕ} (padding (at + 1 + w)) 0) (length-replicate {A = ℕ} (padding (at + 1 + w)) 0) split.1 in
       let both : (xs ≡ ys) × (ends ≡ cuts) =
       elim (cases_lt (length vs) (length ws)) [
         | inl less ↦ (let t = ordered last ys xs cuts ends b a k h (sym split.0) (omega (arith, less)) (sym rest.1) in (sym t.0, sym t.1))
         | inr more ↦ ordered last xs ys ends cuts a b h k split.0 more rest.1
       ] in
       let same : ws ≡ vs = ap (λ zs. sequence_words format_three zs ends) both.0 ∙ ap (sequence_words format_three ys) both.1 in
-      (both.0, both.1, (same-fronts (length (bits_of ws)) (bits_of ws) (bits_of vs) a b refl (ap (λ zs. length (bits_of zs)) (sym same)) rest.1).1)
+      (both.0, both.1, (same-prefixes (length (bits_of ws)) (bits_of ws) (bits_of vs) a b refl (ap (λ zs. length (bits_of zs)) (sym same)) rest.1).1)
 
   -- a sequence in its parts
   pub one-sequence-bits : (last : LastField) (at : ℕ) (xs ys ends cuts a b : List ℕ) → IsStored last m xs ends → IsStored last m ys cuts

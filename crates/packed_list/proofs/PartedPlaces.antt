@@ -20,7 +20,7 @@ use Rattle.packed_list.specs.ListPlaces.{IsSequenceBefore, IsPartedHead}
 use Rattle.packed_list.specs.Laws.{SequenceWordsFit}
 use Rattle.packed_list.proofs.GammaBack.{piece-stands}
 use Rattle.packed_list.proofs.LonePlaces.{stands-piece, more-when-one}
-use Rattle.packed_list.proofs.OneSequenceBits.{words-front-of}
+use Rattle.packed_list.proofs.OneSequenceBits.{words-prefix-of}
 
 -- a range is a piece that stands where it begins
 pub range-stands : (bits : List ℕ) (at end : ℕ) (piece : List ℕ) → end ≡ at + length piece → slice_range bits at end ≡ piece → StandAt bits at piece
@@ -141,10 +141,10 @@ parted-found appended last m bound words at end parts start q used xs ends bound
     let size : length (1 ∷ field_bits w n) ≡ 1 + w = omega (arith, length-field_bits w n) in
     let pad : StandAt bits (at + length (1 ∷ field_bits w n)) zeros = subst (λ k. StandAt bits k zeros) (let e : at + 1 + w ≡ at + length (1 ∷ field_bits w n) = omega (arith, size) in e)
     (range-stands bits (at + 1 + w) (64 * start) zeros (omega (arith, h.word, length-replicate {A = ℕ} (padding (at + 1 + w)) 0)) h.zeros) in
-    let front : StandAt bits at ((1 ∷ field_bits w n) ++ zeros) = stands-both bits at (1 ∷ field_bits w n) zeros head pad in
+    let prefix : StandAt bits at ((1 ∷ field_bits w n) ++ zeros) = stands-both bits at (1 ∷ field_bits w n) zeros head pad in
     let place : 64 * start ≡ at + length ((1 ∷ field_bits w n) ++ zeros) = omega (arith, h.word, size, length-append (1 ∷ field_bits w n) zeros, length-replicate {A = ℕ} (padding (at + 1 + w)) 0) in
     let back : StandAt bits (at + length ((1 ∷ field_bits w n) ++ zeros)) (bits_of ws) = subst (λ k. StandAt bits k (bits_of ws)) place (words-stand appended words ws start (omega (arith, h.within, fit)) stored) in
-    let whole : StandAt bits at (parted-of at m xs ends) = stands-both bits at ((1 ∷ field_bits w n) ++ zeros) (bits_of ws) front back in
+    let whole : StandAt bits at (parted-of at m xs ends) = stands-both bits at ((1 ∷ field_bits w n) ++ zeros) (bits_of ws) prefix back in
     let is : sequence_bits last at xs ends ≡ parted-of at m xs ends = parted-by last at m xs ends s.count many in
     let long = length-parted-of at m xs ends in
     let ends_at : 64 * (start + length ws) ≡ at + length (sequence_bits last at xs ends) = omega (arith, ap length is, long, h.word) in
@@ -178,11 +178,11 @@ parted-head last m bound bits at end xs ends some few flag h =
     let head : List ℕ = 1 ∷ field_bits w n in
     let is : sequence_bits last at xs ends ≡ parted-of at m xs ends = parted-by last at m xs ends h.stored.count many in
     let whole : StandAt bits at (parted-of at m xs ends) = subst (StandAt bits at) is (piece-stands bits at (sequence_bits last at xs ends) h.stands) in
-    let front : StandAt bits at (head ++ zeros) = stands-first bits at (head ++ zeros) (bits_of ws) whole in
-    let first : StandAt bits at head = stands-first bits at head zeros front in
+    let prefix : StandAt bits at (head ++ zeros) = stands-first bits at (head ++ zeros) (bits_of ws) whole in
+    let first : StandAt bits at head = stands-first bits at head zeros prefix in
     let number : StandAt bits (at + 1) (field_bits w n) = stands-second bits at (1 ∷ []) (field_bits w n) first in
     let size : length head ≡ 1 + w = omega (arith, length-field_bits w n) in
-    let pad : StandAt bits (at + 1 + w) zeros = subst (λ k. StandAt bits k zeros) (let e : at + length head ≡ at + 1 + w = omega (arith, size) in e) (stands-second bits at head zeros front) in
+    let pad : StandAt bits (at + 1 + w) zeros = subst (λ k. StandAt bits k zeros) (let e : at + length head ≡ at + 1 + w = omega (arith, size) in e) (stands-second bits at head zeros prefix) in
     let room : m < 2 ^ w = digits-hold m (omega (arith, few)) in
     let word : 64 * start ≡ at + 1 + w + padding (at + 1 + w) = omega arith in
     record {
@@ -216,13 +216,13 @@ parted-begins appended whole fits last m bound words at end parts start q xs end
     let piece : StandAt bits (64 * start) (bits_of ws) = subst (λ k. StandAt bits k (bits_of ws)) place (stands-second bits at (head ++ zeros) (bits_of ws) stands) in
     let ends_at : 64 * start + 64 * length ws ≤ end = omega (arith, h.within, ap length is, length-parted-of at m xs ends, got.word) in
     let rest : List ℕ = drop start words in
-    let front : take (length (bits_of ws)) (bits_of rest) ≡ bits_of ws = ap (take (length (bits_of ws))) (sym (bits-behind appended words start (omega (arith, ends_at, fit)))) ∙ piece in
+    let prefix : take (length (bits_of ws)) (bits_of rest) ≡ bits_of ws = ap (take (length (bits_of ws))) (sym (bits-behind appended words start (omega (arith, ends_at, fit)))) ∙ piece in
     let split : bits_of ws ++ drop (length (bits_of ws)) (bits_of rest) ≡ bits_of rest ++ [] =
-    ap (λ zs. zs ++ drop (length (bits_of ws)) (bits_of rest)) (sym front) ∙ take-append-drop (length (bits_of ws)) (bits_of rest) ∙ sym (append-nil (bits_of rest)) in
+    ap (λ zs. zs ++ drop (length (bits_of ws)) (bits_of rest)) (sym prefix) ∙ take-append-drop (length (bits_of ws)) (bits_of rest) ∙ sym (append-nil (bits_of rest)) in
     let fit_words = fits xs ends h.stored.rising h.stored.below (omega (arith, h.stored.count, few)) (subst (λ k. IsPartition k ends) (sym h.stored.count) h.stored.partition) in
     let fit_rest : All (λ v. v < 2 ^ 64) rest = All-drop (λ v. v < 2 ^ 64) start words small in
     let le : length ws ≤ length rest = omega (arith, ends_at, fit, length-drop start words) in
-    let stored : take (length ws) rest ≡ ws = words-front-of appended whole ws rest (drop (length (bits_of ws)) (bits_of rest)) [] fit_words fit_rest le split in
+    let stored : take (length ws) rest ≡ ws = words-prefix-of appended whole ws rest (drop (length (bits_of ws)) (bits_of rest)) [] fit_words fit_rest le split in
     record {
       within = omega (arith, ends_at, at_end, fit, length-take (q - start) rest, length-drop start words);
       sequence = record {

@@ -27,7 +27,7 @@ use Rattle.packed_list.specs.declared.last_field.LastField.{LastField}
 use Rattle.packed_list.specs.ListBits.{lone_part_bits, parted_bits, sequence_bits, IsStored}
 use Rattle.packed_list.specs.ListStated.{SequenceAt, lone_at, parted_at, sequence_at}
 use Rattle.packed_list.specs.Laws.{SequenceWordsFit}
-use Rattle.packed_list.proofs.OneSequenceBits.{relative, universe-fits, words-fit, words-front, begins}
+use Rattle.packed_list.proofs.OneSequenceBits.{relative, universe-fits, words-fit, words-prefix, begins}
 
 -- what a sequence in its parts is, and the place behind its bits
 abbrev pub stated : List ℕ → List ℕ → ℕ → SequenceAt
@@ -88,13 +88,13 @@ module _ (payloads : TakesItsPayload) (one_part : OneListAtPlace) (stand : Value
       let rest : List ℕ = drop p words in
       let room_words : p + length ws ≤ length words = omega (arith, word, long, within, length-bits_of words) in
       let tail : drop (64 * p) bits ≡ bits_of rest = bits-behind p (omega (arith, room_words)) in
-      let front : take (length (bits_of ws)) (bits_of rest) ≡ bits_of ws = ap (take (length (bits_of ws))) (sym tail) ∙ piece in
+      let prefix : take (length (bits_of ws)) (bits_of rest) ≡ bits_of ws = ap (take (length (bits_of ws))) (sym tail) ∙ piece in
       let split : bits_of ws ++ drop (length (bits_of ws)) (bits_of rest) ≡ bits_of rest ++ [] =
-      ap (λ zs. zs ++ drop (length (bits_of ws)) (bits_of rest)) (sym front) ∙ take-append-drop (length (bits_of ws)) (bits_of rest) ∙ sym (append-nil (bits_of rest)) in
+      ap (λ zs. zs ++ drop (length (bits_of ws)) (bits_of rest)) (sym prefix) ∙ take-append-drop (length (bits_of ws)) (bits_of rest) ∙ sym (append-nil (bits_of rest)) in
       let fits = words-fit payloads one_part appended whole one fit m many few last xs ends h in
       let fits_too : All (λ v. v < 2 ^ 64) rest = All-drop (λ v. v < 2 ^ 64) p words small in
       let le : length ws ≤ length rest = omega (arith, room_words, length-drop p words) in
-      let stored : take (length ws) rest ≡ ws = words-front payloads one_part appended whole one fit m many few ws rest (drop (length (bits_of ws)) (bits_of rest)) [] fits fits_too le split in
+      let stored : take (length ws) rest ≡ ws = words-prefix payloads one_part appended whole one fit m many few ws rest (drop (length (bits_of ws)) (bits_of rest)) [] fits fits_too le split in
       let begun : BeginsSequence format_three m format_three.most_sum n xs ends rest (length ws) = begins payloads one_part appended whole one fit m many few last xs ends rest h le stored in
       let view = state m format_three.most_sum n (length ws) xs ends rest (omega arith) begun in
       let used = (passes m format_three.most_sum n (length ws) xs ends rest (omega arith) begun).1 in

@@ -3,7 +3,7 @@ use Rattle.std.proofs.Common.{◌≡◌, ℕ, ◌+◌, ◌-◌, ◌≤◌, List,
 use Rattle.std.proofs.lemmas.List.{length-append, length-replicate}
 use Rattle.bit_words.specs.Bits.{AppendsBits, field_bits, bits_of, padded, padding}
 use Rattle.bit_words.proofs.Value.{length-field_bits}
-use Rattle.bit_words.proofs.Fronts.{appends-front, appends-behind, appends-both}
+use Rattle.bit_words.proofs.Prefixes.{appends-prefix, appends-behind, appends-both}
 use Rattle.collection_model.specs.FormatNumbers.{format_three}
 use Rattle.part_cost.specs.Payload.{digits}
 use Rattle.part_cost.specs.Span.{past}
@@ -23,10 +23,10 @@ length-lone last xs =
     let v : ℕ = past xs (length xs) - 1 - last.less in
     omega (arith, length-append (0 ∷ field_bits last.width v) (part_bits xs (past xs (length xs))), length-field_bits last.width v)
 
--- and then a front of the part
-pub lone-front : (old a b new xs : List ℕ) (last : LastField) (end : ℕ) → past xs (length xs) ≡ end + 1 → a ≡ old ++ (0 ∷ []) → b ≡ a ++ field_bits last.width (end - last.less)
+-- and then a prefix of the part
+pub lone-prefix : (old a b new xs : List ℕ) (last : LastField) (end : ℕ) → past xs (length xs) ≡ end + 1 → a ≡ old ++ (0 ∷ []) → b ≡ a ++ field_bits last.width (end - last.less)
     → AppendsBits b new (part_bits xs (end + 1)) → AppendsBits old new (lone_part_bits last xs)
-lone-front old a b new xs last end is e f h =
+lone-prefix old a b new xs last end is e f h =
     let w : ℕ = last.width in
     let some : AppendsBits old new ((0 ∷ field_bits w (end - last.less)) ++ part_bits xs (end + 1)) =
     appends-behind old b new (0 ∷ field_bits w (end - last.less)) (part_bits xs (end + 1)) (lone-head old a b w (end - last.less) e f) h in
@@ -64,24 +64,24 @@ parted-padded old b c w n e f =
     appends-both old b c (1 ∷ field_bits w n) (replicate (padding (length old + 1 + w)) 0) e
     (f ∙ ap (λ k. b ++ replicate (padding k) 0) (length-number old b w n e))
 
--- fronts of it
-pub front-flag : (old a xs ends : List ℕ) → a ≡ old ++ (1 ∷ []) → AppendsBits old a (parted_bits (length old) xs ends)
-front-flag old a xs ends e =
+-- prefixes of it
+pub prefix-flag : (old a xs ends : List ℕ) → a ≡ old ++ (1 ∷ []) → AppendsBits old a (parted_bits (length old) xs ends)
+prefix-flag old a xs ends e =
     let w : ℕ = digits (length xs) in
     appends-some old a (1 ∷ []) ((field_bits w (length ends) ++ replicate (padding (length old + 1 + w)) 0) ++ bits_of (sequence_words format_three xs ends)) e
 
-pub front-number : (old b xs ends : List ℕ) → b ≡ old ++ (1 ∷ field_bits (digits (length xs)) (length ends)) → AppendsBits old b (parted_bits (length old) xs ends)
-front-number old b xs ends e =
+pub prefix-number : (old b xs ends : List ℕ) → b ≡ old ++ (1 ∷ field_bits (digits (length xs)) (length ends)) → AppendsBits old b (parted_bits (length old) xs ends)
+prefix-number old b xs ends e =
     let w : ℕ = digits (length xs) in
-    appends-front old b (parted-head old w (length ends)) (bits_of (sequence_words format_three xs ends))
+    appends-prefix old b (parted-head old w (length ends)) (bits_of (sequence_words format_three xs ends))
     (appends-some old b (1 ∷ field_bits w (length ends)) (replicate (padding (length old + 1 + w)) 0) e)
 
-pub front-head : (old c xs ends : List ℕ) → c ≡ old ++ parted-head old (digits (length xs)) (length ends) → AppendsBits old c (parted_bits (length old) xs ends)
-front-head old c xs ends e = appends-some old c (parted-head old (digits (length xs)) (length ends)) (bits_of (sequence_words format_three xs ends)) e
+pub prefix-head : (old c xs ends : List ℕ) → c ≡ old ++ parted-head old (digits (length xs)) (length ends) → AppendsBits old c (parted_bits (length old) xs ends)
+prefix-head old c xs ends e = appends-some old c (parted-head old (digits (length xs)) (length ends)) (bits_of (sequence_words format_three xs ends)) e
 
-pub front-words : (old c new xs ends ws : List ℕ) → c ≡ old ++ parted-head old (digits (length xs)) (length ends) → ws ≡ sequence_words format_three xs ends → AppendsBits c new (bits_of ws)
+pub prefix-words : (old c new xs ends ws : List ℕ) → c ≡ old ++ parted-head old (digits (length xs)) (length ends) → ws ≡ sequence_words format_three xs ends → AppendsBits c new (bits_of ws)
     → AppendsBits old new (parted_bits (length old) xs ends)
-front-words old c new xs ends ws e is h =
+prefix-words old c new xs ends ws e is h =
     appends-behind old c new (parted-head old (digits (length xs)) (length ends)) (bits_of (sequence_words format_three xs ends)) e (subst (λ zs. AppendsBits c new (bits_of zs)) is h)
 
 pub all-words : (old c new xs ends ws : List ℕ) → c ≡ old ++ parted-head old (digits (length xs)) (length ends) → ws ≡ sequence_words format_three xs ends → new ≡ c ++ bits_of ws

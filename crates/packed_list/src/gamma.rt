@@ -7,7 +7,7 @@ use bit_words::{BitWriter, Bits};
 use no_memory::NoMemory;
 use part_cost::digits;
 
-/// Appends the gamma code of a number. A refusal leaves a front of it.
+/// Appends the gamma code of a number. A refusal leaves a prefix of it.
 pub fn put_gamma(n: u64, to: &mut BitWriter) -> Result<(), NoMemory>
     requires some { 1 ≤ n }
     requires room { length to.old + gamma_length n < 2 ^ 63 }

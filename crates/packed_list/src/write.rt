@@ -108,7 +108,7 @@ fn append_sequence(
     }
 }
 
-// Appends the bits of a list. A refusal leaves a front of them.
+// Appends the bits of a list. A refusal leaves a prefix of them.
 fn append_list(
     alloc: Global,
     list: &ListParts<'_>,

@@ -15,9 +15,9 @@ record Next (limit b c : ℕ) : Type 0 where
 next : (limit b c : ℕ) (cs : List ℕ) → follow limit b (c ∷ cs) ≡ true → Next limit b c
 next limit b c cs h =
     let parts = and_parts (nat_lt b limit && (c == bound_after limit b)) (follow limit c cs) h in
-    let front = and_parts (nat_lt b limit) (c == bound_after limit b) parts.0 in
-    let below = ltb-true b limit front.0 in
-    let is = eqb-true c (bound_after limit b) front.1 in
+    let prefix = and_parts (nat_lt b limit) (c == bound_after limit b) parts.0 in
+    let below = ltb-true b limit prefix.0 in
+    let is = eqb-true c (bound_after limit b) prefix.1 in
     record { within = below; above = omega (arith, below, is); near = omega (arith, is) }
 
 rest : (limit b c : ℕ) (cs : List ℕ) → follow limit b (c ∷ cs) ≡ true → follow limit c cs ≡ true

@@ -46,10 +46,10 @@ has-room xs up i j h fit = omega (arith, rises xs up i j (omega arith) fit)
 
 payloads-grow : (xs : List ℕ) → IsStrictlyIncreasing xs → PayloadsGrow xs
 payloads-grow xs up h i j k hi ij jk fit =
-    let front = rises xs up h i hi (omega arith) in
+    let prefix = rises xs up h i hi (omega arith) in
     let middle = rises xs up i j (omega arith) (omega arith) in
     let back = rises xs up j k jk fit in
-    payload-grows (universe xs i j) (j - i) (universe xs h k) (k - h) (omega (arith, middle)) (omega arith) (omega (arith, front, middle, back))
+    payload-grows (universe xs i j) (j - i) (universe xs h k) (k - h) (omega (arith, middle)) (omega arith) (omega (arith, prefix, middle, back))
 
 pub costs-grow : (charge : ℕ) (xs : List ℕ) → IsStrictlyIncreasing xs → CostsGrow charge xs
 costs-grow charge xs up h i j k hi ij jk fit = omega (arith, payloads-grow xs up h i j k hi ij jk fit)

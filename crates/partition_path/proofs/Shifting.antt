@@ -76,8 +76,8 @@ module _ (limit : ℕ) (cost : ℕ → ℕ → ℕ) (n : ℕ) where
   -- the part to the next end
   pub next-end : (start : ℕ) (ends : List ℕ) (k : ℕ) → k < length ends → IsPartitionFrom start n (drop k ends) → get_or ends k 0 ≤ n
   next-end start ends k l h =
-      let front : drop k ends ≡ get_or ends k 0 ∷ drop (suc k) ends = drop-cons ends k 0 l in
-      let parts : IsPartitionFrom start n (get_or ends k 0 ∷ drop (suc k) ends) = subst (λ (x : List ℕ). IsPartitionFrom start n x) front h in
+      let prefix : drop k ends ≡ get_or ends k 0 ∷ drop (suc k) ends = drop-cons ends k 0 l in
+      let parts : IsPartitionFrom start n (get_or ends k 0 ∷ drop (suc k) ends) = subst (λ (x : List ℕ). IsPartitionFrom start n x) prefix h in
       ends-within (get_or ends k 0) n (drop (suc k) ends) parts.1
 
 -- every format has more bounds than places where an end is tried, and one

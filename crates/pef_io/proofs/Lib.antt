@@ -1,4 +1,4 @@
-mod Fronts
+mod Prefixes
 mod Loading
 mod Ops
 mod FileLists

@@ -12,59 +12,59 @@ use Rattle.pef_io.specs.declared.load.LoadError.TheVariants.{Read, TooLarge, NoM
 use Rattle.pef_io.specs.Calls.{Rose}
 use Rattle.pef_io.specs.DepotState.{DepotState, SameStarts, OnlyReads, ReadsSlot, SameButCounts}
 use Rattle.pef_io.specs.Loads.{FillsPiece, Loads, TakesBytes, load_error}
-use Rattle.pef_io.proofs.Fronts.{no_more_at_ok}
+use Rattle.pef_io.proofs.Prefixes.{no_more_at_ok}
 use Rattle.pef_io.proofs.OnlyReads.{OnlyReads-same, OnlyReads-then}
 
--- what stands in front after a piece was read into a part of a list
+-- what stands in prefix after a piece was read into a part of a list
 pub read_into : (held k n count : ℕ) (bytes lent piece tail : List ℕ) → lent ≡ bytes → held ≤ length bytes → count ≤ length piece → held + count ≤ n →
     take (held + count) (take n (put_mid held k lent piece ++ tail)) ≡ take held bytes ++ take count piece
 read_into held k n count bytes lent piece tail same within some fits =
-    let front = take held lent in
+    let prefix = take held lent in
     let rest = post_of held k lent in
     take-take (held + count) n (put_mid held k lent piece ++ tail) fits
-    ∙ ap (λ xs. take (held + count) xs) (append_assoc front (piece ++ rest) tail)
-    ∙ ap (λ m. take (m + count) (front ++ ((piece ++ rest) ++ tail))) (sym (length-take-le held lent (omega (arith, ap length same))))
-    ∙ take-append-add front ((piece ++ rest) ++ tail) count
-    ∙ ap (λ xs. front ++ xs) (ap (λ xs. take count xs) (append_assoc piece rest tail) ∙ take-append-le count piece (rest ++ tail) some)
+    ∙ ap (λ xs. take (held + count) xs) (append_assoc prefix (piece ++ rest) tail)
+    ∙ ap (λ m. take (m + count) (prefix ++ ((piece ++ rest) ++ tail))) (sym (length-take-le held lent (omega (arith, ap length same))))
+    ∙ take-append-add prefix ((piece ++ rest) ++ tail) count
+    ∙ ap (λ xs. prefix ++ xs) (ap (λ xs. take count xs) (append_assoc piece rest tail) ∙ take-append-le count piece (rest ++ tail) some)
     ∙ ap (λ xs. take held xs ++ take count piece) same
 
 -- the same of a whole list
-pub put_front : (held k count : ℕ) (bytes piece : List ℕ) → held ≤ length bytes → count ≤ length piece → take (held + count) (put_mid held k bytes piece) ≡ take held bytes ++ take count piece
-put_front held k count bytes piece within some =
-    let front = take held bytes in
+pub put_prefix : (held k count : ℕ) (bytes piece : List ℕ) → held ≤ length bytes → count ≤ length piece → take (held + count) (put_mid held k bytes piece) ≡ take held bytes ++ take count piece
+put_prefix held k count bytes piece within some =
+    let prefix = take held bytes in
     let rest = post_of held k bytes in
-    ap (λ m. take (m + count) (front ++ (piece ++ rest))) (sym (length-take-le held bytes within))
-    ∙ take-append-add front (piece ++ rest) count
-    ∙ ap (λ xs. front ++ xs) (take-append-le count piece rest some)
+    ap (λ m. take (m + count) (prefix ++ (piece ++ rest))) (sym (length-take-le held bytes within))
+    ∙ take-append-add prefix (piece ++ rest) count
+    ∙ ap (λ xs. prefix ++ xs) (take-append-le count piece rest some)
 
 -- the same where no byte came
-pub front_kept : (held k n : ℕ) (bytes lent piece tail : List ℕ) → lent ≡ bytes → held ≤ length bytes → held ≤ n → take held (take n (put_mid held k lent piece ++ tail)) ≡ take held bytes
-front_kept held k n bytes lent piece tail same within fits =
+pub prefix_kept : (held k n : ℕ) (bytes lent piece tail : List ℕ) → lent ≡ bytes → held ≤ length bytes → held ≤ n → take held (take n (put_mid held k lent piece ++ tail)) ≡ take held bytes
+prefix_kept held k n bytes lent piece tail same within fits =
     rw add-zero at (read_into held k n 0 bytes lent piece tail same within (omega arith) (omega arith)) ∙ append-nil (take held bytes)
 
 -- These bytes were read from a slot, and no call failed.
 pub record HasRead (old new : DepotState) (slot : Slot) (bytes : List ℕ) : Type 0 where
-  pub front : IsTrue old.tells → old.left slot ≡ bytes ++ new.left slot
+  pub prefix : IsTrue old.tells → old.left slot ≡ bytes ++ new.left slot
   pub count : new.faults slot ≡ old.faults slot
   pub starts : SameStarts old new
   pub refusals : new.refusals ≡ old.refusals
   pub reads : OnlyReads (λ s. s ≡ slot) old new
 
 -- the same bytes otherwise written
-pub read_front : (old new : DepotState) (slot : Slot) (bytes now : List ℕ) → HasRead old new slot bytes → now ≡ bytes → HasRead old new slot now
-read_front old new slot bytes now h e = let P : List ℕ → Type 0 = λ xs. HasRead old new slot xs in subst P (sym e) h
+pub read_prefix : (old new : DepotState) (slot : Slot) (bytes now : List ℕ) → HasRead old new slot bytes → now ≡ bytes → HasRead old new slot now
+read_prefix old new slot bytes now h e = let P : List ℕ → Type 0 = λ xs. HasRead old new slot xs in subst P (sym e) h
 
 -- a further piece
 pub read_on : (old mid new : DepotState) (slot : Slot) (bytes before after : List ℕ) (result : Result ℕ IoFail) (n : ℕ) → HasRead old mid slot bytes → ReadsSlot mid new slot before after result → result ≡ Ok n → HasRead old new slot (bytes ++ take n after)
 read_on old mid new slot bytes before after result n h r e = record {
-  front = λ t. h.front t ∙ ap (λ xs. bytes ++ xs) (IfOk-at_ok (λ k. mid.left slot ≡ take k after ++ new.left slot) e (r.next_bytes (h.reads.tells ∙ t))) ∙ sym (append_assoc bytes (take n after) (new.left slot));
+  prefix = λ t. h.prefix t ∙ ap (λ xs. bytes ++ xs) (IfOk-at_ok (λ k. mid.left slot ≡ take k after ++ new.left slot) e (r.next_bytes (h.reads.tells ∙ t))) ∙ sym (append_assoc bytes (take n after) (new.left slot));
   count = r.counts.this.same_at_ok (ap is_ok e) ∙ h.count;
   starts = λ s. r.starts s ∙ h.starts s;
   refusals = no_more_at_ok result n e r.counts.refusals.rises_only_there ∙ h.refusals;
   reads = OnlyReads-then h.reads refl r;
 }
 
--- as many bytes were read as came in front
+-- as many bytes were read as came in prefix
 taken : (before bytes after : List ℕ) → before ≡ bytes ++ after → TakesBytes (length bytes) before after
 taken before bytes after e = (
   omega (arith, ap length e, length-append bytes after),
@@ -76,7 +76,7 @@ pub whole : (old mid new : DepotState) (slot : Slot) (limit : ℕ) (bytes before
 whole old mid new slot limit bytes before after items result h r e room few same small = record {
   within = omega (arith, ap length same);
   are_bytes = let P : List ℕ → Type 0 = λ xs. All (λ b. b < 256) xs in subst P (sym same) small;
-  all_bytes = λ t. same ∙ sym (h.front t ∙ ap (λ xs. bytes ++ xs) (none t) ∙ append-nil bytes);
+  all_bytes = λ t. same ∙ sym (h.prefix t ∙ ap (λ xs. bytes ++ xs) (none t) ∙ append-nil bytes);
   none_left = λ t. sym (IfOk-at_ok (λ k. mid.left slot ≡ take k after ++ new.left slot) e (r.next_bytes (h.reads.tells ∙ t))) ∙ none t;
   too_large = λ t was. absurd (not_err TooLarge was);
   other_refusals = λ t. tt;
@@ -101,7 +101,7 @@ refused old mid new slot limit bytes before after result fail h r e few = record
   all_bytes = λ t. tt;
   none_left = λ t. tt;
   too_large = λ t was. absurd (not_large fail was);
-  other_refusals = λ t other. (length bytes, few, taken (old.left slot) bytes (new.left slot) (h.front t ∙ ap (λ xs. bytes ++ xs) (sym (nothing_more t))));
+  other_refusals = λ t other. (length bytes, few, taken (old.left slot) bytes (new.left slot) (h.prefix t ∙ ap (λ xs. bytes ++ xs) (sym (nothing_more t))));
   read_only_where_it_rose = rose fail e;
   count_rises_only_there = count fail e;
   reads = OnlyReads-then h.reads refl r;
@@ -142,13 +142,13 @@ refused old mid new slot limit bytes before after result fail h r e few = record
 -- ---- a piece that is filled
 -- nothing was read
 pub read_nothing : (a : DepotState) (slot : Slot) → HasRead a a slot []
-read_nothing a slot = record { front = λ t. refl; count = refl; starts = λ s. refl; refusals = refl; reads = OnlyReads-same a }
+read_nothing a slot = record { prefix = λ t. refl; count = refl; starts = λ s. refl; refusals = refl; reads = OnlyReads-same a }
 
 -- the piece is full
 pub filled : (old new : DepotState) (slot : Slot) (piece : List ℕ) (held : ℕ) → HasRead old new slot (take held piece) → held ≡ length piece → FillsPiece old new slot piece (Ok held)
 filled old new slot piece held h full = record {
   within = omega arith;
-  next_bytes = h.front;
+  next_bytes = h.prefix;
   at_end = λ t less. absurd (omega arith);
   failed_only_where_it_rose = λ was. absurd (no-fault was);
   count_rises_only_there = inr h.count;
@@ -165,7 +165,7 @@ pub filled-to_end : (old mid new : DepotState) (slot : Slot) (piece now before a
     → held ≤ length now → take held now ≡ take held piece → FillsPiece old new slot now (Ok held)
 filled-to_end old mid new slot piece now before after held result h r e room within same = record {
   within = within;
-  next_bytes = λ t. h.front t ∙ ap (λ xs. take held piece ++ xs) (stays t) ∙ ap (λ xs. xs ++ new.left slot) (sym same);
+  next_bytes = λ t. h.prefix t ∙ ap (λ xs. take held piece ++ xs) (stays t) ∙ ap (λ xs. xs ++ new.left slot) (sym same);
   at_end = λ t less. sym (stays t) ∙ none t;
   failed_only_where_it_rose = λ was. absurd (no-fault was);
   count_rises_only_there = inr (r.counts.this.same_at_ok (ap is_ok e) ∙ h.count);

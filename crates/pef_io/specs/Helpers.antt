@@ -5,15 +5,15 @@ use Rattle.pef_io.specs.Calls.{CountsFaults, Rose}
 use Rattle.pef_io.specs.SinkState.{SinkState}
 use Rattle.pef_io.specs.DepotState.{DepotState, SameFilesBut, SameSlots, SameWriting, CountsWriting}
 
--- The bytes after are those before with a front of the piece.
-abbrev pub AppendsFront : List ℕ → List ℕ → List ℕ → Type 0
-AppendsFront old new piece = (n : ℕ) × (n ≤ length piece) × (new ≡ old ++ take n piece)
+-- The bytes after are those before with a prefix of the piece.
+abbrev pub AppendsPrefix : List ℕ → List ℕ → List ℕ → Type 0
+AppendsPrefix old new piece = (n : ℕ) × (n ≤ length piece) × (new ≡ old ++ take n piece)
 
--- A whole piece is written, or on a refusal a front of it.
+-- A whole piece is written, or on a refusal a prefix of it.
 pub record WritesAll (old new : SinkState) (piece : List ℕ) (result : Result (Unit {0}) IoFail) : Type 0 where
   pub tells : new.tells ≡ old.tells
   pub whole : IsTrue old.tells → OnOk result (new.written ≡ old.written ++ piece)
-  pub front : IsTrue old.tells → OnErr result (AppendsFront old.written new.written piece)
+  pub prefix : IsTrue old.tells → OnErr result (AppendsPrefix old.written new.written piece)
   pub faults : CountsFaults old.faults new.faults result
   pub refusals : old.refusals ≤ new.refusals
   pub no_memory_only_where_it_rose : IsErrOf result NoMemory → Rose old.refusals new.refusals
@@ -27,7 +27,7 @@ HasFile depot name = (bytes : List ℕ) × (depot.file name ≡ Some bytes)
 pub record WritesAllToFile (old new : DepotState) (piece : List ℕ) (result : Result (Unit {0}) IoFail) : Type 0 where
   pub tells : new.tells ≡ old.tells
   pub whole : IsTrue old.tells → OnOk result (unwrap_or (new.file old.name) [] ≡ unwrap_or (old.file old.name) [] ++ piece)
-  pub front : IsTrue old.tells → OnErr result (AppendsFront (unwrap_or (old.file old.name) []) (unwrap_or (new.file old.name) []) piece)
+  pub prefix : IsTrue old.tells → OnErr result (AppendsPrefix (unwrap_or (old.file old.name) []) (unwrap_or (new.file old.name) []) piece)
   pub stays : IsTrue old.tells → HasFile old old.name → HasFile new old.name
   pub other_files : IsTrue old.tells → SameFilesBut old.name old new
   pub slots : SameSlots old new

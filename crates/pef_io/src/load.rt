@@ -73,7 +73,7 @@ pub fn load_bytes<D: Depot>(
 // Makes room behind the bytes held, where there is none: as much again, and at least the first room.
 fn make_room(bytes: &mut Vec<u8>, held: usize) -> Result<(), AllocError>
     requires { held ≤ vec_len bytes.old }
-    ensures front { OnOk result (take held bytes.new.items ≡ take held bytes.old.items) }
+    ensures prefix { OnOk result (take held bytes.new.items ≡ take held bytes.old.items) }
     ensures room { OnOk result (held < vec_len bytes.new) }
     ensures at_most_doubled { OnOk result (vec_len bytes.new ≤ max (vec_len bytes.old) (max (2 * held) FIRST_ROOM)) }
 {

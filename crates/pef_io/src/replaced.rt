@@ -55,7 +55,7 @@ impl<R: Files + AllocGlobal> Replacement<R> {
         }
     }
 
-    // Writes the front of a piece, at least one byte of one that has any.
+    // Writes a prefix of a piece, at least one byte of one that has any.
     pub(crate) fn write(&mut self, piece: &[u8]) -> Option<usize>
         ensures within { IfSome result (λ n. n ≤ length piece.now) }
         ensures not_nothing { 0 < length piece.now → IfSome result (λ n. 0 < n) }

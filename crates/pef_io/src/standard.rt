@@ -78,7 +78,7 @@ impl<W: Write> Sink for StdSink<W> {
     }
 }
 
-// Writes and flushes the front of a piece, at least one byte of one that has any.
+// Writes and flushes a prefix of a piece, at least one byte of one that has any.
 pub(crate) fn write_some<W: Write>(writer: &mut W, piece: &[u8]) -> Option<usize>
     ensures within { IfSome result (λ n. n ≤ length piece.now) }
     ensures not_nothing { 0 < length piece.now → IfSome result (λ n. 0 < n) }

@@ -94,13 +94,13 @@ unfolding list_drawn
 list-ends g s n k e =
     let within : k ≤ n = ends-within g s n k e in
     let split : range_with_len 0 n ≡ range_with_len 0 k ++ range_with_len k (n - k) = range-split 0 k (n - k) n k (omega arith) (omega arith) in
-    let front : filter (λ p. nat_lt p.doc n) (postings_drawn g s k) ≡ postings_drawn g s k = kept-all g s n 0 k (λ j lt. e.below j (omega arith)) in
+    let prefix : filter (λ p. nat_lt p.doc n) (postings_drawn g s k) ≡ postings_drawn g s k = kept-all g s n 0 k (λ j lt. e.below j (omega arith)) in
     let later : (j : ℕ) → k ≤ j → n ≤ document_drawn g s j = λ j le. omega (arith, document-later g s k (j - k) j (omega arith), e.beyond) in
     let back : filter (λ p. nat_lt p.doc n) (map (posting_drawn g s) (range_with_len k (n - k))) ≡ [] = kept-none g s n k (n - k) later in
     ap (λ l. filter (λ p. nat_lt p.doc n) (map (posting_drawn g s) l)) split
     ∙ ap (filter (λ p. nat_lt p.doc n)) (map-append (posting_drawn g s) (range_with_len 0 k) (range_with_len k (n - k)))
     ∙ filter-append (λ p. nat_lt p.doc n) (postings_drawn g s k) (map (posting_drawn g s) (range_with_len k (n - k)))
-    ∙ (λ i. front i ++ back i)
+    ∙ (λ i. prefix i ++ back i)
     ∙ append-nil (postings_drawn g s k)
 
 -- how often a term occurs in the document of posting j

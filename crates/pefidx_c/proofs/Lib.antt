@@ -2,6 +2,6 @@ mod Putting
 mod Refusals
 mod NextLists
 mod Adding
-mod Fronts
+mod Prefixes
 mod NextPosting
 mod Queries

@@ -32,8 +32,8 @@ pub put-more : {A : Type 0} (room now next items : List A) (n m : ℕ) (x d : A)
 put-more room now next items n m x d on in_room in_items so is put =
     let one_on : suc n ≡ m = omega (arith, on) in
     let rest : drop n room ≡ get_or room n x ∷ drop (n + 1) room = drop_more room n x in_room in
-    let front : length (take n items) ≡ n = length-take-le n items (omega arith) in
-    put ∙ ap (λ l. set l n x) (so ∙ ap (λ l. take n items ++ l) rest) ∙ set_at (take n items) (get_or room n x) (drop (n + 1) room) x n front
+    let prefix : length (take n items) ≡ n = length-take-le n items (omega arith) in
+    put ∙ ap (λ l. set l n x) (so ∙ ap (λ l. take n items ++ l) rest) ∙ set_at (take n items) (get_or room n x) (drop (n + 1) room) x n prefix
     ∙ ap (λ y. take n items ++ y ∷ drop (n + 1) room) (sym is) ∙ sym (append_assoc (take n items) (get_or items n d ∷ []) (drop (n + 1) room))
     ∙ (λ i. sym (take-suc items n d in_items) i ++ drop (n + 1) room) ∙ ap (λ k. take k items ++ drop (n + 1) room) one_on ∙ ap (λ k. take m items ++ drop k room) (sym on)
 

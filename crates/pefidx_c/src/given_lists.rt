@@ -67,7 +67,7 @@ pub(crate) fn first_bad(
         let length = lengths[term] as usize;
         let list = part(docs, from, length);
         let counts = part(freqs, from, length);
-        let good = good_front(list, counts, documents);
+        let good = good_prefix(list, counts, documents);
         if good < length {
             return Some(BadPosting {
                 term: term as u32,
@@ -87,8 +87,8 @@ pub(crate) fn part(numbers: &[u32], from: usize, count: usize) -> &[u32]
     &numbers[from..from + count]
 }
 
-// How many postings the longest front has that is a posting list.
-fn good_front(docs: &[u32], freqs: &[u32], documents: u32) -> usize
+// How many postings the longest prefix has that is a posting list.
+fn good_prefix(docs: &[u32], freqs: &[u32], documents: u32) -> usize
     requires same_length { length docs.now ≡ length freqs.now }
     ensures within { result ≤ length docs.now }
     ensures good { IsPostingList format_two documents (take result (postings_of docs.now freqs.now)) }

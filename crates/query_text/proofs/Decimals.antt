@@ -19,9 +19,9 @@ grows : (n : ℕ) (ds : List ℕ) → n ≤ fold then_digit n ds
 grows n [] = omega arith
 grows n (d ∷ ds) = omega (arith, grows (10 * n + (d - 48)) ds)
 
--- so the value of a front is at most that of the whole
-value-front : (ds : List ℕ) (i : ℕ) → decimal_value (take i ds) ≤ decimal_value ds
-value-front ds i =
+-- so the value of a prefix is at most that of the whole
+value-prefix : (ds : List ℕ) (i : ℕ) → decimal_value (take i ds) ≤ decimal_value ds
+value-prefix ds i =
     let whole : fold then_digit 0 ds ≡ fold then_digit (decimal_value (take i ds)) (drop i ds) =
     ap (fold then_digit 0) (sym (take-append-drop i ds)) ∙ fold-append then_digit 0 (take i ds) (drop i ds) in
     omega (arith, grows (decimal_value (take i ds)) (drop i ds), whole)
@@ -38,11 +38,11 @@ some_of true true c v h k l = ap (λ t. cond t (Some v) None) l
 some_of true false c v h k l = cc
 some_of false b c v h k l = cc
 
--- a field whose front spells too great a number is none
+-- a field whose prefix spells too great a number is none
 pub number-too_great : (ds : List ℕ) (i value : ℕ) → i < length ds → value ≡ decimal_value (take i ds) →
     4294967295 < 10 * value + (get_or ds i 0 - 48) → None ≡ number_of ds
 number-too_great ds i value lt spells great =
-    let over : 4294967295 < decimal_value ds = omega (arith, value-more ds i lt, value-front ds (i + 1), spells) in
+    let over : 4294967295 < decimal_value ds = omega (arith, value-more ds i lt, value-prefix ds (i + 1), spells) in
     let no : nat_le (decimal_value ds) 4294967295 ≡ false = lt-leb _ _ over in
     sym (none_of (nat_lt 0 (length ds)) (list_all is_ascii_digit ds) (nat_le (decimal_value ds) 4294967295) (decimal_value ds) no)
 

@@ -27,15 +27,15 @@ seen_and-start (Some ns) = refl
 pub seen_and-end : {X : Type 0} (seen : List X) (whole rest : Option (List X)) → whole ≡ seen_and seen rest → rest ≡ Some [] → whole ≡ Some seen
 seen_and-end seen whole rest e done = e ∙ ap (seen_and seen) done ∙ ap Some (append-nil seen)
 
--- what is kept of the front stands for it before what follows
-take-front : {X : Type 0} (n : ℕ) (xs ys : List X) → take n (take n xs ++ ys) ≡ take n (xs ++ ys)
-take-front zero xs ys = refl
-take-front (suc n) [] ys = refl
-take-front {X} (suc n) (x ∷ xs) ys = ap (λ (l : List X). x ∷ l) (take-front n xs ys)
+-- what is kept of the prefix stands for it before what follows
+take-prefix : {X : Type 0} (n : ℕ) (xs ys : List X) → take n (take n xs ++ ys) ≡ take n (xs ++ ys)
+take-prefix zero xs ys = refl
+take-prefix (suc n) [] ys = refl
+take-prefix {X} (suc n) (x ∷ xs) ys = ap (λ (l : List X). x ∷ l) (take-prefix n xs ys)
 
 -- one more kept, where there is room
 pub kept-more : {X : Type 0} (n : ℕ) (seen kept more : List X) (x : X) → kept ≡ take n seen → more ≡ take n (kept ++ x ∷ []) → more ≡ take n (seen ++ x ∷ [])
-kept-more {X} n seen kept more x so is = is ∙ ap (λ (l : List X). take n (l ++ x ∷ [])) so ∙ take-front n seen (x ∷ [])
+kept-more {X} n seen kept more x so is = is ∙ ap (λ (l : List X). take n (l ++ x ∷ [])) so ∙ take-prefix n seen (x ∷ [])
 
 pub and-true : (b : Bool) → (b && true) ≡ b
 and-true true = refl

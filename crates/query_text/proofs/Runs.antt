@@ -10,7 +10,7 @@ use Rattle.query_text.specs.Lines.{fields, pieces, before_pieces, space}
 abbrev pub has_bytes : List ℕ → Bool
 has_bytes p = not (length p == 0)
 
--- a space in front changes no field
+-- a space in prefix changes no field
 fields-space : (b : ℕ) (bs : List ℕ) → (b == space) ≡ true → fields (b ∷ bs) ≡ fields bs
 fields-space b bs e = ap (λ t. filter has_bytes (before_pieces t b (pieces space bs))) e
 

@@ -35,13 +35,13 @@ fn reply_room(alloc: Global, count: usize, each: usize) -> Result<Vec<u8>, NoMem
 }
 
 // A text without so many bytes at its front.
-fn without_front(text: Vec<u8>, front: usize) -> Vec<u8>
-    requires { front ≤ length text.items }
-    ensures { result.items ≡ drop front text.items }
+fn without_prefix(text: Vec<u8>, prefix: usize) -> Vec<u8>
+    requires { prefix ≤ length text.items }
+    ensures { result.items ≡ drop prefix text.items }
 {
     let mut text = text;
-    let left = text.len() - front;
-    text.copy_within(front.., 0);
+    let left = text.len() - prefix;
+    text.copy_within(prefix.., 0);
     text.truncate(left);
     text
 }
@@ -86,7 +86,7 @@ pub fn list_reply(alloc: Global, docs: &[u32]) -> Result<Vec<u8>, NoMemory>
         at = write_after(b' ', u64::from(docs[left]), text, at);
     }
     let start = write_digits(docs.len() as u64, text, at);
-    Ok(without_front(room, start))
+    Ok(without_prefix(room, start))
 }
 
 /// The reply to `top`: how many documents, and each with its score. It is written from its end on.
@@ -104,7 +104,7 @@ pub fn top_reply(alloc: Global, top: &[(u32, u64)]) -> Result<Vec<u8>, NoMemory>
         at = write_after(b' ', u64::from(doc), text, middle);
     }
     let start = write_digits(top.len() as u64, text, at);
-    Ok(without_front(room, start))
+    Ok(without_prefix(room, start))
 }
 
 /// The reply to a line that breaks a rule.

@@ -99,8 +99,8 @@ pub read-pieces : (bits : List ℕ) (place u q : ℕ) (ys : List ℕ) → place 
 read-pieces bits place u q ys placed some h stands =
     let width : ℕ = digits (length ys) in
     let any : 1 ≤ u = omega (arith, h.last) in
-    let front : StandAt bits place (marks ys u) = stands-first bits place (marks ys u) (map_samples q ys u) stands in
-    let is : window bits place u ≡ marks ys u = ap (λ n. take n (drop place bits)) (sym (length-marks ys u)) ∙ front in
+    let prefix : StandAt bits place (marks ys u) = stands-first bits place (marks ys u) (map_samples q ys u) stands in
+    let is : window bits place u ≡ marks ys u = ap (λ n. take n (drop place bits)) (sym (length-marks ys u)) ∙ prefix in
     let rest : StandAt bits (place + length (marks ys u)) (flat_map (field_bits width) (counts q ys u)) =
     subst (λ xs. StandAt bits (place + length (marks ys u)) xs) (sym (samples-are q ys u)) (stands-second bits place (marks ys u) (map_samples q ys u) stands) in
     record {

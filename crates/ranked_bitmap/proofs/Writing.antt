@@ -6,7 +6,7 @@ use Rattle.std.proofs.lemmas.List.{length-append, length-take-le, take_all}
 use Rattle.std.proofs.Math.Nat.{mul-le-mul_left}
 use Rattle.bit_words.specs.Bits.{AppendsBits, field_bits}
 use Rattle.bit_words.proofs.Pieces.{length-fields}
-use Rattle.bit_words.proofs.Fronts.{appends-front, appends-behind, appends-both, pieces-more, pieces-front}
+use Rattle.bit_words.proofs.Prefixes.{appends-prefix, appends-behind, appends-both, pieces-more, pieces-prefix}
 use Rattle.bit_words.proofs.OnesWritten.{IsOneNext}
 use Rattle.bit_words.proofs.Value.{each_bit}
 use Rattle.part_cost.proofs.Numbers.{rises}
@@ -68,10 +68,10 @@ sample-more old to q ys u j count lt is e =
     let width : ℕ = digits (length ys) in
     ap (λ n. to ++ field_bits width n) is ∙ pieces-more (field_bits width) old to (counts q ys u) j 0 (omega (arith, length-counts q ys u)) e
 
--- the first samples are a front of all
-pub samples-front : (old to : List ℕ) (q : ℕ) (ys : List ℕ) (u j : ℕ) → to ≡ old ++ first_samples q ys u j → AppendsBits old to (map_samples q ys u)
-samples-front old to q ys u j e =
-    subst (λ xs. AppendsBits old to xs) (samples-are q ys u) (pieces-front (field_bits (digits (length ys))) old to (counts q ys u) j e)
+-- the first samples are a prefix of all
+pub samples-prefix : (old to : List ℕ) (q : ℕ) (ys : List ℕ) (u j : ℕ) → to ≡ old ++ first_samples q ys u j → AppendsBits old to (map_samples q ys u)
+samples-prefix old to q ys u j e =
+    subst (λ xs. AppendsBits old to xs) (samples-are q ys u) (pieces-prefix (field_bits (digits (length ys))) old to (counts q ys u) j e)
 
 -- a sample has room behind those before it
 pub room-more : (width j n : ℕ) → j < n → width * j + width ≤ width * n
@@ -98,8 +98,8 @@ pub part-whole : (q u : ℕ) (old mid new ys : List ℕ) → mid ≡ old ++ mark
 part-whole q u old mid new ys first second =
     appends-both old mid new (marks ys u) (map_samples q ys u) first second ∙ ap (λ xs. old ++ xs) (sym (part-is q u ys))
 
-pub part-front : (q u : ℕ) (old new ys : List ℕ) → AppendsBits old new (marks ys u) → AppendsBits old new (map_bits q ys u)
-part-front q u old new ys h = subst (λ xs. AppendsBits old new xs) (sym (part-is q u ys)) (appends-front old new (marks ys u) (map_samples q ys u) h)
+pub part-prefix : (q u : ℕ) (old new ys : List ℕ) → AppendsBits old new (marks ys u) → AppendsBits old new (map_bits q ys u)
+part-prefix q u old new ys h = subst (λ xs. AppendsBits old new xs) (sym (part-is q u ys)) (appends-prefix old new (marks ys u) (map_samples q ys u) h)
 
 pub part-behind : (q u : ℕ) (old mid new ys : List ℕ) → mid ≡ old ++ marks ys u → AppendsBits mid new (map_samples q ys u) → AppendsBits old new (map_bits q ys u)
 part-behind q u old mid new ys first h =

@@ -130,7 +130,7 @@ module _ (files : List NamedFile) (at : ℕ) (a b c : DepotState) (apart : AreAp
       before = before-stay v;
       this = λ t. elim v.refused [
         | inl u ↦ inl (u.files (told-on t) it.name ∙ here t)
-        | inr front ↦ (let f = front (told-on t) in inr (f.0, f.1))
+        | inr prefix ↦ (let f = prefix (told-on t) in inr (f.0, f.1))
       ];
       behind = behind-stay v;
       others = rest-stays v;

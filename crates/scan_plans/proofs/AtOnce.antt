@@ -18,14 +18,14 @@ doc-below list good d has = elim (cases_lt d 4294967295) as (λ _. d < 429496729
 ]
 
 -- a mark of the first words
-pub marked-front : (words : ℕ) (marks : List ℕ) (k : ℕ) → k < 64 * words → is_marked (take words marks) k ≡ is_marked marks k
-marked-front words marks k lt = ap (λ (w : ℕ). eqb (bit_at w (k % 64)) 1) (get_or-take words marks (k / 64) 0 (omega arith))
+pub marked-prefix : (words : ℕ) (marks : List ℕ) (k : ℕ) → k < 64 * words → is_marked (take words marks) k ≡ is_marked marks k
+marked-prefix words marks k lt = ap (λ (w : ℕ). eqb (bit_at w (k % 64)) 1) (get_or-take words marks (k / 64) 0 (omega arith))
 
 -- what is marked after each list has taken back its own
 pub told-in_all : (words : ℕ) (marks told old : List ℕ) (first : ℕ) (list : List Posting) (others : List (List Posting)) (k : ℕ) → k < 64 * words → is_marked old k ≡ true
     → is_marked told k ≡ (is_marked old k && has_doc (first + k) list) → is_marked marks k ≡ (is_marked told k && in_each (first + k) others) → is_marked (take words marks) k ≡ in_each (first + k) (list ∷ others)
 told-in_all words marks told old first list others k lt all here there =
-    marked-front words marks k lt ∙ there ∙ ap (λ (b : Bool). b && in_each (first + k) others) (here ∙ ap (λ (b : Bool). b && has_doc (first + k) list) all)
+    marked-prefix words marks k lt ∙ there ∙ ap (λ (b : Bool). b && in_each (first + k) others) (here ∙ ap (λ (b : Bool). b && has_doc (first + k) list) all)
 
 -- a document of all lists is below the greatest number
 pub shared-below : (list : List Posting) (others : List (List Posting)) → IsCursorList list → (d : ℕ) → in_each d (list ∷ others) ≡ true → d < 4294967295

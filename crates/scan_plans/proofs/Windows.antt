@@ -31,21 +31,21 @@ scores-step list place first i count cs os weights old new item same within weig
 
 -- ---- a list of which a piece was written
 module _ {V : Type 0} (at n k : ℕ) (now piece : List V) (d : V) where
-  front-long : at ≤ length now → length (take at now) ≡ at
-  front-long within = length-take-le at now within
+  prefix-long : at ≤ length now → length (take at now) ≡ at
+  prefix-long within = length-take-le at now within
 
   piece-before : k < at → at ≤ length now → get_or (put_mid at n now piece) k d ≡ get_or now k d
-  piece-before lt within = get_or_append_left (take at now) (piece ++ drop n (drop at now)) d k (omega (arith, front-long within)) ∙ get_or-take at now k d lt
+  piece-before lt within = get_or_append_left (take at now) (piece ++ drop n (drop at now)) d k (omega (arith, prefix-long within)) ∙ get_or-take at now k d lt
 
   piece-inside : at ≤ k → k < at + length piece → at ≤ length now → get_or (put_mid at n now piece) k d ≡ get_or piece (k - at) d
   piece-inside from lt within =
-      get_or-append_right (take at now) (piece ++ drop n (drop at now)) at k d (front-long within) from
+      get_or-append_right (take at now) (piece ++ drop n (drop at now)) at k d (prefix-long within) from
       ∙ get_or_append_left piece (drop n (drop at now)) d (k - at) (omega arith)
 
   piece-behind : at + n ≤ k → length piece ≡ n → at ≤ length now → get_or (put_mid at n now piece) k d ≡ get_or now k d
   piece-behind from long within =
       let place : at + (n + (k - at - n)) ≡ k = omega arith in
-      get_or-append_right (take at now) (piece ++ drop n (drop at now)) at k d (front-long within) (omega arith)
+      get_or-append_right (take at now) (piece ++ drop n (drop at now)) at k d (prefix-long within) (omega arith)
       ∙ get_or-append_right piece (drop n (drop at now)) n (k - at) d long (omega arith)
       ∙ get_or-drop n (drop at now) (k - at - n) d
       ∙ get_or-drop at now (n + (k - at - n)) d

@@ -28,8 +28,8 @@ use Rattle.command_ends.proofs.IndexRead.{one_first, whole}
 -- ---- collections that fit together
 
 -- the first of them fit together
-fits_front : (k : ℕ) (cs : List Collection) → FitTogether cs → FitTogether (take k cs)
-fits_front k cs fit = record {
+fits_prefix : (k : ℕ) (cs : List Collection) → FitTogether cs → FitTogether (take k cs)
+fits_prefix k cs fit = record {
   terms = terms k cs (All-take (λ c. length c.lists ≡ terms_in cs) k cs fit.terms);
   documents = omega (arith, fit.documents, sum_by-take-le (λ (c : Collection). c.documents) cs k);
 }
@@ -72,7 +72,7 @@ before names depot cs s f le = record {
       let inside : k < s = omega (arith, within, length-take s names) in
       subst (λ name. FindsIndexOf name depot (get_or (take s cs) k no_collection)) (sym (get_or-take s names k [] inside))
       (subst (FindsIndexOf (get_or names k []) depot) (sym (get_or-take s cs k no_collection inside)) (f.each k (omega (arith, inside, le))));
-  fit = fits_front s cs f.fit;
+  fit = fits_prefix s cs f.fit;
 }
 
 -- each that is not behind the first k comes behind accepted ones

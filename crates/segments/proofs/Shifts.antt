@@ -89,7 +89,7 @@ block-fits first list place end count given small good is = λ k d within.
 pub block-shifted : (first : ℕ) (list : List Posting) (place end count : ℕ) (given new : List ℕ) → AreNextBelow (docs_of list) place (end - first) given count → length new ≡ length (take count given)
     → ((j : ℕ) → j < length (take count given) → slice_index new j ≡ first + slice_index (take count given) j) → AreNextBelow (docs_of (shifted first list)) place end (new ++ drop count given) count
 block-shifted first list place end count given new is same on =
-    let front : length (take count given) ≡ count = length-take-le count given is.room in
+    let prefix : length (take count given) ≡ count = length-take-le count given is.room in
     shifted-below first list place end count given (new ++ drop count given) is
-    (omega (arith, length-append new (drop count given), same, front, length-drop count given, is.room))
-    (λ j lt. omega (arith, get_or_append_left new (drop count given) 0 j (omega (arith, same, front)), on j (omega (arith, front)), get_or-take count given j 0 lt))
+    (omega (arith, length-append new (drop count given), same, prefix, length-drop count given, is.room))
+    (λ j lt. omega (arith, get_or_append_left new (drop count given) 0 j (omega (arith, same, prefix)), on j (omega (arith, prefix)), get_or-take count given j 0 lt))

@@ -73,13 +73,13 @@ unshifted p [] = refl
 unshifted p (y ∷ ys) =
     ap (λ v. v ∷ map (λ x. x - p) (map (λ y. y + p) ys)) (let e : y + p - p ≡ y = omega arith in e) ∙ ap (λ vs. y ∷ vs) (unshifted p ys)
 
--- the value before a place stands in the front up to it
+-- the value before a place stands in the prefix up to it
 pub past-take : (n : ℕ) (xs : List ℕ) → past (take n xs) n ≡ past xs n
 past-take zero xs = refl
 past-take (suc n) xs = ap (λ x. x + 1) (get_or-take (suc n) xs n 0 (omega arith))
 
 -- values that stand before part q
-pub record Front (format : FormatNumbers) (words : List ℕ) (bound q : ℕ) (pre : List ℕ) : Type 0 where
+pub record Prefix (format : FormatNumbers) (words : List ℕ) (bound q : ℕ) (pre : List ℕ) : Type 0 where
   pub count : length pre ≡ end_before format words q
   pub begins : past pre (length pre) ≡ past_before format words q
   pub rising : IsStrictlyIncreasing pre
@@ -113,9 +113,9 @@ begins-more format words parts m bound q pre ys k r =
     )
 
 -- one part more
-pub front-more : (format : FormatNumbers) (words : List ℕ) (parts m bound q : ℕ) (pre ys : List ℕ) → Front format words bound q pre → FollowsAt format words parts m bound q
-    → AreRelative (stated_universe format words q) (stated_count format words q) ys → Front format words bound (suc q) (pre ++ map (λ y. y + past_before format words q) ys)
-front-more format words parts m bound q pre ys f k r =
+pub prefix-more : (format : FormatNumbers) (words : List ℕ) (parts m bound q : ℕ) (pre ys : List ℕ) → Prefix format words bound q pre → FollowsAt format words parts m bound q
+    → AreRelative (stated_universe format words q) (stated_count format words q) ys → Prefix format words bound (suc q) (pre ++ map (λ y. y + past_before format words q) ys)
+prefix-more format words parts m bound q pre ys f k r =
     let p : ℕ = past_before format words q in
     let zs : List ℕ = map (λ y. y + p) ys in
     let n : ℕ = length pre in
@@ -135,7 +135,7 @@ front-more format words parts m bound q pre ys f k r =
 pub record Built (format : FormatNumbers) (words : List ℕ) (parts m bound q : ℕ) (pre : List ℕ) : Type 0 where
   pub values : List ℕ
   pub ends : List ℕ
-  pub front : take (length pre) values ≡ pre
+  pub prefix : take (length pre) values ≡ pre
   pub rising : IsStrictlyIncreasing values
   pub below : All (λ x. x < bound) values
   pub count : length values ≡ m
@@ -146,10 +146,10 @@ pub record Built (format : FormatNumbers) (words : List ℕ) (parts m bound q : 
   pub takes : payload_before format words q + length (payload_from values (end_before format words q) ends) ≡ payload_before format words parts
 
 -- the words of an entry, and those behind it
-pub entry-front : (format : FormatNumbers) (words : List ℕ) (q n : ℕ) → All (λ w. w < 2 ^ 64) words → entry_words format * q + entry_words format ≤ length words
+pub entry-prefix : (format : FormatNumbers) (words : List ℕ) (q n : ℕ) → All (λ w. w < 2 ^ 64) words → entry_words format * q + entry_words format ≤ length words
     → take (entry_words format * suc n) (drop (entry_words format * q) words)
     ≡ entry format (stated_last format words q) (stated_end format words q) (stated_offset format words q) ++ take (entry_words format * n) (drop (entry_words format * suc q) words)
-entry-front format words q n small room =
+entry-prefix format words q n small room =
     let at : ℕ = entry_words format * q in
     let rest : List ℕ = drop (at + entry_words format) words in
     let these : List ℕ = entry format (stated_last format words q) (stated_end format words q) (stated_offset format words q) in
@@ -159,7 +159,7 @@ entry-front format words q n small room =
     ∙ take-append-add these rest (entry_words format * n)
     ∙ ap (λ i. these ++ take (entry_words format * n) (drop i words)) (let e : at + entry_words format ≡ entry_words format * suc q = omega arith in e)
 
-pub built-more : (format : FormatNumbers) (room : HasRoom format) → PartLaws → (words : List ℕ) (parts m bound q : ℕ) (pre ys : List ℕ) → bound ≤ format.most_sum → All (λ w. w < 2 ^ 64) words → entry_words format * q + entry_words format ≤ length words → Front format words bound q pre → FollowsAt format words parts m bound q
+pub built-more : (format : FormatNumbers) (room : HasRoom format) → PartLaws → (words : List ℕ) (parts m bound q : ℕ) (pre ys : List ℕ) → bound ≤ format.most_sum → All (λ w. w < 2 ^ 64) words → entry_words format * q + entry_words format ≤ length words → Prefix format words bound q pre → FollowsAt format words parts m bound q
     → HoldsPart part_bits (bits_of words) (first_bit format parts + payload_before format words q) (stated_universe format words q) (stated_count format words q) ys
     → Built format words parts m bound (suc q) (pre ++ map (λ y. y + past_before format words q) ys) → Built format words parts m bound q pre
 built-more format room laws words parts m bound q pre ys fits small within f k held b =
@@ -172,18 +172,18 @@ built-more format room laws words parts m bound q pre ys fits small within f k h
     let base : ℕ = first_bit format parts in
     let zs : List ℕ = map (λ y. y + p) ys in
     let xs : List ℕ = b.values in
-    let next : Front format words bound (suc q) (pre ++ zs) = front-more format words parts m bound q pre ys f k held.values in
-    let front : take (length pre) xs ≡ pre =
-    sym (take-take (length pre) (length (pre ++ zs)) xs (omega (arith, length-append pre zs))) ∙ ap (take (length pre)) b.front ∙ take_at pre zs (length pre) refl in
+    let next : Prefix format words bound (suc q) (pre ++ zs) = prefix-more format words parts m bound q pre ys f k held.values in
+    let prefix : take (length pre) xs ≡ pre =
+    sym (take-take (length pre) (length (pre ++ zs)) xs (omega (arith, length-append pre zs))) ∙ ap (take (length pre)) b.prefix ∙ take_at pre zs (length pre) refl in
     let here : past xs i ≡ p =
-    ap (past xs) (sym f.count) ∙ sym (past-take (length pre) xs) ∙ ap (λ ws. past ws (length pre)) front ∙ f.begins in
+    ap (past xs) (sym f.count) ∙ sym (past-take (length pre) xs) ∙ ap (λ ws. past ws (length pre)) prefix ∙ f.begins in
     let there : past xs end ≡ stated_last format words q + 1 =
-    ap (past xs) (sym next.count) ∙ sym (past-take (length (pre ++ zs)) xs) ∙ ap (λ ws. past ws (length (pre ++ zs))) b.front ∙ next.begins in
+    ap (past xs) (sym next.count) ∙ sym (past-take (length (pre ++ zs)) xs) ∙ ap (λ ws. past ws (length (pre ++ zs))) b.prefix ∙ next.begins in
     let same_universe : universe xs i end ≡ u = ap (λ v. v - past xs i) there ∙ ap (λ v. stated_last format words q + 1 - v) here in
     let span : slice_range xs i end ≡ zs =
     sym (drop-take i (end - i) xs)
     ∙ ap (λ v. drop i (take v xs)) (let e : i + (end - i) ≡ length (pre ++ zs) = omega (arith, next.count, k.up) in e)
-    ∙ ap (drop i) b.front ∙ drop_at pre zs i f.count in
+    ∙ ap (drop i) b.prefix ∙ drop_at pre zs i f.count in
     let same_values : relative_values xs i end ≡ ys = ap (λ v. map (λ x. x - v) (slice_range xs i end)) here ∙ ap (map (λ x. x - p)) span ∙ unshifted p ys in
     let piece : List ℕ = part_bits (relative_values xs i end) (universe xs i end) in
     let same_piece : piece ≡ part_bits ys u = ap (λ vs. part_bits vs (universe xs i end)) same_values ∙ ap (part_bits ys) same_universe in
@@ -196,14 +196,14 @@ built-more format room laws words parts m bound q pre ys fits small within f k h
     record {
       values = xs;
       ends = end ∷ b.ends;
-      front = front;
+      prefix = prefix;
       rising = b.rising;
       below = b.below;
       count = b.count;
       partition = (k.up, b.partition);
       many = omega (arith, b.many);
       directory =
-          entry-front format words q (length b.ends) small within
+          entry-prefix format words q (length b.ends) small within
           ∙ ap (λ v. entry format v end (stated_offset format words q) ++ later_words) last
           ∙ ap (λ v. entry format (past xs end - 1) end v ++ later_words) k.offsets
           ∙ ap (λ vs. entry format (past xs end - 1) end o ++ vs) (b.directory ∙ ap (λ v. directory_from format xs end v b.ends) (sym charge));
@@ -226,14 +226,14 @@ all-stand format words zero m bound fit = sym (none-fit m fit.parts_are)
 all-stand format words (suc q) m bound fit =
     let k = follows-at format words (suc q) m bound q (fit.entries q (omega arith)) in k.whole (eq-eqb (q + 1) (suc q) (omega arith))
 
-pub build : (format : FormatNumbers) (room : HasRoom format) → PartLaws → (words : List ℕ) (parts m bound : ℕ) → bound ≤ format.most_sum → All (λ w. w < 2 ^ 64) words → PassChecks format words parts m bound → (n q : ℕ) → q + n ≡ parts → (pre : List ℕ) → Front format words bound q pre → Built format words parts m bound q pre
+pub build : (format : FormatNumbers) (room : HasRoom format) → PartLaws → (words : List ℕ) (parts m bound : ℕ) → bound ≤ format.most_sum → All (λ w. w < 2 ^ 64) words → PassChecks format words parts m bound → (n q : ℕ) → q + n ≡ parts → (pre : List ℕ) → Prefix format words bound q pre → Built format words parts m bound q pre
 build format room laws words parts m bound fits are fit zero q e pre f =
     let last : q ≡ parts = omega (arith, e) in
     let all : end_before format words q ≡ m = ap (end_before format words) last ∙ all-stand format words parts m bound fit in
     record {
       values = pre;
       ends = [];
-      front = take_all (length pre) pre (omega arith);
+      prefix = take_all (length pre) pre (omega arith);
       rising = f.rising;
       below = f.below;
       count = f.count ∙ all;
@@ -247,7 +247,7 @@ build format room laws words parts m bound fits are fit (suc n) q e pre f =
     let lt : q < parts = omega (arith, e) in
     let k : FollowsAt format words parts m bound q = follows-at format words parts m bound q (fit.entries q lt) in
     let stored : IsPartStored format words parts q = fit.stored q lt in
-    let next = front-more format words parts m bound q pre stored.0 f k stored.1.values in
+    let next = prefix-more format words parts m bound q pre stored.0 f k stored.1.values in
     built-more format room laws words parts m bound q pre stored.0 fits are (omega (arith, fit.room, entry-within format q parts lt)) f k stored.1
     (build format room laws words parts m bound fits are fit n (suc q) (omega (arith, e)) (pre ++ map (λ y. y + past_before format words q) stored.0) next)
 
@@ -281,28 +281,28 @@ payload-words laws appended back filled words before tail behind bits split are 
 pub accepted-begins : (format : FormatNumbers) (room : HasRoom format) → PartLaws → BitsOfAppended → WordsOfBits → WordsOfPadded → (words : List ℕ) (parts m bound : ℕ) → m < 2 ^ 32 → bound ≤ format.most_sum → All (λ w. w < 2 ^ 64) words → PassChecks format words parts m bound
     → (xs ends : List ℕ) × BeginsSequence format m bound parts xs ends words (word_behind format words parts)
 accepted-begins format room laws appended back filled words parts m bound few fits are fit =
-    let none : Front format words bound 0 [] = record { count = refl; begins = refl; rising = (λ k lt. absurd (omega (arith, lt))); below = All-nil (λ x. x < bound) } in
+    let none : Prefix format words bound 0 [] = record { count = refl; begins = refl; rising = (λ k lt. absurd (omega (arith, lt))); below = All-nil (λ x. x < bound) } in
     let b = build format room laws words parts m bound fits are fit parts 0 (omega arith) [] none in
     let used : ℕ = word_behind format words parts in
-    let front : List ℕ = take used words in
-    let before : List ℕ = take (entry_words format * parts) front in
-    let tail : List ℕ = drop (entry_words format * parts) front in
+    let prefix : List ℕ = take used words in
+    let before : List ℕ = take (entry_words format * parts) prefix in
+    let tail : List ℕ = drop (entry_words format * parts) prefix in
     let behind : List ℕ = drop used words in
     let bits : List ℕ = payload_from b.values 0 b.ends in
     let many : length b.ends ≡ parts = omega (arith, b.many) in
     let takes : length bits ≡ payload_before format words parts = omega (arith, b.takes) in
-    let long : length front ≡ used = length-take-le used words fit.within in
-    let early : length before ≡ entry_words format * parts = length-take-le (entry_words format * parts) front (omega (arith, long)) in
-    let late : length tail ≡ (length bits + 63) / 64 = omega (arith, length-drop (entry_words format * parts) front, long, takes) in
+    let long : length prefix ≡ used = length-take-le used words fit.within in
+    let early : length before ≡ entry_words format * parts = length-take-le (entry_words format * parts) prefix (omega (arith, long)) in
+    let late : length tail ≡ (length bits + 63) / 64 = omega (arith, length-drop (entry_words format * parts) prefix, long, takes) in
     let split : words ≡ before ++ (tail ++ behind) =
-    sym (ap (λ xs. xs ++ behind) (take-append-drop (entry_words format * parts) front) ∙ take-append-drop used words) ∙ append_assoc before tail behind in
+    sym (ap (λ xs. xs ++ behind) (take-append-drop (entry_words format * parts) prefix) ∙ take-append-drop used words) ∙ append_assoc before tail behind in
     let entries : before ≡ directory_from format b.values 0 0 b.ends =
     take-take (entry_words format * parts) used words (omega arith) ∙ ap (λ n. take (entry_words format * n) words) (sym many)
     ∙ ap (λ n. take (entry_words format * length b.ends) (drop n words)) (let e : 0 ≡ entry_words format * 0 = omega arith in e) ∙ b.directory in
     let base : 64 * length before ≡ first_bit format parts = omega (arith, early) in
     let stored : tail ≡ words_of bits =
     payload-words laws appended back filled words before tail behind bits split (bits-payload laws b.values 0 b.ends)
-    (All-drop (λ w. w < 2 ^ 64) (entry_words format * parts) front (All-take (λ w. w < 2 ^ 64) used words are)) late
+    (All-drop (λ w. w < 2 ^ 64) (entry_words format * parts) prefix (All-take (λ w. w < 2 ^ 64) used words are)) late
     (subst (λ n. StandAt (bits_of words) n bits) (let e : first_bit format parts + 0 ≡ 64 * length before = omega (arith, base) in e) b.payload_bits)
     (λ q le lt. fit.filled q (omega (arith, le, base, takes)) (omega (arith, lt, early, late, takes))) in (
       b.values,
@@ -316,7 +316,7 @@ accepted-begins format room laws appended back filled words parts m bound few fi
           few = few;
           partition = b.partition;
           parts_count = many;
-          spelled = sym (take-append-drop (entry_words format * parts) front) ∙ ap (λ xs. xs ++ tail) entries ∙ ap (λ xs. directory_from format b.values 0 0 b.ends ++ xs) stored;
+          spelled = sym (take-append-drop (entry_words format * parts) prefix) ∙ ap (λ xs. xs ++ tail) entries ∙ ap (λ xs. directory_from format b.values 0 0 b.ends ++ xs) stored;
         };
       },
     )

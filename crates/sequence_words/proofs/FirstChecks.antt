@@ -7,7 +7,7 @@ use Rattle.sequence_words.specs.declared.check.Check.{Check}
 use Rattle.sequence_words.specs.declared.check.Check.TheVariants.{K6}
 use Rattle.sequence_words.specs.SequenceFault.{OrElse, FirstOf, word_behind, parts_fit, entry_breaks, FirstInSequence, IsSequenceFault, PassChecks}
 use Rattle.sequence_words.proofs.Choices.{unmatch, match-false}
-use Rattle.sequence_words.proofs.Follows.{Found, front-test}
+use Rattle.sequence_words.proofs.Follows.{Found, prefix-test}
 
 -- what is found, and what holds later, may be said otherwise
 first-of-map : (B F G : ℕ → Type 0) (n : ℕ) (L M : Type 0) → ((q : ℕ) → F q → G q) → (L → M) → FirstOf B n F L → FirstOf B n G M
@@ -46,4 +46,4 @@ faulty format words parts m bound check part F L fit room fault here =
     first-map format words parts m bound (Found check part) F ⊥ L
     (λ k q e. subst (λ j. F j q) e.0 (subst (λ i. F check i) e.1 here)) (λ no. absurd no)
     (unmatch (not (parts_fit m parts) || nat_lt (length words) (entry_words format * parts)) ((check ≡ K6) × (part ≡ 0))
-    (FirstInSequence format words parts m bound (Found check part) ⊥) (front-test format words parts m fit room) fault)
+    (FirstInSequence format words parts m bound (Found check part) ⊥) (prefix-test format words parts m fit room) fault)

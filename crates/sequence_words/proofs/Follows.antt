@@ -128,13 +128,13 @@ abbrev pub EntriesStep : FormatNumbers → List ℕ → ℕ → ℕ → ℕ → 
 EntriesStep format words parts m bound check part =
     FirstOf (λ q. entry_breaks format words parts m bound q ≡ true) parts (Found check part K7) (BehindStep format words parts check part)
 
-pub front-test : (format : FormatNumbers) (words : List ℕ) (parts m : ℕ) → parts_fit m parts ≡ true → entry_words format * parts ≤ length words → (not (parts_fit m parts) || nat_lt (length words) (entry_words format * parts)) ≡ false
-front-test format words parts m h k = or_from (not (parts_fit m parts)) (nat_lt (length words) (entry_words format * parts)) (not_from_true (parts_fit m parts) h) (le-ltb (length words) (entry_words format * parts) k)
+pub prefix-test : (format : FormatNumbers) (words : List ℕ) (parts m : ℕ) → parts_fit m parts ≡ true → entry_words format * parts ≤ length words → (not (parts_fit m parts) || nat_lt (length words) (entry_words format * parts)) ≡ false
+prefix-test format words parts m h k = or_from (not (parts_fit m parts)) (nat_lt (length words) (entry_words format * parts)) (not_from_true (parts_fit m parts) h) (le-ltb (length words) (entry_words format * parts) k)
 
 pub no-fault : (format : FormatNumbers) (words : List ℕ) (parts m bound : ℕ) (check : Check) (part : ℕ) → PassChecks format words parts m bound → IsSequenceFault format words parts m bound check part → ⊥
 no-fault format words parts m bound check part fit h =
     let first : EntriesStep format words parts m bound check part =
-    unmatch (not (parts_fit m parts) || nat_lt (length words) (entry_words format * parts)) ((check ≡ K6) × (part ≡ 0)) (EntriesStep format words parts m bound check part) (front-test format words parts m fit.parts_are fit.room) h in
+    unmatch (not (parts_fit m parts) || nat_lt (length words) (entry_words format * parts)) ((check ≡ K6) × (part ≡ 0)) (EntriesStep format words parts m bound check part) (prefix-test format words parts m fit.parts_are fit.room) h in
     elim first [
       | inl (q, lt, breaks, before, found) ↦ both_ways (entry_breaks format words parts m bound q) (fit.entries q lt) breaks
       | inr (none, later) ↦

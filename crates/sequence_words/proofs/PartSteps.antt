@@ -51,24 +51,24 @@ steps-moved before p (y ∷ ys) =
     ∙ ap (λ zs. (y + 1 - before) ∷ zs) (steps-moved (y + 1) p ys)
 
 -- the values that the first q parts state
-abbrev pub front_stated : FormatNumbers → List ℕ → ℕ → ℕ → List ℕ
-front_stated format words parts q = flat_map (part_stated format words parts) (range_with_len 0 q)
+abbrev pub prefix_stated : FormatNumbers → List ℕ → ℕ → ℕ → List ℕ
+prefix_stated format words parts q = flat_map (part_stated format words parts) (range_with_len 0 q)
 
 parts-more : (q : ℕ) → range_with_len 0 (q + 1) ≡ range_with_len 0 q ++ q ∷ []
 parts-more q =
     let e : 0 + q ≡ q = omega arith in
     sym (map-id (range_with_len 0 (q + 1))) ∙ map-range_with_len_more (λ k. k) 0 q q e ∙ ap (λ ds. ds ++ q ∷ []) (map-id (range_with_len 0 q))
 
-front-next : (format : FormatNumbers) (words : List ℕ) (parts q : ℕ) → front_stated format words parts (q + 1) ≡ front_stated format words parts q ++ part_stated format words parts q
-front-next format words parts q =
+prefix-next : (format : FormatNumbers) (words : List ℕ) (parts q : ℕ) → prefix_stated format words parts (q + 1) ≡ prefix_stated format words parts q ++ part_stated format words parts q
+prefix-next format words parts q =
     ap (flat_map (part_stated format words parts)) (parts-more q)
     ∙ flat_map-append (part_stated format words parts) (range_with_len 0 q) (q ∷ [])
-    ∙ ap (λ zs. front_stated format words parts q ++ zs) (append-nil (part_stated format words parts q))
+    ∙ ap (λ zs. prefix_stated format words parts q ++ zs) (append-nil (part_stated format words parts q))
 
 -- what is known of the values of the first q parts: their last one is stated, and where it is asked for their greatest step is this
 pub record StepsOf (format : FormatNumbers) (words : List ℕ) (parts q : ℕ) (asked : Bool) (most : ℕ) : Type 0 where
-  pub ends : past (front_stated format words parts q) (length (front_stated format words parts q)) ≡ past_before format words q
-  pub largest : asked ≡ true → most ≡ greatest (steps_from 0 (front_stated format words parts q))
+  pub ends : past (prefix_stated format words parts q) (length (prefix_stated format words parts q)) ≡ past_before format words q
+  pub largest : asked ≡ true → most ≡ greatest (steps_from 0 (prefix_stated format words parts q))
 
 pub steps-none : (format : FormatNumbers) (words : List ℕ) (parts : ℕ) (asked : Bool) → StepsOf format words parts 0 asked 0
 steps-none format words parts asked = record { ends = refl; largest = (λ h. refl) }
@@ -79,11 +79,11 @@ pub part-steps : ValuesStandAt → (format : FormatNumbers) (words : List ℕ) (
     → (asked ≡ true → step ≡ greatest (steps_from 0 ys)) → StepsOf format words parts q asked most → StepsOf format words parts (q + 1) asked (max step most)
 part-steps stand format words parts m bound q asked most step ys follows held is before =
     let p : ℕ = past_before format words q in
-    let pre : List ℕ = front_stated format words parts q in
+    let pre : List ℕ = prefix_stated format words parts q in
     let zs : List ℕ = map (λ y. y + p) ys in
     let place : ℕ = first_bit format parts + payload_before format words q in
     let part : part_stated format words parts q ≡ zs = ap (map (λ y. y + p)) (stand (bits_of words) place (stated_universe format words q) (stated_count format words q) ys held) in
-    let whole : front_stated format words parts (q + 1) ≡ pre ++ zs = front-next format words parts q ∙ ap (λ vs. pre ++ vs) part in
+    let whole : prefix_stated format words parts (q + 1) ≡ pre ++ zs = prefix-next format words parts q ∙ ap (λ vs. pre ++ vs) part in
     record {
       ends =
           ap (λ vs. past vs (length vs)) whole ∙ begins-more format words parts m bound q pre ys follows held.values

@@ -116,9 +116,9 @@ part-fits xs ends bits whole from k most lt h short =
     let piece : List ℕ = part_bits (relative_values xs from end) (universe xs from end) in
     omega (arith, ap length (payload-more xs ends bits whole from k lt h), length-append (bits ++ piece) (payload_from xs end (drop (k + 1) ends)), length-append bits piece)
 
--- what is written of some bits behind others is a front of them
-pub front-of : (old whole bits rest : List ℕ) → bits ++ rest ≡ old ++ whole → length old ≤ length bits → AppendsBits old bits whole
-front-of old whole bits rest e grown =
+-- what is written of some bits behind others is a prefix of them
+pub prefix-of : (old whole bits rest : List ℕ) → bits ++ rest ≡ old ++ whole → length old ≤ length bits → AppendsBits old bits whole
+prefix-of old whole bits rest e grown =
     let n : ℕ = length bits - length old in (
       n,
       omega (arith, ap length e, length-append bits rest, length-append old whole),
@@ -126,31 +126,31 @@ front-of old whole bits rest e grown =
           ∙ ap (λ m. take m (old ++ whole)) (let e : length bits ≡ length old + n = omega arith in e) ∙ take-append-add old whole n,
     )
 
--- and so it is with a front of a part more
-pub front-part : (xs ends old bits new whole : List ℕ) (from k : ℕ) → k < length ends → bits ++ payload_from xs from (drop k ends) ≡ old ++ whole → length old ≤ length bits
+-- and so it is with a prefix of a part more
+pub prefix-part : (xs ends old bits new whole : List ℕ) (from k : ℕ) → k < length ends → bits ++ payload_from xs from (drop k ends) ≡ old ++ whole → length old ≤ length bits
     → AppendsBits bits new (part_bits (relative_values xs from (get_or ends k 0)) (universe xs from (get_or ends k 0))) → AppendsBits old new whole
-front-part xs ends old bits new whole from k lt h grown front =
+prefix-part xs ends old bits new whole from k lt h grown prefix =
     let end : ℕ = get_or ends k 0 in
     let piece : List ℕ = part_bits (relative_values xs from end) (universe xs from end) in
-    let begun : List ℕ = take front.0 piece in
-    let left : List ℕ = drop front.0 piece in
+    let begun : List ℕ = take prefix.0 piece in
+    let left : List ℕ = drop prefix.0 piece in
     let rest : List ℕ = payload_from xs end (drop (k + 1) ends) in
-    let both : begun ++ left ≡ piece = take-append-drop front.0 piece in
+    let both : begun ++ left ≡ piece = take-append-drop prefix.0 piece in
     let behind : (bits ++ begun) ++ (left ++ rest) ≡ old ++ whole =
     sym (append_assoc (bits ++ begun) left rest) ∙ ap (λ ys. ys ++ rest) (append_assoc bits begun left ∙ ap (λ ys. bits ++ ys) both) ∙ payload-more xs ends bits (old ++ whole) from k lt h in
-    front-of old whole new (left ++ rest) (ap (λ ys. ys ++ (left ++ rest)) front.2 ∙ behind) (omega (arith, ap length front.2, length-append bits begun))
+    prefix-of old whole new (left ++ rest) (ap (λ ys. ys ++ (left ++ rest)) prefix.2 ∙ behind) (omega (arith, ap length prefix.2, length-append bits begun))
 
 -- bits that were written behind those of words are in the words behind these
 pub words-written : (ws result start new payload : List ℕ) → All (λ w. w < 2 ^ 64) ws → AreBits payload → start ≡ bits_of ws → new ≡ start ++ payload → result ≡ words_of new
     → result ≡ ws ++ words_of payload
 words-written ws result start new payload fit are from e words = words ∙ ap words_of (e ∙ ap (λ b. b ++ payload) from) ∙ words-behind ws payload fit are
 
--- and so is a front of them
-pub front-written : (ws result start new payload : List ℕ) → All (λ w. w < 2 ^ 64) ws → AreBits payload → start ≡ bits_of ws → AppendsBits start new payload → result ≡ words_of new
+-- and so is a prefix of them
+pub prefix-written : (ws result start new payload : List ℕ) → All (λ w. w < 2 ^ 64) ws → AreBits payload → start ≡ bits_of ws → AppendsBits start new payload → result ≡ words_of new
     → Extends ws result
-front-written ws result start new payload fit are from front words =
-    let begun : List ℕ = take front.0 payload in
-    (words_of begun, words-written ws result start new begun fit (All-take (λ b. b < 2) front.0 payload are) from front.2 words)
+prefix-written ws result start new payload fit are from prefix words =
+    let begun : List ℕ = take prefix.0 payload in
+    (words_of begun, words-written ws result start new begun fit (All-take (λ b. b < 2) prefix.0 payload are) from prefix.2 words)
 
 -- words that are extended twice
 pub extends-twice : (old mid new more : List ℕ) → mid ≡ old ++ more → Extends mid new → Extends old new
@@ -163,8 +163,8 @@ pub extends-same : (old new : List ℕ) → new ≡ old → Extends old new
 extends-same old new e = ([], e ∙ sym (append-nil old))
 
 -- they begin with those that there were
-pub extended-front : (old new : List ℕ) → Extends old new → take (length old) new ≡ old
-extended-front old new h = ap (take (length old)) h.1 ∙ take_at old h.0 (length old) refl
+pub extended-prefix : (old new : List ℕ) → Extends old new → take (length old) new ≡ old
+extended-prefix old new h = ap (take (length old)) h.1 ∙ take_at old h.0 (length old) refl
 
 -- the relative values that a part is written from
 pub relative-given : PartIsRelative → (xs : List ℕ) → IsStrictlyIncreasing xs → (i end u : ℕ) (ys : List ℕ) → i < end → end ≤ length xs → u ≡ universe xs i end → ys ≡ relative_values xs i end

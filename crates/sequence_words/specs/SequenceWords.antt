@@ -37,7 +37,7 @@ pub record IsSequence (format : FormatNumbers) (m bound parts : ℕ) (xs ends wo
   pub parts_count : length ends ≡ parts
   pub spelled : words ≡ sequence_words format xs ends
 
--- the same for the front of some words
+-- the same for the prefix of some words
 pub record BeginsSequence (format : FormatNumbers) (m bound parts : ℕ) (xs ends words : List ℕ) (used : ℕ) : Type 0 where
   pub within : used ≤ length words
   pub sequence : IsSequence format m bound parts xs ends (take used words)

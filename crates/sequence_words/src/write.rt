@@ -193,7 +193,7 @@ fn push_payload(
     written
 }
 
-// Appends the payload of the parts. A refusal leaves a front of it.
+// Appends the payload of the parts. A refusal leaves a prefix of it.
 fn write_parts(
     alloc: Global,
     values: &[u64],

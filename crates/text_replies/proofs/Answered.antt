@@ -18,7 +18,7 @@ use Rattle.query_text.specs.Parse.{parse_line, fields_query, longest_line}
 use Rattle.query_text.specs.Texts.{bad_text}
 use Rattle.command_model.specs.Replies.{IsAnswer, IsReply, AreReplies}
 use Rattle.command_model.proofs.RepliesJoined.{replies-append, one-reply}
-use Rattle.command_model.specs.GotReplies.{GotReplies, GotFrontOfReplies}
+use Rattle.command_model.specs.GotReplies.{GotReplies, GotPrefixOfReplies}
 use Rattle.text_replies.specs.AnswersLines.{AnswersLines}
 
 -- ---- replies
@@ -53,9 +53,9 @@ got-append : (c : Collection) (lines more : List (List ℕ)) (old mid new : Sink
 got-append c lines more old mid new (text, are, e) (next, so, d) =
     (text ++ next, replies-append c lines more text next are so, d ∙ ap (λ t. t ++ next) e ∙ append_assoc old.written text next)
 
-front-append : (c : Collection) (lines more : List (List ℕ)) (old mid new : SinkState) →
-    GotReplies c lines old mid → GotFrontOfReplies c more mid new → GotFrontOfReplies c (lines ++ more) old new
-front-append c lines more old mid new (text, are, e) (n, next, so, (k, le, d)) =
+prefix-append : (c : Collection) (lines more : List (List ℕ)) (old mid new : SinkState) →
+    GotReplies c lines old mid → GotPrefixOfReplies c more mid new → GotPrefixOfReplies c (lines ++ more) old new
+prefix-append c lines more old mid new (text, are, e) (n, next, so, (k, le, d)) =
     let P : List (List ℕ) → Type 0 = λ ls. AreReplies c ls (text ++ next) in (
       length lines + n,
       text ++ next,
@@ -67,21 +67,21 @@ front-append c lines more old mid new (text, are, e) (n, next, so, (k, le, d)) =
       ),
     )
 
-pub front-more : (c : Collection) (lines more : List (List ℕ)) (old new : SinkState) → GotFrontOfReplies c lines old new → GotFrontOfReplies c (lines ++ more) old new
-front-more c lines more old new (n, text, are, front) =
+pub prefix-more : (c : Collection) (lines more : List (List ℕ)) (old new : SinkState) → GotPrefixOfReplies c lines old new → GotPrefixOfReplies c (lines ++ more) old new
+prefix-more c lines more old new (n, text, are, prefix) =
     let P : List (List ℕ) → Type 0 = λ ls. AreReplies c ls text in
     let within : min n (length lines) ≤ length lines = omega arith in (
       min n (length lines),
       text,
       subst P (sym (take-append-le (min n (length lines)) lines more within ∙ take_min n lines)) are,
-      front,
+      prefix,
     )
 
-pub front-nothing : (c : Collection) (lines : List (List ℕ)) (old new : SinkState) → new.written ≡ old.written → GotFrontOfReplies c lines old new
-front-nothing c lines old new e = (0, [], refl, (0, lit≤ tt, e ∙ sym (append-nil old.written)))
+pub prefix-nothing : (c : Collection) (lines : List (List ℕ)) (old new : SinkState) → new.written ≡ old.written → GotPrefixOfReplies c lines old new
+prefix-nothing c lines old new e = (0, [], refl, (0, lit≤ tt, e ∙ sym (append-nil old.written)))
 
-pub front-whole : (c : Collection) (lines : List (List ℕ)) (old new : SinkState) → GotReplies c lines old new → GotFrontOfReplies c lines old new
-front-whole c lines old new (text, are, e) =
+pub prefix-whole : (c : Collection) (lines : List (List ℕ)) (old new : SinkState) → GotReplies c lines old new → GotPrefixOfReplies c lines old new
+prefix-whole c lines old new (text, are, e) =
     let P : List (List ℕ) → Type 0 = λ ls. AreReplies c ls text in (
       length lines,
       text,
@@ -115,7 +115,7 @@ pub answered-none : (c : Collection) (s : SinkState) → AnswersLines c [] s s (
 answered-none c s = record {
   tells = refl;
   all = λ t. ([], refl, sym (append-nil s.written));
-  front = λ t. tt;
+  prefix = λ t. tt;
   faults = counts-same s.faults (Ok tt) ok_not_failed;
   refusals = omega arith;
 }
@@ -124,7 +124,7 @@ pub answered-refused : (c : Collection) (lines : List (List ℕ)) (s : SinkState
 answered-refused c lines s = record {
   tells = refl;
   all = λ t. tt;
-  front = λ t. front-nothing c lines s s refl;
+  prefix = λ t. prefix-nothing c lines s s refl;
   faults = counts-same s.faults (Err NoMemory) no_memory_not_failed;
   refusals = omega arith;
 }
@@ -136,7 +136,7 @@ answered-then c lines more old mid new r first next =
     record {
       tells = next.tells ∙ first.tells;
       all = λ t. on_ok_weaker r (got-append c lines more old mid new (first.all t)) (next.all (first.tells ∙ t));
-      front = λ t. on_err_weaker r (front-append c lines more old mid new (first.all t)) (next.front (first.tells ∙ t));
+      prefix = λ t. on_err_weaker r (prefix-append c lines more old mid new (first.all t)) (next.prefix (first.tells ∙ t));
       faults = subst P (first.faults.same_at_ok refl) next.faults;
       refusals = omega (arith, first.refusals, next.refusals);
     }
@@ -146,7 +146,7 @@ pub answered-stopped : (c : Collection) (lines more : List (List ℕ)) (old new 
 answered-stopped c lines more old new e h = record {
   tells = h.tells;
   all = λ t. tt;
-  front = λ t. front-more c lines more old new (h.front t);
+  prefix = λ t. prefix-more c lines more old new (h.prefix t);
   faults = h.faults;
   refusals = h.refusals;
 }
@@ -156,7 +156,7 @@ pub answered-cut : (c : Collection) (m : ℕ) (line : List ℕ) (old new : SinkS
 answered-cut c m line old new r far h = record {
   tells = h.tells;
   all = λ t. on_ok_weaker r (λ got. (got.0, first-cut c m 1 line got.0 far got.1, got.2)) (h.all t);
-  front = λ t. on_err_weaker r (λ got. (got.0, got.1, first-cut c m got.0 line got.1 far got.2, got.3)) (h.front t);
+  prefix = λ t. on_err_weaker r (λ got. (got.0, got.1, first-cut c m got.0 line got.1 far got.2, got.3)) (h.prefix t);
   faults = h.faults;
   refusals = h.refusals;
 }
@@ -166,7 +166,7 @@ pub answered-written : (c : Collection) (line text : List ℕ) (old new : SinkSt
 answered-written c line text old new r is h = record {
   tells = h.tells;
   all = λ t. on_ok_weaker r (λ e. (text, one-reply c line text is, e)) (h.whole t);
-  front = λ t. on_err_weaker r (λ front. (1, text, one-reply c line text is, front)) (h.front t);
+  prefix = λ t. on_err_weaker r (λ prefix. (1, text, one-reply c line text is, prefix)) (h.prefix t);
   faults = h.faults;
   refusals = h.refusals;
 }

@@ -14,13 +14,13 @@ use Rattle.pef_io.specs.SinkState.{SinkState}
 use Rattle.query_text.specs.Lines.{text_lines, ended_lines}
 use Rattle.text_replies.specs.declared.text.RunFault.{RunFault}
 use Rattle.text_replies.specs.declared.text.RunFault.TheVariants.{TooLarge, NoMemory}
-use Rattle.command_model.specs.GotReplies.{GotReplies, GotFrontOfReplies}
+use Rattle.command_model.specs.GotReplies.{GotReplies, GotPrefixOfReplies}
 use Rattle.text_replies.specs.Unended.{unended, AnswersBytes}
 use Rattle.text_replies.specs.AnswerText.{AnswersText}
 use Rattle.text_replies.specs.AnswersEnded.{HasRead, AnswersEnded}
 use Rattle.text_replies.specs.Faults.{input_fault, out_fault}
 use Rattle.text_replies.proofs.LinesOfText.{text_lines-append}
-use Rattle.text_replies.proofs.Answered.{front-whole, front-more, answered-refused}
+use Rattle.text_replies.proofs.Answered.{prefix-whole, prefix-more, answered-refused}
 
 -- ---- reading
 
@@ -32,20 +32,20 @@ read-more bytes before after n start old new h r = record {
   faults = r.faults.same_at_ok refl ∙ h.faults;
 }
 
--- ---- fronts of the replies to a whole text
+-- ---- prefixes of the replies to a whole text
 
-front-of-text : (c : Collection) (bytes left text : List ℕ) (old new : SinkState) → text ≡ bytes ++ left →
-    GotFrontOfReplies c (ended_lines bytes) old new → GotFrontOfReplies c (text_lines text) old new
-front-of-text c bytes left text old new e got =
-    let P : List (List ℕ) → Type 0 = λ lines. GotFrontOfReplies c lines old new in
-    subst P (sym (text_lines-append bytes left) ∙ ap text_lines (sym e)) (front-more c (ended_lines bytes) (text_lines (unended bytes ++ left)) old new got)
+prefix-of-text : (c : Collection) (bytes left text : List ℕ) (old new : SinkState) → text ≡ bytes ++ left →
+    GotPrefixOfReplies c (ended_lines bytes) old new → GotPrefixOfReplies c (text_lines text) old new
+prefix-of-text c bytes left text old new e got =
+    let P : List (List ℕ) → Type 0 = λ lines. GotPrefixOfReplies c lines old new in
+    subst P (sym (text_lines-append bytes left) ∙ ap text_lines (sym e)) (prefix-more c (ended_lines bytes) (text_lines (unended bytes ++ left)) old new got)
 
 -- the same of the text up to a limit that lies behind these bytes
-front-within : (c : Collection) (limit : ℕ) (bytes left text : List ℕ) (old new : SinkState) → text ≡ bytes ++ left → length bytes ≤ limit →
-    GotFrontOfReplies c (ended_lines bytes) old new → GotFrontOfReplies c (text_lines (take limit text)) old new
-front-within c limit bytes left text old new e within got =
+prefix-within : (c : Collection) (limit : ℕ) (bytes left text : List ℕ) (old new : SinkState) → text ≡ bytes ++ left → length bytes ≤ limit →
+    GotPrefixOfReplies c (ended_lines bytes) old new → GotPrefixOfReplies c (text_lines (take limit text)) old new
+prefix-within c limit bytes left text old new e within got =
     let is : limit ≡ length bytes + (limit - length bytes) = omega arith in
-    front-of-text c bytes (take (limit - length bytes) left) (take limit text) old new
+    prefix-of-text c bytes (take (limit - length bytes) left) (take limit text) old new
     (ap (take limit) e ∙ ap (λ n. take n (bytes ++ left)) is ∙ take-append-add bytes left (limit - length bytes)) got
 
 -- ---- what a text that is not answered whole leaves
@@ -65,7 +65,7 @@ read-failed c limit bytes held before after in0 in1 in2 out0 out io_fail.Failed 
   longer = λ t e. cc;
   no_memory = λ t e. cc;
   taken = λ t. (bytes, h.told t ∙ ap (λ xs. bytes ++ xs) (sym (r.unchanged (h.tells ∙ t))));
-  limited = λ t. front-within c limit bytes in1.left in0.left out0 out (h.told t.input) within (front-whole c _ out0 out (a.lines.all t.out));
+  limited = λ t. prefix-within c limit bytes in1.left in0.left out0 out (h.told t.input) within (prefix-whole c _ out0 out (a.lines.all t.out));
   input_tells = r.tells ∙ h.tells;
   out_tells = a.lines.tells;
   input_count = inl refl;
@@ -81,9 +81,9 @@ read-failed c limit bytes held before after in0 in1 in2 out0 out io_fail.NoMemor
   write_only_where_it_rose = λ e. cc;
   too_large = λ t e. cc;
   longer = λ t e. cc;
-  no_memory = λ t e. front-of-text c bytes in1.left in0.left out0 out (h.told t.input) (front-whole c _ out0 out (a.lines.all t.out));
+  no_memory = λ t e. prefix-of-text c bytes in1.left in0.left out0 out (h.told t.input) (prefix-whole c _ out0 out (a.lines.all t.out));
   taken = λ t. (bytes, h.told t ∙ ap (λ xs. bytes ++ xs) (sym (r.unchanged (h.tells ∙ t))));
-  limited = λ t. front-within c limit bytes in1.left in0.left out0 out (h.told t.input) within (front-whole c _ out0 out (a.lines.all t.out));
+  limited = λ t. prefix-within c limit bytes in1.left in0.left out0 out (h.told t.input) within (prefix-whole c _ out0 out (a.lines.all t.out));
   input_tells = r.tells ∙ h.tells;
   out_tells = a.lines.tells;
   input_count = inr (r.faults.same_at_no_memory refl ∙ h.faults);
@@ -100,13 +100,13 @@ out-refused c limit bytes more held in0 in1 out0 out io_fail.Failed h within a =
   to_end = λ t. tt;
   read = λ t e. cc;
   read_only_where_it_rose = λ e. cc;
-  write = λ t e. front-of-text c bytes (more ++ in1.left) in0.left out0 out (h.told t.input ∙ append_assoc bytes more in1.left) (a.lines.front t.out);
+  write = λ t e. prefix-of-text c bytes (more ++ in1.left) in0.left out0 out (h.told t.input ∙ append_assoc bytes more in1.left) (a.lines.prefix t.out);
   write_only_where_it_rose = λ e. a.lines.faults.failed_only_where_it_rose refl;
   too_large = λ t e. cc;
   longer = λ t e. cc;
   no_memory = λ t e. cc;
   taken = λ t. (bytes ++ more, h.told t);
-  limited = λ t. front-within c limit bytes (more ++ in1.left) in0.left out0 out (h.told t.input ∙ append_assoc bytes more in1.left) within (a.lines.front t.out);
+  limited = λ t. prefix-within c limit bytes (more ++ in1.left) in0.left out0 out (h.told t.input ∙ append_assoc bytes more in1.left) within (a.lines.prefix t.out);
   input_tells = h.tells;
   out_tells = a.lines.tells;
   input_count = inr h.faults;
@@ -122,9 +122,9 @@ out-refused c limit bytes more held in0 in1 out0 out io_fail.NoMemory h within a
   write_only_where_it_rose = λ e. cc;
   too_large = λ t e. cc;
   longer = λ t e. cc;
-  no_memory = λ t e. front-of-text c bytes (more ++ in1.left) in0.left out0 out (h.told t.input ∙ append_assoc bytes more in1.left) (a.lines.front t.out);
+  no_memory = λ t e. prefix-of-text c bytes (more ++ in1.left) in0.left out0 out (h.told t.input ∙ append_assoc bytes more in1.left) (a.lines.prefix t.out);
   taken = λ t. (bytes ++ more, h.told t);
-  limited = λ t. front-within c limit bytes (more ++ in1.left) in0.left out0 out (h.told t.input ∙ append_assoc bytes more in1.left) within (a.lines.front t.out);
+  limited = λ t. prefix-within c limit bytes (more ++ in1.left) in0.left out0 out (h.told t.input ∙ append_assoc bytes more in1.left) within (a.lines.prefix t.out);
   input_tells = h.tells;
   out_tells = a.lines.tells;
   input_count = inr h.faults;
@@ -149,7 +149,7 @@ too-long c limit bytes more held in0 in1 out0 out h at some a =
       longer = λ t e. (bytes ++ more, h.told t, omega (arith, length-append bytes more));
       no_memory = λ t e. cc;
       taken = λ t. (bytes ++ more, h.told t);
-      limited = λ t. front-within c limit bytes (more ++ in1.left) in0.left out0 out (h.told t.input ∙ append_assoc bytes more in1.left) (omega (arith, at)) (front-whole c _ out0 out (a.lines.all t.out));
+      limited = λ t. prefix-within c limit bytes (more ++ in1.left) in0.left out0 out (h.told t.input ∙ append_assoc bytes more in1.left) (omega (arith, at)) (prefix-whole c _ out0 out (a.lines.all t.out));
       input_tells = h.tells;
       out_tells = a.lines.tells;
       input_count = inr h.faults;
@@ -164,7 +164,7 @@ stopped c limit in0 in1 out0 out fault result e a =
     let P : Result (Vec ℕ Global) RunFault → Type 0 = λ r. AnswersEnded c limit in0 in1 out0 out r in
     subst P (sym e) (record { ended = tt; stopped = a })
 
--- ---- a piece of which a front is worked on
+-- ---- a piece of which a prefix is worked on
 
 pub split-read : (bytes buf : List ℕ) (within n : ℕ) → within ≤ n → (bytes ++ take within buf) ++ drop within (take n buf) ≡ bytes ++ take n buf
 split-read bytes buf within n le =

@@ -10,14 +10,14 @@ use Rattle.pef_io.specs.SourceState.{SourceState}
 use Rattle.pef_io.specs.SinkState.{SinkState}
 use Rattle.query_text.specs.Lines.{text_lines, ended_lines, last_if_any}
 use Rattle.text_replies.specs.declared.text.RunFault.{RunFault}
-use Rattle.command_model.specs.GotReplies.{GotReplies, GotFrontOfReplies}
+use Rattle.command_model.specs.GotReplies.{GotReplies, GotPrefixOfReplies}
 use Rattle.text_replies.specs.AnswersLines.{AnswersLines}
 use Rattle.text_replies.specs.Unended.{unended, most_held}
 use Rattle.text_replies.specs.AnswerText.{AnswersText}
 use Rattle.text_replies.specs.AnswersEnded.{HasRead, AnswersAllEnded}
 use Rattle.text_replies.specs.Faults.{out_fault}
 use Rattle.text_replies.proofs.LinesOfText.{text_lines-is}
-use Rattle.text_replies.proofs.Answered.{answered-then, answered-cut, front-whole}
+use Rattle.text_replies.proofs.Answered.{answered-then, answered-cut, prefix-whole}
 
 -- ---- the line that no newline ends
 
@@ -54,11 +54,11 @@ all-and-last c limit in0 in1 out0 mid out held r all some answered =
 
 -- ---- the whole text
 
--- a front of the replies to a text that is not longer than the limit
-front-up-to : (c : Collection) (limit : ℕ) (bytes text : List ℕ) (old new : SinkState) → text ≡ bytes → length bytes ≤ limit →
-    GotFrontOfReplies c (text_lines bytes) old new → GotFrontOfReplies c (text_lines (take limit text)) old new
-front-up-to c limit bytes text old new e within got =
-    let P : List ℕ → Type 0 = λ bytes. GotFrontOfReplies c (text_lines bytes) old new in
+-- a prefix of the replies to a text that is not longer than the limit
+prefix-up-to : (c : Collection) (limit : ℕ) (bytes text : List ℕ) (old new : SinkState) → text ≡ bytes → length bytes ≤ limit →
+    GotPrefixOfReplies c (text_lines bytes) old new → GotPrefixOfReplies c (text_lines (take limit text)) old new
+prefix-up-to c limit bytes text old new e within got =
+    let P : List ℕ → Type 0 = λ bytes. GotPrefixOfReplies c (text_lines bytes) old new in
     subst P (sym (ap (take limit) e ∙ take_all limit bytes within)) got
 
 whole-done : (c : Collection) (limit : ℕ) (bytes : List ℕ) (in0 in1 : SourceState) (out0 out : SinkState) →
@@ -78,7 +78,7 @@ whole-done c limit bytes in0 in1 out0 out h to_end within a =
       longer = λ t e. cc;
       no_memory = λ t e. cc;
       taken = λ t. (bytes, h.told t);
-      limited = λ t. front-up-to c limit bytes in0.left out0 out (text t.input) within (front-whole c _ out0 out (a.all t.out));
+      limited = λ t. prefix-up-to c limit bytes in0.left out0 out (text t.input) within (prefix-whole c _ out0 out (a.all t.out));
       input_tells = h.tells;
       out_tells = a.tells;
       input_count = inr h.faults;
@@ -90,20 +90,20 @@ whole-refused : (c : Collection) (limit : ℕ) (bytes : List ℕ) (in0 in1 : Sou
     HasRead bytes in0 in1 → (IsTrue in0.tells → in1.left ≡ []) → length bytes ≤ limit → AnswersLines c (text_lines bytes) out0 out (Err fail) →
     AnswersText c limit in0 in1 out0 out (Err (out_fault fail))
 whole-refused c limit bytes in0 in1 out0 out io_fail.Failed h to_end within a =
-    let P : List ℕ → Type 0 = λ text. GotFrontOfReplies c (text_lines text) out0 out in
+    let P : List ℕ → Type 0 = λ text. GotPrefixOfReplies c (text_lines text) out0 out in
     let text : IsTrue in0.tells → in0.left ≡ bytes = λ t. h.told t ∙ ap (λ xs. bytes ++ xs) (to_end t) ∙ append-nil bytes in
     record {
       all = λ t. tt;
       to_end = λ t. tt;
       read = λ t e. cc;
       read_only_where_it_rose = λ e. cc;
-      write = λ t e. subst P (sym (text t.input)) (a.front t.out);
+      write = λ t e. subst P (sym (text t.input)) (a.prefix t.out);
       write_only_where_it_rose = λ e. a.faults.failed_only_where_it_rose refl;
       too_large = λ t e. cc;
       longer = λ t e. cc;
       no_memory = λ t e. cc;
       taken = λ t. (bytes, h.told t);
-      limited = λ t. front-up-to c limit bytes in0.left out0 out (text t.input) within (a.front t.out);
+      limited = λ t. prefix-up-to c limit bytes in0.left out0 out (text t.input) within (a.prefix t.out);
       input_tells = h.tells;
       out_tells = a.tells;
       input_count = inr h.faults;
@@ -111,7 +111,7 @@ whole-refused c limit bytes in0 in1 out0 out io_fail.Failed h to_end within a =
       counts_never_fall = (omega (arith, h.faults), a.faults.never_falls, a.refusals);
     }
 whole-refused c limit bytes in0 in1 out0 out io_fail.NoMemory h to_end within a =
-    let P : List ℕ → Type 0 = λ text. GotFrontOfReplies c (text_lines text) out0 out in
+    let P : List ℕ → Type 0 = λ text. GotPrefixOfReplies c (text_lines text) out0 out in
     let text : IsTrue in0.tells → in0.left ≡ bytes = λ t. h.told t ∙ ap (λ xs. bytes ++ xs) (to_end t) ∙ append-nil bytes in
     record {
       all = λ t. tt;
@@ -122,9 +122,9 @@ whole-refused c limit bytes in0 in1 out0 out io_fail.NoMemory h to_end within a 
       write_only_where_it_rose = λ e. cc;
       too_large = λ t e. cc;
       longer = λ t e. cc;
-      no_memory = λ t e. subst P (sym (text t.input)) (a.front t.out);
+      no_memory = λ t e. subst P (sym (text t.input)) (a.prefix t.out);
       taken = λ t. (bytes, h.told t);
-      limited = λ t. front-up-to c limit bytes in0.left out0 out (text t.input) within (a.front t.out);
+      limited = λ t. prefix-up-to c limit bytes in0.left out0 out (text t.input) within (a.prefix t.out);
       input_tells = h.tells;
       out_tells = a.tells;
       input_count = inr h.faults;

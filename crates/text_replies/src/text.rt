@@ -26,11 +26,11 @@ const PIECE: usize = 8192;
 pub enum RunFault {
     /// A read of the input failed: the lines that ended within the bytes read are answered.
     Read,
-    /// A write on out failed: a front of the replies is written.
+    /// A write on out failed: a prefix of the replies is written.
     Write,
     /// More bytes than the limit came: the lines that ended within the limit are answered.
     TooLarge,
-    /// Memory was refused: a front of the replies is written.
+    /// Memory was refused: a prefix of the replies is written.
     NoMemory,
 }
 

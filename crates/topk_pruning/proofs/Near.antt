@@ -40,14 +40,14 @@ set-more lists terms from to till i near t e within shorter same less here so_fa
     let each = so_far.each in
     let light = so_far.light in
     let long = length-set near i t in
-    let front : take (i + 1) (set near i t) ≡ take i near ++ t ∷ [] = take_more_set near i t (omega arith) in
-    let sum = ap bounds front ∙ sum_by_push (λ (t : Term). t.bound) (take i near) t in
+    let prefix : take (i + 1) (set near i t) ≡ take i near ++ t ∷ [] = take_more_set near i t (omega arith) in
+    let sum = ap bounds prefix ∙ sum_by_push (λ (t : Term). t.bound) (take i near) t in
     let theirs = sum_by_more (λ (t : Term). t.bound) terms i e within in
     record {
       each = omega arith;
-      same = ap keys front ∙ map_push key (take i near) t ∙ (λ j. so_far.same j ++ same j ∷ []) ∙ sym (map_more key terms i e within);
+      same = ap keys prefix ∙ map_push key (take i near) t ∙ (λ j. so_far.same j ++ same j ∷ []) ∙ sym (map_more key terms i e within);
       light = omega arith;
-      bounded = λ d after before. subst (All (λ (t : Term). share lists d t ≤ t.bound)) (sym front) (All-push (λ (t : Term). share lists d t ≤ t.bound) (take i near) t (so_far.bounded d after (omega arith)) (here d after before));
+      bounded = λ d after before. subst (All (λ (t : Term). share lists d t ≤ t.bound)) (sym prefix) (All-push (λ (t : Term). share lists d t ≤ t.bound) (take i near) t (so_far.bounded d after (omega arith)) (here d after before));
     }
 
 pub set-all : (lists : List (List Posting)) (terms : List Term) (from to i : ℕ) (near : List Term) → i ≡ length terms → AreTerms lists terms → AreSetTo lists terms from to i near → AreNear lists terms from to near
@@ -86,7 +86,7 @@ pub swapped-less : (xs ys : List Term) (i j : ℕ) → length ys ≡ length xs �
 swapped-less xs ys i j each le within swapped moved =
     let none : Term = record { list = 0; weight = 0; bound = 0 } in
     let same = sum_by-IsPermutation (λ (t : Term). t.bound) xs ys moved in
-    let front = ap bounds (take-swapped xs ys i j each le within swapped) in
+    let prefix = ap bounds (take-swapped xs ys i j each le within swapped) in
     let a = sum_by-take-drop (λ (t : Term). t.bound) xs i in
     let b = sum_by-take-drop (λ (t : Term). t.bound) ys i in
     let more = sum_by-drop_more (λ (t : Term). t.bound) ys i none (omega arith) in
@@ -108,6 +108,6 @@ pub follows-none : TopAfterSkips → (lists : List (List Posting)) (terms : List
 follows-none skips lists terms floor k from to essential held le are none spared weights all top =
     skips floor from to lists weights k held le (λ d after before. spared-cannot lists weights terms floor k 0 d held all (are.bounded d after before) (subst (AreSpared floor k held terms) none spared) refl) top
 
--- ---- a list whose front was lent
+-- ---- a list whose prefix was lent
 pub written-back : {X : Type 0} (len : ℕ) (new old : List X) → len ≡ length old → length new ≡ length old → take len (new ++ drop (length new) old) ≡ new
 written-back len new old all same = ap (λ l. take len (new ++ l)) (drop_all (length new) old (omega arith)) ∙ ap (take len) (append-nil new) ∙ take_all len new (omega arith)

@@ -88,10 +88,10 @@ first-none xs from least = record { after = omega arith; within = omega arith; p
 
 -- where no step up to a place is so long, the first is one behind
 pub first-behind : (xs : List ℕ) (from mid to least found : ℕ) → IsFirstStep xs from mid least mid → IsFirstStep xs mid to least found → IsFirstStep xs from to least found
-first-behind xs from mid to least found front back = record {
-  after = omega (arith, front.after, back.after);
+first-behind xs from mid to least found prefix back = record {
+  after = omega (arith, prefix.after, back.after);
   within = back.within;
-  passed = λ k le lt. elim (cases_lt k mid) [ inl early ↦ front.passed k le early | inr late ↦ back.passed k late lt ];
+  passed = λ k le lt. elim (cases_lt k mid) [ inl early ↦ prefix.passed k le early | inr late ↦ back.passed k late lt ];
   reached = back.reached;
 }
 
@@ -111,10 +111,10 @@ first-in_short xs up i j from least a b fit short = record {
   within = omega arith;
   passed =
       λ k le lt.
-      let front = rises xs up i k (omega (arith, a, le)) (omega (arith, lt, fit)) in
+      let prefix = rises xs up i k (omega (arith, a, le)) (omega (arith, lt, fit)) in
       let back = rises xs up (suc k) j (omega (arith, lt)) fit in
       let here = rises xs up k (suc k) (omega arith) (omega (arith, lt, fit)) in
-      omega (arith, front, back, here, short, step-at xs k (omega (arith, lt, fit)), a, le, lt);
+      omega (arith, prefix, back, here, short, step-at xs k (omega (arith, lt, fit)), a, le, lt);
   reached = λ lt. absurd (omega (arith, lt));
 }
 
@@ -182,9 +182,9 @@ count-all least (x ∷ xs) each =
 -- one more block of values has no long step
 pub first-next : (xs : List ℕ) (from place size room count least : ℕ) → IsFirstStep xs from place least place → IsFirstStep xs place (place + size) least (place + count) → size ≡ room → count ≡ room
     → IsFirstStep xs from (place + room) least (place + room)
-first-next xs from place size room count least front back s e =
+first-next xs from place size room count least prefix back s e =
     subst (λ n. IsFirstStep xs from (place + room) least (place + n)) e
-    (subst (λ n. IsFirstStep xs from (place + n) least (place + count)) s (first-behind xs from place (place + size) least (place + count) front back))
+    (subst (λ n. IsFirstStep xs from (place + n) least (place + count)) s (first-behind xs from place (place + size) least (place + count) prefix back))
 
 -- the counts from one place up to another, and from there up to a third
 pub count-join : (least : ℕ) (xs : List ℕ) (i j k : ℕ) → i ≤ j → j ≤ k → count_reaching least (slice_range xs i j) + count_reaching least (slice_range xs j k) ≡ count_reaching least (slice_range xs i k)

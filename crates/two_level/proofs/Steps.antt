@@ -29,8 +29,8 @@ step-split xs from (suc n) to le fit =
     let next : suc from + n ≡ from + suc n = omega arith in
     let rest = step-split xs (suc from) n to (omega (arith, le)) fit in
     let whole = step-first xs from to (omega (arith, le)) fit in
-    let front = step-first xs from (from + suc n) (omega arith) (omega (arith, le, fit)) in
-    omega (arith, rest, whole, front, ap (λ m. greatest_step xs (suc from) m) next, ap (λ m. greatest_step xs m to) next)
+    let prefix = step-first xs from (from + suc n) (omega arith) (omega (arith, le, fit)) in
+    omega (arith, rest, whole, prefix, ap (λ m. greatest_step xs (suc from) m) next, ap (λ m. greatest_step xs m to) next)
 
 -- the steps up to a place between, and those from there
 pub step-apart : (xs : List ℕ) (from mid to : ℕ) → from ≤ mid → mid ≤ to → to ≤ length xs → greatest_step xs from to ≡ max (greatest_step xs from mid) (greatest_step xs mid to)
@@ -45,10 +45,10 @@ step-one xs from lt = omega (arith, step-first xs from (suc from) (omega arith) 
 -- where all places of a part are taken each step is 1
 step-unit : (xs : List ℕ) → IsStrictlyIncreasing xs → (i k j : ℕ) → i ≤ k → k < j → j ≤ length xs → universe xs i j ≡ j - i → universe xs k (suc k) ≡ 1
 step-unit xs up i k j a b fit is =
-    let front = rises xs up i k a (omega (arith, b, fit)) in
+    let prefix = rises xs up i k a (omega (arith, b, fit)) in
     let back = rises xs up (suc k) j (omega (arith, b)) fit in
     let here = rises xs up k (suc k) (omega arith) (omega (arith, b, fit)) in
-    omega (arith, front, back, here, is, a, b)
+    omega (arith, prefix, back, here, is, a, b)
 
 pub step-full : (xs : List ℕ) → IsStrictlyIncreasing xs → (i j from n : ℕ) → i ≤ from → from + suc n ≤ j → j ≤ length xs → universe xs i j ≡ j - i → greatest_step xs from (from + suc n) ≡ 1
 step-full xs up i j from zero a b fit is =

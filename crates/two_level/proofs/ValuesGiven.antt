@@ -9,16 +9,16 @@ use Rattle.collection_model.proofs.NextBelow.{AreGiven}
 pub given-behind : (numbers given rest after : List ℕ) (from x count more : ℕ) → count ≤ length given → more ≤ length rest → AreGiven numbers from x given count → AreGiven numbers (from + count) x rest more
     → take (count + length rest) after ≡ take count given ++ rest → AreGiven numbers from x after (count + more)
 given-behind numbers given rest after from x count more room fits h r is =
-    let front : length (take count given) ≡ count = length-take-le count given room in
+    let prefix : length (take count given) ≡ count = length-take-le count given room in
     let at : (j : ℕ) → j < count + more → slice_index after j ≡ slice_index (take count given ++ rest) j =
     λ j less. sym (get_or-take (count + length rest) after j 0 (omega (arith, less, fits))) ∙ ap (λ zs. slice_index zs j) is in
     record {
       same =
           λ j less.
           elim (cases_lt j count) as (λ _. slice_index after j ≡ slice_index numbers (from + j)) [
-            | inl before ↦ at j less ∙ get_or_append_left (take count given) rest 0 j (omega (arith, before, front)) ∙ get_or-take count given j 0 before ∙ h.same j before
+            | inl before ↦ at j less ∙ get_or_append_left (take count given) rest 0 j (omega (arith, before, prefix)) ∙ get_or-take count given j 0 before ∙ h.same j before
             | inr behind ↦ (let f : from + count + (j - count) ≡ from + j = omega (arith, behind) in
-                at j less ∙ get_or-append_right (take count given) rest count j 0 front behind ∙ r.same (j - count) (omega (arith, less, behind)) ∙ ap (slice_index numbers) f)
+                at j less ∙ get_or-append_right (take count given) rest count j 0 prefix behind ∙ r.same (j - count) (omega (arith, less, behind)) ∙ ap (slice_index numbers) f)
           ];
       below =
           λ j less.

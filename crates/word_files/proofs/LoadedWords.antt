@@ -48,7 +48,7 @@ started-well h = cc
 
 -- ---- pieces
 pub no-words : (slot : Slot) (a : DepotState) → HasWords slot a a []
-no-words slot a = record { front = λ t. refl; count = refl; starts = λ s. refl; refusals = refl; reads = OnlyReads-same a }
+no-words slot a = record { prefix = λ t. refl; count = refl; starts = λ s. refl; refusals = refl; reads = OnlyReads-same a }
 
 filled-well : (n : ℕ) (fail : IoFail) → (let r : Result ℕ IoFail = Ok n in IsErrOf r fail) → ⊥
 filled-well n fail h = cc
@@ -59,10 +59,10 @@ word_bytes-append [] ys = refl
 word_bytes-append (x ∷ xs) ys = ap (λ bs. le64 x ++ bs) (word_bytes-append xs ys) ∙ sym (append_assoc (le64 x) (word_bytes xs) (word_bytes ys))
 
 -- words, and those behind them
-pub both-words : (slot : Slot) (old mid new : DepotState) (front rest : List ℕ) → HasWords slot old mid front → HasWords slot mid new rest → HasWords slot old new (front ++ rest)
-both-words slot old mid new front rest h r = record {
-  front = λ t. h.front t ∙ ap (λ bs. word_bytes front ++ bs) (r.front (h.reads.tells ∙ t)) ∙ sym (append_assoc (word_bytes front) (word_bytes rest) (new.left slot))
-      ∙ ap (λ bs. bs ++ new.left slot) (sym (word_bytes-append front rest));
+pub both-words : (slot : Slot) (old mid new : DepotState) (prefix rest : List ℕ) → HasWords slot old mid prefix → HasWords slot mid new rest → HasWords slot old new (prefix ++ rest)
+both-words slot old mid new prefix rest h r = record {
+  prefix = λ t. h.prefix t ∙ ap (λ bs. word_bytes prefix ++ bs) (r.prefix (h.reads.tells ∙ t)) ∙ sym (append_assoc (word_bytes prefix) (word_bytes rest) (new.left slot))
+      ∙ ap (λ bs. bs ++ new.left slot) (sym (word_bytes-append prefix rest));
   count = r.count ∙ h.count;
   starts = λ s. r.starts s ∙ h.starts s;
   refusals = r.refusals ∙ h.refusals;
@@ -72,7 +72,7 @@ both-words slot old mid new front rest h r = record {
 -- one more piece
 pub more-words : (slot : Slot) (old mid new : DepotState) (words more piece : List ℕ) (n : ℕ) → HasWords slot old mid words → FillsPiece mid new slot piece (Ok n) → word_bytes more ≡ word_bytes words ++ take n piece → HasWords slot old new more
 more-words slot old mid new words more piece n h f are = record {
-  front = λ t. h.front t ∙ ap (λ xs. word_bytes words ++ xs) (f.next_bytes (h.reads.tells ∙ t)) ∙ sym (append_assoc (word_bytes words) (take n piece) (new.left slot)) ∙ ap (λ xs. xs ++ new.left slot) (sym are);
+  prefix = λ t. h.prefix t ∙ ap (λ xs. word_bytes words ++ xs) (f.next_bytes (h.reads.tells ∙ t)) ∙ sym (append_assoc (word_bytes words) (take n piece) (new.left slot)) ∙ ap (λ xs. xs ++ new.left slot) (sym are);
   count = count-stays f.count_rises_only_there (filled-well n call.Failed) h.count;
   starts = λ s. f.starts s ∙ h.starts s;
   refusals = count-stays f.refusals_rise_only_there (filled-well n call.NoMemory) h.refusals;
@@ -86,7 +86,7 @@ all-words slot old mid new words more piece n h f are less within =
     let now = more-words slot old mid new words more piece n h f are in
     record {
       within = within;
-      words = λ t. now.front t ∙ ap (λ xs. word_bytes more ++ xs) (f.at_end (h.reads.tells ∙ t) less) ∙ append-nil (word_bytes more);
+      words = λ t. now.prefix t ∙ ap (λ xs. word_bytes more ++ xs) (f.at_end (h.reads.tells ∙ t) less) ∙ append-nil (word_bytes more);
       ragged = λ t is. cc;
       too_large = λ t is. cc;
       read_only_where_it_rose = λ is. cc;
@@ -128,7 +128,7 @@ piece-too_large slot old mid new words piece n h f many = record {
   words = λ t. tt;
   ragged = λ t is. cc;
   too_large = λ t is.
-      let whole = ap length (h.front t) ∙ length-append (word_bytes words) (mid.left slot) in
+      let whole = ap length (h.prefix t) ∙ length-append (word_bytes words) (mid.left slot) in
       let next = ap length (f.next_bytes (h.reads.tells ∙ t)) ∙ length-append (take n piece) (new.left slot) in
       omega (arith, f.within, length-take n piece, word_bytes-length words);
   read_only_where_it_rose = λ is. cc;
@@ -148,7 +148,7 @@ words-refused slot old mid new words piece n spelled.Ragged h f whole few ragged
       let odd : n % 8 ≢ 0 = ragged refl in
       let less : n < length piece = short n (length piece) f.within whole odd in
       let none = f.at_end (h.reads.tells ∙ t) less in
-      let all = ap length (h.front t ∙ ap (λ xs. word_bytes words ++ xs) (f.next_bytes (h.reads.tells ∙ t) ∙ ap (λ xs. take n piece ++ xs) none ∙ append-nil (take n piece))) ∙ length-append (word_bytes words) (take n piece) in
+      let all = ap length (h.prefix t ∙ ap (λ xs. word_bytes words ++ xs) (f.next_bytes (h.reads.tells ∙ t) ∙ ap (λ xs. take n piece ++ xs) none ∙ append-nil (take n piece))) ∙ length-append (word_bytes words) (take n piece) in
       let count : length (old.left slot) ≡ 8 * length words + n = omega (arith, f.within, length-take n piece, word_bytes-length words) in
       (omega arith, λ even. odd (omega (arith, even, count)));
   too_large = λ t is. cc;
@@ -210,52 +210,52 @@ passed-more slot held passed old mid new more piece n (rest, count, fit, r) f ar
 pub passed-all : (slot : Slot) (held passed : ℕ) (old mid new : DepotState) (more piece : List ℕ) (n : ℕ) → HasPassed slot held passed old mid
     → FillsPiece mid new slot piece (Ok n) → word_bytes more ≡ take n piece → All (λ w. w < 2 ^ 64) more → n < length piece → passed + length more ≤ most_words
     → PassesWords slot held old new (Ok tt)
-passed-all slot held passed old mid new more piece n (rest, count, fit, r) f are fits less within before front e h = (
+passed-all slot held passed old mid new more piece n (rest, count, fit, r) f are fits less within before prefix e h = (
   rest ++ more,
   All-append (λ w. w < 2 ^ 64) rest more fit fits,
-  all-words slot before mid new (front ++ rest) (front ++ (rest ++ more)) piece n (both-words slot before old mid front rest h r) f
-      (ap word_bytes (sym (append_assoc front rest more)) ∙ word_bytes-append (front ++ rest) more ∙ ap (λ bs. word_bytes (front ++ rest) ++ bs) are) less
-      (omega (arith, within, count, e, length-append front (rest ++ more), length-append rest more)),
+  all-words slot before mid new (prefix ++ rest) (prefix ++ (rest ++ more)) piece n (both-words slot before old mid prefix rest h r) f
+      (ap word_bytes (sym (append_assoc prefix rest more)) ∙ word_bytes-append (prefix ++ rest) more ∙ ap (λ bs. word_bytes (prefix ++ rest) ++ bs) are) less
+      (omega (arith, within, count, e, length-append prefix (rest ++ more), length-append rest more)),
 )
 
 -- a piece that is refused
 pub passed-refused : (slot : Slot) (held passed : ℕ) (old mid new : DepotState) (piece : List ℕ) (fail : IoFail) → HasPassed slot held passed old mid
     → FillsPiece mid new slot piece (Err fail) → PassesWords slot held old new (Err (call_error fail))
-passed-refused slot held passed old mid new piece fail (rest, count, fit, r) f before front e h =
-    piece-refused slot before mid new (front ++ rest) piece fail (both-words slot before old mid front rest h r) f
+passed-refused slot held passed old mid new piece fail (rest, count, fit, r) f before prefix e h =
+    piece-refused slot before mid new (prefix ++ rest) piece fail (both-words slot before old mid prefix rest h r) f
 
 -- a piece with which there are too many bytes
 pub passed-too_large : (slot : Slot) (held passed : ℕ) (old mid new : DepotState) (piece : List ℕ) (n : ℕ) → HasPassed slot held passed old mid
     → FillsPiece mid new slot piece (Ok n) → most_bytes < 8 * passed + n → PassesWords slot held old new (Err TooLarge)
-passed-too_large slot held passed old mid new piece n (rest, count, fit, r) f many before front e h =
-    piece-too_large slot before mid new (front ++ rest) piece n (both-words slot before old mid front rest h r) f
-    (omega (arith, many, count, e, length-append front rest))
+passed-too_large slot held passed old mid new piece n (rest, count, fit, r) f many before prefix e h =
+    piece-too_large slot before mid new (prefix ++ rest) piece n (both-words slot before old mid prefix rest h r) f
+    (omega (arith, many, count, e, length-append prefix rest))
 
 -- a piece that is no words, or whose words find no memory
 pub passed-no_words : (slot : Slot) (held passed : ℕ) (old mid new : DepotState) (piece : List ℕ) (n : ℕ) (e : WordsError) → HasPassed slot held passed old mid
     → FillsPiece mid new slot piece (Ok n) → length piece % 8 ≡ 0 → 8 * passed + n ≤ most_bytes → (e ≡ spelled.Ragged → n % 8 ≢ 0)
     → PassesWords slot held old new (Err (words_error e))
-passed-no_words slot held passed old mid new piece n error (rest, count, fit, r) f whole few ragged before front e h =
-    words-refused slot before mid new (front ++ rest) piece n error (both-words slot before old mid front rest h r) f whole
-    (omega (arith, few, count, e, length-append front rest)) ragged
+passed-no_words slot held passed old mid new piece n error (rest, count, fit, r) f whole few ragged before prefix e h =
+    words-refused slot before mid new (prefix ++ rest) piece n error (both-words slot before old mid prefix rest h r) f whole
+    (omega (arith, few, count, e, length-append prefix rest)) ragged
 
 -- ---- words that are not kept
-first-of-front : (front rest : List ℕ) → 0 < length front → slice_index (front ++ rest) 0 ≡ slice_index front 0
-first-of-front [] rest some = absurd (omega (arith, some))
-first-of-front (x ∷ front) rest some = refl
+first-of-prefix : (prefix rest : List ℕ) → 0 < length prefix → slice_index (prefix ++ rest) 0 ≡ slice_index prefix 0
+first-of-prefix [] rest some = absurd (omega (arith, some))
+first-of-prefix (x ∷ prefix) rest some = refl
 
 -- words whose rest was passed over
-pub front-kept : (opening : ℕ) (slot : Slot) (old new : DepotState) (front : List ℕ) → ReadsBehind slot front old new (Ok tt) → All (λ w. w < 2 ^ 64) front
-    → 6 ≤ length front → slice_index front 0 ≢ opening → ReadsKept opening slot old new (Ok front)
-front-kept opening slot old new front (rest, fit, reads) first many other = (
-  front ++ rest,
+pub prefix-kept : (opening : ℕ) (slot : Slot) (old new : DepotState) (prefix : List ℕ) → ReadsBehind slot prefix old new (Ok tt) → All (λ w. w < 2 ^ 64) prefix
+    → 6 ≤ length prefix → slice_index prefix 0 ≢ opening → ReadsKept opening slot old new (Ok prefix)
+prefix-kept opening slot old new prefix (rest, fit, reads) first many other = (
+  prefix ++ rest,
   inr (record {
     many = many;
-    no_more = omega (arith, length-append front rest);
-    same_first = first-of-front front rest (omega (arith, many));
+    no_more = omega (arith, length-append prefix rest);
+    same_first = first-of-prefix prefix rest (omega (arith, many));
     other = other;
   }),
-  All-append (λ w. w < 2 ^ 64) front rest first fit,
+  All-append (λ w. w < 2 ^ 64) prefix rest first fit,
   reads,
 )
 

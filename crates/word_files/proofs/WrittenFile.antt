@@ -45,7 +45,7 @@ pub none-written : (s : DepotState) → WritesAllToFile s s [] (Ok tt)
 none-written s = record {
   tells = refl;
   whole = λ t. sym (append-nil (unwrap_or (s.file s.name) []));
-  front = λ t. tt;
+  prefix = λ t. tt;
   stays = λ t f. f;
   other_files = λ t name ne. refl;
   slots = λ slot. (refl, λ t. refl);
@@ -84,7 +84,7 @@ piece-written a b c xs ys p q = record {
       ∙ ap (λ name. unwrap_or (b.file name) [] ++ ys) same
       ∙ ap (λ zs. zs ++ ys) (p.whole t)
       ∙ append_assoc (unwrap_or (a.file a.name) []) xs ys;
-  front = λ t. tt;
+  prefix = λ t. tt;
   stays = λ t f. file-stays a b c xs ys (Ok tt) p q t f;
   other_files = λ t name ne. q.other_files (p.tells ∙ t) name (λ e. ne (e ∙ p.writing.1 t)) ∙ p.other_files t name ne;
   slots = λ slot. ((q.slots slot).0 ∙ (p.slots slot).0, λ t. (q.slots slot).1 (p.tells ∙ t) ∙ (p.slots slot).1 t);
@@ -99,9 +99,9 @@ pub piece-refused : (a b c : DepotState) (xs ys zs whole : List ℕ) (e : IoFail
 piece-refused a b c xs ys zs whole e p q is = record {
   tells = q.tells ∙ p.tells;
   whole = λ t. tt;
-  front = λ t.
+  prefix = λ t.
       let same = p.writing.1 t in
-      let f = q.front (p.tells ∙ t) in
+      let f = q.prefix (p.tells ∙ t) in
       let all : take (length xs + f.0) whole ≡ xs ++ take f.0 ys =
       ap (λ ws. take (length xs + f.0) ws) is ∙ take-append-add xs (ys ++ zs) f.0 ∙ ap (λ ws. xs ++ ws) (take-append-le f.0 ys zs f.1) in (
         length xs + f.0,
@@ -217,12 +217,12 @@ whole-file name bytes a b c k w t =
     let empty = begun-file name a b k t in
     ap c.file (sym (k.named t)) ∙ some-of (c.file b.name) bytes (w.stays told ([], empty)) (w.whole told ∙ ap (λ f. unwrap_or f [] ++ bytes) empty)
 
--- a front of them is
-front-file : (name bytes : List ℕ) (a b c : DepotState) (e : IoFail) → Creates a b name (Ok tt) → WritesAllToFile b c bytes (Err e) → IsTrue a.tells → (n : ℕ) × (c.file name ≡ Some (take n bytes))
-front-file name bytes a b c e k w t =
+-- a prefix of them is
+prefix-file : (name bytes : List ℕ) (a b c : DepotState) (e : IoFail) → Creates a b name (Ok tt) → WritesAllToFile b c bytes (Err e) → IsTrue a.tells → (n : ℕ) × (c.file name ≡ Some (take n bytes))
+prefix-file name bytes a b c e k w t =
     let told = k.tells ∙ t in
     let empty = begun-file name a b k t in
-    let f = w.front told in (
+    let f = w.prefix told in (
       f.0,
       ap c.file (sym (k.named t)) ∙ some-of (c.file b.name) (take f.0 bytes) (w.stays told ([], empty)) (f.2 ∙ ap (λ g. unwrap_or g [] ++ take f.0 bytes) empty),
     )
@@ -316,7 +316,7 @@ write-refused bytes name a b c fail k w =
     let creates : c.create_faults ≡ a.create_faults = w.create_count ∙ k.create_count.same_at_ok refl in
     let finishes : c.finish_faults ≡ a.finish_faults = w.finish_count ∙ k.finish_count in
     refusal bytes name a c fail (counts-then a b c (Err fail) k.counts w.counts)
-    (inr (λ t. let f = front-file name bytes a b c fail k w t in (f.0, f.1, only.other_files t)))
+    (inr (λ t. let f = prefix-file name bytes a b c fail k w t in (f.0, f.1, only.other_files t)))
     (inr begun) only
     (λ is. begun-by-fault name bytes a c begun creates (λ rose. absurd (omega (arith, rose, finishes))))
     (λ is. (creates, finishes))

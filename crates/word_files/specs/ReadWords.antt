@@ -53,7 +53,7 @@ ReadsKept opening slot old new (Err e) = ReadsWords slot old new (Err e)
 
 -- The bytes of these words were read from a slot, and no call failed.
 pub record HasWords (slot : Slot) (old new : DepotState) (words : List ℕ) : Type 0 where
-  pub front : IsTrue old.tells → old.left slot ≡ word_bytes words ++ new.left slot
+  pub prefix : IsTrue old.tells → old.left slot ≡ word_bytes words ++ new.left slot
   pub count : new.faults slot ≡ old.faults slot
   pub starts : SameStarts old new
   pub refusals : new.refusals ≡ old.refusals
@@ -61,10 +61,10 @@ pub record HasWords (slot : Slot) (old new : DepotState) (words : List ℕ) : Ty
 
 -- What reading the rest gives, once these words have come: together they are all words, or they are refused.
 abbrev pub ReadsBehind : Slot → List ℕ → DepotState → DepotState → Result (Unit {0}) LoadWordsError → Type 0
-ReadsBehind slot front old new (Ok u) = (rest : List ℕ) × All (λ w. w < 2 ^ 64) rest × ReadsWords slot old new (Ok (front ++ rest))
-ReadsBehind slot front old new (Err e) = ReadsWords slot old new (Err e)
+ReadsBehind slot prefix old new (Ok u) = (rest : List ℕ) × All (λ w. w < 2 ^ 64) rest × ReadsWords slot old new (Ok (prefix ++ rest))
+ReadsBehind slot prefix old new (Err e) = ReadsWords slot old new (Err e)
 
 -- What passing over the words of all bytes that a started slot has left gives, behind any so many words that have come.
 abbrev pub PassesWords : Slot → ℕ → DepotState → DepotState → Result (Unit {0}) LoadWordsError → Type 0
 PassesWords slot held mid new result =
-    (old : DepotState) (front : List ℕ) → length front ≡ held → HasWords slot old mid front → ReadsBehind slot front old new result
+    (old : DepotState) (prefix : List ℕ) → length prefix ≡ held → HasWords slot old mid prefix → ReadsBehind slot prefix old new result

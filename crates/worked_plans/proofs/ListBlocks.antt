@@ -47,11 +47,11 @@ module _ (n : ℕ) (some : 2 ≤ n) where
       let one : n - (n - 1) ≡ 1 = omega arith in
       ap greatest (ap (λ (k : ℕ). take k (drop (n - 1) (long_freqs n))) one ∙ ap (take 1) (ap (λ (k : ℕ). drop k (long_freqs n)) (sym l) ∙ drop-append_seam (replicate (n - 1) 1) (9 ∷ [])))
 
-  pub front-last : (nth_block (two_lists n) 0 0).last ≡ n - 2
-  front-last = let d = doc-at (n - 1 - 1) (omega arith) in omega arith
+  pub prefix-last : (nth_block (two_lists n) 0 0).last ≡ n - 2
+  prefix-last = let d = doc-at (n - 1 - 1) (omega arith) in omega arith
 
-  pub front-most : (nth_block (two_lists n) 0 0).greatest ≡ 1
-  front-most =
+  pub prefix-most : (nth_block (two_lists n) 0 0).greatest ≡ 1
+  prefix-most =
       let whole : n - 1 - 0 ≡ n - 1 = omega arith in
       most-in (n - 1 - 0) 0 ∙ ap (λ (k : ℕ). greatest (take k (long_freqs n))) whole ∙ ones-most
 

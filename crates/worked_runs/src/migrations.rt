@@ -84,7 +84,7 @@ fn one_list_migrated(alloc: Global) -> Option<(Outcome, Vec<u8>)> {
     Some((steady_run(alloc, &MIGRATE, files, b"")?, new))
 }
 
-// Where memory is refused, that is the answer, and a front of the new index stands, or nothing.
+// Where memory is refused, that is the answer, and a prefix of the new index stands, or nothing.
 #[test]
 fn refused_memory_of_a_migration_is_told(rt: HostRuntime) {
     let alloc = rt.alloc();

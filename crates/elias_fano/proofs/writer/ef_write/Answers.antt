@@ -2,7 +2,7 @@ use Rattle.std.proofs.Common.{◌≡◌, ℕ, ◌+◌, ◌^◌, ◌≤◌, List,
 use Rattle.std.proofs.lemmas.List.{length-append}
 use Rattle.std.proofs.lemmas.Result.{on_ok_weaker, on_err_weaker}
 use Rattle.bit_words.specs.Bits.{AppendsBits}
-use Rattle.bit_words.proofs.Fronts.{appends-front, appends-behind, appends-both}
+use Rattle.bit_words.proofs.Prefixes.{appends-prefix, appends-behind, appends-both}
 use Rattle.bit_words.proofs.Outcomes.{on-err}
 use Rattle.part_cost.specs.Payload.{widest_low, low_width_of}
 use Rattle.part_cost.specs.Span.{AreRelative}
@@ -44,8 +44,8 @@ returns-in_err-write_high_bits-clause-err g c =
     let ys = c.args.values.now in
     on-err _ _
     (subst (λ xs. AppendsBits c.args.to.now c.write_high_bits.new.to xs) (sym (whole g.row.Q c.args.u c.low_width-low.result c.args.values.now c.low_width-low.ensures.value))
-    (appends-front c.args.to.now c.write_high_bits.new.to (high_bits l c.args.u ys ++ low_fields l ys) (ef_samples g.row.Q l ys)
-    (appends-front c.args.to.now c.write_high_bits.new.to (high_bits l c.args.u ys) (low_fields l ys)
+    (appends-prefix c.args.to.now c.write_high_bits.new.to (high_bits l c.args.u ys ++ low_fields l ys) (ef_samples g.row.Q l ys)
+    (appends-prefix c.args.to.now c.write_high_bits.new.to (high_bits l c.args.u ys) (low_fields l ys)
     (subst (λ v. AppendsBits c.args.to.now c.write_high_bits.new.to (high_bits l v ys)) (past-is c.args.u ys c.requires.values) c.in_err-write_high_bits.ensures.err))))
 
 pub write_low_fields-requires-clause-room : goal.write_low_fields-requires-clause-room
@@ -60,7 +60,7 @@ returns-in_err-write_low_fields-clause-err g c =
     let ys = c.args.values.now in
     on-err _ _
     (subst (λ xs. AppendsBits c.args.to.now c.write_low_fields.new.to xs) (sym (whole g.row.Q c.args.u l ys c.low_width-low.ensures.value))
-    (appends-front c.args.to.now c.write_low_fields.new.to (high_bits l c.args.u ys ++ low_fields l ys) (ef_samples g.row.Q l ys)
+    (appends-prefix c.args.to.now c.write_low_fields.new.to (high_bits l c.args.u ys ++ low_fields l ys) (ef_samples g.row.Q l ys)
     (appends-behind c.args.to.now c.write_high_bits.new.to c.write_low_fields.new.to (high_bits l c.args.u ys) (low_fields l ys) (highs g (goal.at.returns-in_err-write_low_fields-clause-err g c).In_ok-write_high_bits) c.in_err-write_low_fields.ensures.err)))
 
 pub write_samples-requires-clause-values : goal.write_samples-requires-clause-values

@@ -1,6 +1,6 @@
 use Rattle.std.proofs.Common.{◌≡◌, ℕ, ◌+◌, ◌-◌, ◌^◌, ◌<◌, ◌++◌, length, take, get_or, sym, subst, ap, ◌∙◌, arith}
 use Rattle.bit_words.specs.Bits.{AppendsBits, one_after}
-use Rattle.bit_words.proofs.OnesWritten.{ones-more, ones-front, ones-room, ones-all}
+use Rattle.bit_words.proofs.OnesWritten.{ones-more, ones-prefix, ones-room, ones-all}
 use Rattle.bit_words.proofs.Outcomes.{on-err}
 use Rattle.part_cost.specs.Span.{past}
 use Rattle.elias_fano.specs.EfBits.{high_place, high_bits}
@@ -32,7 +32,7 @@ returns-in_err-put_one_after-clause-err c =
     let bits = high_bits l (past ys (length ys)) ys in
     let gap : ℕ = high_place l k (get_or ys k 0) - past_place l ys k in
     on-err _ _
-    (ones-front c.args.to.now c.loop-value.to c.put_one_after.new.self bits (past_place l ys k) gap (next-high l k ys c.requires.rising c.requires.some c.loop-value-test.true) c.loop-value.invariant.written
+    (ones-prefix c.args.to.now c.loop-value.to c.put_one_after.new.self bits (past_place l ys k) gap (next-high l k ys c.requires.rising c.requires.some c.loop-value-test.true) c.loop-value.invariant.written
     (subst (λ n. AppendsBits c.loop-value.to c.put_one_after.new.self (one_after n)) (high-gap l k c.loop-value.last ys c.loop-value.invariant.last) c.in_err-put_one_after.ensures.err))
 
 pub loop-value-preserved : goal.loop-value-preserved

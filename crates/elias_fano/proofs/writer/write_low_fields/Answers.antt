@@ -1,6 +1,6 @@
 use Rattle.std.proofs.Common.{◌^◌}
 use Rattle.bit_words.proofs.Outcomes.{on-err}
-use Rattle.elias_fano.proofs.Writing.{low-room, low-front, low-more}
+use Rattle.elias_fano.proofs.Writing.{low-room, low-prefix, low-more}
 use Rattle.elias_fano.proofs.writer.write_low_fields.Goals as goal
 
 pub put-requires-clause-room : goal.put-requires-clause-room
@@ -8,7 +8,7 @@ put-requires-clause-room c = low-room c.args.low c.args.values.now c.loop-value.
 
 pub returns-in_err-put-clause-err : goal.returns-in_err-put-clause-err
 returns-in_err-put-clause-err c =
-    on-err _ _ (low-front c.args.low c.args.values.now c.loop-value.value-index c.args.to.now c.loop-value.to c.put.new.self c.loop-value.invariant c.in_err-put.ensures.err)
+    on-err _ _ (low-prefix c.args.low c.args.values.now c.loop-value.value-index c.args.to.now c.loop-value.to c.put.new.self c.loop-value.invariant c.in_err-put.ensures.err)
 
 pub loop-value-preserved : goal.loop-value-preserved
 loop-value-preserved c =

@@ -4,7 +4,7 @@ use Rattle.part_cost.specs.Span.{past}
 use Rattle.elias_fano.proofs.Rising.{place-within, relative-fit}
 use Rattle.part_cost.proofs.Numbers.{sampled-within}
 use Rattle.bit_words.proofs.Outcomes.{on-err}
-use Rattle.elias_fano.proofs.Writing.{samples-room, samples-more, samples-front, samples-all}
+use Rattle.elias_fano.proofs.Writing.{samples-room, samples-more, samples-prefix, samples-all}
 use Rattle.elias_fano.proofs.writer.write_samples.Goals as goal
 
 pub overflow_add-values : goal.overflow_add-values
@@ -22,7 +22,7 @@ put-requires-clause-room g c =
 
 pub returns-in_err-put-clause-err : goal.returns-in_err-put-clause-err
 returns-in_err-put-clause-err g c =
-    on-err _ _ (samples-front g.row.Q c.args.low c.args.values.now c.loop-j.j c.args.to.now c.loop-j.to c.put.new.self c.loop-j.invariant c.in_err-put.ensures.err)
+    on-err _ _ (samples-prefix g.row.Q c.args.low c.args.values.now c.loop-j.j c.args.to.now c.loop-j.to c.put.new.self c.loop-j.invariant c.in_err-put.ensures.err)
 
 pub loop-j-preserved : goal.loop-j-preserved
 loop-j-preserved g c =

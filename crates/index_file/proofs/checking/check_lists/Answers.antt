@@ -5,7 +5,7 @@ use Rattle.part_cost.specs.Formats.{numbers_of}
 use Rattle.part_cost.proofs.Rooms.{formats-have-room}
 use Rattle.index_file.specs.FirstBroken.{stated_terms, IsTermFault}
 use Rattle.index_file.specs.ListAt.{IsFirstListFault}
-use Rattle.index_file.proofs.Fronts.{reached-first, reached-next, reached-front, reached-fault}
+use Rattle.index_file.proofs.Prefixes.{reached-first, reached-next, reached-prefix, reached-fault}
 use Rattle.index_file.proofs.checking.check_lists.Goals as goal
 
 pub loop-t-init : goal.loop-t-init
@@ -32,4 +32,4 @@ pub returns-clause-ok : goal.returns-clause-ok
 returns-clause-ok c =
     let r = c.loop-t.invariant in
     let all : length c.loop-t.invariant.0 ≡ stated_terms c.args.words.now = omega (arith, r.1.count, c.loop-t-test.false, c.loop-t.auto.t-end, c.requires.numbers.terms) in
-    (r.0, reached-front (numbers_of c.args.format) c.args.words.now c.loop-t.t c.loop-t.p r.0 c.requires.frame (omega (arith, r.1.count, all)) r.1, all, r.1.place)
+    (r.0, reached-prefix (numbers_of c.args.format) c.args.words.now c.loop-t.t c.loop-t.p r.0 c.requires.frame (omega (arith, r.1.count, all)) r.1, all, r.1.place)

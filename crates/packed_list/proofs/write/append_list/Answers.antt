@@ -11,7 +11,7 @@ use Rattle.packed_list.specs.Gamma.{gamma, gamma_length}
 use Rattle.packed_list.proofs.GammaCodes.{gamma-takes}
 use Rattle.packed_list.specs.ListBits.{last_doc, last_sum}
 use Rattle.packed_list.proofs.ListPieces.{head-of, count-docs, none-of, single-of}
-use Rattle.packed_list.proofs.ListWritten.{has-parts, docs-are, sums-are, stored-by, room-of-head, front-count, front-most, head-whole, length-behind, single-whole, single-front, docs-whole, docs-room, docs-front, sums-room, sums-front, sums-whole}
+use Rattle.packed_list.proofs.ListWritten.{has-parts, docs-are, sums-are, stored-by, room-of-head, prefix-count, prefix-most, head-whole, length-behind, single-whole, single-prefix, docs-whole, docs-room, docs-prefix, sums-room, sums-prefix, sums-whole}
 use Rattle.packed_list.proofs.write.append_list.Goals as goal
 
 pub put_gamma-requires-clause-room : goal.put_gamma-requires-clause-room
@@ -21,7 +21,7 @@ put_gamma-requires-clause-room c =
 
 pub returns-in_err-put_gamma-clause-err : goal.returns-in_err-put_gamma-clause-err
 returns-in_err-put_gamma-clause-err c = λ list h.
-    on-err _ _ (front-count c.args.documents c.args.list.now list c.args.to.now c.put_gamma.new.to h (omega (arith, c.if-m-eq0.false)) c.in_err-put_gamma.ensures.err)
+    on-err _ _ (prefix-count c.args.documents c.args.list.now list c.args.to.now c.put_gamma.new.to h (omega (arith, c.if-m-eq0.false)) c.in_err-put_gamma.ensures.err)
 
 pub put_gamma-requires-2-clause-some : goal.put_gamma-requires-2-clause-some
 put_gamma-requires-2-clause-some c =
@@ -47,7 +47,7 @@ put_gamma-requires-2-clause-room c =
 
 pub returns-in_err-put_gamma-2-clause-err : goal.returns-in_err-put_gamma-2-clause-err
 returns-in_err-put_gamma-2-clause-err c = λ list h.
-    on-err _ _ (front-most c.args.documents c.args.list.now list c.args.to.now c.put_gamma.new.to c.put_gamma-2.new.to h (omega (arith, c.if-m-eq0.false)) c.in_ok-put_gamma.ensures.ok c.from.result c.from.ensures c.in_err-put_gamma-2.ensures.err)
+    on-err _ _ (prefix-most c.args.documents c.args.list.now list c.args.to.now c.put_gamma.new.to c.put_gamma-2.new.to h (omega (arith, c.if-m-eq0.false)) c.in_ok-put_gamma.ensures.ok c.from.result c.from.ensures c.in_err-put_gamma-2.ensures.err)
 
 pub put-requires-clause-fits : goal.put-requires-clause-fits
 put-requires-clause-fits c =
@@ -82,7 +82,7 @@ put-requires-clause-room c =
 pub returns-then-m-eq1-clause-err : goal.returns-then-m-eq1-clause-err
 returns-then-m-eq1-clause-err c = λ list h.
     let b = head-whole c.args.to.now c.put_gamma.new.to c.put_gamma-2.new.to (length c.args.list.now.docs.now) c.from.result c.args.list.now.greatest c.in_ok-put_gamma.ensures.ok c.in_ok-put_gamma-2.ensures.ok c.from.ensures in
-    on_err_weaker c.put.result (λ e. single-front c.args.documents c.args.list.now list c.args.to.now c.put_gamma-2.new.to c.put.new.self h c.if-m-eq1.true b e) c.put.ensures.err
+    on_err_weaker c.put.result (λ e. single-prefix c.args.documents c.args.list.now list c.args.to.now c.put_gamma-2.new.to c.put.new.self h c.if-m-eq1.true b e) c.put.ensures.err
 
 pub overflow_cast-m : goal.overflow_cast-m
 overflow_cast-m c =
@@ -109,7 +109,7 @@ append_sequence-requires-clause-few c =
 pub returns-in_err-append_sequence-clause-err : goal.returns-in_err-append_sequence-clause-err
 returns-in_err-append_sequence-clause-err c = λ list h.
     let b = head-whole c.args.to.now c.put_gamma.new.to c.put_gamma-2.new.to (length c.args.list.now.docs.now) c.from.result c.args.list.now.greatest c.in_ok-put_gamma.ensures.ok c.in_ok-put_gamma-2.ensures.ok c.from.ensures in
-    on-err _ _ (docs-front c.args.documents c.args.list.now list c.args.to.now h (omega (arith, c.if-m-eq0.false, c.if-m-eq1.false)) c.put_gamma-2.new.to c.append_sequence.new.to c.last_doc-docs.result b c.last_doc-docs.ensures c.in_err-append_sequence.ensures.err)
+    on-err _ _ (docs-prefix c.args.documents c.args.list.now list c.args.to.now h (omega (arith, c.if-m-eq0.false, c.if-m-eq1.false)) c.put_gamma-2.new.to c.append_sequence.new.to c.last_doc-docs.result b c.last_doc-docs.ensures c.in_err-append_sequence.ensures.err)
 
 pub append_sequence-requires-2-clause-stored : goal.append_sequence-requires-2-clause-stored
 append_sequence-requires-2-clause-stored c =
@@ -137,7 +137,7 @@ returns-clause-err c = λ list h.
     let b = head-whole c.args.to.now c.put_gamma.new.to c.put_gamma-2.new.to (length p.docs.now) c.from.result p.greatest c.in_ok-put_gamma.ensures.ok c.in_ok-put_gamma-2.ensures.ok c.from.ensures in
     let d = docs-whole c.args.documents p c.args.to.now c.put_gamma-2.new.to c.append_sequence.new.to c.last_doc-docs.result b c.last_doc-docs.ensures c.in_ok-append_sequence.ensures.ok in
     on_err_weaker c.append_sequence-2.result
-    (λ f. sums-front c.args.documents p list c.args.to.now h many c.append_sequence.new.to c.append_sequence-2.new.to c.last_sum-sums.result d c.last_sum-sums.ensures f) c.append_sequence-2.ensures.err
+    (λ f. sums-prefix c.args.documents p list c.args.to.now h many c.append_sequence.new.to c.append_sequence-2.new.to c.last_sum-sums.result d c.last_sum-sums.ensures f) c.append_sequence-2.ensures.err
 
 pub returns-clause-ok : goal.returns-clause-ok
 returns-clause-ok c = λ list h.

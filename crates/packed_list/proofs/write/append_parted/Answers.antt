@@ -8,7 +8,7 @@ use Rattle.part_cost.specs.Payload.{digits}
 use Rattle.part_cost.proofs.DigitCounts.{digits-hold}
 use Rattle.part_cost.proofs.Partitions.{few-parts}
 use Rattle.two_level.specs.SequenceWords.{sequence_words}
-use Rattle.packed_list.proofs.Written.{parted-head, length-head, length-parted, parted-number, parted-padded, front-head, front-words, all-words}
+use Rattle.packed_list.proofs.Written.{parted-head, length-head, length-parted, parted-number, parted-padded, prefix-head, prefix-words, all-words}
 use Rattle.packed_list.proofs.write.append_parted.Goals as goal
 
 pub put-requires-2-clause-fits : goal.put-requires-2-clause-fits
@@ -54,7 +54,7 @@ returns-in_err-write_seq-clause-err c =
     let old : List ℕ = c.args.to.now in
     let xs : List ℕ = c.args.values.now in
     let ends : List ℕ = c.args.ends.now in
-    on-err _ _ (front-head old c.pad.new.self xs ends (head old c.put.new.self c.put-2.new.self c.pad.new.self xs ends c.digits.result c.in_ok-put.ensures.ok c.in_ok-put-2.ensures.ok c.digits.ensures c.in_ok-pad.ensures.ok))
+    on-err _ _ (prefix-head old c.pad.new.self xs ends (head old c.put.new.self c.put-2.new.self c.pad.new.self xs ends c.digits.result c.in_ok-put.ensures.ok c.in_ok-put-2.ensures.ok c.digits.ensures c.in_ok-pad.ensures.ok))
 
 pub append_words-requires : goal.append_words-requires
 append_words-requires c =
@@ -91,4 +91,4 @@ returns-clause-err c =
     let ends : List ℕ = c.args.ends.now in
     let whole = head old c.put.new.self c.put-2.new.self c.pad.new.self xs ends c.digits.result c.in_ok-put.ensures.ok c.in_ok-put-2.ensures.ok c.digits.ensures c.in_ok-pad.ensures.ok in
     let words : c.deref.result.now ≡ sequence_words format_three xs ends = c.deref.ensures.value ∙ c.in_ok-write_seq.ensures.ok ∙ ap (λ ws. ws ++ sequence_words format_three xs ends) c.new-words.ensures.items in
-    on_err_weaker c.append_words.result (λ h. front-words old c.pad.new.self c.append_words.new.to xs ends c.deref.result.now whole words h) c.append_words.ensures.err
+    on_err_weaker c.append_words.result (λ h. prefix-words old c.pad.new.self c.append_words.new.to xs ends c.deref.result.now whole words h) c.append_words.ensures.err

@@ -3,7 +3,7 @@ use Rattle.std.proofs.lemmas.List.{take_at}
 use Rattle.bit_words.specs.Bits.{AppendsBits}
 use Rattle.packed_list.proofs.write.write_list.Goals as goal
 
--- a front taken away again
+-- a prefix taken away again
 back : (old new bits : List ℕ) (first : ℕ) → first ≡ length old → AppendsBits old new bits → take first new ≡ old
 back old new bits first is h = ap (take first) h.2 ∙ take_at old (take h.0 bits) first (let e : length old ≡ first = omega (arith, is) in e)
 

@@ -2,7 +2,7 @@ use Rattle.std.proofs.Common.{arith, ◌≡◌, ◌∙◌, sym, ap, IsTrue, drop
 use Rattle.std.specs.Prelude.{is_ok}
 use Rattle.std.proofs.lemmas.List.{length-drop, length-take}
 use Rattle.std.proofs.lemmas.Result.{IfOk-at_ok}
-use Rattle.pef_io.proofs.Fronts.{one_front, no_more_at_ok}
+use Rattle.pef_io.proofs.Prefixes.{one_prefix, no_more_at_ok}
 use Rattle.pef_io.proofs.helpers.depot_write_all.Goals as goal
 
 pub loop-at-preserved : goal.loop-at-preserved
@@ -20,7 +20,7 @@ loop-at-preserved g c =
       write.tells ∙ before.1,
       (λ t.
           let same_name = before.5.1 t in
-          one_front (unwrap_or (old.file old.name) []) (unwrap_or (mid.file mid.name) []) (unwrap_or (new.file old.name) []) piece at c.in_ok-at.field-0 before.0
+          one_prefix (unwrap_or (old.file old.name) []) (unwrap_or (mid.file mid.name) []) (unwrap_or (new.file old.name) []) piece at c.in_ok-at.field-0 before.0
           (ap (λ name. unwrap_or (mid.file name) []) same_name ∙ before.2 t)
           (ap (λ name. unwrap_or (new.file name) []) (sym same_name) ∙ ap (λ file. unwrap_or file []) (appended t))),
       (λ t name ne. write.other_files (before.1 ∙ t) name (λ e. ne (e ∙ before.5.1 t)) ∙ before.3 t name ne),

@@ -1,7 +1,7 @@
 use Rattle.std.proofs.Common.{◌+◌, ◌-◌, ◌≤◌, length, take, drop, arith}
 use Rattle.std.proofs.lemmas.List.{length-take, length-drop}
 use Rattle.std.proofs.lemmas.Result.{IfOk-at_ok}
-use Rattle.pef_io.proofs.Loading.{read_front, read_on, put_front}
+use Rattle.pef_io.proofs.Loading.{read_prefix, read_on, put_prefix}
 use Rattle.pef_io.proofs.load.fill_piece.Goals as goal
 
 pub loop-held-preserved : goal.loop-held-preserved
@@ -14,6 +14,6 @@ loop-held-preserved g c =
     record {
       within = omega arith;
       room = omega arith;
-      read = read_front _ _ _ _ _ (read_on (g.D.Depot.state c.args.depot.now) (g.D.Depot.state c.loop-held.depot) (g.D.Depot.state c.read.new.self) c.args.slot (take held was) _ c.read.new.buf _ count c.loop-held.invariant.read c.read.ensures c.in_ok-count.was)
-          (put_front held (length was - held) count was c.read.new.buf (omega arith) (omega (arith, came, c.read.auto.buf)));
+      read = read_prefix _ _ _ _ _ (read_on (g.D.Depot.state c.args.depot.now) (g.D.Depot.state c.loop-held.depot) (g.D.Depot.state c.read.new.self) c.args.slot (take held was) _ c.read.new.buf _ count c.loop-held.invariant.read c.read.ensures c.in_ok-count.was)
+          (put_prefix held (length was - held) count was c.read.new.buf (omega arith) (omega (arith, came, c.read.auto.buf)));
     }

@@ -3,7 +3,7 @@ use Rattle.std.proofs.lemmas.List.{length-drop, length-take}
 use Rattle.std.proofs.lemmas.List.Elements.{All-take}
 use Rattle.std.proofs.lemmas.Result.{err_from_is_err_and}
 use Rattle.std.proofs.lemmas.Result.{IfOk-at_ok}
-use Rattle.pef_io.proofs.Loading.{read_front, refused, whole, read_on, read_into, front_kept}
+use Rattle.pef_io.proofs.Loading.{read_prefix, refused, whole, read_on, read_into, prefix_kept}
 use Rattle.pef_io.proofs.load.load_bytes.Goals as goal
 
 pub returns-in_err-count : goal.returns-in_err-count
@@ -29,8 +29,8 @@ returns-then-count-eq0 g c =
     c.loop-held.invariant.read c.read.ensures (c.in_ok-count.was ∙ ap Ok c.if-count-eq0.true)
     (omega (arith, length-take (end - held) (drop held lent), length-drop held lent, ap length c.deref_mut.ensures.value, longer))
     few
-    (c.truncate.ensures.items ∙ front_kept held _ _ room lent c.read.new.buf _ c.deref_mut.ensures.value (omega (arith, longer)) (omega (arith, c.in_ok-make_room.ensures.room)) ∙ c.in_ok-make_room.ensures.front)
-    (subst P c.in_ok-make_room.ensures.front (All-take (λ b. b < 256) held room small))
+    (c.truncate.ensures.items ∙ prefix_kept held _ _ room lent c.read.new.buf _ c.deref_mut.ensures.value (omega (arith, longer)) (omega (arith, c.in_ok-make_room.ensures.room)) ∙ c.in_ok-make_room.ensures.prefix)
+    (subst P c.in_ok-make_room.ensures.prefix (All-take (λ b. b < 256) held room small))
 
 pub loop-held-preserved : goal.loop-held-preserved
 loop-held-preserved g c =
@@ -47,6 +47,6 @@ loop-held-preserved g c =
     record {
       within = omega arith;
       few = omega arith;
-      read = read_front _ _ _ _ _ (read_on (g.D.Depot.state c.args.depot.now) (g.D.Depot.state c.loop-held.depot) (g.D.Depot.state c.read.new.self) c.args.slot (take held was) _ piece _ count c.loop-held.invariant.read c.read.ensures c.in_ok-count.was)
-          (read_into held (end - held) c.make_room.new.bytes.len count room lent piece _ c.deref_mut.ensures.value (omega (arith, longer)) (omega (arith, came, c.read.auto.buf)) (omega arith) ∙ ap (λ xs. xs ++ take count piece) c.in_ok-make_room.ensures.front);
+      read = read_prefix _ _ _ _ _ (read_on (g.D.Depot.state c.args.depot.now) (g.D.Depot.state c.loop-held.depot) (g.D.Depot.state c.read.new.self) c.args.slot (take held was) _ piece _ count c.loop-held.invariant.read c.read.ensures c.in_ok-count.was)
+          (read_into held (end - held) c.make_room.new.bytes.len count room lent piece _ c.deref_mut.ensures.value (omega (arith, longer)) (omega (arith, came, c.read.auto.buf)) (omega arith) ∙ ap (λ xs. xs ++ take count piece) c.in_ok-make_room.ensures.prefix);
     }

@@ -1,7 +1,7 @@
 use Rattle.std.proofs.Common.{◌≡◌, take, drop}
 use Rattle.std.specs.Prelude.{sum}
 use Rattle.pefidx_c.specs.GivenLists.{lists_given}
-use Rattle.pefidx_c.proofs.Fronts.{AreGoodUpTo}
+use Rattle.pefidx_c.proofs.Prefixes.{AreGoodUpTo}
 use Rattle.pefidx_c.proofs.given_lists.first_bad.Given as goal
 
 abbrev pub invariant-loop-term : goal.invariant-loop-term

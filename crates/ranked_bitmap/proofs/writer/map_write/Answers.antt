@@ -5,7 +5,7 @@ use Rattle.bit_words.specs.Bits.{AppendsBits}
 use Rattle.bit_words.proofs.Outcomes.{on-err}
 use Rattle.part_cost.proofs.Parts.{past-is}
 use Rattle.ranked_bitmap.specs.MapBits.{marks, map_bits}
-use Rattle.ranked_bitmap.proofs.Writing.{length-both, marks-of, part-whole, part-front, part-behind}
+use Rattle.ranked_bitmap.proofs.Writing.{length-both, marks-of, part-whole, part-prefix, part-behind}
 use Rattle.ranked_bitmap.proofs.writer.map_write.Goals as goal
 
 pub write_marks-requires-clause-room : goal.write_marks-requires-clause-room
@@ -15,7 +15,7 @@ write_marks-requires-clause-room g c =
 pub returns-in_err-write_marks-clause-err : goal.returns-in_err-write_marks-clause-err
 returns-in_err-write_marks-clause-err g c =
     on-err c.from_residual.result (AppendsBits c.args.to.now c.write_marks.new.to (map_bits g.row.B c.args.values.now c.args.u))
-    (part-front g.row.B c.args.u c.args.to.now c.write_marks.new.to c.args.values.now (subst (λ v. AppendsBits c.args.to.now c.write_marks.new.to (marks c.args.values.now v)) (past-is c.args.u c.args.values.now c.requires.values) c.in_err-write_marks.ensures.err))
+    (part-prefix g.row.B c.args.u c.args.to.now c.write_marks.new.to c.args.values.now (subst (λ v. AppendsBits c.args.to.now c.write_marks.new.to (marks c.args.values.now v)) (past-is c.args.u c.args.values.now c.requires.values) c.in_err-write_marks.ensures.err))
 
 pub write_samples-requires-clause-room : goal.write_samples-requires-clause-room
 write_samples-requires-clause-room g c =

@@ -1,6 +1,6 @@
 use Rattle.std.proofs.Common.{◌≡◌, ℕ, suc, ◌+◌, ◌-◌, ◌^◌, ◌<◌, List, ◌++◌, length, take, get_or, sym, subst, ap, ◌∙◌, arith}
 use Rattle.bit_words.specs.Bits.{AppendsBits, one_after}
-use Rattle.bit_words.proofs.OnesWritten.{ones-more, ones-front, ones-room, ones-all}
+use Rattle.bit_words.proofs.OnesWritten.{ones-more, ones-prefix, ones-room, ones-all}
 use Rattle.bit_words.proofs.Outcomes.{on-err}
 use Rattle.part_cost.specs.Span.{past}
 use Rattle.part_cost.proofs.Parts.{past-number}
@@ -30,7 +30,7 @@ returns-in_err-put_one_after-clause-err c =
     let ys = c.args.values.now in
     let k = c.loop-value.value-index in
     on-err _ _
-    (ones-front c.args.to.now c.loop-value.to c.put_one_after.new.self (marks ys (past ys (length ys))) (past ys k) (get_or ys k 0 - past ys k)
+    (ones-prefix c.args.to.now c.loop-value.to c.put_one_after.new.self (marks ys (past ys (length ys))) (past ys k) (get_or ys k 0 - past ys k)
     (next-mark ys k c.requires.rising c.requires.some c.loop-value-test.true) c.loop-value.invariant.written
     (subst (λ n. AppendsBits c.loop-value.to c.put_one_after.new.self (one_after n)) (gap ys k c.loop-value.past c.loop-value.invariant.past) c.in_err-put_one_after.ensures.err))
 

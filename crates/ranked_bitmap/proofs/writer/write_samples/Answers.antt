@@ -5,7 +5,7 @@ use Rattle.part_cost.specs.Payload.{digits}
 use Rattle.ranked_bitmap.specs.MapBits.{map_samples}
 use Rattle.ranked_bitmap.proofs.Reading.{length-samples, count-at}
 use Rattle.bit_words.proofs.Outcomes.{on-err}
-use Rattle.ranked_bitmap.proofs.Writing.{first_samples, length-first_samples, room-more, samples-front, samples-all, sample-more, found-below}
+use Rattle.ranked_bitmap.proofs.Writing.{first_samples, length-first_samples, room-more, samples-prefix, samples-all, sample-more, found-below}
 use Rattle.ranked_bitmap.proofs.writer.write_samples.Goals as goal
 
 pub put-requires-clause-room : goal.put-requires-clause-room
@@ -25,7 +25,7 @@ put-requires-clause-room g c =
 pub returns-in_err-put-clause-err : goal.returns-in_err-put-clause-err
 returns-in_err-put-clause-err g c =
     on-err c.from_residual.result (AppendsBits c.args.to.now c.put.new.self (map_samples g.row.B c.args.values.now c.args.u))
-    (samples-front c.args.to.now c.put.new.self g.row.B c.args.values.now c.args.u c.loop-j.j (c.in_err-put.ensures.err ∙ c.loop-j.invariant.written))
+    (samples-prefix c.args.to.now c.put.new.self g.row.B c.args.values.now c.args.u c.loop-j.j (c.in_err-put.ensures.err ∙ c.loop-j.invariant.written))
 
 pub loop-j-preserved : goal.loop-j-preserved
 loop-j-preserved g c =

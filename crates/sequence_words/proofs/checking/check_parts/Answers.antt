@@ -7,7 +7,7 @@ use Rattle.sequence_words.proofs.Follows.{follows-at}
 use Rattle.sequence_words.specs.SequenceView.{sequence_stated}
 use Rattle.sequence_words.proofs.Entries.{EntryRead, reached-next, each-below, place-fits, holds-here}
 use Rattle.sequence_words.proofs.StatedParts.{held-as}
-use Rattle.sequence_words.proofs.PartSteps.{StepsOf, front_stated, part-steps}
+use Rattle.sequence_words.proofs.PartSteps.{StepsOf, prefix_stated, part-steps}
 use Rattle.sequence_words.proofs.checking.check_parts.Goals as goal
 
 pub overflow_add-place : goal.overflow_add-place
@@ -54,4 +54,4 @@ pub returns-clause-step : goal.returns-clause-step
 unfolding sequence_stated
 returns-clause-step c asked =
     let all : c.loop-part.part ≡ c.args.parts = omega (arith, c.loop-part-test.false, c.loop-part.auto.part-end) in
-    c.loop-part.invariant.steps.largest asked ∙ ap (λ q. greatest (steps_from 0 (front_stated (numbers_of c.args.format) c.args.words.now c.args.parts q))) all
+    c.loop-part.invariant.steps.largest asked ∙ ap (λ q. greatest (steps_from 0 (prefix_stated (numbers_of c.args.format) c.args.words.now c.args.parts q))) all

@@ -11,7 +11,7 @@ use Rattle.sequence_words.specs.declared.check.Check.TheVariants.{K6, K7, K8, K9
 use Rattle.sequence_words.specs.declared.checking.SeqFault.{SeqFault}
 use Rattle.sequence_words.specs.SequenceFault.{payload_before, first_bit, word_behind, parts_fit, entry_breaks, IsPartStored, IsSequenceFault}
 use Rattle.sequence_words.proofs.Choices.{match-false}
-use Rattle.sequence_words.proofs.Follows.{Found, PartsStep, EntriesStep, front-test}
+use Rattle.sequence_words.proofs.Follows.{Found, PartsStep, EntriesStep, prefix-test}
 use Rattle.sequence_words.proofs.checking.check_words.Goals as goal
 
 -- the first fault where the entries stand and end within the words
@@ -19,7 +19,7 @@ behind-entries : (format : FormatNumbers) (words : List ℕ) (parts m bound : �
     → ((q : ℕ) → q < parts → entry_breaks format words parts m bound q ≡ false) → word_behind format words parts ≤ length words → PartsStep format words parts check part
     → IsSequenceFault format words parts m bound check part
 behind-entries format words parts m bound check part fit room entries within step =
-    match-false (not (parts_fit m parts) || nat_lt (length words) (entry_words format * parts)) ((check ≡ K6) × (part ≡ 0)) (EntriesStep format words parts m bound check part) (front-test format words parts m fit room)
+    match-false (not (parts_fit m parts) || nat_lt (length words) (entry_words format * parts)) ((check ≡ K6) × (part ≡ 0)) (EntriesStep format words parts m bound check part) (prefix-test format words parts m fit room)
     (inr (
       (λ q lt t. both_ways (entry_breaks format words parts m bound q) (entries q lt) t),
       match-false (nat_lt (length words) (word_behind format words parts)) (Found check part K7 parts) (PartsStep format words parts check part)

@@ -5,7 +5,7 @@ use Rattle.bit_words.specs.Bits.{bits_of}
 use Rattle.bit_words.proofs.Value.{length-bits_of}
 use Rattle.sequence_words.specs.SequenceWords.{payload_from}
 use Rattle.sequence_words.proofs.Lengths.{PartLaws, bits-payload}
-use Rattle.sequence_words.proofs.Writing.{whole-short, words-written, front-written}
+use Rattle.sequence_words.proofs.Writing.{whole-short, words-written, prefix-written}
 use Rattle.sequence_words.proofs.write.push_payload.Goals as goal
 
 pub write_parts-written-requires-clause-room : goal.write_parts-written-requires-clause-room
@@ -54,6 +54,6 @@ returns-clause-err c =
     let fit : All (λ w. w < 2 ^ 64) c.args.to.now.items = search rules in
     on_err_weaker c.write_parts-written.result
     (λ e.
-    front-written c.args.to.now.items c.into_words.result.items c.after-bits.result c.write_parts-written.new.bits (payload_from c.args.values.now 0 c.args.ends.now) fit
+    prefix-written c.args.to.now.items c.into_words.result.items c.after-bits.result c.write_parts-written.new.bits (payload_from c.args.values.now 0 c.args.ends.now) fit
     (bits-payload laws c.args.values.now 0 c.args.ends.now) from e c.into_words.ensures)
     c.write_parts-written.ensures.err

@@ -6,7 +6,7 @@ use Rattle.part_cost.specs.Payload.{widest_low}
 use Rattle.part_cost.specs.Span.{relative_values, universe}
 use Rattle.part_codec.specs.PartBits.{part_bits}
 use Rattle.sequence_words.specs.SequenceWords.{payload_from}
-use Rattle.sequence_words.proofs.Writing.{next-part, past-most, relative-given, part-fits, front-of, front-part, payload-more, payload-all}
+use Rattle.sequence_words.proofs.Writing.{next-part, past-most, relative-given, part-fits, prefix-of, prefix-part, payload-more, payload-all}
 use Rattle.sequence_words.proofs.write.write_parts.Goals as goal
 
 pub fill_part-requires-clause-within : goal.fill_part-requires-clause-within
@@ -41,7 +41,7 @@ write_part-requires-clause-room c =
 
 pub returns-in_err-fill_part-clause-err : goal.returns-in_err-fill_part-clause-err
 returns-in_err-fill_part-clause-err c =
-    on-err _ _ (front-of c.args.bits.now (payload_from c.args.values.now 0 c.args.ends.now) c.loop-end.bits (payload_from c.args.values.now c.loop-end.from (drop c.loop-end.end-index c.args.ends.now)) c.loop-end.invariant.bits c.loop-end.invariant.grown)
+    on-err _ _ (prefix-of c.args.bits.now (payload_from c.args.values.now 0 c.args.ends.now) c.loop-end.bits (payload_from c.args.values.now c.loop-end.from (drop c.loop-end.end-index c.args.ends.now)) c.loop-end.invariant.bits c.loop-end.invariant.grown)
 
 -- what is written is the part of the values
 written : (xs : List ℕ) (from end u : ℕ) (ys : List ℕ) → ys ≡ relative_values xs from end → u ≡ universe xs from end → part_bits ys u ≡ part_bits (relative_values xs from end) (universe xs from end)
@@ -49,7 +49,7 @@ written xs from end u ys values is = ap (λ zs. part_bits zs u) values ∙ ap (p
 
 pub returns-in_err-write_part-clause-err : goal.returns-in_err-write_part-clause-err
 returns-in_err-write_part-clause-err c =
-    on-err _ _ (front-part c.args.values.now c.args.ends.now c.args.bits.now c.loop-end.bits c.write_part.new.to (payload_from c.args.values.now 0 c.args.ends.now) c.loop-end.from c.loop-end.end-index c.loop-end-test.true c.loop-end.invariant.bits c.loop-end.invariant.grown
+    on-err _ _ (prefix-part c.args.values.now c.args.ends.now c.args.bits.now c.loop-end.bits c.write_part.new.to (payload_from c.args.values.now 0 c.args.ends.now) c.loop-end.from c.loop-end.end-index c.loop-end-test.true c.loop-end.invariant.bits c.loop-end.invariant.grown
     (subst (AppendsBits c.loop-end.bits c.write_part.new.to) (written c.args.values.now c.loop-end.from (get_or c.args.ends.now c.loop-end.end-index 0) c.universe_of_part.result c.deref.result.now (c.deref.ensures.value ∙ c.in_ok-fill_part.ensures) c.universe_of_part.ensures) c.in_err-write_part.ensures.err))
 
 pub loop-end-preserved : goal.loop-end-preserved

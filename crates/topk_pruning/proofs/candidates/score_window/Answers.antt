@@ -10,9 +10,9 @@ pub add_terms-reached-requires-clause-terms : goal.add_terms-reached-requires-cl
 add_terms-reached-requires-clause-terms g c =
     let lists : List (List Posting) = map g.C.DocCursor.list c.args.cursors.now in
     let first : ℕ = c.args.first in
-    let front : List Term = take c.args.essential c.args.terms.now in
+    let prefix : List Term = take c.args.essential c.args.terms.now in
     let short : length (take c.args.count c.args.scores.now) ≡ c.args.count = length-take-le c.args.count c.args.scores.now c.requires.fits in
-    subst (λ (n : ℕ). AreTermsIn lists first (first + n) front) (sym short) (are-take lists first (first + c.args.count) c.args.terms.now c.args.essential c.requires.terms)
+    subst (λ (n : ℕ). AreTermsIn lists first (first + n) prefix) (sym short) (are-take lists first (first + c.args.count) c.args.terms.now c.args.essential c.requires.terms)
 
 pub offer_candidates-requires-clause-before : goal.offer_candidates-requires-clause-before
 offer_candidates-requires-clause-before g c =

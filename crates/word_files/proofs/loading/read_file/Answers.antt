@@ -4,7 +4,7 @@ use Rattle.std.proofs.lemmas.List.{length-append, length-take, take_at}
 use Rattle.std.proofs.lemmas.Result.{err_from_is_err_and}
 use Rattle.collection_model.specs.Bytes.{word_bytes}
 use Rattle.command_model.proofs.WordBytes.{word_bytes-length}
-use Rattle.word_files.proofs.LoadedWords.{more-words, all-words, piece-too_large, words-refused, front-kept}
+use Rattle.word_files.proofs.LoadedWords.{more-words, all-words, piece-too_large, words-refused, prefix-kept}
 use Rattle.word_files.proofs.loading.read_file.Given as given
 use Rattle.word_files.proofs.loading.read_file.Goals as goal
 use Rattle.word_files.proofs.loading.read_file.Goals.{After-deref}
@@ -101,7 +101,7 @@ returns-then-index-opening g c =
     let are : word_bytes more ≡ word_bytes words ++ take count c.fill_piece.new.piece = c.in_ok-add_words.ensures.added ∙ ap (λ xs. word_bytes words ++ take count xs) (lent-is g at) in
     let held : length more ≡ c.len-then-index-opening.result = omega (arith, c.len-then-index-opening.ensures, c.add_words.new.words.ok.0) in
     let many : 6 ≤ length more = omega (arith, grown words more c.fill_piece.new.piece count c.in_ok-count.ensures.filled.within are, c.if-count-lt-PIECE_BYTES.false) in
-    front-kept c.args.opening c.args.slot (g.D.Depot.state c.args.depot.now) (g.D.Depot.state c.pass_rest.new.depot) more
+    prefix-kept c.args.opening c.args.slot (g.D.Depot.state c.args.depot.now) (g.D.Depot.state c.pass_rest.new.depot) more
     (c.in_ok-pass_rest.ensures (g.D.Depot.state c.args.depot.now) more held
     (more-words c.args.slot (g.D.Depot.state c.args.depot.now) (g.D.Depot.state c.loop-words.depot) (g.D.Depot.state c.fill_piece.new.depot) words more c.fill_piece.new.piece count c.loop-words.invariant.read c.in_ok-count.ensures.filled are))
     (subst P c.deref-in-loop-words.ensures.value c.words_fit.ensures) many (λ is. c.if-index-opening.true (same-first more c.index.result.now (omega (arith, many)) c.index.ensures ∙ is))

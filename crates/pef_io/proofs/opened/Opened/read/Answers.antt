@@ -1,6 +1,6 @@
 use Rattle.std.proofs.Common.{◌≡◌, arith, ◌∙◌, ap, drop, length, ◌++◌, take, ◌-◌}
 use Rattle.std.proofs.lemmas.List.{drop-drop, length-drop, length-take, take_all}
-use Rattle.pef_io.proofs.Fronts.{moved_front}
+use Rattle.pef_io.proofs.Prefixes.{moved_prefix}
 use Rattle.pef_io.proofs.opened.Opened.read.Goals as goal
 
 pub returns-clause-next_bytes : goal.returns-clause-next_bytes
@@ -12,7 +12,7 @@ returns-clause-next_bytes c =
     let moved = c.copy_from_slice.new.self in
     let whole : take (length c.deref.result.now - at) (drop at c.deref.result.now) ≡ drop at bytes =
     rw c.deref.ensures.value (take_all (length bytes - at) (drop at bytes) (omega (arith, length-drop at bytes))) in
-    moved_front (drop at bytes) buf moved n
+    moved_prefix (drop at bytes) buf moved n
     (omega (arith, c.copy_from_slice.ensures.len, length-take n buf, c.min-n.ensures, c.min.ensures))
     (c.copy_from_slice.ensures.after ∙ ap (λ xs. take n xs) whole)
     ∙ ap (λ xs. take n (moved ++ drop n buf) ++ xs) (drop-drop n at bytes)

@@ -1,15 +1,15 @@
 use Rattle.std.proofs.Common.{◌≡◌, sym, ap, ◌∙◌, ℕ, length, arith}
 use Rattle.block_max.specs.Blocks.{nth_block, nth_list}
 use Rattle.worked_plans.specs.TwoLists.{two_lists}
-use Rattle.worked_plans.proofs.ListBlocks.{end-last, front-last}
+use Rattle.worked_plans.proofs.ListBlocks.{end-last, prefix-last}
 use Rattle.worked_plans.proofs.blocks.TwoListsBlockSource.last.Goals as goal
 
 pub returns-then-q-eq0 : goal.returns-then-q-eq0
 returns-then-q-eq0 c =
     let n : ℕ = c.args.self.now.n in
     let first : c.args.t ≡ 0 = omega (arith, c.if-t-ne0.false) in
-    let front : c.args.q ≡ 0 = omega (arith, c.if-q-eq0.true) in
-    sym (ap (λ (i : ℕ). (nth_block (two_lists n) i c.args.q).last) first ∙ ap (λ (i : ℕ). (nth_block (two_lists n) 0 i).last) front ∙ front-last n c.args.self.now.some)
+    let prefix : c.args.q ≡ 0 = omega (arith, c.if-q-eq0.true) in
+    sym (ap (λ (i : ℕ). (nth_block (two_lists n) i c.args.q).last) first ∙ ap (λ (i : ℕ). (nth_block (two_lists n) 0 i).last) prefix ∙ prefix-last n c.args.self.now.some)
 
 pub returns-else-q-eq0 : goal.returns-else-q-eq0
 returns-else-q-eq0 c =

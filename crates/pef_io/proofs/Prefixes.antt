@@ -5,19 +5,19 @@ use Rattle.pef_io.specs.declared.fail.IoFail.{IoFail}
 use Rattle.pef_io.specs.declared.fail.IoFail.TheVariants.{NoMemory}
 use Rattle.std.proofs.lemmas.List.{append_assoc, length-drop, take_all, take-append-drop}
 
--- a front, and then a front of the rest
-pub one_front : (old mid new piece : List ℕ) (at n : ℕ) → at ≤ length piece → mid ≡ old ++ take at piece →
+-- a prefix, and then a prefix of the rest
+pub one_prefix : (old mid new piece : List ℕ) (at n : ℕ) → at ≤ length piece → mid ≡ old ++ take at piece →
     new ≡ mid ++ take n (take (length piece - at) (drop at piece)) → new ≡ old ++ take (at + n) piece
-one_front old mid new piece at n within m e =
+one_prefix old mid new piece at n within m e =
     e ∙ ap (λ xs. mid ++ take n xs) (take_all (length piece - at) (drop at piece) (omega (arith, length-drop at piece)))
     ∙ ap (λ xs. xs ++ take n (drop at piece)) m
     ∙ append_assoc old (take at piece) (take n (drop at piece))
     ∙ ap (λ xs. old ++ xs) (sym (take-add at n piece))
 
 -- what was moved into the front of a buffer, and the rest, are what was left
-pub moved_front : (left buf moved : List ℕ) (n : ℕ) → length moved ≡ n → moved ≡ take n left →
+pub moved_prefix : (left buf moved : List ℕ) (n : ℕ) → length moved ≡ n → moved ≡ take n left →
     left ≡ take n (moved ++ drop n buf) ++ drop n left
-moved_front left buf moved n l e =
+moved_prefix left buf moved n l e =
     sym (take-append-drop n left)
     ∙ ap (λ xs. xs ++ drop n left) (sym e ∙ sym (take-append_seam moved (drop n buf)) ∙ ap (λ k. take k (moved ++ drop n buf)) l)
 

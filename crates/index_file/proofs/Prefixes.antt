@@ -11,15 +11,15 @@ use Rattle.part_cost.specs.Formats.{HasRoom}
 use Rattle.part_cost.specs.Partition.{IsPartition}
 use Rattle.index_file.specs.declared.fault.OpenFault.{OpenFault}
 use Rattle.index_file.specs.FileWords.{CutList, doc_words, freq_words, lists_words, list_entry, lists_directory}
-use Rattle.index_file.specs.FirstBroken.{stated_documents, stated_terms, stated_sizes, directory_word, IsFileFront, IsTermFault}
+use Rattle.index_file.specs.FirstBroken.{stated_documents, stated_terms, stated_sizes, directory_word, IsFilePrefix, IsTermFault}
 use Rattle.index_file.specs.ListAt.{HasFrame, StandsAt, StandFrom, word_after, IsFirstListFault}
 use Rattle.index_file.specs.Laws.{SequenceLaws}
 use Rattle.index_file.proofs.Standing.{stand-one, no-fault}
 use Rattle.index_file.proofs.Lengths.{directory-length}
 
--- where the front of a list is two pieces, each stands
-pub front-of : (a b ys : List ℕ) → take (length (a ++ b)) ys ≡ a ++ b → take (length a) ys ≡ a
-front-of a b ys h =
+-- where the prefix of a list is two pieces, each stands
+pub prefix-of : (a b ys : List ℕ) → take (length (a ++ b)) ys ≡ a ++ b → take (length a) ys ≡ a
+prefix-of a b ys h =
     sym (take-take (length a) (length (a ++ b)) ys (omega (arith, length-append a b))) ∙ ap (take (length a)) h ∙ take-append_seam a b
 
 pub rest-of : (a b ys : List ℕ) → take (length (a ++ b)) ys ≡ a ++ b → take (length b) (drop (length a) ys) ≡ b
@@ -100,16 +100,16 @@ pieces-first format words t p c cs h =
     let b : List ℕ = freq_words format c in
     let more : List ℕ = lists_words format cs in
     let q : ℕ = directory_word words + 4 * t in
-    let pair : take (length (a ++ b)) (drop p words) ≡ a ++ b = front-of (a ++ b) more (drop p words) h.sequences in
+    let pair : take (length (a ++ b)) (drop p words) ≡ a ++ b = prefix-of (a ++ b) more (drop p words) h.sequences in
     let entry : List ℕ = list_entry format p c in
     let rest : List ℕ = lists_directory format (word_after format p c) cs in
     let whole : take (length (entry ++ rest)) (drop q words) ≡ entry ++ rest = ap (λ n. take n (drop q words)) (directory-length format p (c ∷ cs)) ∙ h.directory in
-    let four : take 4 (drop q words) ≡ entry = front-of entry rest (drop q words) whole in
+    let four : take 4 (drop q words) ≡ entry = prefix-of entry rest (drop q words) whole in
     record {
       list = All-head (IsListIn format words) c cs h.lists;
       doc_parts = All-head HasDocParts c cs h.doc_parts;
       freq_parts = All-head HasFreqParts c cs h.freq_parts;
-      docs = front-of a b (drop p words) pair;
+      docs = prefix-of a b (drop p words) pair;
       freqs = ap (take (length b)) (sym (drop-drop (length a) p words)) ∙ rest-of a b (drop p words) pair;
       within = omega (arith, h.within, length-lists format p c cs);
       docs_word = word-of words q 0 p entry four (omega arith) refl;
@@ -157,9 +157,9 @@ pieces-of format words t p (c ∷ cs) frame fit le h =
       directory = ap (λ n. take n (drop q words)) (sym (directory-length format p (c ∷ cs))) ∙ joined entry rest (drop q words) four after;
     }
 
--- a front is lists that stand from the first word of lists on
-pub front-pieces : (format : FormatNumbers) (words : List ℕ) (cs : List CutList) → IsFileFront format words cs → Pieces format words 0 2 cs
-front-pieces format words cs h = record {
+-- a prefix is lists that stand from the first word of lists on
+pub prefix-pieces : (format : FormatNumbers) (words : List ℕ) (cs : List CutList) → IsFilePrefix format words cs → Pieces format words 0 2 cs
+prefix-pieces format words cs h = record {
   lists = h.lists;
   doc_parts = h.doc_parts;
   freq_parts = h.freq_parts;
@@ -168,8 +168,8 @@ front-pieces format words cs h = record {
   directory = ap (λ n. take (4 * length cs) (drop n words)) (let e : directory_word words + 4 * 0 ≡ directory_word words = omega arith in e) ∙ h.directory;
 }
 
-pub front-is : (format : FormatNumbers) (words : List ℕ) (cs : List CutList) → HasFrame format words → length cs ≤ stated_terms words → StandFrom format words 0 2 cs → IsFileFront format words cs
-front-is format words cs frame few h =
+pub prefix-is : (format : FormatNumbers) (words : List ℕ) (cs : List CutList) → HasFrame format words → length cs ≤ stated_terms words → StandFrom format words 0 2 cs → IsFilePrefix format words cs
+prefix-is format words cs frame few h =
     let r = pieces-of format words 0 2 cs frame (omega (arith, few)) frame.sizes h in
     record {
       lists = r.lists;
@@ -247,8 +247,8 @@ reached-next format words t p next cs c r s e = record {
   within = omega (arith, e, s.within);
 }
 
-pub reached-front : (format : FormatNumbers) (words : List ℕ) (t p : ℕ) (cs : List CutList) → HasFrame format words → t ≤ stated_terms words → Reached format words t p cs → IsFileFront format words cs
-reached-front format words t p cs frame few r = front-is format words cs frame (omega (arith, r.count, few)) r.stand
+pub reached-prefix : (format : FormatNumbers) (words : List ℕ) (t p : ℕ) (cs : List CutList) → HasFrame format words → t ≤ stated_terms words → Reached format words t p cs → IsFilePrefix format words cs
+reached-prefix format words t p cs frame few r = prefix-is format words cs frame (omega (arith, r.count, few)) r.stand
 
 -- the fault of the list at which the walk stands is the first
 pub reached-fault : (format : FormatNumbers) (room : HasRoom format) → SequenceLaws format → (words : List ℕ) (t p : ℕ) (cs : List CutList) (f : OpenFault) → HasFrame format words → t < stated_terms words → Reached format words t p cs → IsTermFault format words t p f
@@ -258,11 +258,11 @@ reached-fault format room laws words t p cs f frame lt r fault =
     subst (λ i. IsTermFault format words i (2 + length (lists_words format cs)) f) (sym r.count) (subst (λ i. IsTermFault format words t i f) r.place fault) in (
       cs,
       record {
-        front = front-is format words cs frame (omega (arith, r.count, lt)) r.stand;
+        prefix = prefix-is format words cs frame (omega (arith, r.count, lt)) r.stand;
         longest = λ others h. longest-from format room laws words 0 2 cs frame r.stand
             (λ c s. no-fault format room laws words (length cs) (2 + length (lists_words format cs)) c f frame
             (subst (λ i. StandsAt format words i (2 + length (lists_words format cs)) c) (let e : 0 + length cs ≡ length cs = omega arith in e) s) here)
-            others (stand-from format words 0 2 others (front-pieces format words others h));
+            others (stand-from format words 0 2 others (prefix-pieces format words others h));
       },
       omega (arith, r.count, lt),
       here,

@@ -2,13 +2,13 @@ use Rattle.std.proofs.Common.{◌≡◌, refl, ℕ, ◌+◌, ◌<◌, ◌≤◌,
 use Rattle.std.proofs.lemmas.Bool.Decides.{nat_tests}
 use Rattle.collection_model.specs.FormatNumbers.{format_two}
 use Rattle.collection_model.specs.Collection.{postings_of, IsPostingList}
-use Rattle.pefidx_c.proofs.Fronts.{good-front, bad-front, up-to-more}
-use Rattle.pefidx_c.proofs.given_lists.good_front.Goals.{then-from-least-via-then-from-least, then-from-least-via-else-from-least+then-doc-documents, then-from-least-via-else-from-least+else-doc-documents+then-freq-eq0, then-from-least-via-else-from-least+else-doc-documents+else-freq-eq0+then-sum-from}
-use Rattle.pefidx_c.proofs.given_lists.good_front.Goals as goal
+use Rattle.pefidx_c.proofs.Prefixes.{good-prefix, bad-prefix, up-to-more}
+use Rattle.pefidx_c.proofs.given_lists.good_prefix.Goals.{then-from-least-via-then-from-least, then-from-least-via-else-from-least+then-doc-documents, then-from-least-via-else-from-least+else-doc-documents+then-freq-eq0, then-from-least-via-else-from-least+else-doc-documents+else-freq-eq0+then-sum-from}
+use Rattle.pefidx_c.proofs.given_lists.good_prefix.Goals as goal
 
 pub returns-then-from-least-clause-good : goal.returns-then-from-least-clause-good
 returns-then-from-least-clause-good c =
-    good-front c.args.documents c.args.docs.now c.args.freqs.now c.loop-place.place c.loop-place.least c.loop-place.sum c.loop-place.invariant (omega (arith, c.loop-place.auto.place-end)) c.requires.same_length
+    good-prefix c.args.documents c.args.docs.now c.args.freqs.now c.loop-place.place c.loop-place.least c.loop-place.sum c.loop-place.invariant (omega (arith, c.loop-place.auto.place-end)) c.requires.same_length
 
 pub returns-then-from-least-clause-bad : goal.returns-then-from-least-clause-bad
 returns-then-from-least-clause-bad c = λ within.
@@ -24,7 +24,7 @@ returns-then-from-least-clause-bad c = λ within.
           let most : w.most_sum.result ≡ format_two.most_sum = w.most_sum.ensures in
           inr (inr (inr (omega (arith, w.if-sum-from.true, most, w.from-else-freq-eq0.ensures))))
     ] in
-    bad-front c.args.documents c.args.docs.now c.args.freqs.now place c.loop-place.least c.loop-place.sum d f c.loop-place.invariant within c.requires.same_length refl refl why
+    bad-prefix c.args.documents c.args.docs.now c.args.freqs.now place c.loop-place.least c.loop-place.sum d f c.loop-place.invariant within c.requires.same_length refl refl why
 
 pub loop-place-preserved : goal.loop-place-preserved
 loop-place-preserved c =
@@ -42,4 +42,4 @@ pub returns-clause-good : goal.returns-clause-good
 returns-clause-good c =
     let at : c.loop-place.place ≡ length c.args.docs.now = omega (arith, c.loop-place-test.false, c.loop-place.auto.place-end) in
     subst (λ k. IsPostingList format_two c.args.documents (take k (postings_of c.args.docs.now c.args.freqs.now))) at
-    (good-front c.args.documents c.args.docs.now c.args.freqs.now c.loop-place.place c.loop-place.least c.loop-place.sum c.loop-place.invariant (omega (arith, at)) c.requires.same_length)
+    (good-prefix c.args.documents c.args.docs.now c.args.freqs.now c.loop-place.place c.loop-place.least c.loop-place.sum c.loop-place.invariant (omega (arith, at)) c.requires.same_length)

@@ -1,5 +1,5 @@
-use Rattle.pefidx_c.proofs.Fronts.{IsGoodUpTo}
-use Rattle.pefidx_c.proofs.given_lists.good_front.Given as goal
+use Rattle.pefidx_c.proofs.Prefixes.{IsGoodUpTo}
+use Rattle.pefidx_c.proofs.given_lists.good_prefix.Given as goal
 
 abbrev pub invariant-loop-place : goal.invariant-loop-place
 invariant-loop-place l = IsGoodUpTo l.documents l.docs l.freqs l.place l.least l.sum

@@ -1,4 +1,4 @@
--- Lemmas on the longest front of some postings that is a posting list, and on lists that are one after the other.
+-- Lemmas on the longest prefix of some postings that is a posting list, and on lists that are one after the other.
 use Rattle.std.proofs.Common.{◌≡◌, refl, sym, ap, ◌∙◌, subst, ℕ, zero, suc, ◌+◌, ◌-◌, ◌^◌, ◌<◌, ◌≤◌, ◌⊎◌, List, [], ◌∷◌, ◌++◌, length, get_or, take, drop, inl, inr, length-append, append_assoc, arith}
 use Rattle.std.specs.List.{All}
 use Rattle.std.specs.List.Sorted.{IsStrictlyIncreasing}
@@ -153,15 +153,15 @@ up-to-more n docs freqs i least total d f next sum_next h within same doc freq r
 same-length : (docs freqs : List ℕ) (i : ℕ) → i ≤ length docs → length docs ≡ length freqs → length (take i docs) ≡ length (take i freqs)
 same-length docs freqs i within same = length-take-le i docs within ∙ sym (length-take-le i freqs (omega (arith, within, same)))
 
-pub good-front : (n : ℕ) (docs freqs : List ℕ) (i least total : ℕ) → IsGoodUpTo n docs freqs i least total → i ≤ length docs → length docs ≡ length freqs
+pub good-prefix : (n : ℕ) (docs freqs : List ℕ) (i least total : ℕ) → IsGoodUpTo n docs freqs i least total → i ≤ length docs → length docs ≡ length freqs
     → IsPostingList format_two n (take i (postings_of docs freqs))
-good-front n docs freqs i least total h within same =
+good-prefix n docs freqs i least total h within same =
     subst (IsPostingList format_two n) (sym (take-postings docs freqs i)) (good-list n (take i docs) (take i freqs) (same-length docs freqs i within same) h.good)
 
-pub bad-front : (n : ℕ) (docs freqs : List ℕ) (i least total d f : ℕ) → IsGoodUpTo n docs freqs i least total → i < length docs → length docs ≡ length freqs
+pub bad-prefix : (n : ℕ) (docs freqs : List ℕ) (i least total d f : ℕ) → IsGoodUpTo n docs freqs i least total → i < length docs → length docs ≡ length freqs
     → d ≡ get_or docs i 0 → f ≡ get_or freqs i 0 → (d < least) ⊎ (n ≤ d) ⊎ (f ≡ 0) ⊎ (format_two.most_sum < total + f)
     → ¬ IsPostingList format_two n (take (i + 1) (postings_of docs freqs))
-bad-front n docs freqs i least total d f h within same doc freq why is =
+bad-prefix n docs freqs i least total d f h within same doc freq why is =
     let ds : take (i + 1) docs ≡ take i docs ++ d ∷ [] = take-more docs i d within doc in
     let fs : take (i + 1) freqs ≡ take i freqs ++ f ∷ [] = take-more freqs i f (omega (arith, within, same)) freq in
     let good : AreGood n (take (i + 1) docs) (take (i + 1) freqs) =
