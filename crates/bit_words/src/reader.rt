@@ -107,7 +107,8 @@ impl<'a> Bits<'a> {
         requires ordered { from ≤ to }
         requires range { to ≤ 64 * length self.now.words.now }
         ensures some { IfSome result (IsNthZero (bits_of self.now.words.now) from to n) }
-        ensures none { IfNone result (to ≤ from + ones_between (bits_of self.now.words.now) from to + n) }
+        ensures none { IfNone result (to ≤ from + ones_between (bits_of self.now.words.now) from to
+            + n) }
     {
         self.nth_flipped(from, to, n, u64::MAX)
     }
@@ -116,8 +117,10 @@ impl<'a> Bits<'a> {
     fn nth_flipped(&self, from: u64, to: u64, n: u64, flip: u64) -> Option<u64>
         requires ordered { from ≤ to }
         requires range { to ≤ 64 * length self.now.words.now }
-        ensures some { IfSome result (IsNthOne (bits_of (flipped flip self.now.words.now)) from to n) }
-        ensures none { IfNone result (ones_between (bits_of (flipped flip self.now.words.now)) from to ≤ n) }
+        ensures some { IfSome result (IsNthOne (bits_of (flipped flip self.now.words.now)) from to
+            n) }
+        ensures none { IfNone result (ones_between (bits_of (flipped flip self.now.words.now)) from
+            to ≤ n) }
     {
         if from == to {
             return None;

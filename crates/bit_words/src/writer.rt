@@ -115,7 +115,8 @@ impl BitWriter {
 fn cut(words: &mut Vec<u64>, len: u64)
     requires within { len ≤ 64 * length words.old.items }
     ensures count { length words.new.items ≡ (len + 63) / 64 }
-    ensures value { bits_value (bits_of words.new.items) ≡ bits_value (bits_of words.old.items) % 2 ^ len }
+    ensures value { bits_value (bits_of words.new.items)
+        ≡ bits_value (bits_of words.old.items) % 2 ^ len }
 {
     words.truncate(len.div_ceil(64) as usize);
     let used = (len % 64) as u32;
@@ -131,7 +132,8 @@ fn append(words: &mut Vec<u64>, len: u64, value: u64, width: u32) -> Result<(), 
     requires width { width ≤ 64 }
     requires fits { value < 2 ^ width }
     ensures count { OnOk result (length words.new.items ≡ (len + width + 63) / 64) }
-    ensures value { OnOk result (bits_value (bits_of words.new.items) ≡ bits_value (bits_of words.old.items) + 2 ^ len * value) }
+    ensures value { OnOk result (bits_value (bits_of words.new.items)
+        ≡ bits_value (bits_of words.old.items) + 2 ^ len * value) }
     ensures err { OnErr result (words.new.items ≡ words.old.items) }
     ensures fitting { width ≤ padding len → IsOk result }
 {

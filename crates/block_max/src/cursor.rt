@@ -15,7 +15,8 @@ pub trait BlockCursor: DocCursor {
     /// The last document and the greatest frequency of the first block whose last document is at least `doc`; None exactly where every
     /// document of the list is below it.
     fn block_at(&self, doc: u32) -> Option<(u32, u32)>
-        ensures { result ≡ option_map (λ b. (b.last, b.greatest)) (block_from (blocks self.now) doc) };
+        ensures { result ≡ option_map (λ b. (b.last, b.greatest))
+            (block_from (blocks self.now) doc) };
 
     ghost are_blocks: { (c : Self) → AreBlocks (Self.list c) (blocks c) };
 }
@@ -40,7 +41,8 @@ impl<'a, C: DocCursor, S: BlockSource> SideCursor<'a, C, S> {
         requires of_side { words_seen side ≡ side_words (S.lists source.now) }
         ensures list { ⟦<SideCursor<'a, C, S> as DocCursor>⟧.list result ≡ C.list cursor }
         ensures place { ⟦<SideCursor<'a, C, S> as DocCursor>⟧.place result ≡ C.place cursor }
-        ensures blocks { ⟦<SideCursor<'a, C, S> as BlockCursor>⟧.blocks result ≡ blocks_of (nth_list (S.lists source.entry.now) t) }
+        ensures blocks { ⟦<SideCursor<'a, C, S> as BlockCursor>⟧.blocks result
+            ≡ blocks_of (nth_list (S.lists source.entry.now) t) }
     {
         SideCursor {
             cursor,
@@ -56,7 +58,8 @@ fn blocks_below<S: BlockSource>(source: &S, t: u32, count: u32, doc: u32) -> u32
     requires within { t < length (S.lists source.now) }
     requires all { count ≡ length (nth_list (S.lists source.now) t).ends }
     ensures within { result ≤ length (nth_list (S.lists source.now) t).ends }
-    ensures first { result ≡ position_or_len (λ b. nat_le doc b.last) (blocks_of (nth_list (S.lists source.now) t)) }
+    ensures first { result ≡ position_or_len (λ b. nat_le doc b.last)
+        (blocks_of (nth_list (S.lists source.now) t)) }
 {
     let mut low = 0;
     let mut high = count;
@@ -71,13 +74,15 @@ fn half<S: BlockSource>(source: &S, t: u32, doc: u32, low: u32, high: u32) -> (u
     requires term { t < length (S.lists source.now) }
     requires some { low < high }
     requires within { high ≤ length (nth_list (S.lists source.now) t).ends }
-    requires reached { high < length (nth_list (S.lists source.now) t).ends → doc ≤ (nth_block (S.lists source.now) t high).last }
+    requires reached { high < length (nth_list (S.lists source.now) t).ends
+        → doc ≤ (nth_block (S.lists source.now) t high).last }
     ensures after { low ≤ result.0 }
     ensures up { result.0 ≤ result.1 }
     ensures within { result.1 ≤ high }
     ensures less { result.1 - result.0 < high - low }
     ensures before { low < result.0 → (nth_block (S.lists source.now) t (result.0 - 1)).last < doc }
-    ensures reached { result.1 < length (nth_list (S.lists source.now) t).ends → doc ≤ (nth_block (S.lists source.now) t result.1).last }
+    ensures reached { result.1 < length (nth_list (S.lists source.now) t).ends
+        → doc ≤ (nth_block (S.lists source.now) t result.1).last }
 {
     let middle = low + (high - low) / 2;
     if source.last(t, middle) < doc {

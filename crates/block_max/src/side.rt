@@ -31,7 +31,8 @@ pub fn side_words<S: BlockSource>(alloc: Global, source: &S) -> Result<Vec<u64>,
 // Appends the greatest frequency of each block of a list.
 fn add_blocks<S: BlockSource>(words: &mut Vec<u64>, source: &S, term: u32) -> Result<(), NoMemory>
     requires { term < length (S.lists source.now) }
-    ensures { OnOk result (words.new.items ≡ words.old.items ++ map (λ b. b.greatest) (blocks_of (nth_list (S.lists source.now) term))) }
+    ensures { OnOk result (words.new.items ≡ words.old.items
+        ++ map (λ b. b.greatest) (blocks_of (nth_list (S.lists source.now) term))) }
 {
     for block in 0..source.blocks(term) {
         words.push(u64::from(source.greatest(term, block)))?;
@@ -50,8 +51,10 @@ impl<'a> Side<'a> {
     pub fn view<S: BlockSource>(words: &'a [u64], source: &S) -> Result<Side<'a>, SideFault>
         ensures seen { IfOk result (λ side. words_seen side ≡ words.entry.now) }
         ensures ok { IfOk result (λ side. words.entry.now ≡ side_words (S.lists source.now)) }
-        ensures other_words { IfErr result (λ f. words.entry.now ≢ side_words (S.lists source.now)) }
-        ensures first { IfErr result (λ f. IsFirstSideFault (S.lists source.now) words.entry.now f) }
+        ensures other_words { IfErr result (λ f.
+            words.entry.now ≢ side_words (S.lists source.now)) }
+        ensures first { IfErr result (λ f. IsFirstSideFault (S.lists source.now) words.entry.now
+            f) }
     {
         let stated = match frame(words) {
             Ok(stated) => stated,
@@ -105,7 +108,8 @@ fn whole(check: SideCheck) -> SideFault
 // How many blocks the words state, or the first of the first four checks that breaks.
 fn frame(words: &[u64]) -> Result<u64, SideCheck>
     ensures ok { IfOk result (λ stated. HasFrame words.now stated) }
-    ensures broken { IfErr result (λ check. (cs : List BlockList) → IsFirstSideFault cs words.now (record { check = check; term = 0; part = 0 })) }
+    ensures broken { IfErr result (λ check. (cs : List BlockList)
+        → IsFirstSideFault cs words.now (record { check = check; term = 0; part = 0 })) }
 {
     let count = words.len();
     if count < 4 {
@@ -127,7 +131,8 @@ fn frame(words: &[u64]) -> Result<u64, SideCheck>
 fn first_wrong<S: BlockSource>(words: &[u64], source: &S) -> Option<(u32, u32)>
     requires { length (block_freqs (S.lists source.now)) + 4 ≤ length words.now }
     ensures some { IfSome result (λ at. IsFirstWrong (S.lists source.now) words.now at.0 at.1) }
-    ensures none { IfNone result (AllRight (S.lists source.now) words.now (length (S.lists source.now))) }
+    ensures none { IfNone result (AllRight (S.lists source.now) words.now
+        (length (S.lists source.now))) }
 {
     let mut before = 0;
     for term in 0..source.terms() {
@@ -145,7 +150,8 @@ fn wrong_block<S: BlockSource>(words: &[u64], source: &S, term: u32, before: u64
     requires before { before ≡ blocks_before (S.lists source.now) term }
     requires room { length (block_freqs (S.lists source.now)) + 4 ≤ length words.now }
     ensures some { IfSome result (λ q. IsFirstWrongOf (S.lists source.now) words.now term q) }
-    ensures none { IfNone result (AreRight (S.lists source.now) words.now term (length (nth_list (S.lists source.now) term).ends)) }
+    ensures none { IfNone result (AreRight (S.lists source.now) words.now term
+        (length (nth_list (S.lists source.now) term).ends)) }
 {
     for block in 0..source.blocks(term) {
         if word_of(words, before, block) != u64::from(source.greatest(term, block)) {

@@ -30,7 +30,8 @@ pub fn index_of_list<L: Ledger>(
     ensures too_large { (n : ℕ) → result ≡ Err (FinishError.TooLarge n)
         → WouldBeTooMany (postings_of docs.now freqs.now) sizes.now n }
     // At most three counted costs a window for each number and one more, in each of the two sequences.
-    ensures bounded { steps.new ≤ steps.old + 6 * length (window_bounds Format.Two) * (length docs.now + 1) }
+    ensures bounded { steps.new ≤ steps.old + 6 * length (window_bounds Format.Two) *
+        (length docs.now + 1) }
 {
     files_spell_collections();
     sizes_fit(sizes);

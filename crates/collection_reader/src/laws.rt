@@ -12,7 +12,8 @@ pub fn files_have_one_first_fault()
 
 /// Files of bytes have no fault exactly where a well-formed collection spells them, in every such format.
 pub fn no_fault_means_spelled()
-    ensures { (format : FormatNumbers) → format.most_documents < 2 ^ 32 → NoFaultMeansSpelled format }
+    ensures { (format : FormatNumbers) → format.most_documents < 2 ^ 32
+        → NoFaultMeansSpelled format }
 {}
 
 /// The files of a well-formed collection have no fault, in every such format.
@@ -32,5 +33,6 @@ pub fn lists_are_read_in_turn()
 
 /// The head of a file of bytes has no fault exactly where the files have a prefix, in every such format.
 pub fn no_head_fault_means_prefix()
-    ensures { (format : FormatNumbers) → format.most_documents < 2 ^ 32 → NoHeadFaultMeansPrefix format }
+    ensures { (format : FormatNumbers) → format.most_documents < 2 ^ 32
+        → NoHeadFaultMeansPrefix format }
 {}

@@ -15,7 +15,13 @@ pub(crate) struct Position {
 impl Position {
     // The refusal of a collection that breaks this rule here.
     pub(crate) fn breaks(self, rule: Rule) -> CollError
-        ensures { result ≡ Broken (record { rule = rule; file = self.file; term = self.term; place = self.place }) }
+        ensures { result ≡ Broken (record {
+          rule = rule;
+          file = self.file;
+          term = self.term;
+          place =
+              self.place;
+        }) }
     {
         CollError::Broken(Fault {
             rule,

@@ -63,7 +63,8 @@ impl ListReader {
         depot: &mut D,
         format: Format,
     ) -> Result<ListReader, CollError>
-        ensures { StartsReading (numbers_of format) (D.state depot.old) (D.state depot.new) base.now result }
+        ensures { StartsReading (numbers_of format) (D.state depot.old) (D.state depot.new) base.now
+            result }
     {
         start_files(alloc, base, depot)?;
         let mut docs = Held::new(alloc)?;
@@ -105,7 +106,8 @@ impl ListReader {
         freqs: &mut Vec<u32>,
     ) -> Result<bool, CollError>
         requires started { AreStarted (D.state depot.old) }
-        ensures list { ReadsList self.old self.new (D.state depot.old) (D.state depot.new) docs.new.items freqs.new.items result }
+        ensures list { ReadsList self.old self.new (D.state depot.old) (D.state depot.new)
+            docs.new.items freqs.new.items result }
         // Once it has refused, it calls the depot no more.
         ensures refused { IsSome self.old.refusal → depot.new ≡ depot.old }
     {
@@ -133,7 +135,8 @@ impl ListReader {
         requires started { AreStarted (D.state depot.old) }
         requires docs_empty { docs.old.items ≡ [] }
         requires freqs_empty { freqs.old.items ≡ [] }
-        ensures { TriesList self.old self.new (D.state depot.old) (D.state depot.new) docs.new.items freqs.new.items result }
+        ensures { TriesList self.old self.new (D.state depot.old) (D.state depot.new) docs.new.items
+            freqs.new.items result }
     {
         if !self.docs.has_byte(Slot::Docs, depot)? {
             if self.phase == Phase::Lists {
@@ -161,7 +164,8 @@ impl ListReader {
     pub fn finish<D: Depot>(&mut self, depot: &mut D, sizes: &mut Vec<u32>) -> Result<(), CollError>
         requires started { AreStarted (D.state depot.old) }
         requires ended { self.old.phase ≡ Ended }
-        ensures sizes { ReadsSizes self.old self.new (D.state depot.old) (D.state depot.new) sizes.new.items result }
+        ensures sizes { ReadsSizes self.old self.new (D.state depot.old) (D.state depot.new)
+            sizes.new.items result }
         // Once it has refused, it calls the depot no more.
         ensures refused { IsSome self.old.refusal → depot.new ≡ depot.old }
     {
@@ -184,7 +188,8 @@ impl ListReader {
     fn try_end<D: Depot>(&mut self, depot: &mut D, sizes: &mut Vec<u32>) -> Result<(), CollError>
         requires started { AreStarted (D.state depot.old) }
         requires empty { sizes.old.items ≡ [] }
-        ensures { TriesEnd self.old self.new (D.state depot.old) (D.state depot.new) sizes.new.items result }
+        ensures { TriesEnd self.old self.new (D.state depot.old) (D.state depot.new) sizes.new.items
+            result }
     {
         if self.freqs.has_byte(Slot::Freqs, depot)? {
             let at = Position {

@@ -16,7 +16,8 @@ pub(crate) fn read_head<D: Depot>(
     format: Format,
 ) -> Result<u32, CollError>
     requires { IsTrue ((D.state depot.old).started Docs) }
-    ensures { ReadsHead (numbers_of format) held.old held.new (D.state depot.old) (D.state depot.new) result }
+    ensures { ReadsHead (numbers_of format) held.old held.new (D.state depot.old)
+        (D.state depot.new) result }
 {
     let at = Position {
         file: Slot::Docs,
@@ -43,7 +44,8 @@ pub(crate) fn read_documents<D: Depot>(
 ) -> Result<(), CollError>
     requires started { IsTrue ((D.state depot.old).started Docs) }
     requires empty { docs.old.items ≡ [] }
-    ensures { ReadsDocuments documents term held.old held.new (D.state depot.old) (D.state depot.new) docs.new.items result }
+    ensures { ReadsDocuments documents term held.old held.new (D.state depot.old)
+        (D.state depot.new) docs.new.items result }
 {
     let head = Position {
         file: Slot::Docs,
@@ -78,7 +80,8 @@ pub(crate) fn read_frequencies<D: Depot>(
 ) -> Result<(), CollError>
     requires started { IsTrue ((D.state depot.old).started Freqs) }
     requires empty { freqs.old.items ≡ [] }
-    ensures { ReadsFrequencies (numbers_of format) term expected held.old held.new (D.state depot.old) (D.state depot.new) freqs.new.items result }
+    ensures { ReadsFrequencies (numbers_of format) term expected held.old held.new
+        (D.state depot.old) (D.state depot.new) freqs.new.items result }
 {
     let head = Position {
         file: Slot::Freqs,
@@ -115,7 +118,8 @@ pub(crate) fn read_sizes<D: Depot>(
 ) -> Result<(), CollError>
     requires started { IsTrue ((D.state depot.old).started Sizes) }
     requires empty { sizes.old.items ≡ [] }
-    ensures { ReadsToEnd documents terms held.old held.new (D.state depot.old) (D.state depot.new) sizes.new.items result }
+    ensures { ReadsToEnd documents terms held.old held.new (D.state depot.old) (D.state depot.new)
+        sizes.new.items result }
 {
     let head = Position {
         file: Slot::Sizes,

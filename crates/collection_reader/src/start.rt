@@ -13,7 +13,8 @@ fn start_file<D: Depot>(
     slot: Slot,
     depot: &mut D,
 ) -> Result<(), CollError>
-    ensures { StartsFile slot (base.now ++ ending.now) (D.state depot.old) (D.state depot.new) result }
+    ensures { StartsFile slot (base.now ++ ending.now) (D.state depot.old) (D.state depot.new)
+        result }
 {
     let name = format!(in alloc; "{base}{ending}")?;
     match depot.start(slot, name.as_str()) {

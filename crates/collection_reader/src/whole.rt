@@ -23,7 +23,12 @@ impl Lists {
     // The collection of these lists and sizes.
     fn into_collection(self, documents: u32, sizes: Vec<u32>) -> Collection
         requires { AreAligned self.docs.items self.freqs.items }
-        ensures parts { result ≡ record { documents = documents; lists = lists_held self.docs.items self.freqs.items; sizes = sizes.items } }
+        ensures parts { result ≡ record {
+          documents = documents;
+          lists = lists_held self.docs.items
+              self.freqs.items;
+          sizes = sizes.items;
+        } }
         ensures sizes_fit { All (λ s. s < 2 ^ 32) result.sizes }
     {
         Collection {
@@ -46,7 +51,8 @@ pub fn read_collection<D: Depot>(
     depot: &mut D,
     format: Format,
 ) -> Result<Collection, CollError>
-    ensures { ReadsCollection (numbers_of format) (D.state depot.old) (D.state depot.new) base.now result }
+    ensures { ReadsCollection (numbers_of format) (D.state depot.old) (D.state depot.new) base.now
+        result }
 {
     formats_have_room();
     let mut reader = ListReader::start(alloc, base, depot, format)?;

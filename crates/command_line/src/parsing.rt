@@ -17,8 +17,10 @@ use std::alloc::{AllocError, Global};
 /// The command of the words, the program's name first. Words that are none are usage, and for them no memory is taken; of words that
 /// are one there is none only where memory is refused.
 pub fn parse_words<'a>(alloc: Global, words: &'a [String]) -> Result<Command<'a>, WordsError>
-    ensures command { IfOk result (λ command. Some (asked command) ≡ command_of (line.texts words.entry.now)) }
-    ensures error { IfErr result (λ error. error ≡ error_of_words (command_of (line.texts words.entry.now))) }
+    ensures command { IfOk result (λ command. Some (asked command)
+        ≡ command_of (line.texts words.entry.now)) }
+    ensures error { IfErr result (λ error. error
+        ≡ error_of_words (command_of (line.texts words.entry.now))) }
 {
     if !is_command(words) {
         return Err(WordsError::Usage);
@@ -29,7 +31,8 @@ pub fn parse_words<'a>(alloc: Global, words: &'a [String]) -> Result<Command<'a>
 
 // The matches of the words. Of words that are a command there are none only where memory is refused.
 fn match_words<'a>(alloc: Global, words: &'a [String]) -> Result<ArgMatches<'a>, clap::Error>
-    ensures matches { IfOk result (λ matches. AreRead (line.texts words.entry.now) (subcommand_rows_of matches)) }
+    ensures matches { IfOk result (λ matches.
+        AreRead (line.texts words.entry.now) (subcommand_rows_of matches)) }
     ensures error { IfErr result (FailsForMemory (line.texts words.entry.now)) }
 {
     program(alloc)?.try_get_matches_from(words)
@@ -73,7 +76,8 @@ fn behind_verb<'a>(words: &'a [String], count: usize) -> &'a [String]
 
 // The value of an option among the matches of a subcommand, and an empty text where there may be none.
 fn value_found<'a>(choice: Option<Choice>, found: &ArgMatches<'a>) -> Option<&'a str>
-    ensures { option_map (λ text. text.now) result ≡ value_found choice (rows_of (found_of found.now)) }
+    ensures { option_map (λ text. text.now) result
+        ≡ value_found choice (rows_of (found_of found.now)) }
 {
     match choice {
         Some(choice) => found.get_str(choice.name()),
@@ -94,7 +98,8 @@ fn program<'a>(alloc: Global) -> Result<clap::Command<'a>, AllocError>
 
 // The subcommand of a row: its texts, and its option with its default.
 fn subcommand<'a>(alloc: Global, row: Row) -> Result<clap::Command<'a>, AllocError>
-    ensures app { IfOk result (λ command. app_of command ≡ record { top = subcommand_with (seen row); subs = [] }) }
+    ensures app { IfOk result (λ command. app_of command
+        ≡ record { top = subcommand_with (seen row); subs = [] }) }
     ensures local { IfOk result (λ command. (out-Command command).has_globals ≡ false) }
 {
     let command = clap::Command::new(alloc, row.name).arg(texts(alloc, row))?;

@@ -253,7 +253,8 @@ fn two(words: &[String]) -> Option<(&str, &str)>
 
 // The texts of three words.
 fn three(words: &[String]) -> Option<(&str, &str, &str)>
-    ensures { option_map (λ names. (names.0.now, names.1.now, names.2.now)) result ≡ three_of (texts words.now) }
+    ensures { option_map (λ names. (names.0.now, names.1.now, names.2.now)) result
+        ≡ three_of (texts words.now) }
 {
     match words {
         [first, second, third] => Some((first.as_str(), second.as_str(), third.as_str())),

@@ -52,7 +52,8 @@ impl Edge {
         ensures counted { steps.old ≤ steps.new }
         ensures bounded { steps.new + self.end ≤ steps.old + result.end + 1 }
         ensures asks { self.next ≡ None → self.end < C.count cost.now → steps.old + 1 ≤ steps.new }
-        ensures known { (self.end < C.count cost.now → IsSome self.next) → result.end ≡ self.end → steps.new ≡ steps.old }
+        ensures known { (self.end < C.count cost.now → IsSome self.next) → result.end ≡ self.end
+            → steps.new ≡ steps.old }
         ensures next { result.end < C.count cost.now → IsSome result.next }
     {
         let mut edge = self;
@@ -97,7 +98,8 @@ impl Edge {
         ensures asks { self.cost ≡ None → self.next ≡ None → steps.old + 1 ≤ steps.new }
         ensures asked { IsAsked (C.count cost.now) i result }
         // Nothing is asked again where the end stays.
-        ensures known { IsAsked (C.count cost.now) i self → result.end ≡ self.end → steps.new ≡ steps.old }
+        ensures known { IsAsked (C.count cost.now) i self → result.end ≡ self.end
+            → steps.new ≡ steps.old }
     {
         let from = if self.end < position {
             Edge::at(position)

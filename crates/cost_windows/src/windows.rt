@@ -66,14 +66,18 @@ impl Windows {
         ensures costs { KeepCosts (C.cost_of cost.now) (C.count cost.now) self.new }
         ensures forward { NoneFell self.old.positions self.new.positions }
         // All but the last of the distinct windows are open.
-        ensures distinct { self.new.distinct ≤ open_count (C.count cost.now) self.new.positions + 1 }
+        ensures distinct { self.new.distinct ≤ open_count (C.count cost.now) self.new.positions
+            + 1 }
         ensures counted { steps.old + 1 ≤ steps.new }
         // At most one cost for each place that a window moved on, and two for each window,
-        ensures bounded { steps.new ≤ steps.old + rise self.old.positions self.new.positions + 2 * length self.old.bounds }
+        ensures bounded { steps.new ≤ steps.old + rise self.old.positions self.new.positions
+            + 2 * length self.old.bounds }
         // two for each window that is still open and for the first at the end,
-        ensures bounded_by_open { steps.new ≤ steps.old + rise self.old.positions self.new.positions + 2 * (open_count (C.count cost.now) self.new.positions + 1) }
+        ensures bounded_by_open { steps.new ≤ steps.old + rise self.old.positions self.new.positions
+            + 2 * (open_count (C.count cost.now) self.new.positions + 1) }
         // and two for each end, however many windows stand there.
-        ensures bounded_by_ends { steps.new ≤ steps.old + rise self.old.positions self.new.positions + 2 * end_count self.new.positions }
+        ensures bounded_by_ends { steps.new ≤ steps.old + rise self.old.positions self.new.positions
+            + 2 * end_count self.new.positions }
     {
         bounds_cover();
         bounds_follow_rule();
@@ -126,7 +130,8 @@ impl Windows {
     fn held(&self, k: usize) -> usize
         requires window { k < length self.now.bounds }
         ensures within { result < self.now.distinct }
-        ensures position { slice_index self.now.positions result ≡ slice_index self.now.positions k }
+        ensures position { slice_index self.now.positions result
+            ≡ slice_index self.now.positions k }
         ensures cost { slice_index self.now.costs result ≡ slice_index self.now.costs k }
     {
         k.min(self.positions.len() - 1)

@@ -23,7 +23,8 @@ impl<'a> PlainCursor<'a> {
     pub fn new(docs: &'a [u32], freqs: &'a [u32]) -> PlainCursor<'a>
         requires same_length { length docs.now ≡ length freqs.now }
         requires list { IsCursorList (postings_of docs.now freqs.now) }
-        ensures list { ⟦<PlainCursor<'a> as DocCursor>⟧.list result ≡ postings_of docs.entry.now freqs.entry.now }
+        ensures list { ⟦<PlainCursor<'a> as DocCursor>⟧.list result
+            ≡ postings_of docs.entry.now freqs.entry.now }
         ensures start { ⟦<PlainCursor<'a> as DocCursor>⟧.place result ≡ 0 }
     {
         PlainCursor { docs, freqs, at: 0 }

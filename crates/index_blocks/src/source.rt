@@ -27,7 +27,8 @@ impl<'i, 'a> IndexBlocks<'i, 'a> {
     /// The lists of an index, with what `block_starts` gives of it.
     pub fn new(index: &'i Index<'a>, starts: &'i [u64]) -> IndexBlocks<'i, 'a>
         requires { starts.now ≡ block_starts (blocks_of_index index.now) }
-        ensures lists { ⟦<IndexBlocks<'i, 'a> as BlockSource>⟧.lists result ≡ blocks_of_index index.entry.now }
+        ensures lists { ⟦<IndexBlocks<'i, 'a> as BlockSource>⟧.lists result
+            ≡ blocks_of_index index.entry.now }
         ensures index { index_seen result ≡ index.entry.now }
     {
         index.stands_for_a_collection();
@@ -50,9 +51,12 @@ impl<'i, 'a> IndexBlocks<'i, 'a> {
     ) -> SideCursor<'i, PostingCursor<'a>, IndexBlocks<'i, 'a>>
         requires within { t < length (index_seen self.now).collection.lists }
         requires of_side { words_seen side ≡ side_words (blocks_of_index (index_seen self.now)) }
-        ensures list { ⟦<SideCursor<'i, PostingCursor<'a>, IndexBlocks<'i, 'a>> as DocCursor>⟧.list result ≡ list_of (index_seen self.entry.now).collection t }
-        ensures start { ⟦<SideCursor<'i, PostingCursor<'a>, IndexBlocks<'i, 'a>> as DocCursor>⟧.place result ≡ 0 }
-        ensures blocks { ⟦<SideCursor<'i, PostingCursor<'a>, IndexBlocks<'i, 'a>> as BlockCursor>⟧.blocks result
+        ensures list { ⟦<SideCursor<'i, PostingCursor<'a>, IndexBlocks<'i, 'a>> as DocCursor>⟧.list
+            result ≡ list_of (index_seen self.entry.now).collection t }
+        ensures start { ⟦<SideCursor<'i, PostingCursor<'a>, IndexBlocks<'i, 'a>> as
+            DocCursor>⟧.place result ≡ 0 }
+        ensures blocks { ⟦<SideCursor<'i, PostingCursor<'a>, IndexBlocks<'i, 'a>> as
+            BlockCursor>⟧.blocks result
             ≡ blocks_of (nth_list (blocks_of_index (index_seen self.entry.now)) t) }
     {
         self.index.stands_for_a_collection();

@@ -75,7 +75,8 @@ pub fn build_words<D: Depot, L: Ledger>(
     format: Format,
     steps: &mut Steps<L>,
 ) -> Result<Vec<u64>, BuildError>
-    ensures { BuildsWords format base.now (D.state depot.old) (D.state depot.new) steps.old steps.new (words_built result) }
+    ensures { BuildsWords format base.now (D.state depot.old) (D.state depot.new) steps.old
+        steps.new (words_built result) }
 {
     formats_have_room();
     lists_are_read_in_turn();

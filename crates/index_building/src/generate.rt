@@ -20,8 +20,10 @@ pub fn generated_words<L: Ledger>(
     terms: u32,
     steps: &mut Steps<L>,
 ) -> Result<Vec<u64>, FinishError>
-    ensures words { IfOk result (λ words. AreWordsOf Format.Two (generated seed documents terms) steps.old steps.new words.items) }
-    ensures too_large { (n : ℕ) → result ≡ Err (FinishError.TooLarge n) → WouldBeTooMany Format.Two (generated seed documents terms) steps.old steps.new n }
+    ensures words { IfOk result (λ words. AreWordsOf Format.Two (generated seed documents terms)
+        steps.old steps.new words.items) }
+    ensures too_large { (n : ℕ) → result ≡ Err (FinishError.TooLarge n)
+        → WouldBeTooMany Format.Two (generated seed documents terms) steps.old steps.new n }
 {
     files_spell_collections();
     generated_are_well_formed();
@@ -40,7 +42,8 @@ fn add_generated<L: Ledger>(
     terms: u32,
     steps: &mut Steps<L>,
 ) -> Result<Builder, NoMemory>
-    ensures { let all = generated seed documents terms in IfOk result (λ built. AreAdded Format.Two built all.documents all.lists steps.old steps.new) }
+    ensures { let all = generated seed documents terms in IfOk result
+        (λ built. AreAdded Format.Two built all.documents all.lists steps.old steps.new) }
 {
     lists_are_counted();
     generated_are_well_formed();

@@ -18,8 +18,10 @@ pub fn migrated_words<L: Ledger>(
     index: &Index<'_>,
     steps: &mut Steps<L>,
 ) -> Result<Vec<u64>, FinishError>
-    ensures words { IfOk result (λ words. AreWordsOf Format.Two index.now.collection steps.old steps.new words.items) }
-    ensures too_large { (n : ℕ) → result ≡ Err (FinishError.TooLarge n) → WouldBeTooMany Format.Two index.now.collection steps.old steps.new n }
+    ensures words { IfOk result (λ words. AreWordsOf Format.Two index.now.collection steps.old
+        steps.new words.items) }
+    ensures too_large { (n : ℕ) → result ≡ Err (FinishError.TooLarge n)
+        → WouldBeTooMany Format.Two index.now.collection steps.old steps.new n }
 {
     files_spell_collections();
     index.stands_for_a_collection();
@@ -34,7 +36,8 @@ fn add_lists_of<L: Ledger>(
     index: &Index<'_>,
     steps: &mut Steps<L>,
 ) -> Result<Builder, NoMemory>
-    ensures { IfOk result (λ built. AreAdded Format.Two built index.now.collection.documents index.now.collection.lists steps.old steps.new) }
+    ensures { IfOk result (λ built. AreAdded Format.Two built index.now.collection.documents
+        index.now.collection.lists steps.old steps.new) }
 {
     lists_are_counted();
     index.stands_for_a_collection();

@@ -83,12 +83,15 @@ impl Builder {
         steps: &mut Steps<L>,
     ) -> Result<(), NoMemory>
         requires same_length { length docs.now ≡ length freqs.now }
-        requires list { IsPostingList (numbers_of self.old.format) self.old.documents (postings_of docs.now freqs.now) }
+        requires list { IsPostingList (numbers_of self.old.format) self.old.documents
+            (postings_of docs.now freqs.now) }
         requires room { lists_added self.old < most_terms }
-        ensures ok { OnOk result (AddsList self.old self.new (postings_of docs.now freqs.now) steps.old steps.new) }
+        ensures ok { OnOk result (AddsList self.old self.new (postings_of docs.now freqs.now)
+            steps.old steps.new) }
         ensures err { OnErr result (self.new ≡ self.old) }
         // At most three counted costs a window for each number and one more, in each of the two sequences.
-        ensures bounded { steps.new ≤ steps.old + 6 * length (window_bounds self.old.format) * (length docs.now + 1) }
+        ensures bounded { steps.new ≤ steps.old
+            + 6 * length (window_bounds self.old.format) * (length docs.now + 1) }
     {
         sequences_of_a_list_rise();
         formats_have_room();
@@ -109,12 +112,17 @@ impl Builder {
         freq_cuts: &Cuts,
     ) -> Result<(), NoMemory>
         requires same_length { length docs.now ≡ length freqs.now }
-        requires list { IsPostingList (numbers_of self.old.format) self.old.documents (postings_of docs.now freqs.now) }
+        requires list { IsPostingList (numbers_of self.old.format) self.old.documents
+            (postings_of docs.now freqs.now) }
         requires sums { sums.now ≡ freq_sequence (postings_of docs.now freqs.now) }
         requires room { lists_added self.old < most_terms }
-        requires near { IsNearCut (numbers_of self.old.format) (cut_list docs.now freqs.now doc_cuts.now.ends freq_cuts.now.ends) }
-        requires total { doc_cuts.now.total ≡ partition_cost (cost_of_part (part_charge (numbers_of self.old.format)) (doc_sequence (postings_of docs.now freqs.now))) doc_cuts.now.ends }
-        ensures ok { OnOk result (self.new ≡ with_list self.old (cut_list docs.now freqs.now doc_cuts.now.ends freq_cuts.now.ends)) }
+        requires near { IsNearCut (numbers_of self.old.format)
+            (cut_list docs.now freqs.now doc_cuts.now.ends freq_cuts.now.ends) }
+        requires total { doc_cuts.now.total ≡ partition_cost
+            (cost_of_part (part_charge (numbers_of self.old.format))
+            (doc_sequence (postings_of docs.now freqs.now))) doc_cuts.now.ends }
+        ensures ok { OnOk result (self.new ≡ with_list self.old
+            (cut_list docs.now freqs.now doc_cuts.now.ends freq_cuts.now.ends)) }
         ensures err { OnErr result (self.new ≡ self.old) }
     {
         sequence_takes_its_cost();
@@ -140,12 +148,16 @@ impl Builder {
     /// The words of the file of the lists, with these sizes. A file of more than 2^37 words is refused before memory is taken.
     pub fn finish(self, sizes: &[u32]) -> Result<Vec<u64>, FinishError>
         requires sizes { length sizes.now ≡ self.documents }
-        ensures words { (cs : List CutList) → StandsFor self cs → IfOk result (λ words. words.items ≡ words_of_file (numbers_of self.format) self.documents cs sizes.now) }
+        ensures words { (cs : List CutList) → StandsFor self cs
+            → IfOk result (λ words. words.items
+            ≡ words_of_file (numbers_of self.format) self.documents cs sizes.now) }
         ensures within { IfOk result (λ words. length words.items ≤ most_words) }
         ensures too_large { (n : ℕ) → result ≡ Err (FinishError.TooLarge n) → most_words < n }
         ensures would_be { (n : ℕ) → result ≡ Err (FinishError.TooLarge n)
             → (cs : List CutList) → StandsFor self cs → n ≡ length (words_of_file (numbers_of self.format) self.documents cs sizes.now) }
-        ensures refused { (cs : List CutList) → StandsFor self cs → most_words < length (words_of_file (numbers_of self.format) self.documents cs sizes.now)
+        ensures refused { (cs : List CutList) → StandsFor self cs
+            → most_words < length (words_of_file (numbers_of self.format) self.documents cs
+            sizes.now)
             → result ≡ Err (FinishError.TooLarge (length (words_of_file (numbers_of self.format) self.documents cs sizes.now))) }
     {
         let count = self.count_words(sizes.len() as u64);
@@ -158,14 +170,17 @@ impl Builder {
     // How many words the file has with so many sizes.
     fn count_words(&self, sizes: u64) -> u64
         requires few { sizes < 2 ^ 32 }
-        ensures { result ≡ 2 + length self.now.words + (sizes + 1) / 2 + length self.now.directory + 4 }
+        ensures { result ≡ 2 + length self.now.words + (sizes + 1) / 2 + length self.now.directory
+            + 4 }
     {
         self.words.len() as u64 + sizes.div_ceil(2) + self.directory.len() as u64 + WORDS_BEHIND
     }
 
     // The words of the file.
     fn into_words(self, sizes: &[u32]) -> Result<Vec<u64>, NoMemory>
-        ensures { (cs : List CutList) → StandsFor self cs → IfOk result (λ words. words.items ≡ words_of_file (numbers_of self.format) self.documents cs sizes.now) }
+        ensures { (cs : List CutList) → StandsFor self cs
+            → IfOk result (λ words. words.items
+            ≡ words_of_file (numbers_of self.format) self.documents cs sizes.now) }
     {
         let Builder {
             alloc: _,

@@ -17,7 +17,9 @@ fn check_lists(words: &[u64], frame: Frame, format: Format) -> Result<u64, OpenF
     requires words { length words.now < 2 ^ 57 }
     requires frame { HasFrame (numbers_of format) words.now }
     requires numbers { StatesFrame words.now frame }
-    ensures ok { IfOk result (λ p. (cs : List CutList) × IsFilePrefix (numbers_of format) words.now cs × (length cs ≡ stated_terms words.now) × (p ≡ 2 + length (lists_words (numbers_of format) cs))) }
+    ensures ok { IfOk result (λ p. (cs : List CutList)
+        × IsFilePrefix (numbers_of format) words.now cs × (length cs ≡ stated_terms words.now)
+        × (p ≡ 2 + length (lists_words (numbers_of format) cs))) }
     ensures first { IfErr result (λ f. IsFirstListFault (numbers_of format) words.now f) }
 {
     sequence_laws();

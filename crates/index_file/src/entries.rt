@@ -34,7 +34,9 @@ pub(crate) fn spell_entry(first: u64, freqs: &[u32], doc_cuts: &Cuts, freq_cuts:
     requires postings { length freqs.now < 2 ^ 32 }
     requires doc_parts { length doc_cuts.now.ends < 2 ^ 32 }
     requires freq_parts { length freq_cuts.now.ends < 2 ^ 32 }
-    ensures { result ≡ first ∷ (first + (doc_cuts.now.total + 63) / 64) ∷ (length freqs.now + 2 ^ 32 * length doc_cuts.now.ends) ∷ (length freq_cuts.now.ends + 2 ^ 32 * greatest freqs.now) ∷ [] }
+    ensures { result ≡ first ∷ (first + (doc_cuts.now.total + 63) / 64) ∷
+        (length freqs.now + 2 ^ 32 * length doc_cuts.now.ends) ∷
+        (length freq_cuts.now.ends + 2 ^ 32 * greatest freqs.now) ∷ [] }
 {
     [
         first,

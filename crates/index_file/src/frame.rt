@@ -90,7 +90,8 @@ pub(crate) fn frame_fault(words: &[u64], format: Format) -> Option<Check>
 
 // Whether the numbers at the end of so many words can't be theirs.
 pub(crate) fn numbers_break(frame: Frame, count: u64, format: Format) -> bool
-    ensures { result ≡ numbers_break (numbers_of format) frame.documents frame.terms frame.sizes count }
+    ensures { result ≡ numbers_break (numbers_of format) frame.documents frame.terms frame.sizes
+        count }
 {
     let stated = u128::from(frame.sizes)
         + u128::from(frame.documents).div_ceil(2)

@@ -41,7 +41,8 @@ impl<'a> Index<'a> {
     /// The index that the words are, in the format whose version they state, or their first broken check.
     pub fn view(words: &'a [u64]) -> Result<Index<'a>, OpenFault>
         requires words { length words.now < 2 ^ 57 }
-        ensures ok { IfOk result (λ index. Spells (numbers_of index.format) words.entry.now index.collection index.parts) }
+        ensures ok { IfOk result (λ index. Spells (numbers_of index.format) words.entry.now
+            index.collection index.parts) }
         ensures no_index { IfErr result (λ f. ¬ IsIndex words.entry.now) }
         ensures first { IfErr result (λ f. IsFirstBroken words.entry.now f) }
         ensures stated { IfOk result (λ index. index ≡ of.index_stated words.entry.now) }
@@ -55,7 +56,8 @@ impl<'a> Index<'a> {
     pub fn known(words: &'a [u64]) -> Index<'a>
         requires words { length words.now < 2 ^ 57 }
         requires index { IsIndex words.now }
-        ensures spells { Spells (numbers_of result.format) words.entry.now result.collection result.parts }
+        ensures spells { Spells (numbers_of result.format) words.entry.now result.collection
+            result.parts }
         ensures stated { result ≡ of.index_stated words.entry.now }
     {
         sequence_laws();
@@ -159,7 +161,8 @@ impl<'a> Index<'a> {
     pub fn block(&self, t: u32, q: u32) -> (u32, u32)
         requires within { t < length self.now.collection.lists }
         requires part { q < length (of.doc_ends_of self.now t) }
-        ensures last { result.0 ≡ slice_index (docs_of (list_of self.now.collection t)) (slice_index (of.doc_ends_of self.now t) q - 1) }
+        ensures last { result.0 ≡ slice_index (docs_of (list_of self.now.collection t))
+            (slice_index (of.doc_ends_of self.now t) q - 1) }
         ensures greatest { let ends = of.doc_ends_of self.now t in
             result.1 ≡ greatest_freq (take (slice_index ends q - start_of_part ends q) (drop (start_of_part ends q) (list_of self.now.collection t))) }
     {
@@ -174,7 +177,8 @@ impl<'a> Index<'a> {
     pub fn block_last(&self, t: u32, q: u32) -> u32
         requires within { t < length self.now.collection.lists }
         requires part { q < length (of.doc_ends_of self.now t) }
-        ensures { result ≡ slice_index (docs_of (list_of self.now.collection t)) (slice_index (of.doc_ends_of self.now t) q - 1) }
+        ensures { result ≡ slice_index (docs_of (list_of self.now.collection t))
+            (slice_index (of.doc_ends_of self.now t) q - 1) }
     {
         self.stands_for_a_collection();
         self.list(t).docs.last_of_part(q) as u32
@@ -183,8 +187,10 @@ impl<'a> Index<'a> {
     // The two sequences of list t.
     fn list(&self, t: u32) -> ListViews<'a>
         requires within { t < length self.now.collection.lists }
-        ensures docs { result.docs ≡ of.docs_view (numbers_of self.now.format) (of.cut_list_at self.now t) }
-        ensures freqs { result.freqs ≡ of.freqs_view (numbers_of self.now.format) (of.cut_list_at self.now t) }
+        ensures docs { result.docs ≡ of.docs_view (numbers_of self.now.format)
+            (of.cut_list_at self.now t) }
+        ensures freqs { result.freqs ≡ of.freqs_view (numbers_of self.now.format)
+            (of.cut_list_at self.now t) }
     {
         sequence_laws();
         list_views(self.words, t, self.format())
@@ -193,7 +199,8 @@ impl<'a> Index<'a> {
     /// A cursor at the start of list t.
     pub fn cursor(&self, t: u32) -> PostingCursor<'a>
         requires within { t < length self.now.collection.lists }
-        ensures list { ⟦<PostingCursor<'a> as DocCursor>⟧.list result ≡ list_of self.now.collection t }
+        ensures list { ⟦<PostingCursor<'a> as DocCursor>⟧.list result
+            ≡ list_of self.now.collection t }
         ensures start { ⟦<PostingCursor<'a> as DocCursor>⟧.place result ≡ 0 }
     {
         cursor_at(self.words, t, self.format())
@@ -214,7 +221,9 @@ fn cursor_at<'a>(words: &'a [u64], t: u32, format: Format) -> PostingCursor<'a>
     requires words { length words.now < 2 ^ 57 }
     requires index { IsIndexIn (numbers_of format) words.now }
     requires within { t < stated_terms words.now }
-    ensures list { (c : Collection) (parts : List ListParts) → Spells (numbers_of format) words.entry.now c parts → ⟦<PostingCursor<'a> as DocCursor>⟧.list result ≡ list_of c t }
+    ensures list { (c : Collection) (parts : List ListParts)
+        → Spells (numbers_of format) words.entry.now c parts
+        → ⟦<PostingCursor<'a> as DocCursor>⟧.list result ≡ list_of c t }
     ensures start { ⟦<PostingCursor<'a> as DocCursor>⟧.place result ≡ 0 }
 {
     sequence_laws();

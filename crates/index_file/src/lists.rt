@@ -75,7 +75,8 @@ fn fault_in(t: u32, before: u32, fault: SeqFault) -> OpenFault
 // Whether a list can't begin at word p.
 fn cannot_begin(list: ListEntry, p: u64, frame: Frame, format: Format) -> bool
     requires small { p < 2 ^ 57 }
-    ensures { result ≡ cannot_begin (numbers_of format) list.docs p frame.documents list.len list.doc_parts list.sum_parts frame.sizes }
+    ensures { result ≡ cannot_begin (numbers_of format) list.docs p frame.documents list.len
+        list.doc_parts list.sum_parts frame.sizes }
 {
     list.docs != p
         || frame.documents < u64::from(list.len)
@@ -87,7 +88,8 @@ fn cannot_begin(list: ListEntry, p: u64, frame: Frame, format: Format) -> bool
 // Whether the frequencies of a list can't begin at word p.
 fn sums_cannot_begin(list: ListEntry, p: u64, frame: Frame, format: Format) -> bool
     requires small { p < 2 ^ 57 }
-    ensures { result ≡ (not (list.sums == p) || nat_lt frame.sizes (p + entry_words (numbers_of format) * list.sum_parts)) }
+    ensures { result ≡ (not (list.sums == p) || nat_lt frame.sizes
+        (p + entry_words (numbers_of format) * list.sum_parts)) }
 {
     list.sums != p || frame.sizes < p + format.entry_words() * u64::from(list.sum_parts)
 }
@@ -109,7 +111,8 @@ fn check_sums(
     requires within { t < stated_terms words.now }
     requires before { p ≤ stated_sizes words.now }
     requires fit { parts_fit (stated_length words.now t) (stated_freq_parts words.now t) ≡ true }
-    ensures ok { IfOk result (λ behind. (xs : List ℕ) × (ends : List ℕ) × (used : ℕ) × FreqsStandAt (numbers_of format) words.now t p xs ends used × (behind ≡ p + used)) }
+    ensures ok { IfOk result (λ behind. (xs : List ℕ) × (ends : List ℕ) × (used : ℕ)
+        × FreqsStandAt (numbers_of format) words.now t p xs ends used × (behind ≡ p + used)) }
     ensures first { IfErr result (λ f. IsFreqsFault (numbers_of format) words.now t p f) }
 {
     sequence_laws();
@@ -147,7 +150,8 @@ pub(crate) fn check_list(
     requires numbers { StatesFrame words.now frame }
     requires within { t < stated_terms words.now }
     requires before { p ≤ stated_sizes words.now }
-    ensures ok { IfOk result (λ next. (c : CutList) × StandsAt (numbers_of format) words.now t p c × (next ≡ word_after (numbers_of format) p c)) }
+    ensures ok { IfOk result (λ next. (c : CutList) × StandsAt (numbers_of format) words.now t p c
+        × (next ≡ word_after (numbers_of format) p c)) }
     ensures first { IfErr result (λ f. IsTermFault (numbers_of format) words.now t p f) }
 {
     sequence_laws();

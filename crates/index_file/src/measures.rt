@@ -40,7 +40,8 @@ fn of_part(measure: Measure, part: Part) -> u64
 // What the parts of a sequence add.
 fn of_sequence(measure: Measure, sequence: &SeqView) -> u64
     requires measured { IsMeasured measure sequence.now }
-    ensures { result ≡ partition_cost (measure_of_part measure sequence.now.values) sequence.now.ends }
+    ensures { result ≡ partition_cost (measure_of_part measure sequence.now.values)
+        sequence.now.ends }
 {
     part_is_relative();
     let mut total = 0;
@@ -53,9 +54,11 @@ fn of_sequence(measure: Measure, sequence: &SeqView) -> u64
 // What the two sequences of list t of the words of an index add.
 fn of_list(measure: Measure, words: &[u64], t: u32, format: Format) -> u64
     requires words { length words.now < 2 ^ 57 }
-    requires index { Spells (numbers_of format) words.now (index_stated words.now).collection (index_stated words.now).parts }
+    requires index { Spells (numbers_of format) words.now (index_stated words.now).collection
+        (index_stated words.now).parts }
     requires within { t < stated_terms words.now }
-    ensures { result ≡ slice_index (map (measure_of_list measure) (cut_lists (index_stated words.now))) t }
+    ensures { result ≡ slice_index (map (measure_of_list measure)
+        (cut_lists (index_stated words.now))) t }
 {
     sequence_laws();
     sequence_takes_its_cost();
@@ -66,7 +69,8 @@ fn of_list(measure: Measure, words: &[u64], t: u32, format: Format) -> u64
 // What the sequences of all lists of the words of an index add.
 pub(crate) fn of_index(measure: Measure, words: &[u64], format: Format) -> u64
     requires words { length words.now < 2 ^ 57 }
-    requires index { Spells (numbers_of format) words.now (index_stated words.now).collection (index_stated words.now).parts }
+    requires index { Spells (numbers_of format) words.now (index_stated words.now).collection
+        (index_stated words.now).parts }
     ensures { result ≡ sum_by (measure_of_list measure) (cut_lists (index_stated words.now)) }
 {
     sequences_of_a_list_rise();

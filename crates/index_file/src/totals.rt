@@ -26,7 +26,8 @@ pub(crate) fn size_at(words: &[u64], first: u64, d: u32) -> u32
 pub(crate) fn all_postings(words: &[u64]) -> u64
     requires words { length words.now < 2 ^ 57 }
     requires frame { (format : Format) × HasFrame (numbers_of format) words.now }
-    ensures { result ≡ sum_by (stated_length words.now) (range_with_len 0 (stated_terms words.now)) }
+    ensures { result ≡ sum_by (stated_length words.now)
+        (range_with_len 0 (stated_terms words.now)) }
 {
     let mut total = 0;
     let frame = frame_of(words);
@@ -40,7 +41,8 @@ pub(crate) fn all_postings(words: &[u64]) -> u64
 pub(crate) fn all_sizes(words: &[u64]) -> u64
     requires words { length words.now < 2 ^ 57 }
     requires frame { (format : Format) × HasFrame (numbers_of format) words.now }
-    ensures { result ≡ sum_by (size_stated words.now) (range_with_len 0 (stated_documents words.now)) }
+    ensures { result ≡ sum_by (size_stated words.now)
+        (range_with_len 0 (stated_documents words.now)) }
 {
     let mut total = 0;
     let frame = frame_of(words);

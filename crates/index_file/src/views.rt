@@ -43,8 +43,10 @@ pub(crate) fn list_views<'a>(words: &'a [u64], t: u32, format: Format) -> ListVi
 fn known_at<'a>(words: &'a [u64], p: u64, parts: u32, m: u32, format: Format) -> SeqView<'a>
     requires words { length words.now < 2 ^ 57 }
     requires within { p ≤ length words.now }
-    requires checked { (v : SequenceView) × (v.format ≡ numbers_of format) × BeginWith (drop p words.now) parts m v }
-    ensures same { (v : SequenceView) → v.format ≡ numbers_of format → BeginWith (drop p words.entry.now) parts m v → result ≡ v }
+    requires checked { (v : SequenceView) × (v.format ≡ numbers_of format)
+        × BeginWith (drop p words.now) parts m v }
+    ensures same { (v : SequenceView) → v.format ≡ numbers_of format
+        → BeginWith (drop p words.entry.now) parts m v → result ≡ v }
 {
     SeqView::known(&words[p as usize..], parts, m, format)
 }

@@ -63,9 +63,11 @@ fn audit_list<O: Sink, L: Ledger>(
 ) -> Result<Tally, IoFail>
     requires within { term < length index.now.collection.lists }
     requires few { tally.shown + tally.longer ≤ 2 * term }
-    ensures goes_on { (old : SinkState) (before : ℕ) → IsAudited index.now term old (O.state out.old) before steps.old tally.shown tally.longer
+    ensures goes_on { (old : SinkState) (before : ℕ)
+        → IsAudited index.now term old (O.state out.old) before steps.old tally.shown tally.longer
         → IfOk result (λ next. IsAudited index.now (term + 1) old (O.state out.new) before steps.new next.shown next.longer) }
-    ensures stops { (old : SinkState) (before : ℕ) → IsAudited index.now term old (O.state out.old) before steps.old tally.shown tally.longer
+    ensures stops { (old : SinkState) (before : ℕ)
+        → IsAudited index.now term old (O.state out.old) before steps.old tally.shown tally.longer
         → IfErr result (λ fail. PrintsAudit index.now old (O.state out.new) before steps.new (Err fail)) }
 {
     formats_have_room();
@@ -114,8 +116,10 @@ fn sequences_of(
     term: u32,
 ) -> Result<(Vec<u64>, Vec<u64>), NoMemory>
     requires within { term < length index.now.collection.lists }
-    ensures docs { IfOk result (λ both. both.0.items ≡ (cut_sequence term Which.Docs (cut_list_at index.now term)).values) }
-    ensures sums { IfOk result (λ both. both.1.items ≡ (cut_sequence term Which.Freqs (cut_list_at index.now term)).values) }
+    ensures docs { IfOk result (λ both. both.0.items
+        ≡ (cut_sequence term Which.Docs (cut_list_at index.now term)).values) }
+    ensures sums { IfOk result (λ both. both.1.items
+        ≡ (cut_sequence term Which.Freqs (cut_list_at index.now term)).values) }
 {
     formats_have_room();
     index.stands_for_a_collection();
@@ -138,7 +142,9 @@ fn print_line<O: Sink, L: Ledger>(
     requires within { term < length index.now.collection.lists }
     requires values { values.now ≡ (cut_sequence term which (cut_list_at index.now term)).values }
     requires short { length values.now ≤ longest_audited }
-    ensures { PrintsLines (numbers_of index.now.format) (cut_sequence term which (cut_list_at index.now term) ∷ []) (O.state out.old) (O.state out.new) steps.old steps.new result }
+    ensures { PrintsLines (numbers_of index.now.format)
+        (cut_sequence term which (cut_list_at index.now term) ∷ []) (O.state out.old)
+        (O.state out.new) steps.old steps.new result }
 {
     formats_have_room();
     single_is_allowed();
@@ -160,7 +166,8 @@ fn line_of<L: Ledger>(
     requires within { term < length index.now.collection.lists }
     requires values { values.now ≡ (cut_sequence term which (cut_list_at index.now term)).values }
     requires short { length values.now ≤ longest_audited }
-    ensures line { IfOk result (λ line. IsAuditLine (numbers_of index.now.format) (cut_sequence term which (cut_list_at index.now term)) (string_bytes line)) }
+    ensures line { IfOk result (λ line. IsAuditLine (numbers_of index.now.format)
+        (cut_sequence term which (cut_list_at index.now term)) (string_bytes line)) }
     ensures counted { IfOk result (λ line. steps.old + 2 * length values.now ≤ steps.new) }
     ensures bounded { steps.new ≤ steps.old + length values.now * (length values.now + 1) }
 {

@@ -23,7 +23,8 @@ const PLANS: [Plan; 3] = [Plan::Exhaustive, Plan::Wand, Plan::MaxScore];
 /// and the replies to what it is asked. Out is not called before all is made.
 pub fn print_generated<O: Sink>(alloc: Global, index: &Index<'_>, out: &mut O) -> Result<(), IoFail>
     requires few { word_count index.now ≤ most_words }
-    ensures { MakesAndPrints (IsGeneratedText (numbers_of index.now.format) index.now.collection index.now.parts) (O.state out.old) (O.state out.new) result }
+    ensures { MakesAndPrints (IsGeneratedText (numbers_of index.now.format) index.now.collection
+        index.now.parts) (O.state out.old) (O.state out.new) result }
 {
     let text = generated_text(alloc, index).map_err(|_| IoFail::NoMemory)?;
     write_all_own(out, text.as_slice())
@@ -32,7 +33,8 @@ pub fn print_generated<O: Sink>(alloc: Global, index: &Index<'_>, out: &mut O) -
 // What is told of a generated collection.
 fn generated_text(alloc: Global, index: &Index<'_>) -> Result<Vec<u8>, NoMemory>
     requires few { word_count index.now ≤ most_words }
-    ensures { IfOk result (λ text. IsGeneratedText (numbers_of index.now.format) index.now.collection index.now.parts text.items) }
+    ensures { IfOk result (λ text. IsGeneratedText (numbers_of index.now.format)
+        index.now.collection index.now.parts text.items) }
 {
     let mut text = counts_line(alloc, index)?.into_bytes();
     if index.terms() > 0 {
@@ -48,7 +50,8 @@ fn generated_text(alloc: Global, index: &Index<'_>) -> Result<Vec<u8>, NoMemory>
 // The line that counts what a collection has.
 fn counts_line(alloc: Global, index: &Index<'_>) -> Result<String, AllocError>
     requires few { word_count index.now ≤ most_words }
-    ensures { IfOk result (λ line. string_bytes line ≡ counts_line (numbers_of index.now.format) index.now.collection index.now.parts) }
+    ensures { IfOk result (λ line. string_bytes line
+        ≡ counts_line (numbers_of index.now.format) index.now.collection index.now.parts) }
 {
     let documents = index.documents();
     let terms = index.terms();
@@ -60,7 +63,8 @@ fn counts_line(alloc: Global, index: &Index<'_>) -> Result<String, AllocError>
 // What all partitions cost, in bits: the payload of each part, and its charge.
 fn cost_of_lists(index: &Index<'_>) -> u64
     requires few { word_count index.now ≤ most_words }
-    ensures { result ≡ cost_of_lists (numbers_of index.now.format) index.now.collection index.now.parts }
+    ensures { result ≡ cost_of_lists (numbers_of index.now.format) index.now.collection
+        index.now.parts }
 {
     lists_cost_their_words(index);
     let parts = index.parts_of_kind(Kind::Ones)
@@ -71,7 +75,8 @@ fn cost_of_lists(index: &Index<'_>) -> u64
 
 // All partitions cost no more bits than the words of the file have.
 fn lists_cost_their_words(index: &Index<'_>)
-    ensures { cost_of_lists (numbers_of index.now.format) index.now.collection index.now.parts ≤ 64 * word_count index.now }
+    ensures { cost_of_lists (numbers_of index.now.format) index.now.collection index.now.parts
+        ≤ 64 * word_count index.now }
 {
     formats_have_room();
     sequences_of_a_list_rise();
@@ -105,7 +110,8 @@ fn push_reply<L: TermLists>(
     line: &str,
     text: &mut Vec<u8>,
 ) -> Result<(), NoMemory>
-    ensures { OnOk result ((reply : List ℕ) × IsReply (L.collection lists.now) line.now reply × (text.new.items ≡ text.old.items ++ reply)) }
+    ensures { OnOk result ((reply : List ℕ) × IsReply (L.collection lists.now) line.now reply
+        × (text.new.items ≡ text.old.items ++ reply)) }
 {
     let reply = reply_to(alloc, lists, line.as_bytes())?;
     Ok(text.extend_from_slice(&reply)?)
@@ -119,7 +125,9 @@ fn push_replies(
     line: &str,
     text: &mut Vec<u8>,
 ) -> Result<(), NoMemory>
-    ensures { OnOk result ((replies : List ℕ) × AreReplies index.now.collection (replicate (length plans.now) line.now) replies × (text.new.items ≡ text.old.items ++ replies)) }
+    ensures { OnOk result ((replies : List ℕ)
+        × AreReplies index.now.collection (replicate (length plans.now) line.now) replies
+        × (text.new.items ≡ text.old.items ++ replies)) }
 {
     for plan in plans {
         push_reply(alloc, &IndexLists::new(index, *plan), line, text)?;

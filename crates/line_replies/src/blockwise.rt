@@ -26,7 +26,8 @@ impl<'i, 'a> SideLists<'i, 'a> {
     /// The lists of this index in blocks, and its side file.
     pub fn new(blocks: &'i IndexBlocks<'i, 'a>, side: Side<'i>) -> SideLists<'i, 'a>
         requires { words_seen side ≡ side_words (blocks_of_index (index_seen blocks.now)) }
-        ensures { ⟦<SideLists<'i, 'a> as TermLists>⟧.collection result ≡ (index_seen blocks.entry.now).collection }
+        ensures { ⟦<SideLists<'i, 'a> as TermLists>⟧.collection result
+            ≡ (index_seen blocks.entry.now).collection }
     {
         documents_are_below(blocks.index());
         SideLists { blocks, side }

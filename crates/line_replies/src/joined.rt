@@ -41,7 +41,8 @@ impl<'a> JoinedLists<'a> {
         plan: Plan,
     ) -> Result<JoinedLists<'a>, NoMemory>
         requires { CanBeJoined (map (λ file. file.items) files.now) }
-        ensures { IfOk result (λ lists. ⟦<JoinedLists<'a> as TermLists>⟧.collection lists ≡ joined (collections_of (map (λ file. file.items) files.entry.now))) }
+        ensures { IfOk result (λ lists. ⟦<JoinedLists<'a> as TermLists>⟧.collection lists
+            ≡ joined (collections_of (map (λ file. file.items) files.entry.now))) }
     {
         joined_lists_follow();
         let (segments, documents) = segments_of(alloc, files)?;
@@ -117,7 +118,8 @@ fn segments_of<'a>(
     requires { CanBeJoined (map (λ file. file.items) files.now) }
     ensures segments { IfOk result (λ r. AreSegments r.0.items) }
     ensures documents { IfOk result (λ r. r.1 ≡ documents_in (collections_in r.0.items)) }
-    ensures collections { IfOk result (λ r. collections_in r.0.items ≡ collections_of (map (λ file. file.items) files.entry.now)) }
+    ensures collections { IfOk result (λ r. collections_in r.0.items
+        ≡ collections_of (map (λ file. file.items) files.entry.now)) }
 {
     let mut segments = Vec::with_capacity(alloc, files.len())?;
     let mut documents = 0;
@@ -137,8 +139,10 @@ fn parts_at<'a>(
     term: u32,
 ) -> Result<Vec<(u32, PostingCursor<'a>)>, NoMemory>
     requires { All (λ c. term < length c.lists) (collections_in segments.now) }
-    ensures lists { IfOk result (λ parts. parts_of (⟦<PostingCursor<'a> as DocCursor>⟧.list) parts.items ≡ lists_in segments.now term) }
-    ensures start { IfOk result (λ parts. All (λ p. ⟦<PostingCursor<'a> as DocCursor>⟧.place p.1 ≡ 0) parts.items) }
+    ensures lists { IfOk result (λ parts. parts_of (⟦<PostingCursor<'a> as DocCursor>⟧.list)
+        parts.items ≡ lists_in segments.now term) }
+    ensures start { IfOk result (λ parts. All
+        (λ p. ⟦<PostingCursor<'a> as DocCursor>⟧.place p.1 ≡ 0) parts.items) }
 {
     let mut parts = Vec::with_capacity(alloc, segments.len())?;
     for segment in segments {

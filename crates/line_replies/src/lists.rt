@@ -29,7 +29,8 @@ pub trait TermLists {
     /// A cursor at the start of a term's list.
     fn cursor(&self, alloc: Global, term: u32) -> Result<Self::Cursor, NoMemory>
         requires { term < length (collection self.now).lists }
-        ensures list { IfOk result (λ cursor. Self.Cursor.list cursor ≡ list_of (collection self.now) term) }
+        ensures list { IfOk result (λ cursor. Self.Cursor.list cursor
+            ≡ list_of (collection self.now) term) }
         ensures start { IfOk result (λ cursor. Self.Cursor.place cursor ≡ 0) };
 
     /// The first posting of a term's list whose document is at least this one, as document and frequency.
@@ -60,7 +61,10 @@ pub trait TermLists {
     ) -> Result<(), NoMemory>
         requires within { term < length (collection self.now).lists }
         requires room { vec_len cursors.old < vec_capacity cursors.old }
-        ensures pushed { OnOk result ((cursor : Self.Cursor) × (cursors.new.items ≡ cursors.old.items ++ cursor ∷ []) × (Self.Cursor.list cursor ≡ list_of (collection self.now) term) × (Self.Cursor.place cursor ≡ 0)) }
+        ensures pushed { OnOk result ((cursor : Self.Cursor)
+            × (cursors.new.items ≡ cursors.old.items ++ cursor ∷ [])
+            × (Self.Cursor.list cursor ≡ list_of (collection self.now) term)
+            × (Self.Cursor.place cursor ≡ 0)) }
         ensures len { OnOk result (vec_len cursors.new ≡ vec_len cursors.old + 1) }
         ensures capacity { vec_capacity cursors.new ≡ vec_capacity cursors.old };
 
@@ -73,8 +77,10 @@ pub trait TermLists {
         weights: &[u32],
         k: u32,
     ) -> Result<Vec<(u32, u64)>, NoMemory>
-        requires { IsTopQuery Self.Cursor.list Self.Cursor.place (collection self.now).documents cursors.old weights.now }
-        ensures first { IfOk result (λ r. IsTop (collection self.now).documents (map Self.Cursor.list cursors.old) weights.now k r.items) }
+        requires { IsTopQuery Self.Cursor.list Self.Cursor.place (collection self.now).documents
+            cursors.old weights.now }
+        ensures first { IfOk result (λ r. IsTop (collection self.now).documents
+            (map Self.Cursor.list cursors.old) weights.now k r.items) }
         ensures bound { IfOk result (λ r. All (λ e. e.1 < 2 ^ 58) r.items) };
 
     ghost in_range: { (lists : Self) → IsInRange (collection lists) };

@@ -24,7 +24,8 @@ pub fn reply_to<L: TermLists>(
     lists: &L,
     line: &[u8],
 ) -> Result<CowSlice<'static, u8>, NoMemory>
-    ensures { IfOk result (λ reply. IsReply (L.collection lists.now) line.now (cow_slice_items reply)) }
+    ensures { IfOk result (λ reply. IsReply (L.collection lists.now) line.now
+        (cow_slice_items reply)) }
 {
     match parse(alloc, line, lists.terms()) {
         Ok(query) => Ok(CowSlice::Owned(answer(alloc, lists, &query)?)),
@@ -54,7 +55,9 @@ fn next_answer<L: TermLists>(
     doc: u32,
 ) -> Result<Vec<u8>, NoMemory>
     requires { term < length (L.collection lists.now).lists }
-    ensures { IfOk result (λ text. text.items ≡ next_text (option_map (λ p. (p.doc, p.freq)) (first_at_least (list_of (L.collection lists.now) term) doc))) }
+    ensures { IfOk result (λ text. text.items
+        ≡ next_text (option_map (λ p. (p.doc, p.freq))
+        (first_at_least (list_of (L.collection lists.now) term) doc))) }
 {
     next_reply(alloc, lists.first_posting(alloc, term, doc)?)
 }
@@ -73,7 +76,9 @@ pub(crate) fn first_posting<C: DocCursor>(cursor: &mut C, doc: u32) -> Option<(u
 fn and_answer<L: TermLists>(alloc: Global, lists: &L, terms: &[u32]) -> Result<Vec<u8>, NoMemory>
     requires few { length terms.now ≤ 1024 }
     requires named { All (λ t. t < length (L.collection lists.now).lists) terms.now }
-    ensures { IfOk result (λ text. text.items ≡ list_text (in_all (L.collection lists.now).documents (lists_of (L.collection lists.now) terms.now))) }
+    ensures { IfOk result (λ text. text.items
+        ≡ list_text (in_all (L.collection lists.now).documents
+        (lists_of (L.collection lists.now) terms.now))) }
 {
     let mut cursors = cursors_of(alloc, lists, terms)?;
     let docs = and_docs(alloc, cursors.as_mut_slice())?;
@@ -84,7 +89,9 @@ fn and_answer<L: TermLists>(alloc: Global, lists: &L, terms: &[u32]) -> Result<V
 fn or_answer<L: TermLists>(alloc: Global, lists: &L, terms: &[u32]) -> Result<Vec<u8>, NoMemory>
     requires few { length terms.now ≤ 1024 }
     requires named { All (λ t. t < length (L.collection lists.now).lists) terms.now }
-    ensures { IfOk result (λ text. text.items ≡ list_text (in_any (L.collection lists.now).documents (lists_of (L.collection lists.now) terms.now))) }
+    ensures { IfOk result (λ text. text.items
+        ≡ list_text (in_any (L.collection lists.now).documents
+        (lists_of (L.collection lists.now) terms.now))) }
 {
     let mut cursors = cursors_of(alloc, lists, terms)?;
     let docs = or_docs(alloc, cursors.as_mut_slice())?;
@@ -103,7 +110,8 @@ fn top_answer<L: TermLists>(
     requires named { All (λ t. t < length (L.collection lists.now).lists) terms.now }
     requires each { length weights.now ≡ length terms.now }
     requires weights { AreWeights weights.now }
-    ensures { IfOk result (λ text. IsTopText (L.collection lists.now).documents (lists_of (L.collection lists.now) terms.now) weights.now k text.items) }
+    ensures { IfOk result (λ text. IsTopText (L.collection lists.now).documents
+        (lists_of (L.collection lists.now) terms.now) weights.now k text.items) }
 {
     let mut cursors = cursors_of(alloc, lists, terms)?;
     let top = lists.top(alloc, cursors.as_mut_slice(), weights, k)?;

@@ -14,7 +14,8 @@ pub(crate) fn cursors_of<L: TermLists>(
     terms: &[u32],
 ) -> Result<Vec<L::Cursor>, NoMemory>
     requires { All (λ t. t < length (L.collection lists.now).lists) terms.now }
-    ensures lists { IfOk result (λ cursors. map L.Cursor.list cursors.items ≡ lists_of (L.collection lists.now) terms.now) }
+    ensures lists { IfOk result (λ cursors. map L.Cursor.list cursors.items
+        ≡ lists_of (L.collection lists.now) terms.now) }
     ensures start { IfOk result (λ cursors. All (λ c. L.Cursor.place c ≡ 0) cursors.items) }
 {
     let mut cursors = Vec::with_capacity(alloc, terms.len())?;

@@ -39,8 +39,10 @@ fn check_lone(words: &[u64], at: u64, end: u64, sought: Sought) -> Option<Found>
     requires within { at < end }
     requires range { end ≤ 64 * length words.now }
     requires flag { slice_index (bits_of words.now) at ≡ 0 }
-    ensures some { IfSome result (IsFound sought.last sought.m sought.bound (bits_of words.now) at end) }
-    ensures none { IfNone result ((xs ends : List ℕ) → ¬ IsSequenceBefore sought.last sought.m sought.bound (bits_of words.now) at end xs ends) }
+    ensures some { IfSome result (IsFound sought.last sought.m sought.bound (bits_of words.now) at
+        end) }
+    ensures none { IfNone result ((xs ends : List ℕ)
+        → ¬ IsSequenceBefore sought.last sought.m sought.bound (bits_of words.now) at end xs ends) }
 {
     part_takes_its_payload();
     parts_are_short();
@@ -80,8 +82,10 @@ fn parted_head(words: &[u64], at: u64, end: u64, m: u32) -> Option<PartedHead>
     requires words { length words.now < 2 ^ 57 }
     requires within { at < end }
     requires range { end ≤ 64 * length words.now }
-    ensures some { IfSome result (λ head. IsPartedHead m (bits_of words.now) at end head.parts head.start) }
-    ensures none { IfNone result ((parts start : ℕ) → ¬ IsPartedHead m (bits_of words.now) at end parts start) }
+    ensures some { IfSome result (λ head. IsPartedHead m (bits_of words.now) at end head.parts
+        head.start) }
+    ensures none { IfNone result ((parts start : ℕ)
+        → ¬ IsPartedHead m (bits_of words.now) at end parts start) }
 {
     let bits = Bits { words };
     let width = digits(u64::from(m));
@@ -106,8 +110,10 @@ fn check_parted(words: &[u64], at: u64, end: u64, sought: Sought) -> Option<Foun
     requires within { at < end }
     requires range { end ≤ 64 * length words.now }
     requires flag { slice_index (bits_of words.now) at ≡ 1 }
-    ensures some { IfSome result (IsFound sought.last sought.m sought.bound (bits_of words.now) at end) }
-    ensures none { IfNone result ((xs ends : List ℕ) → ¬ IsSequenceBefore sought.last sought.m sought.bound (bits_of words.now) at end xs ends) }
+    ensures some { IfSome result (IsFound sought.last sought.m sought.bound (bits_of words.now) at
+        end) }
+    ensures none { IfNone result ((xs ends : List ℕ)
+        → ¬ IsSequenceBefore sought.last sought.m sought.bound (bits_of words.now) at end xs ends) }
 {
     words_are_bits();
     sequence_words_fit();
@@ -129,8 +135,10 @@ fn check_sequence(words: &[u64], at: u64, end: u64, sought: Sought) -> Option<Fo
     requires words { length words.now < 2 ^ 57 }
     requires ordered { at ≤ end }
     requires range { end ≤ 64 * length words.now }
-    ensures some { IfSome result (IsFound sought.last sought.m sought.bound (bits_of words.now) at end) }
-    ensures none { IfNone result ((xs ends : List ℕ) → ¬ IsSequenceBefore sought.last sought.m sought.bound (bits_of words.now) at end xs ends) }
+    ensures some { IfSome result (IsFound sought.last sought.m sought.bound (bits_of words.now) at
+        end) }
+    ensures none { IfNone result ((xs ends : List ℕ)
+        → ¬ IsSequenceBefore sought.last sought.m sought.bound (bits_of words.now) at end xs ends) }
 {
     if at == end {
         None

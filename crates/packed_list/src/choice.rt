@@ -17,7 +17,9 @@ pub fn is_one_part(values: &[u64], total: u64) -> bool
     requires below { All (λ x. x < format_three.most_sum) values.now }
     requires some { 1 ≤ length values.now }
     ensures one { IsTrue result ↔ payload_of_part values.now 0 (length values.now) ≤ total }
-    ensures near { (ends : List ℕ) → IsCutNear format_three values.now ends → total ≡ partition_cost (cost_of_part (part_charge format_three) values.now) ends → IsNearStored format_three values.now (if result then length values.now ∷ [] else ends) }
+    ensures near { (ends : List ℕ) → IsCutNear format_three values.now ends
+        → total ≡ partition_cost (cost_of_part (part_charge format_three) values.now) ends
+        → IsNearStored format_three values.now (if result then length values.now ∷ [] else ends) }
 {
     near_is_near_stored();
     let last = values[values.len() - 1];

@@ -34,9 +34,11 @@ pub struct GammaRead {
 pub fn gamma_before(bits: Bits<'_>, at: u64, end: u64) -> Option<GammaRead>
     requires ordered { at ≤ end }
     requires range { end ≤ 64 * length bits.words.now }
-    ensures some { IfSome result (λ read. IsGammaBefore (bits_of bits.entry.words.now) at end read.number) }
+    ensures some { IfSome result (λ read. IsGammaBefore (bits_of bits.entry.words.now) at end
+        read.number) }
     ensures behind { IfSome result (λ read. read.behind ≡ at + gamma_length read.number) }
-    ensures none { IfNone result ((n : ℕ) → ¬ IsGammaBefore (bits_of bits.entry.words.now) at end n) }
+    ensures none { IfNone result ((n : ℕ) → ¬ IsGammaBefore (bits_of bits.entry.words.now) at end
+        n) }
 {
     // More zeros before the first one than that are of a greater number.
     let Some(one) = bits.next_one(at, at + (end - at).min(MOST_DIGITS)) else {

@@ -36,9 +36,14 @@ fn known_lone<'a>(words: &'a [u64], at: u64, m: u32, last: LastField) -> KnownSe
     requires many { 2 ≤ m }
     requires narrow { last.width ≤ 64 }
     requires flag { slice_index (bits_of words.now) at ≡ 0 }
-    requires stands { (xs ends : List ℕ) × IsSequenceBefore last m format_three.most_sum (bits_of words.now) at (64 * length words.now) xs ends }
-    ensures view { (xs ends : List ℕ) → IsSequenceBefore last m format_three.most_sum (bits_of words.entry.now) at (64 * length words.entry.now) xs ends → result.view ≡ record { format = format_three; values = xs; ends = ends } }
-    ensures behind { (xs ends : List ℕ) → IsSequenceBefore last m format_three.most_sum (bits_of words.entry.now) at (64 * length words.entry.now) xs ends → result.behind ≡ at + length (sequence_bits last at xs ends) }
+    requires stands { (xs ends : List ℕ) × IsSequenceBefore last m format_three.most_sum
+        (bits_of words.now) at (64 * length words.now) xs ends }
+    ensures view { (xs ends : List ℕ) → IsSequenceBefore last m format_three.most_sum
+        (bits_of words.entry.now) at (64 * length words.entry.now) xs ends
+        → result.view ≡ record { format = format_three; values = xs; ends = ends } }
+    ensures behind { (xs ends : List ℕ) → IsSequenceBefore last m format_three.most_sum
+        (bits_of words.entry.now) at (64 * length words.entry.now) xs ends
+        → result.behind ≡ at + length (sequence_bits last at xs ends) }
 {
     part_takes_its_payload();
     let place = at + 1 + u64::from(last.width);
@@ -62,9 +67,14 @@ fn known_parted<'a>(words: &'a [u64], at: u64, m: u32, last: LastField) -> Known
     requires words { length words.now < 2 ^ 57 }
     requires many { 2 ≤ m }
     requires flag { slice_index (bits_of words.now) at ≡ 1 }
-    requires stands { (xs ends : List ℕ) × IsSequenceBefore last m format_three.most_sum (bits_of words.now) at (64 * length words.now) xs ends }
-    ensures view { (xs ends : List ℕ) → IsSequenceBefore last m format_three.most_sum (bits_of words.entry.now) at (64 * length words.entry.now) xs ends → result.view ≡ record { format = format_three; values = xs; ends = ends } }
-    ensures behind { (xs ends : List ℕ) → IsSequenceBefore last m format_three.most_sum (bits_of words.entry.now) at (64 * length words.entry.now) xs ends → result.behind ≡ at + length (sequence_bits last at xs ends) }
+    requires stands { (xs ends : List ℕ) × IsSequenceBefore last m format_three.most_sum
+        (bits_of words.now) at (64 * length words.now) xs ends }
+    ensures view { (xs ends : List ℕ) → IsSequenceBefore last m format_three.most_sum
+        (bits_of words.entry.now) at (64 * length words.entry.now) xs ends
+        → result.view ≡ record { format = format_three; values = xs; ends = ends } }
+    ensures behind { (xs ends : List ℕ) → IsSequenceBefore last m format_three.most_sum
+        (bits_of words.entry.now) at (64 * length words.entry.now) xs ends
+        → result.behind ≡ at + length (sequence_bits last at xs ends) }
 {
     words_are_bits();
     sequence_words_fit();
@@ -81,9 +91,14 @@ fn known_sequence<'a>(words: &'a [u64], at: u64, m: u32, last: LastField) -> Kno
     requires words { length words.now < 2 ^ 57 }
     requires many { 2 ≤ m }
     requires narrow { last.width ≤ 64 }
-    requires stands { (xs ends : List ℕ) × IsSequenceBefore last m format_three.most_sum (bits_of words.now) at (64 * length words.now) xs ends }
-    ensures view { (xs ends : List ℕ) → IsSequenceBefore last m format_three.most_sum (bits_of words.entry.now) at (64 * length words.entry.now) xs ends → result.view ≡ record { format = format_three; values = xs; ends = ends } }
-    ensures behind { (xs ends : List ℕ) → IsSequenceBefore last m format_three.most_sum (bits_of words.entry.now) at (64 * length words.entry.now) xs ends → result.behind ≡ at + length (sequence_bits last at xs ends) }
+    requires stands { (xs ends : List ℕ) × IsSequenceBefore last m format_three.most_sum
+        (bits_of words.now) at (64 * length words.now) xs ends }
+    ensures view { (xs ends : List ℕ) → IsSequenceBefore last m format_three.most_sum
+        (bits_of words.entry.now) at (64 * length words.entry.now) xs ends
+        → result.view ≡ record { format = format_three; values = xs; ends = ends } }
+    ensures behind { (xs ends : List ℕ) → IsSequenceBefore last m format_three.most_sum
+        (bits_of words.entry.now) at (64 * length words.entry.now) xs ends
+        → result.behind ≡ at + length (sequence_bits last at xs ends) }
 {
     if (Bits { words }).bit(at) {
         known_parted(words, at, m, last)

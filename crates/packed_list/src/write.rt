@@ -73,9 +73,11 @@ fn append_parted(
     requires below { All (λ x. x < format_three.most_sum) values.now }
     requires few { length values.now ≤ format_three.most_documents }
     requires partition { IsPartition (length values.now) ends.now }
-    requires room { length to.old + length (parted_bits (length to.old) values.now ends.now) < 2 ^ 63 }
+    requires room { length to.old + length (parted_bits (length to.old) values.now ends.now)
+        < 2 ^ 63 }
     ensures ok { OnOk result (to.new ≡ to.old ++ parted_bits (length to.old) values.now ends.now) }
-    ensures err { OnErr result (AppendsBits to.old to.new (parted_bits (length to.old) values.now ends.now)) }
+    ensures err { OnErr result (AppendsBits to.old to.new
+        (parted_bits (length to.old) values.now ends.now)) }
 {
     to.put(1, 1)?;
     to.put(ends.len() as u64, digits(values.len() as u64))?;
@@ -97,9 +99,12 @@ fn append_sequence(
     requires some { 1 ≤ length values.now }
     requires few { length values.now ≤ format_three.most_documents }
     requires narrow { last.width ≤ 64 }
-    requires room { length to.old + length (sequence_bits last (length to.old) values.now ends.now) < 2 ^ 63 }
-    ensures ok { OnOk result (to.new ≡ to.old ++ sequence_bits last (length to.old) values.now ends.now) }
-    ensures err { OnErr result (AppendsBits to.old to.new (sequence_bits last (length to.old) values.now ends.now)) }
+    requires room { length to.old + length (sequence_bits last (length to.old) values.now ends.now)
+        < 2 ^ 63 }
+    ensures ok { OnOk result (to.new ≡ to.old
+        ++ sequence_bits last (length to.old) values.now ends.now) }
+    ensures err { OnErr result (AppendsBits to.old to.new
+        (sequence_bits last (length to.old) values.now ends.now)) }
 {
     if ends.len() == 1 {
         append_lone(values, last, to)
@@ -116,9 +121,16 @@ fn append_list(
     to: &mut BitWriter,
 ) -> Result<(), NoMemory>
     requires list { (postings : List Posting) × IsPartsOf documents list.now postings }
-    requires room { (postings : List Posting) → IsPartsOf documents list.now postings → length to.old + length (list_bits documents (length to.old) postings list.now.doc_ends.now list.now.sum_ends.now) < 2 ^ 63 }
-    ensures ok { (postings : List Posting) → IsPartsOf documents list.now postings → OnOk result (to.new ≡ to.old ++ list_bits documents (length to.old) postings list.now.doc_ends.now list.now.sum_ends.now) }
-    ensures err { (postings : List Posting) → IsPartsOf documents list.now postings → OnErr result (AppendsBits to.old to.new (list_bits documents (length to.old) postings list.now.doc_ends.now list.now.sum_ends.now)) }
+    requires room { (postings : List Posting) → IsPartsOf documents list.now postings
+        → length to.old + length (list_bits documents (length to.old) postings list.now.doc_ends.now
+        list.now.sum_ends.now) < 2 ^ 63 }
+    ensures ok { (postings : List Posting) → IsPartsOf documents list.now postings
+        → OnOk result (to.new ≡ to.old ++ list_bits documents (length to.old) postings
+        list.now.doc_ends.now list.now.sum_ends.now) }
+    ensures err { (postings : List Posting) → IsPartsOf documents list.now postings
+        → OnErr result (AppendsBits to.old to.new
+        (list_bits documents (length to.old) postings list.now.doc_ends.now
+        list.now.sum_ends.now)) }
 {
     sequences_of_a_list_rise();
     let m = list.docs.len() as u64;
@@ -145,8 +157,12 @@ pub fn write_list(
     to: &mut BitWriter,
 ) -> Result<(), NoMemory>
     requires list { (postings : List Posting) × IsPartsOf documents list.now postings }
-    requires room { (postings : List Posting) → IsPartsOf documents list.now postings → length to.old + length (list_bits documents (length to.old) postings list.now.doc_ends.now list.now.sum_ends.now) < 2 ^ 63 }
-    ensures ok { (postings : List Posting) → IsPartsOf documents list.now postings → OnOk result (to.new ≡ to.old ++ list_bits documents (length to.old) postings list.now.doc_ends.now list.now.sum_ends.now) }
+    requires room { (postings : List Posting) → IsPartsOf documents list.now postings
+        → length to.old + length (list_bits documents (length to.old) postings list.now.doc_ends.now
+        list.now.sum_ends.now) < 2 ^ 63 }
+    ensures ok { (postings : List Posting) → IsPartsOf documents list.now postings
+        → OnOk result (to.new ≡ to.old ++ list_bits documents (length to.old) postings
+        list.now.doc_ends.now list.now.sum_ends.now) }
     ensures err { OnErr result (to.new ≡ to.old) }
 {
     let first = to.len();

@@ -42,7 +42,8 @@ pub trait PartCodec<'a> {
         requires held { (ys : List ℕ) × holds self.now ys }
         requires reached { x < u self.now }
         requires within { from < m self.now }
-        ensures { (ys : List ℕ) → holds self.now ys → IsFirstAtLeast ys from x result.0 × (result.1 ≡ slice_index ys result.0) };
+        ensures { (ys : List ℕ) → holds self.now ys
+            → IsFirstAtLeast ys from x result.0 × (result.1 ≡ slice_index ys result.0) };
 
     /// The first place at or after place k whose value is at least x, and that value, by value k.
     fn first_from(&self, k: u64, number: u64, x: u64) -> (u64, u64)
@@ -50,7 +51,8 @@ pub trait PartCodec<'a> {
         requires reached { x < u self.now }
         requires within { k < m self.now }
         requires number { (ys : List ℕ) → holds self.now ys → number ≡ slice_index ys k }
-        ensures { (ys : List ℕ) → holds self.now ys → IsFirstAtLeast ys k x result.0 × (result.1 ≡ slice_index ys result.0) };
+        ensures { (ys : List ℕ) → holds self.now ys
+            → IsFirstAtLeast ys k x result.0 × (result.1 ≡ slice_index ys result.0) };
 
     /// The values rise, and are as many as the view says.
     ghost relative: { (v : Self) (ys : List ℕ) → holds v ys → AreRelative (u v) (m v) ys };

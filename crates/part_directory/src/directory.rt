@@ -73,7 +73,9 @@ fn galloped<L: Ledger>(directory: &Directory<'_>, part: u32, x: u64, blank: Blan
     requires ledger { 0 < L.parts }
     requires within { part ≤ directory.now.parts }
     requires in_words { directory.now.alone ≡ None }
-    ensures { result ≡ place_at_least (lasts_stated (numbers_of directory.now.format) (words_begun (numbers_of directory.now.format) directory.now.words.now directory.now.m directory.now.alone) directory.now.parts) part x }
+    ensures { result ≡ place_at_least (lasts_stated (numbers_of directory.now.format)
+        (words_begun (numbers_of directory.now.format) directory.now.words.now directory.now.m
+        directory.now.alone) directory.now.parts) part x }
 {
     let mut probes = Steps::<L>::new(blank);
     gallop(&EntriesInWords { directory }, part, x, &mut probes)
@@ -87,7 +89,8 @@ impl<'a> Directory<'a> {
     /// The directory of the sequence with which the words begin.
     pub fn at_front(words: &'a [u64], parts: u32, m: u32, format: Format) -> Directory<'a>
         requires words { length words.now < 2 ^ 57 }
-        requires begun { BeginWith words.now parts m (sequence_stated (numbers_of format) words.now parts) }
+        requires begun { BeginWith words.now parts m
+            (sequence_stated (numbers_of format) words.now parts) }
         ensures { sequence_of result ≡ sequence_stated (numbers_of format) words.entry.now parts }
     {
         directory_states_its_parts();
@@ -113,8 +116,10 @@ impl<'a> Directory<'a> {
         requires some { 1 ≤ m }
         requires small { last < (numbers_of format).most_sum }
         requires place { place ≤ 64 * length words.now }
-        requires part { 2 ≤ m → (ys : List ℕ) × HoldsPart part_bits (bits_of words.now) place (last + 1) m ys }
-        ensures { sequence_of result ≡ alone_view (numbers_of format) (bits_of words.entry.now) m (record { place = place; last = last }) }
+        requires part { 2 ≤ m → (ys : List ℕ)
+            × HoldsPart part_bits (bits_of words.now) place (last + 1) m ys }
+        ensures { sequence_of result ≡ alone_view (numbers_of format) (bits_of words.entry.now) m
+            (record { place = place; last = last }) }
     {
         directory_states_its_parts();
         words_state_their_sequence();
@@ -133,9 +138,12 @@ impl<'a> Directory<'a> {
     /// What the entry of a part states, also where the part stands alone, with none in the words.
     pub fn entry(&self, part: u32) -> Entry
         requires within { part < self.now.parts }
-        ensures last { result.last ≡ stated_last (numbers_of self.now.format) (words_of self.now) part }
-        ensures end { result.end ≡ stated_end (numbers_of self.now.format) (words_of self.now) part }
-        ensures offset { result.offset ≡ stated_offset (numbers_of self.now.format) (words_of self.now) part }
+        ensures last { result.last ≡ stated_last (numbers_of self.now.format) (words_of self.now)
+            part }
+        ensures end { result.end ≡ stated_end (numbers_of self.now.format) (words_of self.now)
+            part }
+        ensures offset { result.offset ≡ stated_offset (numbers_of self.now.format)
+            (words_of self.now) part }
     {
         match &self.alone {
             Some(alone) => Entry {
@@ -151,9 +159,12 @@ impl<'a> Directory<'a> {
     pub fn entry_in_words(&self, part: u32) -> Entry
         requires within { part < self.now.parts }
         requires in_words { self.now.alone ≡ None }
-        ensures last { result.last ≡ stated_last (numbers_of self.now.format) (words_of self.now) part }
-        ensures end { result.end ≡ stated_end (numbers_of self.now.format) (words_of self.now) part }
-        ensures offset { result.offset ≡ stated_offset (numbers_of self.now.format) (words_of self.now) part }
+        ensures last { result.last ≡ stated_last (numbers_of self.now.format) (words_of self.now)
+            part }
+        ensures end { result.end ≡ stated_end (numbers_of self.now.format) (words_of self.now)
+            part }
+        ensures offset { result.offset ≡ stated_offset (numbers_of self.now.format)
+            (words_of self.now) part }
     {
         entry_at(self.words, part, self.format)
     }
@@ -163,8 +174,10 @@ impl<'a> Directory<'a> {
         requires within { part ≤ self.now.parts }
         ensures after { part ≤ result }
         ensures within { result ≤ self.now.parts }
-        ensures before { part < result → stated_last (numbers_of self.now.format) (words_of self.now) (result - 1) < x }
-        ensures reached { result < self.now.parts → x ≤ stated_last (numbers_of self.now.format) (words_of self.now) result }
+        ensures before { part < result → stated_last (numbers_of self.now.format)
+            (words_of self.now) (result - 1) < x }
+        ensures reached { result < self.now.parts
+            → x ≤ stated_last (numbers_of self.now.format) (words_of self.now) result }
     {
         match &self.alone {
             Some(alone) => { if part == 0 && x <= alone.last { 0 } else { 1 } }

@@ -19,7 +19,8 @@ impl<'a> Directory<'a> {
     fn before_part(&self, part: u32) -> (u64, u64)
         requires within { part < self.now.parts }
         ensures end { result.0 ≡ end_before (numbers_of self.now.format) (words_of self.now) part }
-        ensures past { result.1 ≡ past_before (numbers_of self.now.format) (words_of self.now) part }
+        ensures past { result.1 ≡ past_before (numbers_of self.now.format) (words_of self.now)
+            part }
     {
         formats_have_room();
         if part == 0 {
@@ -33,7 +34,8 @@ impl<'a> Directory<'a> {
     /// A part of the sequence, and where it stands in the words, in the universe of its values as they are counted.
     pub fn stated_part(&self, part: u32) -> (Part, PlacedPart<'a>)
         requires within { part < self.now.parts }
-        ensures { IsStatedPart (numbers_of self.now.format) (words_of self.now) (sequence_of self.now).values part result.0 result.1 }
+        ensures { IsStatedPart (numbers_of self.now.format) (words_of self.now)
+            (sequence_of self.now).values part result.0 result.1 }
     {
         match &self.alone {
             Some(alone) => self.part_alone(alone),
@@ -44,7 +46,8 @@ impl<'a> Directory<'a> {
     // The one part, which stands alone. One value is counted from itself, so that its bits are not read.
     fn part_alone(&self, alone: &Alone) -> (Part, PlacedPart<'a>)
         requires alone { self.now.alone ≡ Some alone.now }
-        ensures { IsStatedPart (numbers_of self.now.format) (words_of self.now) (sequence_of self.now).values 0 result.0 result.1 }
+        ensures { IsStatedPart (numbers_of self.now.format) (words_of self.now)
+            (sequence_of self.now).values 0 result.0 result.1 }
     {
         formats_have_room();
         let u = alone.last + 1;
@@ -69,7 +72,8 @@ impl<'a> Directory<'a> {
     fn part_in_words(&self, part: u32) -> (Part, PlacedPart<'a>)
         requires within { part < self.now.parts }
         requires in_words { self.now.alone ≡ None }
-        ensures { IsStatedPart (numbers_of self.now.format) (words_of self.now) (sequence_of self.now).values part result.0 result.1 }
+        ensures { IsStatedPart (numbers_of self.now.format) (words_of self.now)
+            (sequence_of self.now).values part result.0 result.1 }
     {
         formats_have_room();
         let entry = self.entry_in_words(part);
@@ -89,7 +93,8 @@ impl<'a> Directory<'a> {
 
     /// How many bits the sequence takes: those up to the end of its last part.
     pub fn bits_taken(&self) -> u64
-        ensures { result ≡ first_bit (numbers_of self.now.format) self.now.parts + payload_before (numbers_of self.now.format) (words_of self.now) self.now.parts }
+        ensures { result ≡ first_bit (numbers_of self.now.format) self.now.parts
+            + payload_before (numbers_of self.now.format) (words_of self.now) self.now.parts }
     {
         if self.parts == 0 {
             0
@@ -113,7 +118,8 @@ impl<'a> Directory<'a> {
     /// The last value of a part.
     pub fn last_of_part(&self, part: u32) -> u64
         requires within { part < self.now.parts }
-        ensures { let v = sequence_of self.now in result + 1 ≡ past v.values (slice_index v.ends part) }
+        ensures { let v = sequence_of self.now in result + 1
+            ≡ past v.values (slice_index v.ends part) }
     {
         self.entry(part).last
     }

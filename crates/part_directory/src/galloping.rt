@@ -27,8 +27,10 @@ pub trait Lasts {
 // Whether the last value of a part is less than x. There is none behind the last part.
 fn falls_short<D: Lasts, L: Ledger>(d: &D, q: u32, x: u64, probes: &mut Steps<L>) -> bool
     requires { q ≤ length (D.lasts d.now) }
-    ensures short { IsTrue result → (q < length (D.lasts d.now)) × (slice_index (D.lasts d.now) q < x) }
-    ensures reached { result ≡ false → q < length (D.lasts d.now) → x ≤ slice_index (D.lasts d.now) q }
+    ensures short { IsTrue result → (q < length (D.lasts d.now))
+        × (slice_index (D.lasts d.now) q < x) }
+    ensures reached { result ≡ false → q < length (D.lasts d.now)
+        → x ≤ slice_index (D.lasts d.now) q }
     ensures counted { probes.old ≤ probes.new }
     ensures bounded { probes.new ≤ probes.old + 1 }
 {

@@ -65,7 +65,8 @@ fn raise_first(numbers: &mut [u64], count: usize, more: u64)
     requires within { count ≤ length numbers.old }
     requires fits { (j : ℕ) → j < count → slice_index numbers.old j + more < 2 ^ 64 }
     ensures room { length numbers.new ≡ length numbers.old }
-    ensures raised { (j : ℕ) → j < count → slice_index numbers.new j ≡ slice_index numbers.old j + more }
+    ensures raised { (j : ℕ) → j < count → slice_index numbers.new j
+        ≡ slice_index numbers.old j + more }
 {
     for j in 0..count {
         numbers[j] += more;
@@ -95,7 +96,8 @@ impl<'a> HeldPart<'a> {
         requires values { (xs : List ℕ) × HoldsValues self.now xs × IsStrictlyIncreasing xs }
         requires after { self.now.part.from ≤ place }
         requires before { place < self.now.part.to }
-        ensures { (xs : List ℕ) → HoldsValues self.now xs → IsStrictlyIncreasing xs → result ≡ past xs place }
+        ensures { (xs : List ℕ) → HoldsValues self.now xs → IsStrictlyIncreasing xs
+            → result ≡ past xs place }
     {
         if place == self.part.from {
             self.part.last + 1 - self.part.u
@@ -125,7 +127,8 @@ impl<'a> HeldPart<'a> {
     fn first(&self) -> u64
         requires values { (xs : List ℕ) × HoldsValues self.now xs }
         requires some { self.now.part.from < self.now.part.to }
-        ensures { (xs : List ℕ) → HoldsValues self.now xs → result ≡ slice_index xs self.now.part.from }
+        ensures { (xs : List ℕ) → HoldsValues self.now xs
+            → result ≡ slice_index xs self.now.part.from }
     {
         self.view.first() + self.past
     }
@@ -149,7 +152,8 @@ impl<'a> HeldPart<'a> {
         requires after { self.now.part.from ≤ place }
         requires before { place < self.now.part.to }
         ensures room { length to.new ≡ length to.old }
-        ensures values { (xs : List ℕ) → HoldsValues self.now xs → AreNextBelow (take self.now.part.to xs) place x to.new result }
+        ensures values { (xs : List ℕ) → HoldsValues self.now xs
+            → AreNextBelow (take self.now.part.to xs) place x to.new result }
     {
         let k = (place - self.part.from) as u64;
         let number = value - self.past;
@@ -164,9 +168,11 @@ impl<'a> HeldPart<'a> {
         requires after { self.now.part.from ≤ place }
         requires some { 0 < length block.old }
         requires within { place + length block.old ≤ self.now.part.to }
-        ensures values { (xs : List ℕ) → HoldsValues self.now xs → block.new ≡ slice_range xs place (place + length block.old) }
+        ensures values { (xs : List ℕ) → HoldsValues self.now xs
+            → block.new ≡ slice_range xs place (place + length block.old) }
         ensures small { (k : ℕ) → k < length block.new → slice_index block.new k < 2 ^ widest_low }
-        ensures last { (xs : List ℕ) → HoldsValues self.now xs → result + 1 ≡ past xs (place + length block.old) }
+        ensures last { (xs : List ℕ) → HoldsValues self.now xs
+            → result + 1 ≡ past xs (place + length block.old) }
         ensures fits { result < 2 ^ widest_low }
         ensures room { length block.new ≡ length block.old }
     {
@@ -181,7 +187,8 @@ impl<'a> HeldPart<'a> {
         requires before { place < self.now.part.to }
         requires reached { x ≤ self.now.part.last }
         requires below { value ≤ x }
-        ensures { (xs : List ℕ) → HoldsValues self.now xs → value ≡ slice_index xs place → IsFirstAtLeast xs place x result }
+        ensures { (xs : List ℕ) → HoldsValues self.now xs → value ≡ slice_index xs place
+            → IsFirstAtLeast xs place x result }
     {
         let from = (place - self.part.from) as u64;
         let k = self.view.place_from(from, value - self.past, x - self.past);
@@ -196,7 +203,8 @@ impl<'a> HeldPart<'a> {
         requires before { place < self.now.part.to }
         requires reached { x ≤ self.now.part.last }
         requires below { value ≤ x }
-        ensures { (xs : List ℕ) → HoldsValues self.now xs → value ≡ slice_index xs place → (s : IsSought xs place x result) × (s.own < self.now.part.to) }
+        ensures { (xs : List ℕ) → HoldsValues self.now xs → value ≡ slice_index xs place
+            → (s : IsSought xs place x result) × (s.own < self.now.part.to) }
     {
         let from = (place - self.part.from) as u64;
         let sought = self.view.seek(from, value - self.past, x - self.past);
@@ -207,7 +215,8 @@ impl<'a> HeldPart<'a> {
     fn seek_first(&self, x: u64) -> Sought
         requires values { (xs : List ℕ) × HoldsValues self.now xs }
         requires reached { x ≤ self.now.part.last }
-        ensures { (xs : List ℕ) → HoldsValues self.now xs → (s : IsSought xs self.now.part.from x result) × (s.own < self.now.part.to) }
+        ensures { (xs : List ℕ) → HoldsValues self.now xs
+            → (s : IsSought xs self.now.part.from x result) × (s.own < self.now.part.to) }
     {
         let sought = self.view.seek_first(x.saturating_sub(self.past));
         self.in_sequence(sought)
@@ -215,8 +224,14 @@ impl<'a> HeldPart<'a> {
 
     // What was found among the relative values of the part, as places and values of the sequence.
     fn in_sequence(&self, sought: Sought) -> Sought
-        requires found { (xs : List ℕ) × HoldsValues self.now xs × ((k least : ℕ) × IsSought (counted_from self.now.past xs self.now.part.from self.now.part.to) k least sought) }
-        ensures { (xs : List ℕ) → HoldsValues self.now xs → (place x : ℕ) → self.now.part.from ≤ place → IsSought (counted_from self.now.past xs self.now.part.from self.now.part.to) (place - self.now.part.from) (x - self.now.past) sought → (s : IsSought xs place x result) × (s.own < self.now.part.to) }
+        requires found { (xs : List ℕ) × HoldsValues self.now xs
+            × ((k least : ℕ) × IsSought (counted_from self.now.past xs self.now.part.from
+            self.now.part.to) k least sought) }
+        ensures { (xs : List ℕ) → HoldsValues self.now xs → (place x : ℕ)
+            → self.now.part.from ≤ place → IsSought
+            (counted_from self.now.past xs self.now.part.from self.now.part.to)
+            (place - self.now.part.from) (x - self.now.past) sought
+            → (s : IsSought xs place x result) × (s.own < self.now.part.to) }
     {
         Sought {
             place: self.part.from as u64 + sought.place,
@@ -232,7 +247,8 @@ impl<'a> Directory<'a> {
     pub fn hold(&self, index: u32) -> HeldPart<'a>
         requires within { index < self.now.parts }
         ensures index { result.index ≡ index }
-        ensures held { IsHeldPart (numbers_of self.now.format) (words_of self.now) self.now.parts result }
+        ensures held { IsHeldPart (numbers_of self.now.format) (words_of self.now) self.now.parts
+            result }
     {
         formats_have_room();
         let (part, placed) = self.stated_part(index);
@@ -248,7 +264,8 @@ impl<'a> Directory<'a> {
     #[inline(always)]
     pub fn hold_if_any(&self, part: u32) -> (Option<HeldPart<'a>>, u64)
         requires within { part ≤ self.now.parts }
-        ensures lies { LiesIn (numbers_of self.now.format) (words_of self.now) self.now.parts (end_before (numbers_of self.now.format) (words_of self.now) part) result.0 result.1 }
+        ensures lies { LiesIn (numbers_of self.now.format) (words_of self.now) self.now.parts
+            (end_before (numbers_of self.now.format) (words_of self.now) part) result.0 result.1 }
     {
         if part < self.parts {
             let held = self.hold(part);
@@ -262,7 +279,8 @@ impl<'a> Directory<'a> {
     /// Holds the part of a place of the sequence.
     pub fn hold_place(&self, place: u32) -> HeldPart<'a>
         requires within { place < length (sequence_of self.now).values }
-        ensures held { IsHeldPart (numbers_of self.now.format) (words_of self.now) self.now.parts result }
+        ensures held { IsHeldPart (numbers_of self.now.format) (words_of self.now) self.now.parts
+            result }
         ensures after { result.part.from ≤ place }
         ensures before { place < result.part.to }
     {
@@ -272,7 +290,8 @@ impl<'a> Directory<'a> {
     /// Holds the part of a place of the sequence, and gives the value there; at the end it holds none.
     pub fn hold_at(&self, place: u32) -> (Option<HeldPart<'a>>, u64)
         requires within { place ≤ length (sequence_of self.now).values }
-        ensures lies { LiesIn (numbers_of self.now.format) (words_of self.now) self.now.parts place result.0 result.1 }
+        ensures lies { LiesIn (numbers_of self.now.format) (words_of self.now) self.now.parts place
+            result.0 result.1 }
     {
         if place < self.m {
             let held = self.hold_place(place);
@@ -293,9 +312,12 @@ impl<'a> Directory<'a> {
         into: &mut Option<HeldPart<'a>>,
     ) -> (u32, u64, u64)
         requires within { part ≤ self.now.parts }
-        ensures lies { LiesIn (numbers_of self.now.format) (words_of self.now) self.now.parts result.0 into.new result.1 }
+        ensures lies { LiesIn (numbers_of self.now.format) (words_of self.now) self.now.parts
+            result.0 into.new result.1 }
         ensures behind { StandsBehind into.new (sequence_of self.now).values result.0 result.2 }
-        ensures first { let xs = (sequence_of self.now).values in place_at_least xs result.0 result.2 ≡ place_at_least xs (end_before (numbers_of self.now.format) (words_of self.now) part) x }
+        ensures first { let xs = (sequence_of self.now).values in place_at_least xs result.0
+            result.2 ≡ place_at_least xs (end_before (numbers_of self.now.format)
+            (words_of self.now) part) x }
     {
         let reaching = self.part_reaching(part, x);
         if reaching < self.parts {

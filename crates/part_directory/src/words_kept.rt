@@ -21,7 +21,8 @@ impl<'a> HeldPart<'a> {
     /// words stands for `first` + k. The others are left.
     pub fn keep_in_words(&self, first: u64, marks: &mut [u64]) -> usize
         requires values { (xs : List ℕ) × HoldsValues self.now xs }
-        ensures { (xs : List ℕ) → HoldsValues self.now xs → IsStrictlyIncreasing xs → AreKept xs first marks.old marks.new result }
+        ensures { (xs : List ℕ) → HoldsValues self.now xs → IsStrictlyIncreasing xs
+            → AreKept xs first marks.old marks.new result }
     {
         match first.checked_sub(self.past) {
             Some(from) => keep_numbers(&self.view, from, marks),

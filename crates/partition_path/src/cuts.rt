@@ -57,10 +57,13 @@ pub fn partition<C: SpanCost, L: Ledger>(
     cost: &C,
     steps: &mut Steps<L>,
 ) -> Result<Cuts, NoMemory>
-    ensures near { IfOk result (λ cuts. IsNear (numbers_of (C.format_of cost.now)).limit (C.cost_of cost.now) (C.count cost.now) cuts.ends) }
-    ensures total { IfOk result (λ cuts. cuts.total ≡ partition_cost (C.cost_of cost.now) cuts.ends) }
+    ensures near { IfOk result (λ cuts. IsNear (numbers_of (C.format_of cost.now)).limit
+        (C.cost_of cost.now) (C.count cost.now) cuts.ends) }
+    ensures total { IfOk result (λ cuts. cuts.total
+        ≡ partition_cost (C.cost_of cost.now) cuts.ends) }
     ensures counted { IfOk result (λ cuts. steps.old + length cuts.ends ≤ steps.new) }
-    ensures bounded { steps.new ≤ steps.old + 3 * length (window_bounds (C.format_of cost.now)) * (C.count cost.now + 1) }
+    ensures bounded { steps.new ≤ steps.old + 3 * length (window_bounds (C.format_of cost.now)) *
+        (C.count cost.now + 1) }
 {
     if let Some(total) = cost_as_one_part(cost, steps) {
         let mut ends = Vec::new(alloc);

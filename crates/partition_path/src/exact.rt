@@ -19,11 +19,16 @@ pub fn exact_cost<C: SpanCost, L: Ledger>(
     limited: bool,
     steps: &mut Steps<L>,
 ) -> Result<u64, NoMemory>
-    ensures allowed { IsTrue limited → IfOk result (λ least. IsCheapest (numbers_of (C.format_of cost.now)).limit (C.cost_of cost.now) (C.count cost.now) least) }
-    ensures of_all { IsTrue (not limited) → IfOk result (λ least. IsCheapestOfAll (C.cost_of cost.now) (C.count cost.now) least) }
+    ensures allowed { IsTrue limited → IfOk result
+        (λ least. IsCheapest (numbers_of (C.format_of cost.now)).limit (C.cost_of cost.now)
+        (C.count cost.now) least) }
+    ensures of_all { IsTrue (not limited) → IfOk result
+        (λ least. IsCheapestOfAll (C.cost_of cost.now) (C.count cost.now) least) }
     ensures counted { IfOk result (λ least. steps.old + C.count cost.now ≤ steps.new) }
     ensures bounded { 2 * steps.new ≤ 2 * steps.old + C.count cost.now * (C.count cost.now + 1) }
-    ensures none_behind { IsTrue limited → (b : ℕ) → LongPartsAreAbove (numbers_of (C.format_of cost.now)).limit (C.cost_of cost.now) (C.count cost.now) b → steps.new ≤ steps.old + C.count cost.now * (b + 1) }
+    ensures none_behind { IsTrue limited → (b : ℕ)
+        → LongPartsAreAbove (numbers_of (C.format_of cost.now)).limit (C.cost_of cost.now)
+        (C.count cost.now) b → steps.new ≤ steps.old + C.count cost.now * (b + 1) }
 {
     let count = cost.len();
     let mut rests = vec![in alloc; 0; count as usize + 1]?;
@@ -45,10 +50,16 @@ fn cheapest_from<C: SpanCost, L: Ledger>(
 ) -> u64
     requires within { i < C.count cost.now }
     requires places { length rests.now ≡ C.count cost.now + 1 }
-    requires rests { (j : ℕ) → i < j → j ≤ C.count cost.now → IsCheapestRest limited (numbers_of (C.format_of cost.now)).limit (C.cost_of cost.now) (C.count cost.now) j (slice_index rests.now j) }
-    ensures cheapest { IsCheapestRest limited (numbers_of (C.format_of cost.now)).limit (C.cost_of cost.now) (C.count cost.now) i result }
-    ensures counted { (steps.old + 1 ≤ steps.new) × (steps.new ≤ steps.old + (C.count cost.now - i)) }
-    ensures none_behind { IsTrue limited → (b : ℕ) → LongPartsAreAbove (numbers_of (C.format_of cost.now)).limit (C.cost_of cost.now) (C.count cost.now) b → steps.new ≤ steps.old + (b + 1) }
+    requires rests { (j : ℕ) → i < j → j ≤ C.count cost.now
+        → IsCheapestRest limited (numbers_of (C.format_of cost.now)).limit (C.cost_of cost.now)
+        (C.count cost.now) j (slice_index rests.now j) }
+    ensures cheapest { IsCheapestRest limited (numbers_of (C.format_of cost.now)).limit
+        (C.cost_of cost.now) (C.count cost.now) i result }
+    ensures counted { (steps.old + 1 ≤ steps.new)
+        × (steps.new ≤ steps.old + (C.count cost.now - i)) }
+    ensures none_behind { IsTrue limited → (b : ℕ)
+        → LongPartsAreAbove (numbers_of (C.format_of cost.now)).limit (C.cost_of cost.now)
+        (C.count cost.now) b → steps.new ≤ steps.old + (b + 1) }
 {
     formats_have_room();
     let limit = cost.format().limit();

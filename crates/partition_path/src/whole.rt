@@ -12,8 +12,10 @@ pub(crate) fn cost_as_one_part<C: SpanCost, L: Ledger>(
     cost: &C,
     steps: &mut Steps<L>,
 ) -> Option<u64>
-    ensures near { IfSome result (λ total. IsNear (numbers_of (C.format_of cost.now)).limit (C.cost_of cost.now) (C.count cost.now) (C.count cost.now ∷ [])) }
-    ensures total { IfSome result (λ total. total ≡ partition_cost (C.cost_of cost.now) (C.count cost.now ∷ [])) }
+    ensures near { IfSome result (λ total. IsNear (numbers_of (C.format_of cost.now)).limit
+        (C.cost_of cost.now) (C.count cost.now) (C.count cost.now ∷ [])) }
+    ensures total { IfSome result (λ total. total
+        ≡ partition_cost (C.cost_of cost.now) (C.count cost.now ∷ [])) }
     ensures counted { steps.old ≤ steps.new }
     ensures asked { IfSome result (λ total. steps.old + 1 ≤ steps.new) }
     ensures bounded { steps.new ≤ steps.old + 1 }

@@ -54,8 +54,10 @@ impl Source for MemSource {
 
     fn read(&mut self, buf: &mut [u8]) -> Result<usize, IoFail>
         ensures reads { Reads self.old.state self.new.state buf.old buf.new result }
-        ensures moved { IfOk result (λ n. n ≡ min (min (length self.old.state.left) (length buf.old)) self.old.most) }
-        ensures fails_where_listed { IsErrOf result IoFail.Failed ↔ Contains self.old.fails self.new.calls }
+        ensures moved { IfOk result (λ n. n ≡ min
+            (min (length self.old.state.left) (length buf.old)) self.old.most) }
+        ensures fails_where_listed { IsErrOf result IoFail.Failed
+            ↔ Contains self.old.fails self.new.calls }
         ensures takes_no_memory { IsErrOf result IoFail.NoMemory → ⊥ }
         ensures counted { ReadOnce self.old self.new }
     {
@@ -92,7 +94,8 @@ impl MemSink {
         requires { 1 ≤ most }
         ensures always { IsOk result }
         ensures fresh { IfOk result (λ s. IsNewSink s.state) }
-        ensures made { IfOk result (λ s. (s.most ≡ most) × (s.fails ≡ fails.items) × (s.calls ≡ 0)) }
+        ensures made { IfOk result (λ s. (s.most ≡ most) × (s.fails ≡ fails.items)
+            × (s.calls ≡ 0)) }
     {
         let sink = SteadySink::new(alloc, most)?;
         Ok(MemSink {
@@ -123,7 +126,8 @@ impl Sink for MemSink {
     fn write(&mut self, piece: &[u8]) -> Result<usize, IoFail>
         ensures writes { Writes self.old.state self.new.state piece.now result }
         ensures moved { IfOk result (λ n. n ≡ min (length piece.now) self.old.most) }
-        ensures fails_where_listed { IsErrOf result IoFail.Failed ↔ Contains self.old.fails self.new.calls }
+        ensures fails_where_listed { IsErrOf result IoFail.Failed
+            ↔ Contains self.old.fails self.new.calls }
         ensures counted { WrittenOnce self.old self.new }
     {
         let number = self.sink.calls().saturating_add(1);

@@ -36,7 +36,8 @@ impl MemDepot {
         requires { 1 ≤ most }
         ensures always { IsOk result }
         ensures fresh { IfOk result (λ d. IsNewDepot files.items (mem_depot d).state) }
-        ensures made { IfOk result (λ d. ((mem_depot d).most ≡ most) × ((op : Op) → (mem_depot d).calls op ≡ 0) × ((mem_depot d).fails ≡ fails.items)) }
+        ensures made { IfOk result (λ d. ((mem_depot d).most ≡ most)
+            × ((op : Op) → (mem_depot d).calls op ≡ 0) × ((mem_depot d).fails ≡ fails.items)) }
     {
         let depot = SteadyDepot::new(alloc, files, most)?;
         Ok(MemDepot {
@@ -51,7 +52,8 @@ impl MemDepot {
 
     /// The bytes under a name.
     pub fn file(&self, name: &str) -> Option<&[u8]>
-        ensures { option_map (λ bytes. bytes.now) result ≡ (mem_depot self.now).state.file name.now }
+        ensures { option_map (λ bytes. bytes.now) result
+            ≡ (mem_depot self.now).state.file name.now }
     {
         self.depot.file(name)
     }
@@ -99,8 +101,11 @@ impl Depot for MemDepot {
     ghost state = { λ d. (mem_depot d).state };
 
     fn start(&mut self, slot: Slot, name: &str) -> Result<(), IoFail>
-        ensures starts { Starts (mem_depot self.old).state (mem_depot self.new).state slot name.now result }
-        ensures fails_where_listed { IsErrOf result IoFail.Failed ↔ (FailsNext (mem_depot self.old) (Op.Start slot) ⊎ ((mem_depot self.old).state.file name.now ≡ None)) }
+        ensures starts { Starts (mem_depot self.old).state (mem_depot self.new).state slot name.now
+            result }
+        ensures fails_where_listed { IsErrOf result IoFail.Failed
+            ↔ (FailsNext (mem_depot self.old) (Op.Start slot)
+            ⊎ ((mem_depot self.old).state.file name.now ≡ None)) }
         ensures counted { CalledOnce (Op.Start slot) (mem_depot self.old) (mem_depot self.new) }
     {
         let op = Op::Start(slot);
@@ -112,9 +117,13 @@ impl Depot for MemDepot {
 
     fn read(&mut self, slot: Slot, buf: &mut [u8]) -> Result<usize, IoFail>
         requires { IsTrue ((mem_depot self.old).state.started slot) }
-        ensures reads { ReadsSlot (mem_depot self.old).state (mem_depot self.new).state slot buf.old buf.new result }
-        ensures moved { IfOk result (λ n. n ≡ min (min (length ((mem_depot self.old).state.left slot)) (length buf.old)) (mem_depot self.old).most) }
-        ensures fails_where_listed { IsErrOf result IoFail.Failed ↔ FailsNext (mem_depot self.old) (Op.Read slot) }
+        ensures reads { ReadsSlot (mem_depot self.old).state (mem_depot self.new).state slot buf.old
+            buf.new result }
+        ensures moved { IfOk result (λ n. n ≡ min
+            (min (length ((mem_depot self.old).state.left slot)) (length buf.old))
+            (mem_depot self.old).most) }
+        ensures fails_where_listed { IsErrOf result IoFail.Failed
+            ↔ FailsNext (mem_depot self.old) (Op.Read slot) }
         ensures takes_no_memory { IsErrOf result IoFail.NoMemory → ⊥ }
         ensures counted { CalledOnce (Op.Read slot) (mem_depot self.old) (mem_depot self.new) }
     {
@@ -126,8 +135,10 @@ impl Depot for MemDepot {
     }
 
     fn create(&mut self, name: &str) -> Result<(), IoFail>
-        ensures creates { Creates (mem_depot self.old).state (mem_depot self.new).state name.now result }
-        ensures fails_where_listed { IsErrOf result IoFail.Failed ↔ FailsNext (mem_depot self.old) Op.Create }
+        ensures creates { Creates (mem_depot self.old).state (mem_depot self.new).state name.now
+            result }
+        ensures fails_where_listed { IsErrOf result IoFail.Failed
+            ↔ FailsNext (mem_depot self.old) Op.Create }
         ensures counted { CalledOnce Op.Create (mem_depot self.old) (mem_depot self.new) }
     {
         if self.fails_next(Op::Create) {
@@ -138,9 +149,11 @@ impl Depot for MemDepot {
 
     fn write(&mut self, piece: &[u8]) -> Result<usize, IoFail>
         requires { IsTrue (mem_depot self.old).state.created }
-        ensures writes { WritesFile (mem_depot self.old).state (mem_depot self.new).state piece.now result }
+        ensures writes { WritesFile (mem_depot self.old).state (mem_depot self.new).state piece.now
+            result }
         ensures moved { IfOk result (λ n. n ≡ min (length piece.now) (mem_depot self.old).most) }
-        ensures fails_where_listed { IsErrOf result IoFail.Failed ↔ FailsNext (mem_depot self.old) Op.Write }
+        ensures fails_where_listed { IsErrOf result IoFail.Failed
+            ↔ FailsNext (mem_depot self.old) Op.Write }
         ensures counted { CalledOnce Op.Write (mem_depot self.old) (mem_depot self.new) }
     {
         if self.fails_next(Op::Write) {
@@ -152,7 +165,8 @@ impl Depot for MemDepot {
     fn finish(&mut self) -> Result<(), IoFail>
         requires { IsTrue (mem_depot self.old).state.created }
         ensures finishes { Finishes (mem_depot self.old).state (mem_depot self.new).state result }
-        ensures fails_where_listed { IsErrOf result IoFail.Failed ↔ FailsNext (mem_depot self.old) Op.Finish }
+        ensures fails_where_listed { IsErrOf result IoFail.Failed
+            ↔ FailsNext (mem_depot self.old) Op.Finish }
         ensures takes_no_memory { IsErrOf result IoFail.NoMemory → ⊥ }
         ensures counted { CalledOnce Op.Finish (mem_depot self.old) (mem_depot self.new) }
     {

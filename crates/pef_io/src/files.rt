@@ -29,7 +29,8 @@ impl Files {
 
     // A copy of the bytes under a name, none where there is no such file.
     pub(crate) fn copy_of(&self, alloc: Global, name: &str) -> Result<Vec<u8>, AllocError>
-        ensures { IfOk result (λ bytes. bytes.items ≡ unwrap_or (file_in self.now.list.items name.now) []) }
+        ensures { IfOk result (λ bytes. bytes.items
+            ≡ unwrap_or (file_in self.now.list.items name.now) []) }
     {
         match self.bytes_of(name) {
             Some(bytes) => Vec::from_slice(alloc, bytes),
@@ -39,7 +40,8 @@ impl Files {
 
     // Makes the file of this name empty, and gives its place.
     pub(crate) fn make_empty(&mut self, alloc: Global, name: &str) -> Result<usize, AllocError>
-        ensures put { IfOk result (λ at. Puts self.old.list.items self.new.list.items at name.now []) }
+        ensures put { IfOk result (λ at. Puts self.old.list.items self.new.list.items at name.now
+            []) }
         ensures unchanged { OnErr result (self.new.list.items ≡ self.old.list.items) }
     {
         match self.place_of(name) {
@@ -62,8 +64,11 @@ impl Files {
         requires { IsFirst self.old.list.items at }
         ensures first { IsFirst self.new.list.items at }
         ensures named { name_at self.new.list.items at ≡ name_at self.old.list.items at }
-        ensures put { OnOk result (Puts self.old.list.items self.new.list.items at (name_at self.old.list.items at) (unwrap_or (file_in self.old.list.items (name_at self.old.list.items at)) [] ++ piece.now)) }
-        ensures unchanged { OnErr result ((name : List ℕ) → file_in self.new.list.items name ≡ file_in self.old.list.items name) }
+        ensures put { OnOk result (Puts self.old.list.items self.new.list.items at
+            (name_at self.old.list.items at) (unwrap_or
+            (file_in self.old.list.items (name_at self.old.list.items at)) [] ++ piece.now)) }
+        ensures unchanged { OnErr result ((name : List ℕ)
+            → file_in self.new.list.items name ≡ file_in self.old.list.items name) }
     {
         let file = &mut self.list[at];
         file.1.extend_from_slice(piece)

@@ -75,7 +75,8 @@ fn make_room(bytes: &mut Vec<u8>, held: usize) -> Result<(), AllocError>
     requires { held ≤ vec_len bytes.old }
     ensures prefix { OnOk result (take held bytes.new.items ≡ take held bytes.old.items) }
     ensures room { OnOk result (held < vec_len bytes.new) }
-    ensures at_most_doubled { OnOk result (vec_len bytes.new ≤ max (vec_len bytes.old) (max (2 * held) FIRST_ROOM)) }
+    ensures at_most_doubled { OnOk result (vec_len bytes.new
+        ≤ max (vec_len bytes.old) (max (2 * held) FIRST_ROOM)) }
 {
     if held < bytes.len() {
         return Ok(());

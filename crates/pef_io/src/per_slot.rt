@@ -38,7 +38,8 @@ impl PerSlot<u64> {
         ensures this { at_slot self.new slot ≡ one_more (at_slot self.old slot) }
         ensures never_falls { at_slot self.old slot ≤ at_slot self.new slot }
         ensures rose { Rose (at_slot self.old slot) (at_slot self.new slot) }
-        ensures others { (other : Slot) → other ≢ slot → at_slot self.new other ≡ at_slot self.old other }
+        ensures others { (other : Slot) → other ≢ slot
+            → at_slot self.new other ≡ at_slot self.old other }
     {
         let number = self.get_mut(slot);
         *number = number.saturating_add(1);

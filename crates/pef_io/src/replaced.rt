@@ -34,7 +34,8 @@ pub(crate) struct Replacement<R: Files> {
 impl<R: Files + AllocGlobal> Replacement<R> {
     // Opens a new file beside the one to which the name leads, of which `found` is known.
     pub(crate) fn begin(rt: &R, name: &str, found: Option<&Metadata>) -> io::Result<Replacement<R>>
-        ensures beside { IfOk result (λ r. IsTemporaryOf (path_buf_bytes r.target) (path_buf_bytes r.temporary)) }
+        ensures beside { IfOk result (λ r. IsTemporaryOf (path_buf_bytes r.target)
+            (path_buf_bytes r.temporary)) }
     {
         let target = behind_links(rt, name)?;
         let mode = match found {
@@ -59,7 +60,8 @@ impl<R: Files + AllocGlobal> Replacement<R> {
     pub(crate) fn write(&mut self, piece: &[u8]) -> Option<usize>
         ensures within { IfSome result (λ n. n ≤ length piece.now) }
         ensures not_nothing { 0 < length piece.now → IfSome result (λ n. 0 < n) }
-        ensures taken { IfSome result (λ n. Appends (⟦<R::File as Write>⟧.contents self.old.file) (⟦<R::File as Write>⟧.contents self.new.file) (take n piece.now)) }
+        ensures taken { IfSome result (λ n. Appends (⟦<R::File as Write>⟧.contents self.old.file)
+            (⟦<R::File as Write>⟧.contents self.new.file) (take n piece.now)) }
     {
         write_some(&mut self.file, piece)
     }
@@ -111,7 +113,8 @@ fn open_temporary<R: Files + AllocGlobal>(
     target: &PathBuf,
     mode: u32,
 ) -> io::Result<(PathBuf, R::File)>
-    ensures { IfOk result (λ made. IsTemporaryOf (path_buf_bytes target.now) (path_buf_bytes made.0)) }
+    ensures { IfOk result (λ made. IsTemporaryOf (path_buf_bytes target.now)
+        (path_buf_bytes made.0)) }
 {
     let mut how = OpenOptions::new();
     how.write(true).create_new(true).mode(mode);
@@ -131,9 +134,13 @@ fn open_temporary<R: Files + AllocGlobal>(
 // The temporary of this number, none where its name is the target's own.
 fn temporary_of(alloc: Global, target: &PathBuf, number: u32) -> Result<Option<PathBuf>, AllocError>
     requires { number < 1000 }
-    ensures other { IfOk result (λ made. IfSome made (λ path. IsTemporaryOf (path_buf_bytes target.now) (path_buf_bytes path))) }
-    ensures numbered { IfOk result (λ made. IfSome made (λ path. path_buf_bytes path ≡ path_with_file_name (path_buf_bytes target.now) (temporary_name number))) }
-    ensures own { IfOk result (λ made. IfNone made (path_file_name (path_buf_bytes target.now) ≡ Some (temporary_name number))) }
+    ensures other { IfOk result (λ made. IfSome made
+        (λ path. IsTemporaryOf (path_buf_bytes target.now) (path_buf_bytes path))) }
+    ensures numbered { IfOk result (λ made. IfSome made
+        (λ path. path_buf_bytes path ≡ path_with_file_name (path_buf_bytes target.now)
+        (temporary_name number))) }
+    ensures own { IfOk result (λ made. IfNone made
+        (path_file_name (path_buf_bytes target.now) ≡ Some (temporary_name number))) }
 {
     let name = format!(in alloc; ".pefidx-{number}")?;
     if target.as_path().file_name() == Some(name.as_str()) {

@@ -36,8 +36,10 @@ impl<R: Read> Source for StdSource<R> {
     ghost state = { λ s. record { tells = false; left = []; faults = s.faults } };
 
     fn read(&mut self, buf: &mut [u8]) -> Result<usize, IoFail>
-        ensures reads { Reads (⟦<StdSource<R> as Source>⟧.state self.old) (⟦<StdSource<R> as Source>⟧.state self.new) buf.old buf.new result }
-        ensures given { ReadConsumes (R.remaining self.old.reader) (R.remaining self.new.reader) result buf.new }
+        ensures reads { Reads (⟦<StdSource<R> as Source>⟧.state self.old)
+            (⟦<StdSource<R> as Source>⟧.state self.new) buf.old buf.new result }
+        ensures given { ReadConsumes (R.remaining self.old.reader) (R.remaining self.new.reader)
+            result buf.new }
     {
         if let Ok(n) = self.reader.read(buf) {
             return Ok(n);
@@ -67,8 +69,10 @@ impl<W: Write> Sink for StdSink<W> {
     ghost state = { λ s. record { tells = false; written = []; faults = s.faults; refusals = 0 } };
 
     fn write(&mut self, piece: &[u8]) -> Result<usize, IoFail>
-        ensures writes { Writes (⟦<StdSink<W> as Sink>⟧.state self.old) (⟦<StdSink<W> as Sink>⟧.state self.new) piece.now result }
-        ensures taken { IfOk result (λ n. Appends (W.contents self.old.writer) (W.contents self.new.writer) (take n piece.now)) }
+        ensures writes { Writes (⟦<StdSink<W> as Sink>⟧.state self.old)
+            (⟦<StdSink<W> as Sink>⟧.state self.new) piece.now result }
+        ensures taken { IfOk result (λ n. Appends (W.contents self.old.writer)
+            (W.contents self.new.writer) (take n piece.now)) }
     {
         if let Some(n) = write_some(&mut self.writer, piece) {
             return Ok(n);
@@ -82,7 +86,8 @@ impl<W: Write> Sink for StdSink<W> {
 pub(crate) fn write_some<W: Write>(writer: &mut W, piece: &[u8]) -> Option<usize>
     ensures within { IfSome result (λ n. n ≤ length piece.now) }
     ensures not_nothing { 0 < length piece.now → IfSome result (λ n. 0 < n) }
-    ensures taken { IfSome result (λ n. Appends (W.contents writer.old) (W.contents writer.new) (take n piece.now)) }
+    ensures taken { IfSome result (λ n. Appends (W.contents writer.old) (W.contents writer.new)
+        (take n piece.now)) }
 {
     let n = writer.write(piece).ok()?;
     if n == 0 && !piece.is_empty() {
@@ -120,7 +125,9 @@ impl<R: Files + AllocGlobal> Created<R> {
     fn write(&mut self, piece: &[u8]) -> Option<usize>
         ensures within { IfSome result (λ n. n ≤ length piece.now) }
         ensures not_nothing { 0 < length piece.now → IfSome result (λ n. 0 < n) }
-        ensures taken { IfSome result (λ n. Appends (⟦<R::File as Write>⟧.contents (file_of self.old)) (⟦<R::File as Write>⟧.contents (file_of self.new)) (take n piece.now)) }
+        ensures taken { IfSome result (λ n. Appends
+            (⟦<R::File as Write>⟧.contents (file_of self.old))
+            (⟦<R::File as Write>⟧.contents (file_of self.new)) (take n piece.now)) }
     {
         match self {
             Created::InPlace(file) => write_some(file, piece),
@@ -246,8 +253,11 @@ impl<R: Files + AllocGlobal> Depot for StdDepot<R> {
 
     fn read(&mut self, slot: Slot, buf: &mut [u8]) -> Result<usize, IoFail>
         requires { IsTrue ((⟦<StdDepot<R> as Depot>⟧.state self.old).started slot) }
-        ensures reads { ReadsSlot (⟦<StdDepot<R> as Depot>⟧.state self.old) (⟦<StdDepot<R> as Depot>⟧.state self.new) slot buf.old buf.new result }
-        ensures given { ReadConsumes (option_and_then ⟦<R::File as Read>⟧.remaining (at_slot self.old.opened slot)) (option_and_then ⟦<R::File as Read>⟧.remaining (at_slot self.new.opened slot)) result buf.new }
+        ensures reads { ReadsSlot (⟦<StdDepot<R> as Depot>⟧.state self.old)
+            (⟦<StdDepot<R> as Depot>⟧.state self.new) slot buf.old buf.new result }
+        ensures given { ReadConsumes (option_and_then ⟦<R::File as Read>⟧.remaining
+            (at_slot self.old.opened slot)) (option_and_then ⟦<R::File as Read>⟧.remaining
+            (at_slot self.new.opened slot)) result buf.new }
     {
         let Some(file) = self.opened.get_mut(slot) else {
             unreachable!()
@@ -280,8 +290,12 @@ impl<R: Files + AllocGlobal> Depot for StdDepot<R> {
 
     fn write(&mut self, piece: &[u8]) -> Result<usize, IoFail>
         requires { IsTrue (⟦<StdDepot<R> as Depot>⟧.state self.old).created }
-        ensures writes { WritesFile (⟦<StdDepot<R> as Depot>⟧.state self.old) (⟦<StdDepot<R> as Depot>⟧.state self.new) piece.now result }
-        ensures taken { IfOk result (λ n. Appends (option_and_then (λ c. ⟦<R::File as Write>⟧.contents (file_of c)) self.old.created) (option_and_then (λ c. ⟦<R::File as Write>⟧.contents (file_of c)) self.new.created) (take n piece.now)) }
+        ensures writes { WritesFile (⟦<StdDepot<R> as Depot>⟧.state self.old)
+            (⟦<StdDepot<R> as Depot>⟧.state self.new) piece.now result }
+        ensures taken { IfOk result (λ n. Appends
+            (option_and_then (λ c. ⟦<R::File as Write>⟧.contents (file_of c)) self.old.created)
+            (option_and_then (λ c. ⟦<R::File as Write>⟧.contents (file_of c)) self.new.created)
+            (take n piece.now)) }
     {
         let Some(created) = &mut self.created else {
             unreachable!()

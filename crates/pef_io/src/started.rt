@@ -46,7 +46,8 @@ impl Started {
 
     // Notes that this file was started.
     pub(crate) fn add(&mut self, file: FileId) -> Result<(), AllocError>
-        ensures added { OnOk result ((other : FileId) → Contains self.new.files.items other ↔ (Contains self.old.files.items other ⊎ (other ≡ file))) }
+        ensures added { OnOk result ((other : FileId) → Contains self.new.files.items other
+            ↔ (Contains self.old.files.items other ⊎ (other ≡ file))) }
         ensures unchanged { OnErr result (self.new.files.items ≡ self.old.files.items) }
     {
         if self.has(file) {

@@ -65,7 +65,8 @@ impl Source for SteadySource {
 
     fn read(&mut self, buf: &mut [u8]) -> Result<usize, IoFail>
         ensures reads { Reads self.old.state self.new.state buf.old buf.new result }
-        ensures moved { IfOk result (λ n. n ≡ min (min (length self.old.state.left) (length buf.old)) self.old.most) }
+        ensures moved { IfOk result (λ n. n ≡ min
+            (min (length self.old.state.left) (length buf.old)) self.old.most) }
         ensures never_fails { IsOk result }
         ensures counted { ReadOnce self.old self.new }
     {

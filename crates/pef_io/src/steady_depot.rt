@@ -40,7 +40,8 @@ impl SteadyDepot {
         requires { 1 ≤ most }
         ensures always { IsOk result }
         ensures fresh { IfOk result (λ d. IsNewDepot files.items (steady_depot d).state) }
-        ensures made { IfOk result (λ d. ((steady_depot d).most ≡ most) × ((op : Op) → (steady_depot d).calls op ≡ 0) × ((steady_depot d).fails ≡ [])) }
+        ensures made { IfOk result (λ d. ((steady_depot d).most ≡ most)
+            × ((op : Op) → (steady_depot d).calls op ≡ 0) × ((steady_depot d).fails ≡ [])) }
     {
         Ok(SteadyDepot {
             alloc,
@@ -62,7 +63,8 @@ impl SteadyDepot {
 
     /// The bytes under a name.
     pub fn file(&self, name: &str) -> Option<&[u8]>
-        ensures { option_map (λ bytes. bytes.now) result ≡ (steady_depot self.now).state.file name.now }
+        ensures { option_map (λ bytes. bytes.now) result
+            ≡ (steady_depot self.now).state.file name.now }
     {
         self.files.bytes_of(name)
     }
@@ -81,9 +83,11 @@ impl Depot for SteadyDepot {
     ghost state = { λ d. (steady_depot d).state };
 
     fn start(&mut self, slot: Slot, name: &str) -> Result<(), IoFail>
-        ensures starts { Starts (steady_depot self.old).state (steady_depot self.new).state slot name.now result }
+        ensures starts { Starts (steady_depot self.old).state (steady_depot self.new).state slot
+            name.now result }
         ensures never_fails { IsErrOf result IoFail.Failed → ⊥ }
-        ensures counted { CalledOnce (Op.Start slot) (steady_depot self.old) (steady_depot self.new) }
+        ensures counted { CalledOnce (Op.Start slot) (steady_depot self.old)
+            (steady_depot self.new) }
     {
         self.calls.count(Op::Start(slot));
         let Ok(bytes) = self.files.copy_of(self.alloc, name) else {
@@ -96,10 +100,14 @@ impl Depot for SteadyDepot {
 
     fn read(&mut self, slot: Slot, buf: &mut [u8]) -> Result<usize, IoFail>
         requires { IsTrue ((steady_depot self.old).state.started slot) }
-        ensures reads { ReadsSlot (steady_depot self.old).state (steady_depot self.new).state slot buf.old buf.new result }
-        ensures moved { IfOk result (λ n. n ≡ min (min (length ((steady_depot self.old).state.left slot)) (length buf.old)) (steady_depot self.old).most) }
+        ensures reads { ReadsSlot (steady_depot self.old).state (steady_depot self.new).state slot
+            buf.old buf.new result }
+        ensures moved { IfOk result (λ n. n ≡ min
+            (min (length ((steady_depot self.old).state.left slot)) (length buf.old))
+            (steady_depot self.old).most) }
         ensures never_fails { IsOk result }
-        ensures counted { CalledOnce (Op.Read slot) (steady_depot self.old) (steady_depot self.new) }
+        ensures counted { CalledOnce (Op.Read slot) (steady_depot self.old)
+            (steady_depot self.new) }
     {
         self.calls.count(Op::Read(slot));
         let Some(opened) = self.opened.get_mut(slot) else {
@@ -109,7 +117,8 @@ impl Depot for SteadyDepot {
     }
 
     fn create(&mut self, name: &str) -> Result<(), IoFail>
-        ensures creates { Creates (steady_depot self.old).state (steady_depot self.new).state name.now result }
+        ensures creates { Creates (steady_depot self.old).state (steady_depot self.new).state
+            name.now result }
         ensures never_fails { IsErrOf result IoFail.Failed → ⊥ }
         ensures counted { CalledOnce Op.Create (steady_depot self.old) (steady_depot self.new) }
     {
@@ -128,7 +137,8 @@ impl Depot for SteadyDepot {
 
     fn write(&mut self, piece: &[u8]) -> Result<usize, IoFail>
         requires { IsTrue (steady_depot self.old).state.created }
-        ensures writes { WritesFile (steady_depot self.old).state (steady_depot self.new).state piece.now result }
+        ensures writes { WritesFile (steady_depot self.old).state (steady_depot self.new).state
+            piece.now result }
         ensures moved { IfOk result (λ n. n ≡ min (length piece.now) (steady_depot self.old).most) }
         ensures never_fails { IsErrOf result IoFail.Failed → ⊥ }
         ensures counted { CalledOnce Op.Write (steady_depot self.old) (steady_depot self.new) }
@@ -147,7 +157,8 @@ impl Depot for SteadyDepot {
 
     fn finish(&mut self) -> Result<(), IoFail>
         requires { IsTrue (steady_depot self.old).state.created }
-        ensures finishes { Finishes (steady_depot self.old).state (steady_depot self.new).state result }
+        ensures finishes { Finishes (steady_depot self.old).state (steady_depot self.new).state
+            result }
         ensures never_fails { IsOk result }
         ensures counted { CalledOnce Op.Finish (steady_depot self.old) (steady_depot self.new) }
     {

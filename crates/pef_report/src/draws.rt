@@ -38,8 +38,10 @@ pub(crate) fn draw_list(
     requires some { 0 < gap }
     requires small { gap ≤ 64 }
     ensures same_length { IfOk result (λ behind. length docs.new.items ≡ length freqs.new.items) }
-    ensures list { IfOk result (λ behind. postings_of docs.new.items freqs.new.items ≡ list_drawn n gap state) }
-    ensures state { IfOk result (λ behind. behind ≡ state_behind state (1 + length docs.new.items)) }
+    ensures list { IfOk result (λ behind. postings_of docs.new.items freqs.new.items
+        ≡ list_drawn n gap state) }
+    ensures state { IfOk result (λ behind. behind
+        ≡ state_behind state (1 + length docs.new.items)) }
 {
     docs.clear();
     freqs.clear();

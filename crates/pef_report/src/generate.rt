@@ -47,9 +47,11 @@ impl Gen {
     /// refusal leaves the generator as it was.
     pub fn next_list(&mut self, docs: &mut Vec<u32>, freqs: &mut Vec<u32>) -> Result<bool, NoMemory>
         ensures same_length { result ≡ Ok true → length docs.new.items ≡ length freqs.new.items }
-        ensures list { result ≡ Ok true → self.old.lists ≡ postings_of docs.new.items freqs.new.items ∷ self.new.lists }
+        ensures list { result ≡ Ok true → self.old.lists
+            ≡ postings_of docs.new.items freqs.new.items ∷ self.new.lists }
         ensures documents { result ≡ Ok true → self.new.documents ≡ self.old.documents }
-        ensures state { result ≡ Ok true → self.new.state ≡ state_behind self.old.state (1 + length docs.new.items) }
+        ensures state { result ≡ Ok true → self.new.state
+            ≡ state_behind self.old.state (1 + length docs.new.items) }
         // Every format holds it in which eight occurrences in each document are not too many.
         ensures posting_list { result ≡ Ok true
             → (format : FormatNumbers) → 8 * self.old.documents ≤ format.most_sum → IsPostingList format self.old.documents (postings_of docs.new.items freqs.new.items) }
@@ -68,9 +70,11 @@ impl Gen {
     // The same, but for what the vectors hold without a list.
     fn draw_next(&mut self, docs: &mut Vec<u32>, freqs: &mut Vec<u32>) -> Result<bool, NoMemory>
         ensures same_length { result ≡ Ok true → length docs.new.items ≡ length freqs.new.items }
-        ensures list { result ≡ Ok true → self.old.lists ≡ postings_of docs.new.items freqs.new.items ∷ self.new.lists }
+        ensures list { result ≡ Ok true → self.old.lists
+            ≡ postings_of docs.new.items freqs.new.items ∷ self.new.lists }
         ensures documents { result ≡ Ok true → self.new.documents ≡ self.old.documents }
-        ensures state { result ≡ Ok true → self.new.state ≡ state_behind self.old.state (1 + length docs.new.items) }
+        ensures state { result ≡ Ok true → self.new.state
+            ≡ state_behind self.old.state (1 + length docs.new.items) }
         ensures posting_list { result ≡ Ok true
             → (format : FormatNumbers) → 8 * self.old.documents ≤ format.most_sum → IsPostingList format self.old.documents (postings_of docs.new.items freqs.new.items) }
         ensures ended { result ≡ Ok false → self.old.lists ≡ [] }

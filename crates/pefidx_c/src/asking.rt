@@ -43,8 +43,11 @@ pub extern "C" fn pefidx_terms(words: &[u64]) -> u32
 pub extern "C" fn pefidx_size_of(words: &[u64], doc: u32, size: &mut u32) -> u32
     requires few { length words.now < 2 ^ 57 }
     requires index { IsIndex words.now }
-    ensures no_document { (collection_in words.now).documents ≤ doc → (result ≡ number_of Status.NoDocument) × (size.new ≡ size.old) }
-    ensures size { doc < (collection_in words.now).documents → (result ≡ number_of Status.Done) × (size.new ≡ slice_index (collection_in words.now).sizes doc) }
+    ensures no_document { (collection_in words.now).documents ≤ doc
+        → (result ≡ number_of Status.NoDocument) × (size.new ≡ size.old) }
+    ensures size { doc < (collection_in words.now).documents
+        → (result ≡ number_of Status.Done) × (size.new
+        ≡ slice_index (collection_in words.now).sizes doc) }
 {
     let index = Index::known(words);
     if doc >= index.documents() {
@@ -59,10 +62,13 @@ pub extern "C" fn pefidx_size_of(words: &[u64], doc: u32, size: &mut u32) -> u32
 pub extern "C" fn pefidx_next(words: &[u64], term: u32, doc: u32, found: &mut Posting) -> u32
     requires few { length words.now < 2 ^ 57 }
     requires index { IsIndex words.now }
-    ensures no_term { length (collection_in words.now).lists ≤ term → (result ≡ number_of Status.NoTerm) × (found.new ≡ found.old) }
-    ensures end { term < length (collection_in words.now).lists → first_at_least (list_of (collection_in words.now) term) doc ≡ None
+    ensures no_term { length (collection_in words.now).lists ≤ term
+        → (result ≡ number_of Status.NoTerm) × (found.new ≡ found.old) }
+    ensures end { term < length (collection_in words.now).lists
+        → first_at_least (list_of (collection_in words.now) term) doc ≡ None
         → (result ≡ number_of Status.End) × (found.new ≡ found.old) }
-    ensures found { (p : model.Posting) → term < length (collection_in words.now).lists → first_at_least (list_of (collection_in words.now) term) doc ≡ Some p
+    ensures found { (p : model.Posting) → term < length (collection_in words.now).lists
+        → first_at_least (list_of (collection_in words.now) term) doc ≡ Some p
         → (result ≡ number_of Status.Done) × (posting_of found.new ≡ p) }
 {
     first_is_at_the_next_place();
@@ -133,8 +139,10 @@ pub extern "C" fn pefidx_postings(
 
 // Puts the postings from the cursor's place on into a room, as many as it holds, and tells how many they are.
 fn take_postings<C: DocCursor>(cursor: &mut C, room: &mut [Posting]) -> usize
-    ensures count { result ≡ min (length room.old) (length (drop (C.place cursor.old) (C.list cursor.old))) }
-    ensures postings { map posting_of room.new ≡ put_in (map posting_of room.old) (drop (C.place cursor.old) (C.list cursor.old)) }
+    ensures count { result ≡ min (length room.old)
+        (length (drop (C.place cursor.old) (C.list cursor.old))) }
+    ensures postings { map posting_of room.new
+        ≡ put_in (map posting_of room.old) (drop (C.place cursor.old) (C.list cursor.old)) }
 {
     for count in 0..room.len() {
         match cursor.doc() {

@@ -33,14 +33,16 @@ pub extern "C" fn pefidx_build(
     count: &mut usize,
     bad: &mut BadPosting,
 ) -> u32
-    ensures refused { (status : EndOf) → build_refusal lengths.now docs.now freqs.now sizes.now ≡ Some status
+    ensures refused { (status : EndOf) → build_refusal lengths.now docs.now freqs.now sizes.now
+        ≡ Some status
         → (result ≡ number_of status) × (words.new ≡ words.old) × (count.new ≡ count.old) × (bad.new ≡ bad.old) }
     ensures bad_posting { result ≡ number_of Status.BadPosting
         → IsFirstBad (length sizes.now) (lists_given lengths.now docs.now freqs.now) bad.new.term bad.new.place × (words.new ≡ words.old) × (count.new ≡ count.old) }
     ensures bad_is_told { build_refusal lengths.now docs.now freqs.now sizes.now ≡ None
         → result ≢ number_of Status.BadPosting
         → All (IsPostingList format_two (length sizes.now)) (lists_given lengths.now docs.now freqs.now) }
-    ensures no_memory { result ≡ number_of Status.NoMemory → (words.new ≡ words.old) × (count.new ≡ count.old) × (bad.new ≡ bad.old) }
+    ensures no_memory { result ≡ number_of Status.NoMemory
+        → (words.new ≡ words.old) × (count.new ≡ count.old) × (bad.new ≡ bad.old) }
     ensures too_large { result ≡ number_of Status.TooLarge
         → WouldBeTooMany (collection_given lengths.now docs.now freqs.now sizes.now) count.new × (words.new ≡ words.old) × (bad.new ≡ bad.old) }
     ensures given { build_refusal lengths.now docs.now freqs.now sizes.now ≡ None
@@ -77,9 +79,12 @@ fn built(
     requires documents { length sizes.now < 2 ^ 32 }
     requires whole { sum lengths.now ≡ length docs.now }
     requires same_length { length docs.now ≡ length freqs.now }
-    requires lists { All (IsPostingList format_two (length sizes.now)) (lists_given lengths.now docs.now freqs.now) }
-    ensures words { IfOk result (λ words. AreWordsOf (collection_given lengths.now docs.now freqs.now sizes.now) words.items) }
-    ensures too_large { (n : ℕ) → result ≡ Err (FinishError.TooLarge n) → WouldBeTooMany (collection_given lengths.now docs.now freqs.now sizes.now) n }
+    requires lists { All (IsPostingList format_two (length sizes.now))
+        (lists_given lengths.now docs.now freqs.now) }
+    ensures words { IfOk result (λ words. AreWordsOf
+        (collection_given lengths.now docs.now freqs.now sizes.now) words.items) }
+    ensures too_large { (n : ℕ) → result ≡ Err (FinishError.TooLarge n)
+        → WouldBeTooMany (collection_given lengths.now docs.now freqs.now sizes.now) n }
 {
     built_counted::<Brand>(alloc, lengths, docs, freqs, sizes, Blank::new(1))
 }
@@ -100,9 +105,12 @@ fn built_counted<L: Ledger>(
     requires documents { length sizes.now < 2 ^ 32 }
     requires whole { sum lengths.now ≡ length docs.now }
     requires same_length { length docs.now ≡ length freqs.now }
-    requires lists { All (IsPostingList format_two (length sizes.now)) (lists_given lengths.now docs.now freqs.now) }
-    ensures words { IfOk result (λ words. AreWordsOf (collection_given lengths.now docs.now freqs.now sizes.now) words.items) }
-    ensures too_large { (n : ℕ) → result ≡ Err (FinishError.TooLarge n) → WouldBeTooMany (collection_given lengths.now docs.now freqs.now sizes.now) n }
+    requires lists { All (IsPostingList format_two (length sizes.now))
+        (lists_given lengths.now docs.now freqs.now) }
+    ensures words { IfOk result (λ words. AreWordsOf
+        (collection_given lengths.now docs.now freqs.now sizes.now) words.items) }
+    ensures too_large { (n : ℕ) → result ≡ Err (FinishError.TooLarge n)
+        → WouldBeTooMany (collection_given lengths.now docs.now freqs.now sizes.now) n }
 {
     let mut steps = Steps::<L>::new(blank);
     match Builder::new(alloc, sizes.len() as u32, Format::Two) {
@@ -127,9 +135,12 @@ fn words_of<L: Ledger>(
     requires sizes { length sizes.now < 2 ^ 32 }
     requires whole { sum lengths.now ≡ length docs.now }
     requires same_length { length docs.now ≡ length freqs.now }
-    requires lists { All (IsPostingList format_two (length sizes.now)) (lists_given lengths.now docs.now freqs.now) }
-    ensures words { IfOk result (λ words. AreWordsOf (collection_given lengths.now docs.now freqs.now sizes.now) words.items) }
-    ensures too_large { (n : ℕ) → result ≡ Err (FinishError.TooLarge n) → WouldBeTooMany (collection_given lengths.now docs.now freqs.now sizes.now) n }
+    requires lists { All (IsPostingList format_two (length sizes.now))
+        (lists_given lengths.now docs.now freqs.now) }
+    ensures words { IfOk result (λ words. AreWordsOf
+        (collection_given lengths.now docs.now freqs.now sizes.now) words.items) }
+    ensures too_large { (n : ℕ) → result ≡ Err (FinishError.TooLarge n)
+        → WouldBeTooMany (collection_given lengths.now docs.now freqs.now sizes.now) n }
 {
     files_spell_collections();
     lists_are_counted();

@@ -25,11 +25,13 @@ pub struct Fault {
 /// told. It takes no memory.
 #[unsafe(no_mangle)]
 pub extern "C" fn pefidx_check(words: &[u64], fault: &mut Fault) -> u32
-    ensures one_of { (result ≡ number_of Status.Done) ⊎ (result ≡ number_of Status.NoIndex) ⊎ (result ≡ number_of Status.TooLarge) }
+    ensures one_of { (result ≡ number_of Status.Done) ⊎ (result ≡ number_of Status.NoIndex)
+        ⊎ (result ≡ number_of Status.TooLarge) }
     ensures index { result ≡ number_of Status.Done → IsIndex words.now }
     ensures few { result ≡ number_of Status.Done → length words.now < 2 ^ 57 }
     ensures no_index { result ≡ number_of Status.NoIndex → ¬ IsIndex words.now }
-    ensures first { result ≡ number_of Status.NoIndex → (broken : FaultOf) × IsFirstBroken words.now broken × (fault.new ≡ fault_of broken) }
+    ensures first { result ≡ number_of Status.NoIndex
+        → (broken : FaultOf) × IsFirstBroken words.now broken × (fault.new ≡ fault_of broken) }
     ensures too_large { result ≡ number_of Status.TooLarge → 2 ^ 57 ≤ length words.now }
     ensures kept { result ≢ number_of Status.NoIndex → fault.new ≡ fault.old }
 {

@@ -41,10 +41,13 @@ pub(crate) fn cursors_of<'a>(
     terms: &[u32],
 ) -> Result<Vec<PostingCursor<'a>>, NoMemory>
     requires { refusal index.now.collection terms.now ≡ None }
-    ensures lists { IfOk result (λ cursors. map (λ c. ⟦<PostingCursor<'a> as DocCursor>⟧.list c) cursors.items ≡ lists_of index.now.collection terms.now) }
-    ensures start { IfOk result (λ cursors. All (λ c. ⟦<PostingCursor<'a> as DocCursor>⟧.place c ≡ 0) cursors.items) }
+    ensures lists { IfOk result (λ cursors. map (λ c. ⟦<PostingCursor<'a> as DocCursor>⟧.list c)
+        cursors.items ≡ lists_of index.now.collection terms.now) }
+    ensures start { IfOk result (λ cursors. All
+        (λ c. ⟦<PostingCursor<'a> as DocCursor>⟧.place c ≡ 0) cursors.items) }
     ensures few { length terms.now ≤ 1024 }
-    ensures below { AreBelow index.now.collection.documents (lists_of index.now.collection terms.now) }
+    ensures below { AreBelow index.now.collection.documents
+        (lists_of index.now.collection terms.now) }
 {
     index.stands_for_a_collection();
     let mut cursors = Vec::with_capacity(alloc, terms.len())?;

@@ -59,8 +59,10 @@ pub(crate) fn first_bad(
     requires few { length lengths.now < 2 ^ 32 }
     requires whole { sum lengths.now ≡ length docs.now }
     requires same_length { length docs.now ≡ length freqs.now }
-    ensures none { IfNone result (All (IsPostingList format_two documents) (lists_given lengths.now docs.now freqs.now)) }
-    ensures bad { IfSome result (λ bad. IsFirstBad documents (lists_given lengths.now docs.now freqs.now) bad.term bad.place) }
+    ensures none { IfNone result (All (IsPostingList format_two documents)
+        (lists_given lengths.now docs.now freqs.now)) }
+    ensures bad { IfSome result (λ bad. IsFirstBad documents
+        (lists_given lengths.now docs.now freqs.now) bad.term bad.place) }
 {
     let mut from = 0;
     for term in 0..lengths.len() {
@@ -91,8 +93,10 @@ pub(crate) fn part(numbers: &[u32], from: usize, count: usize) -> &[u32]
 fn good_prefix(docs: &[u32], freqs: &[u32], documents: u32) -> usize
     requires same_length { length docs.now ≡ length freqs.now }
     ensures within { result ≤ length docs.now }
-    ensures good { IsPostingList format_two documents (take result (postings_of docs.now freqs.now)) }
-    ensures bad { result < length docs.now → ¬ IsPostingList format_two documents (take (result + 1) (postings_of docs.now freqs.now)) }
+    ensures good { IsPostingList format_two documents
+        (take result (postings_of docs.now freqs.now)) }
+    ensures bad { result < length docs.now → ¬ IsPostingList format_two documents
+        (take (result + 1) (postings_of docs.now freqs.now)) }
 {
     // The least document that may come next, and the sum of the frequencies before it.
     let mut least: u64 = 0;

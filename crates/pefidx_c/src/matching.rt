@@ -28,8 +28,10 @@ pub extern "C" fn pefidx_and(
     requires index { IsIndex words.now }
     ensures refused { (status : EndOf) → refusal (collection_in words.now) terms.now ≡ Some status
         → (result ≡ number_of status) × (docs.new ≡ docs.old) × (count.new ≡ count.old) }
-    ensures no_memory { result ≡ number_of Status.NoMemory → (docs.new ≡ docs.old) × (count.new ≡ count.old) }
-    ensures given { let c = collection_in words.now in let matches = in_all c.documents (lists_of c terms.now) in
+    ensures no_memory { result ≡ number_of Status.NoMemory
+        → (docs.new ≡ docs.old) × (count.new ≡ count.old) }
+    ensures given { let c = collection_in words.now in let matches = in_all c.documents
+        (lists_of c terms.now) in
         refusal c terms.now ≡ None → result ≢ number_of Status.NoMemory
         → (result ≡ number_of (given_in (length docs.old) (length matches))) × (docs.new ≡ put_in docs.old matches) × (count.new ≡ length matches) }
 {
@@ -57,8 +59,10 @@ pub extern "C" fn pefidx_or(
     requires index { IsIndex words.now }
     ensures refused { (status : EndOf) → refusal (collection_in words.now) terms.now ≡ Some status
         → (result ≡ number_of status) × (docs.new ≡ docs.old) × (count.new ≡ count.old) }
-    ensures no_memory { result ≡ number_of Status.NoMemory → (docs.new ≡ docs.old) × (count.new ≡ count.old) }
-    ensures given { let c = collection_in words.now in let matches = in_any c.documents (lists_of c terms.now) in
+    ensures no_memory { result ≡ number_of Status.NoMemory
+        → (docs.new ≡ docs.old) × (count.new ≡ count.old) }
+    ensures given { let c = collection_in words.now in let matches = in_any c.documents
+        (lists_of c terms.now) in
         refusal c terms.now ≡ None → result ≢ number_of Status.NoMemory
         → (result ≡ number_of (given_in (length docs.old) (length matches))) × (docs.new ≡ put_in docs.old matches) × (count.new ≡ length matches) }
 {
@@ -75,7 +79,8 @@ pub extern "C" fn pefidx_or(
 // The documents that are in the lists of all these terms.
 fn docs_of_all(alloc: Global, index: &Index<'_>, terms: &[u32]) -> Result<Vec<u32>, NoMemory>
     requires { refusal index.now.collection terms.now ≡ None }
-    ensures { IfOk result (λ r. r.items ≡ in_all index.now.collection.documents (lists_of index.now.collection terms.now)) }
+    ensures { IfOk result (λ r. r.items ≡ in_all index.now.collection.documents
+        (lists_of index.now.collection terms.now)) }
 {
     let mut cursors = cursors_of(alloc, index, terms)?;
     and_docs(alloc, cursors.as_mut_slice())
@@ -84,7 +89,8 @@ fn docs_of_all(alloc: Global, index: &Index<'_>, terms: &[u32]) -> Result<Vec<u3
 // The documents that are in the list of any of these terms.
 fn docs_of_any(alloc: Global, index: &Index<'_>, terms: &[u32]) -> Result<Vec<u32>, NoMemory>
     requires { refusal index.now.collection terms.now ≡ None }
-    ensures { IfOk result (λ r. r.items ≡ in_any index.now.collection.documents (lists_of index.now.collection terms.now)) }
+    ensures { IfOk result (λ r. r.items ≡ in_any index.now.collection.documents
+        (lists_of index.now.collection terms.now)) }
 {
     let mut cursors = cursors_of(alloc, index, terms)?;
     or_docs(alloc, cursors.as_mut_slice())

@@ -46,9 +46,11 @@ pub extern "C" fn pefidx_top(
 ) -> u32
     requires few { length words.now < 2 ^ 57 }
     requires index { IsIndex words.now }
-    ensures refused { (status : EndOf) → top_refusal (collection_in words.now) plan terms.now weights.now ≡ Some status
+    ensures refused { (status : EndOf) → top_refusal (collection_in words.now) plan terms.now
+        weights.now ≡ Some status
         → (result ≡ number_of status) × (best.new ≡ best.old) × (count.new ≡ count.old) }
-    ensures no_memory { result ≡ number_of Status.NoMemory → (best.new ≡ best.old) × (count.new ≡ count.old) }
+    ensures no_memory { result ≡ number_of Status.NoMemory
+        → (best.new ≡ best.old) × (count.new ≡ count.old) }
     ensures given { let c = collection_in words.now in
         top_refusal c plan terms.now weights.now ≡ None → result ≢ number_of Status.NoMemory
         → (r : List (ℕ × ℕ)) × IsTop c.documents (lists_of c terms.now) weights.now k r
@@ -123,7 +125,8 @@ fn best_by(
     k: u32,
 ) -> Result<Vec<(u32, u64)>, NoMemory>
     requires { top_refusal index.now.collection plan terms.now weights.now ≡ None }
-    ensures { IfOk result (λ r. IsTop index.now.collection.documents (lists_of index.now.collection terms.now) weights.now k r.items) }
+    ensures { IfOk result (λ r. IsTop index.now.collection.documents
+        (lists_of index.now.collection terms.now) weights.now k r.items) }
 {
     let mut list_cursors = cursors_of(alloc, index, terms)?;
     let cursors = list_cursors.as_mut_slice();

@@ -33,8 +33,10 @@ pub struct PostingCursor<'a> {
 fn sums_to_freqs(sums: &mut [u64], past: u64) -> u64
     requires sums { (all : List ℕ) × (from : ℕ) × AreSumsFrom all from sums.old past }
     ensures room { length sums.new ≡ length sums.old }
-    ensures freqs { (all : List ℕ) (from : ℕ) → AreSumsFrom all from sums.old past → (j : ℕ) → j < length sums.old → slice_index sums.new j ≡ slice_index (steps_from 0 all) (from + j) }
-    ensures past { (all : List ℕ) (from : ℕ) → AreSumsFrom all from sums.old past → result ≡ span.past all (from + length sums.old) }
+    ensures freqs { (all : List ℕ) (from : ℕ) → AreSumsFrom all from sums.old past → (j : ℕ)
+        → j < length sums.old → slice_index sums.new j ≡ slice_index (steps_from 0 all) (from + j) }
+    ensures past { (all : List ℕ) (from : ℕ) → AreSumsFrom all from sums.old past
+        → result ≡ span.past all (from + length sums.old) }
 {
     let mut past = past;
     for j in 0..sums.len() {
@@ -52,7 +54,8 @@ impl<'a> PostingCursor<'a> {
         requires same_length { length docs.values ≡ length freqs.values }
         requires list { IsCursorList (postings_in docs.values freqs.values) }
         requires greatest { max ≡ greatest_freq (postings_in docs.values freqs.values) }
-        ensures list { ⟦<PostingCursor<'a> as DocCursor>⟧.list result ≡ postings_in docs.entry.values freqs.entry.values }
+        ensures list { ⟦<PostingCursor<'a> as DocCursor>⟧.list result
+            ≡ postings_in docs.entry.values freqs.entry.values }
         ensures start { ⟦<PostingCursor<'a> as DocCursor>⟧.place result ≡ 0 }
     {
         PostingCursor {
@@ -68,7 +71,8 @@ impl<'a> PostingCursor<'a> {
     pub fn move_to(&mut self, place: u32)
         requires later { ⟦<PostingCursor<'a> as DocCursor>⟧.place self.old ≤ place }
         requires within { place ≤ length (⟦<PostingCursor<'a> as DocCursor>⟧.list self.old) }
-        ensures list { ⟦<PostingCursor<'a> as DocCursor>⟧.list self.new ≡ ⟦<PostingCursor<'a> as DocCursor>⟧.list self.old }
+        ensures list { ⟦<PostingCursor<'a> as DocCursor>⟧.list self.new
+            ≡ ⟦<PostingCursor<'a> as DocCursor>⟧.list self.old }
         ensures place { ⟦<PostingCursor<'a> as DocCursor>⟧.place self.new ≡ place }
     {
         self.docs.move_to(place);
@@ -81,7 +85,8 @@ impl<'a> PostingCursor<'a> {
         ensures place { self.new.docs.place ≡ self.old.docs.place + result }
         ensures sums { self.new.sums ≡ self.old.sums }
         ensures room { length docs.new ≡ length docs.old }
-        ensures docs { AreNextBelow self.old.docs.sequence.values self.old.docs.place end docs.new result }
+        ensures docs { AreNextBelow self.old.docs.sequence.values self.old.docs.place end docs.new
+            result }
     {
         self.docs.values_below(end, docs)
     }
@@ -108,7 +113,9 @@ impl<'a> PostingCursor<'a> {
         ensures docs { self.new.docs ≡ self.old.docs }
         ensures sums { self.new.sums.sequence ≡ self.old.sums.sequence }
         ensures room { length freqs.new ≡ length freqs.old }
-        ensures freqs { (j : ℕ) → j < length freqs.old → slice_index freqs.new j ≡ slice_index (steps_from 0 self.old.sums.sequence.values) (self.old.sums.place + j) }
+        ensures freqs { (j : ℕ) → j < length freqs.old
+            → slice_index freqs.new j ≡ slice_index (steps_from 0 self.old.sums.sequence.values)
+            (self.old.sums.place + j) }
     {
         self.sums.values_below(u64::MAX, freqs);
         self.past = sums_to_freqs(freqs, self.past);

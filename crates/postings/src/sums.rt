@@ -29,7 +29,8 @@ impl<'a> Model for Sums<'a> {
 // Opens a cursor over the sequence where there is none yet.
 fn open<'a>(view: &SeqView<'a>, cursor: &mut Option<SeqCursor<'a>>)
     requires over { IsOver view.now cursor.old }
-    ensures { (c : SequencePlace) × (cursor.new ≡ Some c) × (c.sequence ≡ view.now) × (c.place ≡ place_of cursor.old) }
+    ensures { (c : SequencePlace) × (cursor.new ≡ Some c) × (c.sequence ≡ view.now)
+        × (c.place ≡ place_of cursor.old) }
 {
     if cursor.is_none() {
         *cursor = Some(view.cursor());

@@ -23,7 +23,8 @@ pub fn write_postings(
     to: &mut Vec<u64>,
 ) -> Result<(), NoMemory>
     requires same_length { length docs.now ≡ length freqs.now }
-    requires list { IsPostingList (numbers_of format) (numbers_of format).most_documents (postings_of docs.now freqs.now) }
+    requires list { IsPostingList (numbers_of format) (numbers_of format).most_documents
+        (postings_of docs.now freqs.now) }
     requires doc_parts { IsPartition (length docs.now) doc_ends.now }
     requires freq_parts { IsPartition (length freqs.now) freq_ends.now }
     ensures ok { OnOk result (to.new.items ≡ to.old.items
@@ -46,7 +47,8 @@ pub fn write_sequences(
     format: Format,
     to: &mut Vec<u64>,
 ) -> Result<(), NoMemory>
-    requires list { (list : List Posting) × IsPostingList (numbers_of format) (numbers_of format).most_documents list
+    requires list { (list : List Posting) × IsPostingList (numbers_of format)
+        (numbers_of format).most_documents list
         × (docs.now ≡ doc_sequence list) × (sums.now ≡ freq_sequence list) }
     requires doc_parts { IsPartition (length docs.now) doc_ends.now }
     requires freq_parts { IsPartition (length sums.now) freq_ends.now }

@@ -21,7 +21,8 @@ fn leading_field(text: &[u8]) -> usize
 
 // The first field of a text and the text behind it, None where the text has no field.
 pub(crate) fn next_field(text: &[u8]) -> Option<(&[u8], &[u8])>
-    ensures first { MatchOption result (fields text.now ≡ []) (λ cut. fields text.now ≡ cut.0.now ∷ fields cut.1.now) }
+    ensures first { MatchOption result (fields text.now ≡ [])
+        (λ cut. fields text.now ≡ cut.0.now ∷ fields cut.1.now) }
     ensures shorter { IfSome result (λ cut. length cut.1.now < length text.now) }
 {
     let text = &text[leading_spaces(text)..];

@@ -35,7 +35,8 @@ pub fn number(field: &[u8]) -> Option<u32>
 
 // The number that the bytes of a text before its first space spell, and how many bytes they are.
 fn leading_number(text: &[u8]) -> Option<(u32, usize)>
-    ensures number { option_map (λ cut. cut.0) result ≡ number_of (take (prefix_len (λ b. not (b == space)) text.now) text.now) }
+    ensures number { option_map (λ cut. cut.0) result
+        ≡ number_of (take (prefix_len (λ b. not (b == space)) text.now) text.now) }
     ensures len { IfSome result (λ cut. cut.1 ≡ prefix_len (λ b. not (b == space)) text.now) }
     ensures some { IfSome result (λ cut. 0 < cut.1) }
     ensures within { IfSome result (λ cut. cut.1 ≤ length text.now) }

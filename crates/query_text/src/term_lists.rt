@@ -28,8 +28,10 @@ fn first_terms(alloc: Global, arguments: &[u8], terms: u32) -> Result<(NumberLis
     ensures named { MatchResult result
         (λ _. IsOk (terms_named terms (numbers_of (fields arguments.now))))
         (λ bad. terms_named terms (numbers_of (fields arguments.now)) ≡ Err bad) }
-    ensures first { IfOk result (λ read. IfSome (numbers_of (fields arguments.now)) (λ numbers. read.0.items ≡ take 8 numbers)) }
-    ensures count { IfOk result (λ read. IfSome (numbers_of (fields arguments.now)) (λ numbers. read.1 ≡ length numbers)) }
+    ensures first { IfOk result (λ read. IfSome (numbers_of (fields arguments.now))
+        (λ numbers. read.0.items ≡ take 8 numbers)) }
+    ensures count { IfOk result (λ read. IfSome (numbers_of (fields arguments.now))
+        (λ numbers. read.1 ≡ length numbers)) }
 {
     let mut rest = arguments;
     let mut first = NumberList::new(alloc);
@@ -55,7 +57,8 @@ fn first_terms(alloc: Global, arguments: &[u8], terms: u32) -> Result<(NumberLis
 
 // The numbers of a text, as written.
 fn written_numbers(alloc: Global, text: &[u8]) -> Result<NumberList, AllocError>
-    ensures { IfOk result (λ found. IfSome (numbers_of (fields text.now)) (λ numbers. found.items ≡ numbers)) }
+    ensures { IfOk result (λ found. IfSome (numbers_of (fields text.now))
+        (λ numbers. found.items ≡ numbers)) }
 {
     let mut numbers = NumberList::new(alloc);
     let mut rest = text;
@@ -73,9 +76,11 @@ fn all_numbers(
     first: NumberList,
     count: usize,
 ) -> Result<NumberList, AllocError>
-    requires first { IfSome (numbers_of (fields text.now)) (λ numbers. first.items ≡ take 8 numbers) }
+    requires first { IfSome (numbers_of (fields text.now))
+        (λ numbers. first.items ≡ take 8 numbers) }
     requires count { IfSome (numbers_of (fields text.now)) (λ numbers. count ≡ length numbers) }
-    ensures { IfOk result (λ found. IfSome (numbers_of (fields text.now)) (λ numbers. found.items ≡ numbers)) }
+    ensures { IfOk result (λ found. IfSome (numbers_of (fields text.now))
+        (λ numbers. found.items ≡ numbers)) }
 {
     if count == first.len() {
         Ok(first)

@@ -61,8 +61,10 @@ fn first_fields(alloc: Global, arguments: &[u8], terms: u32) -> Result<(FieldLis
     ensures named { MatchResult result
         (λ _. IsOk (weighted_named terms (weighted_fields (fields arguments.now))))
         (λ bad. weighted_named terms (weighted_fields (fields arguments.now)) ≡ Err bad) }
-    ensures first { IfOk result (λ read. IfSome (weighted_fields (fields arguments.now)) (λ written. read.0.items ≡ take 8 written)) }
-    ensures count { IfOk result (λ read. IfSome (weighted_fields (fields arguments.now)) (λ written. read.1 ≡ length written)) }
+    ensures first { IfOk result (λ read. IfSome (weighted_fields (fields arguments.now))
+        (λ written. read.0.items ≡ take 8 written)) }
+    ensures count { IfOk result (λ read. IfSome (weighted_fields (fields arguments.now))
+        (λ written. read.1 ≡ length written)) }
 {
     let mut rest = arguments;
     let mut first = FieldList::new(alloc);
@@ -91,7 +93,8 @@ fn first_fields(alloc: Global, arguments: &[u8], terms: u32) -> Result<(FieldLis
 
 // The terms and the weights of a text, as written.
 fn written_fields(alloc: Global, text: &[u8]) -> Result<FieldList, AllocError>
-    ensures { IfOk result (λ found. IfSome (weighted_fields (fields text.now)) (λ written. found.items ≡ written)) }
+    ensures { IfOk result (λ found. IfSome (weighted_fields (fields text.now))
+        (λ written. found.items ≡ written)) }
 {
     let mut found = FieldList::new(alloc);
     let mut rest = text;
@@ -109,9 +112,12 @@ fn all_fields(
     first: FieldList,
     count: usize,
 ) -> Result<FieldList, AllocError>
-    requires first { IfSome (weighted_fields (fields text.now)) (λ written. first.items ≡ take 8 written) }
-    requires count { IfSome (weighted_fields (fields text.now)) (λ written. count ≡ length written) }
-    ensures { IfOk result (λ found. IfSome (weighted_fields (fields text.now)) (λ written. found.items ≡ written)) }
+    requires first { IfSome (weighted_fields (fields text.now))
+        (λ written. first.items ≡ take 8 written) }
+    requires count { IfSome (weighted_fields (fields text.now))
+        (λ written. count ≡ length written) }
+    ensures { IfOk result (λ found. IfSome (weighted_fields (fields text.now))
+        (λ written. found.items ≡ written)) }
 {
     if count == first.len() {
         Ok(first)

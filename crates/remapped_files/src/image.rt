@@ -104,7 +104,8 @@ pub fn image_files<D: Depot>(
     to: &str,
     depot: &mut D,
 ) -> Result<ImageFiles, ImageError>
-    ensures { MakesImage base.now map.now to.now (D.state depot.old) (D.state depot.new) (files_made result) }
+    ensures { MakesImage base.now map.now to.now (D.state depot.old) (D.state depot.new)
+        (files_made result) }
 {
     formats_have_room();
     files_have_one_first_fault();
@@ -121,7 +122,8 @@ pub fn image_files<D: Depot>(
 // The files of a collection under a base.
 fn spelled_files(alloc: Global, base: &str, collection: &Collection) -> Result<ImageFiles, NoMemory>
     requires { WellFormed remap_numbers collection.now }
-    ensures { IfOk result (λ files. files_of files ≡ files_under base.now (spelled collection.now)) }
+    ensures { IfOk result (λ files. files_of files
+        ≡ files_under base.now (spelled collection.now)) }
 {
     Ok(ImageFiles {
         docs: NamedFile {

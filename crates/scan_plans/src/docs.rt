@@ -27,7 +27,8 @@ const UNTRIED: u32 = 256;
 pub fn and_docs<C: DocCursor>(alloc: Global, cursors: &mut [C]) -> Result<Vec<u32>, NoMemory>
     requires few { length cursors.old ≤ 1024 }
     requires at_start { All (λ c. C.place c ≡ 0) cursors.old }
-    ensures { (n : ℕ) → AreBelow n (map C.list cursors.old) → IfOk result (λ r. r.items ≡ in_all n (map C.list cursors.old)) }
+    ensures { (n : ℕ) → AreBelow n (map C.list cursors.old)
+        → IfOk result (λ r. r.items ≡ in_all n (map C.list cursors.old)) }
 {
     shortest_first(cursors);
     match cursors.split_first_mut() {
@@ -45,7 +46,8 @@ fn shared_docs<C: DocCursor>(
 ) -> Result<Vec<u32>, NoMemory>
     requires at_start { C.place shortest.old ≡ 0 }
     requires others_at_start { All (λ c. C.place c ≡ 0) others.old }
-    ensures { (n : ℕ) → AreBelow n (C.list shortest.old ∷ map C.list others.old) → IfOk result (λ r. r.items ≡ in_all n (C.list shortest.old ∷ map C.list others.old)) }
+    ensures { (n : ℕ) → AreBelow n (C.list shortest.old ∷ map C.list others.old)
+        → IfOk result (λ r. r.items ≡ in_all n (C.list shortest.old ∷ map C.list others.old)) }
 {
     next_geq_is_first();
     let mut docs = Vec::with_capacity(alloc, FIRST_ROOM.min(shortest.len() as usize))?;
@@ -83,7 +85,10 @@ fn append_words<C: DocCursor>(
     requires small { length marks.old ≤ 1024 }
     requires marked { AllAreMarked marks.old }
     ensures within { IfOk result (λ words. words ≤ length marks.old) }
-    ensures docs { IfOk result (λ words. docs.old.items ≡ passing (λ d. in_each d (C.list shortest.now ∷ map C.list others.now)) first → docs.new.items ≡ passing (λ d. in_each d (C.list shortest.now ∷ map C.list others.now)) (first + 64 * words)) }
+    ensures docs { IfOk result (λ words. docs.old.items
+        ≡ passing (λ d. in_each d (C.list shortest.now ∷ map C.list others.now)) first
+        → docs.new.items ≡ passing (λ d. in_each d (C.list shortest.now ∷ map C.list others.now))
+        (first + 64 * words)) }
     ensures count { length marks.new ≡ length marks.old }
     ensures marked { OnOk result (AllAreMarked marks.new) }
 {
@@ -107,7 +112,8 @@ fn keep_in_all<C: DocCursor>(cursors: &[C], first: u32, most: usize, marks: &mut
     requires room { most ≤ length marks.old }
     ensures within { result ≤ most }
     ensures count { length marks.new ≡ length marks.old }
-    ensures kept { (k : ℕ) → k < 64 * result → is_marked marks.new k ≡ (is_marked marks.old k && in_each (first + k) (map C.list cursors.now)) }
+    ensures kept { (k : ℕ) → k < 64 * result → is_marked marks.new k
+        ≡ (is_marked marks.old k && in_each (first + k) (map C.list cursors.now)) }
 {
     let mut words = most;
     for cursor in cursors {
@@ -139,7 +145,8 @@ fn shortest_first<C: DocCursor>(cursors: &mut [C])
 pub fn or_docs<C: DocCursor>(alloc: Global, cursors: &mut [C]) -> Result<Vec<u32>, NoMemory>
     requires few { length cursors.old ≤ 1024 }
     requires at_start { All (λ c. C.place c ≡ 0) cursors.old }
-    ensures { (n : ℕ) → AreBelow n (map C.list cursors.old) → IfOk result (λ r. r.items ≡ in_any n (map C.list cursors.old)) }
+    ensures { (n : ℕ) → AreBelow n (map C.list cursors.old)
+        → IfOk result (λ r. r.items ≡ in_any n (map C.list cursors.old)) }
 {
     let mut docs = Vec::new(alloc);
     let mut buffer = new_marks(alloc, MARKED_WORDS)?;
@@ -161,9 +168,13 @@ fn append_marked(
 ) -> Result<(), NoMemory>
     requires small { length marks.old ≤ 1024 }
     requires within { reached ≤ 64 * length marks.old }
-    requires behind { (k : ℕ) → reached ≤ k → k < 64 * length marks.old → is_marked marks.old k ≡ false }
-    requires fit { (k : ℕ) → k < 64 * length marks.old → is_marked marks.old k ≡ true → first + k < 2 ^ 32 }
-    ensures docs { OnOk result ((test : ℕ → Bool) → AreMarkedBy test first marks.old → docs.old.items ≡ passing test first → docs.new.items ≡ passing test (first + 64 * length marks.old)) }
+    requires behind { (k : ℕ) → reached ≤ k → k < 64 * length marks.old
+        → is_marked marks.old k ≡ false }
+    requires fit { (k : ℕ) → k < 64 * length marks.old → is_marked marks.old k ≡ true
+        → first + k < 2 ^ 32 }
+    ensures docs { OnOk result ((test : ℕ → Bool) → AreMarkedBy test first marks.old
+        → docs.old.items ≡ passing test first
+        → docs.new.items ≡ passing test (first + 64 * length marks.old)) }
     ensures count { length marks.new ≡ length marks.old }
     ensures clear { OnOk result (All (λ w. w ≡ 0) marks.new) }
 {
@@ -177,7 +188,8 @@ fn append_marked(
 // Adds the documents that the bits of a word mark, of which the lowest stands for document `base` and each for the one after.
 fn append_word(docs: &mut Vec<u32>, base: u64, word: u64) -> Result<(), NoMemory>
     requires fit { (k : ℕ) → k < 64 → bit_at word k ≡ 1 → base + k < 2 ^ 32 }
-    ensures docs { OnOk result ((test : ℕ → Bool) → IsMarkedWord test base word → docs.old.items ≡ passing test base → docs.new.items ≡ passing test (base + 64)) }
+    ensures docs { OnOk result ((test : ℕ → Bool) → IsMarkedWord test base word
+        → docs.old.items ≡ passing test base → docs.new.items ≡ passing test (base + 64)) }
 {
     let mut rest = word;
     while rest != 0 {

@@ -17,8 +17,10 @@ pub(crate) fn catch_up<C: DocCursor>(cursors: &mut [C], candidate: u32) -> Optio
     requires passed { All (λ c. HasPassed candidate (C.list c) (C.place c)) cursors.old }
     ensures lists { map C.list cursors.new ≡ map C.list cursors.old }
     ensures passed { All (λ c. HasPassed candidate (C.list c) (C.place c)) cursors.new }
-    ensures ends { IfNone result ((d : ℕ) → candidate ≤ d → in_each d (map C.list cursors.old) ≡ false) }
-    ensures later { IfSome result (λ next. (candidate ≤ next) × ((d : ℕ) → candidate ≤ d → d < next → in_each d (map C.list cursors.old) ≡ false)) }
+    ensures ends { IfNone result ((d : ℕ) → candidate ≤ d
+        → in_each d (map C.list cursors.old) ≡ false) }
+    ensures later { IfSome result (λ next. (candidate ≤ next)
+        × ((d : ℕ) → candidate ≤ d → d < next → in_each d (map C.list cursors.old) ≡ false)) }
     ensures agreed { result ≡ Some candidate → in_each candidate (map C.list cursors.old) ≡ true }
 {
     next_geq_is_first();

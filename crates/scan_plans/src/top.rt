@@ -89,15 +89,22 @@ fn score_all<C: DocCursor>(
 fn offer_marked(top: &mut TopK, first: u32, reached: usize, marks: &mut [u64], scores: &mut [u64])
     requires same { length scores.old ≡ 64 * length marks.old }
     requires within { reached ≤ length scores.old }
-    requires marked { (k : ℕ) → k < length scores.old → is_marked marks.old k ≡ false → slice_index scores.old k ≡ 0 }
-    requires behind { (k : ℕ) → reached ≤ k → k < length scores.old → is_marked marks.old k ≡ false }
+    requires marked { (k : ℕ) → k < length scores.old → is_marked marks.old k ≡ false
+        → slice_index scores.old k ≡ 0 }
+    requires behind { (k : ℕ) → reached ≤ k → k < length scores.old
+        → is_marked marks.old k ≡ false }
     requires narrow { top.old.n < 2 ^ 32 }
-    requires in_range { (k : ℕ) → k < length scores.old → 0 < slice_index scores.old k → first + k < top.old.n }
+    requires in_range { (k : ℕ) → k < length scores.old → 0 < slice_index scores.old k
+        → first + k < top.old.n }
     requires above { All (λ e. e.0 < first) top.old.held }
     ensures k { top.new.k ≡ top.old.k }
     ensures n { top.new.n ≡ top.old.n }
-    ensures best { (lists : List (List Posting)) (weights : List ℕ) → AreScored lists weights first scores.old → IsBest top.old.k lists weights (in_any first lists) top.old.held → IsBest top.old.k lists weights (in_any (first + length scores.old) lists) top.new.held }
-    ensures bound { All (λ s. s < 2 ^ 58) scores.old → All (λ e. e.1 < 2 ^ 58) top.old.held → All (λ e. e.1 < 2 ^ 58) top.new.held }
+    ensures best { (lists : List (List Posting)) (weights : List ℕ)
+        → AreScored lists weights first scores.old
+        → IsBest top.old.k lists weights (in_any first lists) top.old.held
+        → IsBest top.old.k lists weights (in_any (first + length scores.old) lists) top.new.held }
+    ensures bound { All (λ s. s < 2 ^ 58) scores.old → All (λ e. e.1 < 2 ^ 58) top.old.held
+        → All (λ e. e.1 < 2 ^ 58) top.new.held }
     ensures count { length scores.new ≡ length scores.old }
     ensures marks_count { length marks.new ≡ length marks.old }
     ensures clear { All (λ s. s ≡ 0) scores.new }
@@ -121,8 +128,12 @@ fn offer_word(top: &mut TopK, base: u64, word: u64, scores: &mut [u64])
     ensures k { top.new.k ≡ top.old.k }
     ensures n { top.new.n ≡ top.old.n }
     ensures above { All (λ e. e.0 < base + 64) top.new.held }
-    ensures best { (lists : List (List Posting)) (weights : List ℕ) → AreScored lists weights base scores.old → IsBest top.old.k lists weights (in_any base lists) top.old.held → IsBest top.old.k lists weights (in_any (base + 64) lists) top.new.held }
-    ensures bound { All (λ s. s < 2 ^ 58) scores.old → All (λ e. e.1 < 2 ^ 58) top.old.held → All (λ e. e.1 < 2 ^ 58) top.new.held }
+    ensures best { (lists : List (List Posting)) (weights : List ℕ)
+        → AreScored lists weights base scores.old
+        → IsBest top.old.k lists weights (in_any base lists) top.old.held
+        → IsBest top.old.k lists weights (in_any (base + 64) lists) top.new.held }
+    ensures bound { All (λ s. s < 2 ^ 58) scores.old → All (λ e. e.1 < 2 ^ 58) top.old.held
+        → All (λ e. e.1 < 2 ^ 58) top.new.held }
     ensures count { length scores.new ≡ 64 }
     ensures clear { All (λ s. s ≡ 0) scores.new }
 {

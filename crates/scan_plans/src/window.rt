@@ -57,15 +57,18 @@ pub fn new_scores(alloc: Global, words: usize) -> Result<Vec<u64>, NoMemory>
 pub fn new_marks(alloc: Global, words: usize) -> Result<Vec<u64>, NoMemory>
     ensures count { IfOk result (λ marks. length marks.items ≡ words) }
     ensures clear { IfOk result (λ marks. All (λ w. w ≡ 0) marks.items) }
-    ensures none { IfOk result (λ marks. (k : ℕ) → k < 64 * words → is_marked marks.items k ≡ false) }
+    ensures none { IfOk result (λ marks. (k : ℕ) → k < 64 * words
+        → is_marked marks.items k ≡ false) }
 {
     Ok(vec![in alloc; 0; words]?)
 }
 
 // Whether a cursor stands at a document below an end.
 fn stands_below<C: DocCursor>(cursor: &C, end: u64) -> bool
-    ensures below { result ≡ true → (C.place cursor.now < length (C.list cursor.now)) × (slice_index (docs_of (C.list cursor.now)) (C.place cursor.now) < end) }
-    ensures behind { result ≡ false → (d : ℕ) → doc_at (C.list cursor.now) (C.place cursor.now) ≡ Some d → end ≤ d }
+    ensures below { result ≡ true → (C.place cursor.now < length (C.list cursor.now))
+        × (slice_index (docs_of (C.list cursor.now)) (C.place cursor.now) < end) }
+    ensures behind { result ≡ false → (d : ℕ)
+        → doc_at (C.list cursor.now) (C.place cursor.now) ≡ Some d → end ≤ d }
 {
     match cursor.doc() {
         Some(doc) => u64::from(doc) < end,
@@ -87,11 +90,15 @@ fn add_postings(
     requires rising { IsStrictlyIncreasing docs.now }
     requires inside { AreInside first (length scores.old) docs.now }
     requires wide { length scores.old ≤ 64 * length marks.old }
-    requires room { (j : ℕ) → j < length docs.now → slice_index scores.old (slice_index docs.now j - first) + weight * slice_index freqs.now j < 2 ^ 64 }
+    requires room { (j : ℕ) → j < length docs.now
+        → slice_index scores.old (slice_index docs.now j - first) + weight * slice_index freqs.now j
+        < 2 ^ 64 }
     ensures count { length scores.new ≡ length scores.old }
     ensures marks_count { length marks.new ≡ length marks.old }
-    ensures given { AreGiven ◌+◌ first docs.now (λ j. weight * slice_index freqs.now j) 0 (length docs.now) (slice_index scores.old) (slice_index scores.new) }
-    ensures marked { AreGiven ◌||◌ first docs.now (λ _. true) 0 (length docs.now) (is_marked marks.old) (is_marked marks.new) }
+    ensures given { AreGiven ◌+◌ first docs.now (λ j. weight * slice_index freqs.now j) 0
+        (length docs.now) (slice_index scores.old) (slice_index scores.new) }
+    ensures marked { AreGiven ◌||◌ first docs.now (λ _. true) 0 (length docs.now)
+        (is_marked marks.old) (is_marked marks.new) }
 {
     for j in 0..docs.len() {
         let at = (docs[j] - u64::from(first)) as usize;
@@ -114,12 +121,18 @@ pub fn add_list<C: DocCursor>(
     requires wide { length scores.old ≤ 64 * length marks.old }
     requires room { All (λ s. s + weight * 4294967295 < 2 ^ 64) scores.old }
     ensures list { C.list cursor.new ≡ C.list cursor.old }
-    ensures stand { StandsFrom (first + length scores.old) (C.list cursor.new) (C.place cursor.new) }
+    ensures stand { StandsFrom (first + length scores.old) (C.list cursor.new)
+        (C.place cursor.new) }
     ensures count { length scores.new ≡ length scores.old }
     ensures marks_count { length marks.new ≡ length marks.old }
-    ensures scores { (k : ℕ) → k < length scores.old → slice_index scores.new k ≡ slice_index scores.old k + weight * freq_of_doc (first + k) (C.list cursor.old) }
-    ensures marks { (k : ℕ) → k < length scores.old → is_marked marks.new k ≡ (is_marked marks.old k || has_doc (first + k) (C.list cursor.old)) }
-    ensures bound { (k : ℕ) → k < length scores.old → slice_index scores.new k ≤ slice_index scores.old k + weight * 4294967295 }
+    ensures scores { (k : ℕ) → k < length scores.old
+        → slice_index scores.new k ≡ slice_index scores.old k
+        + weight * freq_of_doc (first + k) (C.list cursor.old) }
+    ensures marks { (k : ℕ) → k < length scores.old
+        → is_marked marks.new k ≡ (is_marked marks.old k || has_doc (first + k)
+        (C.list cursor.old)) }
+    ensures bound { (k : ℕ) → k < length scores.old
+        → slice_index scores.new k ≤ slice_index scores.old k + weight * 4294967295 }
     ensures within { result ≤ length scores.old }
     ensures behind { (k : ℕ) → result ≤ k → is_marked marks.new k ≡ is_marked marks.old k }
 {
@@ -158,7 +171,8 @@ pub(crate) fn add_lists<C: DocCursor>(
     requires clear { All (λ s. s ≡ 0) scores.old }
     requires none { All (λ w. w ≡ 0) marks.old }
     ensures lists { map C.list cursors.new ≡ map C.list cursors.old }
-    ensures stand { All (λ c. StandsFrom (first + length scores.old) (C.list c) (C.place c)) cursors.new }
+    ensures stand { All (λ c. StandsFrom (first + length scores.old) (C.list c) (C.place c))
+        cursors.new }
     ensures count { length scores.new ≡ length scores.old }
     ensures marks_count { length marks.new ≡ length marks.old }
     ensures scores { AreScored (map C.list cursors.old) weights.now first scores.new }
@@ -187,12 +201,16 @@ pub fn take_candidate(
     requires within { reached ≤ length scores.old }
     requires start { from ≤ length scores.old }
     requires taken { (k : ℕ) → k < from → is_marked marks.old k ≡ false }
-    requires behind { (k : ℕ) → reached ≤ k → k < 64 * length marks.old → is_marked marks.old k ≡ false }
-    requires marked { (k : ℕ) → k < length scores.old → is_marked marks.old k ≡ false → slice_index scores.old k ≡ 0 }
+    requires behind { (k : ℕ) → reached ≤ k → k < 64 * length marks.old
+        → is_marked marks.old k ≡ false }
+    requires marked { (k : ℕ) → k < length scores.old → is_marked marks.old k ≡ false
+        → slice_index scores.old k ≡ 0 }
     ensures some { IfSome result (λ e. IsFirstCandidate least scores.old marks.old e.0 e.1) }
-    ensures taken { IfSome result (λ e. AreTakenBack (e.0 + 1) scores.old marks.old scores.new marks.new) }
+    ensures taken { IfSome result (λ e. AreTakenBack (e.0 + 1) scores.old marks.old scores.new
+        marks.new) }
     ensures none { IfNone result (NoneIsCandidate least scores.old marks.old) }
-    ensures all_taken { IfNone result (AreTakenBack (length scores.old) scores.old marks.old scores.new marks.new) }
+    ensures all_taken { IfNone result (AreTakenBack (length scores.old) scores.old marks.old
+        scores.new marks.new) }
 {
     let words = reached.div_ceil(64);
     let mut i = from / 64;
@@ -211,12 +229,17 @@ fn take_in_word(i: usize, least: u64, scores: &mut [u64], marks: &mut [u64]) -> 
     requires word { i < length marks.old }
     requires wide { length scores.old ≤ 64 * length marks.old }
     requires taken { (k : ℕ) → k < 64 * i → is_marked marks.old k ≡ false }
-    requires inside { (k : ℕ) → k < 64 * (i + 1) → is_marked marks.old k ≡ true → k < length scores.old }
-    requires marked { (k : ℕ) → k < length scores.old → is_marked marks.old k ≡ false → slice_index scores.old k ≡ 0 }
+    requires inside { (k : ℕ) → k < 64 * (i + 1) → is_marked marks.old k ≡ true
+        → k < length scores.old }
+    requires marked { (k : ℕ) → k < length scores.old → is_marked marks.old k ≡ false
+        → slice_index scores.old k ≡ 0 }
     ensures some { IfSome result (λ e. IsFirstCandidate least scores.old marks.old e.0 e.1) }
-    ensures taken { IfSome result (λ e. AreTakenBack (e.0 + 1) scores.old marks.old scores.new marks.new) }
-    ensures none { IfNone result ((k : ℕ) → k < 64 * (i + 1) → is_marked marks.old k ≡ true → slice_index scores.old k < least) }
-    ensures all_taken { IfNone result (AreTakenBack (64 * (i + 1)) scores.old marks.old scores.new marks.new) }
+    ensures taken { IfSome result (λ e. AreTakenBack (e.0 + 1) scores.old marks.old scores.new
+        marks.new) }
+    ensures none { IfNone result ((k : ℕ) → k < 64 * (i + 1) → is_marked marks.old k ≡ true
+        → slice_index scores.old k < least) }
+    ensures all_taken { IfNone result (AreTakenBack (64 * (i + 1)) scores.old marks.old scores.new
+        marks.new) }
 {
     let mut rest = marks[i];
     while rest != 0 {
@@ -240,7 +263,8 @@ fn mark_docs(docs: &[u64], first: u32, marks: &mut [u64])
     requires rising { IsStrictlyIncreasing docs.now }
     requires inside { AreInside first (64 * length marks.old) docs.now }
     ensures count { length marks.new ≡ length marks.old }
-    ensures given { AreGiven ◌||◌ first docs.now (λ _. true) 0 (length docs.now) (is_marked marks.old) (is_marked marks.new) }
+    ensures given { AreGiven ◌||◌ first docs.now (λ _. true) 0 (length docs.now)
+        (is_marked marks.old) (is_marked marks.new) }
 {
     for j in 0..docs.len() {
         let at = (docs[j] - u64::from(first)) as usize;
@@ -259,11 +283,15 @@ fn mark_list<C: DocCursor>(
     requires stand { StandsFrom first (C.list cursor.old) (C.place cursor.old) }
     requires small { length marks.old ≤ 1024 }
     ensures list { C.list cursor.new ≡ C.list cursor.old }
-    ensures stand { StandsFrom (first + 64 * length marks.old) (C.list cursor.new) (C.place cursor.new) }
+    ensures stand { StandsFrom (first + 64 * length marks.old) (C.list cursor.new)
+        (C.place cursor.new) }
     ensures count { length marks.new ≡ length marks.old }
-    ensures marks { (k : ℕ) → k < 64 * length marks.old → is_marked marks.new k ≡ (is_marked marks.old k || has_doc (first + k) (C.list cursor.old)) }
+    ensures marks { (k : ℕ) → k < 64 * length marks.old
+        → is_marked marks.new k ≡ (is_marked marks.old k || has_doc (first + k)
+        (C.list cursor.old)) }
     ensures within { result ≤ 64 * length marks.old }
-    ensures behind { (k : ℕ) → result ≤ k → k < 64 * length marks.old → is_marked marks.new k ≡ is_marked marks.old k }
+    ensures behind { (k : ℕ) → result ≤ k → k < 64 * length marks.old
+        → is_marked marks.new k ≡ is_marked marks.old k }
 {
     let end = u64::from(first) + 64 * marks.len() as u64;
     let mut reached = 0;
@@ -287,11 +315,13 @@ pub(crate) fn mark_lists<C: DocCursor>(
     requires small { length marks.old ≤ 1024 }
     requires clear { All (λ w. w ≡ 0) marks.old }
     ensures lists { map C.list cursors.new ≡ map C.list cursors.old }
-    ensures stand { All (λ c. StandsFrom (first + 64 * length marks.old) (C.list c) (C.place c)) cursors.new }
+    ensures stand { All (λ c. StandsFrom (first + 64 * length marks.old) (C.list c) (C.place c))
+        cursors.new }
     ensures count { length marks.new ≡ length marks.old }
     ensures marks { AreMarked (map C.list cursors.old) first marks.new }
     ensures within { result ≤ 64 * length marks.old }
-    ensures behind { (k : ℕ) → result ≤ k → k < 64 * length marks.old → is_marked marks.new k ≡ false }
+    ensures behind { (k : ℕ) → result ≤ k → k < 64 * length marks.old
+        → is_marked marks.new k ≡ false }
 {
     let mut reached = 0;
     for cursor in cursors.iter_mut() {

@@ -32,7 +32,8 @@ impl<C: DocCursor> JoinedCursor<C> {
     pub fn new(parts: Vec<(u32, C)>) -> JoinedCursor<C>
         requires at_start { All (λ p. C.place p.1 ≡ 0) parts.items }
         requires follow { FollowInOrder (parts_of C.list parts.items) }
-        ensures list { ⟦<JoinedCursor<C> as DocCursor>⟧.list result ≡ joined_list (parts_of C.list parts.items) }
+        ensures list { ⟦<JoinedCursor<C> as DocCursor>⟧.list result
+            ≡ joined_list (parts_of C.list parts.items) }
         ensures start { ⟦<JoinedCursor<C> as DocCursor>⟧.place result ≡ 0 }
     {
         let at = settled(&parts, 0);

@@ -11,7 +11,8 @@ use cursor_api::{DocCursor, next_geq_is_first};
 // The document at which the cursor of a part stands, counted on from the first of its segment, None at its end.
 pub(crate) fn part_doc<C: DocCursor>(part: &(u32, C)) -> Option<u32>
     requires few { All (λ d. d < 4294967295) (docs_of (shifted part.now.0 (C.list part.now.1))) }
-    ensures { result ≡ option_map (λ p. p.doc) (slice_get (shifted part.now.0 (C.list part.now.1)) (C.place part.now.1)) }
+    ensures { result ≡ option_map (λ p. p.doc)
+        (slice_get (shifted part.now.0 (C.list part.now.1)) (C.place part.now.1)) }
 {
     Some(part.0 + part.1.doc()?)
 }
@@ -20,7 +21,8 @@ pub(crate) fn part_doc<C: DocCursor>(part: &(u32, C)) -> Option<u32>
 pub(crate) fn reaches<C: DocCursor>(part: &mut (u32, C), d: u32) -> bool
     ensures first { part.new.0 ≡ part.old.0 }
     ensures list { C.list part.new.1 ≡ C.list part.old.1 }
-    ensures place { IsNextGeq (shifted part.old.0 (C.list part.old.1)) (C.place part.old.1) d (C.place part.new.1) }
+    ensures place { IsNextGeq (shifted part.old.0 (C.list part.old.1)) (C.place part.old.1) d
+        (C.place part.new.1) }
     ensures there { result ≡ true → C.place part.new.1 < length (C.list part.old.1) }
     ensures ended { result ≡ false → C.place part.new.1 ≡ length (C.list part.old.1) }
 {
@@ -33,7 +35,8 @@ pub(crate) fn reaches<C: DocCursor>(part: &mut (u32, C), d: u32) -> bool
 pub(crate) fn reaches_frequency<C: DocCursor>(part: &mut (u32, C), f: u32) -> bool
     ensures first { part.new.0 ≡ part.old.0 }
     ensures list { C.list part.new.1 ≡ C.list part.old.1 }
-    ensures place { C.place part.new.1 ≡ next_frequent_place (C.list part.old.1) (C.place part.old.1) f }
+    ensures place { C.place part.new.1 ≡ next_frequent_place (C.list part.old.1)
+        (C.place part.old.1) f }
     ensures there { result ≡ true → C.place part.new.1 < length (C.list part.old.1) }
     ensures ended { result ≡ false → C.place part.new.1 ≡ length (C.list part.old.1) }
 {
@@ -45,7 +48,8 @@ pub(crate) fn reaches_frequency<C: DocCursor>(part: &mut (u32, C), f: u32) -> bo
 fn count_on(docs: &mut [u64], first: u64)
     requires fit { All (λ d. first + d < 2 ^ 64) docs.old }
     ensures count { length docs.new ≡ length docs.old }
-    ensures each { (j : ℕ) → j < length docs.old → slice_index docs.new j ≡ first + slice_index docs.old j }
+    ensures each { (j : ℕ) → j < length docs.old
+        → slice_index docs.new j ≡ first + slice_index docs.old j }
 {
     for doc in docs.iter_mut() {
         *doc += first;
@@ -59,7 +63,8 @@ pub(crate) fn read_docs<C: DocCursor>(part: &mut (u32, C), end: u64, docs: &mut 
     ensures list { C.list part.new.1 ≡ C.list part.old.1 }
     ensures place { C.place part.new.1 ≡ C.place part.old.1 + result }
     ensures room { length docs.new ≡ length docs.old }
-    ensures docs { AreNextBelow (docs_of (shifted part.old.0 (C.list part.old.1))) (C.place part.old.1) end docs.new result }
+    ensures docs { AreNextBelow (docs_of (shifted part.old.0 (C.list part.old.1)))
+        (C.place part.old.1) end docs.new result }
 {
     let first = part.0;
     let count = part.1.docs_below(end.saturating_sub(first as u64), docs);
@@ -80,8 +85,10 @@ pub(crate) fn read_postings<C: DocCursor>(
     ensures place { C.place part.new.1 ≡ C.place part.old.1 + result }
     ensures docs_room { length docs.new ≡ length docs.old }
     ensures freqs_room { length freqs.new ≡ length freqs.old }
-    ensures docs { AreNextBelow (docs_of (shifted part.old.0 (C.list part.old.1))) (C.place part.old.1) end docs.new result }
-    ensures freqs { (j : ℕ) → j < result → slice_index freqs.new j ≡ slice_index (freqs_of (C.list part.old.1)) (C.place part.old.1 + j) }
+    ensures docs { AreNextBelow (docs_of (shifted part.old.0 (C.list part.old.1)))
+        (C.place part.old.1) end docs.new result }
+    ensures freqs { (j : ℕ) → j < result → slice_index freqs.new j
+        ≡ slice_index (freqs_of (C.list part.old.1)) (C.place part.old.1 + j) }
 {
     let first = part.0;
     let count = part

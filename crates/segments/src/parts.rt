@@ -14,7 +14,8 @@ pub(crate) fn settled<C: DocCursor>(parts: &[(u32, C)], at: usize) -> usize
     requires within { at ≤ length parts.now }
     requires unread { (j : ℕ) → at < j → slice_index (places_of C.place parts.now) j ≡ 0 }
     ensures stands { StandsAt (parts_of C.list parts.now) (places_of C.place parts.now) result }
-    ensures place { joined_place (parts_of C.list parts.now) (places_of C.place parts.now) result ≡ joined_place (parts_of C.list parts.now) (places_of C.place parts.now) at }
+    ensures place { joined_place (parts_of C.list parts.now) (places_of C.place parts.now) result
+        ≡ joined_place (parts_of C.list parts.now) (places_of C.place parts.now) at }
 {
     for i in at..parts.len() {
         if parts[i].1.doc().is_some() {
@@ -29,7 +30,9 @@ pub(crate) fn seek<C: DocCursor>(parts: &mut [(u32, C)], at: usize, d: u32) -> u
     requires stands { StandsAt (parts_of C.list parts.old) (places_of C.place parts.old) at }
     ensures parts { parts_of C.list parts.new ≡ parts_of C.list parts.old }
     ensures stands { StandsAt (parts_of C.list parts.new) (places_of C.place parts.new) result }
-    ensures place { joined_place (parts_of C.list parts.new) (places_of C.place parts.new) result ≡ next_geq_place (joined_list (parts_of C.list parts.old)) (joined_place (parts_of C.list parts.old) (places_of C.place parts.old) at) d }
+    ensures place { joined_place (parts_of C.list parts.new) (places_of C.place parts.new) result
+        ≡ next_geq_place (joined_list (parts_of C.list parts.old))
+        (joined_place (parts_of C.list parts.old) (places_of C.place parts.old) at) d }
 {
     next_geq_is_first();
     for i in at..parts.len() {
@@ -46,7 +49,9 @@ pub(crate) fn seek_frequency<C: DocCursor>(parts: &mut [(u32, C)], at: usize, f:
     requires stands { StandsAt (parts_of C.list parts.old) (places_of C.place parts.old) at }
     ensures parts { parts_of C.list parts.new ≡ parts_of C.list parts.old }
     ensures stands { StandsAt (parts_of C.list parts.new) (places_of C.place parts.new) result }
-    ensures place { joined_place (parts_of C.list parts.new) (places_of C.place parts.new) result ≡ next_frequent_place (joined_list (parts_of C.list parts.old)) (joined_place (parts_of C.list parts.old) (places_of C.place parts.old) at) f }
+    ensures place { joined_place (parts_of C.list parts.new) (places_of C.place parts.new) result
+        ≡ next_frequent_place (joined_list (parts_of C.list parts.old))
+        (joined_place (parts_of C.list parts.old) (places_of C.place parts.old) at) f }
 {
     for i in at..parts.len() {
         if reaches_frequency(&mut parts[i], f) {
@@ -67,9 +72,12 @@ pub(crate) fn docs_from<C: DocCursor>(
     requires stands { StandsAt (parts_of C.list parts.old) (places_of C.place parts.old) at }
     ensures parts { parts_of C.list parts.new ≡ parts_of C.list parts.old }
     ensures stands { StandsAt (parts_of C.list parts.new) (places_of C.place parts.new) result.0 }
-    ensures place { joined_place (parts_of C.list parts.new) (places_of C.place parts.new) result.0 ≡ joined_place (parts_of C.list parts.old) (places_of C.place parts.old) at + result.1 }
+    ensures place { joined_place (parts_of C.list parts.new) (places_of C.place parts.new) result.0
+        ≡ joined_place (parts_of C.list parts.old) (places_of C.place parts.old) at + result.1 }
     ensures room { length docs.new ≡ length docs.old }
-    ensures docs { AreNextBelow (docs_of (joined_list (parts_of C.list parts.old))) (joined_place (parts_of C.list parts.old) (places_of C.place parts.old) at) end docs.new result.1 }
+    ensures docs { AreNextBelow (docs_of (joined_list (parts_of C.list parts.old)))
+        (joined_place (parts_of C.list parts.old) (places_of C.place parts.old) at) end docs.new
+        result.1 }
 {
     let mut count = 0;
     for i in at..parts.len() {
@@ -94,11 +102,16 @@ pub(crate) fn postings_from<C: DocCursor>(
     requires room { length docs.old ≤ length freqs.old }
     ensures parts { parts_of C.list parts.new ≡ parts_of C.list parts.old }
     ensures stands { StandsAt (parts_of C.list parts.new) (places_of C.place parts.new) result.0 }
-    ensures place { joined_place (parts_of C.list parts.new) (places_of C.place parts.new) result.0 ≡ joined_place (parts_of C.list parts.old) (places_of C.place parts.old) at + result.1 }
+    ensures place { joined_place (parts_of C.list parts.new) (places_of C.place parts.new) result.0
+        ≡ joined_place (parts_of C.list parts.old) (places_of C.place parts.old) at + result.1 }
     ensures docs_room { length docs.new ≡ length docs.old }
     ensures freqs_room { length freqs.new ≡ length freqs.old }
-    ensures docs { AreNextBelow (docs_of (joined_list (parts_of C.list parts.old))) (joined_place (parts_of C.list parts.old) (places_of C.place parts.old) at) end docs.new result.1 }
-    ensures freqs { (j : ℕ) → j < result.1 → slice_index freqs.new j ≡ slice_index (freqs_of (joined_list (parts_of C.list parts.old))) (joined_place (parts_of C.list parts.old) (places_of C.place parts.old) at + j) }
+    ensures docs { AreNextBelow (docs_of (joined_list (parts_of C.list parts.old)))
+        (joined_place (parts_of C.list parts.old) (places_of C.place parts.old) at) end docs.new
+        result.1 }
+    ensures freqs { (j : ℕ) → j < result.1 → slice_index freqs.new j
+        ≡ slice_index (freqs_of (joined_list (parts_of C.list parts.old)))
+        (joined_place (parts_of C.list parts.old) (places_of C.place parts.old) at + j) }
 {
     let mut count = 0;
     for i in at..parts.len() {
@@ -137,7 +150,8 @@ pub(crate) fn greatest_of<C: DocCursor>(parts: &[(u32, C)]) -> u32
 // The greatest frequency of which a part tells that k of its postings reach it, 0 where none is told.
 pub(crate) fn common_of<C: DocCursor>(parts: &[(u32, C)], k: u32) -> u32
     requires some { 1 ≤ k }
-    ensures { result ≢ 0 → k ≤ count_by (λ f. nat_le result f) (freqs_of (joined_list (parts_of C.list parts.now))) }
+    ensures { result ≢ 0 → k ≤ count_by (λ f. nat_le result f)
+        (freqs_of (joined_list (parts_of C.list parts.now))) }
 {
     let mut most = 0;
     for part in parts {

@@ -42,9 +42,13 @@ pub fn check_words(
     requires words { length words.now < 2 ^ 57 }
     requires bound { bound ≤ (numbers_of format).most_sum }
     ensures ok { IfOk result (λ found. PassChecks (numbers_of format) words.now parts m bound) }
-    ensures used { IfOk result (λ found. found.used ≡ word_behind (numbers_of format) words.now parts) }
-    ensures step { IfOk result (λ found. with_steps ≡ true → found.greatest ≡ greatest (steps_from 0 (sequence_stated (numbers_of format) words.now parts).values)) }
-    ensures first { IfErr result (λ f. IsSequenceFault (numbers_of format) words.now parts m bound f.check f.part) }
+    ensures used { IfOk result (λ found. found.used
+        ≡ word_behind (numbers_of format) words.now parts) }
+    ensures step { IfOk result (λ found. with_steps ≡ true
+        → found.greatest ≡ greatest (steps_from 0
+        (sequence_stated (numbers_of format) words.now parts).values)) }
+    ensures first { IfErr result (λ f. IsSequenceFault (numbers_of format) words.now parts m bound
+        f.check f.part) }
 {
     let directory = directory_words(parts, format);
     if !parts_fit(m, parts) || (words.len() as u64) < directory {
@@ -88,7 +92,8 @@ struct Passed {
 impl Passed {
     // Whether an entry may follow it, where there are m values below the bound; the last entry has them all.
     fn may_follow(&self, entry: Entry, m: u32, bound: u64, is_last: bool) -> bool
-        ensures { result ≡ may_follow m bound self.now.values self.now.past self.now.bits is_last entry.end entry.last entry.offset }
+        ensures { result ≡ may_follow m bound self.now.values self.now.past self.now.bits is_last
+            entry.end entry.last entry.offset }
     {
         self.values < entry.end
             && entry.end <= m as u64
@@ -110,13 +115,16 @@ fn check_directory(
 ) -> Result<u64, SeqFault>
     requires bound { bound ≤ (numbers_of format).most_sum }
     requires room { entry_words (numbers_of format) * parts ≤ length words.now }
-    ensures entries { IfOk result (λ bits. (q : ℕ) → q < parts → entry_breaks (numbers_of format) words.now parts m bound q ≡ false) }
+    ensures entries { IfOk result (λ bits. (q : ℕ) → q < parts
+        → entry_breaks (numbers_of format) words.now parts m bound q ≡ false) }
     ensures bits { IfOk result (λ bits. bits ≡ payload_before (numbers_of format) words.now parts) }
     ensures few { IfOk result (λ bits. bits ≤ 2 * (numbers_of format).most_sum) }
     ensures check { IfErr result (λ f. f.check ≡ Check.K7) }
     ensures part { IfErr result (λ f. f.part < parts) }
-    ensures breaks { IfErr result (λ f. entry_breaks (numbers_of format) words.now parts m bound f.part ≡ true) }
-    ensures first { IfErr result (λ f. (q : ℕ) → q < f.part → entry_breaks (numbers_of format) words.now parts m bound q ≡ false) }
+    ensures breaks { IfErr result (λ f. entry_breaks (numbers_of format) words.now parts m bound
+        f.part ≡ true) }
+    ensures first { IfErr result (λ f. (q : ℕ) → q < f.part
+        → entry_breaks (numbers_of format) words.now parts m bound q ≡ false) }
 {
     formats_have_room();
     let mut passed = Passed {
@@ -144,8 +152,12 @@ fn check_directory(
 
 // The greatest step of a part's numbers, where it is asked for; None where its bits are those of none.
 fn check_step(part: PlacedPart<'_>, with_steps: bool) -> Option<u64>
-    ensures some { IfSome result (λ step. (ys : List ℕ) × HoldsPart part_bits (bits_of part.entry.bits.words.now) part.entry.place part.entry.u part.entry.m ys × (with_steps ≡ true → step ≡ greatest (steps_from 0 ys))) }
-    ensures none { IfNone result ((ys : List ℕ) → ¬ HoldsPart part_bits (bits_of part.entry.bits.words.now) part.entry.place part.entry.u part.entry.m ys) }
+    ensures some { IfSome result (λ step. (ys : List ℕ)
+        × HoldsPart part_bits (bits_of part.entry.bits.words.now) part.entry.place part.entry.u
+        part.entry.m ys × (with_steps ≡ true → step ≡ greatest (steps_from 0 ys))) }
+    ensures none { IfNone result ((ys : List ℕ)
+        → ¬ HoldsPart part_bits (bits_of part.entry.bits.words.now) part.entry.place part.entry.u
+        part.entry.m ys) }
 {
     if with_steps {
         check_part_steps(part)
@@ -160,14 +172,20 @@ fn check_step(part: PlacedPart<'_>, with_steps: bool) -> Option<u64>
 fn check_parts(words: &[u64], parts: u32, format: Format, with_steps: bool) -> Result<u64, SeqFault>
     requires words { length words.now < 2 ^ 57 }
     requires room { entry_words (numbers_of format) * parts ≤ length words.now }
-    requires entries { (m bound : ℕ) × (bound ≤ (numbers_of format).most_sum) × ((q : ℕ) → q < parts → entry_breaks (numbers_of format) words.now parts m bound q ≡ false) }
+    requires entries { (m bound : ℕ) × (bound ≤ (numbers_of format).most_sum)
+        × ((q : ℕ) → q < parts → entry_breaks (numbers_of format) words.now parts m bound q
+        ≡ false) }
     requires within { word_behind (numbers_of format) words.now parts ≤ length words.now }
-    ensures ok { OnOk result ((q : ℕ) → q < parts → IsPartStored (numbers_of format) words.now parts q) }
-    ensures step { IfOk result (λ most. with_steps ≡ true → most ≡ greatest (steps_from 0 (sequence_stated (numbers_of format) words.now parts).values)) }
+    ensures ok { OnOk result ((q : ℕ) → q < parts
+        → IsPartStored (numbers_of format) words.now parts q) }
+    ensures step { IfOk result (λ most. with_steps ≡ true
+        → most ≡ greatest (steps_from 0 (sequence_stated (numbers_of format) words.now
+        parts).values)) }
     ensures check { IfErr result (λ f. f.check ≡ Check.K8) }
     ensures part { IfErr result (λ f. f.part < parts) }
     ensures breaks { IfErr result (λ f. ¬ IsPartStored (numbers_of format) words.now parts f.part) }
-    ensures first { IfErr result (λ f. (q : ℕ) → q < f.part → IsPartStored (numbers_of format) words.now parts q) }
+    ensures first { IfErr result (λ f. (q : ℕ) → q < f.part
+        → IsPartStored (numbers_of format) words.now parts q) }
 {
     formats_have_room();
     one_list_at_place();
@@ -201,10 +219,14 @@ fn check_padding(words: &[u64], parts: u32, bits: u64, format: Format) -> Result
     requires words { length words.now < 2 ^ 57 }
     requires bits { bits ≡ payload_before (numbers_of format) words.now parts }
     requires within { word_behind (numbers_of format) words.now parts ≤ length words.now }
-    ensures ok { OnOk result (HasNoOne (bits_of words.now) (first_bit (numbers_of format) parts + payload_before (numbers_of format) words.now parts) (64 * word_behind (numbers_of format) words.now parts)) }
+    ensures ok { OnOk result (HasNoOne (bits_of words.now)
+        (first_bit (numbers_of format) parts + payload_before (numbers_of format) words.now parts)
+        (64 * word_behind (numbers_of format) words.now parts)) }
     ensures check { IfErr result (λ f. f.check ≡ Check.K9) }
     ensures part { IfErr result (λ f. f.part ≡ 0) }
-    ensures breaks { IfErr result (λ f. ¬ HasNoOne (bits_of words.now) (first_bit (numbers_of format) parts + payload_before (numbers_of format) words.now parts) (64 * word_behind (numbers_of format) words.now parts)) }
+    ensures breaks { IfErr result (λ f. ¬ HasNoOne (bits_of words.now)
+        (first_bit (numbers_of format) parts + payload_before (numbers_of format) words.now parts)
+        (64 * word_behind (numbers_of format) words.now parts)) }
 {
     let from = directory_bits(parts, format) + bits;
     let end = from.div_ceil(64) * 64;

@@ -38,7 +38,8 @@ pub fn directory_bits(parts: u32, format: Format) -> u64
 
 /// The entry of a part.
 pub fn entry_at(words: &[u64], part: u32, format: Format) -> Entry
-    requires within { entry_words (numbers_of format) * part + entry_words (numbers_of format) ≤ length words.now }
+    requires within { entry_words (numbers_of format) * part + entry_words (numbers_of format)
+        ≤ length words.now }
     ensures last { result.last ≡ stated_last (numbers_of format) words.now part }
     ensures end { result.end ≡ stated_end (numbers_of format) words.now part }
     ensures offset { result.offset ≡ stated_offset (numbers_of format) words.now part }
@@ -65,7 +66,8 @@ pub fn entry_at(words: &[u64], part: u32, format: Format) -> Entry
 
 // The bits of the first word of an entry that are those of its last value.
 fn last_bits(format: Format) -> u64
-    ensures { (words : List ℕ) (p : ℕ) → slice_index words p < 2 ^ 64 → bit_and (slice_index words p) result ≡ last_at (numbers_of format) words p }
+    ensures { (words : List ℕ) (p : ℕ) → slice_index words p < 2 ^ 64
+        → bit_and (slice_index words p) result ≡ last_at (numbers_of format) words p }
 {
     match format {
         Format::One => (1 << 36) - 1,
@@ -76,7 +78,8 @@ fn last_bits(format: Format) -> u64
 
 /// The last value of the entry of a part. It tests no format, so that a gallop tests it once.
 pub fn entry_last(words: &[u64], part: u32, format: Format) -> u64
-    requires within { entry_words (numbers_of format) * part + entry_words (numbers_of format) ≤ length words.now }
+    requires within { entry_words (numbers_of format) * part + entry_words (numbers_of format)
+        ≤ length words.now }
     ensures { result ≡ stated_last (numbers_of format) words.now part }
 {
     let at = directory_words(part, format) as usize;

@@ -31,7 +31,8 @@ pub fn write_seq(
     requires below { All (λ x. x < (numbers_of format).most_sum) values.now }
     requires few { length values.now ≤ (numbers_of format).most_documents }
     requires partition { IsPartition (length values.now) ends.now }
-    ensures ok { OnOk result (to.new.items ≡ to.old.items ++ sequence_words (numbers_of format) values.now ends.now) }
+    ensures ok { OnOk result (to.new.items ≡ to.old.items
+        ++ sequence_words (numbers_of format) values.now ends.now) }
     ensures err { OnErr result (to.new.items ≡ to.old.items) }
 {
     let first = to.len();
@@ -57,7 +58,8 @@ fn append_seq(
     requires below { All (λ x. x < (numbers_of format).most_sum) values.now }
     requires few { length values.now ≤ (numbers_of format).most_documents }
     requires partition { IsPartition (length values.now) ends.now }
-    ensures ok { OnOk result (to.new.items ≡ to.old.items ++ sequence_words (numbers_of format) values.now ends.now) }
+    ensures ok { OnOk result (to.new.items ≡ to.old.items
+        ++ sequence_words (numbers_of format) values.now ends.now) }
     ensures err { OnErr result (Extends to.old.items to.new.items) }
 {
     formats_have_room();
@@ -73,7 +75,8 @@ fn push_entry(words: &mut Vec<u64>, part: Entry, format: Format) -> Result<(), N
     requires last { part.last < (numbers_of format).most_sum }
     requires end { part.end ≤ (numbers_of format).most_documents }
     requires offset { part.offset < most_offset }
-    ensures ok { OnOk result (words.new.items ≡ words.old.items ++ entry (numbers_of format) part.last part.end part.offset) }
+    ensures ok { OnOk result (words.new.items
+        ≡ words.old.items ++ entry (numbers_of format) part.last part.end part.offset) }
     ensures err { OnErr result (Extends words.old.items words.new.items) }
 {
     match format {
@@ -144,7 +147,8 @@ fn push_directory(
     requires below { All (λ x. x < (numbers_of format).most_sum) values.now }
     requires few { length values.now ≤ (numbers_of format).most_documents }
     requires partition { IsPartition (length values.now) ends.now }
-    ensures ok { OnOk result (to.new.items ≡ to.old.items ++ directory_from (numbers_of format) values.now 0 0 ends.now) }
+    ensures ok { OnOk result (to.new.items ≡ to.old.items
+        ++ directory_from (numbers_of format) values.now 0 0 ends.now) }
     ensures err { OnErr result (Extends to.old.items to.new.items) }
 {
     formats_have_room();
@@ -181,7 +185,8 @@ fn push_payload(
     requires below { All (λ x. x < 2 ^ widest_low) values.now }
     requires partition { IsPartition (length values.now) ends.now }
     requires room { length to.old.items ≤ 2 ^ 56 }
-    ensures ok { OnOk result (to.new.items ≡ to.old.items ++ words_of (payload_from values.now 0 ends.now)) }
+    ensures ok { OnOk result (to.new.items ≡ to.old.items
+        ++ words_of (payload_from values.now 0 ends.now)) }
     ensures err { OnErr result (Extends to.old.items to.new.items) }
 {
     parts_are_short();
@@ -205,7 +210,8 @@ fn write_parts(
     requires partition { IsPartition (length values.now) ends.now }
     requires room { length bits.old + length (payload_from values.now 0 ends.now) < 2 ^ 63 }
     ensures ok { OnOk result (bits.new ≡ bits.old ++ payload_from values.now 0 ends.now) }
-    ensures err { OnErr result (AppendsBits bits.old bits.new (payload_from values.now 0 ends.now)) }
+    ensures err { OnErr result (AppendsBits bits.old bits.new
+        (payload_from values.now 0 ends.now)) }
 {
     part_is_relative();
     let mut part = Vec::new(alloc);

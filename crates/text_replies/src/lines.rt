@@ -23,7 +23,8 @@ pub(crate) fn answer_piece<L: TermLists, O: Sink>(
     piece: &[u8],
     out: &mut O,
 ) -> Result<(), IoFail>
-    ensures { (read : List ℕ) → (start : SinkState) → AnswersBytes (L.collection lists.now) read held.old.items start (O.state out.old) (Ok tt)
+    ensures { (read : List ℕ) → (start : SinkState)
+        → AnswersBytes (L.collection lists.now) read held.old.items start (O.state out.old) (Ok tt)
         → AnswersBytes (L.collection lists.now) (read ++ piece.now) held.new.items start (O.state out.new) result }
 {
     let mut rest = piece;
@@ -43,7 +44,8 @@ fn end_line<L: TermLists, O: Sink>(
     out: &mut O,
 ) -> Result<(), IoFail>
     requires { All (λ b. b ≢ newline) bytes.now }
-    ensures { (read : List ℕ) → (start : SinkState) → AnswersBytes (L.collection lists.now) read held.old.items start (O.state out.old) (Ok tt)
+    ensures { (read : List ℕ) → (start : SinkState)
+        → AnswersBytes (L.collection lists.now) read held.old.items start (O.state out.old) (Ok tt)
         → AnswersBytes (L.collection lists.now) (read ++ (bytes.now ++ newline ∷ [])) held.new.items start (O.state out.new) result }
 {
     hold(held, bytes)?;
@@ -59,7 +61,8 @@ pub(crate) fn answer_line<L: TermLists, O: Sink>(
     line: &[u8],
     out: &mut O,
 ) -> Result<(), IoFail>
-    ensures { AnswersLines (L.collection lists.now) (line.now ∷ []) (O.state out.old) (O.state out.new) result }
+    ensures { AnswersLines (L.collection lists.now) (line.now ∷ []) (O.state out.old)
+        (O.state out.new) result }
 {
     let reply = reply_to(alloc, lists, line).map_err(|_| IoFail::NoMemory)?;
     write_all_own(out, &reply)
@@ -67,7 +70,9 @@ pub(crate) fn answer_line<L: TermLists, O: Sink>(
 
 // Holds the next bytes of a line, as many as there is room for.
 fn hold(held: &mut Vec<u8>, bytes: &[u8]) -> Result<(), IoFail>
-    ensures { MatchResult result (λ _. held.new.items ≡ held.old.items ++ take (MOST_HELD - length held.old.items) bytes.now) (λ fail. fail ≡ IoFail.NoMemory) }
+    ensures { MatchResult result (λ _. held.new.items
+        ≡ held.old.items ++ take (MOST_HELD - length held.old.items) bytes.now)
+        (λ fail. fail ≡ IoFail.NoMemory) }
 {
     let room = MOST_HELD.saturating_sub(held.len());
     held.extend_from_slice(&bytes[..room.min(bytes.len())])

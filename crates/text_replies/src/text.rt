@@ -45,7 +45,8 @@ pub fn answer_text<I: Source, O: Sink>(
     limit: u64,
     out: &mut O,
 ) -> Result<(), RunFault>
-    ensures { AnswersText index.now.collection limit (I.state input.old) (I.state input.new) (O.state out.old) (O.state out.new) result }
+    ensures { AnswersText index.now.collection limit (I.state input.old) (I.state input.new)
+        (O.state out.old) (O.state out.new) result }
 {
     answer_from(alloc, &IndexLists::new(index, plan), input, limit, out)
 }
@@ -61,7 +62,8 @@ pub fn answer_by_blocks<'i, I: Source, O: Sink>(
     out: &mut O,
 ) -> Result<(), RunFault>
     requires { words_seen side ≡ side_words (blocks_of_index (index_seen blocks.now)) }
-    ensures { AnswersText (index_seen blocks.now).collection limit (I.state input.old) (I.state input.new) (O.state out.old) (O.state out.new) result }
+    ensures { AnswersText (index_seen blocks.now).collection limit (I.state input.old)
+        (I.state input.new) (O.state out.old) (O.state out.new) result }
 {
     answer_from(alloc, &SideLists::new(blocks, side), input, limit, out)
 }
@@ -77,7 +79,8 @@ pub fn answer_joined<I: Source, O: Sink>(
     out: &mut O,
 ) -> Result<(), RunFault>
     requires { CanBeJoined (map (λ file. file.items) files.now) }
-    ensures { AnswersText (joined (collections_of (map (λ file. file.items) files.now))) limit (I.state input.old) (I.state input.new) (O.state out.old) (O.state out.new) result }
+    ensures { AnswersText (joined (collections_of (map (λ file. file.items) files.now))) limit
+        (I.state input.old) (I.state input.new) (O.state out.old) (O.state out.new) result }
 {
     match JoinedLists::new(alloc, files, plan) {
         Ok(lists) => answer_from(alloc, &lists, input, limit, out),
@@ -93,7 +96,8 @@ fn answer_from<L: TermLists, I: Source, O: Sink>(
     limit: u64,
     out: &mut O,
 ) -> Result<(), RunFault>
-    ensures { AnswersText (L.collection lists.now) limit (I.state input.old) (I.state input.new) (O.state out.old) (O.state out.new) result }
+    ensures { AnswersText (L.collection lists.now) limit (I.state input.old) (I.state input.new)
+        (O.state out.old) (O.state out.new) result }
 {
     let last = answer_ended_lines(alloc, lists, input, limit, out)?;
     if last.is_empty() {
@@ -110,7 +114,8 @@ fn answer_ended_lines<L: TermLists, I: Source, O: Sink>(
     limit: u64,
     out: &mut O,
 ) -> Result<Vec<u8>, RunFault>
-    ensures { AnswersEnded (L.collection lists.now) limit (I.state input.old) (I.state input.new) (O.state out.old) (O.state out.new) result }
+    ensures { AnswersEnded (L.collection lists.now) limit (I.state input.old) (I.state input.new)
+        (O.state out.old) (O.state out.new) result }
 {
     let mut held = Vec::new(alloc);
     let mut piece = [0; PIECE];

@@ -23,9 +23,12 @@ pub(crate) fn next_of_one<C: DocCursor>(
     requires others { bounds (drop 1 terms.now) ≤ bar }
     requires passed { All (λ c. HasPassed from (C.list c) (C.place c)) cursors.old }
     ensures lists { map C.list cursors.new ≡ map C.list cursors.old }
-    ensures passed { IfSome result (λ doc. All (λ c. HasPassed doc (C.list c) (C.place c)) cursors.new) }
-    ensures before { (d : ℕ) → from ≤ d → IfSome result (λ doc. d < doc) → score_in (map C.list cursors.old) d terms.now ≤ bar }
-    ensures found { IfSome result (λ doc. (from ≤ doc) × (in_lists (map C.list cursors.old) doc (take 1 terms.now) ≡ true)) }
+    ensures passed { IfSome result (λ doc. All (λ c. HasPassed doc (C.list c) (C.place c))
+        cursors.new) }
+    ensures before { (d : ℕ) → from ≤ d → IfSome result (λ doc. d < doc)
+        → score_in (map C.list cursors.old) d terms.now ≤ bar }
+    ensures found { IfSome result (λ doc. (from ≤ doc)
+        × (in_lists (map C.list cursors.old) doc (take 1 terms.now) ≡ true)) }
 {
     let one = terms[0];
     let freq = least_freq(one.weight, total_bound(&terms[1..]), bar);
@@ -51,8 +54,10 @@ fn frequent_doc<C: DocCursor>(cursor: &mut C, from: u32, freq: u32) -> Option<u3
     requires some { 1 ≤ freq }
     ensures list { C.list cursor.new ≡ C.list cursor.old }
     ensures passed { IfSome result (λ doc. HasPassed doc (C.list cursor.new) (C.place cursor.new)) }
-    ensures before { (d : ℕ) → from ≤ d → IfSome result (λ doc. d < doc) → freq_of_doc d (C.list cursor.old) < freq }
-    ensures found { IfSome result (λ doc. (from ≤ doc) × (freq ≤ freq_of_doc doc (C.list cursor.old))) }
+    ensures before { (d : ℕ) → from ≤ d → IfSome result (λ doc. d < doc)
+        → freq_of_doc d (C.list cursor.old) < freq }
+    ensures found { IfSome result (λ doc. (from ≤ doc)
+        × (freq ≤ freq_of_doc doc (C.list cursor.old))) }
 {
     cursors_tell();
     cursors_stand();

@@ -47,7 +47,8 @@ pub(crate) fn score_window<C: DocCursor>(
     ensures k { top.new.k ≡ top.old.k }
     ensures n { top.new.n ≡ top.old.n }
     ensures floor { top.new.floor ≡ top.old.floor }
-    ensures held { FollowsTo (map C.list cursors.old) terms.now top.old.floor top.old.k first (first + count) top.old.held top.new.held }
+    ensures held { FollowsTo (map C.list cursors.old) terms.now top.old.floor top.old.k first
+        (first + count) top.old.held top.new.held }
 {
     let window = &mut scores[..count];
     let reached = add_terms(cursors, &terms[..essential], first, window, marks, block);
@@ -66,7 +67,8 @@ fn add_terms<C: DocCursor>(
     marks: &mut [u64],
     block: &mut Block,
 ) -> usize
-    requires terms { AreTermsIn (map C.list cursors.old) first (first + length scores.old) terms.now }
+    requires terms { AreTermsIn (map C.list cursors.old) first (first + length scores.old)
+        terms.now }
     requires apart { AreApart terms.now }
     requires small { All (λ t. t.weight < 2 ^ 26) terms.now }
     requires passed { All (λ c. HasPassed first (C.list c) (C.place c)) cursors.old }
@@ -74,14 +76,18 @@ fn add_terms<C: DocCursor>(
     requires clear { All (λ s. s ≡ 0) scores.old }
     requires none { (k : ℕ) → k < 64 * length marks.old → is_marked marks.old k ≡ false }
     ensures lists { map C.list cursors.new ≡ map C.list cursors.old }
-    ensures passed { All (λ c. HasPassed (first + length scores.old) (C.list c) (C.place c)) cursors.new }
+    ensures passed { All (λ c. HasPassed (first + length scores.old) (C.list c) (C.place c))
+        cursors.new }
     ensures kept { AreKept terms.now cursors.old cursors.new }
     ensures count { length scores.new ≡ length scores.old }
     ensures marks_count { length marks.new ≡ length marks.old }
-    ensures scores { (k : ℕ) → k < length scores.old → slice_index scores.new k ≡ score_in (map C.list cursors.old) (first + k) terms.now }
-    ensures marks { (k : ℕ) → k < length scores.old → is_marked marks.new k ≡ in_lists (map C.list cursors.old) (first + k) terms.now }
+    ensures scores { (k : ℕ) → k < length scores.old
+        → slice_index scores.new k ≡ score_in (map C.list cursors.old) (first + k) terms.now }
+    ensures marks { (k : ℕ) → k < length scores.old
+        → is_marked marks.new k ≡ in_lists (map C.list cursors.old) (first + k) terms.now }
     ensures within { result ≤ length scores.old }
-    ensures behind { (k : ℕ) → result ≤ k → k < 64 * length marks.old → is_marked marks.new k ≡ false }
+    ensures behind { (k : ℕ) → result ≤ k → k < 64 * length marks.old
+        → is_marked marks.new k ≡ false }
 {
     let mut reached = 0;
     for term in terms {
@@ -111,11 +117,16 @@ fn add_term<C: DocCursor>(
     requires wide { length scores.old ≤ 64 * length marks.old }
     requires room { All (λ s. s + weight * 4294967295 < 2 ^ 64) scores.old }
     ensures list { C.list cursor.new ≡ C.list cursor.old }
-    ensures stand { StandsFrom (first + length scores.old) (C.list cursor.new) (C.place cursor.new) }
+    ensures stand { StandsFrom (first + length scores.old) (C.list cursor.new)
+        (C.place cursor.new) }
     ensures count { length scores.new ≡ length scores.old }
     ensures marks_count { length marks.new ≡ length marks.old }
-    ensures scores { (k : ℕ) → k < length scores.old → slice_index scores.new k ≡ slice_index scores.old k + weight * freq_of_doc (first + k) (C.list cursor.old) }
-    ensures marks { (k : ℕ) → k < length scores.old → is_marked marks.new k ≡ (is_marked marks.old k || has_doc (first + k) (C.list cursor.old)) }
+    ensures scores { (k : ℕ) → k < length scores.old
+        → slice_index scores.new k ≡ slice_index scores.old k
+        + weight * freq_of_doc (first + k) (C.list cursor.old) }
+    ensures marks { (k : ℕ) → k < length scores.old
+        → is_marked marks.new k ≡ (is_marked marks.old k || has_doc (first + k)
+        (C.list cursor.old)) }
     ensures within { result ≤ length scores.old }
     ensures behind { (k : ℕ) → result ≤ k → is_marked marks.new k ≡ is_marked marks.old k }
 {
@@ -135,21 +146,29 @@ fn offer_candidates<C: DocCursor>(
     marks: &mut [u64],
     top: &mut Shortlist,
 )
-    requires terms { AreTermsIn (map C.list cursors.old) first (first + length scores.old) terms.now }
+    requires terms { AreTermsIn (map C.list cursors.old) first (first + length scores.old)
+        terms.now }
     requires before { AreBefore C.list C.place first (drop essential terms.now) cursors.old }
-    requires passed { All (λ c. HasPassed (first + length scores.old) (C.list c) (C.place c)) cursors.old }
+    requires passed { All (λ c. HasPassed (first + length scores.old) (C.list c) (C.place c))
+        cursors.old }
     requires wide { length scores.old ≤ 64 * length marks.old }
-    requires scores { (k : ℕ) → k < length scores.old → slice_index scores.old k ≡ score_in (map C.list cursors.old) (first + k) (take essential terms.now) }
-    requires marks { (k : ℕ) → k < length scores.old → is_marked marks.old k ≡ in_lists (map C.list cursors.old) (first + k) (take essential terms.now) }
+    requires scores { (k : ℕ) → k < length scores.old
+        → slice_index scores.old k ≡ score_in (map C.list cursors.old) (first + k)
+        (take essential terms.now) }
+    requires marks { (k : ℕ) → k < length scores.old
+        → is_marked marks.old k ≡ in_lists (map C.list cursors.old) (first + k)
+        (take essential terms.now) }
     requires within { reached ≤ length scores.old }
-    requires behind { (k : ℕ) → reached ≤ k → k < 64 * length marks.old → is_marked marks.old k ≡ false }
+    requires behind { (k : ℕ) → reached ≤ k → k < 64 * length marks.old
+        → is_marked marks.old k ≡ false }
     requires below { AreBelow top.old.n (map C.list cursors.old) }
     requires narrow { top.old.n < 2 ^ 32 }
     requires in_range { first ≤ top.old.n }
     requires above { All (λ e. e.0 < first) top.old.held }
     requires essential { AreSpared top.old.floor top.old.k top.old.held terms.now essential }
     ensures lists { map C.list cursors.new ≡ map C.list cursors.old }
-    ensures passed { All (λ c. HasPassed (first + length scores.old) (C.list c) (C.place c)) cursors.new }
+    ensures passed { All (λ c. HasPassed (first + length scores.old) (C.list c) (C.place c))
+        cursors.new }
     ensures count { length scores.new ≡ length scores.old }
     ensures marks_count { length marks.new ≡ length marks.old }
     ensures clear { All (λ s. s ≡ 0) scores.new }
@@ -157,7 +176,8 @@ fn offer_candidates<C: DocCursor>(
     ensures k { top.new.k ≡ top.old.k }
     ensures n { top.new.n ≡ top.old.n }
     ensures floor { top.new.floor ≡ top.old.floor }
-    ensures held { FollowsTo (map C.list cursors.old) terms.now top.old.floor top.old.k first (min (first + length scores.old) top.old.n) top.old.held top.new.held }
+    ensures held { FollowsTo (map C.list cursors.old) terms.now top.old.floor top.old.k first
+        (min (first + length scores.old) top.old.n) top.old.held top.new.held }
 {
     top_list_grows();
     let others = &terms[essential..];
@@ -204,12 +224,15 @@ fn consider<C: DocCursor>(
     requires above { All (λ e. e.0 < doc) top.old.held }
     ensures lists { map C.list cursors.new ≡ map C.list cursors.old }
     ensures before { AreBefore C.list C.place doc others.now cursors.new }
-    ensures passed { (e : ℕ) → doc ≤ e → All (λ c. HasPassed e (C.list c) (C.place c)) cursors.old → All (λ c. HasPassed e (C.list c) (C.place c)) cursors.new }
+    ensures passed { (e : ℕ) → doc ≤ e → All (λ c. HasPassed e (C.list c) (C.place c)) cursors.old
+        → All (λ c. HasPassed e (C.list c) (C.place c)) cursors.new }
     ensures k { top.new.k ≡ top.old.k }
     ensures n { top.new.n ≡ top.old.n }
     ensures floor { top.new.floor ≡ top.old.floor }
-    ensures held { Considers top.old.floor top.old.k doc (known + score_in (map C.list cursors.old) doc others.now) top.old.held top.new.held }
-    ensures kept { (s : ℕ) → IsBarred top.old.floor top.old.k top.old.held s → IsBarred top.old.floor top.old.k top.new.held s }
+    ensures held { Considers top.old.floor top.old.k doc
+        (known + score_in (map C.list cursors.old) doc others.now) top.old.held top.new.held }
+    ensures kept { (s : ℕ) → IsBarred top.old.floor top.old.k top.old.held s
+        → IsBarred top.old.floor top.old.k top.new.held s }
 {
     if let Some(score) = score_above(cursors, others, left, doc, known, top.bar()) {
         top.offer(doc, score);
@@ -232,10 +255,13 @@ fn score_above<C: DocCursor>(
     requires before { AreBefore C.list C.place doc others.now cursors.old }
     ensures lists { map C.list cursors.new ≡ map C.list cursors.old }
     ensures before { AreBefore C.list C.place doc others.now cursors.new }
-    ensures passed { (e : ℕ) → doc ≤ e → All (λ c. HasPassed e (C.list c) (C.place c)) cursors.old → All (λ c. HasPassed e (C.list c) (C.place c)) cursors.new }
-    ensures value { IfSome result (λ score. score ≡ known + score_in (map C.list cursors.old) doc others.now) }
+    ensures passed { (e : ℕ) → doc ≤ e → All (λ c. HasPassed e (C.list c) (C.place c)) cursors.old
+        → All (λ c. HasPassed e (C.list c) (C.place c)) cursors.new }
+    ensures value { IfSome result (λ score. score
+        ≡ known + score_in (map C.list cursors.old) doc others.now) }
     ensures above { IfSome result (λ score. beats bar score ≡ true) }
-    ensures dropped { IfNone result (beats bar (known + score_in (map C.list cursors.old) doc others.now) ≡ false) }
+    ensures dropped { IfNone result (beats bar
+        (known + score_in (map C.list cursors.old) doc others.now) ≡ false) }
 {
     let mut score = known;
     let mut left = bound;

@@ -10,7 +10,8 @@ pub trait Ceilings<C: DocCursor> {
     /// A document at or after `doc`, and a frequency: no document from `doc` up to that one has more in the list.
     fn ceiling(&self, cursor: &C, doc: u32) -> (u32, u32)
         ensures reach { doc ≤ result.0 }
-        ensures most { (d : ℕ) → doc ≤ d → d ≤ result.0 → freq_of_doc d (C.list cursor.now) ≤ result.1 };
+        ensures most { (d : ℕ) → doc ≤ d → d ≤ result.0
+            → freq_of_doc d (C.list cursor.now) ≤ result.1 };
 }
 
 // The greatest frequency of the list, up to its end.

@@ -54,7 +54,8 @@ pub(crate) fn with_short_lists<C: DocCursor>(
     requires within { All (λ t. t.list < length cursors.now) terms.old }
     requires few { essential ≤ length terms.old }
     ensures moved { IsPermutation terms.old terms.new }
-    ensures spared { (floor k : ℕ) (held : List (ℕ × ℕ)) → AreSpared floor k held terms.old essential → AreSpared floor k held terms.new result }
+    ensures spared { (floor k : ℕ) (held : List (ℕ × ℕ))
+        → AreSpared floor k held terms.old essential → AreSpared floor k held terms.new result }
 {
     let long = postings_in(cursors, &terms[..essential]);
     let mut count = essential;

@@ -15,7 +15,9 @@ const MANY_POSTINGS: u32 = 2_048;
 pub(crate) fn common_score<C: DocCursor>(cursors: &[C], terms: &[Term], k: u32) -> u64
     requires within { All (λ t. t.list < length cursors.now) terms.now }
     requires some { 1 ≤ k }
-    ensures { (n : ℕ) (weights : List ℕ) → AreBelow n (map C.list cursors.now) → AreAllTerms (map C.list cursors.now) weights terms.now → (result ≡ 0) ⊎ (k ≤ length (in_any_from result n (map C.list cursors.now) weights)) }
+    ensures { (n : ℕ) (weights : List ℕ) → AreBelow n (map C.list cursors.now)
+        → AreAllTerms (map C.list cursors.now) weights terms.now
+        → (result ≡ 0) ⊎ (k ≤ length (in_any_from result n (map C.list cursors.now) weights)) }
 {
     frequent_postings_score();
     let Some(first) = terms.first() else {

@@ -86,8 +86,10 @@ fn next_candidate<C: DocCursor>(
     requires weighty { All (λ t. 1 ≤ t.weight) terms.now }
     requires passed { All (λ c. HasPassed from (C.list c) (C.place c)) cursors.old }
     ensures lists { map C.list cursors.new ≡ map C.list cursors.old }
-    ensures passed { IfSome result (λ doc. All (λ c. HasPassed doc (C.list c) (C.place c)) cursors.new) }
-    ensures next { IsNextDoc (map C.list cursors.old) terms.now top.now.floor top.now.k top.now.held from result }
+    ensures passed { IfSome result (λ doc. All (λ c. HasPassed doc (C.list c) (C.place c))
+        cursors.new) }
+    ensures next { IsNextDoc (map C.list cursors.old) terms.now top.now.floor top.now.k top.now.held
+        from result }
 {
     let essential = essential_now(terms, top);
     if essential == 1 {

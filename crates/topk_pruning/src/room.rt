@@ -93,7 +93,8 @@ pub(crate) fn score_from<C: DocCursor, B: Ceilings<C>>(
     ensures floor { top.new.floor ≡ top.old.floor }
     ensures later { first < result }
     ensures in_range { result ≤ n }
-    ensures held { FollowsTo (map C.list cursors.old) terms.now top.old.floor top.old.k first result top.old.held top.new.held }
+    ensures held { FollowsTo (map C.list cursors.old) terms.now top.old.floor top.old.k first result
+        top.old.held top.new.held }
 {
     let reach = bound_terms(
         cursors,
@@ -133,7 +134,8 @@ fn score_up_to<C: DocCursor>(
     ensures floor { top.new.floor ≡ top.old.floor }
     ensures later { first < result }
     ensures in_range { result ≤ reach }
-    ensures held { FollowsTo (map C.list cursors.old) room.old.terms.items top.old.floor top.old.k first result top.old.held top.new.held }
+    ensures held { FollowsTo (map C.list cursors.old) room.old.terms.items top.old.floor top.old.k
+        first result top.old.held top.new.held }
 {
     top_list_grows();
     let width = room.width;

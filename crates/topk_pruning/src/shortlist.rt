@@ -36,7 +36,8 @@ impl Shortlist {
 
     // The score that a later document must beat to be held, None where any score is held.
     pub(crate) fn bar(&self) -> Option<u64>
-        ensures { (score : ℕ) → (beats result score ≡ false) ↔ IsBarred self.now.floor self.now.k self.now.held score }
+        ensures { (score : ℕ) → (beats result score ≡ false)
+            ↔ IsBarred self.now.floor self.now.k self.now.held score }
     {
         bar_of(self.top.threshold(), self.floor)
     }

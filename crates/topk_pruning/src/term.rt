@@ -25,7 +25,8 @@ pub(crate) fn terms_by_bound<C: DocCursor>(
 ) -> Result<Vec<Term>, NoMemory>
     requires each { length weights.now ≡ length cursors.now }
     requires light { sum weights.now < 2 ^ 26 }
-    ensures all { IfOk result (λ terms. IsPermutation (terms_of (map C.list cursors.now) weights.now) terms.items) }
+    ensures all { IfOk result (λ terms. IsPermutation
+        (terms_of (map C.list cursors.now) weights.now) terms.items) }
     ensures light { IfOk result (λ terms. bounds terms.items < 2 ^ 58) }
 {
     let mut terms = terms_in_order(alloc, cursors, weights)?;
@@ -41,7 +42,8 @@ fn terms_in_order<C: DocCursor>(
 ) -> Result<Vec<Term>, NoMemory>
     requires each { length weights.now ≡ length cursors.now }
     requires light { sum weights.now < 2 ^ 26 }
-    ensures all { IfOk result (λ terms. terms.items ≡ terms_of (map C.list cursors.now) weights.now) }
+    ensures all { IfOk result (λ terms. terms.items
+        ≡ terms_of (map C.list cursors.now) weights.now) }
     ensures light { IfOk result (λ terms. bounds terms.items < 2 ^ 58) }
 {
     let mut terms = Vec::new(alloc);

@@ -99,7 +99,8 @@ impl<'a> SeqCursor<'a> {
 
     /// The value at the place, None at the end. The place is not counted.
     pub fn current(&self) -> Option<u64>
-        ensures some { IfSome result (λ value. (self.now.place < length self.now.sequence.values) × (value ≡ slice_index self.now.sequence.values self.now.place)) }
+        ensures some { IfSome result (λ value. (self.now.place < length self.now.sequence.values)
+            × (value ≡ slice_index self.now.sequence.values self.now.place)) }
         ensures none { IfNone result (self.now.place ≡ length self.now.sequence.values) }
     {
         match &self.held {
@@ -171,7 +172,8 @@ impl<'a> SeqCursor<'a> {
         ensures room { length to.new ≡ length to.old }
         ensures some { 0 < result }
         ensures within { self.old.place + result ≤ length self.old.sequence.values }
-        ensures values { AreNextBelow (take (self.old.place + result) self.old.sequence.values) self.old.place x to.new result }
+        ensures values { AreNextBelow (take (self.old.place + result) self.old.sequence.values)
+            self.old.place x to.new result }
     {
         let place = self.place();
         let value = self.value;

@@ -19,7 +19,8 @@ const MOST_KEPT: usize = 64;
 fn place_of_least(numbers: &[u64]) -> usize
     requires some { 0 < length numbers.now }
     ensures within { result < length numbers.now }
-    ensures least { (k : ℕ) → k < length numbers.now → slice_index numbers.now result ≤ slice_index numbers.now k }
+    ensures least { (k : ℕ) → k < length numbers.now
+        → slice_index numbers.now result ≤ slice_index numbers.now k }
 {
     let mut least = 0;
     for place in 1..numbers.len() {
@@ -36,7 +37,8 @@ fn keep_steps(values: &[u64], first: u64, kept: &mut [u64])
     requires small { (k : ℕ) → k < length values.now → slice_index values.now k < 2 ^ widest_low }
     requires some { 0 < length kept.old }
     ensures room { length kept.new ≡ length kept.old }
-    ensures kept { (least : ℕ) → count_reaching least kept.new ≤ count_reaching least kept.old + count_reaching least (steps_from first values.now) }
+    ensures kept { (least : ℕ) → count_reaching least kept.new
+        ≤ count_reaching least kept.old + count_reaching least (steps_from first values.now) }
 {
     let mut past = first;
     let mut least = place_of_least(kept);
@@ -66,8 +68,11 @@ fn keep_block(
     requires within { place + length block.old ≤ held.now.part.to }
     requires any { 0 < length kept.old }
     ensures same_kept { length kept.new ≡ length kept.old }
-    ensures kept { (xs : List ℕ) → HoldsValues held.now xs → before ≡ past xs place → (least : ℕ) → count_reaching least kept.new ≤ count_reaching least kept.old + count_reaching least (slice_range (steps_from 0 xs) place (place + length block.old)) }
-    ensures last { (xs : List ℕ) → HoldsValues held.now xs → result + 1 ≡ past xs (place + length block.old) }
+    ensures kept { (xs : List ℕ) → HoldsValues held.now xs → before ≡ past xs place → (least : ℕ)
+        → count_reaching least kept.new ≤ count_reaching least kept.old
+        + count_reaching least (slice_range (steps_from 0 xs) place (place + length block.old)) }
+    ensures last { (xs : List ℕ) → HoldsValues held.now xs
+        → result + 1 ≡ past xs (place + length block.old) }
     ensures fits { result < 2 ^ widest_low }
     ensures room { length block.new ≡ length block.old }
 {
@@ -82,7 +87,9 @@ fn keep_part(held: &HeldPart, kept: &mut [u64])
     requires some { held.now.part.from < held.now.part.to }
     requires any { 0 < length kept.old }
     ensures same_kept { length kept.new ≡ length kept.old }
-    ensures kept { (xs : List ℕ) → HoldsValues held.now xs → IsStrictlyIncreasing xs → (least : ℕ) → count_reaching least kept.new ≤ count_reaching least kept.old + count_reaching least (slice_range (steps_from 0 xs) held.now.part.from held.now.part.to) }
+    ensures kept { (xs : List ℕ) → HoldsValues held.now xs → IsStrictlyIncreasing xs → (least : ℕ)
+        → count_reaching least kept.new ≤ count_reaching least kept.old
+        + count_reaching least (slice_range (steps_from 0 xs) held.now.part.from held.now.part.to) }
 {
     let to = held.part.to;
     let mut block = [0; BLOCK];
@@ -114,7 +121,9 @@ fn keep_long_parts(directory: &Directory<'_>, kept: &mut [u64])
     requires some { 0 < directory.now.parts }
     requires any { 0 < length kept.old }
     ensures same_kept { length kept.new ≡ length kept.old }
-    ensures kept { (least : ℕ) → count_reaching least kept.new ≤ count_reaching least kept.old + count_reaching least (steps_from 0 (sequence_of directory.now).values) }
+    ensures kept { (least : ℕ) → count_reaching least kept.new
+        ≤ count_reaching least kept.old + count_reaching least
+        (steps_from 0 (sequence_of directory.now).values) }
 {
     formats_have_room();
     let universe = directory.entry(directory.parts - 1).last + 1;
@@ -129,7 +138,8 @@ fn keep_long_parts(directory: &Directory<'_>, kept: &mut [u64])
 // A step that at least k of the steps of the sequence reach, 0 where none is told.
 pub(crate) fn common_step_of(directory: &Directory<'_>, k: u32) -> u64
     requires some { 1 ≤ k }
-    ensures { result ≢ 0 → k ≤ count_reaching result (steps_from 0 (sequence_of directory.now).values) }
+    ensures { result ≢ 0 → k ≤ count_reaching result
+        (steps_from 0 (sequence_of directory.now).values) }
 {
     let count = k as usize;
     if directory.parts == 0 || MOST_KEPT < count {

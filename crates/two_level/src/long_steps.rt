@@ -45,9 +45,11 @@ fn first_in_block(
     requires after { held.now.part.from ≤ place }
     requires some { 0 < length block.old }
     requires within { place + length block.old ≤ held.now.part.to }
-    ensures first { (xs : List ℕ) → HoldsValues held.now xs → before ≡ past xs place → IsFirstStep xs place (place + length block.old) least (place + result.0) }
+    ensures first { (xs : List ℕ) → HoldsValues held.now xs → before ≡ past xs place
+        → IsFirstStep xs place (place + length block.old) least (place + result.0) }
     ensures count { result.0 ≤ length block.old }
-    ensures last { (xs : List ℕ) → HoldsValues held.now xs → result.1 + 1 ≡ past xs (place + length block.old) }
+    ensures last { (xs : List ℕ) → HoldsValues held.now xs
+        → result.1 + 1 ≡ past xs (place + length block.old) }
     ensures fits { result.1 < 2 ^ widest_low }
     ensures room { length block.new ≡ length block.old }
 {
@@ -60,7 +62,8 @@ fn first_in_values(held: &HeldPart, from: u32, least: u64) -> u32
     requires values { (xs : List ℕ) × HoldsValues held.now xs × IsStrictlyIncreasing xs }
     requires after { held.now.part.from ≤ from }
     requires some { from < held.now.part.to }
-    ensures { (xs : List ℕ) → HoldsValues held.now xs → IsStrictlyIncreasing xs → IsFirstStep xs from held.now.part.to least result }
+    ensures { (xs : List ℕ) → HoldsValues held.now xs → IsStrictlyIncreasing xs
+        → IsFirstStep xs from held.now.part.to least result }
 {
     let to = held.part.to;
     let mut block = [0; BLOCK];
@@ -86,9 +89,12 @@ fn first_in_values(held: &HeldPart, from: u32, least: u64) -> u32
 // numbers leave no room for such a step is not read, and the one step of one number is its universe.
 fn first_in_part(directory: &Directory<'_>, index: u32, part: Part, from: u32, least: u64) -> u32
     requires within { index < directory.now.parts }
-    requires starts { part.from ≡ end_before (numbers_of directory.now.format) (words_of directory.now) index }
-    requires ends { part.to ≡ stated_end (numbers_of directory.now.format) (words_of directory.now) index }
-    requires universe { part.u ≡ stated_universe (numbers_of directory.now.format) (words_of directory.now) index }
+    requires starts { part.from ≡ end_before (numbers_of directory.now.format)
+        (words_of directory.now) index }
+    requires ends { part.to ≡ stated_end (numbers_of directory.now.format) (words_of directory.now)
+        index }
+    requires universe { part.u ≡ stated_universe (numbers_of directory.now.format)
+        (words_of directory.now) index }
     requires after { part.from ≤ from }
     requires some { from < part.to }
     ensures { IsFirstStep (sequence_of directory.now).values from part.to least result }

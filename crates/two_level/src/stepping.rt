@@ -43,8 +43,10 @@ fn step_of_block(
     requires after { held.now.part.from ≤ place }
     requires some { 0 < length block.old }
     requires within { place + length block.old ≤ held.now.part.to }
-    ensures step { (xs : List ℕ) → HoldsValues held.now xs → before ≡ past xs place → result.0 ≡ greatest_step xs place (place + length block.old) }
-    ensures last { (xs : List ℕ) → HoldsValues held.now xs → result.1 + 1 ≡ past xs (place + length block.old) }
+    ensures step { (xs : List ℕ) → HoldsValues held.now xs → before ≡ past xs place
+        → result.0 ≡ greatest_step xs place (place + length block.old) }
+    ensures last { (xs : List ℕ) → HoldsValues held.now xs
+        → result.1 + 1 ≡ past xs (place + length block.old) }
     ensures small { result.1 < 2 ^ widest_low }
     ensures room { length block.new ≡ length block.old }
 {
@@ -58,7 +60,8 @@ fn step_of_values(held: &HeldPart, from: u32, to: u32) -> u64
     requires after { held.now.part.from ≤ from }
     requires some { from < to }
     requires within { to ≤ held.now.part.to }
-    ensures { (xs : List ℕ) → HoldsValues held.now xs → IsStrictlyIncreasing xs → result ≡ greatest_step xs from to }
+    ensures { (xs : List ℕ) → HoldsValues held.now xs → IsStrictlyIncreasing xs
+        → result ≡ greatest_step xs from to }
 {
     let mut block = [0; BLOCK];
     let mut past = held.past_before(from);
@@ -82,9 +85,12 @@ fn step_of_values(held: &HeldPart, from: u32, to: u32) -> u64
 // step is 1, and one number alone lies as far as the universe: such a part is not read.
 fn step_in_part(directory: &Directory<'_>, index: u32, part: Part, from: u32, to: u32) -> u64
     requires within { index < directory.now.parts }
-    requires starts { part.from ≡ end_before (numbers_of directory.now.format) (words_of directory.now) index }
-    requires ends { part.to ≡ stated_end (numbers_of directory.now.format) (words_of directory.now) index }
-    requires universe { part.u ≡ stated_universe (numbers_of directory.now.format) (words_of directory.now) index }
+    requires starts { part.from ≡ end_before (numbers_of directory.now.format)
+        (words_of directory.now) index }
+    requires ends { part.to ≡ stated_end (numbers_of directory.now.format) (words_of directory.now)
+        index }
+    requires universe { part.u ≡ stated_universe (numbers_of directory.now.format)
+        (words_of directory.now) index }
     requires after { part.from ≤ from }
     requires some { from < to }
     requires before { to ≤ part.to }

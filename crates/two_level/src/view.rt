@@ -72,11 +72,15 @@ impl<'a> SeqView<'a> {
         requires words { length words.now < 2 ^ 57 }
         requires bound { bound ≤ (numbers_of format).most_sum }
         ensures format { IfOk result (λ v. v.format ≡ numbers_of format) }
-        ensures ok { IfOk result (λ v. (used : ℕ) × BeginsSequence (numbers_of format) m bound parts v.values v.ends words.entry.now used) }
+        ensures ok { IfOk result (λ v. (used : ℕ)
+            × BeginsSequence (numbers_of format) m bound parts v.values v.ends words.entry.now
+            used) }
         ensures count { IfOk result (λ v. length v.values ≡ m) }
         ensures parts { IfOk result (λ v. length v.ends ≡ parts) }
-        ensures none { IfErr result (λ f. (xs ends : List ℕ) (used : ℕ) → ¬ BeginsSequence (numbers_of format) m bound parts xs ends words.entry.now used) }
-        ensures first { IfErr result (λ f. IsSequenceFault (numbers_of format) words.entry.now parts m bound f.check f.part) }
+        ensures none { IfErr result (λ f. (xs ends : List ℕ) (used : ℕ)
+            → ¬ BeginsSequence (numbers_of format) m bound parts xs ends words.entry.now used) }
+        ensures first { IfErr result (λ f. IsSequenceFault (numbers_of format) words.entry.now parts
+            m bound f.check f.part) }
     {
         match SeqView::check_counting(words, parts, m, bound, format) {
             Ok(checked) => Ok(checked.view),
@@ -95,12 +99,16 @@ impl<'a> SeqView<'a> {
         requires words { length words.now < 2 ^ 57 }
         requires bound { bound ≤ (numbers_of format).most_sum }
         ensures format { IfOk result (λ c. c.view.format ≡ numbers_of format) }
-        ensures ok { IfOk result (λ c. (used : ℕ) × BeginsSequence (numbers_of format) m bound parts c.view.values c.view.ends words.entry.now used) }
+        ensures ok { IfOk result (λ c. (used : ℕ)
+            × BeginsSequence (numbers_of format) m bound parts c.view.values c.view.ends
+            words.entry.now used) }
         ensures used { IfOk result (λ c. c.used ≡ words_used c.view) }
         ensures count { IfOk result (λ c. length c.view.values ≡ m) }
         ensures parts { IfOk result (λ c. length c.view.ends ≡ parts) }
-        ensures none { IfErr result (λ f. (xs ends : List ℕ) (used : ℕ) → ¬ BeginsSequence (numbers_of format) m bound parts xs ends words.entry.now used) }
-        ensures first { IfErr result (λ f. IsSequenceFault (numbers_of format) words.entry.now parts m bound f.check f.part) }
+        ensures none { IfErr result (λ f. (xs ends : List ℕ) (used : ℕ)
+            → ¬ BeginsSequence (numbers_of format) m bound parts xs ends words.entry.now used) }
+        ensures first { IfErr result (λ f. IsSequenceFault (numbers_of format) words.entry.now parts
+            m bound f.check f.part) }
     {
         match SeqView::check_sequence(words, parts, m, bound, format, false) {
             Ok(checked) => Ok(Checked {
@@ -123,13 +131,17 @@ impl<'a> SeqView<'a> {
         requires words { length words.now < 2 ^ 57 }
         requires bound { bound ≤ (numbers_of format).most_sum }
         ensures format { IfOk result (λ c. c.view.format ≡ numbers_of format) }
-        ensures ok { IfOk result (λ c. (used : ℕ) × BeginsSequence (numbers_of format) m bound parts c.view.values c.view.ends words.entry.now used) }
+        ensures ok { IfOk result (λ c. (used : ℕ)
+            × BeginsSequence (numbers_of format) m bound parts c.view.values c.view.ends
+            words.entry.now used) }
         ensures used { IfOk result (λ c. c.used ≡ words_used c.view) }
         ensures step { IfOk result (λ c. c.greatest ≡ greatest (steps_from 0 c.view.values)) }
         ensures count { IfOk result (λ c. length c.view.values ≡ m) }
         ensures parts { IfOk result (λ c. length c.view.ends ≡ parts) }
-        ensures none { IfErr result (λ f. (xs ends : List ℕ) (used : ℕ) → ¬ BeginsSequence (numbers_of format) m bound parts xs ends words.entry.now used) }
-        ensures first { IfErr result (λ f. IsSequenceFault (numbers_of format) words.entry.now parts m bound f.check f.part) }
+        ensures none { IfErr result (λ f. (xs ends : List ℕ) (used : ℕ)
+            → ¬ BeginsSequence (numbers_of format) m bound parts xs ends words.entry.now used) }
+        ensures first { IfErr result (λ f. IsSequenceFault (numbers_of format) words.entry.now parts
+            m bound f.check f.part) }
     {
         SeqView::check_sequence(words, parts, m, bound, format, true)
     }
@@ -146,13 +158,18 @@ impl<'a> SeqView<'a> {
         requires words { length words.now < 2 ^ 57 }
         requires bound { bound ≤ (numbers_of format).most_sum }
         ensures format { IfOk result (λ c. c.view.format ≡ numbers_of format) }
-        ensures ok { IfOk result (λ c. (used : ℕ) × BeginsSequence (numbers_of format) m bound parts c.view.values c.view.ends words.entry.now used) }
+        ensures ok { IfOk result (λ c. (used : ℕ)
+            × BeginsSequence (numbers_of format) m bound parts c.view.values c.view.ends
+            words.entry.now used) }
         ensures used { IfOk result (λ c. c.used ≡ words_used c.view) }
-        ensures step { IfOk result (λ c. with_steps ≡ true → c.greatest ≡ greatest (steps_from 0 c.view.values)) }
+        ensures step { IfOk result (λ c. with_steps ≡ true
+            → c.greatest ≡ greatest (steps_from 0 c.view.values)) }
         ensures count { IfOk result (λ c. length c.view.values ≡ m) }
         ensures parts { IfOk result (λ c. length c.view.ends ≡ parts) }
-        ensures none { IfErr result (λ f. (xs ends : List ℕ) (used : ℕ) → ¬ BeginsSequence (numbers_of format) m bound parts xs ends words.entry.now used) }
-        ensures first { IfErr result (λ f. IsSequenceFault (numbers_of format) words.entry.now parts m bound f.check f.part) }
+        ensures none { IfErr result (λ f. (xs ends : List ℕ) (used : ℕ)
+            → ¬ BeginsSequence (numbers_of format) m bound parts xs ends words.entry.now used) }
+        ensures first { IfErr result (λ f. IsSequenceFault (numbers_of format) words.entry.now parts
+            m bound f.check f.part) }
     {
         checks_accept_a_sequence();
         checks_refuse_no_sequence();
@@ -171,8 +188,10 @@ impl<'a> SeqView<'a> {
     /// The same view of words that were checked, without looking at them.
     pub fn known(words: &'a [u64], parts: u32, m: u32, format: Format) -> SeqView<'a>
         requires words { length words.now < 2 ^ 57 }
-        requires checked { (v : SequenceView) × (v.format ≡ numbers_of format) × BeginWith words.now parts m v }
-        ensures same { (v : SequenceView) → v.format ≡ numbers_of format → BeginWith words.entry.now parts m v → result ≡ v }
+        requires checked { (v : SequenceView) × (v.format ≡ numbers_of format)
+            × BeginWith words.now parts m v }
+        ensures same { (v : SequenceView) → v.format ≡ numbers_of format
+            → BeginWith words.entry.now parts m v → result ≡ v }
         ensures count { length result.values ≡ m }
         ensures parts { length result.ends ≡ parts }
     {
@@ -196,9 +215,13 @@ impl<'a> SeqView<'a> {
         requires some { 1 ≤ m }
         requires small { last < (numbers_of format).most_sum }
         requires place { place ≤ 64 * length words.now }
-        requires part { 2 ≤ m → (ys : List ℕ) × HoldsPart part_bits (bits_of words.now) place (last + 1) m ys }
-        ensures one { m ≡ 1 → result ≡ record { format = numbers_of format; values = last ∷ []; ends = 1 ∷ [] } }
-        ensures more { (ys : List ℕ) → 2 ≤ m → HoldsPart part_bits (bits_of words.entry.now) place (last + 1) m ys → result ≡ record { format = numbers_of format; values = ys; ends = m ∷ [] } }
+        requires part { 2 ≤ m → (ys : List ℕ)
+            × HoldsPart part_bits (bits_of words.now) place (last + 1) m ys }
+        ensures one { m ≡ 1 → result ≡ record
+            { format = numbers_of format; values = last ∷ []; ends = 1 ∷ [] } }
+        ensures more { (ys : List ℕ) → 2 ≤ m → HoldsPart part_bits (bits_of words.entry.now) place
+            (last + 1) m ys → result ≡ record
+            { format = numbers_of format; values = ys; ends = m ∷ [] } }
     {
         one_list_at_place();
         SeqView {
@@ -216,7 +239,8 @@ impl<'a> SeqView<'a> {
 
     /// What the parts cost, in bits, with their entries. It looks at the last entry alone.
     pub fn cost(&self) -> u64
-        ensures { result ≡ partition_cost (cost_of_part (part_charge self.now.format) self.now.values) self.now.ends }
+        ensures { result ≡ partition_cost (cost_of_part (part_charge self.now.format)
+            self.now.values) self.now.ends }
     {
         self.directory.bits_taken()
     }

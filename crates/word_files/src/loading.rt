@@ -65,7 +65,8 @@ pub fn load_words<D: Depot>(
     name: &str,
     depot: &mut D,
 ) -> Result<Vec<u64>, LoadWordsError>
-    ensures { LoadsKept opening slot name.now (D.state depot.old) (D.state depot.new) (words_loaded result) }
+    ensures { LoadsKept opening slot name.now (D.state depot.old) (D.state depot.new)
+        (words_loaded result) }
 {
     depot.start(slot, name)?;
     read_file(alloc, slot, opening, depot)
@@ -146,7 +147,8 @@ fn room_for_a_piece(alloc: Global) -> Result<Vec<u8>, WordsError>
 
 // Appends the words of a piece of the file.
 fn add_words(words: &mut Vec<u64>, piece: &[u8]) -> Result<(), WordsError>
-    ensures added { OnOk result (word_bytes words.new.items ≡ word_bytes words.old.items ++ piece.now) }
+    ensures added { OnOk result (word_bytes words.new.items
+        ≡ word_bytes words.old.items ++ piece.now) }
     ensures ragged { IfErr result (λ e. e ≡ Ragged → length piece.now % 8 ≢ 0) }
 {
     make_room(words, piece.len() / 8)?;
@@ -156,7 +158,8 @@ fn add_words(words: &mut Vec<u64>, piece: &[u8]) -> Result<(), WordsError>
 // Makes room for so many more words where there is too little: for a quarter of those that there are besides.
 fn make_room(words: &mut Vec<u64>, more: usize) -> Result<(), WordsError>
     ensures words { words.new.items ≡ words.old.items }
-    ensures room { vec_capacity words.new ≤ max (vec_capacity words.old) (length words.old.items + (more + length words.old.items / 4)) }
+    ensures room { vec_capacity words.new ≤ max (vec_capacity words.old)
+        (length words.old.items + (more + length words.old.items / 4)) }
     ensures refused { IfErr result (λ e. e ≡ NoMemory) }
 {
     if words.capacity() - words.len() >= more {

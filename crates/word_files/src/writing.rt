@@ -18,7 +18,8 @@ const PIECE_BYTES: usize = 8 * PIECE_WORDS;
 /// written, and stays the one that is being written.
 pub fn write_file<D: Depot>(bytes: &[u8], name: &str, depot: &mut D) -> Result<(), IoFail>
     ensures writes { WritesBytes bytes.now name.now (D.state depot.old) (D.state depot.new) result }
-    ensures memory { result ≡ Err IoFail.NoMemory → Rose (D.state depot.old).refusals (D.state depot.new).refusals }
+    ensures memory { result ≡ Err IoFail.NoMemory
+        → Rose (D.state depot.old).refusals (D.state depot.new).refusals }
 {
     depot.create(name)?;
     depot_write_all(depot, bytes)?;
@@ -54,7 +55,8 @@ fn room_for_a_piece(alloc: Global) -> Result<Vec<u8>, IoFail>
 fn write_pieces<D: Depot>(words: &[u64], piece: &mut [u8], depot: &mut D) -> Result<(), IoFail>
     requires room { length piece.old ≡ PIECE_BYTES }
     requires created { IsTrue (D.state depot.old).created }
-    ensures { WritesAllToFile (D.state depot.old) (D.state depot.new) (word_bytes words.now) result }
+    ensures { WritesAllToFile (D.state depot.old) (D.state depot.new) (word_bytes words.now)
+        result }
 {
     for part in words.chunks(PIECE_WORDS) {
         let spelled = &mut piece[..8 * part.len()];

@@ -259,8 +259,11 @@ fn long<'a>(
     requires docs { docs.now ≡ range_with_len 0 source.now.n }
     requires freqs { freqs.now ≡ long_freqs source.now.n }
     requires side { words_seen side ≡ side_words (two_lists source.now.n) }
-    ensures start { ⟦<Counting<SideCursor<'a, PlainCursor<'a>, TwoLists>> as DocCursor>⟧.place result ≡ 0 }
-    ensures below { All (λ d. d < source.entry.now.n) (docs_of (⟦<Counting<SideCursor<'a, PlainCursor<'a>, TwoLists>> as DocCursor>⟧.list result)) }
+    ensures start { ⟦<Counting<SideCursor<'a, PlainCursor<'a>, TwoLists>> as DocCursor>⟧.place
+        result ≡ 0 }
+    ensures below { All (λ d. d < source.entry.now.n)
+        (docs_of (⟦<Counting<SideCursor<'a, PlainCursor<'a>, TwoLists>> as DocCursor>⟧.list
+        result)) }
 {
     Counting {
         cursor: SideCursor::new(long_cursor(docs, freqs, source.n), source, side, 0),
@@ -275,8 +278,10 @@ fn short<'a>(
     side: Side<'a>,
 ) -> Counting<SideCursor<'a, PlainCursor<'a>, TwoLists>>
     requires side { words_seen side ≡ side_words (two_lists source.now.n) }
-    ensures start { ⟦<Counting<SideCursor<'a, PlainCursor<'a>, TwoLists>> as DocCursor>⟧.place result ≡ 0 }
-    ensures list { ⟦<Counting<SideCursor<'a, PlainCursor<'a>, TwoLists>> as DocCursor>⟧.list result ≡ short_list }
+    ensures start { ⟦<Counting<SideCursor<'a, PlainCursor<'a>, TwoLists>> as DocCursor>⟧.place
+        result ≡ 0 }
+    ensures list { ⟦<Counting<SideCursor<'a, PlainCursor<'a>, TwoLists>> as DocCursor>⟧.list result
+        ≡ short_list }
 {
     Counting {
         cursor: SideCursor::new(PlainCursor::new(&[0], &[5]), source, side, 1),
