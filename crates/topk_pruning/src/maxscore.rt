@@ -11,12 +11,14 @@ use crate::essential::essential_now;
 use crate::floor::common_score;
 use crate::probe::doc_from;
 use crate::room::{Room, score_from};
+use crate::saves::pruning_can_save;
 use crate::shortlist::Shortlist;
 use crate::term::{Term, terms_by_bound};
 use cursor_api::DocCursor;
 use no_memory::NoMemory;
 use scan_plans::{
-    cursors_tell, most_found, top_list_grows, top_list_has_a_floor, top_list_is_short,
+    cursors_tell, most_found, top_exhaustive, top_list_grows, top_list_has_a_floor,
+    top_list_is_short,
 };
 use std::alloc::Global;
 
@@ -29,7 +31,8 @@ use std::alloc::Global;
 /// the bounds of those that are left can lift its score above the bar. A bound is the weight times the greatest frequency, and the bar is
 /// the least score held. From the start it is no lower than just below a score that k documents reach: where the list of the highest
 /// bound has at least 2,048 postings, it is asked for a frequency that k of them reach. While one list alone is essential, its postings
-/// are passed over whose frequencies cannot lift a document above the bar with the bounds of all the others.
+/// are passed over whose frequencies cannot lift a document above the bar with the bounds of all the others. Where pruning can save
+/// nothing, every document is scored, as in `top_wand`.
 pub fn top_maxscore<C: DocCursor>(
     alloc: Global,
     cursors: &mut [C],
@@ -41,6 +44,9 @@ pub fn top_maxscore<C: DocCursor>(
     ensures first { IfOk result (λ r. IsTop n (map C.list cursors.old) weights.now k r.items) }
     ensures bound { IfOk result (λ r. All (λ e. e.1 < 2 ^ 58) r.items) }
 {
+    if !pruning_can_save(cursors, weights, k, n) {
+        return top_exhaustive(alloc, cursors, weights, k, n);
+    }
     top_list_is_short();
     let most = most_found(cursors, k);
     score_essential(alloc, cursors, weights, most, n)

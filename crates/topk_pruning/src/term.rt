@@ -68,6 +68,20 @@ fn bound_of<C: DocCursor>(cursor: &C, weight: u32) -> u64
     u64::from(weight) * u64::from(cursor.max_freq())
 }
 
+// The highest score that a document can have: what the bounds of all the lists add up to.
+pub(crate) fn highest_score<C: DocCursor>(cursors: &[C], weights: &[u32]) -> u64
+    requires each { length weights.now ≡ length cursors.now }
+    requires light { sum weights.now < 2 ^ 26 }
+    ensures { result ≡ bounds (terms_of (map C.list cursors.now) weights.now) }
+{
+    let mut total = 0;
+    for list in 0..cursors.len() {
+        let bound = bound_of(&cursors[list], weights[list]);
+        total += bound;
+    }
+    total
+}
+
 // The bounds of some terms together.
 pub(crate) fn total_bound(terms: &[Term]) -> u64
     requires light { bounds terms.now < 2 ^ 58 }
