@@ -335,6 +335,6 @@ fn best_over_a_floor(alloc: Global, source: TwoLists) -> Result<Vec<(u32, u64)>,
 // The longer list has so many postings that a score which one document reaches is told of it: 6, which the shorter one alone does not.
 #[test]
 fn a_floor_from_the_start(rt: HostRuntime) {
-    let top = best_over_a_floor(rt.alloc(), TwoLists { n: 2_048 }).expect(&rt, "memory");
-    assert_eq!(rt; top.as_slice(), [(2_047, 54)].as_slice());
+    let top = best_over_a_floor(rt.alloc(), TwoLists { n: 8_193 }).expect(&rt, "memory");
+    assert_eq!(rt; top.as_slice(), [(8_192, 54)].as_slice());
 }

@@ -1,4 +1,4 @@
-// WAND and MaxScore over plain lists.
+// WAND and MaxScore over plain lists. Of no more than 8,192 documents all would be scored, so there are more.
 ghost use Rattle.std.specs.Prelude.{◌≤◌, ◌<◌};
 
 use crate::blocks::{first_documents, long_cursor};
@@ -7,7 +7,7 @@ use no_memory::NoMemory;
 use std::alloc::Global;
 use topk_pruning::{Plan, plan_top, top_maxscore, top_wand};
 
-// Five documents; a list has the documents 1 and 4, another 1, 2 and 4.
+// A list has the documents 1 and 4, another 1, 2 and 4.
 #[test]
 fn two_lists(rt: HostRuntime) {
     let starts = [
@@ -15,10 +15,10 @@ fn two_lists(rt: HostRuntime) {
         PlainCursor::new(&[1, 2, 4], &[1, 3, 1]),
     ];
     let mut cursors = starts;
-    let top = top_maxscore(rt.alloc(), &mut cursors, &[1, 1], 2, 5).expect(&rt, "memory");
+    let top = top_maxscore(rt.alloc(), &mut cursors, &[1, 1], 2, 9_000).expect(&rt, "memory");
     assert_eq!(rt; top.as_slice(), [(4, 4), (1, 3)].as_slice());
     let mut cursors = starts;
-    let top = top_wand(rt.alloc(), &mut cursors, &[1, 1], 2, 5).expect(&rt, "memory");
+    let top = top_wand(rt.alloc(), &mut cursors, &[1, 1], 2, 9_000).expect(&rt, "memory");
     assert_eq!(rt; top.as_slice(), [(4, 4), (1, 3)].as_slice());
     for (weights, k, wanted) in [
         ([2, 1], 3, [(4, 7), (1, 5), (2, 3)].as_slice()),
@@ -28,10 +28,10 @@ fn two_lists(rt: HostRuntime) {
         ([1, 1], 0, [].as_slice()),
     ] {
         let mut cursors = starts;
-        let top = top_maxscore(rt.alloc(), &mut cursors, &weights, k, 5).expect(&rt, "memory");
+        let top = top_maxscore(rt.alloc(), &mut cursors, &weights, k, 9_000).expect(&rt, "memory");
         assert_eq!(rt; top.as_slice(), wanted);
         let mut cursors = starts;
-        let top = top_wand(rt.alloc(), &mut cursors, &weights, k, 5).expect(&rt, "memory");
+        let top = top_wand(rt.alloc(), &mut cursors, &weights, k, 9_000).expect(&rt, "memory");
         assert_eq!(rt; top.as_slice(), wanted);
     }
 }
@@ -44,10 +44,10 @@ fn documents_of_one_list_each(rt: HostRuntime) {
         PlainCursor::new(&[3], &[1]),
     ];
     let mut cursors = starts;
-    let top = top_maxscore(rt.alloc(), &mut cursors, &[1, 1], 3, 6).expect(&rt, "memory");
+    let top = top_maxscore(rt.alloc(), &mut cursors, &[1, 1], 3, 9_000).expect(&rt, "memory");
     assert_eq!(rt; top.as_slice(), [(0, 1), (3, 1), (5, 1)].as_slice());
     let mut cursors = starts;
-    let top = top_wand(rt.alloc(), &mut cursors, &[1, 1], 3, 6).expect(&rt, "memory");
+    let top = top_wand(rt.alloc(), &mut cursors, &[1, 1], 3, 9_000).expect(&rt, "memory");
     assert_eq!(rt; top.as_slice(), [(0, 1), (3, 1), (5, 1)].as_slice());
 }
 
@@ -56,10 +56,12 @@ fn documents_of_one_list_each(rt: HostRuntime) {
 fn one_list(rt: HostRuntime) {
     let starts = [PlainCursor::new(&[0, 2], &[2, 10])];
     let mut cursors = starts;
-    let top = top_maxscore(rt.alloc(), &mut cursors, &[1], 4_294_967_295, 3).expect(&rt, "memory");
+    let top = top_maxscore(rt.alloc(), &mut cursors, &[1], 4_294_967_295, 9_000).expect(
+        &rt, "memory",
+    );
     assert_eq!(rt; top.as_slice(), [(2, 10), (0, 2)].as_slice());
     let mut cursors = starts;
-    let top = top_wand(rt.alloc(), &mut cursors, &[1], 4_294_967_295, 3).expect(&rt, "memory");
+    let top = top_wand(rt.alloc(), &mut cursors, &[1], 4_294_967_295, 9_000).expect(&rt, "memory");
     assert_eq!(rt; top.as_slice(), [(2, 10), (0, 2)].as_slice());
 }
 
@@ -80,18 +82,18 @@ fn best_of_a_long_list(
     plan_top(alloc, plan, &mut cursors, &[1], k, n)
 }
 
-// Of a list with 2,048 postings a score is told that k of them reach, here 1. A score at this floor is held, and then one above it is
+// Of a list with 8,193 postings a score is told that k of them reach, here 1. A score at this floor is held, and then one above it is
 // asked for.
 #[test]
 fn scores_at_a_floor(rt: HostRuntime) {
     for plan in [Plan::Exhaustive, Plan::Wand, Plan::MaxScore] {
         for (k, last) in [
-            (1, (2_047, 9)),
+            (1, (8_192, 9)),
             (2, (0, 1)),
-            (2_047, (2_045, 1)),
-            (2_048, (2_046, 1)),
+            (8_192, (8_190, 1)),
+            (8_193, (8_191, 1)),
         ] {
-            let top = best_of_a_long_list(rt.alloc(), plan, k, 2_048).expect(&rt, "memory");
+            let top = best_of_a_long_list(rt.alloc(), plan, k, 8_193).expect(&rt, "memory");
             assert_eq!(rt; top.len(), k as usize);
             assert_eq!(rt; top.last().copied(), Some(last), "of {k}");
         }
@@ -112,7 +114,7 @@ fn candidates_far_apart(rt: HostRuntime) {
         (3, [(30, 7), (0, 6), (40, 6)].as_slice()),
     ] {
         let mut cursors = starts;
-        let top = top_maxscore(rt.alloc(), &mut cursors, &[1, 1], k, 41).expect(&rt, "memory");
+        let top = top_maxscore(rt.alloc(), &mut cursors, &[1, 1], k, 9_000).expect(&rt, "memory");
         assert_eq!(rt; top.as_slice(), wanted);
     }
 }
