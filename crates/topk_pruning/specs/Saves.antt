@@ -1,13 +1,31 @@
 -- When pruning can cost less than scoring every document.
-use Rattle.std.specs.Prelude.{ℕ, ◌*◌, ◌&&◌, ◌||◌, nat_eq, nat_le, nat_lt, Bool, List, length, min}
+use Rattle.std.specs.Prelude.{ℕ, ◌-◌, ◌*◌, ◌&&◌, ◌||◌, nat_eq, nat_le, nat_lt, Bool, List, length, map, min}
 use Rattle.std.specs.List.{sum_by}
-use Rattle.collection_model.specs.Collection.{Posting}
+use Rattle.collection_model.specs.Collection.{Posting, greatest}
 use Rattle.topk_pruning.specs.Terms.{bounds, terms_of}
 
--- k times the postings, counted in 64 bits, are at most so many times the highest score that there can be
-abbrev pub are_apart : List (List Posting) → List ℕ → ℕ → Bool
-are_apart lists weights k = nat_le (min (sum_by length lists) 18446744073709551615 * k) (2048 * bounds (terms_of lists weights))
+-- all the postings, counted in 64 bits
+abbrev pub count_of : List (List Posting) → ℕ
+count_of lists = min (sum_by length lists) 18446744073709551615
 
--- more than one window of n documents, and one list, or a few whose scores lie apart
+-- those of the longest list
+abbrev pub longest_of : List (List Posting) → ℕ
+longest_of lists = greatest (map length lists)
+
+-- k times the postings are at most so many times the highest score that there can be
+abbrev pub are_apart : List (List Posting) → List ℕ → ℕ → Bool
+are_apart lists weights k = nat_le (count_of lists * k) (2048 * bounds (terms_of lists weights))
+
+-- one list has sixteen times the postings of all the others, and these are k or more
+abbrev pub one_is_long : List (List Posting) → ℕ → Bool
+one_is_long lists k =
+    nat_le (16 * (count_of lists - longest_of lists)) (longest_of lists)
+    && nat_le k (count_of lists - longest_of lists)
+
+-- one long list beside short ones, or more than one window of n documents, and one list or a few whose scores
+-- lie apart
 abbrev pub pruning_saves : ℕ → List (List Posting) → List ℕ → ℕ → Bool
-pruning_saves n lists weights k = nat_lt 8192 n && nat_le (length lists) 16 && (nat_eq (length lists) 1 || are_apart lists weights k)
+pruning_saves n lists weights k =
+    nat_le (length lists) 16
+    && (one_is_long lists k
+    || (nat_lt 8192 n && (nat_eq (length lists) 1 || are_apart lists weights k)))

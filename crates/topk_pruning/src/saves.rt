@@ -1,5 +1,5 @@
 ghost use Rattle.std.specs.Prelude.{◌≡◌, ◌<◌, ◌^◌, map, length, sum};
-ghost use Rattle.topk_pruning.specs.Saves.{are_apart, pruning_saves};
+ghost use Rattle.topk_pruning.specs.Saves.{are_apart, longest_of, one_is_long, pruning_saves};
 
 use crate::term::highest_score;
 use cursor_api::DocCursor;
@@ -16,6 +16,9 @@ const MOST_LISTS: usize = 16;
 // to ask for these costs more than to read them: pruning cost 0.55 to 0.93 times as much with up to 1,250, and 0.97 to 1.76 from 3,120 on.
 const MOST_ALIKE: u128 = 2_048;
 
+// A list that has so many times the postings of all the others is asked for theirs rather than read, however few documents there are.
+const MOST_TIMES: u128 = 16;
+
 // Whether it can save anything to look for documents to pass over, where k of `n` are wanted: it is what `top_wand`, `top_maxscore` and
 // `top_wand_under` decide by.
 pub(crate) fn pruning_can_save<C: DocCursor>(cursors: &[C], weights: &[u32], k: u32, n: u32) -> bool
@@ -23,9 +26,29 @@ pub(crate) fn pruning_can_save<C: DocCursor>(cursors: &[C], weights: &[u32], k: 
     requires light { sum weights.now < 2 ^ 26 }
     ensures { result ≡ pruning_saves n (map C.list cursors.now) weights.now k }
 {
-    n > ONE_WINDOW
-        && cursors.len() <= MOST_LISTS
-        && (cursors.len() == 1 || scores_lie_apart(cursors, weights, k))
+    cursors.len() <= MOST_LISTS
+        && (one_list_is_long(cursors, k)
+            || (n > ONE_WINDOW && (cursors.len() == 1 || scores_lie_apart(cursors, weights, k))))
+}
+
+// Whether nearly all postings are in one list, and those of the others can be the best.
+fn one_list_is_long<C: DocCursor>(cursors: &[C], k: u32) -> bool
+    ensures { result ≡ one_is_long (map C.list cursors.now) k }
+{
+    let longest = longest_list(cursors);
+    let others = count_postings(cursors).saturating_sub(longest);
+    u128::from(others) * MOST_TIMES <= u128::from(longest) && u64::from(k) <= others
+}
+
+// How many postings the longest of the lists has.
+fn longest_list<C: DocCursor>(cursors: &[C]) -> u64
+    ensures { result ≡ longest_of (map C.list cursors.now) }
+{
+    let mut longest = 0;
+    for list in 0..cursors.len() {
+        longest = u64::from(cursors[list].len()).max(longest);
+    }
+    longest
 }
 
 // Whether few of the postings have to share a score.
