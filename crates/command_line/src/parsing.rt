@@ -60,7 +60,8 @@ fn read_row<'a>(words: &'a [String], row: Row, found: &ArgMatches<'a>) -> Option
 // The texts among the matches of a subcommand: as many of the words behind the verb.
 fn texts_found<'a>(words: &'a [String], found: &ArgMatches<'a>) -> Option<&'a [String]>
     requires { LendsTexts (line.texts words.now) (rows_of (found_of found.now)) }
-    ensures { option_map (λ texts. line.texts texts.now) result ≡ all_of (codes "texts") (rows_of (found_of found.now)) }
+    ensures { option_map (λ texts. line.texts texts.now) result
+        ≡ all_of (codes "texts") (rows_of (found_of found.now)) }
 {
     let count = found.get_strs("texts")?.len();
     Some(behind_verb(words, count))

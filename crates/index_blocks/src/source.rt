@@ -53,10 +53,8 @@ impl<'i, 'a> IndexBlocks<'i, 'a> {
         requires of_side { words_seen side ≡ side_words (blocks_of_index (index_seen self.now)) }
         ensures list { ⟦<SideCursor<'i, PostingCursor<'a>, IndexBlocks<'i, 'a>> as DocCursor>⟧.list
             result ≡ list_of (index_seen self.entry.now).collection t }
-        ensures start { ⟦<SideCursor<'i, PostingCursor<'a>, IndexBlocks<'i, 'a>> as
-            DocCursor>⟧.place result ≡ 0 }
-        ensures blocks { ⟦<SideCursor<'i, PostingCursor<'a>, IndexBlocks<'i, 'a>> as
-            BlockCursor>⟧.blocks result
+        ensures start { ⟦<SideCursor<'i, PostingCursor<'a>, IndexBlocks<'i, 'a>> as DocCursor>⟧.place result ≡ 0 }
+        ensures blocks { ⟦<SideCursor<'i, PostingCursor<'a>, IndexBlocks<'i, 'a>> as BlockCursor>⟧.blocks result
             ≡ blocks_of (nth_list (blocks_of_index (index_seen self.entry.now)) t) }
     {
         self.index.stands_for_a_collection();
