@@ -3,5 +3,4 @@ mod Refusals
 mod NextLists
 mod Adding
 mod Prefixes
-mod NextPosting
 mod Queries

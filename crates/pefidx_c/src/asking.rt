@@ -7,7 +7,7 @@ ghost use Rattle.pefidx_c.specs.Rooms.{posting_of, put_in};
 ghost use Rattle.pefidx_c.specs.StatusNumber.{number_of};
 
 use crate::status::Status;
-use cursor_api::{DocCursor, first_is_at_the_next_place};
+use cursor_api::DocCursor;
 use index_file::Index;
 
 /// A document with how often a term occurs in it.
@@ -71,16 +71,12 @@ pub extern "C" fn pefidx_next(words: &[u64], term: u32, doc: u32, found: &mut Po
         → first_at_least (list_of (collection_in words.now) term) doc ≡ Some p
         → (result ≡ number_of Status.Done) × (posting_of found.new ≡ p) }
 {
-    first_is_at_the_next_place();
     let index = Index::known(words);
     if term >= index.terms() {
         return Status::NoTerm.number();
     }
-    let mut cursor = index.cursor(term);
-    cursor.next_geq(doc);
-    match cursor.doc() {
-        Some(doc) => {
-            let freq = cursor.freq();
+    match index.first_posting(term, doc) {
+        Some((doc, freq)) => {
             *found = Posting { doc, freq };
             Status::Done.number()
         }
