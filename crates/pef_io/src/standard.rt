@@ -1,8 +1,8 @@
-ghost use Rattle.std.specs.Prelude.{◌≡◌, ◌≤◌, ◌<◌, false, [], None, is_some, IsTrue, IfSome, IfOk, length, take, option_and_then};
+ghost use Rattle.std.specs.Prelude.{◌≡◌, ◌≤◌, ◌<◌, false, [], None, is_some, IsTrue, IfSome, IfOk, IsErrOf, length, take, option_and_then};
 ghost use Rattle.std.specs.Io.KnownBytes.{Appends, ReadConsumes};
 ghost use Rattle.pef_io.specs.SourceState.{SourceState, Reads};
 ghost use Rattle.pef_io.specs.SinkState.{SinkState, Writes};
-ghost use Rattle.pef_io.specs.DepotState.{DepotState, ReadsSlot, WritesFile};
+ghost use Rattle.pef_io.specs.DepotState.{DepotState, Finishes, ReadsSlot, WritesFile};
 ghost use Rattle.pef_io.specs.Standard.{IsUntouched};
 ghost use Rattle.pef_io.specs.PerSlot.{at_slot};
 
@@ -40,6 +40,7 @@ impl<R: Read> Source for StdSource<R> {
             (⟦<StdSource<R> as Source>⟧.state self.new) buf.old buf.new result }
         ensures given { ReadConsumes (R.remaining self.old.reader) (R.remaining self.new.reader)
             result buf.new }
+        ensures takes_no_memory { IsErrOf result IoFail.NoMemory → ⊥ }
     {
         if let Ok(n) = self.reader.read(buf) {
             return Ok(n);
@@ -258,6 +259,7 @@ impl<R: Files + AllocGlobal> Depot for StdDepot<R> {
         ensures given { ReadConsumes (option_and_then ⟦<R::File as Read>⟧.remaining
             (at_slot self.old.opened slot)) (option_and_then ⟦<R::File as Read>⟧.remaining
             (at_slot self.new.opened slot)) result buf.new }
+        ensures takes_no_memory { IsErrOf result IoFail.NoMemory → ⊥ }
     {
         let Some(file) = self.opened.get_mut(slot) else {
             unreachable!()
@@ -296,6 +298,7 @@ impl<R: Files + AllocGlobal> Depot for StdDepot<R> {
             (option_and_then (λ c. ⟦<R::File as Write>⟧.contents (file_of c)) self.old.created)
             (option_and_then (λ c. ⟦<R::File as Write>⟧.contents (file_of c)) self.new.created)
             (take n piece.now)) }
+        ensures takes_no_memory { IsErrOf result IoFail.NoMemory → ⊥ }
     {
         let Some(created) = &mut self.created else {
             unreachable!()
@@ -307,7 +310,12 @@ impl<R: Files + AllocGlobal> Depot for StdDepot<R> {
         Err(IoFail::Failed)
     }
 
-    fn finish(&mut self) -> Result<(), IoFail> {
+    fn finish(&mut self) -> Result<(), IoFail>
+        requires { IsTrue (⟦<StdDepot<R> as Depot>⟧.state self.old).created }
+        ensures finishes { Finishes (⟦<StdDepot<R> as Depot>⟧.state self.old)
+            (⟦<StdDepot<R> as Depot>⟧.state self.new) result }
+        ensures takes_no_memory { IsErrOf result IoFail.NoMemory → ⊥ }
+    {
         let Some(created) = &self.created else {
             unreachable!()
         };
