@@ -32,7 +32,7 @@ pub record StartsFrom {A : Type 0} (touched : Slot → Type 0) (old new : DepotS
   pub read_only_where_it_rose : (slot : Slot) → result ≡ Err (Read slot) → touched slot × Rose (old.faults slot) (new.faults slot)
   pub refusals_rise_only_there : (result ≡ Err reading.NoMemory) ⊎ (new.refusals ≡ old.refusals)
 
--- The same, where none is started.
+-- None is started, and only these slots are read; faults and want of memory are counted as under `StartsFrom`.
 pub record ReadsFrom {A : Type 0} (touched : Slot → Type 0) (old new : DepotState) (result : Result A CollError) : Type 0 where
   pub only : OnlyReads touched old new
   pub count_rises_only_there : (slot : Slot) → (result ≡ Err (Read slot)) ⊎ (new.faults slot ≡ old.faults slot)

@@ -3,7 +3,7 @@ use Rattle.std.proofs.Common.{◌≡◌, refl, sym, ap, ◌∙◌, subst}
 use Rattle.std.specs.Prelude.{Result, Ok, Err, MatchResult, IsErrAnd}
 use Rattle.std.proofs.lemmas.Result.{err_from_is_err_and}
 
--- The same value, or a refusal of this property.
+-- It has that value, or a refusal of this property.
 abbrev pub Told : {T E F : Type 0} → (E → F → Type 0) → Result T E → Result T F → Type 0
 Told P r to = MatchResult r (λ x. to ≡ Ok x) (λ e. IsErrAnd to (P e))
 

@@ -70,7 +70,7 @@ impl Stop {
         }
     }
 
-    /// The same, where the index is segment s.
+    /// This stop where the index that was refused is segment s.
     pub fn at_segment(self, s: u64) -> Stop
         ensures { result ≡ at_segment s self }
     {

@@ -39,7 +39,7 @@ const SEVERAL_PARTS: [u64; 27] = [
     CLOSING,
 ];
 
-// The same in the second format.
+// Those words in the second format.
 const SEVERAL_PARTS_OF_TWO: [u64; 32] = [
     OPENING,
     2,

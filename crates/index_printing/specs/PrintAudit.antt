@@ -16,7 +16,7 @@ pub record PrintsAudit (i : IndexView) (old new : SinkState) (before after : ℕ
   pub counted : OnOk result (before + fewest_audited i ≤ after)
   pub bounded : after ≤ before + most_audited i
 
--- The same of the lines of some sequences.
+-- What printing the lines of some sequences gives.
 pub record PrintsLines (format : FormatNumbers) (ss : List CutSequence) (old new : SinkState) (before after : ℕ) (result : Result (Unit {0}) IoFail) : Type 0 where
   pub text : List ℕ
   pub lines : AreAuditLines format ss text

@@ -19,7 +19,7 @@ pub(crate) struct PerSlot<T> {
 }
 
 impl PerSlot<u64> {
-    // The same number for each slot.
+    // One number for every slot.
     pub(crate) fn all(number: u64) -> PerSlot<u64>
         ensures { (slot : Slot) → at_slot result slot ≡ number }
     {

@@ -52,7 +52,7 @@ pub record MakesImage (base map to : List ℕ) (old new : DepotState) (result : 
   pub no_fault : IsTrue old.tells → (c : Collection) → FindsCollection remap_numbers base old c → (fault : Fault) → result ≢ Err (Broken fault)
   pub broken : IsTrue old.tells → (fault : Fault) → HasFault remap_numbers base old fault →
       (result ≡ Err (Broken fault)) ⊎ ((slot : Slot) × (result ≡ Err (Read slot))) ⊎ (result ≡ Err NoMemory)
-  -- The same of the map, which is read once the collection is accepted.
+  -- A refusal of the map, which is read once the collection is accepted, names its first fault, and is found so.
   pub first_map_fault : IsTrue old.tells → (fault : MapFault) → result ≡ Err (BrokenMap fault) → HasMapFault base map old fault
   pub no_map_fault : IsTrue old.tells → (c : Collection) → (ids : List ℕ) → FindsBothOf base map old c ids → (fault : MapFault) → result ≢ Err (BrokenMap fault)
   pub broken_map : IsTrue old.tells → (fault : MapFault) → HasMapFault base map old fault →

@@ -12,7 +12,7 @@ pub const THREE_LISTS_LINE_OF_TWO: &str =
 pub const THREE_LISTS_AUDIT: &str =
     "0 docs 128 128 128\n0 freqs 128 128 128\n2 docs 130 130 130\n2 freqs 131 131 131\nsequences 4 longer 0\n";
 
-/// The same in the second format, whose charge is 192 bits.
+/// Their audit in the second format, whose charge is 192 bits.
 pub const THREE_LISTS_AUDIT_OF_TWO: &str =
     "0 docs 192 192 192\n0 freqs 192 192 192\n2 docs 194 194 194\n2 freqs 195 195 195\nsequences 4 longer 0\n";
 

@@ -29,7 +29,7 @@ type Numbers<'a> = [&'a [u32]; 3];
 // Three documents of sizes 4, 0 and 7, and the list (0,1)(2,5).
 const ONE_LIST: Numbers<'static> = [&[1, 3, 2, 0, 2], &[2, 1, 5], &[3, 4, 0, 7]];
 
-// The same documents, that list, the list (0,1), and a list of nothing.
+// Over these documents that list, the list (0,1), and a list of nothing.
 const THREE_LISTS: Numbers<'static> = [
     &[1, 3, 2, 0, 2, 1, 0, 0],
     &[2, 1, 5, 1, 1, 0],
@@ -65,7 +65,7 @@ const ONE_LIST_OF_ONE: &[u64] = &[
     5784106577086924120,
 ];
 
-// The same where the documents are cut into two parts.
+// Its words where the documents are cut into two parts.
 const ONE_LIST_IN_TWO_PARTS: &[u64] = &[
     6360565151758173520,
     1,

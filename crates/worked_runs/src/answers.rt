@@ -103,7 +103,7 @@ const LINES: [Lines; 9] = [
     (NO_LIST, "next 0 0", "bad term\n"),
 ];
 
-// The same for verbs over several terms.
+// Lines over several terms, and their replies.
 const TERMS: [Lines; 8] = [
     (
         ONE_LIST,
