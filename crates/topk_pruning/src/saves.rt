@@ -1,4 +1,4 @@
-ghost use Rattle.std.specs.Prelude.{◌≡◌, ◌<◌, ◌^◌, map, length, sum};
+ghost use Rattle.std.specs.Prelude.{◌≡◌, ◌<◌, ◌^◌, IsTrue, IfSome, IfNone, map, length, sum};
 ghost use Rattle.topk_pruning.specs.Saves.{are_apart, longest_of, one_is_long, pruning_saves};
 
 use crate::term::highest_score;
@@ -31,22 +31,36 @@ pub(crate) fn pruning_can_save<C: DocCursor>(cursors: &[C], weights: &[u32], k: 
             || (n > ONE_WINDOW && (cursors.len() == 1 || scores_lie_apart(cursors, weights, k))))
 }
 
+/// How many postings the one list has that has sixteen times those of all the others together, where these are k or more; None where
+/// no list has so many.
+pub fn long_list<C: DocCursor>(cursors: &[C], k: u32) -> Option<u32>
+    ensures some { IfSome result (λ longest. IsTrue (one_is_long (map C.list cursors.now) k)
+        × (longest ≡ longest_of (map C.list cursors.now))) }
+    ensures none { IfNone result (¬ IsTrue (one_is_long (map C.list cursors.now) k)) }
+{
+    if one_list_is_long(cursors, k) {
+        Some(longest_list(cursors))
+    } else {
+        None
+    }
+}
+
 // Whether nearly all postings are in one list, and those of the others can be the best.
 fn one_list_is_long<C: DocCursor>(cursors: &[C], k: u32) -> bool
     ensures { result ≡ one_is_long (map C.list cursors.now) k }
 {
-    let longest = longest_list(cursors);
+    let longest = u64::from(longest_list(cursors));
     let others = count_postings(cursors).saturating_sub(longest);
     u128::from(others) * MOST_TIMES <= u128::from(longest) && u64::from(k) <= others
 }
 
 // How many postings the longest of the lists has.
-fn longest_list<C: DocCursor>(cursors: &[C]) -> u64
+fn longest_list<C: DocCursor>(cursors: &[C]) -> u32
     ensures { result ≡ longest_of (map C.list cursors.now) }
 {
     let mut longest = 0;
     for list in 0..cursors.len() {
-        longest = u64::from(cursors[list].len()).max(longest);
+        longest = cursors[list].len().max(longest);
     }
     longest
 }

@@ -20,7 +20,7 @@ loop-list-preserved g c =
     let count_is : get_or counts i 0 ≡ length (list c.index-cursors-list.result) = get_or-map length lists i [] 0 (omega (arith, within, all)) ∙ ap length list_is in
     let more : take (i + 1) counts ≡ take i counts ++ get_or counts i 0 ∷ [] = take_more counts i 0 (omega (arith, within, all, counted)) in
     let next : greatest (take (i + 1) counts) ≡ max (get_or counts i 0) (greatest (take i counts)) = ap greatest more ∙ greatest-push (take i counts) (get_or counts i 0) in
-    omega (arith, next, count_is, c.len.ensures, c.from.ensures, c.max-longest.ensures, c.loop-list.invariant)
+    omega (arith, next, count_is, c.len.ensures, c.max-longest.ensures, c.loop-list.invariant)
 
 pub returns : goal.returns
 returns g c =
