@@ -5,7 +5,7 @@ use crate::blocks::{first_documents, long_cursor};
 use cursor_api::PlainCursor;
 use no_memory::NoMemory;
 use std::alloc::Global;
-use topk_pruning::{Plan, plan_top, top_maxscore, top_wand};
+use topk_pruning::{Plan, plan_top, top_maxscore};
 
 // A list has the documents 1 and 4, another 1, 2 and 4.
 #[test]
@@ -14,25 +14,21 @@ fn two_lists(rt: HostRuntime) {
         PlainCursor::new(&[1, 4], &[2, 3]),
         PlainCursor::new(&[1, 2, 4], &[1, 3, 1]),
     ];
-    let mut cursors = starts;
-    let top = top_maxscore(rt.alloc(), &mut cursors, &[1, 1], 2, 9_000).expect(&rt, "memory");
-    assert_eq!(rt; top.as_slice(), [(4, 4), (1, 3)].as_slice());
-    let mut cursors = starts;
-    let top = top_wand(rt.alloc(), &mut cursors, &[1, 1], 2, 9_000).expect(&rt, "memory");
-    assert_eq!(rt; top.as_slice(), [(4, 4), (1, 3)].as_slice());
-    for (weights, k, wanted) in [
-        ([2, 1], 3, [(4, 7), (1, 5), (2, 3)].as_slice()),
-        ([1, 2], 2, [(2, 6), (4, 5)].as_slice()),
-        ([65_535, 1], 1, [(4, 196_606)].as_slice()),
-        ([1, 1], 9, [(4, 4), (1, 3), (2, 3)].as_slice()),
-        ([1, 1], 0, [].as_slice()),
-    ] {
-        let mut cursors = starts;
-        let top = top_maxscore(rt.alloc(), &mut cursors, &weights, k, 9_000).expect(&rt, "memory");
-        assert_eq!(rt; top.as_slice(), wanted);
-        let mut cursors = starts;
-        let top = top_wand(rt.alloc(), &mut cursors, &weights, k, 9_000).expect(&rt, "memory");
-        assert_eq!(rt; top.as_slice(), wanted);
+    for plan in [Plan::Wand, Plan::MaxScore] {
+        for (weights, k, wanted) in [
+            ([1, 1], 2, [(4, 4), (1, 3)].as_slice()),
+            ([2, 1], 3, [(4, 7), (1, 5), (2, 3)].as_slice()),
+            ([1, 2], 2, [(2, 6), (4, 5)].as_slice()),
+            ([65_535, 1], 1, [(4, 196_606)].as_slice()),
+            ([1, 1], 9, [(4, 4), (1, 3), (2, 3)].as_slice()),
+            ([1, 1], 0, [].as_slice()),
+        ] {
+            let mut cursors = starts;
+            let top = plan_top(rt.alloc(), plan, &mut cursors, &weights, k, 9_000).expect(
+                &rt, "memory",
+            );
+            assert_eq!(rt; top.as_slice(), wanted);
+        }
     }
 }
 
@@ -43,26 +39,24 @@ fn documents_of_one_list_each(rt: HostRuntime) {
         PlainCursor::new(&[0, 5], &[1, 1]),
         PlainCursor::new(&[3], &[1]),
     ];
-    let mut cursors = starts;
-    let top = top_maxscore(rt.alloc(), &mut cursors, &[1, 1], 3, 9_000).expect(&rt, "memory");
-    assert_eq!(rt; top.as_slice(), [(0, 1), (3, 1), (5, 1)].as_slice());
-    let mut cursors = starts;
-    let top = top_wand(rt.alloc(), &mut cursors, &[1, 1], 3, 9_000).expect(&rt, "memory");
-    assert_eq!(rt; top.as_slice(), [(0, 1), (3, 1), (5, 1)].as_slice());
+    for plan in [Plan::Wand, Plan::MaxScore] {
+        let mut cursors = starts;
+        let top = plan_top(rt.alloc(), plan, &mut cursors, &[1, 1], 3, 9_000).expect(&rt, "memory");
+        assert_eq!(rt; top.as_slice(), [(0, 1), (3, 1), (5, 1)].as_slice());
+    }
 }
 
 // A `k` above the number of documents takes no room for more than these.
 #[test]
 fn one_list(rt: HostRuntime) {
     let starts = [PlainCursor::new(&[0, 2], &[2, 10])];
-    let mut cursors = starts;
-    let top = top_maxscore(rt.alloc(), &mut cursors, &[1], 4_294_967_295, 9_000).expect(
-        &rt, "memory",
-    );
-    assert_eq!(rt; top.as_slice(), [(2, 10), (0, 2)].as_slice());
-    let mut cursors = starts;
-    let top = top_wand(rt.alloc(), &mut cursors, &[1], 4_294_967_295, 9_000).expect(&rt, "memory");
-    assert_eq!(rt; top.as_slice(), [(2, 10), (0, 2)].as_slice());
+    for plan in [Plan::Wand, Plan::MaxScore] {
+        let mut cursors = starts;
+        let top = plan_top(rt.alloc(), plan, &mut cursors, &[1], u32::MAX, 9_000).expect(
+            &rt, "memory",
+        );
+        assert_eq!(rt; top.as_slice(), [(2, 10), (0, 2)].as_slice());
+    }
 }
 
 // The best k of the documents below `n`, each had once by the one list but the last, which it has nine times.

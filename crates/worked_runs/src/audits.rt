@@ -34,27 +34,27 @@ fn sequences_are_audited(rt: HostRuntime) {
     assert_eq!(rt; first_wrong(rt.alloc(), &AUDIT, &AUDITS), None);
 }
 
-// Whether this is the audit of the index that these words build of a list of all documents up to a last one.
-fn is_audited(alloc: Global, words: &[&str], last: u32, text: &str) -> Option<bool> {
+// Whether the last of these runs audits so the index that the first builds of a list of all documents up to a last one.
+fn is_audited(alloc: Global, runs: &[&[&str]], last: u32, text: &str) -> Option<bool> {
     let list = full_list(alloc, last, 1, 1)?;
     let files = files_of(alloc, list.numbers())?;
-    is_answered(alloc, &[words, &AUDIT], files, b"", text.as_bytes())
+    is_answered(alloc, runs, files, b"", text.as_bytes())
 }
 
 // A list of all documents, each once, is one part of ones; of 256 numbers it has its lines, and of more none.
 #[test]
 fn long_sequences_have_no_line(rt: HostRuntime) {
-    for (words, last, text) in [
+    for (runs, last, text) in [
         (
-            BUILD.as_slice(),
+            [BUILD.as_slice(), &AUDIT],
             255,
             "0 docs 192 192 192\n0 freqs 192 192 192\nsequences 2 longer 0\n",
         ),
-        (&BUILD, 256, "sequences 0 longer 2\n"),
-        (&BUILD_ONE, 999, "sequences 0 longer 2\n"),
+        ([&BUILD, &AUDIT], 256, "sequences 0 longer 2\n"),
+        ([&BUILD_ONE, &AUDIT], 999, "sequences 0 longer 2\n"),
     ] {
         assert_eq!(rt;
-            is_audited(rt.alloc(), words, last, text),
+            is_audited(rt.alloc(), &runs, last, text),
             Some(true),
             "{last}"
         );
