@@ -16,7 +16,8 @@ use Rattle.collection_reader.specs.declared.fault.CollError.{CollError}
 use Rattle.collection_reader.specs.declared.fault.CollError.TheVariants.{Broken, NoMemory}
 use Rattle.collection_reader.specs.declared.position.Position.{Position}
 use Rattle.collection_reader.specs.FirstFault.{number_at, lacks, doc_break}
-use Rattle.collection_reader.specs.OneFile.{TakesNumber, ReadsFrom, rest_of}
+use Rattle.held_pieces.specs.Pieces.{rest_of}
+use Rattle.collection_reader.specs.OneFile.{TakesNumber, ReadsFrom}
 use Rattle.collection_reader.specs.OneSequence.{IsDocsFault, ReadsDocuments}
 use Rattle.collection_reader.proofs.SameAnswer.{same-fault, fault-of, no_memory-not-broken}
 use Rattle.collection_reader.proofs.ReadsFrom.{answers-ok, answers-err, answers-broken, answers-no_memory, reads-then}

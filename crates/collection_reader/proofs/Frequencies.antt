@@ -17,7 +17,8 @@ use Rattle.collection_reader.specs.declared.fault.CollError.{CollError}
 use Rattle.collection_reader.specs.declared.fault.CollError.TheVariants.{Broken}
 use Rattle.collection_reader.specs.declared.position.Position.{Position}
 use Rattle.collection_reader.specs.FirstFault.{number_at, lacks, freq_break}
-use Rattle.collection_reader.specs.OneFile.{TakesNumber, ReadsFrom, rest_of}
+use Rattle.held_pieces.specs.Pieces.{rest_of}
+use Rattle.collection_reader.specs.OneFile.{TakesNumber, ReadsFrom}
 use Rattle.collection_reader.specs.OneSequence.{IsFreqsFault, ReadsFrequencies}
 use Rattle.collection_reader.proofs.SameAnswer.{same-fault, fault-of}
 use Rattle.collection_reader.proofs.ReadsFrom.{answers-err, answers-broken, reads-then}

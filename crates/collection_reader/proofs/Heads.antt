@@ -7,7 +7,8 @@ use Rattle.pef_io.specs.DepotState.{DepotState}
 use Rattle.collection_reader.specs.declared.fault.CollError.{CollError}
 use Rattle.collection_reader.specs.declared.position.Position.{Position}
 use Rattle.collection_reader.specs.FirstFault.{head_fault, lacks}
-use Rattle.collection_reader.specs.OneFile.{TakesNumber, rest_of, cut_at}
+use Rattle.held_pieces.specs.Pieces.{rest_of}
+use Rattle.collection_reader.specs.OneFile.{TakesNumber, cut_at}
 use Rattle.collection_reader.specs.OneSequence.{ReadsHead}
 use Rattle.collection_reader.proofs.ReadsFrom.{reads-then}
 use Rattle.collection_reader.proofs.Numbers.{lacks-there, lacks-not}

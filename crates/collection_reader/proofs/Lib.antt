@@ -5,9 +5,8 @@ mod Prefixes
 mod FirstFaults
 mod Limits
 mod ReadsFrom
-mod Ahead
+mod PieceAnswers
 mod SameAnswer
-mod Bytes
 mod Heads
 mod Documents
 mod Frequencies
@@ -16,9 +15,9 @@ mod Starts
 mod TriesList
 mod TriesEnd
 mod Refusals
+pub mod Aligned
 mod ListsRead
 mod CollectionRead
 mod InTurn
 mod Rows
 mod WholeFaults
-pub mod HeldNumbers

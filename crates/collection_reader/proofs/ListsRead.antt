@@ -22,19 +22,7 @@ use Rattle.collection_reader.specs.ReadCollection.{IsCollectionSlot}
 use Rattle.collection_reader.specs.Reading.{Reading, rests, after_lists, IsReadFault, IsNextFault, OnlyReadsCollection, ReadsList, GivesList, EndsLists}
 use Rattle.collection_reader.specs.ReadLists.{AtFirstList, HaveBeenRead, ReadsLists}
 use Rattle.pef_io.proofs.OnlyReads.{OnlyReads-trans, OnlyReads-same}
-
--- one more vector of documents, and one of frequencies
-pub held_push : (docs freqs : List (Vec ℕ Global)) (d f : Vec ℕ Global) → AreAligned docs freqs → lists_held (docs ++ d ∷ []) (freqs ++ f ∷ []) ≡ lists_held docs freqs ++ postings_of d.items f.items ∷ []
-held_push [] [] d f aligned = refl
-held_push [] (g ∷ freqs) d f aligned = absurd aligned
-held_push (e ∷ docs) [] d f aligned = absurd aligned
-held_push (e ∷ docs) (g ∷ freqs) d f aligned = ap (λ l. postings_of e.items g.items ∷ l) (held_push docs freqs d f aligned.1)
-
-pub aligned_push : (docs freqs : List (Vec ℕ Global)) (d f : Vec ℕ Global) → AreAligned docs freqs → length d.items ≡ length f.items → AreAligned (docs ++ d ∷ []) (freqs ++ f ∷ [])
-aligned_push [] [] d f aligned same = (same, tt)
-aligned_push [] (g ∷ freqs) d f aligned same = absurd aligned
-aligned_push (e ∷ docs) [] d f aligned same = absurd aligned
-aligned_push (e ∷ docs) (g ∷ freqs) d f aligned same = (aligned.0, aligned_push docs freqs d f aligned.1 same)
+use Rattle.collection_reader.proofs.Aligned.{held_push, aligned_push}
 
 pub docs_bytes-push : (lists : List (List Posting)) (docs freqs : List ℕ) → length docs ≡ length freqs → docs_bytes (lists ++ postings_of docs freqs ∷ []) ≡ docs_bytes lists ++ number_sequence docs
 docs_bytes-push lists docs freqs same =

@@ -1,11 +1,12 @@
-use Rattle.std.proofs.Common.{◌≡◌, refl, sym, ap, subst, ◌∙◌, arith, inl, inr, ℕ, List, Result, Ok, Err}
-use Rattle.std.specs.Prelude.{IsErrOf}
+use Rattle.std.proofs.Common.{◌≡◌, refl, sym, ap, subst, ◌∙◌, arith, inl, inr, Result, Ok, Err}
 use Rattle.pef_io.specs.declared.fail.IoFail.{IoFail}
 use Rattle.pef_io.specs.declared.fail.IoFail.TheVariants as call
 use Rattle.pef_io.specs.Calls.{Rose}
 use Rattle.pef_io.specs.declared.fail.Slot.{Slot}
-use Rattle.pef_io.specs.DepotState.{DepotState, ReadsSlot}
-use Rattle.pef_io.proofs.OnlyReads.{OnlyReads-same, OnlyReads-then, OnlyReads-trans, OnlyReads-wider, faults-there}
+use Rattle.pef_io.specs.DepotState.{DepotState}
+use Rattle.pef_io.proofs.OnlyReads.{OnlyReads-trans, OnlyReads-wider}
+use Rattle.held_pieces.specs.Pieces.{ReadsOn}
+use Rattle.held_pieces.proofs.SlotReads.{refused-not_at_ok, refused-not_at_failed, faults-on, same-at_ok}
 use Rattle.collection_reader.specs.declared.fault.CollError.{CollError}
 use Rattle.collection_reader.specs.declared.fault.CollError.TheVariants.{Broken, Read, NoMemory}
 use Rattle.collection_reader.specs.declared.fault.Fault.{Fault}
@@ -26,59 +27,50 @@ same-read e slot h = cc
 same-want : {A B : Type 0} (e : CollError) → (let r : Result A CollError = Err e in r ≡ Err NoMemory) → let s : Result B CollError = Err e in s ≡ Err NoMemory
 same-want e h = cc
 
--- no call
-pub reads-none : {A : Type 0} {touched : Slot → Type 0} (d : DepotState) (x : A) → ReadsFrom touched d d (Ok x)
-reads-none d x = record {
-  only = OnlyReads-same d;
-  count_rises_only_there = λ slot. inr refl;
-  read_only_where_it_rose = λ slot h. absurd (ok-not-err x _ h);
-  refusals_rise_only_there = inr refl;
-  starts = λ slot. refl;
+-- what the answer of a call says of the file's reading
+pub from-ok : {A B : Type 0} {slot : Slot} {a b : DepotState} {x : A} (y : B) → ReadsOn slot a b (Ok x) → ReadsFrom (λ s. s ≡ slot) a b (Ok y)
+from-ok {a = a} {b = b} {x = x} y p = record {
+  only = p.only;
+  count_rises_only_there = λ s. inr (same-at_ok p s);
+  read_only_where_it_rose = λ s h. absurd (ok-not-err y _ h);
+  refusals_rise_only_there = inr (refused-not_at_ok {x = x} p.refusals);
+  starts = p.starts;
 }
 
--- a read that gave some bytes
-pub reads-some : {A : Type 0} (old new : DepotState) (slot : Slot) (before after : List ℕ) (count : ℕ) (x : A) → ReadsSlot old new slot before after (Ok count) → ReadsFrom (λ s. s ≡ slot) old new (Ok x)
-reads-some old new slot before after count x r = record {
-  only = OnlyReads-then (OnlyReads-same old) refl r;
-  count_rises_only_there = λ s. elim (faults-there r s) [
-    | inl e ↦ inr (ap new.faults e ∙ r.counts.this.same_at_ok refl ∙ sym (ap old.faults e))
-    | inr same ↦ inr same
-  ];
-  read_only_where_it_rose = λ s h. absurd (ok-not-err x _ h);
-  refusals_rise_only_there = elim r.counts.refusals.rises_only_there [ inl h ↦ absurd (answered h) | inr same ↦ inr same ];
-  starts = r.starts;
+pub from-broken : {A B : Type 0} {slot : Slot} {a b : DepotState} {x : A} (fault : Fault) → ReadsOn slot a b (Ok x) → let r : Result B CollError = Err (Broken fault) in ReadsFrom (λ s. s ≡ slot) a b r
+from-broken {B = B} {x = x} fault p = record {
+  only = p.only;
+  count_rises_only_there = λ s. inr (same-at_ok p s);
+  read_only_where_it_rose = λ s h. absurd (broken-not-read {A = B} fault s h);
+  refusals_rise_only_there = inr (refused-not_at_ok {x = x} p.refusals);
+  starts = p.starts;
 }
-  where
-    answered : IsErrOf {T = ℕ} (Ok count) call.NoMemory → ⊥
-    answered h = cc
 
--- a read that was refused
-pub reads-refused : {A : Type 0} (old new : DepotState) (slot : Slot) (before after : List ℕ) (fail : IoFail) → ReadsSlot old new slot before after (Err fail) → let r : Result A CollError = Err (call_error slot fail) in ReadsFrom (λ s. s ≡ slot) old new r
-reads-refused {A} old new slot before after call.Failed r = record {
-  only = OnlyReads-then (OnlyReads-same old) refl r;
-  count_rises_only_there = λ s. elim (faults-there r s) [
+read-slot : {A : Type 0} (s t : Slot) → (let r : Result A CollError = Err (Read t) in r ≡ Err (Read s)) → s ≡ t
+read-slot s t h = cc
+
+pub from-refused : {A B : Type 0} {slot : Slot} {a b : DepotState} (fail : IoFail) → (let r : Result A IoFail = Err fail in ReadsOn slot a b r) → let s : Result B CollError = Err (call_error slot fail) in ReadsFrom (λ s. s ≡ slot) a b s
+from-refused {A = A} {B = B} {slot = slot} {a = a} {b = b} call.Failed p = record {
+  only = p.only;
+  count_rises_only_there = λ s. elim (faults-on p s) [
     | inl e ↦ inl (ap (λ (t : Slot). Err (Read t)) (sym e))
     | inr same ↦ inr same
   ];
-  read_only_where_it_rose = λ s h. (read-slot s slot h, subst (λ (t : Slot). Rose (old.faults t) (new.faults t)) (sym (read-slot s slot h)) (r.counts.this.failed_only_where_it_rose refl));
-  refusals_rise_only_there = elim r.counts.refusals.rises_only_there [ inl h ↦ absurd (other h) | inr same ↦ inr same ];
-  starts = r.starts;
+  read_only_where_it_rose = λ s h.
+      let is : s ≡ slot = read-slot {A = B} s slot h in
+      (is, subst (λ (t : Slot). Rose (a.faults t) (b.faults t)) (sym is) (p.counts.failed_only_where_it_rose refl));
+  refusals_rise_only_there = inr (refused-not_at_failed {A = A} p.refusals);
+  starts = p.starts;
 }
-  where
-    other : IsErrOf {T = ℕ} (Err call.Failed) call.NoMemory → ⊥
-    other h = cc
-
-    read-slot : (s t : Slot) → (let r : Result A CollError = Err (Read t) in r ≡ Err (Read s)) → s ≡ t
-    read-slot s t h = cc
-reads-refused {A} old new slot before after call.NoMemory r = record {
-  only = OnlyReads-then (OnlyReads-same old) refl r;
-  count_rises_only_there = λ s. elim (faults-there r s) [
-    | inl e ↦ inr (ap new.faults e ∙ r.counts.this.same_at_no_memory refl ∙ sym (ap old.faults e))
+from-refused {A = A} {B = B} {slot = slot} {a = a} {b = b} call.NoMemory p = record {
+  only = p.only;
+  count_rises_only_there = λ s. elim (faults-on p s) [
+    | inl e ↦ inr (ap b.faults e ∙ p.counts.same_at_no_memory refl ∙ sym (ap a.faults e))
     | inr same ↦ inr same
   ];
-  read_only_where_it_rose = λ s h. absurd (no_memory-not-read {A = A} s h);
+  read_only_where_it_rose = λ s h. absurd (no_memory-not-read {A = B} s h);
   refusals_rise_only_there = inl refl;
-  starts = r.starts;
+  starts = p.starts;
 }
 
 -- what an answer that is no refusal says of the counts

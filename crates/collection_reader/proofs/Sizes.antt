@@ -8,7 +8,8 @@ use Rattle.collection_reader.specs.declared.fault.CollError.{CollError}
 use Rattle.collection_reader.specs.declared.fault.CollError.TheVariants.{Broken}
 use Rattle.collection_reader.specs.declared.position.Position.{Position}
 use Rattle.collection_reader.specs.FirstFault.{number_at, lacks, end_fault}
-use Rattle.collection_reader.specs.OneFile.{LooksAhead, TakesNumber, ReadsFrom, rest_of}
+use Rattle.held_pieces.specs.Pieces.{rest_of}
+use Rattle.collection_reader.specs.OneFile.{LooksAhead, TakesNumber, ReadsFrom}
 use Rattle.collection_reader.specs.OneSequence.{ReadsToEnd}
 use Rattle.collection_reader.proofs.SameAnswer.{same-fault, fault-of}
 use Rattle.collection_reader.proofs.ReadsFrom.{answers-err, answers-broken, reads-then}

@@ -12,7 +12,8 @@ use Rattle.collection_reader.specs.declared.fault.Fault.{Fault}
 use Rattle.collection_reader.specs.declared.fault.CollError.{CollError}
 use Rattle.collection_reader.specs.FirstFault.{number_at, lacks, FirstBreak, IsListFault}
 use Rattle.collection_reader.specs.Reading.{Reading, rests, IsNextFault}
-use Rattle.collection_reader.specs.OneFile.{LooksAhead, rest_of}
+use Rattle.held_pieces.specs.Pieces.{rest_of}
+use Rattle.collection_reader.specs.OneFile.{LooksAhead}
 use Rattle.collection_reader.specs.OneSequence.{IsDocsFault, IsFreqsFault, ReadsDocuments, ReadsFrequencies}
 use Rattle.collection_reader.specs.OneReader.{TriesList}
 use Rattle.collection_reader.proofs.SameAnswer.{same-fault}

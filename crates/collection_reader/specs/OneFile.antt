@@ -1,20 +1,17 @@
-use Rattle.std.specs.Prelude.{◌≡◌, ℕ, Bool, ◌^◌, ◌<◌, ◌⊎◌, true, false, IsTrue, List, [], ◌∷◌, ◌++◌, length, Result, Ok, Err, IfOk, OnOk}
+use Rattle.std.specs.Prelude.{◌≡◌, ℕ, Bool, ◌^◌, ◌<◌, ◌⊎◌, true, false, IsTrue, List, [], ◌++◌, length, Result, Ok, Err, IfOk, OnOk}
 use Rattle.collection_model.specs.Bytes.{le32}
 use Rattle.pef_io.specs.declared.fail.IoFail.{IoFail}
 use Rattle.pef_io.specs.declared.fail.IoFail.TheVariants.{Failed, NoMemory}
 use Rattle.pef_io.specs.declared.fail.Slot.{Slot}
 use Rattle.pef_io.specs.Calls.{Rose}
 use Rattle.pef_io.specs.DepotState.{DepotState, SameStarts, OnlyReads}
+use Rattle.held_pieces.specs.Pieces.{rest_of}
 use Rattle.collection_reader.specs.declared.fault.Rule.TheVariants.{C1}
 use Rattle.collection_reader.specs.declared.fault.Fault.{Fault}
 use Rattle.collection_reader.specs.declared.fault.CollError.{CollError}
 use Rattle.collection_reader.specs.declared.fault.CollError.TheVariants.{Broken, Read}
 use Rattle.collection_reader.specs.declared.fault.CollError.TheVariants as reading
 use Rattle.collection_reader.specs.declared.position.Position.{Position}
-
--- what is left of a file: the bytes held, and then those that its slot has left
-abbrev pub rest_of : List ℕ → DepotState → Slot → List ℕ
-rest_of held depot slot = held ++ depot.left slot
 
 -- the fault at a position where a number is needed and fewer than four bytes are left
 abbrev pub cut_at : Position → Fault
@@ -47,14 +44,6 @@ pub record LooksAhead (slot : Slot) (held held_after : List ℕ) (old new : Depo
   pub at_end : IsTrue old.tells → result ≡ Ok false → rest_of held old slot ≡ []
   pub no_fault : (fault : Fault) → result ≡ Err (Broken fault) → ⊥
   pub depot : ReadsFrom (λ s. s ≡ slot) old new result
-
--- The next byte, or that there is none.
-pub record TakesByte (at : Position) (held held_after : List ℕ) (old new : DepotState) (result : Result ℕ CollError) : Type 0 where
-  pub fits : IfOk result (λ b. b < 256)
-  pub byte : IsTrue old.tells → IfOk result (λ b. rest_of held old at.file ≡ b ∷ rest_of held_after new at.file)
-  pub cut : (fault : Fault) → result ≡ Err (Broken fault) → fault ≡ cut_at at
-  pub at_end : IsTrue old.tells → (fault : Fault) → result ≡ Err (Broken fault) → rest_of held old at.file ≡ []
-  pub depot : ReadsFrom (λ s. s ≡ at.file) old new result
 
 -- The next number, or that fewer than four bytes are left.
 pub record TakesNumber (at : Position) (held held_after : List ℕ) (old new : DepotState) (result : Result ℕ CollError) : Type 0 where

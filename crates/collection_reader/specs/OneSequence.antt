@@ -11,7 +11,8 @@ use Rattle.collection_reader.specs.declared.fault.Fault.{Fault}
 use Rattle.collection_reader.specs.declared.fault.CollError.{CollError}
 use Rattle.collection_reader.specs.declared.fault.CollError.TheVariants.{Broken}
 use Rattle.collection_reader.specs.FirstFault.{number_at, lacks, FirstBreak, head_fault, doc_break, freq_break, end_fault}
-use Rattle.collection_reader.specs.OneFile.{rest_of, ReadsFrom}
+use Rattle.held_pieces.specs.Pieces.{rest_of}
+use Rattle.collection_reader.specs.OneFile.{ReadsFrom}
 
 -- The fault is the first in the document sequence of term t, which begins these bytes.
 abbrev pub IsDocsFault : ℕ → ℕ → List ℕ → Fault → Type 0

@@ -3,7 +3,6 @@
 
 mod collection;
 mod fault;
-mod four_bytes;
 mod held;
 mod laws;
 mod phase;
@@ -15,7 +14,6 @@ mod whole;
 
 pub use collection::Collection;
 pub use fault::{CollError, Fault, Rule};
-pub use four_bytes::number_at;
 pub use laws::{
     files_have_one_first_fault, lists_are_read_in_turn, no_fault_means_spelled,
     no_head_fault_means_prefix, second_format_never_has_too_many_documents,

@@ -6,11 +6,12 @@ ghost use Rattle.collection_reader.specs.OneReader.{TriesList, TriesEnd};
 ghost use Rattle.part_cost.specs.Formats.{numbers_of};
 
 use crate::fault::{CollError, Rule};
-use crate::held::Held;
+use crate::held::has_byte;
 use crate::phase::Phase;
 use crate::position::Position;
 use crate::sequences::{read_documents, read_frequencies, read_head, read_sizes};
 use crate::start::start_files;
+use held_pieces::Held;
 use part_cost::Format;
 use pef_io::{Depot, Slot};
 use std::alloc::Global;
@@ -138,7 +139,7 @@ impl ListReader {
         ensures { TriesList self.old self.new (D.state depot.old) (D.state depot.new) docs.new.items
             freqs.new.items result }
     {
-        if !self.docs.has_byte(Slot::Docs, depot)? {
+        if !has_byte(&mut self.docs, Slot::Docs, depot)? {
             if self.phase == Phase::Lists {
                 self.phase = Phase::Ended;
             }
@@ -191,7 +192,7 @@ impl ListReader {
         ensures { TriesEnd self.old self.new (D.state depot.old) (D.state depot.new) sizes.new.items
             result }
     {
-        if self.freqs.has_byte(Slot::Freqs, depot)? {
+        if has_byte(&mut self.freqs, Slot::Freqs, depot)? {
             let at = Position {
                 file: Slot::Freqs,
                 term: self.lists,

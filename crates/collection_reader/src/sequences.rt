@@ -4,8 +4,9 @@ ghost use Rattle.pef_io.specs.declared.fail.Slot.TheVariants.{Docs, Freqs, Sizes
 ghost use Rattle.collection_reader.specs.OneSequence.{ReadsHead, ReadsDocuments, ReadsFrequencies, ReadsToEnd};
 
 use crate::fault::{CollError, Rule};
-use crate::held::Held;
+use crate::held::{has_byte, read_number};
 use crate::position::Position;
+use held_pieces::Held;
 use part_cost::Format;
 use pef_io::{Depot, Slot};
 
@@ -24,10 +25,10 @@ pub(crate) fn read_head<D: Depot>(
         term: 0,
         place: 0,
     };
-    if held.number(at, depot)? != 1 {
+    if read_number(held, at, depot)? != 1 {
         return Err(at.breaks(Rule::C2));
     }
-    let documents = held.number(at, depot)?;
+    let documents = read_number(held, at, depot)?;
     if documents > format.most_documents() {
         return Err(at.breaks(Rule::C3));
     }
@@ -52,11 +53,11 @@ pub(crate) fn read_documents<D: Depot>(
         term,
         place: 0,
     };
-    let length = held.number(head, depot)?;
+    let length = read_number(held, head, depot)?;
     let mut last = 0;
     for place in 0..length {
         let at = Position { place, ..head };
-        let document = held.number(at, depot)?;
+        let document = read_number(held, at, depot)?;
         if document >= documents {
             return Err(at.breaks(Rule::C4));
         }
@@ -88,14 +89,14 @@ pub(crate) fn read_frequencies<D: Depot>(
         term,
         place: 0,
     };
-    let length = held.number(head, depot)?;
+    let length = read_number(held, head, depot)?;
     if length as usize != expected {
         return Err(head.breaks(Rule::C6));
     }
     let mut sum = 0;
     for place in 0..length {
         let at = Position { place, ..head };
-        let freq = held.number(at, depot)?;
+        let freq = read_number(held, at, depot)?;
         if freq == 0 {
             return Err(at.breaks(Rule::C7));
         }
@@ -126,14 +127,14 @@ pub(crate) fn read_sizes<D: Depot>(
         term: terms,
         place: 0,
     };
-    if held.number(head, depot)? != documents {
+    if read_number(held, head, depot)? != documents {
         return Err(head.breaks(Rule::C11));
     }
     for place in 0..documents {
-        let size = held.number(Position { place, ..head }, depot)?;
+        let size = read_number(held, Position { place, ..head }, depot)?;
         sizes.push(size)?;
     }
-    if held.has_byte(Slot::Sizes, depot)? {
+    if has_byte(held, Slot::Sizes, depot)? {
         let end = Position {
             place: documents,
             ..head

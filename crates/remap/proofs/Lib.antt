@@ -9,7 +9,6 @@ mod Rows
 mod Ids
 mod MapReads
 mod MapFaultsFound
-mod MapBytes
 mod MapIds
 mod MapRead
 mod OneFault

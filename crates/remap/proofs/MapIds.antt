@@ -18,7 +18,8 @@ use Rattle.remap.specs.declared.fault.MapError.{MapError}
 use Rattle.remap.specs.declared.fault.MapError.TheVariants.{Broken, NoMemory}
 use Rattle.remap.specs.declared.fault.MapFault.{MapFault}
 use Rattle.remap.specs.MapFaults.{IsMapFault}
-use Rattle.remap.specs.OneMap.{LooksAhead, call_error, rest_of}
+use Rattle.held_pieces.specs.Pieces.{LooksAhead}
+use Rattle.remap.specs.OneMap.{call_error, rest_of}
 use Rattle.remap.specs.OneSequence.{ReadsFrom, ReadsNumber, ReadsLength, ReadsIds}
 use Rattle.remap.proofs.MapReads.{answers-ok, answers-broken, answers-no_memory, answers-err, reads-then, from-ok, from-broken, from-refused}
 use Rattle.collection_reader.proofs.Begun.{begun, begun-none, begun-next}
@@ -146,14 +147,14 @@ came-before n k held mid last ids seen x a b c lt small marked so_far number =
     (twice-at_id n ids x first.0 (rest_of last c) so_far.fits small so_far.below so_far.apart (omega arith) (omega arith) first.2)))
     (answers-broken {A = ℕ} {B = ℕ} {x = x} (record { rule = M4; place = k }) (reads-then {x = k} so_far.depot number.depot))
 
-pub end-refused : (n : ℕ) (held mid last ids : List ℕ) (seen : List Bool) (a b c : DepotState) (fail : IoFail) → IdsSoFar n n held mid a b ids seen → LooksAhead mid last b c (Err fail) → ReadsIds n held last a c (Err (call_error fail))
+pub end-refused : (n : ℕ) (held mid last ids : List ℕ) (seen : List Bool) (a b c : DepotState) (fail : IoFail) → IdsSoFar n n held mid a b ids seen → LooksAhead Map mid last b c (Err fail) → ReadsIds n held last a c (Err (call_error fail))
 end-refused n held mid last ids seen a b c fail so_far look = refused {A = ℕ} n held last a c (call_error fail) (no-fault fail) (reads-then {x = n} so_far.depot (from-refused {A = Bool} {B = ℕ} fail look.depot))
   where
     no-fault : (fail : IoFail) → IsTrue a.tells → (fault : MapFault) → call_error fail ≡ Broken fault → IsMapFault n (rest_of held a) fault
     no-fault call.Failed t f is = absurd cc
     no-fault call.NoMemory t f is = absurd cc
 
-pub more-left : (n : ℕ) (held mid last ids : List ℕ) (seen : List Bool) (a b c : DepotState) → IdsSoFar n n held mid a b ids seen → LooksAhead mid last b c (Ok true) → ReadsIds n held last a c (Err (Broken (record { rule = M5; place = n })))
+pub more-left : (n : ℕ) (held mid last ids : List ℕ) (seen : List Bool) (a b c : DepotState) → IdsSoFar n n held mid a b ids seen → LooksAhead Map mid last b c (Ok true) → ReadsIds n held last a c (Err (Broken (record { rule = M5; place = n })))
 more-left n held mid last ids seen a b c so_far look = refused {A = ℕ} n held last a c (Broken (record { rule = M5; place = n })) (λ t f is.
     let same : record { rule = M5; place = n } ≡ f = cc in
     let some : 0 < length (rest_of mid b) = omega (arith, look.more refl, length-append last (c.left Map), ap length (look.same_rest (so_far.depot.only.tells ∙ t))) in
@@ -161,7 +162,7 @@ more-left n held mid last ids seen a b c so_far look = refused {A = ℕ} n held 
     (reads-then {x = n} so_far.depot (from-broken {A = Bool} {B = ℕ} {x = true} (record { rule = M5; place = n }) look.depot))
 
 -- all ids are read
-pub all-read : (n : ℕ) (held mid last ids : List ℕ) (seen : List Bool) (a b c : DepotState) → IdsSoFar n n held mid a b ids seen → LooksAhead mid last b c (Ok false) → ReadsIds n held last a c (Ok ids)
+pub all-read : (n : ℕ) (held mid last ids : List ℕ) (seen : List Bool) (a b c : DepotState) → IdsSoFar n n held mid a b ids seen → LooksAhead Map mid last b c (Ok false) → ReadsIds n held last a c (Ok ids)
 all-read n held mid last ids seen a b c so_far look =
     let none : IsTrue a.tells → rest_of mid b ≡ [] = λ t. look.at_end (so_far.depot.only.tells ∙ t) refl in
     let still : IsTrue a.tells → rest_of last c ≡ [] = λ t. look.same_rest (so_far.depot.only.tells ∙ t) ∙ none t in

@@ -3,73 +3,19 @@ use Rattle.std.proofs.Common.{◌≡◌, refl, ◌∙◌, subst, inl, inr, ℕ, 
 use Rattle.pef_io.specs.declared.fail.IoFail.{IoFail}
 use Rattle.pef_io.specs.declared.fail.IoFail.TheVariants as call
 use Rattle.pef_io.specs.declared.fail.Slot.TheVariants.{Map}
-use Rattle.pef_io.specs.Calls.{CountsFaults, CountsRefusals, Rose}
+use Rattle.pef_io.specs.Calls.{Rose}
 use Rattle.pef_io.specs.DepotState.{DepotState}
 use Rattle.pef_io.proofs.OnlyReads.{OnlyReads-trans}
+use Rattle.held_pieces.specs.Pieces.{ReadsOn}
+use Rattle.held_pieces.proofs.SlotReads.{refused-not_at_ok, refused-not_at_failed}
 use Rattle.remap.specs.declared.fault.MapError.{MapError}
 use Rattle.remap.specs.declared.fault.MapError.TheVariants.{Broken, Read, NoMemory}
 use Rattle.remap.specs.declared.fault.MapFault.{MapFault}
-use Rattle.remap.specs.OneMap.{ReadsOn, call_error}
+use Rattle.remap.specs.OneMap.{call_error}
 use Rattle.remap.specs.OneSequence.{ReadsFrom}
 
--- a refusal or an answer of a call is none of another type but the same
-same-refusal : {A B : Type 0} (e f : IoFail) → (let r : Result A IoFail = Err e in r ≡ Err f) → let s : Result B IoFail = Err e in s ≡ Err f
-same-refusal e f h = cc
-
-ok-no_refusal : {A : Type 0} (x : A) (f : IoFail) → (let r : Result A IoFail = Ok x in r ≡ Err f) → ⊥
-ok-no_refusal x f h = cc
-
--- at an answer that is no refusal the count of refusals stays
-refused-not_at_ok : {A : Type 0} {before now : ℕ} {x : A} → (let r : Result A IoFail = Ok x in CountsRefusals before now r) → now ≡ before
-refused-not_at_ok {x = x} p = elim p.rises_only_there [ inl h ↦ absurd (ok-no_refusal x call.NoMemory h) | inr same ↦ same ]
-
-pub reads-ok : {A B : Type 0} {a b : DepotState} {x : A} (y : B) → ReadsOn a b (Ok x) → ReadsOn a b (Ok y)
-reads-ok {x = x} y p = record {
-  only = p.only;
-  counts = record {
-    never_falls = p.counts.never_falls;
-    failed_only_where_it_rose = λ h. absurd (ok-no_refusal y call.Failed h);
-    same_at_ok = λ h. p.counts.same_at_ok refl;
-    same_at_no_memory = λ h. absurd (ok-no_refusal y call.NoMemory h);
-  };
-  refusals = record {
-    never_falls = p.refusals.never_falls;
-    no_memory_only_where_it_rose = λ h. absurd (ok-no_refusal y call.NoMemory h);
-    rises_only_there = inr (refused-not_at_ok {x = x} p.refusals);
-  };
-  starts = p.starts;
-}
-
-pub reads-err : {A B : Type 0} {a b : DepotState} (e : IoFail) → (let r : Result A IoFail = Err e in ReadsOn a b r) → let s : Result B IoFail = Err e in ReadsOn a b s
-reads-err {A = A} {B = B} e p = record {
-  only = p.only;
-  counts = record {
-    never_falls = p.counts.never_falls;
-    failed_only_where_it_rose = λ h. p.counts.failed_only_where_it_rose (same-refusal {A = B} {B = A} e call.Failed h);
-    same_at_ok = λ h. absurd cc;
-    same_at_no_memory = λ h. p.counts.same_at_no_memory (same-refusal {A = B} {B = A} e call.NoMemory h);
-  };
-  refusals = record {
-    never_falls = p.refusals.never_falls;
-    no_memory_only_where_it_rose = λ h. p.refusals.no_memory_only_where_it_rose (same-refusal {A = B} {B = A} e call.NoMemory h);
-    rises_only_there = elim p.refusals.rises_only_there [ inl h ↦ inl (same-refusal {A = A} {B = B} e call.NoMemory h) | inr same ↦ inr same ];
-  };
-  starts = p.starts;
-}
-
--- a call after one that did not refuse
-pub reads-on : {A B : Type 0} {a b c : DepotState} {x : A} {r : Result B IoFail} → ReadsOn a b (Ok x) → ReadsOn b c r → ReadsOn a c r
-reads-on {a = a} {b = b} {c = c} {x = x} {r = r} p q =
-    let same : b.faults Map ≡ a.faults Map = p.counts.same_at_ok refl in
-    record {
-      only = OnlyReads-trans p.only q.only;
-      counts = subst (λ (n : ℕ). CountsFaults n (c.faults Map) r) same q.counts;
-      refusals = subst (λ (n : ℕ). CountsRefusals n c.refusals r) (refused-not_at_ok {x = x} p.refusals) q.refusals;
-      starts = λ slot. q.starts slot ∙ p.starts slot;
-    }
-
 -- what the answer of a call says of the map's reading
-pub from-ok : {A B : Type 0} {a b : DepotState} {x : A} (y : B) → ReadsOn a b (Ok x) → let r : Result B MapError = Ok y in ReadsFrom a b r
+pub from-ok : {A B : Type 0} {a b : DepotState} {x : A} (y : B) → ReadsOn Map a b (Ok x) → let r : Result B MapError = Ok y in ReadsFrom a b r
 from-ok {x = x} y p = record {
   only = p.only;
   count_rises_only_there = inr (p.counts.same_at_ok refl);
@@ -78,7 +24,7 @@ from-ok {x = x} y p = record {
   starts = p.starts;
 }
 
-pub from-broken : {A B : Type 0} {a b : DepotState} {x : A} (fault : MapFault) → ReadsOn a b (Ok x) → let r : Result B MapError = Err (Broken fault) in ReadsFrom a b r
+pub from-broken : {A B : Type 0} {a b : DepotState} {x : A} (fault : MapFault) → ReadsOn Map a b (Ok x) → let r : Result B MapError = Err (Broken fault) in ReadsFrom a b r
 from-broken {x = x} fault p = record {
   only = p.only;
   count_rises_only_there = inr (p.counts.same_at_ok refl);
@@ -87,15 +33,12 @@ from-broken {x = x} fault p = record {
   starts = p.starts;
 }
 
-failed-not_no_memory : {A : Type 0} → (let r : Result A IoFail = Err call.Failed in r ≡ Err call.NoMemory) → ⊥
-failed-not_no_memory h = cc
-
-pub from-refused : {A B : Type 0} {a b : DepotState} (fail : IoFail) → (let r : Result A IoFail = Err fail in ReadsOn a b r) → let s : Result B MapError = Err (call_error fail) in ReadsFrom a b s
+pub from-refused : {A B : Type 0} {a b : DepotState} (fail : IoFail) → (let r : Result A IoFail = Err fail in ReadsOn Map a b r) → let s : Result B MapError = Err (call_error fail) in ReadsFrom a b s
 from-refused {A = A} call.Failed p = record {
   only = p.only;
   count_rises_only_there = inl refl;
   read_only_where_it_rose = λ h. p.counts.failed_only_where_it_rose refl;
-  refusals_rise_only_there = elim p.refusals.rises_only_there [ inl h ↦ absurd (failed-not_no_memory {A = A} h) | inr same ↦ inr same ];
+  refusals_rise_only_there = inr (refused-not_at_failed {A = A} p.refusals);
   starts = p.starts;
 }
 from-refused call.NoMemory p = record {

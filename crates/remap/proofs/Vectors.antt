@@ -11,21 +11,9 @@ use Rattle.collection_model.specs.Collection.{Posting, docs_of, freqs_of, postin
 use Rattle.collection_model.specs.Spelling.{docs_bytes, freqs_bytes}
 use Rattle.collection_model.proofs.Lists.{list-fits, docs-of_postings, freqs-of_postings}
 use Rattle.collection_reader.specs.Held.{lists_held, AreAligned}
+use Rattle.collection_reader.proofs.Aligned.{held_push, aligned_push}
 use Rattle.remap.specs.Image.{IsImageList, AreImageLists}
 use Rattle.remap.specs.Spelling.{AreShort, vectors_bytes}
-
--- one more vector of documents, and one of frequencies
-pub held_push : (docs freqs : List (Vec ℕ Global)) (d f : Vec ℕ Global) → AreAligned docs freqs → lists_held (docs ++ d ∷ []) (freqs ++ f ∷ []) ≡ lists_held docs freqs ++ postings_of d.items f.items ∷ []
-held_push [] [] d f aligned = refl
-held_push [] (g ∷ freqs) d f aligned = absurd aligned
-held_push (e ∷ docs) [] d f aligned = absurd aligned
-held_push (e ∷ docs) (g ∷ freqs) d f aligned = ap (λ l. postings_of e.items g.items ∷ l) (held_push docs freqs d f aligned.1)
-
-pub aligned_push : (docs freqs : List (Vec ℕ Global)) (d f : Vec ℕ Global) → AreAligned docs freqs → length d.items ≡ length f.items → AreAligned (docs ++ d ∷ []) (freqs ++ f ∷ [])
-aligned_push [] [] d f aligned same = (same, tt)
-aligned_push [] (g ∷ freqs) d f aligned same = absurd aligned
-aligned_push (e ∷ docs) [] d f aligned same = absurd aligned
-aligned_push (e ∷ docs) (g ∷ freqs) d f aligned same = (aligned.0, aligned_push docs freqs d f aligned.1 same)
 
 pub aligned-length : (docs freqs : List (Vec ℕ Global)) → AreAligned docs freqs → length freqs ≡ length docs
 aligned-length [] [] aligned = refl

@@ -2,7 +2,6 @@
 #![tactic(auto)]
 
 mod fault;
-mod held;
 mod image;
 mod laws;
 mod permutation;

@@ -4,8 +4,8 @@ ghost use Rattle.remap.specs.OneSequence.{ReadsIds, ReadsLength, ReadsNumber, id
 ghost use Rattle.remap.specs.ReadMap.{ReadsMap};
 
 use crate::fault::{MapError, MapRule};
-use crate::held::Held;
 use crate::permutation::Permutation;
+use held_pieces::Held;
 use pef_io::{Depot, Slot};
 use std::alloc::Global;
 
@@ -51,7 +51,7 @@ fn read_ids<D: Depot>(
         seen[id as usize] = true;
         ids.push(id)?;
     }
-    if held.has_byte(depot)? {
+    if held.has_byte(Slot::Map, depot)? {
         return Err(MapError::broken(MapRule::M5, n));
     }
     Ok(ids)
@@ -73,7 +73,7 @@ fn read_number<D: Depot>(place: u32, held: &mut Held, depot: &mut D) -> Result<u
     requires { IsTrue ((D.state depot.old).started Map) }
     ensures { ReadsNumber place held.old held.new (D.state depot.old) (D.state depot.new) result }
 {
-    match held.number(depot)? {
+    match held.number(Slot::Map, depot)? {
         Some(number) => Ok(number),
         None => Err(MapError::broken(MapRule::M1, place)),
     }

@@ -1,6 +1,7 @@
 // Collections that are read, whole or list by list, and those that are broken.
 use crate::numbers::bytes;
-use collection_reader::{CollError, Fault, ListReader, Rule, number_at, read_collection};
+use collection_reader::{CollError, Fault, ListReader, Rule, read_collection};
+use held_pieces::number_at;
 use part_cost::Format;
 use pef_io::{Depot, MemDepot, Op, Slot, SteadyDepot};
 use std::alloc::{AllocError, Global};

@@ -1,8 +1,8 @@
 use Rattle.std.proofs.Common.{◌∙◌, ap, ◌-◌, drop, length, arith}
 use Rattle.std.proofs.lemmas.List.{length-drop, take_all}
 use Rattle.byteorder.specs.Endian.{little_number}
-use Rattle.collection_reader.proofs.HeldNumbers.{read_behind}
-use Rattle.collection_reader.proofs.four_bytes.number_at.Goals as goal
+use Rattle.held_pieces.proofs.HeldNumbers.{read_behind}
+use Rattle.held_pieces.proofs.four_bytes.number_at.Goals as goal
 
 pub returns : goal.returns
 returns c =

@@ -1,7 +1,7 @@
 use Rattle.std.proofs.Common.{◌∙◌, sym, ap, ◌+◌, ◌-◌, ◌≤◌, length, take, drop, arith}
 use Rattle.std.proofs.lemmas.List.{length-take}
-use Rattle.collection_reader.proofs.HeldNumbers.{number_held}
-use Rattle.remap.proofs.held.Held.held_number.Goals as goal
+use Rattle.held_pieces.proofs.HeldNumbers.{number_held}
+use Rattle.held_pieces.proofs.held.Held.held_number.Goals as goal
 
 pub returns : goal.returns
 returns c =

@@ -1,19 +1,19 @@
 ghost use Rattle.std.specs.Prelude.{◌≡◌, ◌≤◌, [], ◌++◌, length, IsTrue, IfOk};
 ghost use Rattle.collection_model.specs.Bytes.{le32};
-ghost use Rattle.pef_io.specs.declared.fail.Slot.TheVariants.{Map};
-ghost use Rattle.remap.specs.OneMap.{LooksAhead, TakesByte, TakesNumber};
+ghost use Rattle.held_pieces.specs.Pieces.{LooksAhead, TakesByte, TakesNumber};
 
-use collection_reader::number_at;
+use crate::four_bytes::number_at;
 use pef_io::{Depot, IoFail, Slot};
 use std::alloc::{AllocError, Global};
 use std::marker::Model;
 
-// The most bytes of the map that are read at once.
+// The most bytes of a slot that are read at once.
 const PIECE_BYTES: usize = 8_192;
 
-// A piece of the map, of which the bytes from `used` to `end` are still to be used.
+/// The bytes of a slot that were read and are still to be taken, at most 8,192.
 #[derive(Drop)]
-pub(crate) struct Held {
+pub struct Held {
+    // The bytes from `used` to `end` of the piece are held.
     piece: Vec<u8>,
     used: usize,
     end: usize,
@@ -30,8 +30,8 @@ impl Model for Held {
 }
 
 impl Held {
-    // Takes the room of one piece.
-    pub(crate) fn new(alloc: Global) -> Result<Held, AllocError>
+    /// Takes the room of one piece, and holds none of it.
+    pub fn new(alloc: Global) -> Result<Held, AllocError>
         ensures { IfOk result (λ held. held ≡ []) }
     {
         Ok(Held {
@@ -41,15 +41,17 @@ impl Held {
         })
     }
 
-    // Whether the map has a byte left. Reads a piece where none is held.
-    pub(crate) fn has_byte<D: Depot>(&mut self, depot: &mut D) -> Result<bool, IoFail>
-        requires { IsTrue ((D.state depot.old).started Map) }
-        ensures { LooksAhead self.old self.new (D.state depot.old) (D.state depot.new) result }
+    /// Whether the slot has a byte left. Reads a piece where none is held.
+    ///
+    /// The error is that of the read.
+    pub fn has_byte<D: Depot>(&mut self, slot: Slot, depot: &mut D) -> Result<bool, IoFail>
+        requires { IsTrue ((D.state depot.old).started slot) }
+        ensures { LooksAhead slot self.old self.new (D.state depot.old) (D.state depot.new) result }
     {
         if self.used < self.end {
             return Ok(true);
         }
-        match depot.read(Slot::Map, self.piece.as_mut_slice()) {
+        match depot.read(slot, self.piece.as_mut_slice()) {
             Ok(count) => {
                 self.used = 0;
                 self.end = count;
@@ -59,12 +61,14 @@ impl Held {
         }
     }
 
-    // The next byte of the map, where there is one.
-    fn byte<D: Depot>(&mut self, depot: &mut D) -> Result<Option<u8>, IoFail>
-        requires { IsTrue ((D.state depot.old).started Map) }
-        ensures { TakesByte self.old self.new (D.state depot.old) (D.state depot.new) result }
+    /// The next byte of the slot, where there is one.
+    ///
+    /// The error is that of a read.
+    pub fn byte<D: Depot>(&mut self, slot: Slot, depot: &mut D) -> Result<Option<u8>, IoFail>
+        requires { IsTrue ((D.state depot.old).started slot) }
+        ensures { TakesByte slot self.old self.new (D.state depot.old) (D.state depot.new) result }
     {
-        if !self.has_byte(depot)? {
+        if !self.has_byte(slot, depot)? {
             return Ok(None);
         }
         let byte = self.piece[self.used];
@@ -72,17 +76,20 @@ impl Held {
         Ok(Some(byte))
     }
 
-    // The next number of the map, where four bytes are left.
-    pub(crate) fn number<D: Depot>(&mut self, depot: &mut D) -> Result<Option<u32>, IoFail>
-        requires { IsTrue ((D.state depot.old).started Map) }
-        ensures { TakesNumber self.old self.new (D.state depot.old) (D.state depot.new) result }
+    /// The next number of the slot, where four bytes are left.
+    ///
+    /// The error is that of a read. Where there is an error or no number, the bytes that were taken for it are gone.
+    pub fn number<D: Depot>(&mut self, slot: Slot, depot: &mut D) -> Result<Option<u32>, IoFail>
+        requires { IsTrue ((D.state depot.old).started slot) }
+        ensures { TakesNumber slot self.old self.new (D.state depot.old) (D.state depot.new)
+            result }
     {
         if self.end - self.used >= 4 {
             return Ok(Some(self.held_number()));
         }
         let mut bytes = [0; 4];
         for byte in &mut bytes {
-            let Some(next) = self.byte(depot)? else {
+            let Some(next) = self.byte(slot, depot)? else {
                 return Ok(None);
             };
             *byte = next;

@@ -1,0 +1,3 @@
+pub mod SlotReads
+mod Bytes
+mod HeldNumbers
