@@ -17,6 +17,7 @@ use Rattle.packed_list.proofs.GammaReads.{one-number}
 use Rattle.packed_list.proofs.ListPlaces.{facts-between, are-read, tail-behind, TailFacts, tail-facts, single-facts, before-as, not-empty}
 use Rattle.packed_list.proofs.ListViews.{single-read, StatesList, states-list, before-later, before-more}
 use Rattle.packed_list.proofs.view.view_list.Goals as goal
+use Rattle.packed_list.proofs.view.view_list.Goals.{After-last_doc-field, After-get-doc, After-last_sum-sums}
 
 small-words : (words : List ℕ) → ((i : ℕ) → get_or words i 0 < 2 ^ 64) → All (λ w. w < 2 ^ 64) words
 small-words words h = All-from_get_or (λ w. w < 2 ^ 64) words 0 (λ i lt. h i)
@@ -84,146 +85,99 @@ unreachable-requires-in_default-gamma_before c =
     let place : c.args.from + gamma_length (length h.0) ≡ c.in-Some.count.behind = omega (arith, c.in-Some.ensures.behind, ap gamma_length same) in
     (c.in_default-gamma_before).ensures.none (greatest_freq h.0) (subst (λ p. IsGammaBefore bits p c.args.to (greatest_freq h.0)) place f.most)
 
+-- what was read of the list
+read : (c : After-last_doc-field)
+    → Seen c.args.documents c.args.words.now c.args.from c.args.to c.in-Some.count.number c.in-Some.count.behind c.in-Some-gamma_before.most.number c.in-Some-gamma_before.most.behind c.requires.list
+read c =
+    seen c.args.documents c.args.words.now c.args.from c.args.to c.in-Some.count.number c.in-Some.count.behind c.in-Some-gamma_before.most.number c.in-Some-gamma_before.most.behind (omega (arith, c.ranges.documents.fits)) c.requires.some c.requires.range
+    c.in-Some.ensures.some c.in-Some.ensures.behind c.in-Some-gamma_before.ensures.some c.in-Some-gamma_before.ensures.behind c.requires.list
+
+-- and what its words state
+said : (c : After-last_doc-field) → StatesList c.args.documents c.args.words.now c.args.from c.requires.list.0 c.requires.list.1 c.requires.list.2
+said c =
+    stated c.lists_state_back.ensures c.args.documents c.args.words.now c.args.from c.args.to (omega (arith, c.ranges.documents.fits)) (small-words c.args.words.now (λ i. (let f = c.type_inv.words i in omega (arith, f)))) c.requires.some c.requires.range c.requires.list
+
+-- the width of the field of the last document
+width-is : (c : After-last_doc-field) → c.last_doc-field.result.width ≡ digits (c.args.documents - 1)
+width-is c = ap (λ l. l.width) c.last_doc-field.ensures
+
+-- the document that was read of a single posting
+doc-is : (c : After-get-doc) → c.get-doc.result ≡ field_at (bits_of c.args.words.now) c.in-Some-gamma_before.most.behind (digits (c.args.documents - 1))
+doc-is c = c.get-doc.ensures ∙ ap (field_at (bits_of c.args.words.now) c.in-Some-gamma_before.most.behind) (width-is (goal.at.After-get-doc c).After-last_doc-field)
+
+-- what stands behind the greatest frequency where there is one posting
+single : (c : After-last_doc-field) → c.in-Some.count.number ≡ 1
+    → IsTailBetween c.args.documents 1 c.in-Some-gamma_before.most.number (bits_of c.args.words.now) c.in-Some-gamma_before.most.behind c.args.to c.requires.list.0 c.requires.list.1 c.requires.list.2
+single c one =
+    one-of c.args.documents c.in-Some.count.number c.in-Some-gamma_before.most.number (bits_of c.args.words.now) c.in-Some-gamma_before.most.behind c.args.to c.requires.list.0 c.requires.list.1 c.requires.list.2 one (read c).tail
+
+-- and where there are several
+several : (c : After-last_doc-field) → (c.in-Some.count.number ≡ 1 → ⊥)
+    → TailFacts c.args.documents c.in-Some.count.number c.in-Some-gamma_before.most.number (bits_of c.args.words.now) c.in-Some-gamma_before.most.behind c.args.to c.requires.list.0 c.requires.list.1 c.requires.list.2
+several c more =
+    let s = read c in
+    let many : 2 ≤ c.in-Some.count.number = omega (arith, s.some, more) in
+    tail-facts c.sequences_of_a_list_rise.ensures c.sequences_give_their_list.ensures c.args.documents c.in-Some.count.number c.in-Some-gamma_before.most.number (bits_of c.args.words.now) c.in-Some-gamma_before.most.behind c.args.to c.requires.list.0 c.requires.list.1 c.requires.list.2 (omega (arith, c.ranges.documents.fits)) many s.le s.fit s.tail
+
+-- then its documents stand there
+docs-there : (c : After-last_doc-field) → (c.in-Some.count.number ≡ 1 → ⊥)
+    → IsSequenceBefore c.last_doc-field.result c.in-Some.count.number format_three.most_sum (bits_of c.args.words.now) c.in-Some-gamma_before.most.behind (64 * length c.args.words.now) (doc_sequence c.requires.list.0) c.requires.list.1
+docs-there c more =
+    docs-stand c.args.documents c.in-Some.count.number c.in-Some-gamma_before.most.number c.args.words.now c.in-Some-gamma_before.most.behind c.args.to c.last_doc-field.result c.requires.list.0 c.requires.list.1 c.requires.list.2 (omega (arith, c.ranges.documents.fits)) c.requires.range c.last_doc-field.ensures (several c more)
+
+-- and its sums behind them
+sums-there : (c : After-last_sum-sums)
+    → IsSequenceBefore c.last_sum-sums.result c.in-Some.count.number format_three.most_sum (bits_of c.args.words.now) c.known_sequence-docs.result.behind (64 * length c.args.words.now) (freq_sequence c.requires.list.0) c.requires.list.2
+sums-there c =
+    let h = c.requires.list in
+    let place = c.known_sequence-docs.ensures.behind (doc_sequence h.0) h.1 (docs-there (goal.at.After-last_sum-sums c).After-last_doc-field c.if-count-eq1.false) in
+    sums-stand c.args.documents c.in-Some.count.number c.in-Some-gamma_before.most.number c.args.words.now c.in-Some-gamma_before.most.behind c.args.to c.known_sequence-docs.result.behind c.last_sum-sums.result c.last_doc-field.result h.0 h.1 h.2 c.requires.range c.last_doc-field.ensures c.last_sum-sums.ensures place (several (goal.at.After-last_sum-sums c).After-last_doc-field c.if-count-eq1.false)
+
 pub get-doc-requires-clause-range : goal.get-doc-requires-clause-range
 get-doc-requires-clause-range c =
-    let n : ℕ = c.args.documents in
-    let words : List ℕ = c.args.words.now in
     let h = c.requires.list in
-    let count = c.in-Some.count in
-    let most = c.in-Some-gamma_before.most in
-    let small : n ≤ 4294967295 = omega (arith, c.ranges.documents.fits) in
-    let s = seen n words c.args.from c.args.to count.number count.behind most.number most.behind small c.requires.some c.requires.range c.in-Some.ensures.some c.in-Some.ensures.behind c.in-Some-gamma_before.ensures.some c.in-Some-gamma_before.ensures.behind h in
-    let one = one-of n count.number most.number (bits_of words) most.behind c.args.to h.0 h.1 h.2 c.if-count-eq1.true s.tail in
-    let f = single-facts n most.number (bits_of words) most.behind c.args.to h.0 h.1 h.2 small s.le s.fit one in
-    let width : c.last_doc-field.result.width ≡ digits (n - 1) = ap (λ l. l.width) c.last_doc-field.ensures in
-    omega (arith, f.size, width, s.le, c.requires.range)
+    let s = read (goal.at.get-doc-requires-clause-range c).After-last_doc-field in
+    let f = single-facts c.args.documents c.in-Some-gamma_before.most.number (bits_of c.args.words.now) c.in-Some-gamma_before.most.behind c.args.to h.0 h.1 h.2 (omega (arith, c.ranges.documents.fits)) s.le s.fit (single (goal.at.get-doc-requires-clause-range c).After-last_doc-field c.if-count-eq1.true) in
+    omega (arith, f.size, width-is (goal.at.get-doc-requires-clause-range c).After-last_doc-field, s.le, c.requires.range)
 
 pub standing_alone-requires-clause-small : goal.standing_alone-requires-clause-small
 standing_alone-requires-clause-small c =
-    let n : ℕ = c.args.documents in
-    let words : List ℕ = c.args.words.now in
     let h = c.requires.list in
-    let count = c.in-Some.count in
-    let most = c.in-Some-gamma_before.most in
-    let small : n ≤ 4294967295 = omega (arith, c.ranges.documents.fits) in
-    let s = seen n words c.args.from c.args.to count.number count.behind most.number most.behind small c.requires.some c.requires.range c.in-Some.ensures.some c.in-Some.ensures.behind c.in-Some-gamma_before.ensures.some c.in-Some-gamma_before.ensures.behind h in
-    let one = one-of n count.number most.number (bits_of words) most.behind c.args.to h.0 h.1 h.2 c.if-count-eq1.true s.tail in
-    let f = single-facts n most.number (bits_of words) most.behind c.args.to h.0 h.1 h.2 small s.le s.fit one in
-    let width : c.last_doc-field.result.width ≡ digits (n - 1) = ap (λ l. l.width) c.last_doc-field.ensures in
-    let value : c.get-doc.result ≡ field_at (bits_of words) most.behind (digits (n - 1)) = c.get-doc.ensures ∙ ap (field_at (bits_of words) most.behind) width in
-    omega (arith, f.inside, value, small)
+    let s = read (goal.at.standing_alone-requires-clause-small c).After-last_doc-field in
+    let f = single-facts c.args.documents c.in-Some-gamma_before.most.number (bits_of c.args.words.now) c.in-Some-gamma_before.most.behind c.args.to h.0 h.1 h.2 (omega (arith, c.ranges.documents.fits)) s.le s.fit (single (goal.at.standing_alone-requires-clause-small c).After-last_doc-field c.if-count-eq1.true) in
+    omega (arith, f.inside, doc-is (goal.at.standing_alone-requires-clause-small c).After-get-doc, c.ranges.documents.fits)
 
 pub returns-then-count-eq1-clause-docs : goal.returns-then-count-eq1-clause-docs
 returns-then-count-eq1-clause-docs c =
-    let n : ℕ = c.args.documents in
-    let words : List ℕ = c.args.words.now in
     let h = c.requires.list in
-    let count = c.in-Some.count in
-    let most = c.in-Some-gamma_before.most in
-    let small : n ≤ 4294967295 = omega (arith, c.ranges.documents.fits) in
-    let s = seen n words c.args.from c.args.to count.number count.behind most.number most.behind small c.requires.some c.requires.range c.in-Some.ensures.some c.in-Some.ensures.behind c.in-Some-gamma_before.ensures.some c.in-Some-gamma_before.ensures.behind h in
-    let one = one-of n count.number most.number (bits_of words) most.behind c.args.to h.0 h.1 h.2 c.if-count-eq1.true s.tail in
-    let st = stated c.lists_state_back.ensures n words c.args.from c.args.to small (small-words words (λ i. (let f = c.type_inv.words i in omega (arith, f)))) c.requires.some c.requires.range h in
-    let r = single-read n most.number (bits_of words) most.behind c.args.to h.0 h.1 h.2 small s.le s.fit one in
-    let width : c.last_doc-field.result.width ≡ digits (n - 1) = ap (λ l. l.width) c.last_doc-field.ensures in
-    let value : c.get-doc.result ≡ field_at (bits_of words) most.behind (digits (n - 1)) = c.get-doc.ensures ∙ ap (field_at (bits_of words) most.behind) width in
+    let s = read (goal.at.returns-then-count-eq1-clause-docs c).After-last_doc-field in
+    let r = single-read c.args.documents c.in-Some-gamma_before.most.number (bits_of c.args.words.now) c.in-Some-gamma_before.most.behind c.args.to h.0 h.1 h.2 (omega (arith, c.ranges.documents.fits)) s.le s.fit (single (goal.at.returns-then-count-eq1-clause-docs c).After-last_doc-field c.if-count-eq1.true) in
     let view : List ℕ → List ℕ → SequenceView = λ xs es. record { format = format_three; values = xs; ends = es } in
-    c.standing_alone.ensures.one refl ∙ ap (λ d. view (d ∷ []) (1 ∷ [])) value ∙ ap (λ xs. view xs (1 ∷ [])) (sym r.docs) ∙ ap (view (doc_sequence h.0)) (sym r.doc_end) ∙ sym st.docs
+    c.standing_alone.ensures.one refl ∙ ap (λ d. view (d ∷ []) (1 ∷ [])) (doc-is (goal.at.returns-then-count-eq1-clause-docs c).After-get-doc) ∙ ap (λ xs. view xs (1 ∷ [])) (sym r.docs) ∙ ap (view (doc_sequence h.0)) (sym r.doc_end) ∙ sym (said (goal.at.returns-then-count-eq1-clause-docs c).After-last_doc-field).docs
 
 pub returns-then-count-eq1-clause-freqs : goal.returns-then-count-eq1-clause-freqs
 returns-then-count-eq1-clause-freqs c =
-    let n : ℕ = c.args.documents in
-    let words : List ℕ = c.args.words.now in
     let h = c.requires.list in
-    let count = c.in-Some.count in
-    let most = c.in-Some-gamma_before.most in
-    let small : n ≤ 4294967295 = omega (arith, c.ranges.documents.fits) in
-    let s = seen n words c.args.from c.args.to count.number count.behind most.number most.behind small c.requires.some c.requires.range c.in-Some.ensures.some c.in-Some.ensures.behind c.in-Some-gamma_before.ensures.some c.in-Some-gamma_before.ensures.behind h in
-    let one = one-of n count.number most.number (bits_of words) most.behind c.args.to h.0 h.1 h.2 c.if-count-eq1.true s.tail in
-    let st = stated c.lists_state_back.ensures n words c.args.from c.args.to small (small-words words (λ i. (let f = c.type_inv.words i in omega (arith, f)))) c.requires.some c.requires.range h in
-    let r = single-read n most.number (bits_of words) most.behind c.args.to h.0 h.1 h.2 small s.le s.fit one in
+    let s = read (goal.at.returns-then-count-eq1-clause-freqs c).After-last_doc-field in
+    let r = single-read c.args.documents c.in-Some-gamma_before.most.number (bits_of c.args.words.now) c.in-Some-gamma_before.most.behind c.args.to h.0 h.1 h.2 (omega (arith, c.ranges.documents.fits)) s.le s.fit (single (goal.at.returns-then-count-eq1-clause-freqs c).After-last_doc-field c.if-count-eq1.true) in
     let view : List ℕ → List ℕ → SequenceView = λ xs es. record { format = format_three; values = xs; ends = es } in
-    let value : c.from-sum.result - 1 ≡ most.number - 1 = omega (arith, c.from-sum.ensures) in
-    c.standing_alone-then-count-eq1.ensures.one refl ∙ ap (λ d. view (d ∷ []) (1 ∷ [])) value ∙ ap (λ xs. view xs (1 ∷ [])) (sym r.sums) ∙ ap (view (freq_sequence h.0)) (sym r.sum_end) ∙ sym st.freqs
+    let value : c.from-sum.result - 1 ≡ c.in-Some-gamma_before.most.number - 1 = omega (arith, c.from-sum.ensures) in
+    c.standing_alone-then-count-eq1.ensures.one refl ∙ ap (λ d. view (d ∷ []) (1 ∷ [])) value ∙ ap (λ xs. view xs (1 ∷ [])) (sym r.sums) ∙ ap (view (freq_sequence h.0)) (sym r.sum_end) ∙ sym (said (goal.at.returns-then-count-eq1-clause-freqs c).After-last_doc-field).freqs
 
 pub returns-then-count-eq1-clause-greatest : goal.returns-then-count-eq1-clause-greatest
-returns-then-count-eq1-clause-greatest c =
-    let n : ℕ = c.args.documents in
-    let words : List ℕ = c.args.words.now in
-    let h = c.requires.list in
-    let count = c.in-Some.count in
-    let most = c.in-Some-gamma_before.most in
-    let small : n ≤ 4294967295 = omega (arith, c.ranges.documents.fits) in
-    let s = seen n words c.args.from c.args.to count.number count.behind most.number most.behind small c.requires.some c.requires.range c.in-Some.ensures.some c.in-Some.ensures.behind c.in-Some-gamma_before.ensures.some c.in-Some-gamma_before.ensures.behind h in
-    let st = stated c.lists_state_back.ensures n words c.args.from c.args.to small (small-words words (λ i. (let f = c.type_inv.words i in omega (arith, f)))) c.requires.some c.requires.range h in
-    s.most ∙ sym st.most
+returns-then-count-eq1-clause-greatest c = (read (goal.at.returns-then-count-eq1-clause-greatest c).After-last_doc-field).most ∙ sym (said (goal.at.returns-then-count-eq1-clause-greatest c).After-last_doc-field).most
 
 pub known_sequence-docs-requires-clause-stands : goal.known_sequence-docs-requires-clause-stands
-known_sequence-docs-requires-clause-stands c =
-    let n : ℕ = c.args.documents in
-    let words : List ℕ = c.args.words.now in
-    let h = c.requires.list in
-    let count = c.in-Some.count in
-    let most = c.in-Some-gamma_before.most in
-    let small : n ≤ 4294967295 = omega (arith, c.ranges.documents.fits) in
-    let s = seen n words c.args.from c.args.to count.number count.behind most.number most.behind small c.requires.some c.requires.range c.in-Some.ensures.some c.in-Some.ensures.behind c.in-Some-gamma_before.ensures.some c.in-Some-gamma_before.ensures.behind h in
-    let t = tail-facts c.sequences_of_a_list_rise.ensures c.sequences_give_their_list.ensures n count.number most.number (bits_of words) most.behind c.args.to h.0 h.1 h.2 small (omega (arith, s.some, c.if-count-eq1.false)) s.le s.fit s.tail in
-    let docs = docs-stand n count.number most.number words most.behind c.args.to c.last_doc-field.result h.0 h.1 h.2 small c.requires.range c.last_doc-field.ensures t in
-    (doc_sequence h.0, h.1, docs)
+known_sequence-docs-requires-clause-stands c = (doc_sequence c.requires.list.0, c.requires.list.1, docs-there (goal.at.known_sequence-docs-requires-clause-stands c).After-last_doc-field c.if-count-eq1.false)
 
 pub known_sequence-freqs-requires-clause-stands : goal.known_sequence-freqs-requires-clause-stands
-known_sequence-freqs-requires-clause-stands c =
-    let n : ℕ = c.args.documents in
-    let words : List ℕ = c.args.words.now in
-    let h = c.requires.list in
-    let count = c.in-Some.count in
-    let most = c.in-Some-gamma_before.most in
-    let small : n ≤ 4294967295 = omega (arith, c.ranges.documents.fits) in
-    let s = seen n words c.args.from c.args.to count.number count.behind most.number most.behind small c.requires.some c.requires.range c.in-Some.ensures.some c.in-Some.ensures.behind c.in-Some-gamma_before.ensures.some c.in-Some-gamma_before.ensures.behind h in
-    let t = tail-facts c.sequences_of_a_list_rise.ensures c.sequences_give_their_list.ensures n count.number most.number (bits_of words) most.behind c.args.to h.0 h.1 h.2 small (omega (arith, s.some, c.if-count-eq1.false)) s.le s.fit s.tail in
-    let docs = docs-stand n count.number most.number words most.behind c.args.to c.last_doc-field.result h.0 h.1 h.2 small c.requires.range c.last_doc-field.ensures t in
-    let place = c.known_sequence-docs.ensures.behind (doc_sequence h.0) h.1 docs in
-    let sums = sums-stand n count.number most.number words most.behind c.args.to c.known_sequence-docs.result.behind c.last_sum-sums.result c.last_doc-field.result h.0 h.1 h.2 c.requires.range c.last_doc-field.ensures c.last_sum-sums.ensures place t in
-    (freq_sequence h.0, h.2, sums)
+known_sequence-freqs-requires-clause-stands c = (freq_sequence c.requires.list.0, c.requires.list.2, sums-there (goal.at.known_sequence-freqs-requires-clause-stands c).After-last_sum-sums)
 
 pub returns-clause-docs : goal.returns-clause-docs
-returns-clause-docs c =
-    let n : ℕ = c.args.documents in
-    let words : List ℕ = c.args.words.now in
-    let h = c.requires.list in
-    let count = c.in-Some.count in
-    let most = c.in-Some-gamma_before.most in
-    let small : n ≤ 4294967295 = omega (arith, c.ranges.documents.fits) in
-    let s = seen n words c.args.from c.args.to count.number count.behind most.number most.behind small c.requires.some c.requires.range c.in-Some.ensures.some c.in-Some.ensures.behind c.in-Some-gamma_before.ensures.some c.in-Some-gamma_before.ensures.behind h in
-    let t = tail-facts c.sequences_of_a_list_rise.ensures c.sequences_give_their_list.ensures n count.number most.number (bits_of words) most.behind c.args.to h.0 h.1 h.2 small (omega (arith, s.some, c.if-count-eq1.false)) s.le s.fit s.tail in
-    let docs = docs-stand n count.number most.number words most.behind c.args.to c.last_doc-field.result h.0 h.1 h.2 small c.requires.range c.last_doc-field.ensures t in
-    let st = stated c.lists_state_back.ensures n words c.args.from c.args.to small (small-words words (λ i. (let f = c.type_inv.words i in omega (arith, f)))) c.requires.some c.requires.range h in
-    c.known_sequence-docs.ensures.view (doc_sequence h.0) h.1 docs ∙ sym st.docs
+returns-clause-docs c = c.known_sequence-docs.ensures.view (doc_sequence c.requires.list.0) c.requires.list.1 (docs-there (goal.at.returns-clause-docs c).After-last_doc-field c.if-count-eq1.false) ∙ sym (said (goal.at.returns-clause-docs c).After-last_doc-field).docs
 
 pub returns-clause-freqs : goal.returns-clause-freqs
-returns-clause-freqs c =
-    let n : ℕ = c.args.documents in
-    let words : List ℕ = c.args.words.now in
-    let h = c.requires.list in
-    let count = c.in-Some.count in
-    let most = c.in-Some-gamma_before.most in
-    let small : n ≤ 4294967295 = omega (arith, c.ranges.documents.fits) in
-    let s = seen n words c.args.from c.args.to count.number count.behind most.number most.behind small c.requires.some c.requires.range c.in-Some.ensures.some c.in-Some.ensures.behind c.in-Some-gamma_before.ensures.some c.in-Some-gamma_before.ensures.behind h in
-    let t = tail-facts c.sequences_of_a_list_rise.ensures c.sequences_give_their_list.ensures n count.number most.number (bits_of words) most.behind c.args.to h.0 h.1 h.2 small (omega (arith, s.some, c.if-count-eq1.false)) s.le s.fit s.tail in
-    let docs = docs-stand n count.number most.number words most.behind c.args.to c.last_doc-field.result h.0 h.1 h.2 small c.requires.range c.last_doc-field.ensures t in
-    let place = c.known_sequence-docs.ensures.behind (doc_sequence h.0) h.1 docs in
-    let sums = sums-stand n count.number most.number words most.behind c.args.to c.known_sequence-docs.result.behind c.last_sum-sums.result c.last_doc-field.result h.0 h.1 h.2 c.requires.range c.last_doc-field.ensures c.last_sum-sums.ensures place t in
-    let st = stated c.lists_state_back.ensures n words c.args.from c.args.to small (small-words words (λ i. (let f = c.type_inv.words i in omega (arith, f)))) c.requires.some c.requires.range h in
-    c.known_sequence-freqs.ensures.view (freq_sequence h.0) h.2 sums ∙ sym st.freqs
+returns-clause-freqs c = c.known_sequence-freqs.ensures.view (freq_sequence c.requires.list.0) c.requires.list.2 (sums-there (goal.at.returns-clause-freqs c).After-last_sum-sums) ∙ sym (said (goal.at.returns-clause-freqs c).After-last_doc-field).freqs
 
 pub returns-clause-greatest : goal.returns-clause-greatest
-returns-clause-greatest c =
-    let n : ℕ = c.args.documents in
-    let words : List ℕ = c.args.words.now in
-    let h = c.requires.list in
-    let count = c.in-Some.count in
-    let most = c.in-Some-gamma_before.most in
-    let small : n ≤ 4294967295 = omega (arith, c.ranges.documents.fits) in
-    let s = seen n words c.args.from c.args.to count.number count.behind most.number most.behind small c.requires.some c.requires.range c.in-Some.ensures.some c.in-Some.ensures.behind c.in-Some-gamma_before.ensures.some c.in-Some-gamma_before.ensures.behind h in
-    let st = stated c.lists_state_back.ensures n words c.args.from c.args.to small (small-words words (λ i. (let f = c.type_inv.words i in omega (arith, f)))) c.requires.some c.requires.range h in
-    s.most ∙ sym st.most
+returns-clause-greatest c = (read (goal.at.returns-clause-greatest c).After-last_doc-field).most ∙ sym (said (goal.at.returns-clause-greatest c).After-last_doc-field).most
