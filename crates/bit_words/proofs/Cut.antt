@@ -67,7 +67,7 @@ value-cut ws xs len i word prefix h some last fits is =
     ∙ ap (λ v. v % 2 ^ len) (value-first_words n ws)
     ∙ value-cut_again (bits_value (bits_of ws)) len (64 * n) (omega arith)
 
--- the same of whole words
+-- where the cut ends with a word, the words before it are all that is left
 pub value-cut_whole : (ws xs : List ℕ) (len : ℕ) → xs ≡ take ((len + 63) / 64) ws → len % 64 ≡ 0 → bits_value (bits_of xs) ≡ bits_value (bits_of ws) % 2 ^ len
 value-cut_whole ws xs len prefix whole =
     let place : 64 * ((len + 63) / 64) ≡ len = omega arith in

@@ -172,7 +172,7 @@ pub none-from : (ws : List ℕ) (from to v : ℕ) → v ≡ bit_and (get_or ws (
     → to ≤ from / 64 * 64 + trailing_zeros w64 v → HasNoOne (bits_of ws) from to
 none-from ws from to v made some small behind q h g = (lowest-from ws from v made some small).first q h (omega arith)
 
--- The same range under other names.
+-- A range without a 1, under equal names.
 pub same-none : {bits bits2 : List ℕ} {at at2 end end2 : ℕ} → bits ≡ bits2 → at ≡ at2 → end ≡ end2 → HasNoOne bits at end → HasNoOne bits2 at2 end2
 same-none b a e h q l g = ap (λ xs. get_or xs q 0) (sym b) ∙ h q (omega arith) (omega arith)
 

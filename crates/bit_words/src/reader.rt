@@ -113,7 +113,8 @@ impl<'a> Bits<'a> {
         self.nth_flipped(from, to, n, u64::MAX)
     }
 
-    // The same of the ones of words whose bits are exchanged where `flip` has a 1.
+    // The place of a range before which n of its ones are, in words whose bits are exchanged where `flip` has a 1; None exactly
+    // where no more than n are 1.
     fn nth_flipped(&self, from: u64, to: u64, n: u64, flip: u64) -> Option<u64>
         requires ordered { from ≤ to }
         requires range { to ≤ 64 * length self.now.words.now }

@@ -53,7 +53,8 @@ fn keep_steps(values: &[u64], first: u64, kept: &mut [u64])
     }
 }
 
-// The same of the next values of a part that is held, as many as have room, by one past the value before them; it gives the last.
+// Keeps the longest steps of the next values of a part that is held, as many as have room, by one past the value before them; it
+// gives the last.
 fn keep_block(
     held: &HeldPart,
     place: u32,
@@ -81,7 +82,7 @@ fn keep_block(
     last
 }
 
-// The same of the values of a part that is held.
+// Keeps the longest steps of the values of a part that is held.
 fn keep_part(held: &HeldPart, kept: &mut [u64])
     requires values { (xs : List ℕ) × HoldsValues held.now xs × IsStrictlyIncreasing xs }
     requires some { held.now.part.from < held.now.part.to }

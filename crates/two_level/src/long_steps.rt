@@ -32,7 +32,8 @@ fn first_long(values: &[u64], first: u64, least: u64) -> usize
     values.len()
 }
 
-// The same of the next values of a part that is held, as many as have room, by one past the value before them; and the last of them.
+// Which of the next values of a part that is held, as many as have room, is the first whose step is at least so long, or how many
+// they are, by one past the value before them; and the last of them.
 fn first_in_block(
     held: &HeldPart,
     place: u32,

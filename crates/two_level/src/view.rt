@@ -88,7 +88,7 @@ impl<'a> SeqView<'a> {
         }
     }
 
-    /// The same sequence, and how many words it takes, which are counted as they are checked.
+    /// The sequence that `check` reads, and how many words it takes, which are counted as they are checked.
     pub fn check_counting(
         words: &'a [u64],
         parts: u32,
@@ -119,8 +119,8 @@ impl<'a> SeqView<'a> {
         }
     }
 
-    /// The same sequence, how many words it takes, and its greatest step, the first value counting from -1. The step is found
-    /// as the parts are checked.
+    /// The sequence that `check` reads, how many words it takes, and its greatest step, the first value counting from -1. The step
+    /// is found as the parts are checked.
     pub fn check_steps(
         words: &'a [u64],
         parts: u32,
@@ -185,7 +185,7 @@ impl<'a> SeqView<'a> {
         })
     }
 
-    /// The same view of words that were checked, without looking at them.
+    /// The view of words that were checked, without looking at them.
     pub fn known(words: &'a [u64], parts: u32, m: u32, format: Format) -> SeqView<'a>
         requires words { length words.now < 2 ^ 57 }
         requires checked { (v : SequenceView) × (v.format ≡ numbers_of format)

@@ -98,7 +98,7 @@ fn has_step(
 
 // 0, 2 in one part and in two, which have 3 and 2 payload bits beside their entries, and up to the
 // first value alone; 0 to 3, all places taken, in one part and in two, which have entries alone;
-// the same from 4 on, where the first step is 5; and no value has no step.
+// 4 to 7, where the first step is 5; and no value has no step.
 #[test]
 fn finds_the_greatest_step(rt: HostRuntime) {
     for (format, values, ends, span, want) in [
