@@ -140,12 +140,11 @@ pub seeking-start : (vs : List ℕ) (from to n w : ℕ) → from < to → to ≤
     → IsSeeking vs from to n (from / 64 * 64) (bit_and w ((2 ^ 64 - 1) * 2 ^ (from % 64) % 2 ^ 64)) n
 seeking-start vs from to n w h fit is small =
     let v : ℕ = bit_and w ((2 ^ 64 - 1) * 2 ^ (from % 64) % 2 ^ 64) in
-    let end : ℕ = 64 * length vs in
     let less : v < 2 ^ 64 = omega (arith, and_le_l w ((2 ^ 64 - 1) * 2 ^ (from % 64) % 2 ^ 64)) in
     let here : from / 64 ≡ from / 64 * 64 / 64 = omega arith in
     let word : IsWordWithin (bits_of vs) (from / 64) from (64 * (from / 64) + 64) v =
     subst (λ x. IsWordWithin (bits_of vs) (from / 64) from (64 * (from / 64) + 64) (bit_and x ((2 ^ 64 - 1) * 2 ^ (from % 64) % 2 ^ 64))) (sym is) (word-from vs from) in
-    let at : held from end (from / 64 * 64) ≡ from = omega arith in
+    let at : held from (64 * length vs) (from / 64 * 64) ≡ from = omega arith in
     record {
       whole = omega arith;
       begun = omega arith;
@@ -153,7 +152,7 @@ seeking-start vs from to n w h fit is small =
       range = fit;
       ordered = omega arith;
       small = less;
-      word = subst (λ i. IsWordWithin (bits_of vs) i from end v) here (widened (bits_of vs) (from / 64) from (64 * (from / 64) + 64) end v (omega arith) refl less word);
+      word = subst (λ i. IsWordWithin (bits_of vs) i from (64 * length vs) v) here (widened (bits_of vs) (from / 64) from (64 * (from / 64) + 64) (64 * length vs) v (omega arith) refl less word);
       count = omega (arith, ap (ones_between (bits_of vs) from) at, ones-none (bits_of vs) from);
     }
 
@@ -161,20 +160,16 @@ seeking-start vs from to n w h fit is small =
 seeking-more : (vs : List ℕ) (from to n start rest left : ℕ) → IsSeeking vs from to n start rest left → count_ones rest ≤ left
     → ones_between (bits_of vs) from (start + 64) + (left - count_ones rest) ≡ n
 seeking-more vs from to n start rest left is few =
-    let bits : List ℕ = bits_of vs in
-    let end : ℕ = 64 * length vs in
     let i : ℕ = start / 64 in
-    let more = ones-more vs i from end rest (omega (arith, is.ordered, is.range)) (omega arith) is.small is.word in
-    let here : held from end (64 * i) ≡ held from end start = ap (held from end) is.whole in
-    let next : held from end (64 * (i + 1)) ≡ start + 64 = omega (arith, is.whole, is.begun, is.ended, is.range) in
-    omega (arith, more, ap (ones_between bits from) here, ap (ones_between bits from) next, is.count, few)
+    let more = ones-more vs i from (64 * length vs) rest (omega (arith, is.ordered, is.range)) (omega arith) is.small is.word in
+    let next : held from (64 * length vs) (64 * (i + 1)) ≡ start + 64 = omega (arith, is.whole, is.begun, is.ended, is.range) in
+    omega (arith, more, ap (λ p. ones_between (bits_of vs) from (held from (64 * length vs) p)) is.whole, ap (ones_between (bits_of vs) from) next, is.count, few)
 
 pub seeking-next : (vs : List ℕ) (from to n start rest left : ℕ) → IsSeeking vs from to n start rest left → count_ones rest ≤ left → start + 64 < to
     → get_or vs ((start + 64) / 64) 0 < 2 ^ 64 → IsSeeking vs from to n (start + 64) (get_or vs ((start + 64) / 64) 0) (left - count_ones rest)
 seeking-next vs from to n start rest left is few more small =
-    let end : ℕ = 64 * length vs in
     let whole : 64 * ((start + 64) / 64) ≡ start + 64 = omega (arith, is.whole) in
-    let at : held from end (start + 64) ≡ start + 64 = omega (arith, is.begun, is.range) in
+    let at : held from (64 * length vs) (start + 64) ≡ start + 64 = omega (arith, is.begun, is.range) in
     record {
       whole = whole;
       begun = omega (arith, is.begun);
@@ -182,7 +177,7 @@ seeking-next vs from to n start rest left is few more small =
       range = is.range;
       ordered = is.ordered;
       small = small;
-      word = whole-within vs ((start + 64) / 64) from end (omega (arith, is.begun, whole)) (omega (arith, is.range, whole)) small;
+      word = whole-within vs ((start + 64) / 64) from (64 * length vs) (omega (arith, is.begun, whole)) (omega (arith, is.range, whole)) small;
       count = omega (arith, ap (ones_between (bits_of vs) from) at, seeking-more vs from to n start rest left is few);
     }
 
@@ -195,29 +190,25 @@ seeking-none vs from to n start rest left is few last =
 pub seeking-found : (vs : List ℕ) (from to n start rest left t : ℕ) → IsSeeking vs from to n start rest left → IsNthOfWord rest left t → start + t < to
     → IsNthOne (bits_of vs) from to n (start + t)
 seeking-found vs from to n start rest left t is nth inside =
-    let bits : List ℕ = bits_of vs in
-    let end : ℕ = 64 * length vs in
     let i : ℕ = start / 64 in
     let place : 64 * i + t ≡ start + t = omega (arith, is.whole) in
     let after : from ≤ start + t = elim (cases_lt (start + t) from) [
       | inl early ↦ absurd (omega (arith, nth.one, is.word.before t (omega (arith, place))))
       | inr h ↦ h
     ] in
-    let counted = ones-within bits i from end rest (omega (arith, is.ordered, is.range)) (omega (arith, length-bits_of vs)) is.word t (omega (arith, nth.within)) in
-    let here : held from end (64 * i) ≡ held from end start = ap (held from end) is.whole in
-    let there : held from end (64 * i + t) ≡ start + t = omega (arith, place, is.range) in
+    let counted = ones-within (bits_of vs) i from (64 * length vs) rest (omega (arith, is.ordered, is.range)) (omega (arith, length-bits_of vs)) is.word t (omega (arith, nth.within)) in
+    let there : held from (64 * length vs) (64 * i + t) ≡ start + t = omega (arith, place, is.range) in
     record {
       at_or_after = after;
       before_end = inside;
-      one = ap (λ p. get_or bits p 0) (sym place) ∙ sym (is.word.inside t nth.within (omega (arith, place)) (omega (arith, place, is.range))) ∙ nth.one;
-      before = omega (arith, counted, ap (ones_between bits from) here, ap (ones_between bits from) there, is.count, nth.before);
+      one = ap (λ p. get_or (bits_of vs) p 0) (sym place) ∙ sym (is.word.inside t nth.within (omega (arith, place)) (omega (arith, place, is.range))) ∙ nth.one;
+      before = omega (arith, counted, ap (λ p. ones_between (bits_of vs) from (held from (64 * length vs) p)) is.whole, ap (ones_between (bits_of vs) from) there, is.count, nth.before);
     }
 
 pub seeking-behind : (vs : List ℕ) (from to n start rest left t : ℕ) → IsSeeking vs from to n start rest left → IsNthOfWord rest left t → to ≤ start + t
     → ones_between (bits_of vs) from to ≤ n
 seeking-behind vs from to n start rest left t is nth late =
-    let end : ℕ = 64 * length vs in
-    let wide : IsSeeking vs from end n start rest left = record {
+    let wide : IsSeeking vs from (64 * length vs) n start rest left = record {
       whole = is.whole;
       begun = is.begun;
       ended = omega (arith, is.ended, is.range);
@@ -227,7 +218,7 @@ seeking-behind vs from to n start rest left t is nth late =
       word = is.word;
       count = is.count;
     } in
-    let found = seeking-found vs from end n start rest left t wide nth (omega (arith, is.whole, is.ended, is.range, nth.within)) in
+    let found = seeking-found vs from (64 * length vs) n start rest left t wide nth (omega (arith, is.whole, is.ended, is.range, nth.within)) in
     omega (arith, found.before, ones-joined (bits_of vs) from to (start + t) is.ordered late)
 
 -- The one before which so many are from a place on, where the ones from there to the end are counted.

@@ -1,5 +1,5 @@
 use Rattle.std.proofs.Common.{◌≡◌, ℕ, zero, suc, ◌+◌, ◌-◌, ◌*◌, ◌/◌, ◌%◌, ◌^◌, ◌<◌, ◌≤◌, List, [], ◌∷◌, drop, get_or, refl, sym, ap, subst, ◌∙◌, arith, bit_and, bit_or, Option, Some, None, SomeIff}
-use Rattle.std.proofs.lemmas.Nat.{pow_pos, pow-add, shr-shr, shl-shr, and_mask, mod-pow-add, mod_below, div-mul-add, mod-mul-add}
+use Rattle.std.proofs.lemmas.Nat.{pow_pos, pow-add, shr-shr, shl-shr, and_mask, mod-pow-add, mod_below}
 use Rattle.std.proofs.Math.Pow.{mod-mod-pow, shr_mod}
 use Rattle.std.proofs.Math.Nat.{zero-div, mul_assoc, mul-mod_left, add-mul-div_left, add-mul-mod_self_left}
 use Rattle.std.specs.Int.Bits.{or_shifted_r}

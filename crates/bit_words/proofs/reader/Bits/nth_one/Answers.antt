@@ -6,10 +6,8 @@ use Rattle.bit_words.proofs.reader.Bits.nth_one.Goals as goal
 
 pub returns-clause-some : goal.returns-clause-some
 returns-clause-some c =
-    let a = c.args in
-    subst (λ vs. IfSome c.nth_flipped.result (IsNthOne (bits_of vs) a.from a.to a.n)) (flipped-none a.self.now.words.now) c.nth_flipped.ensures.some
+    subst (λ vs. IfSome c.nth_flipped.result (IsNthOne (bits_of vs) c.args.from c.args.to c.args.n)) (flipped-none c.args.self.now.words.now) c.nth_flipped.ensures.some
 
 pub returns-clause-none : goal.returns-clause-none
 returns-clause-none c =
-    let a = c.args in
-    subst (λ vs. IfNone c.nth_flipped.result (ones_between (bits_of vs) a.from a.to ≤ a.n)) (flipped-none a.self.now.words.now) c.nth_flipped.ensures.none
+    subst (λ vs. IfNone c.nth_flipped.result (ones_between (bits_of vs) c.args.from c.args.to ≤ c.args.n)) (flipped-none c.args.self.now.words.now) c.nth_flipped.ensures.none

@@ -7,8 +7,7 @@ use Rattle.bit_words.proofs.reader.Bits.nth_zero.Goals as goal
 
 pub returns-clause-some : goal.returns-clause-some
 returns-clause-some c =
-    let a = c.args in
-    IfSome_then c.nth_flipped.result c.nth_flipped.ensures.some (λ p is. opposite-nth a.self.now.words.now a.from a.to a.n p c.requires.range is)
+    IfSome_then c.nth_flipped.result c.nth_flipped.ensures.some (λ p is. opposite-nth c.args.self.now.words.now c.args.from c.args.to c.args.n p c.requires.range is)
 
 pub returns-clause-none : goal.returns-clause-none
 returns-clause-none c =
