@@ -131,10 +131,9 @@ pub zero-absent : (q : ℕ) (v : EfView q) (ys : List ℕ) → Holds q v ys → 
     → end ≤ at + ones_between (bits_of v.part.bits.words.now) at end + (high - (at - v.part.place - passed) - 1)
     → (from : ℕ) → AreBelow ys from (passed + ones_between (bits_of v.part.bits.words.now) at end) (high * 2 ^ v.low)
 zero-absent q v ys h passed at end high first few up fit none from =
-    let place : ℕ = v.part.place in
     let k : ℕ = passed + ones_between (bits_of v.part.bits.words.now) at end in
-    let start : place + passed ≤ at = omega (arith, first.past, past-count v.low ys passed) in
-    passed-below place v.part.m v.low ys h.values.rising h.values.count from k end high (ones-passed q v ys h passed at end first up fit) (λ some. omega (arith, none, start, few))
+    let start : v.part.place + passed ≤ at = omega (arith, first.past, past-count v.low ys passed) in
+    passed-below v.part.place v.part.m v.low ys h.values.rising h.values.count from k end high (ones-passed q v ys h passed at end first up fit) (λ some. omega (arith, none, start, few))
 
 -- There are so many zeros where a number has this high part.
 pub zero-there : (q : ℕ) (v : EfView q) (ys : List ℕ) → Holds q v ys → (passed at high : ℕ) → IsPast v.part.place v.part.m v.low ys passed at

@@ -17,8 +17,6 @@ places-rise ys l up i j h lt = omega (arith, shift-rises (get_or ys i 0) (get_or
 
 pub below-last : (u m : ℕ) (ys : List ℕ) → AreRelative u m ys → (k : ℕ) → k < m → get_or ys k 0 ≤ u - 1
 below-last u m ys h k lt =
-    let count : length ys ≡ m = h.count in
-    let last : get_or ys (m - 1) 0 + 1 ≡ u = h.last in
     omega (arith, rises ys h.rising k (m - 1) (omega arith) (omega arith))
 
 -- each number's place is as far as it can be
@@ -28,9 +26,7 @@ place-within u m l ys h k lt = omega (arith, shift-rises (get_or ys k 0) (u - 1)
 -- there are no more numbers than the universe has places
 pub relative-fit : (u m : ℕ) (ys : List ℕ) → AreRelative u m ys → m ≤ u
 relative-fit u m ys h =
-    let count : length ys ≡ m = h.count in
     let some : 0 < m = h.some in
-    let last : get_or ys (m - 1) 0 + 1 ≡ u = h.last in
     omega (arith, rises ys h.rising 0 (m - 1) (omega arith) (omega arith))
 
 -- a number's place lies past those before

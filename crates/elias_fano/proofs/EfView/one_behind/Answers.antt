@@ -5,20 +5,14 @@ use Rattle.elias_fano.proofs.EfView.one_behind.Goals as goal
 
 pub overflow_add-from : goal.overflow_add-from
 overflow_add-from g c =
-    let v = c.args.self.now in
-    let ys = c.requires.held.0 in
-    let h = c.requires.held.1 in
-    omega (arith, past-inside g.row.Q v ys h c.args.passed c.args.from (omega (arith, c.requires.within, c.requires.ordered)) (c.requires.past ys h), within-held g.row.Q v ys h, v.part.few_words)
+    omega (arith, past-inside g.row.Q c.args.self.now c.requires.held.0 c.requires.held.1 c.args.passed c.args.from (omega (arith, c.requires.within, c.requires.ordered)) (c.requires.past c.requires.held.0 c.requires.held.1), within-held g.row.Q c.args.self.now c.requires.held.0 c.requires.held.1, c.args.self.now.part.few_words)
 
 pub low_fields-requires : goal.low_fields-requires
 low_fields-requires g c = (omega arith, within-held g.row.Q c.args.self.now c.requires.held.0 c.requires.held.1)
 
 pub nth_one-requires-clause-ordered : goal.nth_one-requires-clause-ordered
 nth_one-requires-clause-ordered g c =
-    let v = c.args.self.now in
-    let ys = c.requires.held.0 in
-    let h = c.requires.held.1 in
-    omega (arith, c.min-near.ensures, c.low_fields.ensures, past-inside g.row.Q v ys h c.args.passed c.args.from (omega (arith, c.requires.within, c.requires.ordered)) (c.requires.past ys h))
+    omega (arith, c.min-near.ensures, c.low_fields.ensures, past-inside g.row.Q c.args.self.now c.requires.held.0 c.requires.held.1 c.args.passed c.args.from (omega (arith, c.requires.within, c.requires.ordered)) (c.requires.past c.requires.held.0 c.requires.held.1))
 
 pub nth_one-requires-clause-range : goal.nth_one-requires-clause-range
 nth_one-requires-clause-range g c =

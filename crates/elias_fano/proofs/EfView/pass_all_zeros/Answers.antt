@@ -20,8 +20,6 @@ nth_zero-requires-clause-range g c = omega (arith, c.low_fields.ensures, within-
 pub unwrap-zero-requires : goal.unwrap-zero-requires
 unwrap-zero-requires g c =
     let v = c.args.self.now in
-    let ys = c.requires.held.0 in
-    let h = c.requires.held.1 in
     let a = c.args in
     let bits = bits_of v.part.bits.words.now in
     let n : ℕ = a.high - (a.place - v.part.place - a.passed) - 1 in
@@ -29,22 +27,18 @@ unwrap-zero-requires g c =
     (λ none.
     let there : v.part.place + low_fields_at v.part.u v.part.m v.low ≤ a.place + ones_between bits a.place (v.part.place + low_fields_at v.part.u v.part.m v.low) + n =
     subst (λ e. e ≤ a.place + ones_between bits a.place e + n) c.low_fields.ensures none in
-    zero-there g.row.Q v ys h a.passed a.place a.high (c.requires.past ys h) c.requires.few (place-inside g.row.Q v ys h a.passed a.place a.high (c.requires.past ys h) c.requires.few c.requires.reached) c.requires.reached there)
+    zero-there g.row.Q v c.requires.held.0 c.requires.held.1 a.passed a.place a.high (c.requires.past c.requires.held.0 c.requires.held.1) c.requires.few (place-inside g.row.Q v c.requires.held.0 c.requires.held.1 a.passed a.place a.high (c.requires.past c.requires.held.0 c.requires.held.1) c.requires.few c.requires.reached) c.requires.reached there)
 
 -- what is passed behind that zero
 zero-known : (g : given.Over) (c : After-unwrap-zero g) → (ys : List ℕ) → Holds g.row.Q c.args.self.now ys → IsPastZeros g.row.Q c.args.self.now ys c.args.high (c.unwrap-zero.result + 1 - c.args.self.now.part.place - c.args.high) (c.unwrap-zero.result + 1)
 zero-known g c ys h =
-    let v = c.args.self.now in
-    zero-passed g.row.Q v ys h c.args.passed c.args.place c.low_fields.result c.args.high c.unwrap-zero.result (c.requires.past ys h) c.requires.few (omega (arith, c.low_fields.ensures))
-    (MatchOption-at_some _ (λ p. IsNthZero (bits_of v.part.bits.words.now) c.args.place c.low_fields.result (c.args.high - (c.args.place - v.part.place - c.args.passed) - 1) p) c.unwrap-zero.result c.unwrap-zero.ensures c.nth_zero.ensures.some)
+    zero-passed g.row.Q c.args.self.now ys h c.args.passed c.args.place c.low_fields.result c.args.high c.unwrap-zero.result (c.requires.past ys h) c.requires.few (omega (arith, c.low_fields.ensures))
+    (MatchOption-at_some _ (λ p. IsNthZero (bits_of c.args.self.now.part.bits.words.now) c.args.place c.low_fields.result (c.args.high - (c.args.place - c.args.self.now.part.place - c.args.passed) - 1) p) c.unwrap-zero.result c.unwrap-zero.ensures c.nth_zero.ensures.some)
 
 pub returns-clause-within : goal.returns-clause-within
 returns-clause-within g c =
-    let v = c.args.self.now in
-    let ys = c.requires.held.0 in
-    let h = c.requires.held.1 in
-    let passed = zero-known g (goal.at.returns-clause-within g c).After-unwrap-zero ys h in
-    not-all-below v.part.u v.part.m ys h.values c.args.from (c.unwrap-zero.result + 1 - v.part.place - c.args.high) (c.args.high * 2 ^ v.low) c.requires.within passed.past.few c.requires.reached (passed.below c.args.from)
+    let passed = zero-known g (goal.at.returns-clause-within g c).After-unwrap-zero c.requires.held.0 c.requires.held.1 in
+    not-all-below c.args.self.now.part.u c.args.self.now.part.m c.requires.held.0 c.requires.held.1.values c.args.from (c.unwrap-zero.result + 1 - c.args.self.now.part.place - c.args.high) (c.args.high * 2 ^ c.args.self.now.low) c.requires.within passed.past.few c.requires.reached (passed.below c.args.from)
 
 pub returns-clause-past : goal.returns-clause-past
 returns-clause-past g c = λ ys h. (zero-known g (goal.at.returns-clause-past g c).After-unwrap-zero ys h).past

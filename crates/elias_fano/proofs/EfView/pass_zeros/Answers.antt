@@ -20,12 +20,9 @@ ones-requires-clause-range g c = omega (arith, c.min-near.ensures, c.low_fields.
 
 pub overflow_add-passed : goal.overflow_add-passed
 overflow_add-passed g c =
-    let v = c.args.self.now in
-    let ys = c.requires.held.0 in
-    let h = c.requires.held.1 in
-    let inside = past-inside g.row.Q v ys h c.args.passed c.args.place c.requires.some (c.requires.past ys h) in
-    let next = ones-passed g.row.Q v ys h c.args.passed c.args.place c.min-near.result (c.requires.past ys h) (omega (arith, c.min-near.ensures, c.low_fields.ensures, inside)) (omega (arith, c.min-near.ensures, c.low_fields.ensures)) in
-    omega (arith, next.few, c.ones.ensures, v.part.fit, v.part.in_range)
+    let inside = past-inside g.row.Q c.args.self.now c.requires.held.0 c.requires.held.1 c.args.passed c.args.place c.requires.some (c.requires.past c.requires.held.0 c.requires.held.1) in
+    let next = ones-passed g.row.Q c.args.self.now c.requires.held.0 c.requires.held.1 c.args.passed c.args.place c.min-near.result (c.requires.past c.requires.held.0 c.requires.held.1) (omega (arith, c.min-near.ensures, c.low_fields.ensures, inside)) (omega (arith, c.min-near.ensures, c.low_fields.ensures)) in
+    omega (arith, next.few, c.ones.ensures, c.args.self.now.part.fit, c.args.self.now.part.in_range)
 
 pub pass_gap-requires : goal.pass_gap-requires
 pass_gap-requires g c =
@@ -50,17 +47,13 @@ pass_gap-requires g c =
 -- what is passed behind that zero
 zero-known : (g : given.Over) (c : In-Some g) → (ys : List ℕ) → Holds g.row.Q c.args.self.now ys → IsPastZeros g.row.Q c.args.self.now ys c.args.high (c.in-Some.zero + 1 - c.args.self.now.part.place - c.args.high) (c.in-Some.zero + 1)
 zero-known g c ys h =
-    let v = c.args.self.now in
-    zero-passed g.row.Q v ys h c.args.passed c.args.place c.min-near.result c.args.high c.in-Some.zero (c.requires.past ys h) (omega (arith, c.if-zeros-high.false)) (omega (arith, c.min-near.ensures, c.low_fields.ensures))
+    zero-passed g.row.Q c.args.self.now ys h c.args.passed c.args.place c.min-near.result c.args.high c.in-Some.zero (c.requires.past ys h) (omega (arith, c.if-zeros-high.false)) (omega (arith, c.min-near.ensures, c.low_fields.ensures))
     c.in-Some.ensures.some
 
 pub returns-in-Some-clause-within : goal.returns-in-Some-clause-within
 returns-in-Some-clause-within g c =
-    let v = c.args.self.now in
-    let ys = c.requires.held.0 in
-    let h = c.requires.held.1 in
-    let passed = zero-known g (goal.at.returns-in-Some-clause-within g c).In-Some ys h in
-    not-all-below v.part.u v.part.m ys h.values c.args.from (c.in-Some.zero + 1 - v.part.place - c.args.high) (c.args.high * 2 ^ v.low) c.requires.within passed.past.few c.requires.reached (passed.below c.args.from)
+    let passed = zero-known g (goal.at.returns-in-Some-clause-within g c).In-Some c.requires.held.0 c.requires.held.1 in
+    not-all-below c.args.self.now.part.u c.args.self.now.part.m c.requires.held.0 c.requires.held.1.values c.args.from (c.in-Some.zero + 1 - c.args.self.now.part.place - c.args.high) (c.args.high * 2 ^ c.args.self.now.low) c.requires.within passed.past.few c.requires.reached (passed.below c.args.from)
 
 pub returns-in-Some-clause-past : goal.returns-in-Some-clause-past
 returns-in-Some-clause-past g c = λ ys h. (zero-known g (goal.at.returns-in-Some-clause-past g c).In-Some ys h).past

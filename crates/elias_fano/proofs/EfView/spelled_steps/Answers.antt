@@ -22,9 +22,7 @@ use Rattle.elias_fano.proofs.EfView.spelled_steps.Goals.{then-k-sampled+else-not
 one-is : (g : given.Over) (c : In-Some g) → (zs : List ℕ) → Holds g.row.Q c.args.self.now zs
     → (c.loop-k.k < c.args.self.now.part.m) × (c.in-Some.one ≡ c.args.self.now.part.place + high_place c.args.self.now.low c.loop-k.k (get_or zs c.loop-k.k 0))
 one-is g c zs h =
-    let v = c.args.self.now in
-    let i = c.loop-k.invariant in
-    one-next g.row.Q v zs h c.loop-k.k i.bits i.end (past-exactly g.row.Q v zs h c.loop-k.k c.loop-k.ones.at (omega arith) (i.all zs h).0) c.in-Some.ensures.first
+    one-next g.row.Q c.args.self.now zs h c.loop-k.k c.loop-k.invariant.bits c.loop-k.invariant.end (past-exactly g.row.Q c.args.self.now zs h c.loop-k.k c.loop-k.ones.at (omega arith) (c.loop-k.invariant.all zs h).0) c.in-Some.ensures.first
 
 -- and what is read is its low field
 field-is : (g : given.Over) (c : After-next-in-loop-k g)
@@ -33,32 +31,26 @@ field-is g c = let i = c.loop-k.invariant in field-read g.row.Q c.args.self.now 
 
 pub returns-in_default-clause-none : goal.returns-in_default-clause-none
 returns-in_default-clause-none g c = λ zs h.
-    let v = c.args.self.now in
     let from = c.loop-k.invariant.all zs h in
-    let all = none-next g.row.Q v zs h c.loop-k.k c.loop-k.invariant.bits c.loop-k.invariant.end (past-exactly g.row.Q v zs h c.loop-k.k c.loop-k.ones.at (omega arith) from.0) c.in_default.ensures.none in
+    let all = none-next g.row.Q c.args.self.now zs h c.loop-k.k c.loop-k.invariant.bits c.loop-k.invariant.end (past-exactly g.row.Q c.args.self.now zs h c.loop-k.k c.loop-k.ones.at (omega arith) from.0) c.in_default.ensures.none in
     omega arith
 
 -- each field lies within the words
 pub next-requires-in-loop-k : goal.next-requires-in-loop-k
 next-requires-in-loop-k g c =
-    let v = c.args.self.now in
-    let i = c.loop-k.invariant in
-    omega (arith, i.field, i.width, ap length i.row, length-bits_of v.part.bits.words.now, field-within g.row.Q v c.loop-k.k c.requires.bits c.loop-k-test.true)
+    omega (arith, c.loop-k.invariant.field, c.loop-k.invariant.width, ap length c.loop-k.invariant.row, length-bits_of c.args.self.now.part.bits.words.now, field-within g.row.Q c.args.self.now c.loop-k.k c.requires.bits c.loop-k-test.true)
 
 pub joined-number-requires : goal.joined-number-requires
 joined-number-requires g c =
-    let v = c.args.self.now in
-    let i = c.loop-k.invariant in
-    let small : c.next-in-loop-k.result < 2 ^ v.low = omega (arith, field-is g (goal.at.joined-number-requires g c).After-next-in-loop-k, low_field-below g.row.Q v c.loop-k.k) in
-    (omega arith, (omega (arith, c.in-Some.ensures.first.at_or_after, i.low), (omega (arith, c.in-Some.ensures.first.before_end, i.end), small)))
+    let small : c.next-in-loop-k.result < 2 ^ c.args.self.now.low = omega (arith, field-is g (goal.at.joined-number-requires g c).After-next-in-loop-k, low_field-below g.row.Q c.args.self.now c.loop-k.k) in
+    (omega arith, (omega (arith, c.in-Some.ensures.first.at_or_after, c.loop-k.invariant.low), (omega (arith, c.in-Some.ensures.first.before_end, c.loop-k.invariant.end), small)))
 
 -- what is read is the number of all that the bits can be
 pub returns-then-number-least-clause-none : goal.returns-then-number-least-clause-none
 returns-then-number-least-clause-none g c = λ zs h.
-    let v = c.args.self.now in
     let within : c.loop-k.k < length zs = omega (arith, h.values.count, c.loop-k-test.true) in
     let one = one-is g (goal.at.returns-then-number-least-clause-none g c).In-Some zs h in
-    let number = number-is g.row.Q v zs c.loop-k.k c.in-Some.one h one.0 one.1 in
+    let number = number-is g.row.Q c.args.self.now zs c.loop-k.k c.in-Some.one h one.0 one.1 in
     let read = field-is g (goal.at.returns-then-number-least-clause-none g c).After-next-in-loop-k in
     omega (arith, c.joined-number.ensures.value, read, number, (c.loop-k.invariant.all zs h).1, past-number zs h.values.rising c.loop-k.k within, c.if-number-least.true)
 
@@ -147,22 +139,20 @@ pub returns-then-least-self-clause-some : goal.returns-then-least-self-clause-so
 returns-then-least-self-clause-some g c =
     let v = c.args.self.now in
     let bits = bits_of v.part.bits.words.now in
-    let i = c.loop-k.invariant in
-    let ys = i.begun.0 in
+    let ys = c.loop-k.invariant.begun.0 in
     let all : c.loop-k.k ≡ v.part.m = omega (arith, c.loop-k-test.false, c.loop-k.auto.k-end) in
     let begun : AreBegun bits v.part.place v.part.u v.part.m v.low g.row.Q v.part.m c.loop-k.ones.at v.part.u ys =
     subst (λ n. AreBegun bits v.part.place v.part.u v.part.m v.low g.row.Q v.part.m c.loop-k.ones.at n ys) c.if-least-self.true
-    (subst (λ n. AreBegun bits v.part.place v.part.u v.part.m v.low g.row.Q n c.loop-k.ones.at c.loop-k.least ys) all i.begun.1) in (
+    (subst (λ n. AreBegun bits v.part.place v.part.u v.part.m v.low g.row.Q n c.loop-k.ones.at c.loop-k.least ys) all c.loop-k.invariant.begun.1) in (
       ys,
       read-view-at g.row.Q v ys
           (begun-all bits v.part.place v.part.u v.part.m v.low g.row.Q c.loop-k.ones.at ys (bits-bits_of v.part.bits.words.now) v.part.some v.spacing
           (omega (arith, c.requires.bits, length-bits_of v.part.bits.words.now)) begun),
-      i.begun.2,
+      c.loop-k.invariant.begun.2,
     )
 
 pub returns-else-least-self-clause-none : goal.returns-else-least-self-clause-none
 returns-else-least-self-clause-none g c = λ zs h.
-    let v = c.args.self.now in
     let from = c.loop-k.invariant.all zs h in
-    let all : c.loop-k.k ≡ v.part.m = omega (arith, c.loop-k-test.false, c.loop-k.auto.k-end) in
-    c.if-least-self.false (from.1 ∙ ap (λ n. past zs n) all ∙ past-last zs v.part.m v.part.some ∙ h.values.last)
+    let all : c.loop-k.k ≡ c.args.self.now.part.m = omega (arith, c.loop-k-test.false, c.loop-k.auto.k-end) in
+    c.if-least-self.false (from.1 ∙ ap (λ n. past zs n) all ∙ past-last zs c.args.self.now.part.m c.args.self.now.part.some ∙ h.values.last)

@@ -27,12 +27,10 @@ field-is g c = let i = c.loop-i.invariant in field-read g.row.Q c.args.self.now 
 
 pub returns-in_default-clause-values : goal.returns-in_default-clause-values
 returns-in_default-clause-values g c = λ ys h.
-    let a = c.args in
-    let i = c.loop-i.invariant in
-    let last = none-next g.row.Q a.self.now ys h (a.k + c.loop-i.i + 1) i.bits i.end (i.past ys h) c.in_default.ensures.none in
+    let last = none-next g.row.Q c.args.self.now ys h (c.args.k + c.loop-i.i + 1) c.loop-i.invariant.bits c.loop-i.invariant.end (c.loop-i.invariant.past ys h) c.in_default.ensures.none in
     let longer = length-set c.loop-i.to c.loop-i.i c.loop-i.number in
-    given-all ys a.k a.x (slice_set c.loop-i.to c.loop-i.i c.loop-i.number) (c.loop-i.i + 1)
-    (given-more ys a.k a.x c.loop-i.to c.loop-i.i c.loop-i.number (i.given ys h) (omega arith) (i.number ys h) (omega arith))
+    given-all ys c.args.k c.args.x (slice_set c.loop-i.to c.loop-i.i c.loop-i.number) (c.loop-i.i + 1)
+    (given-more ys c.args.k c.args.x c.loop-i.to c.loop-i.i c.loop-i.number (c.loop-i.invariant.given ys h) (omega arith) (c.loop-i.invariant.number ys h) (omega arith))
     (omega arith) (omega (arith, h.values.count)) (λ room more. absurd (omega (arith, h.values.count)))
 
 pub fields_from-fields-requires : goal.fields_from-fields-requires
@@ -57,28 +55,24 @@ loop-i-init g c =
 
 pub next-requires-in-loop-i : goal.next-requires-in-loop-i
 next-requires-in-loop-i g c =
-    let v = c.args.self.now in
     let ys = c.requires.held.0 in
     let h = c.requires.held.1 in
-    let i = c.loop-i.invariant in
     let next = one-is g (goal.at.next-requires-in-loop-i g c).In-Some ys h in
-    omega (arith, i.field, i.width, ap length i.row, length-bits_of v.part.bits.words.now, field-within g.row.Q v (c.args.k + c.loop-i.i + 1) (within-held g.row.Q v ys h) next.0)
+    omega (arith, c.loop-i.invariant.field, c.loop-i.invariant.width, ap length c.loop-i.invariant.row, length-bits_of c.args.self.now.part.bits.words.now, field-within g.row.Q c.args.self.now (c.args.k + c.loop-i.i + 1) (within-held g.row.Q c.args.self.now ys h) next.0)
 
 pub joined-number-requires : goal.joined-number-requires
 joined-number-requires g c =
-    let v = c.args.self.now in
     let next = one-is g (goal.at.joined-number-requires g c).In-Some c.requires.held.0 c.requires.held.1 in
     let read = field-is g (goal.at.joined-number-requires g c).After-next-in-loop-i in
-    let small : c.next-in-loop-i.result < 2 ^ v.low = omega (arith, read, low_field-below g.row.Q v (c.args.k + c.loop-i.i + 1)) in
+    let small : c.next-in-loop-i.result < 2 ^ c.args.self.now.low = omega (arith, read, low_field-below g.row.Q c.args.self.now (c.args.k + c.loop-i.i + 1)) in
     (omega arith, (omega (arith, next.1), (omega (arith, c.in-Some.ensures.first.before_end, c.loop-i.invariant.end), small)))
 
 pub loop-i-preserved : goal.loop-i-preserved
 loop-i-preserved g c =
     let v = c.args.self.now in
-    let a = c.args in
-    let k = a.k + c.loop-i.i + 1 in
+    let k = c.args.k + c.loop-i.i + 1 in
     let i = c.loop-i.invariant in
-    let same : a.k + c.loop-i.i + 1 ≡ a.k + (c.loop-i.i + 1) = omega arith in
+    let same : c.args.k + c.loop-i.i + 1 ≡ c.args.k + (c.loop-i.i + 1) = omega arith in
     let next = one-is g (goal.at.loop-i-preserved g c).In-Some c.requires.held.0 c.requires.held.1 in
     let read = field-is g (goal.at.loop-i-preserved g c).After-next-in-loop-i in
     record {
@@ -86,7 +80,7 @@ loop-i-preserved g c =
       number = λ ys h.
           let one = one-is g (goal.at.loop-i-preserved g c).In-Some ys h in
           number-got g.row.Q v ys k c.in-Some.one c.joined-number.result h one.0 one.1 (c.joined-number.ensures.value ∙ ap (λ f. (c.in-Some.one - v.part.place - k) * 2 ^ v.low + f) read) ∙ ap (λ n. slice_index ys n) same;
-      given = λ ys h. given-more ys a.k a.x c.loop-i.to c.loop-i.i c.loop-i.number (i.given ys h) (omega arith) (i.number ys h) (omega arith);
+      given = λ ys h. given-more ys c.args.k c.args.x c.loop-i.to c.loop-i.i c.loop-i.number (i.given ys h) (omega arith) (i.number ys h) (omega arith);
       bits = c.in-Some.ensures.bits ∙ i.bits;
       end = c.in-Some.ensures.end ∙ i.end;
       row = c.next-in-loop-i.ensures.bits ∙ i.row;
@@ -101,14 +95,10 @@ loop-i-preserved g c =
 
 pub returns-then-number-x-clause-values : goal.returns-then-number-x-clause-values
 returns-then-number-x-clause-values g c = λ ys h.
-    let a = c.args in
-    let i = c.loop-i.invariant in
-    given-all ys a.k a.x c.loop-i.to c.loop-i.i (i.given ys h) (omega arith) (omega (arith, i.within, h.values.count)) (λ room more. omega (arith, i.number ys h, c.if-number-x.true))
+    given-all ys c.args.k c.args.x c.loop-i.to c.loop-i.i (c.loop-i.invariant.given ys h) (omega arith) (omega (arith, c.loop-i.invariant.within, h.values.count)) (λ room more. omega (arith, c.loop-i.invariant.number ys h, c.if-number-x.true))
 
 pub returns-clause-values : goal.returns-clause-values
 returns-clause-values g c = λ ys h.
-    let a = c.args in
-    let i = c.loop-i.invariant in
     let all : c.loop-i.i ≡ length c.loop-i.to = omega (arith, c.loop-i-test.false, c.loop-i.auto.to, c.loop-i.auto.i-end) in
-    subst (λ n. AreNextBelow ys a.k a.x c.loop-i.to n) all
-    (given-all ys a.k a.x c.loop-i.to c.loop-i.i (i.given ys h) (omega arith) (omega (arith, i.within, h.values.count)) (λ room more. absurd (omega (arith, room, all))))
+    subst (λ n. AreNextBelow ys c.args.k c.args.x c.loop-i.to n) all
+    (given-all ys c.args.k c.args.x c.loop-i.to c.loop-i.i (c.loop-i.invariant.given ys h) (omega arith) (omega (arith, c.loop-i.invariant.within, h.values.count)) (λ room more. absurd (omega (arith, room, all))))

@@ -40,33 +40,27 @@ write_high_bits-requires-clause-room g c =
 
 pub returns-in_err-write_high_bits-clause-err : goal.returns-in_err-write_high_bits-clause-err
 returns-in_err-write_high_bits-clause-err g c =
-    let l = c.low_width-low.result in
     let ys = c.args.values.now in
     on-err _ _
     (subst (λ xs. AppendsBits c.args.to.now c.write_high_bits.new.to xs) (sym (whole g.row.Q c.args.u c.low_width-low.result c.args.values.now c.low_width-low.ensures.value))
-    (appends-prefix c.args.to.now c.write_high_bits.new.to (high_bits l c.args.u ys ++ low_fields l ys) (ef_samples g.row.Q l ys)
-    (appends-prefix c.args.to.now c.write_high_bits.new.to (high_bits l c.args.u ys) (low_fields l ys)
-    (subst (λ v. AppendsBits c.args.to.now c.write_high_bits.new.to (high_bits l v ys)) (past-is c.args.u ys c.requires.values) c.in_err-write_high_bits.ensures.err))))
+    (appends-prefix c.args.to.now c.write_high_bits.new.to (high_bits c.low_width-low.result c.args.u ys ++ low_fields c.low_width-low.result ys) (ef_samples g.row.Q c.low_width-low.result ys)
+    (appends-prefix c.args.to.now c.write_high_bits.new.to (high_bits c.low_width-low.result c.args.u ys) (low_fields c.low_width-low.result ys)
+    (subst (λ v. AppendsBits c.args.to.now c.write_high_bits.new.to (high_bits c.low_width-low.result v ys)) (past-is c.args.u ys c.requires.values) c.in_err-write_high_bits.ensures.err))))
 
 pub write_low_fields-requires-clause-room : goal.write_low_fields-requires-clause-room
 write_low_fields-requires-clause-room g c =
-    let l = c.low_width-low.result in
-    let ys = c.args.values.now in
-    omega (arith, c.requires.room, rooms g.row.Q c.args.u l ys c.low_width-low.ensures.value, ap length (highs g (goal.at.write_low_fields-requires-clause-room g c).In_ok-write_high_bits), length-append c.args.to.now (high_bits l c.args.u ys))
+    omega (arith, c.requires.room, rooms g.row.Q c.args.u c.low_width-low.result c.args.values.now c.low_width-low.ensures.value, ap length (highs g (goal.at.write_low_fields-requires-clause-room g c).In_ok-write_high_bits), length-append c.args.to.now (high_bits c.low_width-low.result c.args.u c.args.values.now))
 
 pub returns-in_err-write_low_fields-clause-err : goal.returns-in_err-write_low_fields-clause-err
 returns-in_err-write_low_fields-clause-err g c =
-    let l = c.low_width-low.result in
-    let ys = c.args.values.now in
     on-err _ _
-    (subst (λ xs. AppendsBits c.args.to.now c.write_low_fields.new.to xs) (sym (whole g.row.Q c.args.u l ys c.low_width-low.ensures.value))
-    (appends-prefix c.args.to.now c.write_low_fields.new.to (high_bits l c.args.u ys ++ low_fields l ys) (ef_samples g.row.Q l ys)
-    (appends-behind c.args.to.now c.write_high_bits.new.to c.write_low_fields.new.to (high_bits l c.args.u ys) (low_fields l ys) (highs g (goal.at.returns-in_err-write_low_fields-clause-err g c).In_ok-write_high_bits) c.in_err-write_low_fields.ensures.err)))
+    (subst (λ xs. AppendsBits c.args.to.now c.write_low_fields.new.to xs) (sym (whole g.row.Q c.args.u c.low_width-low.result c.args.values.now c.low_width-low.ensures.value))
+    (appends-prefix c.args.to.now c.write_low_fields.new.to (high_bits c.low_width-low.result c.args.u c.args.values.now ++ low_fields c.low_width-low.result c.args.values.now) (ef_samples g.row.Q c.low_width-low.result c.args.values.now)
+    (appends-behind c.args.to.now c.write_high_bits.new.to c.write_low_fields.new.to (high_bits c.low_width-low.result c.args.u c.args.values.now) (low_fields c.low_width-low.result c.args.values.now) (highs g (goal.at.returns-in_err-write_low_fields-clause-err g c).In_ok-write_high_bits) c.in_err-write_low_fields.ensures.err)))
 
 pub write_samples-requires-clause-values : goal.write_samples-requires-clause-values
 write_samples-requires-clause-values g c =
-    let ys = c.args.values.now in
-    subst (λ v. AreRelative v (length ys) ys) (sym (past-is c.args.u ys c.requires.values)) c.requires.values
+    subst (λ v. AreRelative v (length c.args.values.now) c.args.values.now) (sym (past-is c.args.u c.args.values.now c.requires.values)) c.requires.values
 
 pub write_samples-requires-clause-in_range : goal.write_samples-requires-clause-in_range
 write_samples-requires-clause-in_range g c =
@@ -74,41 +68,34 @@ write_samples-requires-clause-in_range g c =
 
 pub write_samples-requires-clause-low : goal.write_samples-requires-clause-low
 write_samples-requires-clause-low g c =
-    let ys = c.args.values.now in
-    subst (λ v. c.low_width-low.result ≡ low_width_of v (length ys)) (sym (past-is c.args.u ys c.requires.values)) c.low_width-low.ensures.value
+    subst (λ v. c.low_width-low.result ≡ low_width_of v (length c.args.values.now)) (sym (past-is c.args.u c.args.values.now c.requires.values)) c.low_width-low.ensures.value
 
 pub write_samples-requires-clause-room : goal.write_samples-requires-clause-room
 write_samples-requires-clause-room g c =
-    let l = c.low_width-low.result in
-    let ys = c.args.values.now in
     omega (
       arith,
       c.requires.room,
-      rooms g.row.Q c.args.u l ys c.low_width-low.ensures.value,
+      rooms g.row.Q c.args.u c.low_width-low.result c.args.values.now c.low_width-low.ensures.value,
       ap length (highs g (goal.at.write_samples-requires-clause-room g c).In_ok-write_high_bits),
-      length-append c.args.to.now (high_bits l c.args.u ys),
+      length-append c.args.to.now (high_bits c.low_width-low.result c.args.u c.args.values.now),
       ap length c.in_ok-write_low_fields.ensures.ok,
-      length-append c.write_high_bits.new.to (low_fields l ys),
+      length-append c.write_high_bits.new.to (low_fields c.low_width-low.result c.args.values.now),
     )
 
 pub returns-clause-ok : goal.returns-clause-ok
 returns-clause-ok g c =
-    let l = c.low_width-low.result in
-    let ys = c.args.values.now in
     on_ok_weaker c.write_samples.result
     (λ e.
-    appends-both c.args.to.now c.write_low_fields.new.to c.write_samples.new.to (high_bits l c.args.u ys ++ low_fields l ys) (ef_samples g.row.Q l ys)
-    (appends-both c.args.to.now c.write_high_bits.new.to c.write_low_fields.new.to (high_bits l c.args.u ys) (low_fields l ys) (highs g (goal.at.returns-clause-ok g c).In_ok-write_high_bits) c.in_ok-write_low_fields.ensures.ok) e
-    ∙ ap (λ xs. c.args.to.now ++ xs) (sym (whole g.row.Q c.args.u l ys c.low_width-low.ensures.value)))
+    appends-both c.args.to.now c.write_low_fields.new.to c.write_samples.new.to (high_bits c.low_width-low.result c.args.u c.args.values.now ++ low_fields c.low_width-low.result c.args.values.now) (ef_samples g.row.Q c.low_width-low.result c.args.values.now)
+    (appends-both c.args.to.now c.write_high_bits.new.to c.write_low_fields.new.to (high_bits c.low_width-low.result c.args.u c.args.values.now) (low_fields c.low_width-low.result c.args.values.now) (highs g (goal.at.returns-clause-ok g c).In_ok-write_high_bits) c.in_ok-write_low_fields.ensures.ok) e
+    ∙ ap (λ xs. c.args.to.now ++ xs) (sym (whole g.row.Q c.args.u c.low_width-low.result c.args.values.now c.low_width-low.ensures.value)))
     c.write_samples.ensures.ok
 
 pub returns-clause-err : goal.returns-clause-err
 returns-clause-err g c =
-    let l = c.low_width-low.result in
-    let ys = c.args.values.now in
     on_err_weaker c.write_samples.result
     (λ e.
-    subst (λ xs. AppendsBits c.args.to.now c.write_samples.new.to xs) (sym (whole g.row.Q c.args.u l ys c.low_width-low.ensures.value))
-    (appends-behind c.args.to.now c.write_low_fields.new.to c.write_samples.new.to (high_bits l c.args.u ys ++ low_fields l ys) (ef_samples g.row.Q l ys)
-    (appends-both c.args.to.now c.write_high_bits.new.to c.write_low_fields.new.to (high_bits l c.args.u ys) (low_fields l ys) (highs g (goal.at.returns-clause-err g c).In_ok-write_high_bits) c.in_ok-write_low_fields.ensures.ok) e))
+    subst (λ xs. AppendsBits c.args.to.now c.write_samples.new.to xs) (sym (whole g.row.Q c.args.u c.low_width-low.result c.args.values.now c.low_width-low.ensures.value))
+    (appends-behind c.args.to.now c.write_low_fields.new.to c.write_samples.new.to (high_bits c.low_width-low.result c.args.u c.args.values.now ++ low_fields c.low_width-low.result c.args.values.now) (ef_samples g.row.Q c.low_width-low.result c.args.values.now)
+    (appends-both c.args.to.now c.write_high_bits.new.to c.write_low_fields.new.to (high_bits c.low_width-low.result c.args.u c.args.values.now) (low_fields c.low_width-low.result c.args.values.now) (highs g (goal.at.returns-clause-err g c).In_ok-write_high_bits) c.in_ok-write_low_fields.ensures.ok) e))
     c.write_samples.ensures.err
