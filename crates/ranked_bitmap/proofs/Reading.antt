@@ -121,7 +121,6 @@ pub pieces-read : (bits : List ℕ) (place u q : ℕ) (ys : List ℕ) → EachBi
     → StandAt bits place (marks ys u ++ map_samples q ys u)
 pieces-read bits place u q ys each some h =
     let width : ℕ = digits (length ys) in
-    let room = h.room in
     let any : 1 ≤ u = omega (arith, h.values.last) in
     let is : window bits place u ≡ marks ys u =
     ones-are-marks (window bits place u) ys u (bits-window bits place u each) h.ones (length-window bits place u (omega arith)) in
@@ -167,16 +166,13 @@ ones-in-all bits place u fit =
 
 pub counted-all : (bits : List ℕ) (place u m q : ℕ) (ys : List ℕ) → EachBit bits → IsRead bits place u m q ys → ones_between bits place (place + u) ≡ m
 counted-all bits place u m q ys each h =
-    let room = h.room in
     ones-in-all bits place u (omega arith)
     ∙ count-all (window bits place u) ys (bits-window bits place u each) h.ones ∙ h.values.count
 
 -- the last place holds a one
 pub last-set : (bits : List ℕ) (place u m q : ℕ) (ys : List ℕ) → IsRead bits place u m q ys → get_or bits (place + (u - 1)) 0 ≡ 1
 last-set bits place u m q ys h =
-    let count : length ys ≡ m = h.values.count in
     let some : 0 < m = h.values.some in
-    let last : get_or ys (m - 1) 0 + 1 ≡ u = h.values.last in
     sym (window-at bits place u (u - 1) (omega arith))
     ∙ ap (λ i. get_or (window bits place u) i 0) (let e : u - 1 ≡ get_or ys (m - 1) 0 = omega arith in e)
     ∙ h.ones.one (m - 1) (omega arith)
@@ -278,8 +274,6 @@ pub next-is : (bits : List ℕ) (place u m q : ℕ) (ys : List ℕ) → EachBit 
 next-is bits place u m q ys each h from x reached ahead =
     let r : ℕ = ones_between bits place (place + x) in
     let below : AreBelow ys x r = counted bits place u m q ys each h x (omega arith) in
-    let count : length ys ≡ m = h.values.count in
-    let last : get_or ys (m - 1) 0 + 1 ≡ u = h.values.last in
     let some : r < length ys = elim (cases_lt r (length ys)) [
       | inl less ↦ less
       | inr more ↦ (let under = below.below (m - 1) (omega arith) in omega arith)
@@ -296,7 +290,6 @@ pub here-is : (bits : List ℕ) (place u m q : ℕ) (ys : List ℕ) → EachBit 
     → from < m → ones_between bits place (place + x) ≤ from → IsFirstAtLeast ys from x from
 here-is bits place u m q ys each h from x reached within passed =
     let below : AreBelow ys x (ones_between bits place (place + x)) = counted bits place u m q ys each h x (omega arith) in
-    let count : length ys ≡ m = h.values.count in
     record {
       at_or_after = omega arith;
       within = omega arith;

@@ -5,15 +5,11 @@ use Rattle.ranked_bitmap.proofs.MapView.after.Goals as goal
 pub overflow_add-number : goal.overflow_add-number
 overflow_add-number g c =
     let v = c.args.self.now in
-    let ys = c.requires.held.0 in
-    let h = c.requires.held.1 in
-    omega (arith, c.requires.number ys h, number-below g.row.B v ys h c.args.k (omega arith), v.part.in_range)
+    omega (arith, c.requires.number c.requires.held.0 c.requires.held.1, number-below g.row.B v c.requires.held.0 c.requires.held.1 c.args.k (omega arith), v.part.in_range)
 
 pub number_from-requires : goal.number_from-requires
 number_from-requires g c =
-    let ys = c.requires.held.0 in
-    let h = c.requires.held.1 in
-    (omega arith, (c.requires.held, omega (arith, c.requires.number ys h, next-below g.row.B c.args.self.now ys h c.args.k c.requires.within)))
+    (omega arith, (c.requires.held, omega (arith, c.requires.number c.requires.held.0 c.requires.held.1, next-below g.row.B c.args.self.now c.requires.held.0 c.requires.held.1 c.args.k c.requires.within)))
 
 pub returns : goal.returns
 returns g c = λ ys h.

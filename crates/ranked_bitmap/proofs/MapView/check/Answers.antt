@@ -1,6 +1,5 @@
 use Rattle.std.proofs.Common.{arith, refl, sym, ◌∙◌}
 use Rattle.std.proofs.lemmas.Bool.{eq-eqb, eqb-true}
-use Rattle.ranked_bitmap.specs.MapView.{Holds}
 use Rattle.ranked_bitmap.proofs.Views.{within-held, checked-holds, held-all, held-last, held-samples}
 use Rattle.ranked_bitmap.proofs.MapView.check.Goals as goal
 
@@ -8,16 +7,14 @@ pub returns-then-self-len : goal.returns-then-self-len
 returns-then-self-len g c = (
   λ e. cc,
   λ held.
-      let h : Holds g.row.B c.args.self.now held.0 = held.1 in
-      absurd (omega (arith, within-held g.row.B c.args.self.now held.0 h, c.len.ensures, c.if-self-len.true)),
+      absurd (omega (arith, within-held g.row.B c.args.self.now held.0 held.1, c.len.ensures, c.if-self-len.true)),
 )
 
 pub returns-then-not-bit : goal.returns-then-not-bit
 returns-then-not-bit g c = (
   λ e. cc,
   λ held.
-      let h : Holds g.row.B c.args.self.now held.0 = held.1 in
-      c.if-not-bit.ensures.1 (held-last g.row.B c.args.self.now held.0 h),
+      c.if-not-bit.ensures.1 (held-last g.row.B c.args.self.now held.0 held.1),
 )
 
 pub returns-in-Some : goal.returns-in-Some
@@ -26,14 +23,12 @@ returns-in-Some g c = (
       checked-holds g.row.B c.args.self.now (omega (arith, c.len.ensures, c.if-self-len.false))
       (sym c.in-Some.ensures.some ∙ eqb-true c.in-Some.count c.args.self.now.part.m same) (c.if-not-bit.ensures.0 refl) c.in-Some.ensures.sampled,
   λ held.
-      let h : Holds g.row.B c.args.self.now held.0 = held.1 in
-      eq-eqb c.in-Some.count c.args.self.now.part.m (c.in-Some.ensures.some ∙ held-all g.row.B c.args.self.now held.0 h),
+      eq-eqb c.in-Some.count c.args.self.now.part.m (c.in-Some.ensures.some ∙ held-all g.row.B c.args.self.now held.0 held.1),
 )
 
 pub returns-in-None : goal.returns-in-None
 returns-in-None g c = (
   λ e. cc,
   λ held.
-      let h : Holds g.row.B c.args.self.now held.0 = held.1 in
-      absurd (c.in-None.ensures.none (held-samples c.digits_hold.ensures.hold g.row.B c.args.self.now held.0 h)),
+      absurd (c.in-None.ensures.none (held-samples c.digits_hold.ensures.hold g.row.B c.args.self.now held.0 held.1)),
 )

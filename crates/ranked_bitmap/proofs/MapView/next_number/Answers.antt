@@ -10,12 +10,10 @@ next_one-requires-clause-range g c = omega (arith, within-held g.row.B c.args.se
 
 pub unwrap-one-requires : goal.unwrap-one-requires
 unwrap-one-requires g c =
-    let v = c.args.self.now in
-    some-from c.next_one.result (HasNoOne (bits_of v.part.bits.words.now) (v.part.place + c.args.least) (v.part.place + v.part.u)) c.next_one.ensures.none
-    (λ none. number-there g.row.B v c.requires.held.0 c.requires.held.1 c.args.least c.requires.within none)
+    some-from c.next_one.result (HasNoOne (bits_of c.args.self.now.part.bits.words.now) (c.args.self.now.part.place + c.args.least) (c.args.self.now.part.place + c.args.self.now.part.u)) c.next_one.ensures.none
+    (λ none. number-there g.row.B c.args.self.now c.requires.held.0 c.requires.held.1 c.args.least c.requires.within none)
 
 pub returns : goal.returns
 returns g c = λ ys h.
-    let v = c.args.self.now in
-    number-found g.row.B v ys h c.args.least c.unwrap-one.result c.requires.within
-    (MatchOption-at_some _ (λ p. IsFirstOne (bits_of v.part.bits.words.now) (v.part.place + c.args.least) (v.part.place + v.part.u) p) c.unwrap-one.result c.unwrap-one.ensures c.next_one.ensures.first)
+    number-found g.row.B c.args.self.now ys h c.args.least c.unwrap-one.result c.requires.within
+    (MatchOption-at_some _ (λ p. IsFirstOne (bits_of c.args.self.now.part.bits.words.now) (c.args.self.now.part.place + c.args.least) (c.args.self.now.part.place + c.args.self.now.part.u) p) c.unwrap-one.result c.unwrap-one.ensures c.next_one.ensures.first)

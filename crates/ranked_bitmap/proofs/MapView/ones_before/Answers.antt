@@ -21,6 +21,5 @@ overflow_add-result g c =
 
 pub returns : goal.returns
 returns g c =
-    let v = c.args.self.now in
-    ones-on (bits_of v.part.bits.words.now) v.part.place (g.row.B * (c.args.number / g.row.B)) c.args.number c.ones_before_run.result c.ones.result (omega (arith, v.spacing))
+    ones-on (bits_of c.args.self.now.part.bits.words.now) c.args.self.now.part.place (g.row.B * (c.args.number / g.row.B)) c.args.number c.ones_before_run.result c.ones.result (omega (arith, c.args.self.now.spacing))
     c.ones_before_run.ensures c.ones.ensures

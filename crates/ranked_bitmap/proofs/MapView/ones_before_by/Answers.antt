@@ -10,15 +10,13 @@ ones-requires-clause-range g c = omega (arith, within-held g.row.B c.args.self.n
 
 pub overflow_add-result : goal.overflow_add-result
 overflow_add-result g c =
-    let v = c.args.self.now in
     omega (
       arith,
-      ones-on (bits_of v.part.bits.words.now) v.part.place c.args.number c.args.x c.args.k c.ones.result (omega arith) c.requires.count c.ones.ensures,
-      ones-few (bits_of v.part.bits.words.now) v.part.place c.args.x (bits-bits_of v.part.bits.words.now),
-      v.part.in_range,
+      ones-on (bits_of c.args.self.now.part.bits.words.now) c.args.self.now.part.place c.args.number c.args.x c.args.k c.ones.result (omega arith) c.requires.count c.ones.ensures,
+      ones-few (bits_of c.args.self.now.part.bits.words.now) c.args.self.now.part.place c.args.x (bits-bits_of c.args.self.now.part.bits.words.now),
+      c.args.self.now.part.in_range,
     )
 
 pub returns : goal.returns
 returns g c =
-    let v = c.args.self.now in
-    ones-on (bits_of v.part.bits.words.now) v.part.place c.args.number c.args.x c.args.k c.ones.result (omega arith) c.requires.count c.ones.ensures
+    ones-on (bits_of c.args.self.now.part.bits.words.now) c.args.self.now.part.place c.args.number c.args.x c.args.k c.ones.result (omega arith) c.requires.count c.ones.ensures

@@ -19,20 +19,18 @@ overflow_sub-value c = omega (arith, c.loop-value.invariant.past, past-number c.
 pub put_one_after-requires : goal.put_one_after-requires
 put_one_after-requires c =
     let ys = c.args.values.now in
-    let k = c.loop-value.value-index in
     let room =
-    ones-room c.args.to.now c.loop-value.to (marks ys (past ys (length ys))) (past ys k) (get_or ys k 0 - past ys k) (2 ^ 63) (next-mark ys k c.requires.rising c.requires.some c.loop-value-test.true)
+    ones-room c.args.to.now c.loop-value.to (marks ys (past ys (length ys))) (past ys c.loop-value.value-index) (get_or ys c.loop-value.value-index 0 - past ys c.loop-value.value-index) (2 ^ 63) (next-mark ys c.loop-value.value-index c.requires.rising c.requires.some c.loop-value-test.true)
     c.loop-value.invariant.written c.requires.room in
-    record { room = subst (λ n. length c.loop-value.to + n + 1 < 2 ^ 63) (sym (gap ys k c.loop-value.past c.loop-value.invariant.past)) room }
+    record { room = subst (λ n. length c.loop-value.to + n + 1 < 2 ^ 63) (sym (gap ys c.loop-value.value-index c.loop-value.past c.loop-value.invariant.past)) room }
 
 pub returns-in_err-put_one_after-clause-err : goal.returns-in_err-put_one_after-clause-err
 returns-in_err-put_one_after-clause-err c =
     let ys = c.args.values.now in
-    let k = c.loop-value.value-index in
     on-err _ _
-    (ones-prefix c.args.to.now c.loop-value.to c.put_one_after.new.self (marks ys (past ys (length ys))) (past ys k) (get_or ys k 0 - past ys k)
-    (next-mark ys k c.requires.rising c.requires.some c.loop-value-test.true) c.loop-value.invariant.written
-    (subst (λ n. AppendsBits c.loop-value.to c.put_one_after.new.self (one_after n)) (gap ys k c.loop-value.past c.loop-value.invariant.past) c.in_err-put_one_after.ensures.err))
+    (ones-prefix c.args.to.now c.loop-value.to c.put_one_after.new.self (marks ys (past ys (length ys))) (past ys c.loop-value.value-index) (get_or ys c.loop-value.value-index 0 - past ys c.loop-value.value-index)
+    (next-mark ys c.loop-value.value-index c.requires.rising c.requires.some c.loop-value-test.true) c.loop-value.invariant.written
+    (subst (λ n. AppendsBits c.loop-value.to c.put_one_after.new.self (one_after n)) (gap ys c.loop-value.value-index c.loop-value.past c.loop-value.invariant.past) c.in_err-put_one_after.ensures.err))
 
 pub loop-value-preserved : goal.loop-value-preserved
 loop-value-preserved c =
@@ -60,7 +58,5 @@ returns-clause-ok c =
 
 pub overflow_add-past : goal.overflow_add-past
 overflow_add-past c =
-    let ys = c.args.values.now in
-    let k = c.loop-value.value-index in
-    let next = next-mark ys k c.requires.rising c.requires.some c.loop-value-test.true in
-    omega (arith, next.within, past-number ys c.requires.rising k c.loop-value-test.true, c.requires.room)
+    let next = next-mark c.args.values.now c.loop-value.value-index c.requires.rising c.requires.some c.loop-value-test.true in
+    omega (arith, next.within, past-number c.args.values.now c.requires.rising c.loop-value.value-index c.loop-value-test.true, c.requires.room)

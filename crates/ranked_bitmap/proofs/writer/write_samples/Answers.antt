@@ -10,14 +10,13 @@ use Rattle.ranked_bitmap.proofs.writer.write_samples.Goals as goal
 
 pub put-requires-clause-room : goal.put-requires-clause-room
 put-requires-clause-room g c =
-    let ys = c.args.values.now in
     omega (
       arith,
       ap length c.loop-j.invariant.written,
-      length-append c.args.to.now (first_samples g.row.B ys c.args.u c.loop-j.j),
-      length-first_samples g.row.B ys c.args.u c.loop-j.j (omega arith),
-      length-samples g.row.B ys c.args.u,
-      room-more (digits (length ys)) c.loop-j.j ((c.args.u - 1) / g.row.B) c.loop-j-test.true,
+      length-append c.args.to.now (first_samples g.row.B c.args.values.now c.args.u c.loop-j.j),
+      length-first_samples g.row.B c.args.values.now c.args.u c.loop-j.j (omega arith),
+      length-samples g.row.B c.args.values.now c.args.u,
+      room-more (digits (length c.args.values.now)) c.loop-j.j ((c.args.u - 1) / g.row.B) c.loop-j-test.true,
       c.digits-width.ensures,
       c.requires.room,
     )
@@ -29,14 +28,13 @@ returns-in_err-put-clause-err g c =
 
 pub loop-j-preserved : goal.loop-j-preserved
 loop-j-preserved g c =
-    let ys = c.args.values.now in
     let count = c.numbers_below-count.result in
     let found = c.numbers_below-count.ensures in
     record {
       written = c.in_ok-put.ensures.ok
           ∙ ap (λ w. c.loop-j.to ++ field_bits w count) c.digits-width.ensures
-          ∙ sample-more c.args.to.now c.loop-j.to g.row.B ys c.args.u c.loop-j.j count c.loop-j-test.true
-          (found-below ys c.args.u (g.row.B * (c.loop-j.j + 1)) count c.requires.values found.within found.below found.next ∙ sym (count-at g.row.B ys c.args.u c.loop-j.j c.loop-j-test.true))
+          ∙ sample-more c.args.to.now c.loop-j.to g.row.B c.args.values.now c.args.u c.loop-j.j count c.loop-j-test.true
+          (found-below c.args.values.now c.args.u (g.row.B * (c.loop-j.j + 1)) count c.requires.values found.within found.below found.next ∙ sym (count-at g.row.B c.args.values.now c.args.u c.loop-j.j c.loop-j-test.true))
           c.loop-j.invariant.written;
       within = found.within;
       below = λ i lt. omega (arith, found.below i lt);
