@@ -31,9 +31,8 @@ module _ (limited : Bool) (limit : ℕ) (cost : ℕ → ℕ → ℕ) (n : ℕ) w
 
   pub least-kept : (rests : List ℕ) (i end least : ℕ) → IsLeastTo rests i end least → (MayEnd i end → least ≤ cost i end + get_or rests end 0) → IsLeastTo rests i (end + 1) least
   least-kept rests i end least h over =
-      let r = h.reached in
       record {
-        reached = (r.0, r.1, omega (arith, r.2), r.3, r.4);
+        reached = (h.reached.0, h.reached.1, omega (arith, h.reached.2), h.reached.3, h.reached.4);
         none_less = λ j l b m. elim (cases_lt j end) [
           | inl before ↦ h.none_less j l before m
           | inr at ↦ let same : j ≡ end = omega (arith, at, b) in subst (λ (x : ℕ). MayEnd i x → least ≤ cost i x + get_or rests x 0) (sym same) over m
@@ -54,9 +53,8 @@ module _ (limited : Bool) (limit : ℕ) (cost : ℕ → ℕ → ℕ) (n : ℕ) w
   pub least-behind : (rests : List ℕ) (i end least : ℕ) → i < end → end ≤ n → (MayEnd i end → ⊥) → ((j : ℕ) → end ≤ j → j ≤ n → cost i end ≤ cost i j)
       → IsLeastTo rests i end least → IsLeastTo rests i (n + 1) least
   least-behind rests i end least some fit over grow h =
-      let r = h.reached in
       record {
-        reached = (r.0, r.1, omega (arith, r.2, fit), r.3, r.4);
+        reached = (h.reached.0, h.reached.1, omega (arith, h.reached.2, fit), h.reached.3, h.reached.4);
         none_less = λ j l b m. elim (cases_lt j end) [
           | inl before ↦ h.none_less j l before m
           | inr behind ↦ absurd (over (λ t. omega (arith, m t, grow j (omega (arith, behind)) (omega (arith, b)))))

@@ -158,16 +158,14 @@ module _ (limit charge : ℕ) (cost : ℕ → ℕ → ℕ) (bounds : List ℕ) (
   -- the end costs at most 103/100 of each allowed partition
   pub last-near : ((h i j k : ℕ) → h ≤ i → i < j → j ≤ k → k ≤ n → cost i j ≤ cost h k) → ((i j : ℕ) → i < j → j ≤ n → charge ≤ cost i j) → (others : List ℕ) → IsAllowed limit cost n others → 100 * cost_to t n ≤ 103 * partition_cost cost others
   last-near monotone least others a =
-      let s = all-searched in
-      let first : IsReached t 0 = omega (arith, s.routes.origin) in
-      let near = near-rest limit charge cost n t monotone least s.done 0 0 others (omega arith) (omega arith) first a.partition a.within in
-      omega (arith, near.1, s.routes.origin)
+      let first : IsReached t 0 = omega (arith, all-searched.routes.origin) in
+      let near = near-rest limit charge cost n t monotone least all-searched.done 0 0 others (omega arith) (omega arith) first a.partition a.within in
+      omega (arith, near.1, all-searched.routes.origin)
 
   -- two costs at most for each window and number
   pub few-costs : after ≤ before + 2 * length bounds * n
   few-costs =
-      let s = all-searched in
-      let each : All (λ p. p ≤ n) stands = All-from_get_or (λ p. p ≤ n) stands 0 (λ k l. s.stand.within k (omega (arith, l, s.stand.count))) in
+      let each : All (λ p. p ≤ n) stands = All-from_get_or (λ p. p ≤ n) stands 0 (λ k l. all-searched.stand.within k (omega (arith, l, all-searched.stand.count))) in
       let most : sum stands ≤ length stands * n = sum_by-le (λ x. x) n stands each in
-      let count : length stands * n ≡ length bounds * n = ap (λ (x : ℕ). x * n) s.stand.count in
-      omega (arith, s.risen, most, count)
+      let count : length stands * n ≡ length bounds * n = ap (λ (x : ℕ). x * n) all-searched.stand.count in
+      omega (arith, all-searched.risen, most, count)

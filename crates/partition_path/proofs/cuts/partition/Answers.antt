@@ -1,47 +1,42 @@
-use Rattle.std.proofs.Common.{◌≡◌, ◌^◌, ◌<◌, length, arith}
+use Rattle.std.proofs.Common.{◌≡◌, ◌^◌, ◌<◌, ◌≤◌, length, arith}
 use Rattle.std.proofs.lemmas.Grind.{common_steps}
 use Rattle.part_cost.specs.Formats.{numbers_of}
 use Rattle.part_cost.specs.Partition.{partition_cost}
+use Rattle.partition_path.specs.Chains.{IsChain}
 use Rattle.partition_path.specs.Tables.{cost_to, unreached}
 use Rattle.partition_path.proofs.Traces.{to-last, linked, allowed, total}
 use Rattle.partition_path.proofs.Shifting.{few-parts, few-steps}
+use Rattle.partition_path.proofs.cuts.partition.Given as given
 use Rattle.partition_path.proofs.cuts.partition.Goals as goal
+use Rattle.partition_path.proofs.cuts.partition.Goals.{In_ok-ends}
+
+-- the routes to the ends are a chain
+chain : (g : given.Over) (c : In_ok-ends g) → IsChain c.in_ok-routes.routes 0 (g.C.SpanCost.count c.args.cost.now) c.in_ok-ends.ends.items
+chain g c = to-last c.in_ok-routes.routes (length c.in_ok-routes.routes) (g.C.SpanCost.count c.args.cost.now) c.in_ok-ends.ends.items c.in_ok-routes.ensures.routes.places c.in_ok-ends.ensures
+
+-- whose parts cost no more than the last place
+most : (g : given.Over) (c : In_ok-ends g) → partition_cost (g.C.SpanCost.cost_of c.args.cost.now) c.in_ok-ends.ends.items ≤ cost_to c.in_ok-routes.routes (g.C.SpanCost.count c.args.cost.now)
+most g c = total (numbers_of (g.C.SpanCost.format_of c.args.cost.now)).limit (g.C.SpanCost.cost_of c.args.cost.now) (g.C.SpanCost.count c.args.cost.now) c.in_ok-routes.routes c.in_ok-routes.ensures.routes c.in_ok-routes.ensures.reached c.in_ok-ends.ends.items (chain g c)
 
 pub ends-requires-clause-linked : goal.ends-requires-clause-linked
-ends-requires-clause-linked g c =
-    let said = c.in_ok-routes.ensures in
-    linked (numbers_of (g.C.SpanCost.format_of c.args.cost.now)).limit (g.C.SpanCost.cost_of c.args.cost.now) (g.C.SpanCost.count c.args.cost.now) c.in_ok-routes.routes said.routes said.reached
+ends-requires-clause-linked g c = linked (numbers_of (g.C.SpanCost.format_of c.args.cost.now)).limit (g.C.SpanCost.cost_of c.args.cost.now) (g.C.SpanCost.count c.args.cost.now) c.in_ok-routes.routes c.in_ok-routes.ensures.routes c.in_ok-routes.ensures.reached
 
 pub shift_ends-requires : goal.shift_ends-requires
 shift_ends-requires g c =
-    let n = g.C.SpanCost.count c.args.cost.now in
-    let t = c.in_ok-routes.routes in
-    let said = c.in_ok-routes.ensures in
-    let chain = to-last t (length t) n c.in_ok-ends.ends.items said.routes.places c.in_ok-ends.ensures in
-    allowed (numbers_of (g.C.SpanCost.format_of c.args.cost.now)).limit (g.C.SpanCost.cost_of c.args.cost.now) n t said.routes said.reached c.in_ok-ends.ends.items chain
+    allowed (numbers_of (g.C.SpanCost.format_of c.args.cost.now)).limit (g.C.SpanCost.cost_of c.args.cost.now) (g.C.SpanCost.count c.args.cost.now) c.in_ok-routes.routes c.in_ok-routes.ensures.routes c.in_ok-routes.ensures.reached c.in_ok-ends.ends.items (chain g (goal.at.shift_ends-requires g c).In_ok-ends)
 
 pub total_cost-total-requires-clause-room : goal.total_cost-total-requires-clause-room
 total_cost-total-requires-clause-room g c =
-    let n = g.C.SpanCost.count c.args.cost.now in
-    let t = c.in_ok-routes.routes in
-    let said = c.in_ok-routes.ensures in
-    let chain = to-last t (length t) n c.in_ok-ends.ends.items said.routes.places c.in_ok-ends.ensures in
-    let most = total (numbers_of (g.C.SpanCost.format_of c.args.cost.now)).limit (g.C.SpanCost.cost_of c.args.cost.now) n t said.routes said.reached c.in_ok-ends.ends.items chain in
-    let small : cost_to t n < unreached = said.reached in
-    let room : partition_cost (g.C.SpanCost.cost_of c.args.cost.now) c.shift_ends.new.ends.items < 2 ^ 64 = omega (arith, most, small, c.shift_ends.ensures.cheaper) in
+    let small : cost_to c.in_ok-routes.routes (g.C.SpanCost.count c.args.cost.now) < unreached = c.in_ok-routes.ensures.reached in
+    let room : partition_cost (g.C.SpanCost.cost_of c.args.cost.now) c.shift_ends.new.ends.items < 2 ^ 64 = omega (arith, most g (goal.at.total_cost-total-requires-clause-room g c).In_ok-ends, small, c.shift_ends.ensures.cheaper) in
     let same : c.deref.result.now ≡ c.shift_ends.new.ends.items = grind (arith, common_steps) in
     rw same room
 
 pub returns-clause-near : goal.returns-clause-near
 returns-clause-near g c =
-    let n = g.C.SpanCost.count c.args.cost.now in
-    let t = c.in_ok-routes.routes in
-    let said = c.in_ok-routes.ensures in
-    let chain = to-last t (length t) n c.in_ok-ends.ends.items said.routes.places c.in_ok-ends.ensures in
-    let most = total (numbers_of (g.C.SpanCost.format_of c.args.cost.now)).limit (g.C.SpanCost.cost_of c.args.cost.now) n t said.routes said.reached c.in_ok-ends.ends.items chain in
     record {
       allowed = c.shift_ends.ensures.allowed;
-      near = λ others a. let least = said.near others a in omega (arith, least, most, c.shift_ends.ensures.cheaper);
+      near = λ others a. omega (arith, c.in_ok-routes.ensures.near others a, most g (goal.at.returns-clause-near g c).In_ok-ends, c.shift_ends.ensures.cheaper);
     }
 
 pub returns-clause-bounded : goal.returns-clause-bounded
