@@ -41,50 +41,41 @@ pub record Follows (m bound before past bits : ℕ) (is_last : Bool) (end last o
   pub offsets : offset ≡ bits
   pub whole : is_last ≡ true → end ≡ m
 
-pub follows-from : (m bound before past bits : ℕ) (is_last : Bool) (end last offset : ℕ) → may_follow m bound before past bits is_last end last offset ≡ true
-    → Follows m bound before past bits is_last end last offset
-follows-from m bound before past bits is_last end last offset h =
-    let a = nat_lt before end in
-    let b = nat_le end m in
-    let c = nat_lt last bound in
-    let d = nat_le past last in
-    let e = nat_le (end - before) (last + 1 - past) in
-    let f = offset == bits in
-    let g = not is_last || end == m in
+-- all of seven tests
+seven : (a b c d e f g : Bool) → (a && b && c && d && e && f && g) ≡ true → (a ≡ true) × (b ≡ true) × (c ≡ true) × (d ≡ true) × (e ≡ true) × (f ≡ true) × (g ≡ true)
+seven a b c d e f g h =
     let g7 = and_parts (a && b && c && d && e && f) g h in
     let g6 = and_parts (a && b && c && d && e) f g7.0 in
     let g5 = and_parts (a && b && c && d) e g6.0 in
     let g4 = and_parts (a && b && c) d g5.0 in
     let g3 = and_parts (a && b) c g4.0 in
     let g2 = and_parts a b g3.0 in
+    (g2.0, g2.1, g3.1, g4.1, g5.1, g6.1, g7.1)
+
+seven-true : (a b c d e f g : Bool) → a ≡ true → b ≡ true → c ≡ true → d ≡ true → e ≡ true → f ≡ true → g ≡ true → (a && b && c && d && e && f && g) ≡ true
+seven-true a b c d e f g ha hb hc hd he hf hg =
+    and_from (a && b && c && d && e && f) g
+    (and_from (a && b && c && d && e) f (and_from (a && b && c && d) e (and_from (a && b && c) d (and_from (a && b) c (and_from a b ha hb) hc) hd) he) hf) hg
+
+pub follows-from : (m bound before past bits : ℕ) (is_last : Bool) (end last offset : ℕ) → may_follow m bound before past bits is_last end last offset ≡ true
+    → Follows m bound before past bits is_last end last offset
+follows-from m bound before past bits is_last end last offset h =
+    let t = seven (nat_lt before end) (nat_le end m) (nat_lt last bound) (nat_le past last) (nat_le (end - before) (last + 1 - past)) (offset == bits) (not is_last || end == m) h in
     record {
-      up = ltb-true before end g2.0;
-      within = leb-true end m g2.1;
-      below = ltb-true last bound g3.1;
-      above = leb-true past last g4.1;
-      room = leb-true (end - before) (last + 1 - past) g5.1;
-      offsets = eqb-true offset bits g6.1;
-      whole = λ k. eqb-true end m (implied is_last (end == m) g7.1 k);
+      up = ltb-true before end t.0;
+      within = leb-true end m t.1;
+      below = ltb-true last bound t.2;
+      above = leb-true past last t.3;
+      room = leb-true (end - before) (last + 1 - past) t.4;
+      offsets = eqb-true offset bits t.5;
+      whole = λ k. eqb-true end m (implied is_last (end == m) t.6 k);
     }
 
 pub follows-test : (m bound before past bits : ℕ) (is_last : Bool) (end last offset : ℕ) → Follows m bound before past bits is_last end last offset
     → may_follow m bound before past bits is_last end last offset ≡ true
 follows-test m bound before past bits is_last end last offset h =
-    let a = nat_lt before end in
-    let b = nat_le end m in
-    let c = nat_lt last bound in
-    let d = nat_le past last in
-    let e = nat_le (end - before) (last + 1 - past) in
-    let f = offset == bits in
-    let g = not is_last || end == m in
-    and_from (a && b && c && d && e && f) g
-    (and_from (a && b && c && d && e) f
-    (and_from (a && b && c && d) e
-    (and_from (a && b && c) d
-    (and_from (a && b) c (and_from a b (lt-ltb before end h.up) (le-leb end m h.within)) (lt-ltb last bound h.below))
-    (le-leb past last h.above))
-    (le-leb (end - before) (last + 1 - past) h.room))
-    (eq-eqb offset bits h.offsets))
+    seven-true (nat_lt before end) (nat_le end m) (nat_lt last bound) (nat_le past last) (nat_le (end - before) (last + 1 - past)) (offset == bits) (not is_last || end == m)
+    (lt-ltb before end h.up) (le-leb end m h.within) (lt-ltb last bound h.below) (le-leb past last h.above) (le-leb (end - before) (last + 1 - past) h.room) (eq-eqb offset bits h.offsets)
     (from-implied is_last (end == m) (λ k. eq-eqb end m (h.whole k)))
 
 -- entry q of the words follows the entries before it

@@ -61,12 +61,11 @@ restored-at format laws xs v i end k h fit =
 pub states-part : (format : FormatNumbers) (room : HasRoom format) → PartLaws → BitsOfAppended → BitsOfWords → (m bound parts used : ℕ) (xs ends words : List ℕ) → bound ≤ format.most_sum
     → BeginsSequence format m bound parts xs ends words used → (q : ℕ) → q < parts → StatesPart format words xs parts q
 states-part format room laws appended filled m bound parts used xs ends words fits b q lt =
-    let s = b.sequence in
     let base : ℕ = first_bit format parts in
-    let a : AreValues format xs = values-of format room m bound parts xs ends (take used words) fits s in
+    let a : AreValues format xs = values-of format room m bound parts xs ends (take used words) fits b.sequence in
     let whole = stands-whole format room laws appended filled m bound parts used xs ends words fits b in
     let pass : PassChecks format words parts m bound = fits-begun format room laws appended filled m bound parts used xs ends words fits b in
-    let p : PartStands format words xs parts (0 + q) = part-stands format laws words xs a parts 0 0 ends whole q (omega (arith, lt, s.parts_count)) in
+    let p : PartStands format words xs parts (0 + q) = part-stands format laws words xs a parts 0 0 ends whole q (omega (arith, lt, b.sequence.parts_count)) in
     let p : PartStands format words xs parts q = subst (PartStands format words xs parts) (let e : 0 + q ≡ q = omega arith in e) p in
     let i : ℕ = end_before format words q in
     let end : ℕ = stated_end format words q in
@@ -95,30 +94,26 @@ states-part format room laws appended filled m bound parts used xs ends words fi
       restored = subst (Restores xs i end) (sym h.begins) (λ j less. restored-at format laws xs a i end j less fit);
     }
 
--- how many words a sequence takes
-pub used-is : (format : FormatNumbers) (room : HasRoom format) → PartLaws → BitsOfAppended → BitsOfWords → (m bound parts used : ℕ) (xs ends words : List ℕ) → bound ≤ format.most_sum
-    → BeginsSequence format m bound parts xs ends words used → length (sequence_words format xs ends) ≡ word_behind format words parts
-used-is format room laws appended filled m bound parts used xs ends words fits b =
-    let s = b.sequence in
-    let a : AreValues format xs = values-of format room m bound parts xs ends (take used words) fits s in
-    let whole = stands-whole format room laws appended filled m bound parts used xs ends words fits b in
-    let total : payload_before format words (0 + length ends) ≡ 0 + cost_from (payload_of_part xs) 0 ends = payload-all format laws words xs a (first_bit format parts) 0 0 ends whole in
-    let count : 0 + length ends ≡ parts = omega (arith, s.parts_count) in
-    let same : payload_before format words parts ≡ cost_from (payload_of_part xs) 0 ends = omega (arith, total, ap (payload_before format words) count) in
-    omega (arith, length-sequence format laws xs a ends whole.parts, same, ap (λ n. entry_words format * n) s.parts_count)
+module _ (format : FormatNumbers) (room : HasRoom format) (laws : PartLaws) (appended : BitsOfAppended) (filled : BitsOfWords) (m bound parts used : ℕ) (xs ends words : List ℕ) (fits : bound ≤ format.most_sum) (b : BeginsSequence format m bound parts xs ends words used) where
+  are : AreValues format xs
+  are = values-of format room m bound parts xs ends (take used words) fits b.sequence
 
--- what its parts cost
-pub cost-is : (format : FormatNumbers) (room : HasRoom format) → PartLaws → BitsOfAppended → BitsOfWords → (m bound parts used : ℕ) (xs ends words : List ℕ) → bound ≤ format.most_sum
-    → BeginsSequence format m bound parts xs ends words used
-    → partition_cost (cost_of_part (part_charge format) xs) ends ≡ first_bit format parts + payload_before format words parts
-cost-is format room laws appended filled m bound parts used xs ends words fits b =
-    let s = b.sequence in
-    let a : AreValues format xs = values-of format room m bound parts xs ends (take used words) fits s in
-    let whole = stands-whole format room laws appended filled m bound parts used xs ends words fits b in
-    let total : payload_before format words (0 + length ends) ≡ 0 + cost_from (payload_of_part xs) 0 ends = payload-all format laws words xs a (first_bit format parts) 0 0 ends whole in
-    let count : 0 + length ends ≡ parts = omega (arith, s.parts_count) in
-    let same : payload_before format words parts ≡ cost_from (payload_of_part xs) 0 ends = omega (arith, total, ap (payload_before format words) count) in
-    omega (arith, charges format xs 0 ends, same, ap (λ n. entry_words format * n) s.parts_count)
+  whole : StandsFrom format words xs (first_bit format parts) 0 0 ends
+  whole = stands-whole format room laws appended filled m bound parts used xs ends words fits b
+
+  payload-is : payload_before format words parts ≡ cost_from (payload_of_part xs) 0 ends
+  payload-is =
+      let total : payload_before format words (0 + length ends) ≡ 0 + cost_from (payload_of_part xs) 0 ends = payload-all format laws words xs are (first_bit format parts) 0 0 ends whole in
+      let count : 0 + length ends ≡ parts = omega (arith, b.sequence.parts_count) in
+      omega (arith, total, ap (payload_before format words) count)
+
+  -- how many words a sequence takes
+  pub used-is : length (sequence_words format xs ends) ≡ word_behind format words parts
+  used-is = omega (arith, length-sequence format laws xs are ends whole.parts, payload-is, ap (λ n. entry_words format * n) b.sequence.parts_count)
+
+  -- what its parts cost
+  pub cost-is : partition_cost (cost_of_part (part_charge format) xs) ends ≡ first_bit format parts + payload_before format words parts
+  cost-is = omega (arith, charges format xs 0 ends, payload-is, ap (λ n. entry_words format * n) b.sequence.parts_count)
 
 end-whole : (format : FormatNumbers) (words : List ℕ) (parts m bound : ℕ) → PassChecks format words parts m bound → (ends : List ℕ) → (length ends ≡ 0 → m ≡ 0) → length ends ≡ parts → end_before format words parts ≡ m
 end-whole format words zero m bound pass ends none count = sym (none count)

@@ -239,11 +239,10 @@ pub stated-is : (format : FormatNumbers) (room : HasRoom format) → PartLaws �
     → BeginsSequence format m bound parts xs ends words used
     → (flat_map (part_stated format words parts) (range_with_len 0 parts) ≡ xs) × (ends_stated format words parts ≡ ends)
 stated-is format room laws appended filled stand m bound parts used xs ends words fits b =
-    let s = b.sequence in
-    let v : AreValues format xs = values-of format room m bound parts xs ends (take used words) fits s in
+    let v : AreValues format xs = values-of format room m bound parts xs ends (take used words) fits b.sequence in
     let whole = stands-whole format room laws appended filled m bound parts used xs ends words fits b in (
-      ap (λ n. flat_map (part_stated format words parts) (range_with_len 0 n)) (sym s.parts_count) ∙ values-are format laws stand words xs v parts 0 0 ends whole,
-      ap (λ n. map (stated_end format words) (range_with_len 0 n)) (sym s.parts_count) ∙ ends-are format laws words xs v (first_bit format parts) 0 0 ends whole,
+      ap (λ n. flat_map (part_stated format words parts) (range_with_len 0 n)) (sym b.sequence.parts_count) ∙ values-are format laws stand words xs v parts 0 0 ends whole,
+      ap (λ n. map (stated_end format words) (range_with_len 0 n)) (sym b.sequence.parts_count) ∙ ends-are format laws words xs v (first_bit format parts) 0 0 ends whole,
     )
 
 pub one-sequence : (format : FormatNumbers) (room : HasRoom format) → PartLaws → BitsOfAppended → BitsOfWords → ValuesStandAt → OneSequence format

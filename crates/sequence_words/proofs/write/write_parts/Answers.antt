@@ -6,38 +6,39 @@ use Rattle.part_cost.specs.Payload.{widest_low}
 use Rattle.part_cost.specs.Span.{relative_values, universe}
 use Rattle.part_codec.specs.PartBits.{part_bits}
 use Rattle.sequence_words.specs.SequenceWords.{payload_from}
-use Rattle.sequence_words.proofs.Writing.{next-part, past-most, relative-given, part-fits, prefix-of, prefix-part, payload-more, payload-all}
+use Rattle.sequence_words.proofs.Writing.{NextPart, next-part, past-most, relative-given, part-fits, prefix-of, prefix-part, payload-more, payload-all}
 use Rattle.sequence_words.proofs.write.write_parts.Goals as goal
+use Rattle.sequence_words.proofs.write.write_parts.Goals.{In-loop-end}
+
+-- the end at which the loop is
+next : (c : In-loop-end) → NextPart c.args.values.now c.args.ends.now c.loop-end.from (get_or c.args.ends.now c.loop-end.end-index 0) c.loop-end.end-index
+next c = next-part c.args.values.now c.args.ends.now c.loop-end.from c.loop-end.end-index c.loop-end-test.true c.loop-end.invariant.parts
 
 pub fill_part-requires-clause-within : goal.fill_part-requires-clause-within
-fill_part-requires-clause-within c =
-    let n = next-part c.args.values.now c.args.ends.now c.loop-end.from c.loop-end.end-index c.loop-end-test.true c.loop-end.invariant.parts in n.within
+fill_part-requires-clause-within c = (next (goal.at.fill_part-requires-clause-within c).In-loop-end).within
 
 pub universe_of_part-requires-clause-within : goal.universe_of_part-requires-clause-within
-universe_of_part-requires-clause-within c =
-    let n = next-part c.args.values.now c.args.ends.now c.loop-end.from c.loop-end.end-index c.loop-end-test.true c.loop-end.invariant.parts in n.within
+universe_of_part-requires-clause-within c = (next (goal.at.universe_of_part-requires-clause-within c).In-loop-end).within
 
 pub write_part-requires-clause-values : goal.write_part-requires-clause-values
 write_part-requires-clause-values c =
-    let n = next-part c.args.values.now c.args.ends.now c.loop-end.from c.loop-end.end-index c.loop-end-test.true c.loop-end.invariant.parts in
+    let n = next (goal.at.write_part-requires-clause-values c).In-loop-end in
     relative-given c.part_is_relative.ensures.relative c.args.values.now c.requires.rising c.loop-end.from (get_or c.args.ends.now c.loop-end.end-index 0) c.universe_of_part.result c.deref.result.now n.some n.within c.universe_of_part.ensures
     (c.deref.ensures.value ∙ c.in_ok-fill_part.ensures)
 
 pub write_part-requires-clause-in_range : goal.write_part-requires-clause-in_range
 write_part-requires-clause-in_range c =
-    let n = next-part c.args.values.now c.args.ends.now c.loop-end.from c.loop-end.end-index c.loop-end-test.true c.loop-end.invariant.parts in
-    let most = past-most c.part_is_relative.ensures.within (2 ^ widest_low) c.args.values.now c.requires.below (get_or c.args.ends.now c.loop-end.end-index 0) n.within in
+    let most = past-most c.part_is_relative.ensures.within (2 ^ widest_low) c.args.values.now c.requires.below (get_or c.args.ends.now c.loop-end.end-index 0) (next (goal.at.write_part-requires-clause-in_range c).In-loop-end).within in
     omega (arith, most, c.universe_of_part.ensures)
 
 pub write_part-requires-clause-room : goal.write_part-requires-clause-room
 write_part-requires-clause-room c =
-    let xs : List ℕ = c.args.values.now in
     let end : ℕ = get_or c.args.ends.now c.loop-end.end-index 0 in
-    let whole : List ℕ = c.args.bits.now ++ payload_from xs 0 c.args.ends.now in
-    let fits = part-fits xs c.args.ends.now c.loop-end.bits whole c.loop-end.from c.loop-end.end-index (2 ^ 63) c.loop-end-test.true c.loop-end.invariant.bits
-    (omega (arith, c.requires.room, length-append c.args.bits.now (payload_from xs 0 c.args.ends.now))) in
+    let whole : List ℕ = c.args.bits.now ++ payload_from c.args.values.now 0 c.args.ends.now in
+    let fits = part-fits c.args.values.now c.args.ends.now c.loop-end.bits whole c.loop-end.from c.loop-end.end-index (2 ^ 63) c.loop-end-test.true c.loop-end.invariant.bits
+    (omega (arith, c.requires.room, length-append c.args.bits.now (payload_from c.args.values.now 0 c.args.ends.now))) in
     subst (λ zs. length c.loop-end.bits + length (part_bits zs c.universe_of_part.result) < 2 ^ 63) (sym (c.deref.ensures.value ∙ c.in_ok-fill_part.ensures))
-    (subst (λ w. length c.loop-end.bits + length (part_bits (relative_values xs c.loop-end.from end) w) < 2 ^ 63) (sym c.universe_of_part.ensures) fits)
+    (subst (λ w. length c.loop-end.bits + length (part_bits (relative_values c.args.values.now c.loop-end.from end) w) < 2 ^ 63) (sym c.universe_of_part.ensures) fits)
 
 pub returns-in_err-fill_part-clause-err : goal.returns-in_err-fill_part-clause-err
 returns-in_err-fill_part-clause-err c =
@@ -59,11 +60,10 @@ loop-end-preserved c =
     let k : ℕ = c.loop-end.end-index in
     let end : ℕ = get_or c.args.ends.now c.loop-end.end-index 0 in
     let whole : List ℕ = c.args.bits.now ++ payload_from xs 0 ends in
-    let n = next-part xs ends c.loop-end.from k c.loop-end-test.true c.loop-end.invariant.parts in
     let more : c.write_part.new.to ≡ c.loop-end.bits ++ part_bits (relative_values xs c.loop-end.from end) (universe xs c.loop-end.from end) =
     c.in_ok-write_part.ensures.ok ∙ ap (λ p. c.loop-end.bits ++ p) (written c.args.values.now c.loop-end.from (get_or c.args.ends.now c.loop-end.end-index 0) c.universe_of_part.result c.deref.result.now (c.deref.ensures.value ∙ c.in_ok-fill_part.ensures) c.universe_of_part.ensures) in
     record {
-      parts = n.rest;
+      parts = (next (goal.at.loop-end-preserved c).In-loop-end).rest;
       bits = ap (λ b. b ++ payload_from xs end (drop (k + 1) ends)) more ∙ payload-more xs ends c.loop-end.bits whole c.loop-end.from k c.loop-end-test.true c.loop-end.invariant.bits;
       grown = omega (arith, c.loop-end.invariant.grown, ap length more, length-append c.loop-end.bits (part_bits (relative_values xs c.loop-end.from end) (universe xs c.loop-end.from end)));
     }
