@@ -30,8 +30,7 @@ part-of format words parts q lt p part f t l u =
 -- how many relative values a part that is held has
 pub relative-count : (held : HeldPart) (xs : List ℕ) → HoldsValues held xs → length (counted_from held.past xs held.part.from held.part.to) ≡ held.part.to - held.part.from
 relative-count held xs h =
-    let from : ℕ = held.part.from in
-    length-map (slice_range xs from held.part.to) (λ y. y - held.past) ∙ length-take-le (held.part.to - from) (drop from xs) (omega (arith, length-drop from xs, h.within))
+    length-map (slice_range xs held.part.from held.part.to) (λ y. y - held.past) ∙ length-take-le (held.part.to - held.part.from) (drop held.part.from xs) (omega (arith, length-drop held.part.from xs, h.within))
 
 -- a number of a part is the value at its place, less what stands before the part
 pub number-here : (held : HeldPart) (xs : List ℕ) → HoldsValues held xs → (place : ℕ) → held.part.from ≤ place → place < held.part.to

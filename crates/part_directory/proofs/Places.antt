@@ -44,26 +44,43 @@ found-place xs place at x le fit before reached =
 pub found-first : (xs : List ℕ) (place at x : ℕ) → IsFirstAtLeast xs place x at → at ≡ place_at_least xs place x
 found-first xs place at x h = found-place xs place at x h.at_or_after (omega (arith, h.within)) h.first (λ lt. h.at_least)
 
+module _ (xs : List ℕ) (from x : ℕ) where
+  abbrev rest : List ℕ
+  rest = drop from xs
+
+  -- how far behind it lies
+  abbrev far : ℕ
+  far = position_or_len (λ y. nat_le x y) rest
+
+  -- the place that is found lies within
+  pub place-within : from ≤ length xs → place_at_least xs from x ≤ length xs
+  place-within fit = omega (arith, prefix_len-le-length (λ y. not (nat_le x y)) rest, length-drop from xs, fit)
+
+  -- the values from the first place on before it are too small
+  pub place-after : (k : ℕ) → from ≤ k → k < place_at_least xs from x → slice_index xs k < x
+  place-after k after lt =
+      let small = leb-false x (get_or rest (k - from) 0) (fails_before_first (λ y. nat_le x y) rest (k - from) 0 (omega (arith, lt, after))) in
+      let here : get_or rest (k - from) 0 ≡ slice_index xs (from + (k - from)) = get_or-drop from xs (k - from) 0 in
+      let same : slice_index xs (from + (k - from)) ≡ slice_index xs k = ap (slice_index xs) (let e : from + (k - from) ≡ k = omega (arith, after) in e) in
+      omega (arith, small, here, same)
+
+  pub place-before : from < place_at_least xs from x → slice_index xs (place_at_least xs from x - 1) < x
+  place-before lt = place-after (place_at_least xs from x - 1) (omega (arith, lt)) (omega (arith, lt))
+
+  -- the value there is large enough
+  pub place-reached : from ≤ length xs → place_at_least xs from x < length xs → x ≤ slice_index xs (place_at_least xs from x)
+  place-reached fit lt =
+      let most = le-true x (get_or rest far 0) (passes_at_first (λ y. nat_le x y) rest 0 (omega (arith, lt, length-drop from xs, fit))) in
+      let here : get_or rest far 0 ≡ slice_index xs (from + far) = get_or-drop from xs far 0 in
+      omega (arith, most, here)
+
 -- values that are too small may be left out
 pub later-place : (xs : List ℕ) (place from x : ℕ) → place ≤ from → from ≤ length xs → ((k : ℕ) → place ≤ k → k < from → slice_index xs k < x)
     → place_at_least xs from x ≡ place_at_least xs place x
 later-place xs place from x le fit before =
-    let rest : List ℕ = drop from xs in
-    let n : ℕ = position_or_len (λ y. nat_le x y) rest in
-    let within : n ≤ length rest = prefix_len-le-length (λ y. not (nat_le x y)) rest in
-    let here : (k : ℕ) → get_or rest k 0 ≡ slice_index xs (from + k) = λ k. get_or-drop from xs k 0 in
-    found-place xs place (from + n) x (omega (arith, le)) (omega (arith, within, length-drop from xs, fit))
-    (λ k after lt.
-    elim (cases_lt k from) [
-      | inl less ↦ before k after less
-      | inr more ↦
-          let small = leb-false x (get_or rest (k - from) 0) (fails_before_first (λ y. nat_le x y) rest (k - from) 0 (omega (arith, lt, more))) in
-          let same : slice_index xs (from + (k - from)) ≡ slice_index xs k = ap (slice_index xs) (let e : from + (k - from) ≡ k = omega (arith, more) in e) in
-          omega (arith, small, here (k - from), same)
-    ])
-    (λ lt.
-    let most = le-true x (get_or rest n 0) (passes_at_first (λ y. nat_le x y) rest 0 (omega (arith, lt, length-drop from xs, fit))) in
-    omega (arith, most, here n))
+    found-place xs place (place_at_least xs from x) x (omega (arith, le)) (place-within xs from x fit)
+    (λ k after lt. elim (cases_lt k from) [ inl less ↦ before k after less | inr more ↦ place-after xs from x k more lt ])
+    (place-reached xs from x fit)
 
 -- all values before the end of a part are too small where its last is
 pub below-last : (format : FormatNumbers) (words : List ℕ) (parts q x : ℕ) (v : SequenceView) → StatesParts format words parts v → q < parts → stated_last format words q < x
@@ -99,28 +116,3 @@ ends-rise format words parts part (suc q) v d le fit =
       | inl less ↦ omega (arith, ends-rise format words parts part q v d (omega (arith, less)) (omega (arith, fit)), (d.part q (omega (arith, fit))).some)
       | inr more ↦ omega (arith, ap (end_before format words) (let e : part ≡ suc q = omega (arith, le, more) in e))
     ]
-
--- the place that is found lies within
-pub place-within : (xs : List ℕ) (from x : ℕ) → from ≤ length xs → place_at_least xs from x ≤ length xs
-place-within xs from x fit =
-    let rest : List ℕ = drop from xs in
-    omega (arith, prefix_len-le-length (λ y. not (nat_le x y)) rest, length-drop from xs, fit)
-
--- the value before it is too small
-pub place-before : (xs : List ℕ) (from x : ℕ) → from < place_at_least xs from x → slice_index xs (place_at_least xs from x - 1) < x
-place-before xs from x lt =
-    let rest : List ℕ = drop from xs in
-    let n : ℕ = position_or_len (λ y. nat_le x y) rest in
-    let small = leb-false x (get_or rest (n - 1) 0) (fails_before_first (λ y. nat_le x y) rest (n - 1) 0 (omega (arith, lt))) in
-    let here : get_or rest (n - 1) 0 ≡ slice_index xs (from + (n - 1)) = get_or-drop from xs (n - 1) 0 in
-    let same : slice_index xs (from + (n - 1)) ≡ slice_index xs (from + n - 1) = ap (slice_index xs) (let e : from + (n - 1) ≡ from + n - 1 = omega (arith, lt) in e) in
-    omega (arith, small, here, same)
-
--- the value there is large enough
-pub place-reached : (xs : List ℕ) (from x : ℕ) → from ≤ length xs → place_at_least xs from x < length xs → x ≤ slice_index xs (place_at_least xs from x)
-place-reached xs from x fit lt =
-    let rest : List ℕ = drop from xs in
-    let n : ℕ = position_or_len (λ y. nat_le x y) rest in
-    let most = le-true x (get_or rest n 0) (passes_at_first (λ y. nat_le x y) rest 0 (omega (arith, lt, length-drop from xs, fit))) in
-    let here : get_or rest n 0 ≡ slice_index xs (from + n) = get_or-drop from xs n 0 in
-    omega (arith, most, here)

@@ -48,15 +48,11 @@ halve-requires-clause-reached g c = c.falls_short.ensures.reached c.loop-low-tes
 
 pub returns-clause-first : goal.returns-clause-first
 returns-clause-first g c =
-    let i = c.loop-low.invariant in
-    let e = c.halve.ensures in
     let xs : List ℕ = g.D.Lasts.lasts c.args.d.now in
-    reached-place xs (g.met.D.Lasts.rising c.args.d.now) c.args.from c.halve.result c.args.x (omega (arith, i.after, e.after)) (omega (arith, e.within, i.within))
-    (before-found xs c.args.from c.loop-low.low c.halve.result c.args.x e.after i.before e.before) e.reached
+    reached-place xs (g.met.D.Lasts.rising c.args.d.now) c.args.from c.halve.result c.args.x (omega (arith, c.loop-low.invariant.after, c.halve.ensures.after)) (omega (arith, c.halve.ensures.within, c.loop-low.invariant.within))
+    (before-found xs c.args.from c.loop-low.low c.halve.result c.args.x c.halve.ensures.after c.loop-low.invariant.before c.halve.ensures.before) c.halve.ensures.reached
 
 pub returns-clause-bounded : goal.returns-clause-bounded
 returns-clause-bounded g c =
-    let i = c.loop-low.invariant in
-    let e = c.halve.ensures in
-    few-probes _ c.falls_short.new.probes c.halve.new.probes c.args.from c.loop-low.low c.loop-low.high c.halve.result i.after i.up i.near e.after (omega (arith, c.halve.type_inv)) i.round
-    (omega (arith, i.bounded, c.falls_short.ensures.bounded)) e.bounded
+    few-probes _ c.falls_short.new.probes c.halve.new.probes c.args.from c.loop-low.low c.loop-low.high c.halve.result c.loop-low.invariant.after c.loop-low.invariant.up c.loop-low.invariant.near c.halve.ensures.after (omega (arith, c.halve.type_inv)) c.loop-low.invariant.round
+    (omega (arith, c.loop-low.invariant.bounded, c.falls_short.ensures.bounded)) c.halve.ensures.bounded

@@ -7,18 +7,15 @@ use Rattle.part_directory.proofs.directory.Directory.before_part.Goals as goal
 
 pub entry_in_words-entry-requires : goal.entry_in_words-entry-requires
 entry_in_words-entry-requires c =
-    let d = c.args.self.now in
     record {
       within = omega (arith, c.requires.within);
-      in_words = lent-many (numbers_of d.format) d.words.now d.m d.parts d.alone d.stands (omega (arith, c.requires.within, c.if-part-eq0.false));
+      in_words = lent-many (numbers_of c.args.self.now.format) c.args.self.now.words.now c.args.self.now.m c.args.self.now.parts c.args.self.now.alone c.args.self.now.stands (omega (arith, c.requires.within, c.if-part-eq0.false));
     }
 
 pub returns-else-part-eq0-clause-end : goal.returns-else-part-eq0-clause-end
 returns-else-part-eq0-clause-end c =
-    let d = c.args.self.now in
-    c.entry_in_words-entry.ensures.end ∙ ap (end_before (numbers_of d.format) (words_of d)) (let e : suc (c.args.part - 1) ≡ c.args.part = omega (arith, c.if-part-eq0.false) in e)
+    c.entry_in_words-entry.ensures.end ∙ ap (end_before (numbers_of c.args.self.now.format) (words_of c.args.self.now)) (let e : suc (c.args.part - 1) ≡ c.args.part = omega (arith, c.if-part-eq0.false) in e)
 
 pub returns-else-part-eq0-clause-past : goal.returns-else-part-eq0-clause-past
 returns-else-part-eq0-clause-past c =
-    let d = c.args.self.now in
-    ap (λ n. n + 1) c.entry_in_words-entry.ensures.last ∙ ap (past_before (numbers_of d.format) (words_of d)) (let e : suc (c.args.part - 1) ≡ c.args.part = omega (arith, c.if-part-eq0.false) in e)
+    ap (λ n. n + 1) c.entry_in_words-entry.ensures.last ∙ ap (past_before (numbers_of c.args.self.now.format) (words_of c.args.self.now)) (let e : suc (c.args.part - 1) ≡ c.args.part = omega (arith, c.if-part-eq0.false) in e)

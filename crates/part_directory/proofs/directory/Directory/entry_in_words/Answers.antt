@@ -13,15 +13,12 @@ entry_at-requires c =
 
 pub returns-clause-last : goal.returns-clause-last
 returns-clause-last c =
-    let d = c.args.self.now in
-    c.entry_at.ensures.last ∙ ap (λ ws. stated_last (numbers_of d.format) ws c.args.part) (sym (begun-lent (numbers_of d.format) d.words.now d.m d.alone c.requires.in_words))
+    c.entry_at.ensures.last ∙ ap (λ ws. stated_last (numbers_of c.args.self.now.format) ws c.args.part) (sym (begun-lent (numbers_of c.args.self.now.format) c.args.self.now.words.now c.args.self.now.m c.args.self.now.alone c.requires.in_words))
 
 pub returns-clause-end : goal.returns-clause-end
 returns-clause-end c =
-    let d = c.args.self.now in
-    c.entry_at.ensures.end ∙ ap (λ ws. stated_end (numbers_of d.format) ws c.args.part) (sym (begun-lent (numbers_of d.format) d.words.now d.m d.alone c.requires.in_words))
+    c.entry_at.ensures.end ∙ ap (λ ws. stated_end (numbers_of c.args.self.now.format) ws c.args.part) (sym (begun-lent (numbers_of c.args.self.now.format) c.args.self.now.words.now c.args.self.now.m c.args.self.now.alone c.requires.in_words))
 
 pub returns-clause-offset : goal.returns-clause-offset
 returns-clause-offset c =
-    let d = c.args.self.now in
-    c.entry_at.ensures.offset ∙ ap (λ ws. stated_offset (numbers_of d.format) ws c.args.part) (sym (begun-lent (numbers_of d.format) d.words.now d.m d.alone c.requires.in_words))
+    c.entry_at.ensures.offset ∙ ap (λ ws. stated_offset (numbers_of c.args.self.now.format) ws c.args.part) (sym (begun-lent (numbers_of c.args.self.now.format) c.args.self.now.words.now c.args.self.now.m c.args.self.now.alone c.requires.in_words))

@@ -17,10 +17,9 @@ overflow_add-u c =
 
 pub at-requires : goal.at-requires
 at-requires c =
-    let d = c.args.self.now in
-    let k = is-alone d c.args.alone.now c.requires.alone in
-    let room = (c.formats_have_room.ensures d.format).sums in
-    let fits : (d.m ≤ c.if-self-eq1.counted) × (c.if-self-eq1.counted ≤ c.args.alone.now.last + 1) =
+    let k = is-alone c.args.self.now c.args.alone.now c.requires.alone in
+    let room = (c.formats_have_room.ensures c.args.self.now.format).sums in
+    let fits : (c.args.self.now.m ≤ c.if-self-eq1.counted) × (c.if-self-eq1.counted ≤ c.args.alone.now.last + 1) =
     elim c.if-self-eq1.branch [
       | then-self-eq1 w ↦ (omega (arith, w.counted-is, w.if-self-eq1.true), omega (arith, w.counted-is))
       | else-self-eq1 w ↦ (omega (arith, w.counted-is, k.part.room, k.ends, k.last), omega (arith, w.counted-is))
@@ -29,7 +28,7 @@ at-requires c =
       some = k.many;
       fit = fits.0;
       in_range = omega (arith, fits.1, k.last, k.part.small, room);
-      words = d.lent;
+      words = c.args.self.now.lent;
       place = k.place;
     }
 

@@ -11,15 +11,10 @@ use Rattle.sequence_words.proofs.StatedParts.{restored-here}
 use Rattle.part_directory.proofs.directory.Directory.part_in_words.Goals as goal
 
 pub overflow_add-u : goal.overflow_add-u
-overflow_add-u c =
-    let p = c.args.self.now.stated.part c.args.part c.requires.within in
-    let room = c.formats_have_room.ensures c.args.self.now.format in
-    omega (arith, c.entry_in_words-entry.ensures.last, p.small, room.sums)
+overflow_add-u c = omega (arith, c.entry_in_words-entry.ensures.last, (c.args.self.now.stated.part c.args.part c.requires.within).small, (c.formats_have_room.ensures c.args.self.now.format).sums)
 
 pub overflow_sub-u : goal.overflow_sub-u
-overflow_sub-u c =
-    let p = c.args.self.now.stated.part c.args.part c.requires.within in
-    omega (arith, c.before_part-from.ensures.past, c.entry_in_words-entry.ensures.last, p.above)
+overflow_sub-u c = omega (arith, c.before_part-from.ensures.past, c.entry_in_words-entry.ensures.last, (c.args.self.now.stated.part c.args.part c.requires.within).above)
 
 pub overflow_add-place : goal.overflow_add-place
 overflow_add-place c =
@@ -32,36 +27,25 @@ overflow_cast-result c =
     omega (arith, c.before_part-from.ensures.end, p.some, p.within, c.args.self.now.few)
 
 pub overflow_cast-result-2 : goal.overflow_cast-result-2
-overflow_cast-result-2 c =
-    let p = c.args.self.now.stated.part c.args.part c.requires.within in
-    omega (arith, c.entry_in_words-entry.ensures.end, p.within, c.args.self.now.few)
+overflow_cast-result-2 c = omega (arith, c.entry_in_words-entry.ensures.end, (c.args.self.now.stated.part c.args.part c.requires.within).within, c.args.self.now.few)
 
 pub overflow_sub-entry : goal.overflow_sub-entry
-overflow_sub-entry c =
-    let p = c.args.self.now.stated.part c.args.part c.requires.within in
-    omega (arith, c.before_part-from.ensures.end, c.entry_in_words-entry.ensures.end, p.some)
+overflow_sub-entry c = omega (arith, c.before_part-from.ensures.end, c.entry_in_words-entry.ensures.end, (c.args.self.now.stated.part c.args.part c.requires.within).some)
 
 pub at-requires-clause-some : goal.at-requires-clause-some
-at-requires-clause-some c =
-    let p = c.args.self.now.stated.part c.args.part c.requires.within in
-    omega (arith, c.before_part-from.ensures.end, c.entry_in_words-entry.ensures.end, p.some)
+at-requires-clause-some c = omega (arith, c.before_part-from.ensures.end, c.entry_in_words-entry.ensures.end, (c.args.self.now.stated.part c.args.part c.requires.within).some)
 
 pub at-requires-clause-fit : goal.at-requires-clause-fit
 at-requires-clause-fit c =
-    let p = c.args.self.now.stated.part c.args.part c.requires.within in
-    omega (arith, c.before_part-from.ensures.end, c.entry_in_words-entry.ensures.end, c.before_part-from.ensures.past, c.entry_in_words-entry.ensures.last, p.room)
+    omega (arith, c.before_part-from.ensures.end, c.entry_in_words-entry.ensures.end, c.before_part-from.ensures.past, c.entry_in_words-entry.ensures.last, (c.args.self.now.stated.part c.args.part c.requires.within).room)
 
 pub at-requires-clause-in_range : goal.at-requires-clause-in_range
-at-requires-clause-in_range c =
-    let p = c.args.self.now.stated.part c.args.part c.requires.within in
-    let room = c.formats_have_room.ensures c.args.self.now.format in
-    omega (arith, c.entry_in_words-entry.ensures.last, p.small, room.sums)
+at-requires-clause-in_range c = omega (arith, c.entry_in_words-entry.ensures.last, (c.args.self.now.stated.part c.args.part c.requires.within).small, (c.formats_have_room.ensures c.args.self.now.format).sums)
 
 pub at-requires-clause-place : goal.at-requires-clause-place
 at-requires-clause-place c =
-    let d = c.args.self.now in
-    let p = d.stated.part c.args.part c.requires.within in
-    let lent = begun-lent (numbers_of d.format) d.words.now d.m d.alone c.requires.in_words in
+    let p = c.args.self.now.stated.part c.args.part c.requires.within in
+    let lent = begun-lent (numbers_of c.args.self.now.format) c.args.self.now.words.now c.args.self.now.m c.args.self.now.alone c.requires.in_words in
     omega (arith, c.directory_bits.ensures.bits, c.entry_in_words-entry.ensures.offset, p.offset, p.place, ap length lent)
 
 pub returns : goal.returns

@@ -29,21 +29,17 @@ loop-low-init c =
 
 pub entry_in_words-requires : goal.entry_in_words-requires
 entry_in_words-requires c =
-    let d = c.args.self.now in
-    let so_far = c.loop-low.invariant in
     record {
-      within = omega (arith, so_far.within, c.loop-low-test.true);
-      in_words = lent-many (numbers_of d.format) d.words.now d.m d.parts d.alone d.stands (omega (arith, so_far.within, c.loop-low-test.true));
+      within = omega (arith, c.loop-low.invariant.within, c.loop-low-test.true);
+      in_words = lent-many (numbers_of c.args.self.now.format) c.args.self.now.words.now c.args.self.now.m c.args.self.now.parts c.args.self.now.alone c.args.self.now.stands (omega (arith, c.loop-low.invariant.within, c.loop-low-test.true));
     }
 
 pub loop-low-preserved : goal.loop-low-preserved
 loop-low-preserved c =
-    let d = c.args.self.now in
-    let so_far = c.loop-low.invariant in
     let middle : ℕ = c.loop-low.low + (c.loop-low.high - c.loop-low.low) / 2 in
     record {
-      up = omega (arith, c.loop-low-test.true, so_far.up);
-      within = so_far.within;
-      from = omega (arith, end-before-next (numbers_of d.format) (words_of d) middle, c.entry_in_words.ensures.end, c.if-place-entry_in_words.false);
-      to = so_far.to;
+      up = omega (arith, c.loop-low-test.true, c.loop-low.invariant.up);
+      within = c.loop-low.invariant.within;
+      from = omega (arith, end-before-next (numbers_of c.args.self.now.format) (words_of c.args.self.now) middle, c.entry_in_words.ensures.end, c.if-place-entry_in_words.false);
+      to = c.loop-low.invariant.to;
     }

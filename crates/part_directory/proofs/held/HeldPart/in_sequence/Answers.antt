@@ -4,25 +4,17 @@ use Rattle.part_directory.proofs.held.HeldPart.in_sequence.Goals as goal
 
 pub overflow_add-result : goal.overflow_add-result
 overflow_add-result c =
-    let h = c.requires.found.1 in
-    let s = c.requires.found.2.2 in
-    omega (arith, s.before, s.first.within, relative-count c.args.self.now c.requires.found.0 h, h.within, h.few)
+    omega (arith, c.requires.found.2.2.before, c.requires.found.2.2.first.within, relative-count c.args.self.now c.requires.found.0 c.requires.found.1, c.requires.found.1.within, c.requires.found.1.few)
 
 pub overflow_add-result-2 : goal.overflow_add-result-2
 overflow_add-result-2 c =
-    let held = c.args.self.now in
-    let h = c.requires.found.1 in
-    let s = c.requires.found.2.2 in
-    let lt : held.part.from + c.args.sought.place < held.part.to = omega (arith, s.before, s.first.within, relative-count held c.requires.found.0 h) in
-    omega (arith, h.restored c.args.sought.place lt, s.there, h.in_range (held.part.from + c.args.sought.place) 0 (omega (arith, lt, h.within)))
+    let lt : c.args.self.now.part.from + c.args.sought.place < c.args.self.now.part.to = omega (arith, c.requires.found.2.2.before, c.requires.found.2.2.first.within, relative-count c.args.self.now c.requires.found.0 c.requires.found.1) in
+    omega (arith, c.requires.found.1.restored c.args.sought.place lt, c.requires.found.2.2.there, c.requires.found.1.in_range (c.args.self.now.part.from + c.args.sought.place) 0 (omega (arith, lt, c.requires.found.1.within)))
 
 pub overflow_add-result-3 : goal.overflow_add-result-3
 overflow_add-result-3 c =
-    let held = c.args.self.now in
-    let h = c.requires.found.1 in
-    let s = c.requires.found.2.2 in
-    let lt : held.part.from + s.own < held.part.to = omega (arith, s.first.within, relative-count held c.requires.found.0 h) in
-    omega (arith, h.restored s.own lt, s.number, h.in_range (held.part.from + s.own) 0 (omega (arith, lt, h.within)))
+    let lt : c.args.self.now.part.from + c.requires.found.2.2.own < c.args.self.now.part.to = omega (arith, c.requires.found.2.2.first.within, relative-count c.args.self.now c.requires.found.0 c.requires.found.1) in
+    omega (arith, c.requires.found.1.restored c.requires.found.2.2.own lt, c.requires.found.2.2.number, c.requires.found.1.in_range (c.args.self.now.part.from + c.requires.found.2.2.own) 0 (omega (arith, lt, c.requires.found.1.within)))
 
 pub returns : goal.returns
 returns c xs h place x reached s =

@@ -7,28 +7,23 @@ use Rattle.part_directory.proofs.held.HeldPart.seek.Goals as goal
 
 pub overflow_sub-value : goal.overflow_sub-value
 overflow_sub-value c =
-    let h = c.requires.values in
-    omega (arith, h.2, number-here c.args.self.now h.0 h.1 c.args.place c.requires.after c.requires.before)
+    omega (arith, c.requires.values.2, number-here c.args.self.now c.requires.values.0 c.requires.values.1 c.args.place c.requires.after c.requires.before)
 
 pub seek-sought-requires-clause-number : goal.seek-sought-requires-clause-number
 seek-sought-requires-clause-number c ys numbers =
     let held = c.args.self.now in
-    let h = c.requires.values in
-    let relative : List ℕ = counted_from held.past h.0 held.part.from held.part.to in
+    let relative : List ℕ = counted_from held.past c.requires.values.0 held.part.from held.part.to in
     let same : slice_index ys (c.args.place - held.part.from) ≡ slice_index relative (c.args.place - held.part.from) =
-    ap (λ zs. slice_index zs (c.args.place - held.part.from)) (one_list-held held.view ys relative numbers h.1.numbers) in
-    omega (arith, same, h.2, number-here held h.0 h.1 c.args.place c.requires.after c.requires.before)
+    ap (λ zs. slice_index zs (c.args.place - held.part.from)) (one_list-held held.view ys relative numbers c.requires.values.1.numbers) in
+    omega (arith, same, c.requires.values.2, number-here held c.requires.values.0 c.requires.values.1 c.args.place c.requires.after c.requires.before)
 
 pub overflow_sub-x : goal.overflow_sub-x
 overflow_sub-x c =
-    let h = c.requires.values in
-    omega (arith, h.2, c.requires.below, number-here c.args.self.now h.0 h.1 c.args.place c.requires.after c.requires.before)
+    omega (arith, c.requires.values.2, c.requires.below, number-here c.args.self.now c.requires.values.0 c.requires.values.1 c.args.place c.requires.after c.requires.before)
 
 pub in_sequence-requires : goal.in_sequence-requires
 in_sequence-requires c =
-    let held = c.args.self.now in
-    let h = c.requires.values in
-    record { found = (h.0, h.1, (c.args.place - held.part.from, c.args.x - held.past, c.seek-sought.ensures _ h.1.numbers)) }
+    record { found = (c.requires.values.0, c.requires.values.1, (c.args.place - c.args.self.now.part.from, c.args.x - c.args.self.now.past, c.seek-sought.ensures _ c.requires.values.1.numbers)) }
 
 pub returns : goal.returns
 returns c xs h is = c.in_sequence.ensures xs h c.args.place c.args.x c.requires.after (c.seek-sought.ensures _ h.numbers)
