@@ -2,3 +2,4 @@ mod Steps
 mod LongSteps
 mod ValuesGiven
 mod Fields
+mod PartPlaces

@@ -1,51 +1,27 @@
-use Rattle.std.proofs.Common.{◌≡◌, ℕ, ◌+◌, ◌-◌, ◌<◌, ◌≤◌, List, sym, ap, ◌∙◌, subst, arith}
+use Rattle.std.proofs.Common.{◌≡◌, sym, ap, ◌∙◌, subst, arith}
 use Rattle.part_cost.specs.Formats.{numbers_of}
-use Rattle.part_cost.specs.Span.{universe}
-use Rattle.part_directory.specs.DirectorySequence.{words_of}
-use Rattle.sequence_words.specs.SequenceFault.{stated_end, end_before}
-use Rattle.sequence_words.specs.SequenceView.{sequence_stated}
+use Rattle.part_directory.specs.DirectorySequence.{words_of, sequence_of}
+use Rattle.sequence_words.specs.SequenceFault.{stated_end}
 use Rattle.two_level.specs.LongSteps.{IsFirstStep}
 use Rattle.two_level.proofs.LongSteps.{first-in_short, first-in_one}
+use Rattle.two_level.proofs.PartPlaces.{part-stands}
 use Rattle.two_level.proofs.long_steps.first_in_part.Goals as goal
 
 pub overflow_sub-part : goal.overflow_sub-part
-overflow_sub-part c =
-    let d = c.args.directory.now.stated in
-    let p = d.part c.args.index c.requires.within in
-    omega (arith, p.room, c.requires.universe, c.requires.starts, c.requires.ends)
+overflow_sub-part c = (part-stands _ _ _ c.args.index c.args.part.from c.args.part.to c.args.part.u _ c.args.directory.now.stated c.requires.within c.requires.starts c.requires.ends c.requires.universe).room
 
 pub returns-then-part-count : goal.returns-then-part-count
 returns-then-part-count c =
-    let format = numbers_of c.args.directory.now.format in
-    let words = (words_of c.args.directory.now) in
-    let d = c.args.directory.now.stated in
-    let p = d.part c.args.index c.requires.within in
-    let i : ℕ = end_before format words c.args.index in
-    let j : ℕ = stated_end format words c.args.index in
-    let xs : List ℕ = (sequence_stated format words c.args.directory.now.parts).values in
-    let short : universe xs i j - (j - i) + 1 < c.args.least = omega (arith, p.last, p.before, c.requires.universe, c.requires.starts, c.requires.ends, c.if-part-count.true) in
-    subst (λ n. IsFirstStep xs c.args.from n c.args.least n) (sym c.requires.ends)
-    (first-in_short xs d.rising i j c.args.from c.args.least (omega (arith, c.requires.after, c.requires.starts)) (omega (arith, c.requires.some, c.requires.ends)) p.within short)
+    let p = part-stands _ _ _ c.args.index c.args.part.from c.args.part.to c.args.part.u _ c.args.directory.now.stated c.requires.within c.requires.starts c.requires.ends c.requires.universe in
+    first-in_short (sequence_of c.args.directory.now).values c.args.directory.now.stated.rising c.args.part.from c.args.part.to c.args.from c.args.least c.requires.after (omega (arith, c.requires.some)) p.within (omega (arith, p.wide, c.if-part-count.true))
 
 pub returns-then-count-eq1 : goal.returns-then-count-eq1
 returns-then-count-eq1 c =
-    let format = numbers_of c.args.directory.now.format in
-    let words = (words_of c.args.directory.now) in
-    let d = c.args.directory.now.stated in
-    let p = d.part c.args.index c.requires.within in
-    let i : ℕ = end_before format words c.args.index in
-    let j : ℕ = stated_end format words c.args.index in
-    let xs : List ℕ = (sequence_stated format words c.args.directory.now.parts).values in
-    let one : j - i ≡ 1 = omega (arith, c.if-count-eq1.true, c.requires.starts, c.requires.ends) in
-    let long : c.args.least ≤ universe xs i j = omega (arith, p.last, p.before, p.room, c.requires.universe, c.requires.starts, c.requires.ends, c.if-part-count.false, one) in
-    subst (λ n. IsFirstStep xs c.args.from n c.args.least c.args.from) (sym c.requires.ends)
-    (first-in_one xs i j c.args.from c.args.least (omega (arith, c.requires.after, c.requires.starts)) (omega (arith, c.requires.some, c.requires.ends)) p.within one long)
+    let p = part-stands _ _ _ c.args.index c.args.part.from c.args.part.to c.args.part.u _ c.args.directory.now.stated c.requires.within c.requires.starts c.requires.ends c.requires.universe in
+    first-in_one (sequence_of c.args.directory.now).values c.args.part.from c.args.part.to c.args.from c.args.least c.requires.after c.requires.some p.within c.if-count-eq1.true (omega (arith, p.wide, p.room, c.if-part-count.false, c.if-count-eq1.true))
 
 pub returns-else-count-eq1 : goal.returns-else-count-eq1
 returns-else-count-eq1 c =
-    let format = numbers_of c.args.directory.now.format in
-    let words = (words_of c.args.directory.now) in
-    let xs : List ℕ = (sequence_stated format words c.args.directory.now.parts).values in
     let held = c.hold.ensures.held in
-    let to : c.hold.result.part.to ≡ c.args.part.to = held.to ∙ ap (stated_end format words) c.hold.ensures.index ∙ sym c.requires.ends in
-    subst (λ n. IsFirstStep xs c.args.from n c.args.least c.first_in_values.result) to (c.first_in_values.ensures xs held.values c.args.directory.now.stated.rising)
+    let to : c.hold.result.part.to ≡ c.args.part.to = held.to ∙ ap (stated_end (numbers_of c.args.directory.now.format) (words_of c.args.directory.now)) c.hold.ensures.index ∙ sym c.requires.ends in
+    subst (λ n. IsFirstStep (sequence_of c.args.directory.now).values c.args.from n c.args.least c.first_in_values.result) to (c.first_in_values.ensures (sequence_of c.args.directory.now).values held.values c.args.directory.now.stated.rising)

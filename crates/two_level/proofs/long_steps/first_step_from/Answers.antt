@@ -1,9 +1,8 @@
-use Rattle.std.proofs.Common.{◌≡◌, refl, ℕ, ◌+◌, ◌<◌, List, length, inl, inr, ap, sym, ◌∙◌, subst, arith}
+use Rattle.std.proofs.Common.{◌≡◌, refl, ℕ, ◌+◌, ◌<◌, length, inl, inr, ap, sym, ◌∙◌, subst, arith}
 use Rattle.std.proofs.lemmas.Bool.{cases_lt}
 use Rattle.part_cost.specs.Formats.{numbers_of}
-use Rattle.part_directory.specs.DirectorySequence.{words_of}
+use Rattle.part_directory.specs.DirectorySequence.{words_of, sequence_of}
 use Rattle.sequence_words.specs.SequenceFault.{end_before}
-use Rattle.sequence_words.specs.SequenceView.{sequence_stated}
 use Rattle.two_level.specs.LongSteps.{IsFirstStep}
 use Rattle.sequence_words.proofs.StatedParts.{end-before-next}
 use Rattle.two_level.proofs.LongSteps.{first-none, first-behind, first-before, first-of_all, first-of_any}
@@ -11,68 +10,48 @@ use Rattle.two_level.proofs.long_steps.first_step_from.Goals as goal
 
 pub returns-then-least-le1 : goal.returns-then-least-le1
 returns-then-least-le1 c =
-    let xs : List ℕ = (sequence_stated (numbers_of c.args.directory.now.format) (words_of c.args.directory.now) c.args.directory.now.parts).values in
-    let d = c.args.directory.now.stated in
-    let count : c.args.directory.now.m ≡ length xs = c.args.directory.now.count in
     elim c.then-least-le1.either [
-      | inl few ↦ first-of_all xs c.args.from (length xs) c.args.least c.args.from refl (first-of_any xs d.rising c.args.from c.args.least c.requires.within few)
-      | inr end ↦ first-of_all xs c.args.from c.args.from c.args.least c.args.from (end.1 ∙ count) (first-none xs c.args.from c.args.least)
+      | inl few ↦ first-of_all (sequence_of c.args.directory.now).values c.args.from (length (sequence_of c.args.directory.now).values) c.args.least c.args.from refl (first-of_any (sequence_of c.args.directory.now).values c.args.directory.now.stated.rising c.args.from c.args.least c.requires.within few)
+      | inr end ↦ first-of_all (sequence_of c.args.directory.now).values c.args.from c.args.from c.args.least c.args.from (end.1 ∙ c.args.directory.now.count) (first-none (sequence_of c.args.directory.now).values c.args.from c.args.least)
     ]
 
 pub returns-then-found-part : goal.returns-then-found-part
 returns-then-found-part c =
-    let format = numbers_of c.args.directory.now.format in
-    let words = (words_of c.args.directory.now) in
-    let xs : List ℕ = (sequence_stated format words c.args.directory.now.parts).values in
-    let d = c.args.directory.now.stated in
-    let count : c.args.directory.now.m ≡ length xs = c.args.directory.now.count in
-    let so_far = c.parts.invariant in
-    let here = so_far.part c.parts-test.true in
-    let p = d.part c.parts.index here.0 in
-    let found : ℕ = c.first_in_part-found.result in
-    first-of_all xs c.args.from c.args.directory.now.m c.args.least found count
-    (first-before xs c.args.from c.stated_part.result.0.to c.args.directory.now.m c.args.least found
-    (first-behind xs c.args.from c.parts.place c.stated_part.result.0.to c.args.least found so_far.none c.first_in_part-found.ensures)
-    c.if-found-part.true (omega (arith, c.stated_part.ensures.to, p.within, count)))
+    let here = c.parts.invariant.part c.parts-test.true in
+    let p = c.args.directory.now.stated.part c.parts.index here.0 in
+    first-of_all (sequence_of c.args.directory.now).values c.args.from c.args.directory.now.m c.args.least c.first_in_part-found.result c.args.directory.now.count
+    (first-before (sequence_of c.args.directory.now).values c.args.from c.stated_part.result.0.to c.args.directory.now.m c.args.least c.first_in_part-found.result
+    (first-behind (sequence_of c.args.directory.now).values c.args.from c.parts.place c.stated_part.result.0.to c.args.least c.first_in_part-found.result c.parts.invariant.none c.first_in_part-found.ensures)
+    c.if-found-part.true (omega (arith, c.stated_part.ensures.to, p.within, c.args.directory.now.count)))
 
 pub parts-preserved : goal.parts-preserved
 parts-preserved c =
-    let format = numbers_of c.args.directory.now.format in
-    let words = (words_of c.args.directory.now) in
     let parts : ℕ = c.args.directory.now.parts in
-    let xs : List ℕ = (sequence_stated format words parts).values in
-    let d = c.args.directory.now.stated in
-    let count : c.args.directory.now.m ≡ length xs = c.args.directory.now.count in
-    let so_far = c.parts.invariant in
-    let here = so_far.part c.parts-test.true in
+    let here = c.parts.invariant.part c.parts-test.true in
     let s = c.stated_part.ensures in
     let index : ℕ = c.parts.index in
     let end : ℕ = c.stated_part.result.0.to in
-    let found : ℕ = c.first_in_part-found.result in
-    let behind = end-before-next format words index in
-    let p = d.part index here.0 in
+    let behind = end-before-next (numbers_of c.args.directory.now.format) (words_of c.args.directory.now) index in
+    let p = c.args.directory.now.stated.part index here.0 in
     let first = c.first_in_part-found.ensures in
     record {
-      after = omega (arith, so_far.after, s.to, here.2);
-      within = omega (arith, s.to, p.within, count);
+      after = omega (arith, c.parts.invariant.after, s.to, here.2);
+      within = omega (arith, s.to, p.within, c.args.directory.now.count);
       part =
           λ lt.
-          let is : end ≡ end_before format words (index + 1) = omega (arith, s.to, behind) in
+          let is : end ≡ end_before (numbers_of c.args.directory.now.format) (words_of c.args.directory.now) (index + 1) = omega (arith, s.to, behind) in
           let more : index + 1 < parts =
           elim (cases_lt (index + 1) parts) [
             | inl less ↦ less
-            | inr all ↦ absurd (omega (arith, is, lt, count, d.end, ap (end_before format words) (let e : index + 1 ≡ parts = omega (arith, all, here.0) in e)))
+            | inr all ↦ absurd (omega (arith, is, lt, c.args.directory.now.count, c.args.directory.now.stated.end, ap (end_before (numbers_of c.args.directory.now.format) (words_of c.args.directory.now)) (let e : index + 1 ≡ parts = omega (arith, all, here.0) in e)))
           ] in
-          (more, omega (arith, is), omega (arith, is, (d.part (index + 1) more).some));
+          (more, omega (arith, is), omega (arith, is, (c.args.directory.now.stated.part (index + 1) more).some));
       none =
-          subst (λ n. IsFirstStep xs c.args.from end c.args.least n) (let e : found ≡ end = omega (arith, first.within, c.if-found-part.false) in e)
-          (first-behind xs c.args.from c.parts.place end c.args.least found so_far.none first);
+          subst (λ n. IsFirstStep (sequence_of c.args.directory.now).values c.args.from end c.args.least n) (let e : c.first_in_part-found.result ≡ end = omega (arith, first.within, c.if-found-part.false) in e)
+          (first-behind (sequence_of c.args.directory.now).values c.args.from c.parts.place end c.args.least c.first_in_part-found.result c.parts.invariant.none first);
     }
 
 pub returns : goal.returns
 returns c =
-    let xs : List ℕ = (sequence_stated (numbers_of c.args.directory.now.format) (words_of c.args.directory.now) c.args.directory.now.parts).values in
-    let count : c.args.directory.now.m ≡ length xs = c.args.directory.now.count in
-    let so_far = c.parts.invariant in
-    let end : c.parts.place ≡ c.args.directory.now.m = omega (arith, so_far.within, c.parts-test.false) in
-    sym end ∙ first-of_all xs c.args.from c.parts.place c.args.least c.parts.place (end ∙ count) so_far.none
+    let end : c.parts.place ≡ c.args.directory.now.m = omega (arith, c.parts.invariant.within, c.parts-test.false) in
+    sym end ∙ first-of_all (sequence_of c.args.directory.now).values c.args.from c.parts.place c.args.least c.parts.place (end ∙ c.args.directory.now.count) c.parts.invariant.none

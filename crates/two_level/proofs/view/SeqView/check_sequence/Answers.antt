@@ -10,6 +10,7 @@ use Rattle.sequence_words.specs.SequenceFault.{word_behind, PassChecks, IsSequen
 use Rattle.sequence_words.specs.SequenceView.{sequence_stated, words_used}
 use Rattle.sequence_words.specs.Laws.{ChecksAcceptASequence, WordsState}
 use Rattle.two_level.proofs.view.SeqView.check_sequence.Goals as goal
+use Rattle.two_level.proofs.view.SeqView.check_sequence.Goals.{In_ok-found}
 
 -- words are below 2^64
 words-below : (words : List ℕ) → ((k : ℕ) → Fits w64 (get_or words k 0)) → All (λ w. w < 2 ^ 64) words
@@ -23,6 +24,11 @@ stated-begins format accept state m bound parts words few fits are pass =
     let a = accept m bound parts words few fits are pass in
     let used : ℕ = word_behind format words parts in
     (used, subst (λ s. BeginsSequence format m bound parts s.values s.ends words used) (sym (state m bound parts used a.0 a.1 words fits a.2)) a.2)
+
+-- the words that were checked
+begun : (c : In_ok-found) → All (λ w. w < 2 ^ 64) c.args.words.now → (used : ℕ) × BeginsSequence (numbers_of c.args.format) c.args.m c.args.bound c.args.parts (sequence_stated (numbers_of c.args.format) c.args.words.now c.args.parts).values (sequence_stated (numbers_of c.args.format) c.args.words.now c.args.parts).ends c.args.words.now used
+begun c small =
+    stated-begins (numbers_of c.args.format) (c.checks_accept_a_sequence.ensures c.args.format) (c.words_state_their_sequence.ensures c.args.format) c.args.m c.args.bound c.args.parts c.args.words.now (omega (arith, c.ranges.m.fits)) c.requires.bound small c.in_ok-found.ensures.ok
 
 pub returns-in_err-found-clause-none : goal.returns-in_err-found-clause-none
 returns-in_err-found-clause-none c =
@@ -38,7 +44,7 @@ returns-in_err-found-clause-none c =
 pub at_front-requires-clause-begun : goal.at_front-requires-clause-begun
 unfolding sequence_stated
 at_front-requires-clause-begun c =
-    let s = stated-begins (numbers_of c.args.format) (c.checks_accept_a_sequence.ensures c.args.format) (c.words_state_their_sequence.ensures c.args.format) c.args.m c.args.bound c.args.parts c.args.words.now (omega (arith, c.ranges.m.fits)) c.requires.bound (words-below c.args.words.now c.type_inv.words) c.in_ok-found.ensures.ok in
+    let s = begun (goal.at.at_front-requires-clause-begun c).In_ok-found (words-below c.args.words.now c.type_inv.words) in
     (c.args.bound, s.0, c.requires.bound, s.1)
 
 pub returns-clause-format : goal.returns-clause-format
@@ -47,22 +53,22 @@ returns-clause-format c = ap (λ v. v.format) c.at_front.ensures
 
 pub returns-clause-ok : goal.returns-clause-ok
 returns-clause-ok c =
-    let s = stated-begins (numbers_of c.args.format) (c.checks_accept_a_sequence.ensures c.args.format) (c.words_state_their_sequence.ensures c.args.format) c.args.m c.args.bound c.args.parts c.args.words.now (omega (arith, c.ranges.m.fits)) c.requires.bound (words-below c.args.words.now c.type_inv.words) c.in_ok-found.ensures.ok in
+    let s = begun (goal.at.returns-clause-ok c).In_ok-found (words-below c.args.words.now c.type_inv.words) in
     subst (λ v. (used : ℕ) × BeginsSequence (numbers_of c.args.format) c.args.m c.args.bound c.args.parts v.values v.ends c.args.words.now used) (sym c.at_front.ensures) s
 
 pub returns-clause-count : goal.returns-clause-count
 returns-clause-count c =
-    let s = stated-begins (numbers_of c.args.format) (c.checks_accept_a_sequence.ensures c.args.format) (c.words_state_their_sequence.ensures c.args.format) c.args.m c.args.bound c.args.parts c.args.words.now (omega (arith, c.ranges.m.fits)) c.requires.bound (words-below c.args.words.now c.type_inv.words) c.in_ok-found.ensures.ok in
+    let s = begun (goal.at.returns-clause-count c).In_ok-found (words-below c.args.words.now c.type_inv.words) in
     ap (λ v. length v.values) c.at_front.ensures ∙ s.1.sequence.count
 
 pub returns-clause-parts : goal.returns-clause-parts
 returns-clause-parts c =
-    let s = stated-begins (numbers_of c.args.format) (c.checks_accept_a_sequence.ensures c.args.format) (c.words_state_their_sequence.ensures c.args.format) c.args.m c.args.bound c.args.parts c.args.words.now (omega (arith, c.ranges.m.fits)) c.requires.bound (words-below c.args.words.now c.type_inv.words) c.in_ok-found.ensures.ok in
+    let s = begun (goal.at.returns-clause-parts c).In_ok-found (words-below c.args.words.now c.type_inv.words) in
     ap (λ v. length v.ends) c.at_front.ensures ∙ s.1.sequence.parts_count
 
 pub returns-clause-used : goal.returns-clause-used
 unfolding sequence_stated
 returns-clause-used c =
-    let s = stated-begins (numbers_of c.args.format) (c.checks_accept_a_sequence.ensures c.args.format) (c.words_state_their_sequence.ensures c.args.format) c.args.m c.args.bound c.args.parts c.args.words.now (omega (arith, c.ranges.m.fits)) c.requires.bound (words-below c.args.words.now c.type_inv.words) c.in_ok-found.ensures.ok in
+    let s = begun (goal.at.returns-clause-used c).In_ok-found (words-below c.args.words.now c.type_inv.words) in
     let d = c.directory_states_its_parts.ensures c.args.format c.args.words.now c.args.parts c.args.m (c.args.bound, s.0, c.requires.bound, s.1) in
     c.in_ok-found.ensures.used ∙ sym d.used ∙ sym (ap words_used c.at_front.ensures)
