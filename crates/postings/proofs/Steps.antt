@@ -54,7 +54,6 @@ steps-of_sums s (f ∷ fs) some =
 pub sums-of_steps : (s : ℕ) (xs : List ℕ) → RiseFrom s xs → lessened (sums_from s (steps_from s xs)) ≡ xs
 sums-of_steps s [] up = refl
 sums-of_steps s (x ∷ xs) up =
-    let after : s ≤ x = up.0 in
     let sum_here : s + (x + 1 - s) ≡ x + 1 = omega arith in
     let rest : lessened (sums_from (x + 1) (steps_from (x + 1) xs)) ≡ xs = sums-of_steps (x + 1) xs up.1 in
     ap (λ t. (t - 1) ∷ lessened (sums_from t (steps_from (x + 1) xs))) sum_here ∙ ap (λ y. y ∷ lessened (sums_from (x + 1) (steps_from (x + 1) xs))) (let e : x + 1 - 1 ≡ x = omega arith in e) ∙ ap (λ ys. x ∷ ys) rest
@@ -84,7 +83,6 @@ steps-not_zero s (x ∷ xs) up = let after : s ≤ x = up.0 in All-cons (λ f. 1
 pub steps-sum : (s n : ℕ) (xs : List ℕ) → RiseFrom s xs → All (λ x. x < n) xs → s ≤ n → s + sum (steps_from s xs) ≤ n
 steps-sum s n [] up below first = omega arith
 steps-sum s n (x ∷ xs) up below first =
-    let after : s ≤ x = up.0 in
     let here : x < n = All-head (λ x. x < n) x xs below in
     let split : sum ((x + 1 - s) ∷ steps_from (x + 1) xs) ≡ (x + 1 - s) + sum (steps_from (x + 1) xs) = sum_by-cons (λ x. x) (x + 1 - s) (steps_from (x + 1) xs) in
     omega (arith, steps-sum (x + 1) n xs up.1 (All-tail (λ x. x < n) x xs below) (omega arith))

@@ -9,48 +9,44 @@ use Rattle.two_level.specs.SequenceView.{place_at_least}
 use Rattle.postings.proofs.FirstPosting.{none-found, found}
 use Rattle.postings.proofs.Lists.{in-doc, in-freqs, next-among_docs, cursor-docs, cursor-fit}
 use Rattle.postings.proofs.first.first_posting.Goals as goal
+use Rattle.postings.proofs.first.first_posting.Goals.{After-cursor_from-cursor, In-Some, After-step}
+
+-- where the first document from d on stands
+went : (c : After-cursor_from-cursor) → c.cursor_from-cursor.result.place ≡ next_geq_place (postings_in c.args.docs.now.values c.args.freqs.now.values) 0 c.args.d
+went c = c.cursor_from-cursor.ensures.place ∙ ap (place_at_least c.args.docs.now.values 0) c.from.ensures ∙ next-among_docs c.args.docs.now.values c.args.freqs.now.values 0 c.args.d c.requires.same_length
+
+-- if there is one
+stands : (c : In-Some) → (c.cursor_from-cursor.result.place < length c.args.docs.now.values) × (c.in-Some.doc ≡ slice_index c.args.docs.now.values c.cursor_from-cursor.result.place)
+stands c = subst (λ v. (c.cursor_from-cursor.result.place < length v.values) × (c.in-Some.doc ≡ slice_index v.values c.cursor_from-cursor.result.place)) c.cursor_from-cursor.ensures.sequence c.in-Some.ensures.some
+
+within : (c : In-Some) → c.cursor_from-cursor.result.place < length (steps_from 0 c.args.freqs.now.values)
+within c = omega (arith, (stands c).0, c.requires.same_length, steps-length 0 c.args.freqs.now.values)
+
+-- and what its frequency is
+step-is : (c : After-step) → c.step.result ≡ slice_index (steps_from 0 c.args.freqs.now.values) c.cursor_from-cursor.result.place
+step-is c = c.step.ensures ∙ ap (slice_index (steps_from 0 c.args.freqs.now.values)) c.place.ensures
 
 pub overflow_cast-result : goal.overflow_cast-result
 overflow_cast-result c =
-    let xs = c.args.docs.now.values in
-    let at = c.cursor_from-cursor.result.place in
-    let stands = subst (λ v. (at < length v.values) × (c.in-Some.doc ≡ slice_index v.values at)) c.cursor_from-cursor.ensures.sequence c.in-Some.ensures.some in
-    omega (arith, stands.1, All-get_or (λ d. d < 4294967295) xs at 0 stands.0 (cursor-docs xs c.args.freqs.now.values c.requires.same_length c.requires.list))
+    let there = stands (goal.at.overflow_cast-result c).In-Some in
+    omega (arith, there.1, All-get_or (λ d. d < 4294967295) c.args.docs.now.values c.cursor_from-cursor.result.place 0 there.0 (cursor-docs c.args.docs.now.values c.args.freqs.now.values c.requires.same_length c.requires.list))
 
 pub overflow_cast-result-in-Some : goal.overflow_cast-result-in-Some
 overflow_cast-result-in-Some c =
-    let xs = c.args.docs.now.values in
-    let sums = c.args.freqs.now.values in
-    let at = c.cursor_from-cursor.result.place in
-    let stands = subst (λ v. (at < length v.values) × (c.in-Some.doc ≡ slice_index v.values at)) c.cursor_from-cursor.ensures.sequence c.in-Some.ensures.some in
-    let within : at < length (steps_from 0 sums) = omega (arith, stands.0, c.requires.same_length, steps-length 0 sums) in
-    let step : c.step.result ≡ slice_index (steps_from 0 sums) at = c.step.ensures ∙ ap (slice_index (steps_from 0 sums)) c.place.ensures in
-    omega (arith, step, All-get_or (λ f. f < 2 ^ 32) (steps_from 0 sums) at 0 within (cursor-fit xs sums c.requires.same_length c.requires.list))
+    omega (
+      arith,
+      step-is (goal.at.overflow_cast-result-in-Some c).After-step,
+      All-get_or (λ f. f < 2 ^ 32) (steps_from 0 c.args.freqs.now.values) c.cursor_from-cursor.result.place 0 (within (goal.at.overflow_cast-result-in-Some c).In-Some) (cursor-fit c.args.docs.now.values c.args.freqs.now.values c.requires.same_length c.requires.list),
+    )
 
 pub returns-in-Some : goal.returns-in-Some
 returns-in-Some c =
-    let xs = c.args.docs.now.values in
-    let sums = c.args.freqs.now.values in
-    let same = c.requires.same_length in
-    let list = postings_in xs sums in
-    let d = c.args.d in
-    let at = c.cursor_from-cursor.result.place in
-    let stands = subst (λ v. (at < length v.values) × (c.in-Some.doc ≡ slice_index v.values at)) c.cursor_from-cursor.ensures.sequence c.in-Some.ensures.some in
-    let went : at ≡ next_geq_place list 0 d = c.cursor_from-cursor.ensures.place ∙ ap (place_at_least xs 0) c.from.ensures ∙ next-among_docs xs sums 0 d same in
-    let within : at < length (steps_from 0 sums) = omega (arith, stands.0, same, steps-length 0 sums) in
-    let step : c.step.result ≡ slice_index (steps_from 0 sums) at = c.step.ensures ∙ ap (slice_index (steps_from 0 sums)) c.place.ensures in
-    sym (found list list 0 at d c.in-Some.doc c.step.result refl refl went
-    (sym (in-doc xs sums at same) ∙ slice_get-get_or xs at 0 stands.0 ∙ ap Some (sym stands.1))
-    (ap (λ ys. slice_get ys at) (in-freqs xs sums same) ∙ slice_get-get_or (steps_from 0 sums) at 0 within ∙ ap Some (sym step)))
+    let there = stands (goal.at.returns-in-Some c).In-Some in
+    sym (found _ _ 0 c.cursor_from-cursor.result.place c.args.d c.in-Some.doc c.step.result refl refl (went (goal.at.returns-in-Some c).After-cursor_from-cursor)
+    (sym (in-doc c.args.docs.now.values c.args.freqs.now.values c.cursor_from-cursor.result.place c.requires.same_length) ∙ slice_get-get_or c.args.docs.now.values c.cursor_from-cursor.result.place 0 there.0 ∙ ap Some (sym there.1))
+    (ap (λ ys. slice_get ys c.cursor_from-cursor.result.place) (in-freqs c.args.docs.now.values c.args.freqs.now.values c.requires.same_length) ∙ slice_get-get_or (steps_from 0 c.args.freqs.now.values) c.cursor_from-cursor.result.place 0 (within (goal.at.returns-in-Some c).In-Some) ∙ ap Some (sym (step-is (goal.at.returns-in-Some c).After-step))))
 
 pub returns-in-None : goal.returns-in-None
 returns-in-None c =
-    let xs = c.args.docs.now.values in
-    let sums = c.args.freqs.now.values in
-    let same = c.requires.same_length in
-    let list = postings_in xs sums in
-    let d = c.args.d in
-    let at = c.cursor_from-cursor.result.place in
-    let end = subst (λ v. at ≡ length v.values) c.cursor_from-cursor.ensures.sequence c.in-None.ensures.none in
-    let went : at ≡ next_geq_place list 0 d = c.cursor_from-cursor.ensures.place ∙ ap (place_at_least xs 0) c.from.ensures ∙ next-among_docs xs sums 0 d same in
-    sym (none-found list list 0 at d refl refl went (sym (in-doc xs sums at same) ∙ slice_get_past xs at (omega (arith, end))))
+    let end = subst (λ v. c.cursor_from-cursor.result.place ≡ length v.values) c.cursor_from-cursor.ensures.sequence c.in-None.ensures.none in
+    sym (none-found _ _ 0 c.cursor_from-cursor.result.place c.args.d refl refl (went (goal.at.returns-in-None c).After-cursor_from-cursor) (sym (in-doc c.args.docs.now.values c.args.freqs.now.values c.cursor_from-cursor.result.place c.requires.same_length) ∙ slice_get_past c.args.docs.now.values c.cursor_from-cursor.result.place (omega (arith, end))))
