@@ -8,7 +8,7 @@ ghost use Rattle.part_directory.specs.HeldParts.{HoldsValues};
 ghost use Rattle.two_level.specs.LongSteps.{count_reaching};
 ghost use Rattle.part_directory.specs.DirectorySequence.{sequence_of};
 
-use crate::stepping::BLOCK;
+use crate::stepping::{BLOCK, Next};
 use part_cost::formats_have_room;
 use part_directory::{Directory, HeldPart, Part};
 
@@ -53,32 +53,26 @@ fn keep_steps(values: &[u64], first: u64, kept: &mut [u64])
     }
 }
 
-// Keeps the longest steps of the next values of a part that is held, as many as have room, by one past the value before them; it
-// gives the last.
-fn keep_block(
-    held: &HeldPart,
-    place: u32,
-    value: u64,
-    before: u64,
-    block: &mut [u64],
-    kept: &mut [u64],
-) -> u64
-    requires values { (xs : List ℕ) × HoldsValues held.now xs × (value ≡ slice_index xs place) }
-    requires after { held.now.part.from ≤ place }
+// Keeps the longest steps of the next values of a part that is held, as many as have room; it gives the last.
+fn keep_block(held: &HeldPart, next: Next, block: &mut [u64], kept: &mut [u64]) -> u64
+    requires values { (xs : List ℕ) × HoldsValues held.now xs
+        × (next.value ≡ slice_index xs next.place) }
+    requires after { held.now.part.from ≤ next.place }
     requires some { 0 < length block.old }
-    requires within { place + length block.old ≤ held.now.part.to }
+    requires within { next.place + length block.old ≤ held.now.part.to }
     requires any { 0 < length kept.old }
     ensures same_kept { length kept.new ≡ length kept.old }
-    ensures kept { (xs : List ℕ) → HoldsValues held.now xs → before ≡ past xs place → (least : ℕ)
-        → count_reaching least kept.new ≤ count_reaching least kept.old
-        + count_reaching least (slice_range (steps_from 0 xs) place (place + length block.old)) }
+    ensures kept { (xs : List ℕ) → HoldsValues held.now xs → next.past ≡ past xs next.place
+        → (least : ℕ) → count_reaching least kept.new ≤ count_reaching least kept.old
+        + count_reaching least
+        (slice_range (steps_from 0 xs) next.place (next.place + length block.old)) }
     ensures last { (xs : List ℕ) → HoldsValues held.now xs
-        → result + 1 ≡ past xs (place + length block.old) }
+        → result + 1 ≡ past xs (next.place + length block.old) }
     ensures fits { result < 2 ^ widest_low }
     ensures room { length block.new ≡ length block.old }
 {
-    let last = held.read_block(place, value, block);
-    keep_steps(block, before, kept);
+    let last = held.read_block(next.place, next.value, block);
+    keep_steps(block, next.past, kept);
     last
 }
 
@@ -99,7 +93,8 @@ fn keep_part(held: &HeldPart, kept: &mut [u64])
     let mut value = held.value(place);
     'read: while place < to {
         let room = BLOCK.min((to - place) as usize);
-        let last = keep_block(held, place, value, past, &mut block[..room], kept);
+        let next = Next { place, value, past };
+        let last = keep_block(held, next, &mut block[..room], kept);
         past = last + 1;
         place += room as u32;
         if place < to {

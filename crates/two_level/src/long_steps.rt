@@ -11,7 +11,7 @@ ghost use Rattle.part_directory.specs.HeldParts.{HoldsValues};
 ghost use Rattle.two_level.specs.LongSteps.{IsFirstStep};
 ghost use Rattle.part_directory.specs.DirectorySequence.{words_of, sequence_of};
 
-use crate::stepping::BLOCK;
+use crate::stepping::{BLOCK, Next};
 use part_directory::{Directory, HeldPart, Part};
 
 // Which of some values is the first whose step is at least so long, or how many they are; the first steps from one past a value
@@ -33,29 +33,23 @@ fn first_long(values: &[u64], first: u64, least: u64) -> usize
 }
 
 // Which of the next values of a part that is held, as many as have room, is the first whose step is at least so long, or how many
-// they are, by one past the value before them; and the last of them.
-fn first_in_block(
-    held: &HeldPart,
-    place: u32,
-    value: u64,
-    before: u64,
-    least: u64,
-    block: &mut [u64],
-) -> (usize, u64)
-    requires values { (xs : List ℕ) × HoldsValues held.now xs × (value ≡ slice_index xs place) }
-    requires after { held.now.part.from ≤ place }
+// they are; and the last of them.
+fn first_in_block(held: &HeldPart, next: Next, least: u64, block: &mut [u64]) -> (usize, u64)
+    requires values { (xs : List ℕ) × HoldsValues held.now xs
+        × (next.value ≡ slice_index xs next.place) }
+    requires after { held.now.part.from ≤ next.place }
     requires some { 0 < length block.old }
-    requires within { place + length block.old ≤ held.now.part.to }
-    ensures first { (xs : List ℕ) → HoldsValues held.now xs → before ≡ past xs place
-        → IsFirstStep xs place (place + length block.old) least (place + result.0) }
+    requires within { next.place + length block.old ≤ held.now.part.to }
+    ensures first { (xs : List ℕ) → HoldsValues held.now xs → next.past ≡ past xs next.place
+        → IsFirstStep xs next.place (next.place + length block.old) least (next.place + result.0) }
     ensures count { result.0 ≤ length block.old }
     ensures last { (xs : List ℕ) → HoldsValues held.now xs
-        → result.1 + 1 ≡ past xs (place + length block.old) }
+        → result.1 + 1 ≡ past xs (next.place + length block.old) }
     ensures fits { result.1 < 2 ^ widest_low }
     ensures room { length block.new ≡ length block.old }
 {
-    let last = held.read_block(place, value, block);
-    (first_long(block, before, least), last)
+    let last = held.read_block(next.place, next.value, block);
+    (first_long(block, next.past, least), last)
 }
 
 // The first place from one on of a part that is held whose step is at least so long, or the end of the part, value by value.
@@ -73,7 +67,8 @@ fn first_in_values(held: &HeldPart, from: u32, least: u64) -> u32
     let mut place = from;
     'read: while place < to {
         let room = BLOCK.min((to - place) as usize);
-        let (count, last) = first_in_block(held, place, value, past, least, &mut block[..room]);
+        let next = Next { place, value, past };
+        let (count, last) = first_in_block(held, next, least, &mut block[..room]);
         if count < room {
             return place + count as u32;
         }

@@ -12,6 +12,14 @@ ghost use Rattle.part_directory.specs.DirectorySequence.{words_of, sequence_of};
 
 use part_directory::{Directory, HeldPart, Part};
 
+// The next value of a part that is held: its place, the value there, and one past the value before it.
+#[derive(Clone, Copy)]
+pub(crate) struct Next {
+    pub(crate) place: u32,
+    pub(crate) value: u64,
+    pub(crate) past: u64,
+}
+
 // How many values are read at a time.
 pub(crate) const BLOCK: usize = 64;
 
@@ -30,28 +38,22 @@ fn step_of(values: &[u64], first: u64) -> u64
     most
 }
 
-// The greatest step of the next values of a part that is held, as many as have room, by one past the value before them; and the
-// last of them.
-fn step_of_block(
-    held: &HeldPart,
-    place: u32,
-    value: u64,
-    before: u64,
-    block: &mut [u64],
-) -> (u64, u64)
-    requires values { (xs : List ℕ) × HoldsValues held.now xs × (value ≡ slice_index xs place) }
-    requires after { held.now.part.from ≤ place }
+// The greatest step of the next values of a part that is held, as many as have room; and the last of them.
+fn step_of_block(held: &HeldPart, next: Next, block: &mut [u64]) -> (u64, u64)
+    requires values { (xs : List ℕ) × HoldsValues held.now xs
+        × (next.value ≡ slice_index xs next.place) }
+    requires after { held.now.part.from ≤ next.place }
     requires some { 0 < length block.old }
-    requires within { place + length block.old ≤ held.now.part.to }
-    ensures step { (xs : List ℕ) → HoldsValues held.now xs → before ≡ past xs place
-        → result.0 ≡ greatest_step xs place (place + length block.old) }
+    requires within { next.place + length block.old ≤ held.now.part.to }
+    ensures step { (xs : List ℕ) → HoldsValues held.now xs → next.past ≡ past xs next.place
+        → result.0 ≡ greatest_step xs next.place (next.place + length block.old) }
     ensures last { (xs : List ℕ) → HoldsValues held.now xs
-        → result.1 + 1 ≡ past xs (place + length block.old) }
+        → result.1 + 1 ≡ past xs (next.place + length block.old) }
     ensures small { result.1 < 2 ^ widest_low }
     ensures room { length block.new ≡ length block.old }
 {
-    let last = held.read_block(place, value, block);
-    (step_of(block, before), last)
+    let last = held.read_block(next.place, next.value, block);
+    (step_of(block, next.past), last)
 }
 
 // The greatest step from one place up to another of a part that is held, value by value.
@@ -70,7 +72,8 @@ fn step_of_values(held: &HeldPart, from: u32, to: u32) -> u64
     let mut most = 0;
     'read: while place < to {
         let room = BLOCK.min((to - place) as usize);
-        let (step, last) = step_of_block(held, place, value, past, &mut block[..room]);
+        let next = Next { place, value, past };
+        let (step, last) = step_of_block(held, next, &mut block[..room]);
         most = step.max(most);
         past = last + 1;
         place += room as u32;

@@ -9,6 +9,6 @@ pub returns-clause-kept : goal.returns-clause-kept
 returns-clause-kept c xs h is t =
     let given : List ℕ = c.read_block-last.new.block in
     let room : length given ≡ length c.args.block.now = c.read_block-last.ensures.room in
-    let all = c.read_block-last.ensures.values xs h ∙ ap (λ n. slice_range xs c.args.place (c.args.place + n)) (sym room) in
-    let steps = steps-range xs given c.args.place c.args.before (omega (arith, c.requires.within, h.within)) all is ∙ ap (λ n. slice_range (steps_from 0 xs) c.args.place (c.args.place + n)) room in
+    let all = c.read_block-last.ensures.values xs h ∙ ap (λ n. slice_range xs c.args.next.place (c.args.next.place + n)) (sym room) in
+    let steps = steps-range xs given c.args.next.place c.args.next.past (omega (arith, c.requires.within, h.within)) all is ∙ ap (λ n. slice_range (steps_from 0 xs) c.args.next.place (c.args.next.place + n)) room in
     omega (arith, c.keep_steps.ensures.kept t, ap (count_reaching t) steps)
