@@ -1,9 +1,9 @@
-use Rattle.std.specs.Prelude.{◌≡◌, ◌≢◌, ℕ, ◌+◌, ◌-◌, ◌*◌, ◌<◌, ◌≤◌, ◌↔◌, ◌==◌, Bool, true, false, List, length, slice_index}
+use Rattle.std.specs.Prelude.{◌≡◌, ◌≢◌, ℕ, ◌+◌, ◌-◌, ◌*◌, ◌^◌, ◌<◌, ◌≤◌, ◌↔◌, ◌==◌, ◌||◌, Bool, true, false, List, length, slice_index}
 use Rattle.std.specs.Int.{bit_at}
 use Rattle.std.specs.List.{All, filter, list_any, range_with_len}
 use Rattle.collection_model.specs.Collection.{Posting}
 pub use Rattle.collection_model.specs.Marks.{is_marked}
-use Rattle.scan_plans.specs.Matches.{has_doc, score}
+use Rattle.scan_plans.specs.Matches.{has_doc, freq_of_doc, score}
 
 -- the scores of the documents from one on, which are above 0 exactly where a list has the document
 pub record AreScored (lists : List (List Posting)) (weights : List ℕ) (first : ℕ) (scores : List ℕ) : Type 0 where
@@ -38,6 +38,60 @@ AreInside first count docs = All (λ d. (first ≤ d) × (d < first + count)) do
 pub record AreGiven {V : Type 0} (add : V → V → V) (first : ℕ) (docs : List ℕ) (give : ℕ → V) (from to : ℕ) (old now : ℕ → V) : Type 0 where
   pub given : (i : ℕ) → from ≤ i → i < to → now (slice_index docs i - first) ≡ add (old (slice_index docs i - first)) (give i)
   pub others : (k : ℕ) → ((i : ℕ) → from ≤ i → i < to → slice_index docs i ≢ first + k) → now k ≡ old k
+
+-- a window with a mark for each score, in which nothing is scored or marked
+pub record IsBlank (scores marks : List ℕ) : Type 0 where
+  -- each score has a mark
+  pub wide : length scores ≤ 64 * length marks
+  -- every score is 0
+  pub clear : All (λ s. s ≡ 0) scores
+  -- no place is marked
+  pub none : (k : ℕ) → k < 64 * length marks → is_marked marks k ≡ false
+
+-- What a list gave a window of documents from `first` on: its weight times the frequencies to their scores, and their marks. So many places were reached.
+pub record IsAdded (list : List Posting) (weight first : ℕ) (scores marks now_scores now_marks : List ℕ) (reached : ℕ) : Type 0 where
+  -- there are as many scores as before
+  pub count : length now_scores ≡ length scores
+  -- and as many words of marks
+  pub marks_count : length now_marks ≡ length marks
+  -- each score rose by what the list gives its document
+  pub scored : (k : ℕ) → k < length scores → slice_index now_scores k ≡ slice_index scores k + weight * freq_of_doc (first + k) list
+  -- none rose by more than the greatest frequency gives
+  pub bound : (k : ℕ) → k < length scores → slice_index now_scores k ≤ slice_index scores k + weight * 4294967295
+  -- the documents of the list are marked beside those that were
+  pub marked : (k : ℕ) → k < length scores → is_marked now_marks k ≡ (is_marked marks k || has_doc (first + k) list)
+  -- no place behind the window was reached
+  pub within : reached ≤ length scores
+  -- no mark changed from there on
+  pub behind : (k : ℕ) → reached ≤ k → is_marked now_marks k ≡ is_marked marks k
+
+-- What some lists made of a blank window of documents from `first` on: the documents that any of them has are scored and marked. So many places were reached.
+pub record IsFilled (lists : List (List Posting)) (weights : List ℕ) (first : ℕ) (scores marks now_scores now_marks : List ℕ) (reached : ℕ) : Type 0 where
+  -- there are as many scores as before
+  pub count : length now_scores ≡ length scores
+  -- and as many words of marks
+  pub marks_count : length now_marks ≡ length marks
+  -- each score is that of its document
+  pub scored : AreScored lists weights first now_scores
+  -- the documents that a list has are marked
+  pub marked : AreMarked lists first now_marks
+  -- no score is high
+  pub bound : All (λ s. s < 2 ^ 58) now_scores
+  -- no place behind the window was reached
+  pub within : reached ≤ length scores
+  -- nothing is marked from there on
+  pub behind : (k : ℕ) → reached ≤ k → k < length scores → is_marked now_marks k ≡ false
+
+-- a window with a mark for each score, of which so many places were reached
+pub record IsReached (scores marks : List ℕ) (reached : ℕ) : Type 0 where
+  -- each score has a mark
+  pub wide : length scores ≤ 64 * length marks
+  -- no place behind the window was reached
+  pub within : reached ≤ length scores
+  -- a place that is not marked has the score 0
+  pub scored : (k : ℕ) → k < length scores → is_marked marks k ≡ false → slice_index scores k ≡ 0
+  -- nothing is marked from those reached on
+  pub behind : (k : ℕ) → reached ≤ k → k < 64 * length marks → is_marked marks k ≡ false
 
 -- the first place of a window that is marked and has at least so much of a score
 pub record IsFirstCandidate (least : ℕ) (scores marks : List ℕ) (place score : ℕ) : Type 0 where

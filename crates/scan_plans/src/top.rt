@@ -5,8 +5,8 @@ ghost use Rattle.collection_model.specs.Collection.{Posting};
 ghost use Rattle.scan_plans.specs.Matches.{in_any};
 ghost use Rattle.scan_plans.specs.IsTop.{IsTop};
 ghost use Rattle.scan_plans.specs.TopQuery.{IsTopQuery};
-ghost use Rattle.scan_plans.specs.Best.{IsBest, IsBar};
-ghost use Rattle.scan_plans.specs.Window.{AreScored, is_marked};
+ghost use Rattle.scan_plans.specs.Best.{CanBeOffered, IsBest, IsBar};
+ghost use Rattle.scan_plans.specs.Window.{AreScored, IsBlank, IsReached};
 
 use crate::TopK;
 use crate::laws::top_list_is_short;
@@ -55,7 +55,7 @@ pub fn count_postings<C: DocCursor>(cursors: &[C]) -> u64
     postings
 }
 
-// The same with room for k documents.
+// The first k documents, with room for as many: k is no more than can be found.
 fn score_all<C: DocCursor>(
     alloc: Global,
     cursors: &mut [C],
@@ -88,15 +88,8 @@ fn score_all<C: DocCursor>(
 // its places were reached, and where nothing is marked the score is 0.
 fn offer_marked(top: &mut TopK, first: u32, reached: usize, marks: &mut [u64], scores: &mut [u64])
     requires same { length scores.old ≡ 64 * length marks.old }
-    requires within { reached ≤ length scores.old }
-    requires marked { (k : ℕ) → k < length scores.old → is_marked marks.old k ≡ false
-        → slice_index scores.old k ≡ 0 }
-    requires behind { (k : ℕ) → reached ≤ k → k < length scores.old
-        → is_marked marks.old k ≡ false }
-    requires narrow { top.old.n < 2 ^ 32 }
-    requires in_range { (k : ℕ) → k < length scores.old → 0 < slice_index scores.old k
-        → first + k < top.old.n }
-    requires above { All (λ e. e.0 < first) top.old.held }
+    requires reached { IsReached scores.old marks.old reached }
+    requires offers { CanBeOffered first scores.old top.old }
     ensures k { top.new.k ≡ top.old.k }
     ensures n { top.new.n ≡ top.old.n }
     ensures best { (lists : List (List Posting)) (weights : List ℕ)
@@ -107,8 +100,7 @@ fn offer_marked(top: &mut TopK, first: u32, reached: usize, marks: &mut [u64], s
         → All (λ e. e.1 < 2 ^ 58) top.new.held }
     ensures count { length scores.new ≡ length scores.old }
     ensures marks_count { length marks.new ≡ length marks.old }
-    ensures clear { All (λ s. s ≡ 0) scores.new }
-    ensures none { All (λ w. w ≡ 0) marks.new }
+    ensures blank { IsBlank scores.new marks.new }
 {
     for i in 0..reached.div_ceil(64) {
         let base = u64::from(first) + 64 * i as u64;
@@ -122,9 +114,7 @@ fn offer_marked(top: &mut TopK, first: u32, reached: usize, marks: &mut [u64], s
 fn offer_word(top: &mut TopK, base: u64, word: u64, scores: &mut [u64])
     requires whole { length scores.old ≡ 64 }
     requires marked { (k : ℕ) → k < 64 → bit_at word k ≡ 0 → slice_index scores.old k ≡ 0 }
-    requires narrow { top.old.n < 2 ^ 32 }
-    requires in_range { (k : ℕ) → k < 64 → 0 < slice_index scores.old k → base + k < top.old.n }
-    requires above { All (λ e. e.0 < base) top.old.held }
+    requires offers { CanBeOffered base scores.old top.old }
     ensures k { top.new.k ≡ top.old.k }
     ensures n { top.new.n ≡ top.old.n }
     ensures above { All (λ e. e.0 < base + 64) top.new.held }

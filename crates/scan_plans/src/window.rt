@@ -2,9 +2,9 @@ ghost use Rattle.std.specs.Prelude.{◌≡◌, ℕ, ◌+◌, ◌-◌, ◌*◌, �
 ghost use Rattle.std.specs.List.{All};
 ghost use Rattle.std.specs.List.Sorted.{IsStrictlyIncreasing};
 ghost use Rattle.collection_model.specs.Collection.{docs_of};
-ghost use Rattle.scan_plans.specs.Matches.{has_doc, freq_of_doc};
+ghost use Rattle.scan_plans.specs.Matches.{has_doc};
 ghost use Rattle.scan_plans.specs.Scan.{doc_at, StandsFrom};
-ghost use Rattle.scan_plans.specs.Window.{AreGiven, AreInside, AreScored, AreMarked, IsFirstCandidate, NoneIsCandidate, AreTakenBack, is_marked};
+ghost use Rattle.scan_plans.specs.Window.{AreGiven, AreInside, AreMarked, IsAdded, IsBlank, IsFilled, IsReached, IsFirstCandidate, NoneIsCandidate, AreTakenBack, is_marked};
 
 use cursor_api::DocCursor;
 use no_memory::NoMemory;
@@ -123,18 +123,8 @@ pub fn add_list<C: DocCursor>(
     ensures list { C.list cursor.new ≡ C.list cursor.old }
     ensures stand { StandsFrom (first + length scores.old) (C.list cursor.new)
         (C.place cursor.new) }
-    ensures count { length scores.new ≡ length scores.old }
-    ensures marks_count { length marks.new ≡ length marks.old }
-    ensures scores { (k : ℕ) → k < length scores.old
-        → slice_index scores.new k ≡ slice_index scores.old k
-        + weight * freq_of_doc (first + k) (C.list cursor.old) }
-    ensures marks { (k : ℕ) → k < length scores.old
-        → is_marked marks.new k ≡ (is_marked marks.old k || has_doc (first + k)
-        (C.list cursor.old)) }
-    ensures bound { (k : ℕ) → k < length scores.old
-        → slice_index scores.new k ≤ slice_index scores.old k + weight * 4294967295 }
-    ensures within { result ≤ length scores.old }
-    ensures behind { (k : ℕ) → result ≤ k → is_marked marks.new k ≡ is_marked marks.old k }
+    ensures added { IsAdded (C.list cursor.old) weight first scores.old marks.old scores.new
+        marks.new result }
 {
     let end = u64::from(first) + scores.len() as u64;
     let mut reached = 0;
@@ -168,18 +158,12 @@ pub(crate) fn add_lists<C: DocCursor>(
     requires some { All (λ w. 1 ≤ w) weights.now }
     requires light { sum weights.now < 2 ^ 26 }
     requires same { length scores.old ≡ 64 * length marks.old }
-    requires clear { All (λ s. s ≡ 0) scores.old }
-    requires none { All (λ w. w ≡ 0) marks.old }
+    requires blank { IsBlank scores.old marks.old }
     ensures lists { map C.list cursors.new ≡ map C.list cursors.old }
     ensures stand { All (λ c. StandsFrom (first + length scores.old) (C.list c) (C.place c))
         cursors.new }
-    ensures count { length scores.new ≡ length scores.old }
-    ensures marks_count { length marks.new ≡ length marks.old }
-    ensures scores { AreScored (map C.list cursors.old) weights.now first scores.new }
-    ensures marks { AreMarked (map C.list cursors.old) first marks.new }
-    ensures bound { All (λ s. s < 2 ^ 58) scores.new }
-    ensures within { result ≤ length scores.old }
-    ensures behind { (k : ℕ) → result ≤ k → k < length scores.old → is_marked marks.new k ≡ false }
+    ensures filled { IsFilled (map C.list cursors.old) weights.now first scores.old marks.old
+        scores.new marks.new result }
 {
     let mut reached = 0;
     for i in 0..cursors.len() {
@@ -197,14 +181,9 @@ pub fn take_candidate(
     scores: &mut [u64],
     marks: &mut [u64],
 ) -> Option<(usize, u64)>
-    requires wide { length scores.old ≤ 64 * length marks.old }
-    requires within { reached ≤ length scores.old }
+    requires reached { IsReached scores.old marks.old reached }
     requires start { from ≤ length scores.old }
     requires taken { (k : ℕ) → k < from → is_marked marks.old k ≡ false }
-    requires behind { (k : ℕ) → reached ≤ k → k < 64 * length marks.old
-        → is_marked marks.old k ≡ false }
-    requires marked { (k : ℕ) → k < length scores.old → is_marked marks.old k ≡ false
-        → slice_index scores.old k ≡ 0 }
     ensures some { IfSome result (λ e. IsFirstCandidate least scores.old marks.old e.0 e.1) }
     ensures taken { IfSome result (λ e. AreTakenBack (e.0 + 1) scores.old marks.old scores.new
         marks.new) }
@@ -223,7 +202,7 @@ pub fn take_candidate(
     None
 }
 
-// Takes back the places of word i in the same way, up to the first marked one whose score is at least `least`, and gives that place with
+// Takes back the places of word i, up to the first marked one whose score is at least `least`, and gives that place with
 // its score. No place before the word is marked.
 fn take_in_word(i: usize, least: u64, scores: &mut [u64], marks: &mut [u64]) -> Option<(usize, u64)>
     requires word { i < length marks.old }

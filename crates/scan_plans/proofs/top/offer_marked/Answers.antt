@@ -1,14 +1,14 @@
-use Rattle.std.proofs.Common.{◌≡◌, sym, ◌∙◌, ℕ, ◌+◌, ◌-◌, ◌*◌, ◌<◌, ◌≤◌, false, List, length, get_or, take, drop, arith}
+use Rattle.std.proofs.Common.{◌≡◌, sym, ◌∙◌, ℕ, ◌+◌, ◌-◌, ◌*◌, ◌<◌, ◌≤◌, List, length, get_or, take, drop, arith}
 use Rattle.std.proofs.lemmas.List.{length-take-le, length-drop, get_or-take, get_or-drop}
-use Rattle.scan_plans.specs.Window.{is_marked}
+use Rattle.scan_plans.specs.Window.{IsReached}
 use Rattle.scan_plans.proofs.Bests.{IsPiece, offered-none, offered-skip, offered-word}
-use Rattle.scan_plans.proofs.Marks.{word-unmarked}
+use Rattle.scan_plans.proofs.Marks.{unmarked, word-unmarked}
 use Rattle.scan_plans.proofs.Windows.{IsCleared, cleared-none, cleared-more, cleared-piece, cleared-all}
 use Rattle.scan_plans.proofs.top.offer_marked.Goals as goal
 
 pub loop-i-init : goal.loop-i-init
 loop-i-init c = record {
-  offered = offered-none c.args.first c.args.scores.now c.args.top.now c.requires.above;
+  offered = offered-none c.args.first c.args.scores.now c.args.top.now c.requires.offers.above;
   cleared = cleared-none 0 c.args.scores.now;
   unmarked = cleared-none 0 c.args.marks.now;
   fits = λ k. let fits = c.type_inv.marks k in omega arith;
@@ -31,7 +31,7 @@ loop-i-preserved c =
     let i : ℕ = c.loop-i.i in
     let first : ℕ = c.args.first in
     let scores : List ℕ = c.args.scores.now in
-    let within = c.requires.within in
+    let within = c.requires.reached.within in
     let same = c.requires.same in
     let ceil = c.div_ceil-i-end.ensures in
     let inside : i < length c.args.marks.now = omega arith in
@@ -49,35 +49,32 @@ loop-i-preserved c =
     }
 
 -- a score behind the places that were reached
-none-behind : (reached from : ℕ) (marks scores : List ℕ) → reached ≤ from → ((k : ℕ) → k < length scores → is_marked marks k ≡ false → get_or scores k 0 ≡ 0) → ((k : ℕ) → reached ≤ k → k < length scores → is_marked marks k ≡ false) → (k : ℕ) → from ≤ k → k < length scores → get_or scores k 0 ≡ 0
-none-behind reached from marks scores le marked behind k after inside = marked k inside (behind k (omega arith) inside)
+none-behind : (reached from : ℕ) (marks scores : List ℕ) → reached ≤ from → IsReached scores marks reached → (k : ℕ) → from ≤ k → k < length scores → get_or scores k 0 ≡ 0
+none-behind reached from marks scores le is k after inside = let wide = is.wide in is.scored k inside (is.behind k (omega arith) (omega arith))
 
 pub returns-clause-best : goal.returns-clause-best
 returns-clause-best c =
     let scores : List ℕ = c.args.scores.now in
     let at : ℕ = 64 * c.loop-i.i in
-    let within = c.requires.within in
+    let within = c.requires.reached.within in
     let same = c.requires.same in
     let ceil = c.div_ceil-i-end.ensures in
-    (offered-skip c.args.first at (length scores) scores c.args.top.now c.loop-i.top (omega arith) (omega arith) (none-behind c.args.reached at c.args.marks.now scores (omega arith) c.requires.marked c.requires.behind) c.loop-i.invariant.offered).best
+    (offered-skip c.args.first at (length scores) scores c.args.top.now c.loop-i.top (omega arith) (omega arith) (none-behind c.args.reached at c.args.marks.now scores (omega arith) c.requires.reached) c.loop-i.invariant.offered).best
 
-pub returns-clause-clear : goal.returns-clause-clear
-returns-clause-clear c =
+pub returns-clause-blank : goal.returns-clause-blank
+returns-clause-blank c =
     let scores : List ℕ = c.args.scores.now in
-    let at : ℕ = 64 * c.loop-i.i in
-    let within = c.requires.within in
-    let same = c.requires.same in
-    let ceil = c.div_ceil-i-end.ensures in
-    cleared-all 0 scores at c.loop-i.scores (none-behind c.args.reached at c.args.marks.now scores (omega arith) c.requires.marked c.requires.behind) c.loop-i.invariant.cleared
-
-pub returns-clause-none : goal.returns-clause-none
-returns-clause-none c =
+    let marks : List ℕ = c.args.marks.now in
     let i : ℕ = c.loop-i.i in
-    let within = c.requires.within in
+    let so_far = c.loop-i.invariant in
+    let within = c.requires.reached.within in
     let same = c.requires.same in
     let ceil = c.div_ceil-i-end.ensures in
-    cleared-all 0 c.args.marks.now i c.loop-i.marks
-    (λ k from inside.
-    let fits = c.loop-i.invariant.fits k in
-    word-unmarked c.args.marks.now k (omega arith) (λ j lt. c.requires.behind (64 * k + j) (omega arith) (omega arith)))
-    c.loop-i.invariant.unmarked
+    let count = so_far.cleared.count in
+    let words = so_far.unmarked.count in
+    record {
+      wide = omega arith;
+      clear = cleared-all 0 scores (64 * i) c.loop-i.scores (none-behind c.args.reached (64 * i) marks scores (omega arith) c.requires.reached) so_far.cleared;
+      none = unmarked c.loop-i.marks (cleared-all 0 marks i c.loop-i.marks
+          (λ k from inside. let fits = so_far.fits k in word-unmarked marks k (omega arith) (λ j lt. c.requires.reached.behind (64 * k + j) (omega arith) (omega arith))) so_far.unmarked);
+    }

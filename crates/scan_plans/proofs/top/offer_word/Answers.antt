@@ -13,7 +13,7 @@ pub loop-rest-init : goal.loop-rest-init
 loop-rest-init c = record {
   low = 0;
   rest = rest-all c.args.word;
-  offered = offered-none c.args.base c.args.scores.now c.args.top.now c.requires.above;
+  offered = offered-none c.args.base c.args.scores.now c.args.top.now c.requires.offers.above;
   bar = c.bar_of-bar.ensures;
   cleared = cleared-none 0 c.args.scores.now;
 }

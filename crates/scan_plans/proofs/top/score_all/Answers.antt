@@ -1,4 +1,4 @@
-use Rattle.std.proofs.Common.{◌≡◌, refl, sym, ap, inl, inr, ◌∙◌, subst, ℕ, ◌+◌, ◌^◌, ◌<◌, true, false, List, [], length, map, slice_index, arith}
+use Rattle.std.proofs.Common.{◌≡◌, refl, sym, ap, inl, inr, ◌∙◌, subst, ℕ, ◌+◌, ◌*◌, ◌^◌, ◌<◌, true, false, List, [], length, map, slice_index, arith}
 use Rattle.std.proofs.lemmas.Bool.{cases_lt, false≢true}
 use Rattle.std.specs.List.{All, list_any}
 use Rattle.std.proofs.lemmas.List.{length-map}
@@ -10,7 +10,7 @@ use Rattle.scan_plans.specs.IsTop.{IsTop}
 use Rattle.scan_plans.specs.Matches.{AreBelow, has_doc, in_any}
 use Rattle.scan_plans.specs.Ranking.{Ranking}
 use Rattle.scan_plans.specs.Scan.{StandsFrom}
-use Rattle.scan_plans.specs.Window.{AreScored}
+use Rattle.scan_plans.specs.Window.{AreScored, is_marked}
 use Rattle.scan_plans.proofs.Bests.{best-none, best-below, best-top, any-below}
 use Rattle.scan_plans.proofs.Scans.{IsNextDoc, next-doc, no-next-doc, any-bound}
 use Rattle.scan_plans.proofs.Steps.{passing-leaves-less, starts-stand}
@@ -36,8 +36,11 @@ loop-first-init g c =
       stand = starts-stand g.C.DocCursor.list g.C.DocCursor.place c.args.cursors.now c.requires.at_start;
       some = let same = ap length c.as_mut_slice-marks.ensures.value in let count = c.in_ok-mark_buffer.ensures.count in let some = c.scored_words-words.ensures.some in omega arith;
       same = let scores = ap length c.as_mut_slice-scores.ensures.value in let marks = ap length c.as_mut_slice-marks.ensures.value in let scored = c.in_ok-score_buffer.ensures.count in let marked = c.in_ok-mark_buffer.ensures.count in omega arith;
-      clear = subst (All (λ s. s ≡ 0)) (sym c.as_mut_slice-scores.ensures.value) c.in_ok-score_buffer.ensures.clear;
-      none = subst (All (λ w. w ≡ 0)) (sym c.as_mut_slice-marks.ensures.value) c.in_ok-mark_buffer.ensures.clear;
+      blank = (let scores = ap length c.as_mut_slice-scores.ensures.value in let marks = ap length c.as_mut_slice-marks.ensures.value in let scored = c.in_ok-score_buffer.ensures.count in let marked = c.in_ok-mark_buffer.ensures.count in record {
+        wide = omega arith;
+        clear = subst (All (λ s. s ≡ 0)) (sym c.as_mut_slice-scores.ensures.value) c.in_ok-score_buffer.ensures.clear;
+        none = subst (λ (ms : List ℕ). (k : ℕ) → k < 64 * length ms → is_marked ms k ≡ false) (sym c.as_mut_slice-marks.ensures.value) (λ k lt. c.in_ok-mark_buffer.ensures.none k (omega arith));
+      });
       k = ap (λ (r : Ranking). r.k) c.in_ok-top.ensures;
       n = ap (λ (r : Ranking). r.n) c.in_ok-top.ensures;
       best = subst (IsBest c.args.k lists c.args.weights.now []) (sym held) (best-none c.args.k lists c.args.weights.now);
@@ -56,41 +59,38 @@ add_lists-reached-requires-clause-each g c =
     omega arith
 
 pub offer_marked-requires-clause-same : goal.offer_marked-requires-clause-same
-offer_marked-requires-clause-same g c = let scores = c.add_lists-reached.ensures.count in let marks = c.add_lists-reached.ensures.marks_count in let same = c.loop-first.invariant.same in omega arith
+offer_marked-requires-clause-same g c = let scores = c.add_lists-reached.ensures.filled.count in let marks = c.add_lists-reached.ensures.filled.marks_count in let same = c.loop-first.invariant.same in omega arith
 
-pub offer_marked-requires-clause-marked : goal.offer_marked-requires-clause-marked
-offer_marked-requires-clause-marked g c = λ k within unmarked.
+pub offer_marked-requires-clause-reached : goal.offer_marked-requires-clause-reached
+offer_marked-requires-clause-reached g c =
     let lists : List (List Posting) = map g.C.DocCursor.list c.loop-first.cursors in
-    let scores = c.add_lists-reached.ensures.count in
-    let marks = c.add_lists-reached.ensures.marks_count in
+    let filled = c.add_lists-reached.ensures.filled in
+    let scores = filled.count in
+    let marks = filled.marks_count in
     let same = c.loop-first.invariant.same in
-    let absent : list_any (has_doc (c.in-Some.first + k)) lists ≡ false = sym (c.add_lists-reached.ensures.marks k (omega arith)) ∙ unmarked in
-    zero-unless (slice_index c.add_lists-reached.new.scores k) (λ some. false≢true (sym absent ∙ (c.add_lists-reached.ensures.scores.found k within).0 some))
+    let within = filled.within in
+    record {
+      wide = omega arith;
+      within = omega arith;
+      scored = λ k inside unmarked.
+          let absent : list_any (has_doc (c.in-Some.first + k)) lists ≡ false = sym (filled.marked k (omega arith)) ∙ unmarked in
+          zero-unless (slice_index c.add_lists-reached.new.scores k) (λ some. false≢true (sym absent ∙ (filled.scored.found k inside).0 some));
+      behind = λ k from inside. filled.behind k from (omega arith);
+    }
 
-pub offer_marked-requires-clause-within : goal.offer_marked-requires-clause-within
-offer_marked-requires-clause-within g c = let count = c.add_lists-reached.ensures.count in let within = c.add_lists-reached.ensures.within in omega arith
-
-pub offer_marked-requires-clause-behind : goal.offer_marked-requires-clause-behind
-offer_marked-requires-clause-behind g c = λ k from inside. let count = c.add_lists-reached.ensures.count in c.add_lists-reached.ensures.behind k from (omega arith)
-
-pub offer_marked-requires-clause-narrow : goal.offer_marked-requires-clause-narrow
-offer_marked-requires-clause-narrow g c = omega (arith, c.loop-first.invariant.n, c.ranges.n.fits)
-
-pub offer_marked-requires-clause-in_range : goal.offer_marked-requires-clause-in_range
-offer_marked-requires-clause-in_range g c = λ k within above.
+pub offer_marked-requires-clause-offers : goal.offer_marked-requires-clause-offers
+offer_marked-requires-clause-offers g c =
     let lists : List (List Posting) = map g.C.DocCursor.list c.args.cursors.now in
-    let same = c.loop-first.invariant.lists in
-    let doc : ℕ = c.in-Some.first + k in
-    let has : list_any (has_doc doc) lists ≡ true = ap (list_any (has_doc doc)) (sym same) ∙ (c.add_lists-reached.ensures.scores.found k within).0 above in
-    subst (λ (n : ℕ). doc < n) (sym c.loop-first.invariant.n) (any-bound c.args.n lists doc c.requires.in_range has)
-
-pub offer_marked-requires-clause-above : goal.offer_marked-requires-clause-above
-offer_marked-requires-clause-above g c =
-    let first : ℕ = c.in-Some.first in
-    let low : ℕ = c.loop-first.invariant.low in
-    let lists : List (List Posting) = map g.C.DocCursor.list c.args.cursors.now in
-    let next = next-known g (goal.at.offer_marked-requires-clause-above g c).In-Some in
-    best-below c.args.k lists c.args.weights.now (in_any low lists) c.loop-first.top.held first c.loop-first.invariant.best (any-below low first lists next.low_first)
+    let so_far = c.loop-first.invariant in
+    let next = next-known g (goal.at.offer_marked-requires-clause-offers g c).In-Some in
+    record {
+      narrow = omega (arith, so_far.n, c.ranges.n.fits);
+      in_range = λ k within above.
+          let doc : ℕ = c.in-Some.first + k in
+          let has : list_any (has_doc doc) lists ≡ true = ap (list_any (has_doc doc)) (sym so_far.lists) ∙ (c.add_lists-reached.ensures.filled.scored.found k within).0 above in
+          subst (λ (n : ℕ). doc < n) (sym so_far.n) (any-bound c.args.n lists doc c.requires.in_range has);
+      above = best-below c.args.k lists c.args.weights.now (in_any so_far.low lists) c.loop-first.top.held c.in-Some.first so_far.best (any-below so_far.low c.in-Some.first lists next.low_first);
+    }
 
 pub loop-first-smaller : goal.loop-first-smaller
 loop-first-smaller g c =
@@ -109,28 +109,27 @@ loop-first-preserved g c =
     let held : List (ℕ × ℕ) = c.loop-first.top.held in
     let next = next-known g (goal.at.loop-first-preserved g c).In-Some in
     let skipped : in_any low lists ≡ in_any first lists = subst (λ (ls : List (List Posting)). in_any low ls ≡ in_any first ls) same next.skipped in
-    let scored : AreScored lists weights first c.add_lists-reached.new.scores = subst (λ (ls : List (List Posting)). AreScored ls weights first c.add_lists-reached.new.scores) same c.add_lists-reached.ensures.scores in
+    let scored : AreScored lists weights first c.add_lists-reached.new.scores = subst (λ (ls : List (List Posting)). AreScored ls weights first c.add_lists-reached.new.scores) same c.add_lists-reached.ensures.filled.scored in
     let k = c.loop-first.invariant.k in
     let before : IsBest c.args.k lists weights (in_any first lists) held = subst (λ (docs : List ℕ). IsBest c.args.k lists weights docs held) skipped c.loop-first.invariant.best in
     let more = c.offer_marked.ensures.best lists weights scored (subst (λ (n : ℕ). IsBest n lists weights (in_any first lists) held) (sym k) before) in
     let some = c.loop-first.invariant.some in
     let same_count = c.loop-first.invariant.same in
-    let marks = c.add_lists-reached.ensures.marks_count in
+    let marks = c.add_lists-reached.ensures.filled.marks_count in
     let marks_kept = c.offer_marked.ensures.marks_count in
     let kept = c.offer_marked.ensures.count in
-    let count = c.add_lists-reached.ensures.count in
+    let count = c.add_lists-reached.ensures.filled.count in
     record {
       low = first + length c.add_lists-reached.new.scores;
       lists = c.add_lists-reached.ensures.lists ∙ same;
       stand = subst (λ (n : ℕ). All (λ x. StandsFrom (first + n) (g.C.DocCursor.list x) (g.C.DocCursor.place x)) c.add_lists-reached.new.cursors) (sym count) c.add_lists-reached.ensures.stand;
       some = omega arith;
       same = omega arith;
-      clear = c.offer_marked.ensures.clear;
-      none = c.offer_marked.ensures.none;
+      blank = c.offer_marked.ensures.blank;
       k = c.offer_marked.ensures.k ∙ k;
       n = c.offer_marked.ensures.n ∙ c.loop-first.invariant.n;
       best = subst (λ (n : ℕ). IsBest n lists weights (in_any (first + length c.add_lists-reached.new.scores) lists) c.offer_marked.new.top.held) k more;
-      bound = c.offer_marked.ensures.bound c.add_lists-reached.ensures.bound c.loop-first.invariant.bound;
+      bound = c.offer_marked.ensures.bound c.add_lists-reached.ensures.filled.bound c.loop-first.invariant.bound;
     }
 
 pub returns-clause-bound : goal.returns-clause-bound

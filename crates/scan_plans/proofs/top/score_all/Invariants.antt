@@ -3,6 +3,7 @@ use Rattle.std.specs.List.{All, sum_by}
 use Rattle.scan_plans.specs.Best.{IsBest}
 use Rattle.scan_plans.specs.Matches.{in_any}
 use Rattle.scan_plans.specs.Scan.{StandsFrom}
+use Rattle.scan_plans.specs.Window.{IsBlank}
 use Rattle.scan_plans.proofs.top.score_all.Given as goal
 
 abbrev pub invariant-loop-first : goal.invariant-loop-first
@@ -12,8 +13,7 @@ invariant-loop-first g l = record {
   stand : All (λ c. StandsFrom low (g.C.DocCursor.list c) (g.C.DocCursor.place c)) l.cursors;
   some : 0 < length l.marks;
   same : length l.scores ≡ 64 * length l.marks;
-  clear : All (λ s. s ≡ 0) l.scores;
-  none : All (λ w. w ≡ 0) l.marks;
+  blank : IsBlank l.scores l.marks;
   k : l.top.k ≡ l.fn.k;
   n : l.top.n ≡ l.fn.n;
   best : IsBest l.fn.k (map g.C.DocCursor.list l.initial.cursors) l.weights (in_any low (map g.C.DocCursor.list l.initial.cursors)) l.top.held;

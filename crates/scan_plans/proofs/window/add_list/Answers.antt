@@ -90,15 +90,17 @@ returns g c =
     record {
       list = so_far.list;
       stand = subst (λ (l : List Posting). StandsFrom (c.args.first + n) l place) (sym so_far.list) end.1;
-      count = so_far.count;
-      marks_count = so_far.marks_count;
-      scores = scored;
-      marks = given-whole ◌||◌ c.args.first false or-none list (λ _. true) (λ d. has_doc d list) from place n (is_marked c.args.marks.now) (is_marked c.loop-reached.marks) end.0.within c.requires.stand end.1
-          (λ i inside. (doc-there list i end.0.well_formed inside).has) (λ d nowhere. nowhere) so_far.marked;
-      bound = λ k inside.
-          let is = scored k inside in
-          let most = most-freq list c.args.weight (c.args.first + k) end.0.well_formed in
-          omega arith;
-      within = so_far.within;
-      behind = given-behind ◌||◌ c.args.first (docs_of list) (λ _. true) from place c.loop-reached.reached (is_marked c.args.marks.now) (is_marked c.loop-reached.marks) so_far.below so_far.marked;
+      added = record {
+        count = so_far.count;
+        marks_count = so_far.marks_count;
+        scored = scored;
+        marked = given-whole ◌||◌ c.args.first false or-none list (λ _. true) (λ d. has_doc d list) from place n (is_marked c.args.marks.now) (is_marked c.loop-reached.marks) end.0.within c.requires.stand end.1
+            (λ i inside. (doc-there list i end.0.well_formed inside).has) (λ d nowhere. nowhere) so_far.marked;
+        bound = λ k inside.
+            let is = scored k inside in
+            let most = most-freq list c.args.weight (c.args.first + k) end.0.well_formed in
+            omega arith;
+        within = so_far.within;
+        behind = given-behind ◌||◌ c.args.first (docs_of list) (λ _. true) from place c.loop-reached.reached (is_marked c.args.marks.now) (is_marked c.loop-reached.marks) so_far.below so_far.marked;
+      };
     }

@@ -11,7 +11,6 @@ use Rattle.scan_plans.specs.Window.{is_marked}
 use Rattle.scan_plans.proofs.Found.{score-found}
 use Rattle.scan_plans.proofs.Steps.{lists-set, rest-set, score-whole, all-rising}
 use Rattle.scan_plans.proofs.Windows.{any-step, scores-step}
-use Rattle.scan_plans.proofs.Marks.{unmarked}
 use Rattle.scan_plans.proofs.window.add_lists.Goals as goal
 
 pub loop-i-init : goal.loop-i-init
@@ -20,12 +19,12 @@ loop-i-init g c = record {
   done = λ k d from within. absurd (omega arith);
   rest = λ k d from within. c.requires.stand k d within;
   count = refl;
-  scored = λ k within. c.requires.clear k 0 within;
-  bound = λ k within. let none = c.requires.clear k 0 within in omega arith;
+  scored = λ k within. c.requires.blank.clear k 0 within;
+  bound = λ k within. let none = c.requires.blank.clear k 0 within in omega arith;
   marks_count = refl;
-  marked = λ k within. let same = c.requires.same in unmarked c.args.marks.now c.requires.none k (omega arith);
+  marked = λ k within. let same = c.requires.same in c.requires.blank.none k (omega arith);
   within = omega arith;
-  behind = λ k from within. let same = c.requires.same in unmarked c.args.marks.now c.requires.none k (omega arith);
+  behind = λ k from within. let same = c.requires.same in c.requires.blank.none k (omega arith);
 }
 
 pub add_list-requires-clause-stand : goal.add_list-requires-clause-stand
@@ -66,21 +65,21 @@ loop-i-preserved g c =
     let heavier = sum_by_more (λ w. w) weights i 0 weighed in
     let most : c.max-reached.result ≡ max c.add_list.result c.loop-i.reached = c.max-reached.ensures in
     let behind-old = so_far.within in
-    let behind-new = c.add_list.ensures.within in
+    let behind-new = c.add_list.ensures.added.within in
     record {
       lists = lists-set g.C.DocCursor.list g.C.DocCursor.place cs i new item within c.add_list.ensures.list ∙ so_far.lists;
       done = AllWithin-more_set cs i new within (λ x. StandsFrom (c.args.first + length c.args.scores.now) (g.C.DocCursor.list x) (g.C.DocCursor.place x)) so_far.done
           (subst (λ (n : ℕ). StandsFrom (c.args.first + n) (g.C.DocCursor.list new) (g.C.DocCursor.place new)) so_far.count c.add_list.ensures.stand);
       rest = rest-set g.C.DocCursor.list g.C.DocCursor.place (λ x. StandsFrom c.args.first (g.C.DocCursor.list x) (g.C.DocCursor.place x)) cs i new so_far.rest;
-      count = c.add_list.ensures.count ∙ so_far.count;
+      count = c.add_list.ensures.added.count ∙ so_far.count;
       scored = scores-step g.C.DocCursor.list g.C.DocCursor.place c.args.first i (length c.args.scores.now) cs c.args.cursors.now weights c.loop-i.scores c.add_list.new.scores item so_far.lists within weighed so_far.scored
-          (λ k inside. c.add_list.ensures.scores k (omega arith));
-      marks_count = c.add_list.ensures.marks_count ∙ so_far.marks_count;
+          (λ k inside. c.add_list.ensures.added.scored k (omega arith));
+      marks_count = c.add_list.ensures.added.marks_count ∙ so_far.marks_count;
       marked = λ k inside. any-step g.C.DocCursor.list (c.args.first + k) i cs (map g.C.DocCursor.list c.args.cursors.now) item (is_marked c.loop-i.marks k) (is_marked c.add_list.new.marks k) so_far.lists within (so_far.marked k inside)
-          (c.add_list.ensures.marks k (omega arith));
-      bound = λ k inside. let before = so_far.bound k inside in let more = c.add_list.ensures.bound k (omega arith) in omega arith;
+          (c.add_list.ensures.added.marked k (omega arith));
+      bound = λ k inside. let before = so_far.bound k inside in let more = c.add_list.ensures.added.bound k (omega arith) in omega arith;
       within = omega arith;
-      behind = λ k from inside. c.add_list.ensures.behind k (omega arith) ∙ so_far.behind k (omega arith) inside;
+      behind = λ k from inside. c.add_list.ensures.added.behind k (omega arith) ∙ so_far.behind k (omega arith) inside;
     }
 
 pub returns : goal.returns
@@ -101,20 +100,22 @@ returns g c =
     record {
       lists = so_far.lists;
       stand = λ k d within. so_far.done k d (omega arith) (omega arith);
-      count = count;
-      marks_count = marks_count;
-      scores = record {
-        scored = scored;
-        found = λ k within. subst (λ (s : ℕ). (0 < s) ↔ (list_any (has_doc (c.args.first + k)) lists ≡ true)) (sym (scored k within))
-            (score-found lists weights (c.args.first + k) (omega arith) c.requires.some (all-rising g.C.DocCursor.list g.C.DocCursor.place g.met.C.DocCursor.well_formed c.args.cursors.now));
+      filled = record {
+        count = count;
+        marks_count = marks_count;
+        scored = record {
+          scored = scored;
+          found = λ k within. subst (λ (s : ℕ). (0 < s) ↔ (list_any (has_doc (c.args.first + k)) lists ≡ true)) (sym (scored k within))
+              (score-found lists weights (c.args.first + k) (omega arith) c.requires.some (all-rising g.C.DocCursor.list g.C.DocCursor.place g.met.C.DocCursor.well_formed c.args.cursors.now));
+        };
+        marked = λ k within. so_far.marked k (omega arith) ∙ ap (list_any (has_doc (c.args.first + k))) (take_all c.loop-i.i lists (omega arith));
+        bound = λ k d within.
+            let read = get_or_default c.loop-i.scores k d 0 within in
+            let bound = so_far.bound k (omega arith) in
+            let heavy = sum_by-take-le (λ w. w) weights c.loop-i.i in
+            let light = c.requires.light in
+            omega arith;
+        within = so_far.within;
+        behind = so_far.behind;
       };
-      marks = λ k within. so_far.marked k (omega arith) ∙ ap (list_any (has_doc (c.args.first + k))) (take_all c.loop-i.i lists (omega arith));
-      bound = λ k d within.
-          let read = get_or_default c.loop-i.scores k d 0 within in
-          let bound = so_far.bound k (omega arith) in
-          let heavy = sum_by-take-le (λ w. w) weights c.loop-i.i in
-          let light = c.requires.light in
-          omega arith;
-      within = so_far.within;
-      behind = so_far.behind;
     }

@@ -9,7 +9,7 @@ loop-i-init c = record {
   low = c.args.from;
   start = omega arith;
   end = omega arith;
-  taken = taken-none c.args.scores.now c.args.marks.now c.requires.wide c.requires.marked c.args.from c.requires.taken;
+  taken = taken-none c.args.scores.now c.args.marks.now c.requires.reached.wide c.requires.reached.scored c.args.from c.requires.taken;
   passed = λ k lt is. absurd (false≢true (sym (c.requires.taken k lt) ∙ is));
 }
 
@@ -21,10 +21,10 @@ loop-i-preserved c =
     let next : ℕ = 64 * (c.loop-i.i + 1) in
     let ceil = c.div_ceil-words.ensures in
     let before = c.loop-i-test.true in
-    let within = c.requires.within in
-    let wide = c.requires.wide in
+    let within = c.requires.reached.within in
+    let wide = c.requires.reached.wide in
     let room : next ≤ 64 * length marks = omega arith in
-    let inside = left-inside scores marks c.loop-i.scores c.loop-i.marks so_far.low wide so_far.taken c.args.reached next within room c.requires.behind in
+    let inside = left-inside scores marks c.loop-i.scores c.loop-i.marks so_far.low wide so_far.taken c.args.reached next within room c.requires.reached.behind in
     record {
       low = next;
       start = omega arith;
