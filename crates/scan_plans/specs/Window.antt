@@ -48,6 +48,15 @@ pub record IsBlank (scores marks : List ℕ) : Type 0 where
   -- no place is marked
   pub none : (k : ℕ) → k < 64 * length marks → is_marked marks k ≡ false
 
+-- a window that is left blank, with room for as many documents as before
+pub record IsLeftBlank (scores marks now_scores now_marks : List ℕ) : Type 0 where
+  -- there are as many scores as before
+  pub count : length now_scores ≡ length scores
+  -- and as many words of marks
+  pub marks_count : length now_marks ≡ length marks
+  -- nothing is scored or marked
+  pub blank : IsBlank now_scores now_marks
+
 -- What a list gave a window of documents from `first` on: its weight times the frequencies to their scores, and their marks. So many places were reached.
 pub record IsAdded (list : List Posting) (weight first : ℕ) (scores marks now_scores now_marks : List ℕ) (reached : ℕ) : Type 0 where
   -- there are as many scores as before

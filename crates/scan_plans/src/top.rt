@@ -6,7 +6,7 @@ ghost use Rattle.scan_plans.specs.Matches.{in_any};
 ghost use Rattle.scan_plans.specs.IsTop.{IsTop};
 ghost use Rattle.scan_plans.specs.TopQuery.{IsTopQuery};
 ghost use Rattle.scan_plans.specs.Best.{CanBeOffered, IsBest, IsBar};
-ghost use Rattle.scan_plans.specs.Window.{AreScored, IsBlank, IsReached};
+ghost use Rattle.scan_plans.specs.Window.{AreScored, IsLeftBlank, IsReached};
 
 use crate::TopK;
 use crate::laws::top_list_is_short;
@@ -98,9 +98,7 @@ fn offer_marked(top: &mut TopK, first: u32, reached: usize, marks: &mut [u64], s
         → IsBest top.old.k lists weights (in_any (first + length scores.old) lists) top.new.held }
     ensures bound { All (λ s. s < 2 ^ 58) scores.old → All (λ e. e.1 < 2 ^ 58) top.old.held
         → All (λ e. e.1 < 2 ^ 58) top.new.held }
-    ensures count { length scores.new ≡ length scores.old }
-    ensures marks_count { length marks.new ≡ length marks.old }
-    ensures blank { IsBlank scores.new marks.new }
+    ensures left { IsLeftBlank scores.old marks.old scores.new marks.new }
 {
     for i in 0..reached.div_ceil(64) {
         let base = u64::from(first) + 64 * i as u64;

@@ -1,10 +1,10 @@
-ghost use Rattle.std.specs.Prelude.{◌≡◌, ℕ, ◌+◌, ◌-◌, ◌*◌, ◌≤◌, ◌<◌, ◌^◌, ◌||◌, true, false, map, take, drop, length, min, slice_index, nat_le, IfSome, IfNone};
+ghost use Rattle.std.specs.Prelude.{◌≡◌, ℕ, ◌+◌, ◌-◌, ◌*◌, ◌≤◌, ◌<◌, ◌^◌, true, false, map, take, drop, length, min, IfSome, IfNone};
 ghost use Rattle.std.specs.List.{All};
-ghost use Rattle.scan_plans.specs.Matches.{AreBelow, has_doc, freq_of_doc};
 ghost use Rattle.scan_plans.specs.Scan.{HasPassed, StandsFrom};
-ghost use Rattle.scan_plans.specs.Skips.{IsBarred};
-ghost use Rattle.scan_plans.specs.Window.{is_marked};
-ghost use Rattle.topk_pruning.specs.Terms.{AreApart, AreBefore, AreKept, AreSpared, AreTermsIn, Considers, FollowsTo, beats, bounds, in_lists, score_in};
+ghost use Rattle.scan_plans.specs.Window.{IsAdded, IsBlank, IsLeftBlank};
+ghost use Rattle.topk_pruning.specs.Held.{IsConsidered, IsSearch, IsSearchedTo};
+ghost use Rattle.topk_pruning.specs.Terms.{AreAsked, AreBefore, AreKept, AreSpared, AreTermsIn, AreWindowTerms, beats, score_in};
+ghost use Rattle.topk_pruning.specs.Windows.{HasRoom, IsScoredIn};
 
 use crate::probe::{doc_from, is_above, probe};
 use crate::shortlist::Shortlist;
@@ -25,30 +25,16 @@ pub(crate) fn score_window<C: DocCursor>(
     block: &mut Block,
     top: &mut Shortlist,
 )
-    requires terms { AreTermsIn (map C.list cursors.old) first (first + count) terms.now }
-    requires apart { AreApart terms.now }
-    requires small { All (λ t. t.weight < 2 ^ 26) terms.now }
+    requires terms { AreWindowTerms (map C.list cursors.old) first (first + count) terms.now }
     requires passed { All (λ c. HasPassed first (C.list c) (C.place c)) cursors.old }
-    requires fits { count ≤ length scores.old }
-    requires wide { length scores.old ≤ 64 * length marks.old }
-    requires clear { All (λ s. s ≡ 0) scores.old }
-    requires none { (k : ℕ) → k < 64 * length marks.old → is_marked marks.old k ≡ false }
-    requires below { AreBelow top.old.n (map C.list cursors.old) }
-    requires narrow { top.old.n < 2 ^ 32 }
-    requires in_range { first + count ≤ top.old.n }
-    requires above { All (λ e. e.0 < first) top.old.held }
+    requires room { HasRoom count scores.old marks.old }
+    requires search { IsSearch (map C.list cursors.old) first (first + count) top.old }
     requires essential { AreSpared top.old.floor top.old.k top.old.held terms.now essential }
     ensures lists { map C.list cursors.new ≡ map C.list cursors.old }
     ensures passed { All (λ c. HasPassed (first + count) (C.list c) (C.place c)) cursors.new }
-    ensures count { length scores.new ≡ length scores.old }
-    ensures marks_count { length marks.new ≡ length marks.old }
-    ensures clear { All (λ s. s ≡ 0) scores.new }
-    ensures none { (k : ℕ) → k < 64 * length marks.old → is_marked marks.new k ≡ false }
-    ensures k { top.new.k ≡ top.old.k }
-    ensures n { top.new.n ≡ top.old.n }
-    ensures floor { top.new.floor ≡ top.old.floor }
-    ensures held { FollowsTo (map C.list cursors.old) terms.now top.old.floor top.old.k first
-        (first + count) top.old.held top.new.held }
+    ensures left { IsLeftBlank scores.old marks.old scores.new marks.new }
+    ensures searched { IsSearchedTo (map C.list cursors.old) terms.now first (first + count)
+        top.old top.new }
 {
     let window = &mut scores[..count];
     let reached = add_terms(cursors, &terms[..essential], first, window, marks, block);
@@ -67,27 +53,18 @@ fn add_terms<C: DocCursor>(
     marks: &mut [u64],
     block: &mut Block,
 ) -> usize
-    requires terms { AreTermsIn (map C.list cursors.old) first (first + length scores.old)
+    requires terms { AreWindowTerms (map C.list cursors.old) first (first + length scores.old)
         terms.now }
-    requires apart { AreApart terms.now }
-    requires small { All (λ t. t.weight < 2 ^ 26) terms.now }
     requires passed { All (λ c. HasPassed first (C.list c) (C.place c)) cursors.old }
-    requires wide { length scores.old ≤ 64 * length marks.old }
-    requires clear { All (λ s. s ≡ 0) scores.old }
-    requires none { (k : ℕ) → k < 64 * length marks.old → is_marked marks.old k ≡ false }
+    requires blank { IsBlank scores.old marks.old }
     ensures lists { map C.list cursors.new ≡ map C.list cursors.old }
     ensures passed { All (λ c. HasPassed (first + length scores.old) (C.list c) (C.place c))
         cursors.new }
     ensures kept { AreKept terms.now cursors.old cursors.new }
     ensures count { length scores.new ≡ length scores.old }
     ensures marks_count { length marks.new ≡ length marks.old }
-    ensures scores { (k : ℕ) → k < length scores.old
-        → slice_index scores.new k ≡ score_in (map C.list cursors.old) (first + k) terms.now }
-    ensures marks { (k : ℕ) → k < length scores.old
-        → is_marked marks.new k ≡ in_lists (map C.list cursors.old) (first + k) terms.now }
-    ensures within { result ≤ length scores.old }
-    ensures behind { (k : ℕ) → result ≤ k → k < 64 * length marks.old
-        → is_marked marks.new k ≡ false }
+    ensures scored { IsScoredIn (map C.list cursors.old) terms.now first scores.new marks.new
+        result }
 {
     let mut reached = 0;
     for term in terms {
@@ -119,16 +96,8 @@ fn add_term<C: DocCursor>(
     ensures list { C.list cursor.new ≡ C.list cursor.old }
     ensures stand { StandsFrom (first + length scores.old) (C.list cursor.new)
         (C.place cursor.new) }
-    ensures count { length scores.new ≡ length scores.old }
-    ensures marks_count { length marks.new ≡ length marks.old }
-    ensures scores { (k : ℕ) → k < length scores.old
-        → slice_index scores.new k ≡ slice_index scores.old k
-        + weight * freq_of_doc (first + k) (C.list cursor.old) }
-    ensures marks { (k : ℕ) → k < length scores.old
-        → is_marked marks.new k ≡ (is_marked marks.old k || has_doc (first + k)
-        (C.list cursor.old)) }
-    ensures within { result ≤ length scores.old }
-    ensures behind { (k : ℕ) → result ≤ k → is_marked marks.new k ≡ is_marked marks.old k }
+    ensures added { IsAdded (C.list cursor.old) weight first scores.old marks.old scores.new
+        marks.new result }
 {
     let _ = doc_from(cursor, first);
     add_list(cursor, weight, first, scores, marks, block)
@@ -151,33 +120,16 @@ fn offer_candidates<C: DocCursor>(
     requires before { AreBefore C.list C.place first (drop essential terms.now) cursors.old }
     requires passed { All (λ c. HasPassed (first + length scores.old) (C.list c) (C.place c))
         cursors.old }
-    requires wide { length scores.old ≤ 64 * length marks.old }
-    requires scores { (k : ℕ) → k < length scores.old
-        → slice_index scores.old k ≡ score_in (map C.list cursors.old) (first + k)
-        (take essential terms.now) }
-    requires marks { (k : ℕ) → k < length scores.old
-        → is_marked marks.old k ≡ in_lists (map C.list cursors.old) (first + k)
-        (take essential terms.now) }
-    requires within { reached ≤ length scores.old }
-    requires behind { (k : ℕ) → reached ≤ k → k < 64 * length marks.old
-        → is_marked marks.old k ≡ false }
-    requires below { AreBelow top.old.n (map C.list cursors.old) }
-    requires narrow { top.old.n < 2 ^ 32 }
-    requires in_range { first ≤ top.old.n }
-    requires above { All (λ e. e.0 < first) top.old.held }
+    requires scored { IsScoredIn (map C.list cursors.old) (take essential terms.now) first
+        scores.old marks.old reached }
+    requires search { IsSearch (map C.list cursors.old) first first top.old }
     requires essential { AreSpared top.old.floor top.old.k top.old.held terms.now essential }
     ensures lists { map C.list cursors.new ≡ map C.list cursors.old }
     ensures passed { All (λ c. HasPassed (first + length scores.old) (C.list c) (C.place c))
         cursors.new }
-    ensures count { length scores.new ≡ length scores.old }
-    ensures marks_count { length marks.new ≡ length marks.old }
-    ensures clear { All (λ s. s ≡ 0) scores.new }
-    ensures none { (k : ℕ) → k < 64 * length marks.old → is_marked marks.new k ≡ false }
-    ensures k { top.new.k ≡ top.old.k }
-    ensures n { top.new.n ≡ top.old.n }
-    ensures floor { top.new.floor ≡ top.old.floor }
-    ensures held { FollowsTo (map C.list cursors.old) terms.now top.old.floor top.old.k first
-        (min (first + length scores.old) top.old.n) top.old.held top.new.held }
+    ensures left { IsLeftBlank scores.old marks.old scores.new marks.new }
+    ensures searched { IsSearchedTo (map C.list cursors.old) terms.now first
+        (min (first + length scores.old) top.old.n) top.old top.new }
 {
     top_list_grows();
     let others = &terms[essential..];
@@ -216,23 +168,15 @@ fn consider<C: DocCursor>(
     known: u64,
     top: &mut Shortlist,
 )
-    requires terms { AreTermsIn (map C.list cursors.old) doc (doc + 1) others.now }
-    requires left { left ≡ bounds others.now }
-    requires light { known + left < 2 ^ 58 }
-    requires before { AreBefore C.list C.place doc others.now cursors.old }
+    requires asked { AreAsked C.list C.place doc known left others.now cursors.old }
     requires in_range { doc < top.old.n }
     requires above { All (λ e. e.0 < doc) top.old.held }
     ensures lists { map C.list cursors.new ≡ map C.list cursors.old }
     ensures before { AreBefore C.list C.place doc others.now cursors.new }
     ensures passed { (e : ℕ) → doc ≤ e → All (λ c. HasPassed e (C.list c) (C.place c)) cursors.old
         → All (λ c. HasPassed e (C.list c) (C.place c)) cursors.new }
-    ensures k { top.new.k ≡ top.old.k }
-    ensures n { top.new.n ≡ top.old.n }
-    ensures floor { top.new.floor ≡ top.old.floor }
-    ensures held { Considers top.old.floor top.old.k doc
-        (known + score_in (map C.list cursors.old) doc others.now) top.old.held top.new.held }
-    ensures kept { (s : ℕ) → IsBarred top.old.floor top.old.k top.old.held s
-        → IsBarred top.old.floor top.old.k top.new.held s }
+    ensures considered { IsConsidered doc
+        (known + score_in (map C.list cursors.old) doc others.now) top.old top.new }
 {
     if let Some(score) = score_above(cursors, others, left, doc, known, top.bar()) {
         top.offer(doc, score);
@@ -249,10 +193,7 @@ fn score_above<C: DocCursor>(
     known: u64,
     bar: Option<u64>,
 ) -> Option<u64>
-    requires terms { AreTermsIn (map C.list cursors.old) doc (doc + 1) others.now }
-    requires bound { bound ≡ bounds others.now }
-    requires light { known + bound < 2 ^ 58 }
-    requires before { AreBefore C.list C.place doc others.now cursors.old }
+    requires asked { AreAsked C.list C.place doc known bound others.now cursors.old }
     ensures lists { map C.list cursors.new ≡ map C.list cursors.old }
     ensures before { AreBefore C.list C.place doc others.now cursors.new }
     ensures passed { (e : ℕ) → doc ≤ e → All (λ c. HasPassed e (C.list c) (C.place c)) cursors.old

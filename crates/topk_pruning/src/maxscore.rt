@@ -52,7 +52,7 @@ pub fn top_maxscore<C: DocCursor>(
     score_essential(alloc, cursors, weights, most, n)
 }
 
-// The same with room for k documents.
+// The first k documents by MaxScore, with room for as many: k is no more than can be found.
 fn score_essential<C: DocCursor>(
     alloc: Global,
     cursors: &mut [C],

@@ -1,8 +1,8 @@
-ghost use Rattle.std.specs.Prelude.{◌≡◌, ℕ, ◌+◌, ◌≤◌, ◌<◌, ◌^◌, map, length, IfOk};
+ghost use Rattle.std.specs.Prelude.{◌≡◌, ℕ, ◌+◌, ◌≤◌, ◌<◌, map, length, IfOk};
 ghost use Rattle.std.specs.List.{All};
-ghost use Rattle.scan_plans.specs.Matches.{AreBelow};
 ghost use Rattle.scan_plans.specs.Scan.{HasPassed};
-ghost use Rattle.topk_pruning.specs.Terms.{AreApart, AreQueryTerms, AreTermsIn, FollowsTo};
+ghost use Rattle.topk_pruning.specs.Held.{IsSearch, IsSearchedTo};
+ghost use Rattle.topk_pruning.specs.Terms.{AreQueryTerms, AreWindowTerms};
 ghost use Rattle.topk_pruning.specs.Windows.{IsReady};
 
 use crate::candidates::score_window;
@@ -80,21 +80,15 @@ pub(crate) fn score_from<C: DocCursor, B: Ceilings<C>>(
 ) -> u32
     requires terms { AreQueryTerms (map C.list cursors.old) terms.now }
     requires passed { All (λ c. HasPassed first (C.list c) (C.place c)) cursors.old }
-    requires below { AreBelow n (map C.list cursors.old) }
-    requires in_range { first < n }
+    requires search { IsSearch (map C.list cursors.old) first (first + 1) top.old }
     requires ready { IsReady (length terms.now) room.old }
     requires same_n { top.old.n ≡ n }
-    requires above { All (λ e. e.0 < first) top.old.held }
     ensures lists { map C.list cursors.new ≡ map C.list cursors.old }
     ensures passed { All (λ c. HasPassed result (C.list c) (C.place c)) cursors.new }
     ensures ready { IsReady (length terms.now) room.new }
-    ensures k { top.new.k ≡ top.old.k }
-    ensures n { top.new.n ≡ top.old.n }
-    ensures floor { top.new.floor ≡ top.old.floor }
-    ensures later { first < result }
-    ensures in_range { result ≤ n }
-    ensures held { FollowsTo (map C.list cursors.old) terms.now top.old.floor top.old.k first result
-        top.old.held top.new.held }
+    ensures between { (first < result) × (result ≤ n) }
+    ensures searched { IsSearchedTo (map C.list cursors.old) terms.now first result top.old
+        top.new }
 {
     let reach = bound_terms(
         cursors,
@@ -107,8 +101,9 @@ pub(crate) fn score_from<C: DocCursor, B: Ceilings<C>>(
     score_up_to(cursors, first, reach, room, top)
 }
 
-// The same with the terms of the room, whose bounds hold up to `reach`. Where all the bounds together do not beat the bar,
-// no document up to there can be held, and no cursor moves.
+// Scores a window of the documents from `first` on by the terms of the room, whose bounds hold up to `reach`, and tells from which
+// document on the search goes on. Where all the bounds together do not beat the bar, no document up to there can be held, and no
+// cursor moves.
 fn score_up_to<C: DocCursor>(
     cursors: &mut [C],
     first: u32,
@@ -116,26 +111,17 @@ fn score_up_to<C: DocCursor>(
     room: &mut Room,
     top: &mut Shortlist,
 ) -> u32
-    requires terms { AreTermsIn (map C.list cursors.old) first reach room.old.terms.items }
-    requires apart { AreApart room.old.terms.items }
-    requires small { All (λ t. t.weight < 2 ^ 26) room.old.terms.items }
+    requires terms { AreWindowTerms (map C.list cursors.old) first reach room.old.terms.items }
     requires passed { All (λ c. HasPassed first (C.list c) (C.place c)) cursors.old }
-    requires below { AreBelow top.old.n (map C.list cursors.old) }
-    requires narrow { top.old.n < 2 ^ 32 }
+    requires search { IsSearch (map C.list cursors.old) first reach top.old }
     requires later { first < reach }
-    requires in_range { reach ≤ top.old.n }
     requires ready { IsReady (length room.old.terms.items) room.old }
-    requires above { All (λ e. e.0 < first) top.old.held }
     ensures lists { map C.list cursors.new ≡ map C.list cursors.old }
     ensures passed { All (λ c. HasPassed result (C.list c) (C.place c)) cursors.new }
     ensures ready { IsReady (length room.old.terms.items) room.new }
-    ensures k { top.new.k ≡ top.old.k }
-    ensures n { top.new.n ≡ top.old.n }
-    ensures floor { top.new.floor ≡ top.old.floor }
-    ensures later { first < result }
-    ensures in_range { result ≤ reach }
-    ensures held { FollowsTo (map C.list cursors.old) room.old.terms.items top.old.floor top.old.k
-        first result top.old.held top.new.held }
+    ensures between { (first < result) × (result ≤ reach) }
+    ensures searched { IsSearchedTo (map C.list cursors.old) room.old.terms.items first result
+        top.old top.new }
 {
     top_list_grows();
     let width = room.width;

@@ -61,8 +61,8 @@ returns-clause-best c =
     let ceil = c.div_ceil-i-end.ensures in
     (offered-skip c.args.first at (length scores) scores c.args.top.now c.loop-i.top (omega arith) (omega arith) (none-behind c.args.reached at c.args.marks.now scores (omega arith) c.requires.reached) c.loop-i.invariant.offered).best
 
-pub returns-clause-blank : goal.returns-clause-blank
-returns-clause-blank c =
+pub returns-clause-left : goal.returns-clause-left
+returns-clause-left c =
     let scores : List ℕ = c.args.scores.now in
     let marks : List ℕ = c.args.marks.now in
     let i : ℕ = c.loop-i.i in
@@ -73,8 +73,12 @@ returns-clause-blank c =
     let count = so_far.cleared.count in
     let words = so_far.unmarked.count in
     record {
-      wide = omega arith;
-      clear = cleared-all 0 scores (64 * i) c.loop-i.scores (none-behind c.args.reached (64 * i) marks scores (omega arith) c.requires.reached) so_far.cleared;
-      none = unmarked c.loop-i.marks (cleared-all 0 marks i c.loop-i.marks
-          (λ k from inside. let fits = so_far.fits k in word-unmarked marks k (omega arith) (λ j lt. c.requires.reached.behind (64 * k + j) (omega arith) (omega arith))) so_far.unmarked);
+      count = count;
+      marks_count = words;
+      blank = record {
+        wide = omega arith;
+        clear = cleared-all 0 scores (64 * i) c.loop-i.scores (none-behind c.args.reached (64 * i) marks scores (omega arith) c.requires.reached) so_far.cleared;
+        none = unmarked c.loop-i.marks (cleared-all 0 marks i c.loop-i.marks
+            (λ k from inside. let fits = so_far.fits k in word-unmarked marks k (omega arith) (λ j lt. c.requires.reached.behind (64 * k + j) (omega arith) (omega arith))) so_far.unmarked);
+      };
     }

@@ -21,10 +21,10 @@ loop-term-init g c = record {
   kept = kept-none c.args.terms.now c.args.cursors.now;
   count = refl;
   marks_count = refl;
-  scored = λ k within. c.requires.clear k 0 within;
-  marked = λ k within. let wide = c.requires.wide in c.requires.none k (omega arith);
+  scored = λ k within. c.requires.blank.clear k 0 within;
+  marked = λ k within. let wide = c.requires.blank.wide in c.requires.blank.none k (omega arith);
   within = omega arith;
-  behind = λ k from within. c.requires.none k within;
+  behind = λ k from within. c.requires.blank.none k within;
 }
 
 pub add_term-requires-clause-passed : goal.add_term-requires-clause-passed
@@ -38,8 +38,8 @@ add_term-requires-clause-passed g c =
     let t : Term = get_or terms i no_term in
     let d = c.index-cursors-term.result in
     let so_far = c.loop-term.invariant in
-    let same = kept-read terms c.args.cursors.now cs i no_term d c.loop-term-test.true c.requires.apart so_far.kept in
-    subst (λ x. HasPassed c.args.first (list x) (place x)) (sym same) (c.requires.passed t.list d (term-inside list place c.args.cursors.now lists terms i no_term refl c.requires.terms.within c.loop-term-test.true))
+    let same = kept-read terms c.args.cursors.now cs i no_term d c.loop-term-test.true c.requires.terms.apart so_far.kept in
+    subst (λ x. HasPassed c.args.first (list x) (place x)) (sym same) (c.requires.passed t.list d (term-inside list place c.args.cursors.now lists terms i no_term refl c.requires.terms.terms_in.within c.loop-term-test.true))
 
 pub add_term-requires-clause-room : goal.add_term-requires-clause-room
 add_term-requires-clause-room g c = λ k e inside_scores.
@@ -50,10 +50,10 @@ add_term-requires-clause-room g c = λ k e inside_scores.
     let count = so_far.count in
     let read = get_or_default c.loop-term.scores k e 0 inside_scores in
     let scored = so_far.scored k (omega arith) in
-    let le = shares-within lists (c.args.first + k) (take i terms) ((are-take lists c.args.first (c.args.first + length c.args.scores.now) terms i c.requires.terms).bounded (c.args.first + k) (omega arith) (omega arith)) in
+    let le = shares-within lists (c.args.first + k) (take i terms) ((are-take lists c.args.first (c.args.first + length c.args.scores.now) terms i c.requires.terms.terms_in).bounded (c.args.first + k) (omega arith) (omega arith)) in
     let whole = sum_by-take-le (λ (t : Term). t.bound) terms i in
-    let light = c.requires.terms.light in
-    let small = c.requires.small i no_term c.loop-term-test.true in
+    let light = c.requires.terms.terms_in.light in
+    let small = c.requires.terms.small i no_term c.loop-term-test.true in
     omega arith
 
 pub loop-term-preserved : goal.loop-term-preserved
@@ -67,7 +67,7 @@ loop-term-preserved g c =
     let t : Term = get_or terms i no_term in
     let d = c.index-cursors-term.result in
     let so_far = c.loop-term.invariant in
-    let within = term-inside list place cs lists terms i no_term so_far.lists c.requires.terms.within c.loop-term-test.true in
+    let within = term-inside list place cs lists terms i no_term so_far.lists c.requires.terms.terms_in.within c.loop-term-test.true in
     let new = c.add_term.new.cursor in
     let first : ℕ = c.args.first in
     let kept = c.add_term.ensures in
@@ -75,24 +75,24 @@ loop-term-preserved g c =
     let end : ℕ = first + length c.args.scores.now in
     let is : list (get_or cs t.list d) ≡ list_of lists t = list-read list place cs lists t.list d so_far.lists within in
     let most : c.max-reached.result ≡ max c.add_term.result c.loop-term.reached = c.max-reached.ensures in
-    let high = kept.within in
+    let high = kept.added.within in
     let low = so_far.within in
     record {
       lists = lists-set list place cs t.list new d within kept.list ∙ so_far.lists;
       passed = All-set (λ x. HasPassed end (list x) (place x)) cs t.list new (record { passed = λ j lt. let h = kept.stand.passed j lt in omega arith }) so_far.passed;
       kept = kept-more terms c.args.cursors.now cs i no_term new c.loop-term-test.true so_far.kept;
-      count = kept.count ∙ count;
-      marks_count = kept.marks_count ∙ so_far.marks_count;
+      count = kept.added.count ∙ count;
+      marks_count = kept.added.marks_count ∙ so_far.marks_count;
       scored = λ k inside.
           let more = sum_by_more (share lists (first + k)) terms i no_term c.loop-term-test.true in
           let before = so_far.scored k inside in
-          let adds = kept.scores k (omega arith) in
+          let adds = kept.added.scored k (omega arith) in
           let theirs = ap (λ (l : List Posting). t.weight * freq_of_doc (first + k) l) is in
           omega arith;
       marked = λ k inside.
-          kept.marks k (omega arith) ∙ ap (λ b. b || has_doc (first + k) (list (get_or cs t.list d))) (so_far.marked k inside)
+          kept.added.marked k (omega arith) ∙ ap (λ b. b || has_doc (first + k) (list (get_or cs t.list d))) (so_far.marked k inside)
           ∙ ap (λ (l : List Posting). list_any (λ t. has_doc (first + k) (list_of lists t)) (take i terms) || has_doc (first + k) l) is
           ∙ sym (list_any_more (λ t. has_doc (first + k) (list_of lists t)) terms i no_term c.loop-term-test.true);
       within = omega arith;
-      behind = λ k from inside. kept.behind k (omega arith) ∙ so_far.behind k (omega arith) inside;
+      behind = λ k from inside. kept.added.behind k (omega arith) ∙ so_far.behind k (omega arith) inside;
     }

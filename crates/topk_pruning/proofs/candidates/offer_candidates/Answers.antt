@@ -25,11 +25,11 @@ loop-place-init g c =
       before = subst (λ (d : ℕ). AreBefore g.C.DocCursor.list g.C.DocCursor.place d (drop c.args.essential c.args.terms.now) c.args.cursors.now) start c.requires.before;
       taken = record { count = refl; marks_count = refl; unmarked = λ k lt within. absurd (omega arith); clear = λ k lt within. absurd (omega arith); marked = λ k after within. refl; scored = λ k after within. refl };
       within = omega arith;
-      in_range = (let in_range = c.requires.in_range in omega arith);
+      in_range = (let in_range = c.requires.search.in_range in omega arith);
       k = refl;
       n = refl;
       floor = refl;
-      above = λ i e within. let h = c.requires.above i e within in omega arith;
+      above = λ i e within. let h = c.requires.search.above i e within in omega arith;
       spared = c.requires.essential;
       held = λ weights all top. subst (λ (d : ℕ). IsTopFrom c.args.top.now.floor d (map g.C.DocCursor.list c.args.cursors.now) weights c.args.top.now.k c.args.top.now.held) start top;
     }
@@ -40,60 +40,66 @@ total_bound-left-requires g c =
     let same = ap bounds (behind-is c.args.terms.now c.args.essential) in
     record { light = omega arith }
 
-pub take_candidate-requires-clause-marked : goal.take_candidate-requires-clause-marked
-take_candidate-requires-clause-marked g c =
-    unmarked-none (map g.C.DocCursor.list c.args.cursors.now) c.args.terms.now c.args.essential c.args.first c.args.scores.now c.args.marks.now c.requires.terms c.requires.scores c.requires.marks c.loop-place.from c.loop-place.scores c.loop-place.marks c.requires.wide c.loop-place.invariant.taken
+pub take_candidate-requires-clause-reached : goal.take_candidate-requires-clause-reached
+take_candidate-requires-clause-reached g c =
+    let taken = c.loop-place.invariant.taken in
+    let count = taken.count in
+    let words = taken.marks_count in
+    let wide = c.requires.scored.wide in
+    let within = c.requires.scored.within in
+    record {
+      wide = omega arith;
+      within = omega arith;
+      scored = unmarked-none (map g.C.DocCursor.list c.args.cursors.now) c.args.terms.now c.args.essential c.args.first c.args.scores.now c.args.marks.now c.requires.terms c.requires.scored.scored c.requires.scored.marked c.loop-place.from c.loop-place.scores c.loop-place.marks wide taken;
+      behind = λ k from inside. elim (cases_lt k c.loop-place.from) as (λ _. is_marked c.loop-place.marks k ≡ false) [
+        | inl before ↦ taken.unmarked k before (omega arith)
+        | inr after ↦ taken.marked k after (omega arith) ∙ c.requires.scored.behind k from (omega arith)
+      ];
+    }
 
 -- the next candidate of the window
 candidate-known : (g : given.Over) (c : In-Some g) → IsNextCandidate c.least_score.result c.loop-place.from c.in-Some.place c.in-Some.score c.args.scores.now c.args.marks.now
 candidate-known g c =
-    candidate-there c.args.scores.now c.args.marks.now c.loop-place.scores c.loop-place.marks c.loop-place.from c.requires.wide c.loop-place.invariant.taken c.least_score.result c.in-Some.place c.in-Some.score c.in-Some.ensures.some
+    candidate-there c.args.scores.now c.args.marks.now c.loop-place.scores c.loop-place.marks c.loop-place.from c.requires.scored.wide c.loop-place.invariant.taken c.least_score.result c.in-Some.place c.in-Some.score c.in-Some.ensures.some
 
 -- it is one of the documents
 candidate-below : (g : given.Over) (c : In-Some g) → c.args.first + c.in-Some.place < c.args.top.now.n
 candidate-below g c =
     let next = candidate-known g c in
     let lists : List (List Posting) = map g.C.DocCursor.list c.args.cursors.now in
-    c.top_list_grows.ensures.in_range c.args.top.now.n lists (c.args.first + c.in-Some.place) c.requires.below
-    (marked-any lists c.args.terms.now c.args.essential c.args.first c.args.scores.now c.args.marks.now c.requires.terms c.requires.scores c.requires.marks c.in-Some.place next.within next.marked)
+    c.top_list_grows.ensures.in_range c.args.top.now.n lists (c.args.first + c.in-Some.place) c.requires.search.below
+    (marked-any lists c.args.terms.now c.args.essential c.args.first c.args.scores.now c.args.marks.now c.requires.terms c.requires.scored.scored c.requires.scored.marked c.in-Some.place next.within next.marked)
 
 pub overflow_cast-doc : goal.overflow_cast-doc
 overflow_cast-doc g c =
-    omega (arith, candidate-below g (goal.at.overflow_cast-doc g c).In-Some, c.from.ensures, c.requires.narrow)
+    omega (arith, candidate-below g (goal.at.overflow_cast-doc g c).In-Some, c.from.ensures, c.requires.search.narrow)
 
-pub consider-requires-clause-terms : goal.consider-requires-clause-terms
-consider-requires-clause-terms g c =
+pub consider-requires-clause-asked : goal.consider-requires-clause-asked
+consider-requires-clause-asked g c =
     let list = g.C.DocCursor.list in
+    let place = g.C.DocCursor.place in
     let lists : List (List Posting) = map list c.args.cursors.now in
     let now : List (List Posting) = map list c.loop-place.cursors in
     let terms : List Term = c.args.terms.now in
+    let others : List Term = drop c.args.essential terms in
     let end : ℕ = c.args.first + length c.args.scores.now in
-    let inside = (candidate-known g (goal.at.consider-requires-clause-terms g c).In-Some).within in
-    let start = c.from.ensures in
-    let doc : ℕ = c.from.result + c.in-Some.place in
-    let here : AreTermsIn lists doc (doc + 1) (drop c.args.essential terms) = in-narrower lists c.args.first end doc (doc + 1) (drop c.args.essential terms) (omega arith) (omega arith) (are-drop lists c.args.first end terms c.args.essential c.requires.terms) in
-    subst (AreTermsIn now doc (doc + 1)) (sym (behind-is terms c.args.essential)) (subst (λ (ls : List (List Posting)). AreTermsIn ls doc (doc + 1) (drop c.args.essential terms)) (sym c.loop-place.invariant.lists) here)
-
-pub consider-requires-clause-light : goal.consider-requires-clause-light
-consider-requires-clause-light g c =
-    let lists : List (List Posting) = map g.C.DocCursor.list c.args.cursors.now in
-    let terms : List Term = c.args.terms.now in
-    let next = candidate-known g (goal.at.consider-requires-clause-light g c).In-Some in
-    let light = light-score lists terms c.args.essential c.args.first c.args.scores.now c.args.marks.now c.requires.terms c.requires.scores c.requires.marks c.in-Some.place next.within in
+    let next = candidate-known g (goal.at.consider-requires-clause-asked g c).In-Some in
+    let inside = next.within in
+    let after = next.after in
     let is = next.scored in
+    let start = c.from.ensures in
     let left = c.total_bound-left.ensures in
     let same = ap bounds (behind-is terms c.args.essential) in
-    omega arith
-
-pub consider-requires-clause-before : goal.consider-requires-clause-before
-consider-requires-clause-before g c =
-    let list = g.C.DocCursor.list in
-    let place = g.C.DocCursor.place in
-    let terms : List Term = c.args.terms.now in
-    let after = (candidate-known g (goal.at.consider-requires-clause-before g c).In-Some).after in
-    let start = c.from.ensures in
-    subst (λ (ts : List Term). AreBefore list place (c.from.result + c.in-Some.place) ts c.loop-place.cursors) (sym (behind-is terms c.args.essential))
-    (before-later list place (c.args.first + c.loop-place.from) (c.from.result + c.in-Some.place) (drop c.args.essential terms) c.loop-place.cursors (omega arith) c.loop-place.invariant.before)
+    let light = light-score lists terms c.args.essential c.args.first c.args.scores.now c.args.marks.now c.requires.terms c.requires.scored.scored c.requires.scored.marked c.in-Some.place inside in
+    let doc : ℕ = c.from.result + c.in-Some.place in
+    let here : AreTermsIn lists doc (doc + 1) others = in-narrower lists c.args.first end doc (doc + 1) others (omega arith) (omega arith) (are-drop lists c.args.first end terms c.args.essential c.requires.terms) in
+    record {
+      terms_in = subst (AreTermsIn now doc (doc + 1)) (sym (behind-is terms c.args.essential)) (subst (λ (ls : List (List Posting)). AreTermsIn ls doc (doc + 1) others) (sym c.loop-place.invariant.lists) here);
+      bound = left;
+      light = omega arith;
+      before = subst (λ (ts : List Term). AreBefore list place doc ts c.loop-place.cursors) (sym (behind-is terms c.args.essential))
+          (before-later list place (c.args.first + c.loop-place.from) doc others c.loop-place.cursors (omega arith) c.loop-place.invariant.before);
+    }
 
 pub consider-requires-clause-above : goal.consider-requires-clause-above
 consider-requires-clause-above g c =
@@ -129,7 +135,7 @@ loop-place-preserved g c =
     let low : IfSome c.bar.result (λ least. c.least_score.result ≡ min (least + 1) 18446744073709551615 - bounds others) = subst (λ (b : ℕ). IfSome c.bar.result (λ least. c.least_score.result ≡ min (least + 1) 18446744073709551615 - b)) left c.least_score.ensures.some in
     let floor : ℕ = c.args.top.now.floor in
     let bars = bars-at c.bar.result c.loop-place.top.floor floor c.loop-place.top.k c.args.top.now.k held so_far.floor k c.bar.ensures in
-    let here = follows-passed lists terms c.args.essential c.args.first c.args.scores.now c.args.marks.now c.requires.terms c.requires.scores c.requires.marks c.top_list_grows.ensures.skipped c.loop-place.from (c.args.first + at) floor c.args.top.now.k c.least_score.result c.bar.result c.args.top.now.held held
+    let here = follows-passed lists terms c.args.essential c.args.first c.args.scores.now c.args.marks.now c.requires.terms c.requires.scored.scored c.requires.scored.marked c.top_list_grows.ensures.skipped c.loop-place.from (c.args.first + at) floor c.args.top.now.k c.least_score.result c.bar.result c.args.top.now.held held
     so_far.spared bars c.least_score.ensures.none low (omega arith) (omega arith) (λ j f lt is. next.passed j f (omega arith) is) so_far.held in
     let known : c.in-Some.score + score_in (map list c.loop-place.cursors) (c.from.result + at) (take (length terms - c.args.essential) (drop c.args.essential terms)) ≡ get_or c.args.scores.now at 0 + score_in lists (c.args.first + at) others =
     (let a = next.scored in
@@ -141,7 +147,7 @@ loop-place-preserved g c =
     subst (λ (s : ℕ). Considers floor c.args.top.now.k (c.args.first + at) s held new) known
     (subst (λ (d : ℕ). Considers floor c.args.top.now.k d (c.in-Some.score + score_in (map list c.loop-place.cursors) (c.from.result + at) (take (length terms - c.args.essential) (drop c.args.essential terms))) held new) doc
     (subst (λ (j : ℕ). Considers floor j (c.from.result + at) (c.in-Some.score + score_in (map list c.loop-place.cursors) (c.from.result + at) (take (length terms - c.args.essential) (drop c.args.essential terms))) held new) k
-    (subst (λ (f : ℕ). Considers f c.loop-place.top.k (c.from.result + at) (c.in-Some.score + score_in (map list c.loop-place.cursors) (c.from.result + at) (take (length terms - c.args.essential) (drop c.args.essential terms))) held new) so_far.floor kept.held))) in
+    (subst (λ (f : ℕ). Considers f c.loop-place.top.k (c.from.result + at) (c.in-Some.score + score_in (map list c.loop-place.cursors) (c.from.result + at) (take (length terms - c.args.essential) (drop c.args.essential terms))) held new) so_far.floor kept.considered.held))) in
     let later = taken-then c.loop-place.from (at + 1) c.args.scores.now c.args.marks.now c.loop-place.scores c.loop-place.marks c.take_candidate.new.scores c.take_candidate.new.marks (omega arith) so_far.taken c.in-Some.ensures.taken in
     record {
       lists = kept.lists ∙ so_far.lists;
@@ -150,34 +156,40 @@ loop-place-preserved g c =
       taken = later;
       within = omega arith;
       in_range = omega arith;
-      k = kept.k ∙ k;
-      n = kept.n ∙ so_far.n;
-      floor = kept.floor ∙ so_far.floor;
+      k = kept.considered.k ∙ k;
+      n = kept.considered.n ∙ so_far.n;
+      floor = kept.considered.floor ∙ so_far.floor;
       above = (let top = c.top_list_grows.ensures in considered-above floor c.args.top.now.k (c.args.first + at) (c.args.first + (at + 1)) _ held new (omega arith) considered (λ i e within. let h = so_far.above i e within in omega arith));
-      spared = spared-kept terms floor c.args.top.now.k c.args.essential held new (λ s. subst (λ (j : ℕ). IsBarred floor j held s → IsBarred floor j new s) k (subst (λ (f : ℕ). IsBarred f c.loop-place.top.k held s → IsBarred f c.loop-place.top.k new s) so_far.floor (kept.kept s))) so_far.spared;
-      held = follows-considered lists terms c.args.essential c.args.first c.args.scores.now c.args.marks.now c.requires.terms c.requires.scores c.requires.marks c.top_list_grows.ensures.offered c.top_list_grows.ensures.skipped at floor c.args.top.now.k c.args.top.now.held held new inside next.marked considered here;
+      spared = spared-kept terms floor c.args.top.now.k c.args.essential held new (λ s. subst (λ (j : ℕ). IsBarred floor j held s → IsBarred floor j new s) k (subst (λ (f : ℕ). IsBarred f c.loop-place.top.k held s → IsBarred f c.loop-place.top.k new s) so_far.floor (kept.considered.kept s))) so_far.spared;
+      held = follows-considered lists terms c.args.essential c.args.first c.args.scores.now c.args.marks.now c.requires.terms c.requires.scored.scored c.requires.scored.marked c.top_list_grows.ensures.offered c.top_list_grows.ensures.skipped at floor c.args.top.now.k c.args.top.now.held held new inside next.marked considered here;
     }
 
-pub returns-clause-clear : goal.returns-clause-clear
-returns-clause-clear g c = λ k d within.
+pub returns-clause-left : goal.returns-clause-left
+returns-clause-left g c =
     let so_far = c.loop-place.invariant in
     let all = c.in_default.ensures.all_taken in
-    let count = all.count in
-    get_or_default c.take_candidate.new.scores k d 0 within ∙ all.clear k (omega arith) (omega arith)
-
-pub returns-clause-none : goal.returns-clause-none
-returns-clause-none g c = λ k within.
-    let so_far = c.loop-place.invariant in
-    let all = c.in_default.ensures.all_taken in
+    let now = all.count in
+    let now_words = all.marks_count in
     let count = so_far.taken.count in
     let words = so_far.taken.marks_count in
-    elim (cases_lt k (length c.loop-place.scores)) as (λ _. is_marked c.take_candidate.new.marks k ≡ false) [
-      | inl before ↦ all.unmarked k before (omega arith)
-      | inr after ↦ (let last = c.requires.within in let start = so_far.within in all.marked k after (omega arith) ∙ so_far.taken.marked k (omega arith) within ∙ c.requires.behind k (omega arith) within)
-    ]
+    let wide = c.requires.scored.wide in
+    let last = c.requires.scored.within in
+    let start = so_far.within in
+    record {
+      count = omega arith;
+      marks_count = omega arith;
+      blank = record {
+        wide = omega arith;
+        clear = λ k d within. get_or_default c.take_candidate.new.scores k d 0 within ∙ all.clear k (omega arith) (omega arith);
+        none = λ k within. elim (cases_lt k (length c.loop-place.scores)) as (λ _. is_marked c.take_candidate.new.marks k ≡ false) [
+          | inl before ↦ all.unmarked k before (omega arith)
+          | inr after ↦ all.marked k after (omega arith) ∙ so_far.taken.marked k (omega arith) (omega arith) ∙ c.requires.scored.behind k (omega arith) (omega arith)
+        ];
+      };
+    }
 
-pub returns-clause-held : goal.returns-clause-held
-returns-clause-held g c =
+pub returns-clause-searched : goal.returns-clause-searched
+returns-clause-searched g c =
     let lists : List (List Posting) = map g.C.DocCursor.list c.args.cursors.now in
     let terms : List Term = c.args.terms.now in
     let so_far = c.loop-place.invariant in
@@ -190,6 +202,11 @@ returns-clause-held g c =
     let bars = bars-at c.bar.result c.loop-place.top.floor floor c.loop-place.top.k c.args.top.now.k held so_far.floor k c.bar.ensures in
     let within = so_far.within in
     let in_range = so_far.in_range in
-    let none = none-there c.args.scores.now c.args.marks.now c.loop-place.scores c.loop-place.marks c.loop-place.from c.requires.wide so_far.taken c.least_score.result c.in_default.ensures.none in
-    follows-passed lists terms c.args.essential c.args.first c.args.scores.now c.args.marks.now c.requires.terms c.requires.scores c.requires.marks c.top_list_grows.ensures.skipped c.loop-place.from (min (c.args.first + length c.args.scores.now) c.args.top.now.n) floor c.args.top.now.k c.least_score.result c.bar.result c.args.top.now.held held
-    so_far.spared bars c.least_score.ensures.none low (omega arith) (omega arith) (λ j f lt is. none j f (omega arith) is) so_far.held
+    let none = none-there c.args.scores.now c.args.marks.now c.loop-place.scores c.loop-place.marks c.loop-place.from c.requires.scored.wide so_far.taken c.least_score.result c.in_default.ensures.none in
+    record {
+      k = k;
+      n = so_far.n;
+      floor = so_far.floor;
+      held = follows-passed lists terms c.args.essential c.args.first c.args.scores.now c.args.marks.now c.requires.terms c.requires.scored.scored c.requires.scored.marked c.top_list_grows.ensures.skipped c.loop-place.from (min (c.args.first + length c.args.scores.now) c.args.top.now.n) floor c.args.top.now.k c.least_score.result c.bar.result c.args.top.now.held held
+          so_far.spared bars c.least_score.ensures.none low (omega arith) (omega arith) (λ j f lt is. none j f (omega arith) is) so_far.held;
+    }

@@ -92,24 +92,24 @@ pub score_from-from-requires-clause-passed : goal.score_from-from-requires-claus
 score_from-from-requires-clause-passed g c =
     c.in-Some.ensures.passed
 
-pub score_from-from-requires-clause-below : goal.score_from-from-requires-clause-below
-score_from-from-requires-clause-below g c =
-    let same = c.in-Some.ensures.lists ∙ c.loop-first.invariant.lists in
-    subst (AreBelow c.args.n) (sym same) c.requires.in_range
-
-pub score_from-from-requires-clause-in_range : goal.score_from-from-requires-clause-in_range
-score_from-from-requires-clause-in_range g c = (first-step g (goal.at.score_from-from-requires-clause-in_range g c).In-Some).in_range
+pub score_from-from-requires-clause-search : goal.score_from-from-requires-clause-search
+score_from-from-requires-clause-search g c =
+    let so_far = c.loop-first.invariant in
+    let step = first-step g (goal.at.score_from-from-requires-clause-search g c).In-Some in
+    record {
+      below = subst (AreBelow c.loop-first.top.n) (sym (c.in-Some.ensures.lists ∙ so_far.lists)) (subst (λ (n : ℕ). AreBelow n (map g.C.DocCursor.list c.args.cursors.now)) (sym so_far.n) c.requires.in_range);
+      narrow = omega (arith, so_far.n, c.ranges.n.fits);
+      in_range = omega (arith, step.in_range, so_far.n);
+      above = step.above;
+    }
 
 pub score_from-from-requires-clause-ready : goal.score_from-from-requires-clause-ready
 score_from-from-requires-clause-ready g c = subst (λ (count : ℕ). IsReady count c.narrow_after.new.self) (sym (ap length c.deref-in-Some-2.ensures.value)) (c.narrow_after.ensures.ready (length c.in_ok-terms.terms.items) c.loop-first.invariant.ready)
 
-pub score_from-from-requires-clause-above : goal.score_from-from-requires-clause-above
-score_from-from-requires-clause-above g c = (first-step g (goal.at.score_from-from-requires-clause-above g c).In-Some).above
-
 pub loop-first-smaller : goal.loop-first-smaller
 loop-first-smaller g c =
     let step = first-step g (goal.at.loop-first-smaller g c).In-Some in
-    omega (arith, step.later, c.score_from-from.ensures.later, c.score_from-from.ensures.in_range, c.ranges.n.fits)
+    omega (arith, step.later, c.score_from-from.ensures.between.0, c.score_from-from.ensures.between.1, c.ranges.n.fits)
 
 pub loop-first-preserved : goal.loop-first-preserved
 loop-first-preserved g c =
@@ -130,15 +130,15 @@ loop-first-preserved g c =
     subst (λ (j : ℕ). FollowsTo lists terms floor j first to held new) so_far.k
     (subst (λ (f : ℕ). FollowsTo lists terms f c.loop-first.top.k first to held new) so_far.floor
     (subst (λ (ls : List (List Posting)). FollowsTo ls terms c.loop-first.top.floor c.loop-first.top.k first to held new) same
-    (subst (λ (ts : List Term). FollowsTo (map list c.next_candidate.new.cursors) ts c.loop-first.top.floor c.loop-first.top.k first to held new) c.deref-in-Some-2.ensures.value scored.held))) in
+    (subst (λ (ts : List Term). FollowsTo (map list c.next_candidate.new.cursors) ts c.loop-first.top.floor c.loop-first.top.k first to held new) c.deref-in-Some-2.ensures.value scored.searched.held))) in
     record {
       lists = scored.lists ∙ same;
       passed = scored.passed;
-      in_range = scored.in_range;
+      in_range = scored.between.1;
       ready = subst (λ (count : ℕ). IsReady count c.score_from-from.new.room) (ap length c.deref-in-Some-2.ensures.value) scored.ready;
-      k = scored.k ∙ so_far.k;
-      n = scored.n ∙ so_far.n;
-      floor = scored.floor ∙ so_far.floor;
+      k = scored.searched.k ∙ so_far.k;
+      n = scored.searched.n ∙ so_far.n;
+      floor = scored.searched.floor ∙ so_far.floor;
       held = follows weights (known g (goal.at.loop-first-preserved g c).In_ok-terms).1 step.top;
     }
 

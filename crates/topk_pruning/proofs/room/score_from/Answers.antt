@@ -1,8 +1,7 @@
-use Rattle.std.proofs.Common.{sym, ◌∙◌, subst, ℕ, ◌<◌, ◌^◌, List, map}
-use Rattle.std.specs.List.{All}
+use Rattle.std.proofs.Common.{sym, ◌∙◌, subst, ℕ, ◌<◌, ◌^◌, List, map, arith}
 use Rattle.collection_model.specs.Collection.{Posting}
 use Rattle.topk_pruning.specs.declared.term.Term.{Term}
-use Rattle.topk_pruning.specs.Terms.{AreApart, AreTermsIn, FollowsTo}
+use Rattle.topk_pruning.specs.Terms.{AreWindowTerms, FollowsTo}
 use Rattle.topk_pruning.proofs.Alike.{alike-all, alike-apart, follows-alike}
 use Rattle.topk_pruning.proofs.Near.{written-back}
 use Rattle.topk_pruning.proofs.room.score_from.Goals as goal
@@ -11,23 +10,26 @@ pub score_up_to-requires-clause-terms : goal.score_up_to-requires-clause-terms
 score_up_to-requires-clause-terms g c =
     let lists : List (List Posting) = map g.C.DocCursor.list c.args.cursors.now in
     let near : List Term = c.bound_terms-reach.new.near in
+    let is = c.bound_terms-reach.ensures.near in
     let same = written-back c.args.room.now.terms.len near c.args.room.now.terms.items c.args.room.now.terms.ok.0 (c.bound_terms-reach.ensures.each ∙ sym c.requires.ready.each) in
-    subst (AreTermsIn lists c.args.first c.bound_terms-reach.result) (sym same) c.bound_terms-reach.ensures.near.bounded
+    subst (AreWindowTerms lists c.args.first c.bound_terms-reach.result) (sym same) (record {
+      terms_in = is.bounded;
+      apart = alike-apart c.args.terms.now near is.alike c.requires.terms.apart;
+      small = alike-all (λ e. e.1 < 2 ^ 26) c.args.terms.now near is.alike c.requires.terms.small;
+    })
 
-pub score_up_to-requires-clause-apart : goal.score_up_to-requires-clause-apart
-score_up_to-requires-clause-apart g c =
-    let near : List Term = c.bound_terms-reach.new.near in
-    let same = written-back c.args.room.now.terms.len near c.args.room.now.terms.items c.args.room.now.terms.ok.0 (c.bound_terms-reach.ensures.each ∙ sym c.requires.ready.each) in
-    subst (λ (ts : List Term). AreApart ts) (sym same) (alike-apart c.args.terms.now near c.bound_terms-reach.ensures.near.alike c.requires.terms.apart)
+pub score_up_to-requires-clause-search : goal.score_up_to-requires-clause-search
+score_up_to-requires-clause-search g c =
+    let search = c.requires.search in
+    record {
+      below = search.below;
+      narrow = search.narrow;
+      in_range = omega (arith, c.bound_terms-reach.ensures.in_range, c.requires.same_n);
+      above = search.above;
+    }
 
-pub score_up_to-requires-clause-small : goal.score_up_to-requires-clause-small
-score_up_to-requires-clause-small g c =
-    let near : List Term = c.bound_terms-reach.new.near in
-    let same = written-back c.args.room.now.terms.len near c.args.room.now.terms.items c.args.room.now.terms.ok.0 (c.bound_terms-reach.ensures.each ∙ sym c.requires.ready.each) in
-    subst (All (λ (t : Term). t.weight < 2 ^ 26)) (sym same) (alike-all (λ e. e.1 < 2 ^ 26) c.args.terms.now near c.bound_terms-reach.ensures.near.alike c.requires.terms.small)
-
-pub returns-clause-held : goal.returns-clause-held
-returns-clause-held g c =
+pub returns-clause-searched : goal.returns-clause-searched
+returns-clause-searched g c =
     let lists : List (List Posting) = map g.C.DocCursor.list c.args.cursors.now in
     let near : List Term = c.bound_terms-reach.new.near in
     let floor : ℕ = c.args.top.now.floor in
@@ -37,4 +39,9 @@ returns-clause-held g c =
     let held : List (ℕ × ℕ) = c.args.top.now.held in
     let new : List (ℕ × ℕ) = c.score_up_to.new.top.held in
     let same = written-back c.args.room.now.terms.len near c.args.room.now.terms.items c.args.room.now.terms.ok.0 (c.bound_terms-reach.ensures.each ∙ sym c.requires.ready.each) in
-    follows-alike lists c.args.terms.now near floor k first to held new c.bound_terms-reach.ensures.near.alike (subst (λ (ts : List Term). FollowsTo lists ts floor k first to held new) same c.score_up_to.ensures.held)
+    record {
+      k = c.score_up_to.ensures.searched.k;
+      n = c.score_up_to.ensures.searched.n;
+      floor = c.score_up_to.ensures.searched.floor;
+      held = follows-alike lists c.args.terms.now near floor k first to held new c.bound_terms-reach.ensures.near.alike (subst (λ (ts : List Term). FollowsTo lists ts floor k first to held new) same c.score_up_to.ensures.searched.held);
+    }

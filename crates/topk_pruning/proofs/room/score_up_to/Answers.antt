@@ -1,22 +1,26 @@
-use Rattle.std.proofs.Common.{◌≡◌, sym, ap, ◌∙◌, subst, ℕ, ◌+◌, ◌<◌, ◌^◌, List, map, length, arith}
-use Rattle.std.specs.List.{All}
+use Rattle.std.proofs.Common.{◌≡◌, refl, sym, ap, ◌∙◌, subst, ℕ, ◌+◌, ◌<◌, ◌^◌, List, map, length, arith}
 use Rattle.std.specs.List.Sorted.{IsPermutation}
 use Rattle.std.proofs.lemmas.List.Sorted.{All-permutation}
 use Rattle.collection_model.specs.Collection.{Posting}
 use Rattle.topk_pruning.specs.declared.term.Term.{Term}
-use Rattle.topk_pruning.specs.Terms.{AreApart, AreSpared, AreTermsIn, FollowsTo}
+use Rattle.topk_pruning.specs.Terms.{AreSpared, AreWindowTerms, FollowsTo}
 use Rattle.topk_pruning.proofs.Alike.{alike-moved, alike-apart, in-moved, in-narrower, follows-alike}
 use Rattle.topk_pruning.proofs.Near.{written-back, follows-none}
 use Rattle.topk_pruning.proofs.room.score_up_to.Given as given
 use Rattle.topk_pruning.proofs.room.score_up_to.Goals as goal
 use Rattle.topk_pruning.proofs.room.score_up_to.Goals.{After-deref-2}
 
-pub returns-then-essential-eq0-clause-held : goal.returns-then-essential-eq0-clause-held
-returns-then-essential-eq0-clause-held g c =
+pub returns-then-essential-eq0-clause-searched : goal.returns-then-essential-eq0-clause-searched
+returns-then-essential-eq0-clause-searched g c =
     let lists : List (List Posting) = map g.C.DocCursor.list c.args.cursors.now in
     let later = c.requires.later in
     let spared : AreSpared c.args.top.now.floor c.args.top.now.k c.args.top.now.held c.args.room.now.terms.items c.essential_now-essential.result = subst (λ (ts : List Term). AreSpared c.args.top.now.floor c.args.top.now.k c.args.top.now.held ts c.essential_now-essential.result) c.deref.ensures.value c.essential_now-essential.ensures in
-    follows-none c.top_list_grows.ensures.skipped lists c.args.room.now.terms.items c.args.top.now.floor c.args.top.now.k c.args.first c.args.reach c.essential_now-essential.result c.args.top.now.held (omega arith) c.requires.terms c.if-essential-eq0.true spared
+    record {
+      k = refl;
+      n = refl;
+      floor = refl;
+      held = follows-none c.top_list_grows.ensures.skipped lists c.args.room.now.terms.items c.args.top.now.floor c.args.top.now.k c.args.first c.args.reach c.essential_now-essential.result c.args.top.now.held (omega arith) c.requires.terms.terms_in c.if-essential-eq0.true spared;
+    }
 
 -- the terms of the window: those of the room in another order
 reordered : (g : given.Over) (c : After-deref-2 g) → IsPermutation c.args.room.now.terms.items c.with_short_lists-essential.new.terms × (c.deref-2.result.now ≡ c.with_short_lists-essential.new.terms)
@@ -30,25 +34,26 @@ reordered g c =
 pub score_window-requires-clause-terms : goal.score_window-requires-clause-terms
 score_window-requires-clause-terms g c =
     let lists : List (List Posting) = map g.C.DocCursor.list c.args.cursors.now in
+    let old : List Term = c.args.room.now.terms.items in
     let near : List Term = c.with_short_lists-essential.new.terms in
     let first : ℕ = c.args.first in
     let is = reordered g (goal.at.score_window-requires-clause-terms g c).After-deref-2 in
     let count = c.min-count.ensures in
     let later = c.requires.later in
     let end : ℕ = first + c.min-count.result in
-    subst (AreTermsIn lists first end) (sym is.1) (in-narrower lists first c.args.reach first end near (omega arith) (omega arith) (in-moved lists first c.args.reach c.args.room.now.terms.items near is.0 c.requires.terms))
+    subst (AreWindowTerms lists first end) (sym is.1) (record {
+      terms_in = in-narrower lists first c.args.reach first end near (omega arith) (omega arith) (in-moved lists first c.args.reach old near is.0 c.requires.terms.terms_in);
+      apart = alike-apart old near (alike-moved old near is.0) c.requires.terms.apart;
+      small = All-permutation (λ (t : Term). t.weight < 2 ^ 26) old near is.0 c.requires.terms.small;
+    })
 
-pub score_window-requires-clause-apart : goal.score_window-requires-clause-apart
-score_window-requires-clause-apart g c =
-    let old : List Term = c.args.room.now.terms.items in
-    let near : List Term = c.with_short_lists-essential.new.terms in
-    let is = reordered g (goal.at.score_window-requires-clause-apart g c).After-deref-2 in
-    subst (λ (ts : List Term). AreApart ts) (sym is.1) (alike-apart old near (alike-moved old near is.0) c.requires.apart)
-
-pub score_window-requires-clause-small : goal.score_window-requires-clause-small
-score_window-requires-clause-small g c =
-    let is = reordered g (goal.at.score_window-requires-clause-small g c).After-deref-2 in
-    subst (All (λ (t : Term). t.weight < 2 ^ 26)) (sym is.1) (All-permutation (λ (t : Term). t.weight < 2 ^ 26) c.args.room.now.terms.items c.with_short_lists-essential.new.terms is.0 c.requires.small)
+pub score_window-requires-clause-search : goal.score_window-requires-clause-search
+score_window-requires-clause-search g c =
+    let search = c.requires.search in
+    let in_range = search.in_range in
+    let count = c.min-count.ensures in
+    let later = c.requires.later in
+    record { below = search.below; narrow = search.narrow; in_range = omega arith; above = search.above }
 
 pub score_window-requires-clause-essential : goal.score_window-requires-clause-essential
 score_window-requires-clause-essential g c =
@@ -59,13 +64,18 @@ score_window-requires-clause-essential g c =
     let spared = subst (λ (ts : List Term). AreSpared floor k held ts c.essential_now-essential.result) (c.deref.ensures.value ∙ sym c.as_mut_slice.ensures.value) c.essential_now-essential.ensures in
     subst (λ (ts : List Term). AreSpared floor k held ts c.with_short_lists-essential.result) (sym is.1) (c.with_short_lists-essential.ensures.spared floor k held spared)
 
-pub returns-clause-held : goal.returns-clause-held
-returns-clause-held g c =
+pub returns-clause-searched : goal.returns-clause-searched
+returns-clause-searched g c =
     let lists : List (List Posting) = map g.C.DocCursor.list c.args.cursors.now in
     let old : List Term = c.args.room.now.terms.items in
     let near : List Term = c.with_short_lists-essential.new.terms in
-    let is = reordered g (goal.at.returns-clause-held g c).After-deref-2 in
+    let is = reordered g (goal.at.returns-clause-searched g c).After-deref-2 in
     let first : ℕ = c.args.first in
     let to : ℕ = first + c.min-count.result in
-    follows-alike lists old near c.args.top.now.floor c.args.top.now.k first to c.args.top.now.held c.score_window.new.top.held (alike-moved old near is.0)
-    (subst (λ (ts : List Term). FollowsTo lists ts c.args.top.now.floor c.args.top.now.k first to c.args.top.now.held c.score_window.new.top.held) is.1 c.score_window.ensures.held)
+    record {
+      k = c.score_window.ensures.searched.k;
+      n = c.score_window.ensures.searched.n;
+      floor = c.score_window.ensures.searched.floor;
+      held = follows-alike lists old near c.args.top.now.floor c.args.top.now.k first to c.args.top.now.held c.score_window.new.top.held (alike-moved old near is.0)
+          (subst (λ (ts : List Term). FollowsTo lists ts c.args.top.now.floor c.args.top.now.k first to c.args.top.now.held c.score_window.new.top.held) is.1 c.score_window.ensures.searched.held);
+    }

@@ -151,24 +151,24 @@ score_from-from-requires-clause-passed g c =
     let known = pivot-known g (goal.at.score_from-from-requires-clause-passed g c).In-Some in
     later-passed g.C.DocCursor.list g.C.DocCursor.place c.catch_up.new.cursors c.loop-room.from c.in-Some.first known.later c.catch_up.ensures.passed
 
-pub score_from-from-requires-clause-below : goal.score_from-from-requires-clause-below
-score_from-from-requires-clause-below g c =
-    let same = c.catch_up.ensures.lists ∙ c.loop-room.invariant.lists in
-    subst (AreBelow c.args.n) (sym same) c.requires.in_range
-
-pub score_from-from-requires-clause-in_range : goal.score_from-from-requires-clause-in_range
-score_from-from-requires-clause-in_range g c = (pivot-known g (goal.at.score_from-from-requires-clause-in_range g c).In-Some).in_range
+pub score_from-from-requires-clause-search : goal.score_from-from-requires-clause-search
+score_from-from-requires-clause-search g c =
+    let so_far = c.loop-room.invariant in
+    let step = pivot-known g (goal.at.score_from-from-requires-clause-search g c).In-Some in
+    record {
+      below = subst (AreBelow c.loop-room.top.n) (sym (c.catch_up.ensures.lists ∙ so_far.lists)) (subst (λ (n : ℕ). AreBelow n (map g.C.DocCursor.list c.args.cursors.now)) (sym so_far.n) c.requires.in_range);
+      narrow = omega (arith, so_far.n, c.ranges.n.fits);
+      in_range = omega (arith, step.in_range, so_far.n);
+      above = step.above;
+    }
 
 pub score_from-from-requires-clause-ready : goal.score_from-from-requires-clause-ready
 score_from-from-requires-clause-ready g c = subst (λ (count : ℕ). IsReady count c.loop-room.room) (sym (ap length c.deref-in-loop-room-2.ensures.value)) c.loop-room.invariant.ready
 
-pub score_from-from-requires-clause-above : goal.score_from-from-requires-clause-above
-score_from-from-requires-clause-above g c = (pivot-known g (goal.at.score_from-from-requires-clause-above g c).In-Some).above
-
 pub loop-room-smaller : goal.loop-room-smaller
 loop-room-smaller g c =
     let known = pivot-known g (goal.at.loop-room-smaller g c).In-Some in
-    omega (arith, known.later, c.score_from-from.ensures.later, c.score_from-from.ensures.in_range, c.ranges.n.fits)
+    omega (arith, known.later, c.score_from-from.ensures.between.0, c.score_from-from.ensures.between.1, c.ranges.n.fits)
 
 pub loop-room-preserved : goal.loop-room-preserved
 loop-room-preserved g c =
@@ -184,20 +184,20 @@ loop-room-preserved g c =
     let held : List (ℕ × ℕ) = c.loop-room.top.held in
     let new : List (ℕ × ℕ) = c.score_from-from.new.top.held in
     let after = step.later in
-    let later = scored.later in
+    let later = scored.between.0 in
     let follows : FollowsTo lists terms c.common_score-floor.result c.args.k first to held new =
     subst (λ (j : ℕ). FollowsTo lists terms c.common_score-floor.result j first to held new) so_far.k
     (subst (λ (f : ℕ). FollowsTo lists terms f c.loop-room.top.k first to held new) so_far.floor
     (subst (λ (ls : List (List Posting)). FollowsTo ls terms c.loop-room.top.floor c.loop-room.top.k first to held new) same
-    (subst (λ (ts : List Term). FollowsTo (map g.C.DocCursor.list c.catch_up.new.cursors) ts c.loop-room.top.floor c.loop-room.top.k first to held new) c.deref-in-loop-room-2.ensures.value scored.held))) in
+    (subst (λ (ts : List Term). FollowsTo (map g.C.DocCursor.list c.catch_up.new.cursors) ts c.loop-room.top.floor c.loop-room.top.k first to held new) c.deref-in-loop-room-2.ensures.value scored.searched.held))) in
     record {
       lists = scored.lists ∙ same;
       passed = scored.passed;
-      in_range = scored.in_range;
+      in_range = scored.between.1;
       ready = subst (λ (count : ℕ). IsReady count c.score_from-from.new.room) (ap length c.deref-in-loop-room-2.ensures.value) scored.ready;
-      k = scored.k ∙ so_far.k;
-      n = scored.n ∙ so_far.n;
-      floor = scored.floor ∙ so_far.floor;
+      k = scored.searched.k ∙ so_far.k;
+      n = scored.searched.n ∙ so_far.n;
+      floor = scored.searched.floor ∙ so_far.floor;
       held = follows weights (known g (goal.at.loop-room-preserved g c).In_ok-terms).1 step.top;
       order = order-later lists terms c.loop-room.from to c.catch_up.new.order.items (omega arith) (caught g (goal.at.loop-room-preserved g c).In_ok-catch_up);
       falling = c.in_ok-catch_up.ensures.falling;
