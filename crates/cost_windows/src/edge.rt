@@ -1,6 +1,6 @@
-ghost use Rattle.std.specs.Prelude.{◌≡◌, ℕ, ◌+◌, ◌<◌, ◌≤◌, Some, None, IsSome};
+ghost use Rattle.std.specs.Prelude.{◌≡◌, ℕ, ◌+◌, ◌<◌, ◌≤◌, None, IsSome};
 ghost use Rattle.cost_windows.specs.WindowEnds.{StandsAt};
-ghost use Rattle.cost_windows.specs.EdgeFacts.{Knows, IsAsked};
+ghost use Rattle.cost_windows.specs.EdgeFacts.{CountsNumbers, IsAsked, IsLongestPart, Knows};
 
 use part_cost::SpanCost;
 use std::sync::ledger::Ledger;
@@ -49,11 +49,7 @@ impl Edge {
             → bound < C.cost_of cost.now i (result.end + 1) }
         ensures forward { self.end ≤ result.end }
         ensures same { result.end ≡ self.end → result.cost ≡ self.cost }
-        ensures counted { steps.old ≤ steps.new }
-        ensures bounded { steps.new + self.end ≤ steps.old + result.end + 1 }
-        ensures asks { self.next ≡ None → self.end < C.count cost.now → steps.old + 1 ≤ steps.new }
-        ensures known { (self.end < C.count cost.now → IsSome self.next) → result.end ≡ self.end
-            → steps.new ≡ steps.old }
+        ensures counts { CountsNumbers (C.count cost.now) self result steps.old steps.new }
         ensures next { result.end < C.count cost.now → IsSome result.next }
     {
         let mut edge = self;
@@ -89,14 +85,11 @@ impl Edge {
         requires knows { Knows (C.cost_of cost.now) (C.count cost.now) i self }
         requires affordable { i < self.end → C.cost_of cost.now i self.end ≤ bound }
         requires stood { i < position → C.cost_of cost.now i position ≤ bound }
-        ensures knows { Knows (C.cost_of cost.now) (C.count cost.now) i result }
-        ensures stands { StandsAt (C.cost_of cost.now) (C.count cost.now) bound i result.end }
-        ensures priced { i < result.end → result.cost ≡ Some (C.cost_of cost.now i result.end) }
-        ensures reaches { position ≤ result.end }
+        ensures longest { IsLongestPart (C.cost_of cost.now) (C.count cost.now) i position bound
+            result }
         ensures counted { steps.old ≤ steps.new }
         ensures bounded { steps.new + position ≤ steps.old + result.end + 2 }
         ensures asks { self.cost ≡ None → self.next ≡ None → steps.old + 1 ≤ steps.new }
-        ensures asked { IsAsked (C.count cost.now) i result }
         // Nothing is asked again where the end stays.
         ensures known { IsAsked (C.count cost.now) i self → result.end ≡ self.end
             → steps.new ≡ steps.old }

@@ -1,7 +1,6 @@
 ghost use Rattle.std.specs.Prelude.{◌≡◌, ℕ, ◌≤◌, ◌<◌, ◌+◌, ◌*◌, length, slice_index, replicate, IsSome, IfOk};
-ghost use Rattle.cost_windows.specs.WindowEnds.{rise, open_count, end_count};
 ghost use Rattle.cost_windows.specs.WindowBounds.{window_bounds};
-ghost use Rattle.cost_windows.specs.Windows.{new_windows, KeepCosts, NoneFell, AllAtLongest, StandTogether, window_end};
+ghost use Rattle.cost_windows.specs.Windows.{new_windows, CountsMoves, HaveMoved, KeepCosts, StandTogether, window_end};
 
 use crate::edge::Edge;
 use crate::tables::{bounds, bounds_follow_rule};
@@ -60,24 +59,8 @@ impl Windows {
         requires forward { self.old.place ≤ i }
         requires within { i < C.count cost.now }
         requires same_cost { KeepCosts (C.cost_of cost.now) (C.count cost.now) self.old }
-        ensures bounds { self.new.bounds ≡ self.old.bounds }
-        ensures place { self.new.place ≡ i }
-        ensures longest { AllAtLongest (C.cost_of cost.now) (C.count cost.now) self.new }
-        ensures costs { KeepCosts (C.cost_of cost.now) (C.count cost.now) self.new }
-        ensures forward { NoneFell self.old.positions self.new.positions }
-        // All but the last of the distinct windows are open.
-        ensures distinct { self.new.distinct ≤ open_count (C.count cost.now) self.new.positions
-            + 1 }
-        ensures counted { steps.old + 1 ≤ steps.new }
-        // At most one cost for each place that a window moved on, and two for each window,
-        ensures bounded { steps.new ≤ steps.old + rise self.old.positions self.new.positions
-            + 2 * length self.old.bounds }
-        // two for each window that is still open and for the first at the end,
-        ensures bounded_by_open { steps.new ≤ steps.old + rise self.old.positions self.new.positions
-            + 2 * (open_count (C.count cost.now) self.new.positions + 1) }
-        // and two for each end, however many windows stand there.
-        ensures bounded_by_ends { steps.new ≤ steps.old + rise self.old.positions self.new.positions
-            + 2 * end_count self.new.positions }
+        ensures moved { HaveMoved (C.cost_of cost.now) (C.count cost.now) i self.old self.new }
+        ensures counts { CountsMoves (C.count cost.now) self.old self.new steps.old steps.new }
     {
         bounds_cover();
         bounds_follow_rule();
