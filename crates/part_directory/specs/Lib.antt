@@ -2,3 +2,4 @@ pub mod Alone
 pub mod PartOf
 pub mod HeldParts
 pub mod DirectorySequence
+pub mod Search

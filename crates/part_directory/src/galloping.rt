@@ -2,6 +2,7 @@ ghost use Rattle.std.specs.Prelude.{◌≡◌, ℕ, ◌≤◌, ◌<◌, ◌+◌,
 ghost use Rattle.std.specs.List.Sorted.{IsStrictlyIncreasing};
 ghost use Rattle.part_cost.specs.Payload.{digits};
 ghost use Rattle.sequence_words.specs.SequenceView.{place_at_least};
+ghost use Rattle.part_directory.specs.Search.{IsBehind};
 
 use std::sync::ledger::Ledger;
 use step_count::Steps;
@@ -47,14 +48,13 @@ fn half<D: Lasts, L: Ledger>(
     probes: &mut Steps<L>,
 ) -> (u32, u32)
     requires some { low < high }
-    requires within { high ≤ length (D.lasts d.now) }
-    requires reached { high < length (D.lasts d.now) → x ≤ slice_index (D.lasts d.now) high }
+    requires behind { IsBehind (D.lasts d.now) x high }
     ensures after { low ≤ result.0 }
     ensures up { result.0 ≤ result.1 }
     ensures within { result.1 ≤ high }
     ensures halved { (result.1 - result.0) * 2 ≤ high - low }
     ensures before { low < result.0 → slice_index (D.lasts d.now) (result.0 - 1) < x }
-    ensures reached { result.1 < length (D.lasts d.now) → x ≤ slice_index (D.lasts d.now) result.1 }
+    ensures behind { IsBehind (D.lasts d.now) x result.1 }
     ensures counted { probes.old ≤ probes.new }
     ensures bounded { probes.new ≤ probes.old + 1 }
 {

@@ -12,7 +12,7 @@ loop-low-preserved g c =
       up = e.up;
       inside = omega (arith, i.inside, e.within);
       before = before-found (g.D.Lasts.lasts c.args.d.now) c.args.from c.loop-low.low c.half.result.0 c.args.x e.after i.before e.before;
-      reached = e.reached;
+      reached = e.behind.reached;
       counted = omega (arith, i.counted, e.counted);
       bounded = omega (arith, i.bounded, e.bounded, less);
     }
