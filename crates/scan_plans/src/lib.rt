@@ -14,4 +14,4 @@ pub use laws::{frequent_postings_score, top_list_has_a_floor, top_list_is_one, t
 pub use skips::{cursors_stand, cursors_tell, top_list_grows};
 pub use top::{count_postings, most_found, top_exhaustive};
 pub use top_k::TopK;
-pub use window::{Block, add_list, new_marks, new_scores, scored_words, take_candidate};
+pub use window::{Block, Window, add_list, new_marks, new_scores, scored_words, take_candidate};

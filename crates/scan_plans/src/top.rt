@@ -11,7 +11,7 @@ ghost use Rattle.scan_plans.specs.Window.{AreScored, IsLeftBlank, IsReached};
 use crate::TopK;
 use crate::laws::top_list_is_short;
 use crate::scan::least_doc;
-use crate::window::{Block, add_lists, new_marks, new_scores, scored_words};
+use crate::window::{Block, Window, add_lists, new_marks, new_scores, scored_words};
 use cursor_api::DocCursor;
 use no_memory::NoMemory;
 use std::alloc::Global;
@@ -78,7 +78,12 @@ fn score_all<C: DocCursor>(
     let marks = mark_buffer.as_mut_slice();
     let mut block = Block::new();
     while let Some(first) = least_doc(cursors) {
-        let reached = add_lists(cursors, weights, first, scores, marks, &mut block);
+        let window = Window {
+            scores,
+            marks,
+            first,
+        };
+        let reached = add_lists(cursors, weights, window, &mut block);
         offer_marked(&mut top, first, reached, marks, scores);
     }
     top.into_list()

@@ -19,6 +19,17 @@ pub(crate) const MARKED_WORDS: usize = 1024;
 // How many postings are read at once.
 const BLOCK: usize = 128;
 
+/// A window of documents that is scored. It has as many documents as scores.
+#[derive(Drop)]
+pub struct Window<'a> {
+    /// The scores of its documents.
+    pub scores: &'a mut [u64],
+    /// A bit for each, in words of 64.
+    pub marks: &'a mut [u64],
+    /// Its first document.
+    pub first: u32,
+}
+
 /// Room for the postings that are read at once.
 #[derive(Drop)]
 pub struct Block {
@@ -76,30 +87,28 @@ fn stands_below<C: DocCursor>(cursor: &C, end: u64) -> bool
     }
 }
 
-// Adds the frequencies of some postings, times their list's weight, to the scores of their documents in a window from `first` on, and
-// marks these.
-fn add_postings(
-    docs: &[u64],
-    freqs: &[u64],
-    weight: u32,
-    first: u32,
-    scores: &mut [u64],
-    marks: &mut [u64],
-)
+// Adds the frequencies of some postings, times their list's weight, to the scores of their documents in a window, and marks these.
+fn add_postings(docs: &[u64], freqs: &[u64], weight: u32, window: Window<'_>)
     requires each { length docs.now ≤ length freqs.now }
     requires rising { IsStrictlyIncreasing docs.now }
-    requires inside { AreInside first (length scores.old) docs.now }
-    requires wide { length scores.old ≤ 64 * length marks.old }
+    requires inside { AreInside window.first (length window.scores.now) docs.now }
+    requires wide { length window.scores.now ≤ 64 * length window.marks.now }
     requires room { (j : ℕ) → j < length docs.now
-        → slice_index scores.old (slice_index docs.now j - first) + weight * slice_index freqs.now j
-        < 2 ^ 64 }
-    ensures count { length scores.new ≡ length scores.old }
-    ensures marks_count { length marks.new ≡ length marks.old }
-    ensures given { AreGiven ◌+◌ first docs.now (λ j. weight * slice_index freqs.now j) 0
-        (length docs.now) (slice_index scores.old) (slice_index scores.new) }
-    ensures marked { AreGiven ◌||◌ first docs.now (λ _. true) 0 (length docs.now)
-        (is_marked marks.old) (is_marked marks.new) }
+        → slice_index window.scores.now (slice_index docs.now j - window.first)
+        + weight * slice_index freqs.now j < 2 ^ 64 }
+    ensures count { length window.exit.0.now ≡ length window.entry.scores.now }
+    ensures marks_count { length window.exit.1.0.now ≡ length window.entry.marks.now }
+    ensures given { AreGiven ◌+◌ window.entry.first docs.now
+        (λ j. weight * slice_index freqs.now j) 0 (length docs.now)
+        (slice_index window.entry.scores.now) (slice_index window.exit.0.now) }
+    ensures marked { AreGiven ◌||◌ window.entry.first docs.now (λ _. true) 0 (length docs.now)
+        (is_marked window.entry.marks.now) (is_marked window.exit.1.0.now) }
 {
+    let Window {
+        scores,
+        marks,
+        first,
+    } = window;
     for j in 0..docs.len() {
         let at = (docs[j] - u64::from(first)) as usize;
         scores[at] += u64::from(weight) * freqs[j];
@@ -107,25 +116,28 @@ fn add_postings(
     }
 }
 
-/// Adds what a list gives the documents of a window from `first` on, its weight times their frequencies, marks them, and moves its
-/// cursor behind the window, block by block. The window has as many documents as scores. It tells how many of its places it reached.
+/// Adds what a list gives the documents of a window, its weight times their frequencies, marks them, and moves its cursor behind the
+/// window, block by block. It tells how many of the window's places it reached.
 pub fn add_list<C: DocCursor>(
     cursor: &mut C,
     weight: u32,
-    first: u32,
-    scores: &mut [u64],
-    marks: &mut [u64],
+    window: Window<'_>,
     block: &mut Block,
 ) -> usize
-    requires stand { StandsFrom first (C.list cursor.old) (C.place cursor.old) }
-    requires wide { length scores.old ≤ 64 * length marks.old }
-    requires room { All (λ s. s + weight * 4294967295 < 2 ^ 64) scores.old }
+    requires stand { StandsFrom window.first (C.list cursor.old) (C.place cursor.old) }
+    requires wide { length window.scores.now ≤ 64 * length window.marks.now }
+    requires room { All (λ s. s + weight * 4294967295 < 2 ^ 64) window.scores.now }
     ensures list { C.list cursor.new ≡ C.list cursor.old }
-    ensures stand { StandsFrom (first + length scores.old) (C.list cursor.new)
-        (C.place cursor.new) }
-    ensures added { IsAdded (C.list cursor.old) weight first scores.old marks.old scores.new
-        marks.new result }
+    ensures stand { StandsFrom (window.entry.first + length window.entry.scores.now)
+        (C.list cursor.new) (C.place cursor.new) }
+    ensures added { IsAdded (C.list cursor.old) weight window.entry.first window.entry.scores.now
+        window.entry.marks.now window.exit.0.now window.exit.1.0.now result }
 {
+    let Window {
+        scores,
+        marks,
+        first,
+    } = window;
     let end = u64::from(first) + scores.len() as u64;
     let mut reached = 0;
     while stands_below(cursor, end) {
@@ -134,40 +146,51 @@ pub fn add_list<C: DocCursor>(
             &block.docs[..count],
             &block.freqs,
             weight,
-            first,
-            scores,
-            marks,
+            Window {
+                scores,
+                marks,
+                first,
+            },
         );
         reached = (block.docs[count - 1] - u64::from(first)) as usize + 1;
     }
     reached
 }
 
-// Scores and marks the documents of a window from `first` on that any of the lists has, and moves the cursors behind it. A score is
-// below 2^58. It tells how many of the window's places were reached: from there on none is marked.
+// Scores and marks the documents of a window that any of the lists has, and moves the cursors behind it. A score is below 2^58. It
+// tells how many of the window's places were reached: from there on none is marked.
 pub(crate) fn add_lists<C: DocCursor>(
     cursors: &mut [C],
     weights: &[u32],
-    first: u32,
-    scores: &mut [u64],
-    marks: &mut [u64],
+    window: Window<'_>,
     block: &mut Block,
 ) -> usize
-    requires stand { All (λ c. StandsFrom first (C.list c) (C.place c)) cursors.old }
+    requires stand { All (λ c. StandsFrom window.first (C.list c) (C.place c)) cursors.old }
     requires each { length weights.now ≡ length cursors.old }
     requires some { All (λ w. 1 ≤ w) weights.now }
     requires light { sum weights.now < 2 ^ 26 }
-    requires same { length scores.old ≡ 64 * length marks.old }
-    requires blank { IsBlank scores.old marks.old }
+    requires same { length window.scores.now ≡ 64 * length window.marks.now }
+    requires blank { IsBlank window.scores.now window.marks.now }
     ensures lists { map C.list cursors.new ≡ map C.list cursors.old }
-    ensures stand { All (λ c. StandsFrom (first + length scores.old) (C.list c) (C.place c))
-        cursors.new }
-    ensures filled { IsFilled (map C.list cursors.old) weights.now first scores.old marks.old
-        scores.new marks.new result }
+    ensures stand { All (λ c. StandsFrom (window.entry.first + length window.entry.scores.now)
+        (C.list c) (C.place c)) cursors.new }
+    ensures filled { IsFilled (map C.list cursors.old) weights.now window.entry.first
+        window.entry.scores.now window.entry.marks.now window.exit.0.now window.exit.1.0.now
+        result }
 {
+    let Window {
+        scores,
+        marks,
+        first,
+    } = window;
     let mut reached = 0;
     for i in 0..cursors.len() {
-        reached = add_list(&mut cursors[i], weights[i], first, scores, marks, block).max(reached);
+        let window = Window {
+            scores,
+            marks,
+            first,
+        };
+        reached = add_list(&mut cursors[i], weights[i], window, block).max(reached);
     }
     reached
 }

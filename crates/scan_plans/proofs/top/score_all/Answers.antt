@@ -74,7 +74,7 @@ offer_marked-requires-clause-reached g c =
       within = omega arith;
       scored = λ k inside unmarked.
           let absent : list_any (has_doc (c.in-Some.first + k)) lists ≡ false = sym (filled.marked k (omega arith)) ∙ unmarked in
-          zero-unless (slice_index c.add_lists-reached.new.scores k) (λ some. false≢true (sym absent ∙ (filled.scored.found k inside).0 some));
+          zero-unless (slice_index c.add_lists-reached.new.window.0 k) (λ some. false≢true (sym absent ∙ (filled.scored.found k inside).0 some));
       behind = λ k from inside. filled.behind k from (omega arith);
     }
 
@@ -109,7 +109,7 @@ loop-first-preserved g c =
     let held : List (ℕ × ℕ) = c.loop-first.top.held in
     let next = next-known g (goal.at.loop-first-preserved g c).In-Some in
     let skipped : in_any low lists ≡ in_any first lists = subst (λ (ls : List (List Posting)). in_any low ls ≡ in_any first ls) same next.skipped in
-    let scored : AreScored lists weights first c.add_lists-reached.new.scores = subst (λ (ls : List (List Posting)). AreScored ls weights first c.add_lists-reached.new.scores) same c.add_lists-reached.ensures.filled.scored in
+    let scored : AreScored lists weights first c.add_lists-reached.new.window.0 = subst (λ (ls : List (List Posting)). AreScored ls weights first c.add_lists-reached.new.window.0) same c.add_lists-reached.ensures.filled.scored in
     let k = c.loop-first.invariant.k in
     let before : IsBest c.args.k lists weights (in_any first lists) held = subst (λ (docs : List ℕ). IsBest c.args.k lists weights docs held) skipped c.loop-first.invariant.best in
     let more = c.offer_marked.ensures.best lists weights scored (subst (λ (n : ℕ). IsBest n lists weights (in_any first lists) held) (sym k) before) in
@@ -120,7 +120,7 @@ loop-first-preserved g c =
     let kept = c.offer_marked.ensures.left.count in
     let count = c.add_lists-reached.ensures.filled.count in
     record {
-      low = first + length c.add_lists-reached.new.scores;
+      low = first + length c.add_lists-reached.new.window.0;
       lists = c.add_lists-reached.ensures.lists ∙ same;
       stand = subst (λ (n : ℕ). All (λ x. StandsFrom (first + n) (g.C.DocCursor.list x) (g.C.DocCursor.place x)) c.add_lists-reached.new.cursors) (sym count) c.add_lists-reached.ensures.stand;
       some = omega arith;
@@ -128,7 +128,7 @@ loop-first-preserved g c =
       blank = c.offer_marked.ensures.left.blank;
       k = c.offer_marked.ensures.k ∙ k;
       n = c.offer_marked.ensures.n ∙ c.loop-first.invariant.n;
-      best = subst (λ (n : ℕ). IsBest n lists weights (in_any (first + length c.add_lists-reached.new.scores) lists) c.offer_marked.new.top.held) k more;
+      best = subst (λ (n : ℕ). IsBest n lists weights (in_any (first + length c.add_lists-reached.new.window.0) lists) c.offer_marked.new.top.held) k more;
       bound = c.offer_marked.ensures.bound c.add_lists-reached.ensures.filled.bound c.loop-first.invariant.bound;
     }
 

@@ -22,9 +22,9 @@ loop-reached-init g c = record {
   list = refl;
   from = omega arith;
   count = refl;
-  given = given-none ◌+◌ c.args.first (docs_of (g.C.DocCursor.list c.args.cursor.now)) (λ i. c.args.weight * slice_index (freqs_of (g.C.DocCursor.list c.args.cursor.now)) i) (g.C.DocCursor.place c.args.cursor.now) (slice_index c.args.scores.now);
+  given = given-none ◌+◌ c.args.window.first (docs_of (g.C.DocCursor.list c.args.cursor.now)) (λ i. c.args.weight * slice_index (freqs_of (g.C.DocCursor.list c.args.cursor.now)) i) (g.C.DocCursor.place c.args.cursor.now) (slice_index c.args.window.scores.now);
   marks_count = refl;
-  marked = given-none ◌||◌ c.args.first (docs_of (g.C.DocCursor.list c.args.cursor.now)) (λ _. true) (g.C.DocCursor.place c.args.cursor.now) (is_marked c.args.marks.now);
+  marked = given-none ◌||◌ c.args.window.first (docs_of (g.C.DocCursor.list c.args.cursor.now)) (λ _. true) (g.C.DocCursor.place c.args.cursor.now) (is_marked c.args.window.marks.now);
   within = omega arith;
   below = λ i from lt. absurd (omega arith);
 }
@@ -37,9 +37,9 @@ add_postings-requires-clause-room g c =
     let block : List ℕ = c.postings_below-count.new.docs in
     let count : ℕ = c.postings_below-count.result in
     let good = subst (λ (l : List Posting). IsCursorAt l place) so_far.list (g.met.C.DocCursor.well_formed c.loop-reached.cursor) in
-    let next = next-is list (g.C.DocCursor.list c.loop-reached.cursor) c.args.first c.from.result (length c.args.scores.now) place block count so_far.list c.from.ensures c.postings_below-count.ensures.docs in
+    let next = next-is list (g.C.DocCursor.list c.loop-reached.cursor) c.args.window.first c.from.result (length c.args.window.scores.now) place block count so_far.list c.from.ensures c.postings_below-count.ensures.docs in
     let start = so_far.from in
-    step-room list good.well_formed c.args.first place (length c.args.scores.now) (λ i f within. c.requires.stand.left i (omega arith) within) block count next c.args.weight (g.C.DocCursor.place c.args.cursor.now) (λ i. c.args.weight * slice_index (freqs_of list) i) c.args.scores.now c.loop-reached.scores c.postings_below-count.new.freqs refl so_far.given c.requires.room
+    step-room list good.well_formed c.args.window.first place (length c.args.window.scores.now) (λ i f within. c.requires.stand.left i (omega arith) within) block count next c.args.weight (g.C.DocCursor.place c.args.cursor.now) (λ i. c.args.weight * slice_index (freqs_of list) i) c.args.window.scores.now c.loop-reached.scores c.postings_below-count.new.freqs refl so_far.given c.requires.room
     (λ j lt. c.postings_below-count.ensures.freqs j lt ∙ ap (λ (l : List Posting). get_or (freqs_of l) (place + j) 0) so_far.list)
 
 pub loop-reached-preserved : goal.loop-reached-preserved
@@ -50,9 +50,9 @@ loop-reached-preserved g c =
     let block : List ℕ = c.postings_below-count.new.docs in
     let count : ℕ = c.postings_below-count.result in
     let good = subst (λ (l : List Posting). IsCursorAt l place) so_far.list (g.met.C.DocCursor.well_formed c.loop-reached.cursor) in
-    let next = next-is list (g.C.DocCursor.list c.loop-reached.cursor) c.args.first c.from.result (length c.args.scores.now) place block count so_far.list c.from.ensures c.postings_below-count.ensures.docs in
+    let next = next-is list (g.C.DocCursor.list c.loop-reached.cursor) c.args.window.first c.from.result (length c.args.window.scores.now) place block count so_far.list c.from.ensures c.postings_below-count.ensures.docs in
     let start = so_far.from in
-    let above : (i : ℕ) → place ≤ i → i < length list → c.args.first ≤ get_or (docs_of list) i 0 = λ i f within. c.requires.stand.left i (omega arith) within in
+    let above : (i : ℕ) → place ≤ i → i < length list → c.args.window.first ≤ get_or (docs_of list) i 0 = λ i f within. c.requires.stand.left i (omega arith) within in
     let here = c.loop-reached-test.ensures.below refl in
     let at = here.0 in
     let less = here.1 in
@@ -60,22 +60,22 @@ loop-reached-preserved g c =
     let long = ap length so_far.list in
     let read = ap (λ (l : List Posting). get_or (docs_of l) place 0) so_far.list in
     let room = c.postings_below-count.ensures.docs_room in
-    let some = block-some list good.well_formed c.args.first place (length c.args.scores.now) above block count next (omega arith) (omega arith) (omega arith) in
+    let some = block-some list good.well_formed c.args.window.first place (length c.args.window.scores.now) above block count next (omega arith) (omega arith) (omega arith) in
     let moved = c.postings_below-count.ensures.place in
     let later = c.from-in-loop-reached.ensures in
     record {
       list = c.postings_below-count.ensures.list ∙ so_far.list;
       from = omega arith;
       count = c.add_postings.ensures.count ∙ so_far.count;
-      given = subst (λ (to : ℕ). AreGiven ◌+◌ c.args.first (docs_of list) (λ i. c.args.weight * slice_index (freqs_of list) i) (g.C.DocCursor.place c.args.cursor.now) to (slice_index c.args.scores.now) (slice_index c.add_postings.new.scores)) (sym moved)
-          (step-given list good.well_formed c.args.first place (length c.args.scores.now) above block count next ◌+◌ (λ i. c.args.weight * slice_index (freqs_of list) i) (λ j. c.args.weight * slice_index c.postings_below-count.new.freqs j) (g.C.DocCursor.place c.args.cursor.now) (slice_index c.args.scores.now) (slice_index c.loop-reached.scores) (slice_index c.add_postings.new.scores) start c.requires.stand.left
+      given = subst (λ (to : ℕ). AreGiven ◌+◌ c.args.window.first (docs_of list) (λ i. c.args.weight * slice_index (freqs_of list) i) (g.C.DocCursor.place c.args.cursor.now) to (slice_index c.args.window.scores.now) (slice_index c.add_postings.new.window.0)) (sym moved)
+          (step-given list good.well_formed c.args.window.first place (length c.args.window.scores.now) above block count next ◌+◌ (λ i. c.args.weight * slice_index (freqs_of list) i) (λ j. c.args.weight * slice_index c.postings_below-count.new.freqs j) (g.C.DocCursor.place c.args.cursor.now) (slice_index c.args.window.scores.now) (slice_index c.loop-reached.scores) (slice_index c.add_postings.new.window.0) start c.requires.stand.left
           (λ j lt. ap (λ (f : ℕ). c.args.weight * f) (c.postings_below-count.ensures.freqs j lt ∙ ap (λ (l : List Posting). get_or (freqs_of l) (place + j) 0) so_far.list)) so_far.given c.add_postings.ensures.given);
       marks_count = c.add_postings.ensures.marks_count ∙ so_far.marks_count;
-      marked = subst (λ (to : ℕ). AreGiven ◌||◌ c.args.first (docs_of list) (λ _. true) (g.C.DocCursor.place c.args.cursor.now) to (is_marked c.args.marks.now) (is_marked c.add_postings.new.marks)) (sym moved)
-          (step-given list good.well_formed c.args.first place (length c.args.scores.now) above block count next ◌||◌ (λ _. true) (λ _. true) (g.C.DocCursor.place c.args.cursor.now) (is_marked c.args.marks.now) (is_marked c.loop-reached.marks) (is_marked c.add_postings.new.marks) start c.requires.stand.left
+      marked = subst (λ (to : ℕ). AreGiven ◌||◌ c.args.window.first (docs_of list) (λ _. true) (g.C.DocCursor.place c.args.cursor.now) to (is_marked c.args.window.marks.now) (is_marked c.add_postings.new.window.1.0)) (sym moved)
+          (step-given list good.well_formed c.args.window.first place (length c.args.window.scores.now) above block count next ◌||◌ (λ _. true) (λ _. true) (g.C.DocCursor.place c.args.cursor.now) (is_marked c.args.window.marks.now) (is_marked c.loop-reached.marks) (is_marked c.add_postings.new.window.1.0) start c.requires.stand.left
           (λ j lt. refl) so_far.marked c.add_postings.ensures.marked);
-      within = (let w = step-within list good.well_formed c.args.first place (length c.args.scores.now) above block count next some in omega arith);
-      below = λ i f lt. (let b = step-below list good.well_formed c.args.first place (length c.args.scores.now) above block count next some i (omega arith) in omega arith);
+      within = (let w = step-within list good.well_formed c.args.window.first place (length c.args.window.scores.now) above block count next some in omega arith);
+      below = λ i f lt. (let b = step-below list good.well_formed c.args.window.first place (length c.args.window.scores.now) above block count next some i (omega arith) in omega arith);
     }
 
 pub returns : goal.returns
@@ -84,23 +84,23 @@ returns g c =
     let list : List Posting = g.C.DocCursor.list c.args.cursor.now in
     let from : ℕ = g.C.DocCursor.place c.args.cursor.now in
     let place : ℕ = g.C.DocCursor.place c.loop-reached.cursor in
-    let n : ℕ = length c.args.scores.now in
-    let end = end-is list (g.C.DocCursor.list c.loop-reached.cursor) c.args.first c.from.result n from place c.loop-reached.reached so_far.list c.from.ensures (g.met.C.DocCursor.well_formed c.loop-reached.cursor) c.requires.stand so_far.within so_far.below (c.loop-reached-test.ensures.behind refl) in
-    let scored = given-scores list c.args.weight c.args.first from place c.args.scores.now c.loop-reached.scores end.0 c.requires.stand end.1 so_far.given in
+    let n : ℕ = length c.args.window.scores.now in
+    let end = end-is list (g.C.DocCursor.list c.loop-reached.cursor) c.args.window.first c.from.result n from place c.loop-reached.reached so_far.list c.from.ensures (g.met.C.DocCursor.well_formed c.loop-reached.cursor) c.requires.stand so_far.within so_far.below (c.loop-reached-test.ensures.behind refl) in
+    let scored = given-scores list c.args.weight c.args.window.first from place c.args.window.scores.now c.loop-reached.scores end.0 c.requires.stand end.1 so_far.given in
     record {
       list = so_far.list;
-      stand = subst (λ (l : List Posting). StandsFrom (c.args.first + n) l place) (sym so_far.list) end.1;
+      stand = subst (λ (l : List Posting). StandsFrom (c.args.window.first + n) l place) (sym so_far.list) end.1;
       added = record {
         count = so_far.count;
         marks_count = so_far.marks_count;
         scored = scored;
-        marked = given-whole ◌||◌ c.args.first false or-none list (λ _. true) (λ d. has_doc d list) from place n (is_marked c.args.marks.now) (is_marked c.loop-reached.marks) end.0.within c.requires.stand end.1
+        marked = given-whole ◌||◌ c.args.window.first false or-none list (λ _. true) (λ d. has_doc d list) from place n (is_marked c.args.window.marks.now) (is_marked c.loop-reached.marks) end.0.within c.requires.stand end.1
             (λ i inside. (doc-there list i end.0.well_formed inside).has) (λ d nowhere. nowhere) so_far.marked;
         bound = λ k inside.
             let is = scored k inside in
-            let most = most-freq list c.args.weight (c.args.first + k) end.0.well_formed in
+            let most = most-freq list c.args.weight (c.args.window.first + k) end.0.well_formed in
             omega arith;
         within = so_far.within;
-        behind = given-behind ◌||◌ c.args.first (docs_of list) (λ _. true) from place c.loop-reached.reached (is_marked c.args.marks.now) (is_marked c.loop-reached.marks) so_far.below so_far.marked;
+        behind = given-behind ◌||◌ c.args.window.first (docs_of list) (λ _. true) from place c.loop-reached.reached (is_marked c.args.window.marks.now) (is_marked c.loop-reached.marks) so_far.below so_far.marked;
       };
     }

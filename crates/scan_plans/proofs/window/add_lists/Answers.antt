@@ -68,14 +68,14 @@ loop-i-preserved g c =
     let behind-new = c.add_list.ensures.added.within in
     record {
       lists = lists-set g.C.DocCursor.list g.C.DocCursor.place cs i new item within c.add_list.ensures.list ∙ so_far.lists;
-      done = AllWithin-more_set cs i new within (λ x. StandsFrom (c.args.first + length c.args.scores.now) (g.C.DocCursor.list x) (g.C.DocCursor.place x)) so_far.done
-          (subst (λ (n : ℕ). StandsFrom (c.args.first + n) (g.C.DocCursor.list new) (g.C.DocCursor.place new)) so_far.count c.add_list.ensures.stand);
-      rest = rest-set g.C.DocCursor.list g.C.DocCursor.place (λ x. StandsFrom c.args.first (g.C.DocCursor.list x) (g.C.DocCursor.place x)) cs i new so_far.rest;
+      done = AllWithin-more_set cs i new within (λ x. StandsFrom (c.args.window.first + length c.args.window.scores.now) (g.C.DocCursor.list x) (g.C.DocCursor.place x)) so_far.done
+          (subst (λ (n : ℕ). StandsFrom (c.args.window.first + n) (g.C.DocCursor.list new) (g.C.DocCursor.place new)) so_far.count c.add_list.ensures.stand);
+      rest = rest-set g.C.DocCursor.list g.C.DocCursor.place (λ x. StandsFrom c.args.window.first (g.C.DocCursor.list x) (g.C.DocCursor.place x)) cs i new so_far.rest;
       count = c.add_list.ensures.added.count ∙ so_far.count;
-      scored = scores-step g.C.DocCursor.list g.C.DocCursor.place c.args.first i (length c.args.scores.now) cs c.args.cursors.now weights c.loop-i.scores c.add_list.new.scores item so_far.lists within weighed so_far.scored
+      scored = scores-step g.C.DocCursor.list g.C.DocCursor.place c.args.window.first i (length c.args.window.scores.now) cs c.args.cursors.now weights c.loop-i.scores c.add_list.new.window.0 item so_far.lists within weighed so_far.scored
           (λ k inside. c.add_list.ensures.added.scored k (omega arith));
       marks_count = c.add_list.ensures.added.marks_count ∙ so_far.marks_count;
-      marked = λ k inside. any-step g.C.DocCursor.list (c.args.first + k) i cs (map g.C.DocCursor.list c.args.cursors.now) item (is_marked c.loop-i.marks k) (is_marked c.add_list.new.marks k) so_far.lists within (so_far.marked k inside)
+      marked = λ k inside. any-step g.C.DocCursor.list (c.args.window.first + k) i cs (map g.C.DocCursor.list c.args.cursors.now) item (is_marked c.loop-i.marks k) (is_marked c.add_list.new.window.1.0 k) so_far.lists within (so_far.marked k inside)
           (c.add_list.ensures.added.marked k (omega arith));
       bound = λ k inside. let before = so_far.bound k inside in let more = c.add_list.ensures.added.bound k (omega arith) in omega arith;
       within = omega arith;
@@ -95,8 +95,8 @@ returns g c =
     let now-mapped = length-map c.loop-i.cursors g.C.DocCursor.list in
     let old-mapped = length-map c.args.cursors.now g.C.DocCursor.list in
     let all : c.loop-i.i ≡ length lists = omega arith in
-    let scored : (k : ℕ) → k < length c.loop-i.scores → get_or c.loop-i.scores k 0 ≡ score lists weights (c.args.first + k) = λ k within.
-    score-whole g.C.DocCursor.list g.C.DocCursor.place (c.args.first + k) c.args.cursors.now weights c.loop-i.i (get_or c.loop-i.scores k 0) (omega arith) (so_far.scored k (omega arith)) in
+    let scored : (k : ℕ) → k < length c.loop-i.scores → get_or c.loop-i.scores k 0 ≡ score lists weights (c.args.window.first + k) = λ k within.
+    score-whole g.C.DocCursor.list g.C.DocCursor.place (c.args.window.first + k) c.args.cursors.now weights c.loop-i.i (get_or c.loop-i.scores k 0) (omega arith) (so_far.scored k (omega arith)) in
     record {
       lists = so_far.lists;
       stand = λ k d within. so_far.done k d (omega arith) (omega arith);
@@ -105,10 +105,10 @@ returns g c =
         marks_count = marks_count;
         scored = record {
           scored = scored;
-          found = λ k within. subst (λ (s : ℕ). (0 < s) ↔ (list_any (has_doc (c.args.first + k)) lists ≡ true)) (sym (scored k within))
-              (score-found lists weights (c.args.first + k) (omega arith) c.requires.some (all-rising g.C.DocCursor.list g.C.DocCursor.place g.met.C.DocCursor.well_formed c.args.cursors.now));
+          found = λ k within. subst (λ (s : ℕ). (0 < s) ↔ (list_any (has_doc (c.args.window.first + k)) lists ≡ true)) (sym (scored k within))
+              (score-found lists weights (c.args.window.first + k) (omega arith) c.requires.some (all-rising g.C.DocCursor.list g.C.DocCursor.place g.met.C.DocCursor.well_formed c.args.cursors.now));
         };
-        marked = λ k within. so_far.marked k (omega arith) ∙ ap (list_any (has_doc (c.args.first + k))) (take_all c.loop-i.i lists (omega arith));
+        marked = λ k within. so_far.marked k (omega arith) ∙ ap (list_any (has_doc (c.args.window.first + k))) (take_all c.loop-i.i lists (omega arith));
         bound = λ k d within.
             let read = get_or_default c.loop-i.scores k d 0 within in
             let bound = so_far.bound k (omega arith) in

@@ -8,8 +8,8 @@ use Rattle.scan_plans.proofs.window.add_postings.Goals as goal
 
 pub loop-j-init : goal.loop-j-init
 loop-j-init c = record {
-  given = given-none ◌+◌ c.args.first c.args.docs.now (λ j. c.args.weight * slice_index c.args.freqs.now j) 0 (slice_index c.args.scores.now);
-  marked = given-none ◌||◌ c.args.first c.args.docs.now (λ _. true) 0 (is_marked c.args.marks.now);
+  given = given-none ◌+◌ c.args.window.first c.args.docs.now (λ j. c.args.weight * slice_index c.args.freqs.now j) 0 (slice_index c.args.window.scores.now);
+  marked = given-none ◌||◌ c.args.window.first c.args.docs.now (λ _. true) 0 (is_marked c.args.window.marks.now);
 }
 
 pub overflow_add-scores : goal.overflow_add-scores
@@ -21,7 +21,7 @@ overflow_add-scores c =
     let inside = c.requires.inside j 0 (omega arith) in
     let low = inside.0 in
     let room = c.requires.room j (omega arith) in
-    let same = c.loop-j.invariant.given.others (d - c.args.first) (λ i from lt e. let apart : get_or docs i 0 < d = AllPairs-from_increasing docs c.requires.rising i j 0 lt (omega arith) in absurd (omega arith)) in
+    let same = c.loop-j.invariant.given.others (d - c.args.window.first) (λ i from lt e. let apart : get_or docs i 0 < d = AllPairs-from_increasing docs c.requires.rising i j 0 lt (omega arith) in absurd (omega arith)) in
     let read = ap (λ (n : ℕ). get_or c.loop-j.scores (d - n) 0) c.from.ensures in
     let times = ap (λ (n : ℕ). n * get_or c.args.freqs.now j 0) c.from-in-loop-j.ensures in
     omega arith
@@ -29,7 +29,7 @@ overflow_add-scores c =
 pub loop-j-preserved : goal.loop-j-preserved
 loop-j-preserved c =
     let docs : List ℕ = c.args.docs.now in
-    let first : ℕ = c.args.first in
+    let first : ℕ = c.args.window.first in
     let now : List ℕ = c.loop-j.scores in
     let marks : List ℕ = c.loop-j.marks in
     let j : ℕ = c.loop-j.j in
@@ -50,12 +50,12 @@ loop-j-preserved c =
     let times = ap (λ (n : ℕ). n * f) c.from-in-loop-j.ensures in
     let new : List ℕ = set marks (p / 64) (marked-word marks p) in
     record {
-      given = given-more ◌+◌ first docs (λ j. c.args.weight * slice_index c.args.freqs.now j) 0 j (slice_index c.args.scores.now) (slice_index now) (slice_index (set now p v)) c.requires.rising (omega arith) (omega arith)
+      given = given-more ◌+◌ first docs (λ j. c.args.weight * slice_index c.args.freqs.now j) 0 j (slice_index c.args.window.scores.now) (slice_index now) (slice_index (set now p v)) c.requires.rising (omega arith) (omega arith)
           (λ i from le. (c.requires.inside i 0 (omega arith)).0)
           (let written = get_or-set_same now p v 0 (omega arith) in omega arith)
           (λ k other. let apart : k ≢ p = omega arith in get_or-set_other now p k v 0 apart)
           c.loop-j.invariant.given;
-      marked = given-more ◌||◌ first docs (λ _. true) 0 j (is_marked c.args.marks.now) (is_marked marks) (is_marked new) c.requires.rising (omega arith) (omega arith)
+      marked = given-more ◌||◌ first docs (λ _. true) 0 j (is_marked c.args.window.marks.now) (is_marked marks) (is_marked new) c.requires.rising (omega arith) (omega arith)
           (λ i from le. (c.requires.inside i 0 (omega arith)).0)
           (ap (is_marked new) (sym at) ∙ mark-same marks p (omega arith) ∙ or-some (is_marked marks (d - first)))
           (λ k other. let apart : k ≢ p = omega arith in mark-other marks p k apart (omega arith))
