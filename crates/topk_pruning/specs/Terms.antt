@@ -1,5 +1,5 @@
 -- The terms of a query, and what they add to scores.
-use Rattle.std.specs.Prelude.{◌≡◌, ℕ, ◌+◌, ◌*◌, ◌<◌, ◌≤◌, ◌^◌, ◌⊎◌, ◌≢◌, nat_lt, List, [], ◌∷◌, map, length, drop, Option, Some, None, Bool, true, false, slice_index, slice_index_or, IfSome, AllPairs}
+use Rattle.std.specs.Prelude.{◌≡◌, ℕ, ◌*◌, ◌<◌, ◌≤◌, ◌^◌, ◌⊎◌, ◌≢◌, nat_lt, List, [], ◌∷◌, map, length, drop, Option, Some, None, Bool, true, false, slice_index, slice_index_or, IfSome, AllPairs}
 use Rattle.std.specs.List.{All, sum_by, list_any, range_with_len}
 use Rattle.std.specs.List.Sorted.{IsPermutation}
 use Rattle.collection_model.specs.Collection.{Posting, greatest_freq}
@@ -116,17 +116,6 @@ pub record AreWindowTerms (lists : List (List Posting)) (from to : ℕ) (terms :
   pub apart : AreApart terms
   -- no weight is great
   pub small : All (λ t. t.weight < 2 ^ 26) terms
-
--- the terms whose lists are asked for a document of which a score is known, and what they can add
-pub record AreAsked {X : Type 0} (list : X → List Posting) (place : X → ℕ) (doc known left : ℕ) (terms : List Term) (cursors : List X) : Type 0 where
-  -- the bounds hold for the document
-  pub terms_in : AreTermsIn (map list cursors) doc (doc + 1) terms
-  -- they can add all their bounds
-  pub bound : left ≡ bounds terms
-  -- the score stays light
-  pub light : known + left < 2 ^ 58
-  -- their cursors have passed no document from this one on
-  pub before : AreBefore list place doc terms cursors
 
 -- the cursors of lists that none of some terms has are as they were
 pub record AreKept {X : Type 0} (terms : List Term) (old new : List X) : Type 0 where

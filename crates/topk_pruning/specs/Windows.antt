@@ -1,17 +1,11 @@
 -- What the windows of documents of a query are scored with.
-use Rattle.std.specs.Prelude.{◌≡◌, ℕ, ◌+◌, ◌*◌, ◌<◌, ◌≤◌, false, List, length, slice_index}
+use Rattle.std.specs.Prelude.{◌≡◌, ℕ, ◌+◌, ◌*◌, ◌<◌, ◌≤◌, ◌^◌, false, List, map, length, slice_index}
 use Rattle.collection_model.specs.Collection.{Posting}
 use Rattle.scan_plans.specs.Window.{IsBlank, is_marked}
+use Rattle.topk_pruning.specs.declared.candidates.Candidate.{Candidate}
 use Rattle.topk_pruning.specs.declared.room.Room.{Room}
 use Rattle.topk_pruning.specs.declared.term.Term.{Term}
-use Rattle.topk_pruning.specs.Terms.{in_lists, score_in}
-
--- room for a window of so many documents, none of which is scored or marked
-pub record HasRoom (count : ℕ) (scores marks : List ℕ) : Type 0 where
-  -- each document has a score
-  pub fits : count ≤ length scores
-  -- nothing is scored or marked
-  pub blank : IsBlank scores marks
+use Rattle.topk_pruning.specs.Terms.{AreBefore, AreTermsIn, bounds, in_lists, score_in}
 
 -- room for the terms of a query, of which there are so many, and for the next window of documents
 pub record IsReady (count : ℕ) (r : Room) : Type 0 where
@@ -19,8 +13,10 @@ pub record IsReady (count : ℕ) (r : Room) : Type 0 where
   pub each : length r.terms.items ≡ count
   -- the window has a document
   pub some : 1 ≤ r.width
-  -- and room for those that it has
-  pub room : HasRoom r.width r.scores.items r.marks.items
+  -- and a score for each that it has
+  pub fits : r.width ≤ length r.scores.items
+  -- nothing is scored or marked
+  pub blank : IsBlank r.scores.items r.marks.items
 
 -- a window of documents from `first` on that are scored and marked by the lists of some terms; so many places were reached
 pub record IsScoredIn (lists : List (List Posting)) (terms : List Term) (first : ℕ) (scores marks : List ℕ) (reached : ℕ) : Type 0 where
@@ -34,3 +30,14 @@ pub record IsScoredIn (lists : List (List Posting)) (terms : List Term) (first :
   pub within : reached ≤ length scores
   -- nothing is marked from those reached on
   pub behind : (k : ℕ) → reached ≤ k → k < 64 * length marks → is_marked marks k ≡ false
+
+-- the terms whose lists are asked for a candidate, and what they can add to its score
+pub record AreAsked {X : Type 0} (list : X → List Posting) (place : X → ℕ) (c : Candidate) (terms : List Term) (cursors : List X) : Type 0 where
+  -- the bounds hold for the document
+  pub terms_in : AreTermsIn (map list cursors) c.doc (c.doc + 1) terms
+  -- they can add all their bounds
+  pub bound : c.left ≡ bounds terms
+  -- the score stays light
+  pub light : c.known + c.left < 2 ^ 58
+  -- their cursors have passed no document from this one on
+  pub before : AreBefore list place c.doc terms cursors

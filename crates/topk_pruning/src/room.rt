@@ -5,7 +5,7 @@ ghost use Rattle.topk_pruning.specs.Held.{IsSearch, IsSearchedTo};
 ghost use Rattle.topk_pruning.specs.Terms.{AreQueryTerms, AreWindowTerms};
 ghost use Rattle.topk_pruning.specs.Windows.{IsReady};
 
-use crate::candidates::score_window;
+use crate::candidates::WindowTerms;
 use crate::ceilings::{Ceilings, bound_terms};
 use crate::essential::{essential_now, with_short_lists};
 use crate::shortlist::Shortlist;
@@ -132,12 +132,14 @@ fn score_up_to<C: DocCursor>(
     }
     let essential = with_short_lists(cursors, room.terms.as_mut_slice(), essential);
     let count = width.min((reach - first) as usize);
-    score_window(
-        cursors,
-        &room.terms,
+    let terms = WindowTerms {
+        all: &room.terms,
         essential,
         first,
         count,
+    };
+    terms.score_window(
+        cursors,
         room.scores.as_mut_slice(),
         room.marks.as_mut_slice(),
         &mut room.block,

@@ -7,6 +7,7 @@ use Rattle.std.proofs.lemmas.List.Sums.{sum_by_more, sum_by-take-le}
 use Rattle.collection_model.specs.Collection.{Posting}
 use Rattle.scan_plans.specs.Matches.{has_doc, freq_of_doc}
 use Rattle.scan_plans.specs.Scan.{HasPassed}
+use Rattle.scan_plans.specs.Window.{IsAdded}
 use Rattle.topk_pruning.specs.declared.term.Term.{Term}
 use Rattle.topk_pruning.specs.Terms.{list_of, share}
 use Rattle.topk_pruning.proofs.Moves.{lists-set, list-read, term-inside, later-passed}
@@ -17,7 +18,7 @@ use Rattle.topk_pruning.proofs.candidates.add_terms.Goals as goal
 pub loop-term-init : goal.loop-term-init
 loop-term-init g c = record {
   lists = refl;
-  passed = later-passed g.C.DocCursor.list g.C.DocCursor.place c.args.cursors.now c.args.first (c.args.first + length c.args.scores.now) (omega arith) c.requires.passed;
+  passed = later-passed g.C.DocCursor.list g.C.DocCursor.place c.args.cursors.now c.args.window.first (c.args.window.first + length c.args.window.scores.now) (omega arith) c.requires.passed;
   kept = kept-none c.args.terms.now c.args.cursors.now;
   count = refl;
   marks_count = refl;
@@ -27,8 +28,8 @@ loop-term-init g c = record {
   behind = λ k from within. c.requires.blank.none k within;
 }
 
-pub add_term-requires-clause-passed : goal.add_term-requires-clause-passed
-add_term-requires-clause-passed g c =
+pub doc_from-requires : goal.doc_from-requires
+doc_from-requires g c =
     let list = g.C.DocCursor.list in
     let place = g.C.DocCursor.place in
     let lists : List (List Posting) = map list c.args.cursors.now in
@@ -39,10 +40,10 @@ add_term-requires-clause-passed g c =
     let d = c.index-cursors-term.result in
     let so_far = c.loop-term.invariant in
     let same = kept-read terms c.args.cursors.now cs i no_term d c.loop-term-test.true c.requires.terms.apart so_far.kept in
-    subst (λ x. HasPassed c.args.first (list x) (place x)) (sym same) (c.requires.passed t.list d (term-inside list place c.args.cursors.now lists terms i no_term refl c.requires.terms.terms_in.within c.loop-term-test.true))
+    record { passed = subst (λ x. HasPassed c.args.window.first (list x) (place x)) (sym same) (c.requires.passed t.list d (term-inside list place c.args.cursors.now lists terms i no_term refl c.requires.terms.terms_in.within c.loop-term-test.true)) }
 
-pub add_term-requires-clause-room : goal.add_term-requires-clause-room
-add_term-requires-clause-room g c = λ k e inside_scores.
+pub add_list-requires-clause-room : goal.add_list-requires-clause-room
+add_list-requires-clause-room g c = λ k e inside_scores.
     let lists : List (List Posting) = map g.C.DocCursor.list c.args.cursors.now in
     let terms : List Term = c.args.terms.now in
     let i : ℕ = c.loop-term.term-index in
@@ -50,7 +51,7 @@ add_term-requires-clause-room g c = λ k e inside_scores.
     let count = so_far.count in
     let read = get_or_default c.loop-term.scores k e 0 inside_scores in
     let scored = so_far.scored k (omega arith) in
-    let le = shares-within lists (c.args.first + k) (take i terms) ((are-take lists c.args.first (c.args.first + length c.args.scores.now) terms i c.requires.terms.terms_in).bounded (c.args.first + k) (omega arith) (omega arith)) in
+    let le = shares-within lists (c.args.window.first + k) (take i terms) ((are-take lists c.args.window.first (c.args.window.first + length c.args.window.scores.now) terms i c.requires.terms.terms_in).bounded (c.args.window.first + k) (omega arith) (omega arith)) in
     let whole = sum_by-take-le (λ (t : Term). t.bound) terms i in
     let light = c.requires.terms.terms_in.light in
     let small = c.requires.terms.small i no_term c.loop-term-test.true in
@@ -68,31 +69,32 @@ loop-term-preserved g c =
     let d = c.index-cursors-term.result in
     let so_far = c.loop-term.invariant in
     let within = term-inside list place cs lists terms i no_term so_far.lists c.requires.terms.terms_in.within c.loop-term-test.true in
-    let new = c.add_term.new.cursor in
-    let first : ℕ = c.args.first in
-    let kept = c.add_term.ensures in
+    let new = c.add_list.new.cursor in
+    let first : ℕ = c.args.window.first in
+    let same = c.add_list.ensures.list ∙ c.doc_from.ensures.list in
+    let added = subst (λ (l : List Posting). IsAdded l t.weight first c.loop-term.scores c.loop-term.marks c.add_list.new.window.0 c.add_list.new.window.1.0 c.add_list.result) c.doc_from.ensures.list c.add_list.ensures.added in
     let count = so_far.count in
-    let end : ℕ = first + length c.args.scores.now in
+    let end : ℕ = first + length c.args.window.scores.now in
     let is : list (get_or cs t.list d) ≡ list_of lists t = list-read list place cs lists t.list d so_far.lists within in
-    let most : c.max-reached.result ≡ max c.add_term.result c.loop-term.reached = c.max-reached.ensures in
-    let high = kept.added.within in
+    let most : c.max-reached.result ≡ max c.add_list.result c.loop-term.reached = c.max-reached.ensures in
+    let high = added.within in
     let low = so_far.within in
     record {
-      lists = lists-set list place cs t.list new d within kept.list ∙ so_far.lists;
-      passed = All-set (λ x. HasPassed end (list x) (place x)) cs t.list new (record { passed = λ j lt. let h = kept.stand.passed j lt in omega arith }) so_far.passed;
+      lists = lists-set list place cs t.list new d within same ∙ so_far.lists;
+      passed = All-set (λ x. HasPassed end (list x) (place x)) cs t.list new (record { passed = λ j lt. let h = c.add_list.ensures.stand.passed j lt in omega arith }) so_far.passed;
       kept = kept-more terms c.args.cursors.now cs i no_term new c.loop-term-test.true so_far.kept;
-      count = kept.added.count ∙ count;
-      marks_count = kept.added.marks_count ∙ so_far.marks_count;
+      count = added.count ∙ count;
+      marks_count = added.marks_count ∙ so_far.marks_count;
       scored = λ k inside.
           let more = sum_by_more (share lists (first + k)) terms i no_term c.loop-term-test.true in
           let before = so_far.scored k inside in
-          let adds = kept.added.scored k (omega arith) in
+          let adds = added.scored k (omega arith) in
           let theirs = ap (λ (l : List Posting). t.weight * freq_of_doc (first + k) l) is in
           omega arith;
       marked = λ k inside.
-          kept.added.marked k (omega arith) ∙ ap (λ b. b || has_doc (first + k) (list (get_or cs t.list d))) (so_far.marked k inside)
+          added.marked k (omega arith) ∙ ap (λ b. b || has_doc (first + k) (list (get_or cs t.list d))) (so_far.marked k inside)
           ∙ ap (λ (l : List Posting). list_any (λ t. has_doc (first + k) (list_of lists t)) (take i terms) || has_doc (first + k) l) is
           ∙ sym (list_any_more (λ t. has_doc (first + k) (list_of lists t)) terms i no_term c.loop-term-test.true);
       within = omega arith;
-      behind = λ k from inside. kept.added.behind k (omega arith) ∙ so_far.behind k (omega arith) inside;
+      behind = λ k from inside. added.behind k (omega arith) ∙ so_far.behind k (omega arith) inside;
     }

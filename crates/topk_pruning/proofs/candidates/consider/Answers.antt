@@ -17,6 +17,6 @@ returns-in-Some-clause-considered g c =
       k = c.offer.ensures.k;
       n = c.offer.ensures.n;
       floor = c.offer.ensures.floor;
-      held = subst (λ (s : ℕ). Considers top.floor top.k c.args.doc s top.held new) c.in-Some.ensures.value (inl (enough, c.offer.ensures.first));
-      kept = λ s barred. barred-kept top.floor top.k c.args.doc score s c.bar.result top.held new c.bar.ensures c.in-Some.ensures.above c.offer.ensures.first barred;
+      held = subst (λ (s : ℕ). Considers top.floor top.k c.args.candidate.doc s top.held new) c.in-Some.ensures.value (inl (enough, c.offer.ensures.first));
+      kept = λ s barred. barred-kept top.floor top.k c.args.candidate.doc score s c.bar.result top.held new c.bar.ensures c.in-Some.ensures.above c.offer.ensures.first barred;
     }

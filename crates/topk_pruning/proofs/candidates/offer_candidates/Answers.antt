@@ -18,11 +18,11 @@ use Rattle.topk_pruning.proofs.candidates.offer_candidates.Goals.{In-Some}
 
 pub loop-place-init : goal.loop-place-init
 loop-place-init g c =
-    let start : c.args.first ≡ c.args.first + 0 = omega arith in
+    let start : c.args.window.first ≡ c.args.window.first + 0 = omega arith in
     record {
       lists = refl;
       passed = c.requires.passed;
-      before = subst (λ (d : ℕ). AreBefore g.C.DocCursor.list g.C.DocCursor.place d (drop c.args.essential c.args.terms.now) c.args.cursors.now) start c.requires.before;
+      before = subst (λ (d : ℕ). AreBefore g.C.DocCursor.list g.C.DocCursor.place d (drop c.args.terms.essential c.args.terms.all.now) c.args.cursors.now) start c.requires.before;
       taken = record { count = refl; marks_count = refl; unmarked = λ k lt within. absurd (omega arith); clear = λ k lt within. absurd (omega arith); marked = λ k after within. refl; scored = λ k after within. refl };
       within = omega arith;
       in_range = (let in_range = c.requires.search.in_range in omega arith);
@@ -36,8 +36,8 @@ loop-place-init g c =
 
 pub total_bound-left-requires : goal.total_bound-left-requires
 total_bound-left-requires g c =
-    let light = (are-drop (map g.C.DocCursor.list c.args.cursors.now) c.args.first (c.args.first + length c.args.scores.now) c.args.terms.now c.args.essential c.requires.terms).light in
-    let same = ap bounds (behind-is c.args.terms.now c.args.essential) in
+    let light = (are-drop (map g.C.DocCursor.list c.args.cursors.now) c.args.window.first (c.args.window.first + length c.args.window.scores.now) c.args.terms.all.now c.args.terms.essential c.requires.terms).light in
+    let same = ap bounds (behind-is c.args.terms.all.now c.args.terms.essential) in
     record { light = omega arith }
 
 pub take_candidate-requires-clause-reached : goal.take_candidate-requires-clause-reached
@@ -50,7 +50,7 @@ take_candidate-requires-clause-reached g c =
     record {
       wide = omega arith;
       within = omega arith;
-      scored = unmarked-none (map g.C.DocCursor.list c.args.cursors.now) c.args.terms.now c.args.essential c.args.first c.args.scores.now c.args.marks.now c.requires.terms c.requires.scored.scored c.requires.scored.marked c.loop-place.from c.loop-place.scores c.loop-place.marks wide taken;
+      scored = unmarked-none (map g.C.DocCursor.list c.args.cursors.now) c.args.terms.all.now c.args.terms.essential c.args.window.first c.args.window.scores.now c.args.window.marks.now c.requires.terms c.requires.scored.scored c.requires.scored.marked c.loop-place.from c.loop-place.scores c.loop-place.marks wide taken;
       behind = λ k from inside. elim (cases_lt k c.loop-place.from) as (λ _. is_marked c.loop-place.marks k ≡ false) [
         | inl before ↦ taken.unmarked k before (omega arith)
         | inr after ↦ taken.marked k after (omega arith) ∙ c.requires.scored.behind k from (omega arith)
@@ -58,17 +58,17 @@ take_candidate-requires-clause-reached g c =
     }
 
 -- the next candidate of the window
-candidate-known : (g : given.Over) (c : In-Some g) → IsNextCandidate c.least_score.result c.loop-place.from c.in-Some.place c.in-Some.score c.args.scores.now c.args.marks.now
+candidate-known : (g : given.Over) (c : In-Some g) → IsNextCandidate c.least_score.result c.loop-place.from c.in-Some.place c.in-Some.score c.args.window.scores.now c.args.window.marks.now
 candidate-known g c =
-    candidate-there c.args.scores.now c.args.marks.now c.loop-place.scores c.loop-place.marks c.loop-place.from c.requires.scored.wide c.loop-place.invariant.taken c.least_score.result c.in-Some.place c.in-Some.score c.in-Some.ensures.some
+    candidate-there c.args.window.scores.now c.args.window.marks.now c.loop-place.scores c.loop-place.marks c.loop-place.from c.requires.scored.wide c.loop-place.invariant.taken c.least_score.result c.in-Some.place c.in-Some.score c.in-Some.ensures.some
 
 -- it is one of the documents
-candidate-below : (g : given.Over) (c : In-Some g) → c.args.first + c.in-Some.place < c.args.top.now.n
+candidate-below : (g : given.Over) (c : In-Some g) → c.args.window.first + c.in-Some.place < c.args.top.now.n
 candidate-below g c =
     let next = candidate-known g c in
     let lists : List (List Posting) = map g.C.DocCursor.list c.args.cursors.now in
-    c.top_list_grows.ensures.in_range c.args.top.now.n lists (c.args.first + c.in-Some.place) c.requires.search.below
-    (marked-any lists c.args.terms.now c.args.essential c.args.first c.args.scores.now c.args.marks.now c.requires.terms c.requires.scored.scored c.requires.scored.marked c.in-Some.place next.within next.marked)
+    c.top_list_grows.ensures.in_range c.args.top.now.n lists (c.args.window.first + c.in-Some.place) c.requires.search.below
+    (marked-any lists c.args.terms.all.now c.args.terms.essential c.args.window.first c.args.window.scores.now c.args.window.marks.now c.requires.terms c.requires.scored.scored c.requires.scored.marked c.in-Some.place next.within next.marked)
 
 pub overflow_cast-doc : goal.overflow_cast-doc
 overflow_cast-doc g c =
@@ -80,25 +80,25 @@ consider-requires-clause-asked g c =
     let place = g.C.DocCursor.place in
     let lists : List (List Posting) = map list c.args.cursors.now in
     let now : List (List Posting) = map list c.loop-place.cursors in
-    let terms : List Term = c.args.terms.now in
-    let others : List Term = drop c.args.essential terms in
-    let end : ℕ = c.args.first + length c.args.scores.now in
+    let terms : List Term = c.args.terms.all.now in
+    let others : List Term = drop c.args.terms.essential terms in
+    let end : ℕ = c.args.window.first + length c.args.window.scores.now in
     let next = candidate-known g (goal.at.consider-requires-clause-asked g c).In-Some in
     let inside = next.within in
     let after = next.after in
     let is = next.scored in
     let start = c.from.ensures in
     let left = c.total_bound-left.ensures in
-    let same = ap bounds (behind-is terms c.args.essential) in
-    let light = light-score lists terms c.args.essential c.args.first c.args.scores.now c.args.marks.now c.requires.terms c.requires.scored.scored c.requires.scored.marked c.in-Some.place inside in
+    let same = ap bounds (behind-is terms c.args.terms.essential) in
+    let light = light-score lists terms c.args.terms.essential c.args.window.first c.args.window.scores.now c.args.window.marks.now c.requires.terms c.requires.scored.scored c.requires.scored.marked c.in-Some.place inside in
     let doc : ℕ = c.from.result + c.in-Some.place in
-    let here : AreTermsIn lists doc (doc + 1) others = in-narrower lists c.args.first end doc (doc + 1) others (omega arith) (omega arith) (are-drop lists c.args.first end terms c.args.essential c.requires.terms) in
+    let here : AreTermsIn lists doc (doc + 1) others = in-narrower lists c.args.window.first end doc (doc + 1) others (omega arith) (omega arith) (are-drop lists c.args.window.first end terms c.args.terms.essential c.requires.terms) in
     record {
-      terms_in = subst (AreTermsIn now doc (doc + 1)) (sym (behind-is terms c.args.essential)) (subst (λ (ls : List (List Posting)). AreTermsIn ls doc (doc + 1) others) (sym c.loop-place.invariant.lists) here);
+      terms_in = subst (AreTermsIn now doc (doc + 1)) (sym (behind-is terms c.args.terms.essential)) (subst (λ (ls : List (List Posting)). AreTermsIn ls doc (doc + 1) others) (sym c.loop-place.invariant.lists) here);
       bound = left;
       light = omega arith;
-      before = subst (λ (ts : List Term). AreBefore list place doc ts c.loop-place.cursors) (sym (behind-is terms c.args.essential))
-          (before-later list place (c.args.first + c.loop-place.from) doc others c.loop-place.cursors (omega arith) c.loop-place.invariant.before);
+      before = subst (λ (ts : List Term). AreBefore list place doc ts c.loop-place.cursors) (sym (behind-is terms c.args.terms.essential))
+          (before-later list place (c.args.window.first + c.loop-place.from) doc others c.loop-place.cursors (omega arith) c.loop-place.invariant.before);
     }
 
 pub consider-requires-clause-above : goal.consider-requires-clause-above
@@ -115,53 +115,53 @@ pub loop-place-preserved : goal.loop-place-preserved
 loop-place-preserved g c =
     let list = g.C.DocCursor.list in
     let lists : List (List Posting) = map list c.args.cursors.now in
-    let terms : List Term = c.args.terms.now in
+    let terms : List Term = c.args.terms.all.now in
     let so_far = c.loop-place.invariant in
     let next = candidate-known g (goal.at.loop-place-preserved g c).In-Some in
     let below = candidate-below g (goal.at.loop-place-preserved g c).In-Some in
     let after = next.after in
     let inside = next.within in
     let start = c.from.ensures in
-    let doc : c.from.result + c.in-Some.place ≡ c.args.first + c.in-Some.place = omega arith in
+    let doc : c.from.result + c.in-Some.place ≡ c.args.window.first + c.in-Some.place = omega arith in
     let place = g.C.DocCursor.place in
     let at : ℕ = c.in-Some.place in
-    let others : List Term = drop c.args.essential terms in
+    let others : List Term = drop c.args.terms.essential terms in
     let kept = c.consider.ensures in
     let k = so_far.k in
     let held : List (ℕ × ℕ) = c.loop-place.top.held in
     let new : List (ℕ × ℕ) = c.consider.new.top.held in
-    let lent : take (length terms - c.args.essential) (drop c.args.essential terms) ≡ others = behind-is terms c.args.essential in
+    let lent : take (length terms - c.args.terms.essential) (drop c.args.terms.essential terms) ≡ others = behind-is terms c.args.terms.essential in
     let left : c.total_bound-left.result ≡ bounds others = c.total_bound-left.ensures ∙ ap bounds lent in
     let low : IfSome c.bar.result (λ least. c.least_score.result ≡ min (least + 1) 18446744073709551615 - bounds others) = subst (λ (b : ℕ). IfSome c.bar.result (λ least. c.least_score.result ≡ min (least + 1) 18446744073709551615 - b)) left c.least_score.ensures.some in
     let floor : ℕ = c.args.top.now.floor in
     let bars = bars-at c.bar.result c.loop-place.top.floor floor c.loop-place.top.k c.args.top.now.k held so_far.floor k c.bar.ensures in
-    let here = follows-passed lists terms c.args.essential c.args.first c.args.scores.now c.args.marks.now c.requires.terms c.requires.scored.scored c.requires.scored.marked c.top_list_grows.ensures.skipped c.loop-place.from (c.args.first + at) floor c.args.top.now.k c.least_score.result c.bar.result c.args.top.now.held held
+    let here = follows-passed lists terms c.args.terms.essential c.args.window.first c.args.window.scores.now c.args.window.marks.now c.requires.terms c.requires.scored.scored c.requires.scored.marked c.top_list_grows.ensures.skipped c.loop-place.from (c.args.window.first + at) floor c.args.top.now.k c.least_score.result c.bar.result c.args.top.now.held held
     so_far.spared bars c.least_score.ensures.none low (omega arith) (omega arith) (λ j f lt is. next.passed j f (omega arith) is) so_far.held in
-    let known : c.in-Some.score + score_in (map list c.loop-place.cursors) (c.from.result + at) (take (length terms - c.args.essential) (drop c.args.essential terms)) ≡ get_or c.args.scores.now at 0 + score_in lists (c.args.first + at) others =
+    let known : c.in-Some.score + score_in (map list c.loop-place.cursors) (c.from.result + at) (take (length terms - c.args.terms.essential) (drop c.args.terms.essential terms)) ≡ get_or c.args.window.scores.now at 0 + score_in lists (c.args.window.first + at) others =
     (let a = next.scored in
-    let b = ap (λ (ls : List (List Posting)). score_in ls (c.from.result + at) (take (length terms - c.args.essential) (drop c.args.essential terms))) so_far.lists in
+    let b = ap (λ (ls : List (List Posting)). score_in ls (c.from.result + at) (take (length terms - c.args.terms.essential) (drop c.args.terms.essential terms))) so_far.lists in
     let e = ap (λ (ts : List Term). score_in lists (c.from.result + at) ts) lent in
     let f = ap (λ (n : ℕ). score_in lists n others) doc in
     omega arith) in
-    let considered : Considers floor c.args.top.now.k (c.args.first + at) (get_or c.args.scores.now at 0 + score_in lists (c.args.first + at) others) held new =
-    subst (λ (s : ℕ). Considers floor c.args.top.now.k (c.args.first + at) s held new) known
-    (subst (λ (d : ℕ). Considers floor c.args.top.now.k d (c.in-Some.score + score_in (map list c.loop-place.cursors) (c.from.result + at) (take (length terms - c.args.essential) (drop c.args.essential terms))) held new) doc
-    (subst (λ (j : ℕ). Considers floor j (c.from.result + at) (c.in-Some.score + score_in (map list c.loop-place.cursors) (c.from.result + at) (take (length terms - c.args.essential) (drop c.args.essential terms))) held new) k
-    (subst (λ (f : ℕ). Considers f c.loop-place.top.k (c.from.result + at) (c.in-Some.score + score_in (map list c.loop-place.cursors) (c.from.result + at) (take (length terms - c.args.essential) (drop c.args.essential terms))) held new) so_far.floor kept.considered.held))) in
-    let later = taken-then c.loop-place.from (at + 1) c.args.scores.now c.args.marks.now c.loop-place.scores c.loop-place.marks c.take_candidate.new.scores c.take_candidate.new.marks (omega arith) so_far.taken c.in-Some.ensures.taken in
+    let considered : Considers floor c.args.top.now.k (c.args.window.first + at) (get_or c.args.window.scores.now at 0 + score_in lists (c.args.window.first + at) others) held new =
+    subst (λ (s : ℕ). Considers floor c.args.top.now.k (c.args.window.first + at) s held new) known
+    (subst (λ (d : ℕ). Considers floor c.args.top.now.k d (c.in-Some.score + score_in (map list c.loop-place.cursors) (c.from.result + at) (take (length terms - c.args.terms.essential) (drop c.args.terms.essential terms))) held new) doc
+    (subst (λ (j : ℕ). Considers floor j (c.from.result + at) (c.in-Some.score + score_in (map list c.loop-place.cursors) (c.from.result + at) (take (length terms - c.args.terms.essential) (drop c.args.terms.essential terms))) held new) k
+    (subst (λ (f : ℕ). Considers f c.loop-place.top.k (c.from.result + at) (c.in-Some.score + score_in (map list c.loop-place.cursors) (c.from.result + at) (take (length terms - c.args.terms.essential) (drop c.args.terms.essential terms))) held new) so_far.floor kept.considered.held))) in
+    let later = taken-then c.loop-place.from (at + 1) c.args.window.scores.now c.args.window.marks.now c.loop-place.scores c.loop-place.marks c.take_candidate.new.scores c.take_candidate.new.marks (omega arith) so_far.taken c.in-Some.ensures.taken in
     record {
       lists = kept.lists ∙ so_far.lists;
-      passed = kept.passed (c.args.first + length c.args.scores.now) (omega arith) so_far.passed;
-      before = before-later list place (c.from.result + at) (c.args.first + (at + 1)) others c.consider.new.cursors (omega arith) (subst (λ (ts : List Term). AreBefore list place (c.from.result + at) ts c.consider.new.cursors) lent kept.before);
+      passed = kept.passed (c.args.window.first + length c.args.window.scores.now) (omega arith) so_far.passed;
+      before = before-later list place (c.from.result + at) (c.args.window.first + (at + 1)) others c.consider.new.cursors (omega arith) (subst (λ (ts : List Term). AreBefore list place (c.from.result + at) ts c.consider.new.cursors) lent kept.before);
       taken = later;
       within = omega arith;
       in_range = omega arith;
       k = kept.considered.k ∙ k;
       n = kept.considered.n ∙ so_far.n;
       floor = kept.considered.floor ∙ so_far.floor;
-      above = (let top = c.top_list_grows.ensures in considered-above floor c.args.top.now.k (c.args.first + at) (c.args.first + (at + 1)) _ held new (omega arith) considered (λ i e within. let h = so_far.above i e within in omega arith));
-      spared = spared-kept terms floor c.args.top.now.k c.args.essential held new (λ s. subst (λ (j : ℕ). IsBarred floor j held s → IsBarred floor j new s) k (subst (λ (f : ℕ). IsBarred f c.loop-place.top.k held s → IsBarred f c.loop-place.top.k new s) so_far.floor (kept.considered.kept s))) so_far.spared;
-      held = follows-considered lists terms c.args.essential c.args.first c.args.scores.now c.args.marks.now c.requires.terms c.requires.scored.scored c.requires.scored.marked c.top_list_grows.ensures.offered c.top_list_grows.ensures.skipped at floor c.args.top.now.k c.args.top.now.held held new inside next.marked considered here;
+      above = (let top = c.top_list_grows.ensures in considered-above floor c.args.top.now.k (c.args.window.first + at) (c.args.window.first + (at + 1)) _ held new (omega arith) considered (λ i e within. let h = so_far.above i e within in omega arith));
+      spared = spared-kept terms floor c.args.top.now.k c.args.terms.essential held new (λ s. subst (λ (j : ℕ). IsBarred floor j held s → IsBarred floor j new s) k (subst (λ (f : ℕ). IsBarred f c.loop-place.top.k held s → IsBarred f c.loop-place.top.k new s) so_far.floor (kept.considered.kept s))) so_far.spared;
+      held = follows-considered lists terms c.args.terms.essential c.args.window.first c.args.window.scores.now c.args.window.marks.now c.requires.terms c.requires.scored.scored c.requires.scored.marked c.top_list_grows.ensures.offered c.top_list_grows.ensures.skipped at floor c.args.top.now.k c.args.top.now.held held new inside next.marked considered here;
     }
 
 pub returns-clause-left : goal.returns-clause-left
@@ -191,22 +191,22 @@ returns-clause-left g c =
 pub returns-clause-searched : goal.returns-clause-searched
 returns-clause-searched g c =
     let lists : List (List Posting) = map g.C.DocCursor.list c.args.cursors.now in
-    let terms : List Term = c.args.terms.now in
+    let terms : List Term = c.args.terms.all.now in
     let so_far = c.loop-place.invariant in
     let k = so_far.k in
     let held : List (ℕ × ℕ) = c.loop-place.top.held in
-    let others : List Term = drop c.args.essential terms in
-    let left : c.total_bound-left.result ≡ bounds others = c.total_bound-left.ensures ∙ ap bounds (behind-is terms c.args.essential) in
+    let others : List Term = drop c.args.terms.essential terms in
+    let left : c.total_bound-left.result ≡ bounds others = c.total_bound-left.ensures ∙ ap bounds (behind-is terms c.args.terms.essential) in
     let low : IfSome c.bar.result (λ least. c.least_score.result ≡ min (least + 1) 18446744073709551615 - bounds others) = subst (λ (b : ℕ). IfSome c.bar.result (λ least. c.least_score.result ≡ min (least + 1) 18446744073709551615 - b)) left c.least_score.ensures.some in
     let floor : ℕ = c.args.top.now.floor in
     let bars = bars-at c.bar.result c.loop-place.top.floor floor c.loop-place.top.k c.args.top.now.k held so_far.floor k c.bar.ensures in
     let within = so_far.within in
     let in_range = so_far.in_range in
-    let none = none-there c.args.scores.now c.args.marks.now c.loop-place.scores c.loop-place.marks c.loop-place.from c.requires.scored.wide so_far.taken c.least_score.result c.in_default.ensures.none in
+    let none = none-there c.args.window.scores.now c.args.window.marks.now c.loop-place.scores c.loop-place.marks c.loop-place.from c.requires.scored.wide so_far.taken c.least_score.result c.in_default.ensures.none in
     record {
       k = k;
       n = so_far.n;
       floor = so_far.floor;
-      held = follows-passed lists terms c.args.essential c.args.first c.args.scores.now c.args.marks.now c.requires.terms c.requires.scored.scored c.requires.scored.marked c.top_list_grows.ensures.skipped c.loop-place.from (min (c.args.first + length c.args.scores.now) c.args.top.now.n) floor c.args.top.now.k c.least_score.result c.bar.result c.args.top.now.held held
+      held = follows-passed lists terms c.args.terms.essential c.args.window.first c.args.window.scores.now c.args.window.marks.now c.requires.terms c.requires.scored.scored c.requires.scored.marked c.top_list_grows.ensures.skipped c.loop-place.from (min (c.args.window.first + length c.args.window.scores.now) c.args.top.now.n) floor c.args.top.now.k c.least_score.result c.bar.result c.args.top.now.held held
           so_far.spared bars c.least_score.ensures.none low (omega arith) (omega arith) (λ j f lt is. none j f (omega arith) is) so_far.held;
     }

@@ -29,14 +29,14 @@ score-within lists terms doc i known score left are so_far rest =
 
 pub overflow_add-score : goal.overflow_add-score
 overflow_add-score g c =
-    omega (arith, c.requires.asked.light, c.requires.asked.bound, fits-so_far (map g.C.DocCursor.list c.args.cursors.now) c.args.others.now c.args.doc c.loop-term.term-index c.args.known c.loop-term.score c.loop-term.left c.requires.asked.terms_in c.loop-term.invariant.so_far c.loop-term.invariant.left)
+    omega (arith, c.requires.asked.light, c.requires.asked.bound, fits-so_far (map g.C.DocCursor.list c.args.cursors.now) c.args.others.now c.args.candidate.doc c.loop-term.term-index c.args.candidate.known c.loop-term.score c.loop-term.left c.requires.asked.terms_in c.loop-term.invariant.so_far c.loop-term.invariant.left)
 
 -- it is given up: the bounds left cannot lift it
 pub returns-then-not-is_above-clause-dropped : goal.returns-then-not-is_above-clause-dropped
 returns-then-not-is_above-clause-dropped g c =
     let lists : List (List Posting) = map g.C.DocCursor.list c.args.cursors.now in
-    beats-lower c.args.bar (c.args.known + score_in lists c.args.doc c.args.others.now) (c.loop-term.score + c.loop-term.left)
-    (score-within lists c.args.others.now c.args.doc c.loop-term.term-index c.args.known c.loop-term.score c.loop-term.left c.requires.asked.terms_in c.loop-term.invariant.so_far c.loop-term.invariant.left)
+    beats-lower c.args.bar (c.args.candidate.known + score_in lists c.args.candidate.doc c.args.others.now) (c.loop-term.score + c.loop-term.left)
+    (score-within lists c.args.others.now c.args.candidate.doc c.loop-term.term-index c.args.candidate.known c.loop-term.score c.loop-term.left c.requires.asked.terms_in c.loop-term.invariant.so_far c.loop-term.invariant.left)
     (sym c.is_above.ensures ∙ search (c.if-not-is_above.true, rules, tests))
 
 pub overflow_add-score-in-loop-term : goal.overflow_add-score-in-loop-term
@@ -50,10 +50,10 @@ overflow_add-score-in-loop-term g c =
     let t : Term = get_or terms i no_term in
     let d = c.index-cursors-term.result in
     let within = term-inside list place cs lists terms i no_term c.loop-term.invariant.lists c.requires.asked.terms_in.within c.loop-term-test.true in
-    let value : c.probe-score.result ≡ share lists c.args.doc t = c.probe-score.ensures.value ∙ ap (λ (l : List Posting). t.weight * freq_of_doc c.args.doc l) (list-read list place cs lists t.list d c.loop-term.invariant.lists within) in
-    let le : share lists c.args.doc t ≤ t.bound = c.requires.asked.terms_in.bounded c.args.doc (omega arith) (omega arith) i no_term c.loop-term-test.true in
+    let value : c.probe-score.result ≡ share lists c.args.candidate.doc t = c.probe-score.ensures.value ∙ ap (λ (l : List Posting). t.weight * freq_of_doc c.args.candidate.doc l) (list-read list place cs lists t.list d c.loop-term.invariant.lists within) in
+    let le : share lists c.args.candidate.doc t ≤ t.bound = c.requires.asked.terms_in.bounded c.args.candidate.doc (omega arith) (omega arith) i no_term c.loop-term-test.true in
     let less = sum_by-drop_more (λ (t : Term). t.bound) terms i no_term c.loop-term-test.true in
-    let fits = fits-so_far lists terms c.args.doc i c.args.known c.loop-term.score c.loop-term.left c.requires.asked.terms_in c.loop-term.invariant.so_far c.loop-term.invariant.left in
+    let fits = fits-so_far lists terms c.args.candidate.doc i c.args.candidate.known c.loop-term.score c.loop-term.left c.requires.asked.terms_in c.loop-term.invariant.so_far c.loop-term.invariant.left in
     omega (arith, c.requires.asked.light, c.requires.asked.bound, fits, less, le, value, c.loop-term.invariant.left)
 
 pub loop-term-preserved : goal.loop-term-preserved
@@ -67,13 +67,13 @@ loop-term-preserved g c =
     let t : Term = get_or terms i no_term in
     let d = c.index-cursors-term.result in
     let within = term-inside list place cs lists terms i no_term c.loop-term.invariant.lists c.requires.asked.terms_in.within c.loop-term-test.true in
-    let value : c.probe-score.result ≡ share lists c.args.doc t = c.probe-score.ensures.value ∙ ap (λ (l : List Posting). t.weight * freq_of_doc c.args.doc l) (list-read list place cs lists t.list d c.loop-term.invariant.lists within) in
+    let value : c.probe-score.result ≡ share lists c.args.candidate.doc t = c.probe-score.ensures.value ∙ ap (λ (l : List Posting). t.weight * freq_of_doc c.args.candidate.doc l) (list-read list place cs lists t.list d c.loop-term.invariant.lists within) in
     let new = c.probe-score.new.cursor in
-    let more = sum_by_more (share lists c.args.doc) terms i no_term c.loop-term-test.true in
+    let more = sum_by_more (share lists c.args.candidate.doc) terms i no_term c.loop-term-test.true in
     let less = sum_by-drop_more (λ (t : Term). t.bound) terms i no_term c.loop-term-test.true in
     record {
       lists = lists-set list place cs t.list new d within c.probe-score.ensures.list ∙ c.loop-term.invariant.lists;
-      before = before-set list place c.args.doc terms cs t.list new within (record { passed = c.probe-score.ensures.stand.passed }) c.loop-term.invariant.before;
+      before = before-set list place c.args.candidate.doc terms cs t.list new within (record { passed = c.probe-score.ensures.stand.passed }) c.loop-term.invariant.before;
       passed = λ e le all. All-set (λ x. HasPassed e (list x) (place x)) cs t.list new (record { passed = λ j lt. let h = c.probe-score.ensures.stand.passed j lt in omega arith }) (c.loop-term.invariant.passed e le all);
       so_far = omega (arith, value, more, c.loop-term.invariant.so_far);
       left = omega (arith, less, c.loop-term.invariant.left);
