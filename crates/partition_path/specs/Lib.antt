@@ -3,3 +3,4 @@ pub mod Tables
 pub mod Chains
 pub mod Rests
 pub mod Joints
+pub mod Trying

@@ -4,6 +4,7 @@ ghost use Rattle.part_cost.specs.Formats.{numbers_of};
 ghost use Rattle.part_cost.specs.Partition.{IsAllowed, partition_cost};
 ghost use Rattle.cost_windows.specs.EdgeFacts.{Knows};
 ghost use Rattle.cost_windows.specs.WindowBounds.{window_bounds};
+ghost use Rattle.partition_path.specs.Trying.{CanTry, IsCheapWindow};
 ghost use Rattle.partition_path.specs.Tables.{AreRoutes, AreTried, IsAnswered, IsReached, StandCheap, cost_to, unreached};
 
 use crate::routes::Routes;
@@ -106,7 +107,12 @@ fn try_windows<C: SpanCost, L: Ledger>(
     let mut edge = Edge::at(i);
     let mut k = 0;
     while k < bounds.len() && edge.end < cost.len() {
-        edge = stretched(routes, i, stands[k], bounds[k], edge, cost, steps);
+        let window = Window {
+            stand: stands[k],
+            bound: bounds[k],
+            edge,
+        };
+        edge = stretched(routes, i, window, cost, steps);
         stands[k] = edge.end;
         k = covering(bounds, k + 1, edge.next);
     }
@@ -133,38 +139,40 @@ fn covering(bounds: &[u64], k: usize, next: Option<u64>) -> usize
     first
 }
 
+// A window of the parts from a place: how far a route leads that costs at most the bound more than the one to the place, and a part
+// from there whose end such a route reaches too.
+#[derive(Clone, Copy)]
+struct Window {
+    stand: u64,
+    bound: u64,
+    edge: Edge,
+}
+
 // The edge behind which the next part from place i costs more than the bound: up to there each place is reached by a route that
 // costs at most the bound more than the one to place i. Where no known route leads there, the part to it is tried.
 fn stretched<C: SpanCost, L: Ledger>(
     routes: &mut Routes,
     i: u64,
-    stand: u64,
-    bound: u64,
-    edge: Edge,
+    window: Window,
     cost: &C,
     steps: &mut Steps<L>,
 ) -> Edge
-    requires within { i < C.count cost.now }
-    requires routes { AreRoutes (numbers_of (C.format_of cost.now)).limit (C.cost_of cost.now)
-        (C.count cost.now) (i + 1) routes.old }
-    requires reached { IsReached routes.old i }
-    requires knows { Knows (C.cost_of cost.now) (C.count cost.now) i edge }
-    requires stand { stand ≤ C.count cost.now }
-    requires cheap_stand { cost_to routes.old stand ≤ cost_to routes.old i + bound }
-    requires cheap_edge { cost_to routes.old edge.end ≤ cost_to routes.old i + bound }
-    requires allowed { bound ≤ (numbers_of (C.format_of cost.now)).limit }
-    requires room { cost_to routes.old i + (numbers_of (C.format_of cost.now)).limit < unreached }
+    requires from { CanTry (numbers_of (C.format_of cost.now)).limit (C.cost_of cost.now)
+        (C.count cost.now) i routes.old }
+    requires window { IsCheapWindow (numbers_of (C.format_of cost.now)).limit
+        (C.cost_of cost.now) (C.count cost.now) i routes.old window }
     ensures tried { AreTried (numbers_of (C.format_of cost.now)).limit (C.cost_of cost.now)
         (C.count cost.now) i routes.old routes.new }
     ensures knows { Knows (C.cost_of cost.now) (C.count cost.now) i result }
-    ensures cheap { cost_to routes.new result.end ≤ cost_to routes.old i + bound }
-    ensures over { result.end < C.count cost.now → bound < C.cost_of cost.now i (result.end + 1) }
+    ensures cheap { cost_to routes.new result.end ≤ cost_to routes.old i + window.bound }
+    ensures over { result.end < C.count cost.now
+        → window.bound < C.cost_of cost.now i (result.end + 1) }
     ensures known { result.end < C.count cost.now → IsSome result.next }
-    ensures forward { edge.end ≤ result.end }
-    ensures stand { stand ≤ result.end }
+    ensures reaches { (window.edge.end ≤ result.end) × (window.stand ≤ result.end) }
     ensures counted { steps.old ≤ steps.new }
-    ensures bounded { steps.new + stand ≤ steps.old + result.end + 1 }
+    ensures bounded { steps.new + window.stand ≤ steps.old + result.end + 1 }
 {
+    let Window { stand, bound, edge } = window;
     let most = routes.cost(i) + bound;
     let reached = routes.furthest(edge.end.max(stand), most);
     let from = if edge.end < reached {

@@ -30,4 +30,4 @@ returns-in-Some-clause-tried g c =
           absurd (none-some part (sym none ∙ sym same ∙ c.in-Some.is))
     ] in
     let affordable = (said.affordable more).1 in
-    offered-tried limit cost n i old c.offer.new.self c.requires.routes c.requires.reached longer.end (c.cost-in-Some.result + part) known.0 said.knows.within (omega (arith, affordable, c.requires.allowed)) (omega (arith, c.cost-in-Some.ensures, known.1)) (g.met.C.SpanCost.monotone c.args.cost.now) c.offer.ensures
+    offered-tried limit cost n i old c.offer.new.self c.requires.from.routes c.requires.from.reached longer.end (c.cost-in-Some.result + part) known.0 said.knows.within (omega (arith, affordable, c.requires.window.allowed)) (omega (arith, c.cost-in-Some.ensures, known.1)) (g.met.C.SpanCost.monotone c.args.cost.now) c.offer.ensures

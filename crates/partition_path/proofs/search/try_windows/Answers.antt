@@ -47,7 +47,7 @@ loop-k-preserved g c =
     let cheap : cost_to new longer.end ≤ cost_to c.loop-k.routes i + get_or bounds k 0 = subst (λ (b : List ℕ). cost_to new longer.end ≤ cost_to c.loop-k.routes i + get_or b k 0) same said.cheap in
     let over : longer.end < n → get_or bounds k 0 < cost i (longer.end + 1) = subst (λ (b : List ℕ). longer.end < n → get_or b k 0 < cost i (longer.end + 1)) same said.over in
     let passed : IfSome longer.next (λ x. (m : ℕ) → k + 1 ≤ m → m < c.covering-k.result → get_or bounds m 0 < x) = subst (λ (b : List ℕ). IfSome longer.next (λ x. (m : ℕ) → k + 1 ≤ m → m < c.covering-k.result → get_or b m 0 < x)) same next.passed in
-    let more = windowed-more limit cost bounds n i c.args.routes.now (up g (goal.at.loop-k-preserved g c).After-bounds_follow_rule) _ (cover g (goal.at.loop-k-preserved g c).After-bounds_follow_rule) (g.met.C.SpanCost.monotone c.args.cost.now) (g.met.C.SpanCost.at_least_charge c.args.cost.now) c.requires.room small c.loop-k.routes k c.loop-k.edge stands w below new longer c.covering-k.result said.tried said.knows cheap said.forward over said.known next.forward passed in
+    let more = windowed-more limit cost bounds n i c.args.routes.now (up g (goal.at.loop-k-preserved g c).After-bounds_follow_rule) _ (cover g (goal.at.loop-k-preserved g c).After-bounds_follow_rule) (g.met.C.SpanCost.monotone c.args.cost.now) (g.met.C.SpanCost.at_least_charge c.args.cost.now) c.requires.room small c.loop-k.routes k c.loop-k.edge stands w below new longer c.covering-k.result said.tried said.knows cheap said.reaches.0 over said.known next.forward passed in
     (more, omega (arith, said.bounded, stood, moved, c.loop-k.invariant.1, next.forward), next.within, same, omega (arith, said.counted, c.loop-k.invariant.4))
 
 pub returns-after-loop-k-clause-answered : goal.returns-after-loop-k-clause-answered

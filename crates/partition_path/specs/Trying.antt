@@ -1,0 +1,29 @@
+-- What is known where parts from a place are tried.
+use Rattle.std.specs.Prelude.{ℕ, ◌+◌, ◌<◌, ◌≤◌}
+use Rattle.cost_windows.specs.EdgeFacts.{Knows}
+use Rattle.partition_path.specs.declared.search.Window.{Window}
+use Rattle.partition_path.specs.Tables.{Table, AreRoutes, IsReached, cost_to, unreached}
+
+-- parts from place i of n numbers can be tried
+pub record CanTry (limit : ℕ) (cost : ℕ → ℕ → ℕ) (n i : ℕ) (t : Table) : Type 0 where
+  -- there is a number behind the place
+  pub within : i < n
+  -- no known route has a part that starts behind it
+  pub routes : AreRoutes limit cost n (i + 1) t
+  -- a route to it is known
+  pub reached : IsReached t i
+  -- there is room for its cost and that of an allowed part
+  pub room : cost_to t i + limit < unreached
+
+-- a window of parts from place i of n numbers: known routes lead to its stand and to its edge that cost at most its bound more than the one to i
+pub record IsCheapWindow (limit : ℕ) (cost : ℕ → ℕ → ℕ) (n i : ℕ) (t : Table) (w : Window) : Type 0 where
+  -- what is kept of the edge's costs are costs of parts from i on
+  pub knows : Knows cost n i w.edge
+  -- the route to the edge is cheap
+  pub cheap_edge : cost_to t w.edge.end ≤ cost_to t i + w.bound
+  -- the stand is a place
+  pub stand : w.stand ≤ n
+  -- the route to it is cheap
+  pub cheap_stand : cost_to t w.stand ≤ cost_to t i + w.bound
+  -- parts of this cost are allowed
+  pub allowed : w.bound ≤ limit
