@@ -46,7 +46,7 @@ pub(crate) fn bound_terms<C: DocCursor, B: Ceilings<C>>(
     reach
 }
 
-// The same in the order of the terms. The bounds hold as far as the ceiling that reaches least.
+// Gives `near` these terms in the order of `terms`. The bounds hold as far as the ceiling that reaches least.
 fn bound_each<C: DocCursor, B: Ceilings<C>>(
     cursors: &[C],
     terms: &[Term],
