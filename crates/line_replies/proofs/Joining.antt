@@ -149,13 +149,19 @@ starts-pushed {C} place_at parts more first cursor so pushed start =
     let P : ℕ × C → Type 0 = λ p. place_at p.1 ≡ 0 in
     subst (All P) (sym pushed) (All-append P parts ((first, cursor) ∷ []) so (All-cons P (first, cursor) [] start (All-nil P)))
 
--- a term of a segment
-pub term-at : (segments : List Segment) (t k : ℕ) (segment : Segment) → All (λ c. t < length c.lists) (collections_in segments) → k < length segments → segment ≡ get_or segments k segment
-    → t < length segment.index.collection.lists
-term-at segments t k segment all within is =
+-- what holds of the collections of segments holds of that of each
+pub one-of : (P : Collection → Type 0) (segments : List Segment) (k : ℕ) (segment : Segment) → All P (collections_in segments) → k < length segments → segment ≡ get_or segments k segment → P segment.index.collection
+one-of P segments k segment all within is =
     let c : Collection = segment.index.collection in
-    subst (λ d. t < length d.lists) (get_or-map (λ (s : Segment). s.index.collection) segments k segment c within ∙ ap (λ (s : Segment). s.index.collection) (sym is))
-    (All-get_or (λ d. t < length d.lists) (collections_in segments) k c (omega (arith, within, length-map segments (λ (s : Segment). s.index.collection))) all)
+    subst P (get_or-map (λ (s : Segment). s.index.collection) segments k segment c within ∙ ap (λ (s : Segment). s.index.collection) (sym is))
+    (All-get_or P (collections_in segments) k c (omega (arith, within, length-map segments (λ (s : Segment). s.index.collection))) all)
+
+-- and of their lists of a term
+pub list-of : (P : ListPart → Type 0) (segments : List Segment) (t k : ℕ) (segment : Segment) → All P (lists_in segments t) → k < length segments → segment ≡ get_or segments k segment
+    → P (part_of segment.first (list_of segment.index.collection t))
+list-of P segments t k segment all within is =
+    let part : Segment → ListPart = λ s. part_of s.first (list_of s.index.collection t) in
+    subst P (get_or-map part segments k segment (part segment) within ∙ ap part (sym is)) (All-get_or P (lists_in segments t) k (part segment) (omega (arith, within, length-map segments part)) all)
 
 -- the parts of a term follow one another
 pub parts-follow : (segments : List Segment) (t : ℕ) (parts : List ListPart) → ListsFollow → AreSegments segments → parts ≡ lists_in segments t → FollowInOrder parts

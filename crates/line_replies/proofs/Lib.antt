@@ -1,3 +1,4 @@
 mod CursorLists
 mod Parsed
 mod Joining
+mod FirstJoined

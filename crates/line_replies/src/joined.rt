@@ -1,7 +1,8 @@
-ghost use Rattle.std.specs.Prelude.{◌≡◌, ◌<◌, length, map, IfOk};
+ghost use Rattle.std.specs.Prelude.{◌≡◌, ◌<◌, length, map, option_map, IfOk};
 ghost use Rattle.std.specs.List.{All};
-ghost use Rattle.segments.specs.Joined.{documents_in, joined};
-ghost use Rattle.segments.specs.JoinedCursor.{parts_of};
+ghost use Rattle.collection_model.specs.Collection.{first_at_least, list_of};
+ghost use Rattle.segments.specs.Joined.{documents_in, joined, joined_list, shifted, most_joined, EndsBelow, FollowInOrder};
+ghost use Rattle.segments.specs.JoinedCursor.{part_of, parts_of};
 ghost use Rattle.segments.specs.Laws.{IsInRange};
 ghost use Rattle.line_replies.specs.AnswerJoined.{CanBeJoined, collections_of};
 ghost use Rattle.line_replies.specs.JoinedSegments.{AreSegments, collections_in, lists_in};
@@ -20,6 +21,25 @@ use topk_pruning::{Plan, plan_top};
 pub(crate) struct Segment<'a> {
     first: u32,
     index: Index<'a>,
+}
+
+impl<'a> Segment<'a> {
+    // The first posting of a term whose document, counted on from the first of the segment, is at least this one.
+    fn first_posting(&self, term: u32, doc: u32) -> Option<(u32, u32)>
+        requires within { term < length self.now.index.collection.lists }
+        requires in_range { IsInRange self.now.index.collection }
+        requires few { EndsBelow (part_of self.now.first (list_of self.now.index.collection term))
+            most_joined }
+        ensures { result ≡ option_map (λ p. (p.doc, p.freq)) (first_at_least
+            (shifted self.now.first (list_of self.now.index.collection term)) doc) }
+    {
+        let from = doc.saturating_sub(self.first);
+        if self.index.documents() <= from {
+            return None;
+        }
+        let (found, freq) = self.index.first_posting(term, from)?;
+        Some((self.first + found, freq))
+    }
 }
 
 /// The lists of the collection to which indexes are joined, and the plan of `top`.
@@ -77,6 +97,16 @@ impl<'a> TermLists for JoinedLists<'a> {
         Ok(JoinedCursor::new(parts))
     }
 
+    fn first_posting(
+        &self,
+        _alloc: Global,
+        term: u32,
+        doc: u32,
+    ) -> Result<Option<(u32, u32)>, NoMemory> {
+        joined_lists_follow();
+        Ok(first_in(&self.segments, term, doc))
+    }
+
     fn push_cursor(
         &self,
         alloc: Global,
@@ -130,6 +160,23 @@ fn segments_of<'a>(
         segments.push(Segment { first, index })?;
     }
     Ok((segments, documents))
+}
+
+// The first posting of a term whose document is at least this one, in the first segment that has such a posting.
+fn first_in(segments: &[Segment<'_>], term: u32, doc: u32) -> Option<(u32, u32)>
+    requires within { All (λ c. term < length c.lists) (collections_in segments.now) }
+    requires in_range { All IsInRange (collections_in segments.now) }
+    requires follow { FollowInOrder (lists_in segments.now term) }
+    ensures { result ≡ option_map (λ p. (p.doc, p.freq))
+        (first_at_least (joined_list (lists_in segments.now term)) doc) }
+{
+    for segment in segments {
+        let found = segment.first_posting(term, doc);
+        if found.is_some() {
+            return found;
+        }
+    }
+    None
 }
 
 // A cursor at the start of a term's list in each segment, with the first document of the segment.

@@ -5,7 +5,6 @@ ghost use Rattle.scan_plans.specs.IsTop.{IsTop};
 ghost use Rattle.scan_plans.specs.TopQuery.{IsTopQuery};
 ghost use Rattle.segments.specs.Laws.{IsInRange};
 
-use crate::reply::first_posting;
 use cursor_api::DocCursor;
 use no_memory::NoMemory;
 use std::alloc::Global;
@@ -42,15 +41,7 @@ pub trait TermLists {
     ) -> Result<Option<(u32, u32)>, NoMemory>
         requires { term < length (collection self.now).lists }
         ensures { IfOk result (λ found. found ≡ option_map (λ p. (p.doc, p.freq))
-            (first_at_least (list_of (collection self.now) term) doc)) }
-    {
-        // The cursor is not moved out of the result.
-        let mut opened = self.cursor(alloc, term);
-        match &mut opened {
-            Ok(cursor) => Ok(first_posting(cursor, doc)),
-            Err(_) => Err(NoMemory),
-        }
-    }
+            (first_at_least (list_of (collection self.now) term) doc)) };
 
     /// Puts a cursor at the start of a term's list behind others. There is room for it.
     fn push_cursor(

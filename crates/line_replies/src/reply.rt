@@ -62,16 +62,6 @@ fn next_answer<L: TermLists>(
     next_reply(alloc, lists.first_posting(alloc, term, doc)?)
 }
 
-// The first posting of a list whose document is at least this one, as document and frequency.
-pub(crate) fn first_posting<C: DocCursor>(cursor: &mut C, doc: u32) -> Option<(u32, u32)>
-    requires { C.place cursor.old ≡ 0 }
-    ensures { result ≡ option_map (λ p. (p.doc, p.freq)) (first_at_least (C.list cursor.old) doc) }
-{
-    cursor.next_geq(doc);
-    let found = cursor.doc()?;
-    Some((found, cursor.freq()))
-}
-
 // The reply with the documents that are in the lists of all these terms.
 fn and_answer<L: TermLists>(alloc: Global, lists: &L, terms: &[u32]) -> Result<Vec<u8>, NoMemory>
     requires few { length terms.now ≤ 1024 }

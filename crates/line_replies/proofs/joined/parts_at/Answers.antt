@@ -1,9 +1,10 @@
-use Rattle.line_replies.proofs.Joining.{term-at, lists-pushed, starts-pushed}
+use Rattle.std.proofs.Common.{◌<◌, length}
+use Rattle.line_replies.proofs.Joining.{one-of, lists-pushed, starts-pushed}
 use Rattle.line_replies.proofs.joined.parts_at.Invariants.{list_at}
 use Rattle.line_replies.proofs.joined.parts_at.Goals as goal
 
 pub cursor-requires : goal.cursor-requires
-cursor-requires c = record { within = term-at c.args.segments.now c.args.term c.loop-segment.segment-index c.segment-item.result c.requires c.loop-segment-test.true c.segment-item.is }
+cursor-requires c = record { within = one-of (λ d. c.args.term < length d.lists) c.args.segments.now c.loop-segment.segment-index c.segment-item.result c.requires c.loop-segment-test.true c.segment-item.is }
 
 pub loop-segment-preserved : goal.loop-segment-preserved
 loop-segment-preserved c = record {
