@@ -1,18 +1,19 @@
 -- Lemmas on postings of several parts that are given one part after the other.
-use Rattle.std.proofs.Common.{◌≡◌, sym, ap, ◌∙◌, ℕ, ◌+◌, ◌-◌, ◌<◌, ◌≤◌, List, ◌++◌, length, get_or, take, drop, inl, inr, arith, length-append, length-drop}
+use Rattle.std.proofs.Common.{◌≡◌, sym, ap, ◌∙◌, subst, ℕ, ◌+◌, ◌-◌, ◌<◌, ◌≤◌, List, ◌++◌, length, get_or, take, drop, inl, inr, arith, length-append, length-drop}
 use Rattle.std.specs.Prelude.{slice_index}
 use borrow.Rule.Slice.PartMut.{put_mid}
 use Rattle.std.proofs.lemmas.Bool.{cases_lt}
 use Rattle.std.proofs.lemmas.List.{get_or_append_left, get_or-append_right, get_or-take, length-take-le}
-use Rattle.collection_model.specs.Collection.{docs_of, freqs_of}
+use Rattle.std.proofs.lemmas.Slice.{take-put_mid}
+use Rattle.collection_model.specs.Collection.{Posting, docs_of, freqs_of}
 use Rattle.collection_model.specs.NextBelow.{AreNextBelow}
 use Rattle.collection_model.proofs.Lists.{docs_of-length}
 use Rattle.collection_model.proofs.NextBelow.{AreGiven, given-all}
 use Rattle.segments.specs.Joined.{ListPart, shifted, joined_list}
-use Rattle.segments.specs.JoinedCursor.{no_part, start_of}
+use Rattle.segments.specs.JoinedCursor.{no_part, places_of, start_of, joined_place}
 use Rattle.segments.specs.CursorPlaces.{part-within}
 use Rattle.segments.proofs.Shifts.{shifted-many}
-use Rattle.segments.proofs.Joins.{doc-at, freq-at}
+use Rattle.segments.proofs.Joins.{doc-at, freq-at, IsMoved}
 
 -- So many of the numbers from a place on stand at the head of others.
 pub record AreCopied (numbers : List ℕ) (from : ℕ) (given : List ℕ) (count : ℕ) : Type 0 where
@@ -112,3 +113,58 @@ pub room-kept : (count : ℕ) (given rest : List ℕ) → count ≤ length given
 room-kept count given rest room same =
     let behind : List ℕ = drop (length given - count) (drop count given) in
     omega (arith, same, length-append (take count given) (rest ++ behind), length-append rest behind, length-take-le count given room, length-drop (length given - count) (drop count given), length-drop count given)
+
+-- the numbers with others put behind the first of them
+abbrev pub put_behind : ℕ → List ℕ → List ℕ → List ℕ
+put_behind count given rest = put_mid count (length given - count) given rest
+
+put-front : (count : ℕ) (given rest : List ℕ) → count ≤ length given → take (count + length rest) (put_behind count given rest) ≡ take count given ++ rest
+put-front count given rest room = take-put_mid count (length given - count) given rest (count + length rest) (let e : count + length rest ≡ count + length rest = omega arith in e) room
+
+-- what is known once a part gave n documents behind those that were given, and went on in its list
+pub record HasGiven {A : Type 0} (list : A → List Posting) (place : A → ℕ) (parts : List ListPart) (cursors : List (ℕ × A)) (at : ℕ) (old new : ℕ × A) (from end count n : ℕ) (given rest : List ℕ) : Type 0 where
+  pub moved : IsMoved list place parts cursors at old new
+  pub here : start_of parts at + place old.1 ≡ from + count
+  pub there : start_of parts at + place new.1 ≡ from + (count + n)
+  pub inside : place old.1 + n ≤ length (get_or parts at no_part).list
+  pub next : AreNextBelow (docs_of (shifted (get_or parts at no_part).first (get_or parts at no_part).list)) (place old.1) end rest n
+  pub room : count ≤ length given
+  pub kept : length rest ≡ length given - count
+  pub whole : length (put_behind count given rest) ≡ length given
+  pub all : AreGiven (docs_of (joined_list parts)) from end (put_behind count given rest) (count + n)
+
+pub has-given : {A : Type 0} (list : A → List Posting) (place : A → ℕ) (parts : List ListPart) (cursors : List (ℕ × A)) (at : ℕ) (old new : ℕ × A) (from end count n : ℕ) (given rest : List ℕ) → IsMoved list place parts cursors at old new
+    → joined_place parts (places_of place cursors) at ≡ from + count → place new.1 ≡ place old.1 + n → count ≤ length given → AreGiven (docs_of (joined_list parts)) from end given count
+    → AreNextBelow (docs_of (shifted old.0 (list old.1))) (place old.1) end rest n → length rest ≡ length (take (length given - count) (drop count given))
+    → HasGiven list place parts cursors at old new from end count n given rest
+has-given list place parts cursors at old new from end count n given rest moved stood went room before read same =
+    let here : start_of parts at + place old.1 ≡ from + count = ap (λ k. start_of parts at + k) (sym moved.before) ∙ stood in
+    let next = subst (λ (p : ListPart). AreNextBelow (docs_of (shifted p.first p.list)) (place old.1) end rest n) (sym moved.part) read in
+    let kept : length rest ≡ length given - count = room-left count given rest room same in
+    record {
+      moved = moved;
+      here = here;
+      there = (let e : start_of parts at + place new.1 ≡ from + (count + n) = omega (arith, here, went) in e);
+      inside = omega (arith, next.within, shifted-many (get_or parts at no_part).first (get_or parts at no_part).list);
+      next = next;
+      room = room;
+      kept = kept;
+      whole = room-kept count given rest room kept;
+      all = given-more parts at from (place old.1) end count n given rest (put_behind count given rest) moved.within here room before next (put-front count given rest room);
+    }
+
+-- where the part has a posting left, they are all that are asked for
+pub given-here : {A : Type 0} {list : A → List Posting} {place : A → ℕ} {parts : List ListPart} {cursors : List (ℕ × A)} {at : ℕ} {old new : ℕ × A} {from end count n : ℕ} {given rest : List ℕ}
+    → HasGiven list place parts cursors at old new from end count n given rest → place new.1 < length (list old.1)
+    → AreNextBelow (docs_of (joined_list parts)) from end (put_behind count given rest) (count + n)
+given-here {A} {list} {place} {parts} {cursors} {at} {old} {new} {from} {end} {count} {n} {given} {rest} g left =
+    given-stop parts at from (place old.1) end count n rest (put_behind count given rest) g.moved.within g.here (omega (arith, left, g.here, g.there, ap (λ p. length p.list) g.moved.part)) (omega (arith, g.kept, g.room, g.whole)) g.all g.next
+
+-- the frequencies of those documents
+pub freqs-given : {A : Type 0} {list : A → List Posting} {place : A → ℕ} {parts : List ListPart} {cursors : List (ℕ × A)} {at : ℕ} {old new : ℕ × A} {from end count n : ℕ} {given rest : List ℕ} (freqs freqs_rest : List ℕ)
+    → HasGiven list place parts cursors at old new from end count n given rest → count ≤ length freqs → n ≤ length freqs_rest
+    → ((j : ℕ) → j < n → slice_index freqs_rest j ≡ slice_index (freqs_of (list old.1)) (place old.1 + j)) → AreCopied (freqs_of (joined_list parts)) from freqs count
+    → AreCopied (freqs_of (joined_list parts)) from (put_behind count freqs freqs_rest) (count + n)
+freqs-given {A} {list} {place} {parts} {cursors} {at} {old} {new} {from} {end} {count} {n} freqs freqs_rest g within fits read before =
+    copied-more parts at from (place old.1) count n freqs freqs_rest (put_behind count freqs freqs_rest) g.moved.within g.here within fits g.inside before
+    (λ j lt. read j lt ∙ ap (λ p. slice_index (freqs_of p.list) (place old.1 + j)) (sym g.moved.part)) (put-front count freqs freqs_rest within)

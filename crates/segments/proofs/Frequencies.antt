@@ -1,5 +1,5 @@
 -- Lemmas on the frequencies of lists that stand one after the other.
-use Rattle.std.proofs.Common.{◌≡◌, refl, sym, ap, ◌∙◌, ℕ, ◌+◌, ◌-◌, ◌<◌, ◌≤◌, ◌≢◌, leb, List, length, get_or, take, drop, max, inl, inr, cond, arith, length-drop}
+use Rattle.std.proofs.Common.{◌≡◌, refl, sym, ap, ◌∙◌, subst, ℕ, ◌+◌, ◌-◌, ◌<◌, ◌≤◌, ◌≢◌, leb, List, length, get_or, set, take, drop, max, inl, inr, cond, arith, length-drop}
 use Rattle.std.specs.Prelude.{slice_index}
 use Rattle.std.specs.List.{position_or_len, count_by}
 use Rattle.std.proofs.lemmas.Bool.{cases_lt, leb-false, leb-true, lt-leb, le-leb}
@@ -8,9 +8,9 @@ use Rattle.std.proofs.lemmas.List.Sums.{prefix_len-le-length, position_or_len_is
 use Rattle.collection_model.specs.Collection.{Posting, freqs_of}
 use Rattle.cursor_api.specs.NextGeq.{next_frequent_place}
 use Rattle.segments.specs.Joined.{ListPart, shifted, joined_list}
-use Rattle.segments.specs.JoinedCursor.{no_part, start_of}
+use Rattle.segments.specs.JoinedCursor.{no_part, places_of, start_of, joined_place}
 use Rattle.segments.specs.CursorPlaces.{part-within}
-use Rattle.segments.proofs.Joins.{no_posting, freq-at, joined-more}
+use Rattle.segments.proofs.Joins.{no_posting, freq-at, joined-more, IsMoved, moved-next}
 use Rattle.segments.proofs.Shifts.{shifted-freqs}
 
 -- a place at or after another: the first whose frequency is at least f, or the end of the list
@@ -24,7 +24,7 @@ pub record IsNextFrequent (list : List Posting) (place f found : ℕ) : Type 0 w
 freq-from : (list : List Posting) (place j k : ℕ) → place + j ≡ k → k < length list → get_or (freqs_of list) k 0 ≡ (get_or (drop place list) j no_posting).freq
 freq-from list place j k e within = get_or-map (λ p. p.freq) list k no_posting 0 within ∙ ap (λ i. (get_or list i no_posting).freq) (sym e) ∙ ap (λ p. p.freq) (sym (get_or-drop place list j no_posting))
 
-pub next-first : (list : List Posting) (place f : ℕ) → place ≤ length list → IsNextFrequent list place f (next_frequent_place list place f)
+next-first : (list : List Posting) (place f : ℕ) → place ≤ length list → IsNextFrequent list place f (next_frequent_place list place f)
 next-first list place f within =
     let rest : List Posting = drop place list in
     let far : ℕ = position_or_len (λ p. leb f p.freq) rest in
@@ -62,7 +62,7 @@ pub rarer-none : (parts : List ListPart) (from f : ℕ) → AreRarer parts from 
 rarer-none parts from f = record { at_or_after = omega arith; passed = λ k after before. absurd (omega arith) }
 
 -- those that a part's cursor passes
-pub rarer-more : (parts : List ListPart) (at from f place found : ℕ) → at < length parts → AreRarer parts from f (start_of parts at + place) → IsNextFrequent (get_or parts at no_part).list place f found
+rarer-more : (parts : List ListPart) (at from f place found : ℕ) → at < length parts → AreRarer parts from f (start_of parts at + place) → IsNextFrequent (get_or parts at no_part).list place f found
     → AreRarer parts from f (start_of parts at + found)
 rarer-more parts at from f place found within before is = record {
   at_or_after = omega (arith, before.at_or_after, is.at_or_after);
@@ -76,7 +76,7 @@ rarer-more parts at from f place found within before is = record {
 }
 
 -- where the part has so frequent a posting, its place is the next one
-pub rarer-stop : (parts : List ListPart) (at from f place found : ℕ) → at < length parts → found < length (get_or parts at no_part).list → AreRarer parts from f (start_of parts at + place)
+rarer-stop : (parts : List ListPart) (at from f place found : ℕ) → at < length parts → found < length (get_or parts at no_part).list → AreRarer parts from f (start_of parts at + place)
     → IsNextFrequent (get_or parts at no_part).list place f found → IsNextFrequent (joined_list parts) from f (start_of parts at + found)
 rarer-stop parts at from f place found within inside before is =
     let all = rarer-more parts at from f place found within before is in
@@ -95,6 +95,26 @@ rarer-end parts from f now end all = record {
   passed = all.passed;
   reached = λ lt. absurd (omega arith);
 }
+
+-- what a cursor's next frequent posting tells of all parts
+moved-rarer : {A : Type 0} {list : A → List Posting} {place : A → ℕ} {parts : List ListPart} {cursors : List (ℕ × A)} {at : ℕ} {old new : ℕ × A} {from f : ℕ} → IsMoved list place parts cursors at old new → AreRarer parts from f (joined_place parts (places_of place cursors) at) → AreRarer parts from f (start_of parts at + place old.1)
+moved-rarer {A} {list} {place} {parts} {cursors} {at} {old} {new} {from} {f} moved before = subst (λ (k : ℕ). AreRarer parts from f (start_of parts at + k)) moved.before before
+
+next-read : {A : Type 0} {list : A → List Posting} {place : A → ℕ} {parts : List ListPart} {cursors : List (ℕ × A)} {at : ℕ} {old new : ℕ × A} {f : ℕ} → IsMoved list place parts cursors at old new → place old.1 ≤ length (list old.1) → place new.1 ≡ next_frequent_place (list old.1) (place old.1) f
+    → IsNextFrequent (get_or parts at no_part).list (place old.1) f (place new.1)
+next-read {A} {list} {place} {parts} {cursors} {at} {old} {new} {f} moved within went =
+    subst (λ (p : ListPart). IsNextFrequent p.list (place old.1) f (place new.1)) (sym moved.part)
+    (subst (λ (n : ℕ). IsNextFrequent (list old.1) (place old.1) f n) (sym went) (next-first (list old.1) (place old.1) f within))
+
+pub rarer-next : {A : Type 0} {list : A → List Posting} {place : A → ℕ} {parts : List ListPart} {cursors : List (ℕ × A)} {at : ℕ} {old new : ℕ × A} (from : ℕ) {f : ℕ} → IsMoved list place parts cursors at old new → AreRarer parts from f (joined_place parts (places_of place cursors) at)
+    → place old.1 ≤ length (list old.1) → place new.1 ≡ next_frequent_place (list old.1) (place old.1) f → place new.1 ≡ length (list old.1) → AreRarer parts from f (joined_place parts (places_of place (set cursors at new)) (at + 1))
+rarer-next {A} {list} {place} {parts} {cursors} {at} {old} {new} from {f} moved before within went ended =
+    subst (λ (k : ℕ). AreRarer parts from f k) (sym (moved-next moved ended)) (rarer-more parts at from f (place old.1) (place new.1) moved.within (moved-rarer moved before) (next-read moved within went))
+
+pub rarer-here : {A : Type 0} {list : A → List Posting} {place : A → ℕ} {parts : List ListPart} {cursors : List (ℕ × A)} {at : ℕ} {old new : ℕ × A} (from : ℕ) {f : ℕ} → IsMoved list place parts cursors at old new → AreRarer parts from f (joined_place parts (places_of place cursors) at)
+    → place old.1 ≤ length (list old.1) → place new.1 ≡ next_frequent_place (list old.1) (place old.1) f → place new.1 < length (list old.1) → IsNextFrequent (joined_list parts) from f (start_of parts at + place new.1)
+rarer-here {A} {list} {place} {parts} {cursors} {at} {old} {new} from {f} moved before within went left =
+    rarer-stop parts at from f (place old.1) (place new.1) moved.within (omega (arith, left, ap (λ p. length p.list) moved.part)) (moved-rarer moved before) (next-read moved within went)
 
 -- how many frequencies reach one in the parts up to the next
 pub count-more : (t : ℕ) (parts : List ListPart) (at : ℕ) → at < length parts

@@ -1,5 +1,5 @@
 -- Lemmas on lists that stand one after the other, and on the place of a cursor over them.
-use Rattle.std.proofs.Common.{◌≡◌, refl, sym, ap, ◌∙◌, ℕ, ◌+◌, ◌-◌, ◌<◌, ◌≤◌, ◌≢◌, zero, suc, Some, List, [], ◌∷◌, ◌++◌, length, get_or, take, set, max, inl, inr, arith, length-append}
+use Rattle.std.proofs.Common.{◌≡◌, refl, sym, ap, ◌∙◌, subst, ℕ, ◌+◌, ◌-◌, ◌<◌, ◌≤◌, ◌≢◌, zero, suc, Some, List, [], ◌∷◌, ◌++◌, length, get_or, take, set, max, inl, inr, arith, length-append}
 use Rattle.std.specs.Prelude.{slice_index}
 use Rattle.std.specs.List.{All, slice_get}
 use Rattle.std.specs.Option.{option_map}
@@ -180,35 +180,68 @@ is-moved list place parts cursors at d new within are first same unread = record
 }
 
 -- it stands there where that cursor has a posting left
-pub moved-stands : {A : Type 0} (list : A → List Posting) (place : A → ℕ) (parts : List ListPart) (cursors : List (ℕ × A)) (at : ℕ) (old new : ℕ × A) → IsMoved list place parts cursors at old new → place new.1 < length (list old.1)
+pub moved-stands : {A : Type 0} {list : A → List Posting} {place : A → ℕ} {parts : List ListPart} {cursors : List (ℕ × A)} {at : ℕ} {old new : ℕ × A} → IsMoved list place parts cursors at old new → place new.1 < length (list old.1)
     → StandsAt (parts_of list (set cursors at new)) (places_of place (set cursors at new)) at
-moved-stands list place parts cursors at old new moved left = record {
+moved-stands {A} {list} {place} {parts} {cursors} {at} {old} {new} moved left = record {
   within = omega (arith, ap length moved.same, moved.within);
   reading = λ lt. omega (arith, left, moved.now, ap (λ ps. length (get_or ps at no_part).list) moved.same, ap (λ p. length p.list) moved.part);
   unread = moved.unread;
 }
 
 -- the place then
-pub moved-place : {A : Type 0} (list : A → List Posting) (place : A → ℕ) (parts : List ListPart) (cursors : List (ℕ × A)) (at : ℕ) (old new : ℕ × A) → IsMoved list place parts cursors at old new
+pub moved-place : {A : Type 0} {list : A → List Posting} {place : A → ℕ} {parts : List ListPart} {cursors : List (ℕ × A)} {at : ℕ} {old new : ℕ × A} → IsMoved list place parts cursors at old new
     → joined_place (parts_of list (set cursors at new)) (places_of place (set cursors at new)) at ≡ start_of parts at + place new.1
-moved-place list place parts cursors at old new moved = ap (λ ps. joined_place ps (places_of place (set cursors at new)) at) moved.same ∙ ap (λ k. start_of parts at + k) moved.now
+moved-place {A} {list} {place} {parts} {cursors} {at} {old} {new} moved = ap (λ ps. joined_place ps (places_of place (set cursors at new)) at) moved.same ∙ ap (λ k. start_of parts at + k) moved.now
 
 -- and at the next part where it has none
-pub moved-next : {A : Type 0} (list : A → List Posting) (place : A → ℕ) (parts : List ListPart) (cursors : List (ℕ × A)) (at : ℕ) (old new : ℕ × A) → IsMoved list place parts cursors at old new → place new.1 ≡ length (list old.1)
+pub moved-next : {A : Type 0} {list : A → List Posting} {place : A → ℕ} {parts : List ListPart} {cursors : List (ℕ × A)} {at : ℕ} {old new : ℕ × A} → IsMoved list place parts cursors at old new → place new.1 ≡ length (list old.1)
     → joined_place parts (places_of place (set cursors at new)) (at + 1) ≡ start_of parts at + place new.1
-moved-next list place parts cursors at old new moved ended = omega (arith, start-next parts at moved.within, ended, ap (λ p. length p.list) moved.part, moved.unread (at + 1) (omega arith))
+moved-next {A} {list} {place} {parts} {cursors} {at} {old} {new} moved ended = omega (arith, start-next parts at moved.within, ended, ap (λ p. length p.list) moved.part, moved.unread (at + 1) (omega arith))
+
+-- all documents up to there are below d where those before the move and those that the cursor passed are
+moved-passed : {A : Type 0} {list : A → List Posting} {place : A → ℕ} {parts : List ListPart} {cursors : List (ℕ × A)} {at : ℕ} {old new : ℕ × A} {from d : ℕ} → IsMoved list place parts cursors at old new → ArePassed parts from d (joined_place parts (places_of place cursors) at) → ArePassed parts from d (start_of parts at + place old.1)
+moved-passed {A} {list} {place} {parts} {cursors} {at} {old} {new} {from} {d} moved before = subst (λ (k : ℕ). ArePassed parts from d (start_of parts at + k)) moved.before before
+
+-- the part that the cursor's list is
+moved-part : {A : Type 0} {list : A → List Posting} {place : A → ℕ} {parts : List ListPart} {cursors : List (ℕ × A)} {at : ℕ} {old new : ℕ × A} → IsMoved list place parts cursors at old new → (P : ListPart → Type 0) → P (part_of old.0 (list old.1)) → P (get_or parts at no_part)
+moved-part moved P is = subst P (sym moved.part) is
+
+pub passed-next : {A : Type 0} {list : A → List Posting} {place : A → ℕ} {parts : List ListPart} {cursors : List (ℕ × A)} {at : ℕ} {old new : ℕ × A} (from : ℕ) {d : ℕ} → IsMoved list place parts cursors at old new → ArePassed parts from d (joined_place parts (places_of place cursors) at)
+    → IsNextGeq (shifted old.0 (list old.1)) (place old.1) d (place new.1) → place new.1 ≡ length (list old.1) → ArePassed parts from d (joined_place parts (places_of place (set cursors at new)) (at + 1))
+passed-next {A} {list} {place} {parts} {cursors} {at} {old} {new} from {d} moved before read ended =
+    subst (λ (k : ℕ). ArePassed parts from d k) (sym (moved-next moved ended))
+    (passed-more parts at from d (place old.1) (place new.1) moved.within (moved-passed moved before) (moved-part moved (λ p. IsNextGeq (shift p) (place old.1) d (place new.1)) read))
+
+pub passed-here : {A : Type 0} {list : A → List Posting} {place : A → ℕ} {parts : List ListPart} {cursors : List (ℕ × A)} {at : ℕ} {old new : ℕ × A} (from : ℕ) {d : ℕ} → IsMoved list place parts cursors at old new → ArePassed parts from d (joined_place parts (places_of place cursors) at)
+    → IsNextGeq (shifted old.0 (list old.1)) (place old.1) d (place new.1) → place new.1 < length (list old.1) → IsNextGeq (joined_list parts) from d (start_of parts at + place new.1)
+passed-here {A} {list} {place} {parts} {cursors} {at} {old} {new} from {d} moved before read left =
+    passed-stop parts at from d (place old.1) (place new.1) moved.within (omega (arith, left, ap (λ p. length p.list) moved.part)) (moved-passed moved before)
+    (moved-part moved (λ p. IsNextGeq (shift p) (place old.1) d (place new.1)) read)
 
 -- behind the last part it stands at the end
-pub stands-behind : {A : Type 0} (list : A → List Posting) (place : A → ℕ) (cursors : List (ℕ × A)) → StandsAt (parts_of list cursors) (places_of place cursors) (length cursors)
+stands-behind : {A : Type 0} (list : A → List Posting) (place : A → ℕ) (cursors : List (ℕ × A)) → StandsAt (parts_of list cursors) (places_of place cursors) (length cursors)
 stands-behind list place cursors = record {
   within = omega (arith, parts-many list cursors);
   reading = λ lt. absurd (omega (arith, lt, parts-many list cursors));
   unread = λ j lt. get_or_past (places_of place cursors) j 0 (omega (arith, places-many place cursors));
 }
 
-pub place-behind : {A : Type 0} (list : A → List Posting) (place : A → ℕ) (parts : List ListPart) (cursors : List (ℕ × A)) (at : ℕ) → parts_of list cursors ≡ parts → at ≡ length cursors → joined_place parts (places_of place cursors) at ≡ length (joined_list parts)
+place-behind : {A : Type 0} (list : A → List Posting) (place : A → ℕ) (parts : List ListPart) (cursors : List (ℕ × A)) (at : ℕ) → parts_of list cursors ≡ parts → at ≡ length cursors → joined_place parts (places_of place cursors) at ≡ length (joined_list parts)
 place-behind list place parts cursors at are end =
     omega (arith, get_or_past (places_of place cursors) at 0 (omega (arith, places-many place cursors)), start-past parts at (omega (arith, ap length are, parts-many list cursors)))
+
+-- what is known once all parts were gone through
+pub record IsBehind {A : Type 0} (list : A → List Posting) (place : A → ℕ) (parts : List ListPart) (cursors : List (ℕ × A)) (at : ℕ) : Type 0 where
+  pub stands : StandsAt (parts_of list cursors) (places_of place cursors) (length cursors)
+  pub there : joined_place (parts_of list cursors) (places_of place cursors) (length cursors) ≡ joined_place parts (places_of place cursors) at
+  pub at_end : joined_place parts (places_of place cursors) at ≡ length (joined_list parts)
+
+pub is-behind : {A : Type 0} (list : A → List Posting) (place : A → ℕ) (parts : List ListPart) (cursors : List (ℕ × A)) (at : ℕ) → parts_of list cursors ≡ parts → at ≡ length cursors → IsBehind list place parts cursors at
+is-behind list place parts cursors at are end = record {
+  stands = stands-behind list place cursors;
+  there = ap (λ ps. joined_place ps (places_of place cursors) (length cursors)) are ∙ ap (joined_place parts (places_of place cursors)) (sym end);
+  at_end = place-behind list place parts cursors at are end;
+}
 
 -- it is at one of them where a posting is left
 pub is-inside : {A : Type 0} (list : A → List Posting) (place : A → ℕ) (cursors : List (ℕ × A)) (at : ℕ) → joined_place (parts_of list cursors) (places_of place cursors) at < length (joined_list (parts_of list cursors))
@@ -217,6 +250,12 @@ is-inside list place cursors at left within = elim (cases_lt at (length cursors)
   | inl lt ↦ lt
   | inr ge ↦ absurd (omega (arith, left, place-behind list place (parts_of list cursors) cursors at (λ _. parts_of list cursors) (omega (arith, ge, within, parts-many list cursors))))
 ]
+
+-- the part at which it stands, once its cursor moved in its list
+pub moved-here : {A : Type 0} (list : A → List Posting) (place : A → ℕ) (cursors : List (ℕ × A)) (at : ℕ) (c : ℕ × A) (new : A) → joined_place (parts_of list cursors) (places_of place cursors) at < length (joined_list (parts_of list cursors))
+    → StandsAt (parts_of list cursors) (places_of place cursors) at → c ≡ get_or cursors at c → list new ≡ list c.1 → IsMoved list place (parts_of list cursors) cursors at (get_or cursors at c) (c.0, new)
+moved-here list place cursors at c new left stands is same =
+    is-moved list place (parts_of list cursors) cursors at c (c.0, new) (is-inside list place cursors at left stands.within) (λ _. parts_of list cursors) (ap (λ x. x.0) is) (same ∙ ap (λ x. list x.1) is) stands.unread
 
 -- the posting at its place
 pub doc-there : (parts : List ListPart) (at k : ℕ) → at < length parts → k < length (get_or parts at no_part).list

@@ -78,6 +78,13 @@ none-left [] place is = omega arith
 none-left (p ∷ list) zero is = absurd cc
 none-left (p ∷ list) (suc place) is = let h = none-left list place is in omega arith
 
+-- and so of a cursor that went on in its list
+pub left-in : (was now : List Posting) (place : ℕ) → now ≡ was → is_some (option_map (λ p. p.doc) (slice_get now place)) ≡ true → place < length was
+left-in was now place same some = omega (arith, some-left now place some, ap length same)
+
+pub ended-in : (was now : List Posting) (place : ℕ) → now ≡ was → place ≤ length now → is_some (option_map (λ p. p.doc) (slice_get now place)) ≡ false → place ≡ length was
+ended-in was now place same within none = omega (arith, none-left now place none, within, ap length same)
+
 -- documents that a cursor gives are counted on within 64 bits
 pub block-fits : (first : ℕ) (list : List Posting) (place end count : ℕ) (given : List ℕ) → first < 2 ^ 32 → IsCursorList list → AreNextBelow (docs_of list) place end given count → All (λ d. first + d < 2 ^ 64) (take count given)
 block-fits first list place end count given small good is = λ k d within.

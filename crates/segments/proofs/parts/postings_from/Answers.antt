@@ -1,124 +1,84 @@
-use Rattle.std.proofs.Common.{◌≡◌, ℕ, ◌+◌, ◌-◌, ◌<◌, ◌≤◌, sym, ap, ◌∙◌, subst, length, take, List, ◌++◌, get_or, slice_index, arith}
+use Rattle.std.proofs.Common.{◌≡◌, ℕ, ◌+◌, ◌-◌, ◌≤◌, sym, ap, ◌∙◌, List, length, get_or, arith}
 use Rattle.std.specs.Option.{is_some}
-use Rattle.std.proofs.lemmas.Slice.{take-put_mid}
-use borrow.Rule.Slice.PartMut.{put_mid}
-use Rattle.collection_model.specs.Collection.{docs_of, freqs_of}
-use Rattle.collection_model.specs.NextBelow.{AreNextBelow}
-use Rattle.segments.specs.Joined.{ListPart, joined_list, shifted}
-use Rattle.segments.specs.JoinedCursor.{no_part, parts_of, places_of, start_of, joined_place}
-use Rattle.segments.proofs.Shifts.{some-left, none-left, shifted-many}
-use Rattle.segments.proofs.Joins.{is-moved, moved-stands, moved-place, moved-next, stands-behind, place-behind, parts-many}
-use Rattle.segments.proofs.Blocks.{given-more, given-stop, given-end, room-left, room-kept, copied-more}
+use Rattle.collection_model.specs.Collection.{freqs_of}
+use Rattle.segments.specs.Joined.{joined_list}
+use Rattle.segments.specs.JoinedCursor.{parts_of, places_of, joined_place}
+use Rattle.segments.proofs.Shifts.{left-in, ended-in}
+use Rattle.segments.proofs.Joins.{is-moved, moved-stands, moved-place, moved-next, is-behind, parts-many}
+use Rattle.segments.proofs.Blocks.{HasGiven, has-given, given-here, given-end, AreCopied, put_behind, freqs-given, room-left, room-kept}
+use Rattle.segments.proofs.parts.postings_from.Given as given
 use Rattle.segments.proofs.parts.postings_from.Goals as goal
+use Rattle.segments.proofs.parts.postings_from.Goals.{After-read_postings-count}
+
+-- what a part gave
+gave : (g : given.Over) (c : After-read_postings-count g) → HasGiven g.C.DocCursor.list g.C.DocCursor.place (parts_of g.C.DocCursor.list c.args.parts.now) c.loop-i.parts c.loop-i.i (get_or c.loop-i.parts c.loop-i.i c.index-parts-i.result) c.read_postings-count.new.part
+    (joined_place (parts_of g.C.DocCursor.list c.args.parts.now) (places_of g.C.DocCursor.place c.args.parts.now) c.args.at) c.args.end c.loop-i.count c.read_postings-count.result c.loop-i.docs c.read_postings-count.new.docs
+gave g c =
+    let so_far = c.loop-i.invariant in
+    let read = c.read_postings-count.ensures in
+    has-given g.C.DocCursor.list g.C.DocCursor.place (parts_of g.C.DocCursor.list c.args.parts.now) c.loop-i.parts c.loop-i.i (get_or c.loop-i.parts c.loop-i.i c.index-parts-i.result) c.read_postings-count.new.part
+    (joined_place (parts_of g.C.DocCursor.list c.args.parts.now) (places_of g.C.DocCursor.place c.args.parts.now) c.args.at) c.args.end c.loop-i.count c.read_postings-count.result c.loop-i.docs c.read_postings-count.new.docs
+    (is-moved g.C.DocCursor.list g.C.DocCursor.place (parts_of g.C.DocCursor.list c.args.parts.now) c.loop-i.parts c.loop-i.i c.index-parts-i.result c.read_postings-count.new.part (omega arith) so_far.parts read.first read.list so_far.unread)
+    so_far.place read.place so_far.room so_far.docs read.docs read.docs_room
+
+-- and of their frequencies
+record HasFreqs (freqs rest : List ℕ) (numbers : List ℕ) (from count n : ℕ) : Type 0 where
+  whole : length (put_behind count freqs rest) ≡ length freqs
+  copied : AreCopied numbers from (put_behind count freqs rest) (count + n)
+
+freqs-gave : (g : given.Over) (c : After-read_postings-count g) → HasFreqs c.loop-i.freqs c.read_postings-count.new.freqs (freqs_of (joined_list (parts_of g.C.DocCursor.list c.args.parts.now))) (joined_place (parts_of g.C.DocCursor.list c.args.parts.now) (places_of g.C.DocCursor.place c.args.parts.now) c.args.at) c.loop-i.count c.read_postings-count.result
+freqs-gave g c =
+    let read = c.read_postings-count.ensures in
+    let r = gave g c in
+    let within : c.loop-i.count ≤ length c.loop-i.freqs = omega (arith, r.room, c.requires.room, c.loop-i.auto.docs, c.loop-i.auto.freqs) in
+    let kept : length c.read_postings-count.new.freqs ≡ length c.loop-i.freqs - c.loop-i.count = room-left c.loop-i.count c.loop-i.freqs c.read_postings-count.new.freqs within read.freqs_room in
+    record {
+      whole = room-kept c.loop-i.count c.loop-i.freqs c.read_postings-count.new.freqs within kept;
+      copied = freqs-given c.loop-i.freqs c.read_postings-count.new.freqs r within (omega (arith, r.next.room, r.kept, kept, c.requires.room, c.loop-i.auto.docs, c.loop-i.auto.freqs)) read.freqs c.loop-i.invariant.freqs;
+    }
 
 pub overflow_add-count : goal.overflow_add-count
 overflow_add-count g c =
-    let read = c.read_postings-count.ensures in
-    omega (arith, read.docs.room, room-left c.loop-i.count c.loop-i.docs c.read_postings-count.new.docs c.loop-i.invariant.room read.docs_room)
+    let r = gave g (goal.at.overflow_add-count g c).After-read_postings-count in
+    omega (arith, r.next.room, r.kept)
 
 pub loop-i-preserved : goal.loop-i-preserved
 loop-i-preserved g c =
-    let list = g.C.DocCursor.list in
-    let place = g.C.DocCursor.place in
-    let cursors = c.loop-i.parts in
-    let i : ℕ = c.loop-i.i in
-    let old = get_or cursors i c.index-parts-i.result in
-    let new = c.read_postings-count.new.part in
-    let so_far = c.loop-i.invariant in
-    let read = c.read_postings-count.ensures in
-    let n : ℕ = c.read_postings-count.result in
-    let count : ℕ = c.loop-i.count in
-    let given : List ℕ = c.loop-i.docs in
-    let rest : List ℕ = c.read_postings-count.new.docs in
-    let after : List ℕ = put_mid count (length given - count) given rest in
-    let parts : List ListPart = parts_of list c.args.parts.now in
-    let from : ℕ = joined_place parts (places_of place c.args.parts.now) c.args.at in
-    let moved = is-moved list place parts cursors i c.index-parts-i.result new (omega arith) so_far.parts read.first read.list so_far.unread in
-    let here : start_of parts i + place old.1 ≡ from + count = ap (λ k. start_of parts i + k) (sym moved.before) ∙ so_far.place in
-    let next = subst (λ (p : ListPart). AreNextBelow (docs_of (shifted p.first p.list)) (place old.1) c.args.end rest n) (sym moved.part) read.docs in
-    let behind : take (count + length rest) after ≡ take count given ++ rest = take-put_mid count (length given - count) given rest (count + length rest) (let e : count + length rest ≡ count + length rest = omega arith in e) so_far.room in
-    let kept : length rest ≡ length given - count = room-left count given rest so_far.room read.docs_room in
-    let all = given-more parts i from (place old.1) c.args.end count n given rest after moved.within here so_far.room so_far.docs next behind in
-    let freqs_given : List ℕ = c.loop-i.freqs in
-    let freqs_rest : List ℕ = c.read_postings-count.new.freqs in
-    let freqs_after : List ℕ = put_mid count (length freqs_given - count) freqs_given freqs_rest in
-    let freqs_within : count ≤ length freqs_given = omega (arith, so_far.room, c.requires.room, c.loop-i.auto.docs, c.loop-i.auto.freqs) in
-    let freqs_behind : take (count + length freqs_rest) freqs_after ≡ take count freqs_given ++ freqs_rest = take-put_mid count (length freqs_given - count) freqs_given freqs_rest (count + length freqs_rest) (let e : count + length freqs_rest ≡ count + length freqs_rest = omega arith in e) freqs_within in
-    let freqs_kept : length freqs_rest ≡ length freqs_given - count = room-left count freqs_given freqs_rest freqs_within read.freqs_room in
-    let inside : place old.1 + n ≤ length (get_or parts i no_part).list = omega (arith, read.docs.within, shifted-many old.0 (list old.1), ap (λ p. length p.list) moved.part) in
-    let copied = copied-more parts i from (place old.1) count n freqs_given freqs_rest freqs_after moved.within here freqs_within (omega (arith, read.docs.room, kept, freqs_kept, c.requires.room, c.loop-i.auto.docs, c.loop-i.auto.freqs)) inside so_far.freqs
-    (λ j lt. read.freqs j lt ∙ ap (λ p. slice_index (freqs_of p.list) (place old.1 + j)) (sym moved.part)) freqs_behind in
-    let none : length (list new.1) ≤ place new.1 = none-left (list new.1) (place new.1) (ap is_some (sym c.doc.ensures) ∙ sym c.is_some.ensures ∙ c.if-is_some.false) in
-    let ended : place new.1 ≡ length (list old.1) = omega (arith, none, (g.met.C.DocCursor.well_formed new.1).within, ap length read.list) in
+    let r = gave g (goal.at.loop-i-preserved g c).After-read_postings-count in
+    let ended = ended-in (g.C.DocCursor.list (get_or c.loop-i.parts c.loop-i.i c.index-parts-i.result).1) (g.C.DocCursor.list c.read_postings-count.new.part.1) (g.C.DocCursor.place c.read_postings-count.new.part.1) c.read_postings-count.ensures.list (g.met.C.DocCursor.well_formed c.read_postings-count.new.part.1).within (ap is_some (sym c.doc.ensures) ∙ sym c.is_some.ensures ∙ c.if-is_some.false) in
     record {
-      parts = moved.same;
-      unread = λ j lt. moved.unread j (omega arith);
-      place = moved-next list place parts cursors i old new moved ended ∙ (let e : start_of parts i + place new.1 ≡ from + (count + n) = omega (arith, here, read.place) in e);
-      room = omega (arith, read.docs.room, room-kept count given rest so_far.room kept);
-      docs = all;
-      freqs = copied;
+      parts = r.moved.same;
+      unread = λ j lt. r.moved.unread j (omega arith);
+      place = moved-next r.moved ended ∙ r.there;
+      room = omega (arith, r.next.room, r.kept, r.whole);
+      docs = r.all;
+      freqs = (freqs-gave g (goal.at.loop-i-preserved g c).After-read_postings-count).copied;
     }
 
 pub returns-then-is_some : goal.returns-then-is_some
 returns-then-is_some g c =
-    let list = g.C.DocCursor.list in
-    let place = g.C.DocCursor.place in
-    let cursors = c.loop-i.parts in
-    let i : ℕ = c.loop-i.i in
-    let old = get_or cursors i c.index-parts-i.result in
-    let new = c.read_postings-count.new.part in
-    let so_far = c.loop-i.invariant in
-    let read = c.read_postings-count.ensures in
-    let n : ℕ = c.read_postings-count.result in
-    let count : ℕ = c.loop-i.count in
-    let given : List ℕ = c.loop-i.docs in
-    let rest : List ℕ = c.read_postings-count.new.docs in
-    let after : List ℕ = put_mid count (length given - count) given rest in
-    let parts : List ListPart = parts_of list c.args.parts.now in
-    let from : ℕ = joined_place parts (places_of place c.args.parts.now) c.args.at in
-    let moved = is-moved list place parts cursors i c.index-parts-i.result new (omega arith) so_far.parts read.first read.list so_far.unread in
-    let here : start_of parts i + place old.1 ≡ from + count = ap (λ k. start_of parts i + k) (sym moved.before) ∙ so_far.place in
-    let next = subst (λ (p : ListPart). AreNextBelow (docs_of (shifted p.first p.list)) (place old.1) c.args.end rest n) (sym moved.part) read.docs in
-    let behind : take (count + length rest) after ≡ take count given ++ rest = take-put_mid count (length given - count) given rest (count + length rest) (let e : count + length rest ≡ count + length rest = omega arith in e) so_far.room in
-    let kept : length rest ≡ length given - count = room-left count given rest so_far.room read.docs_room in
-    let all = given-more parts i from (place old.1) c.args.end count n given rest after moved.within here so_far.room so_far.docs next behind in
-    let freqs_given : List ℕ = c.loop-i.freqs in
-    let freqs_rest : List ℕ = c.read_postings-count.new.freqs in
-    let freqs_after : List ℕ = put_mid count (length freqs_given - count) freqs_given freqs_rest in
-    let freqs_within : count ≤ length freqs_given = omega (arith, so_far.room, c.requires.room, c.loop-i.auto.docs, c.loop-i.auto.freqs) in
-    let freqs_behind : take (count + length freqs_rest) freqs_after ≡ take count freqs_given ++ freqs_rest = take-put_mid count (length freqs_given - count) freqs_given freqs_rest (count + length freqs_rest) (let e : count + length freqs_rest ≡ count + length freqs_rest = omega arith in e) freqs_within in
-    let freqs_kept : length freqs_rest ≡ length freqs_given - count = room-left count freqs_given freqs_rest freqs_within read.freqs_room in
-    let inside : place old.1 + n ≤ length (get_or parts i no_part).list = omega (arith, read.docs.within, shifted-many old.0 (list old.1), ap (λ p. length p.list) moved.part) in
-    let copied = copied-more parts i from (place old.1) count n freqs_given freqs_rest freqs_after moved.within here freqs_within (omega (arith, read.docs.room, kept, freqs_kept, c.requires.room, c.loop-i.auto.docs, c.loop-i.auto.freqs)) inside so_far.freqs
-    (λ j lt. read.freqs j lt ∙ ap (λ p. slice_index (freqs_of p.list) (place old.1 + j)) (sym moved.part)) freqs_behind in
-    let left : place new.1 < length (list new.1) = some-left (list new.1) (place new.1) (ap is_some (sym c.doc.ensures) ∙ sym c.is_some.ensures ∙ c.if-is_some.true) in
-    let there : place new.1 < length (list old.1) = omega (arith, left, ap length read.list) in
+    let r = gave g (goal.at.returns-then-is_some g c).After-read_postings-count in
+    let there = left-in (g.C.DocCursor.list (get_or c.loop-i.parts c.loop-i.i c.index-parts-i.result).1) (g.C.DocCursor.list c.read_postings-count.new.part.1) (g.C.DocCursor.place c.read_postings-count.new.part.1) c.read_postings-count.ensures.list (ap is_some (sym c.doc.ensures) ∙ sym c.is_some.ensures ∙ c.if-is_some.true) in
     record {
-      parts = moved.same;
-      stands = moved-stands list place parts cursors i old new moved there;
-      place = moved-place list place parts cursors i old new moved ∙ (let e : start_of parts i + place new.1 ≡ from + (count + n) = omega (arith, here, read.place) in e);
-      docs_room = room-kept count given rest so_far.room kept ∙ c.loop-i.auto.docs;
-      freqs_room = room-kept count freqs_given freqs_rest freqs_within freqs_kept ∙ c.loop-i.auto.freqs;
-      docs = given-stop parts i from (place old.1) c.args.end count n rest after moved.within here (omega (arith, there, read.place, ap (λ p. length p.list) moved.part)) (omega (arith, kept, so_far.room, room-kept count given rest so_far.room kept)) all next;
-      freqs = copied.same;
+      parts = r.moved.same;
+      stands = moved-stands r.moved there;
+      place = moved-place r.moved ∙ r.there;
+      docs_room = r.whole ∙ c.loop-i.auto.docs;
+      freqs_room = (freqs-gave g (goal.at.returns-then-is_some g c).After-read_postings-count).whole ∙ c.loop-i.auto.freqs;
+      docs = given-here r there;
+      freqs = (freqs-gave g (goal.at.returns-then-is_some g c).After-read_postings-count).copied.same;
     }
 
 pub returns : goal.returns
 returns g c =
-    let list = g.C.DocCursor.list in
-    let place = g.C.DocCursor.place in
-    let cursors = c.loop-i.parts in
     let so_far = c.loop-i.invariant in
-    let parts : List ListPart = parts_of list c.args.parts.now in
-    let from : ℕ = joined_place parts (places_of place c.args.parts.now) c.args.at in
-    let at : c.loop-i.i ≡ length cursors = omega (arith, parts-many list c.args.parts.now, c.requires.stands.within) in
-    let end : joined_place parts (places_of place cursors) c.loop-i.i ≡ length (joined_list parts) = place-behind list place parts cursors c.loop-i.i so_far.parts at in
+    let behind = is-behind g.C.DocCursor.list g.C.DocCursor.place (parts_of g.C.DocCursor.list c.args.parts.now) c.loop-i.parts c.loop-i.i so_far.parts (omega (arith, parts-many g.C.DocCursor.list c.args.parts.now, c.requires.stands.within)) in
     record {
       parts = so_far.parts;
-      stands = stands-behind list place cursors;
-      place = ap (λ ps. joined_place ps (places_of place cursors) (length cursors)) so_far.parts ∙ ap (λ k. joined_place parts (places_of place cursors) k) (sym at) ∙ so_far.place;
+      stands = behind.stands;
+      place = behind.there ∙ so_far.place;
       docs_room = c.loop-i.auto.docs;
       freqs_room = c.loop-i.auto.freqs;
-      docs = given-end parts from c.args.end c.loop-i.count c.loop-i.docs (omega (arith, end, so_far.place)) so_far.room so_far.docs;
+      docs = given-end (parts_of g.C.DocCursor.list c.args.parts.now) (joined_place (parts_of g.C.DocCursor.list c.args.parts.now) (places_of g.C.DocCursor.place c.args.parts.now) c.args.at) c.args.end c.loop-i.count c.loop-i.docs (omega (arith, behind.at_end, so_far.place)) so_far.room so_far.docs;
       freqs = so_far.freqs.same;
     }

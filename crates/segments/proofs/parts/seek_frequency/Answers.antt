@@ -1,69 +1,41 @@
-use Rattle.std.proofs.Common.{◌≡◌, ℕ, ◌+◌, ◌<◌, sym, ap, ◌∙◌, subst, length, List, get_or, arith}
-use Rattle.segments.specs.Joined.{ListPart, joined_list}
+use Rattle.std.proofs.Common.{◌+◌, ◌∙◌, get_or, arith}
+use Rattle.segments.specs.Joined.{joined_list}
 use Rattle.segments.specs.JoinedCursor.{parts_of, places_of, start_of, joined_place}
-use Rattle.segments.proofs.Joins.{is-moved, moved-stands, moved-place, moved-next, stands-behind, place-behind, parts-many}
-use Rattle.segments.proofs.Frequencies.{IsNextFrequent, AreRarer, rarer-more, rarer-stop, rarer-end, next-first, next-one}
+use Rattle.segments.proofs.Joins.{IsMoved, is-moved, moved-stands, moved-place, is-behind, parts-many}
+use Rattle.segments.proofs.Frequencies.{rarer-next, rarer-here, rarer-end, next-one}
+use Rattle.segments.proofs.parts.seek_frequency.Given as given
 use Rattle.segments.proofs.parts.seek_frequency.Goals as goal
+use Rattle.segments.proofs.parts.seek_frequency.Goals.{After-reaches_frequency}
+
+-- the cursor of a part went on in its list
+went : (g : given.Over) (c : After-reaches_frequency g) → IsMoved g.C.DocCursor.list g.C.DocCursor.place (parts_of g.C.DocCursor.list c.args.parts.now) c.loop-i.parts c.loop-i.i (get_or c.loop-i.parts c.loop-i.i c.index-parts-i.result) c.reaches_frequency.new.part
+went g c =
+    is-moved g.C.DocCursor.list g.C.DocCursor.place (parts_of g.C.DocCursor.list c.args.parts.now) c.loop-i.parts c.loop-i.i c.index-parts-i.result c.reaches_frequency.new.part (omega arith) c.loop-i.invariant.parts c.reaches_frequency.ensures.first c.reaches_frequency.ensures.list c.loop-i.invariant.unread
 
 pub loop-i-preserved : goal.loop-i-preserved
 loop-i-preserved g c =
-    let list = g.C.DocCursor.list in
-    let place = g.C.DocCursor.place in
-    let cursors = c.loop-i.parts in
-    let i : ℕ = c.loop-i.i in
-    let old = get_or cursors i c.index-parts-i.result in
-    let new = c.reaches_frequency.new.part in
-    let so_far = c.loop-i.invariant in
-    let parts : List ListPart = parts_of list c.args.parts.now in
-    let from : ℕ = joined_place parts (places_of place c.args.parts.now) c.args.at in
-    let moved = is-moved list place parts cursors i c.index-parts-i.result new (omega arith) so_far.parts c.reaches_frequency.ensures.first c.reaches_frequency.ensures.list so_far.unread in
-    let before = subst (λ (k : ℕ). AreRarer parts from c.args.f (start_of parts i + k)) moved.before so_far.passed in
-    let first = subst (λ (n : ℕ). IsNextFrequent (list old.1) (place old.1) c.args.f n) (sym c.reaches_frequency.ensures.place) (next-first (list old.1) (place old.1) c.args.f (g.met.C.DocCursor.well_formed old.1).within) in
-    let next = subst (λ (p : ListPart). IsNextFrequent p.list (place old.1) c.args.f (place new.1)) (sym moved.part) first in
+    let moved = went g (goal.at.loop-i-preserved g c).After-reaches_frequency in
     record {
       parts = moved.same;
       unread = λ j lt. moved.unread j (omega arith);
-      passed = subst (λ (k : ℕ). AreRarer parts from c.args.f k) (sym (moved-next list place parts cursors i old new moved (c.reaches_frequency.ensures.ended c.if-reaches_frequency.false)))
-          (rarer-more parts i from c.args.f (place old.1) (place new.1) moved.within before next);
+      passed = rarer-next (joined_place (parts_of g.C.DocCursor.list c.args.parts.now) (places_of g.C.DocCursor.place c.args.parts.now) c.args.at) moved c.loop-i.invariant.passed (g.met.C.DocCursor.well_formed (get_or c.loop-i.parts c.loop-i.i c.index-parts-i.result).1).within c.reaches_frequency.ensures.place (c.reaches_frequency.ensures.ended c.if-reaches_frequency.false);
     }
 
 pub returns-then-reaches_frequency : goal.returns-then-reaches_frequency
 returns-then-reaches_frequency g c =
-    let list = g.C.DocCursor.list in
-    let place = g.C.DocCursor.place in
-    let cursors = c.loop-i.parts in
-    let i : ℕ = c.loop-i.i in
-    let old = get_or cursors i c.index-parts-i.result in
-    let new = c.reaches_frequency.new.part in
-    let so_far = c.loop-i.invariant in
-    let parts : List ListPart = parts_of list c.args.parts.now in
-    let from : ℕ = joined_place parts (places_of place c.args.parts.now) c.args.at in
-    let moved = is-moved list place parts cursors i c.index-parts-i.result new (omega arith) so_far.parts c.reaches_frequency.ensures.first c.reaches_frequency.ensures.list so_far.unread in
-    let before = subst (λ (k : ℕ). AreRarer parts from c.args.f (start_of parts i + k)) moved.before so_far.passed in
-    let first = subst (λ (n : ℕ). IsNextFrequent (list old.1) (place old.1) c.args.f n) (sym c.reaches_frequency.ensures.place) (next-first (list old.1) (place old.1) c.args.f (g.met.C.DocCursor.well_formed old.1).within) in
-    let next = subst (λ (p : ListPart). IsNextFrequent p.list (place old.1) c.args.f (place new.1)) (sym moved.part) first in
-    let there : place new.1 < length (list old.1) = c.reaches_frequency.ensures.there c.if-reaches_frequency.true in
-    let stop = rarer-stop parts i from c.args.f (place old.1) (place new.1) moved.within (omega (arith, there, ap (λ p. length p.list) moved.part)) before next in
+    let moved = went g (goal.at.returns-then-reaches_frequency g c).After-reaches_frequency in
+    let there = c.reaches_frequency.ensures.there c.if-reaches_frequency.true in
     record {
       parts = moved.same;
-      stands = moved-stands list place parts cursors i old new moved there;
-      place = moved-place list place parts cursors i old new moved ∙ next-one (joined_list parts) from c.args.f (start_of parts i + place new.1) stop;
+      stands = moved-stands moved there;
+      place = moved-place moved ∙ next-one (joined_list (parts_of g.C.DocCursor.list c.args.parts.now)) (joined_place (parts_of g.C.DocCursor.list c.args.parts.now) (places_of g.C.DocCursor.place c.args.parts.now) c.args.at) c.args.f (start_of (parts_of g.C.DocCursor.list c.args.parts.now) c.loop-i.i + g.C.DocCursor.place c.reaches_frequency.new.part.1) (rarer-here (joined_place (parts_of g.C.DocCursor.list c.args.parts.now) (places_of g.C.DocCursor.place c.args.parts.now) c.args.at) moved c.loop-i.invariant.passed (g.met.C.DocCursor.well_formed (get_or c.loop-i.parts c.loop-i.i c.index-parts-i.result).1).within c.reaches_frequency.ensures.place there);
     }
 
 pub returns : goal.returns
 returns g c =
-    let list = g.C.DocCursor.list in
-    let place = g.C.DocCursor.place in
-    let cursors = c.loop-i.parts in
-    let so_far = c.loop-i.invariant in
-    let parts : List ListPart = parts_of list c.args.parts.now in
-    let from : ℕ = joined_place parts (places_of place c.args.parts.now) c.args.at in
-    let at : c.loop-i.i ≡ length cursors = omega (arith, parts-many list c.args.parts.now, c.requires.stands.within) in
-    let now : ℕ = joined_place parts (places_of place cursors) (length cursors) in
-    let passed = subst (λ (k : ℕ). AreRarer parts from c.args.f (joined_place parts (places_of place cursors) k)) at so_far.passed in
+    let behind = is-behind g.C.DocCursor.list g.C.DocCursor.place (parts_of g.C.DocCursor.list c.args.parts.now) c.loop-i.parts c.loop-i.i c.loop-i.invariant.parts (omega (arith, parts-many g.C.DocCursor.list c.args.parts.now, c.requires.stands.within)) in
     record {
-      parts = so_far.parts;
-      stands = stands-behind list place cursors;
-      place = ap (λ ps. joined_place ps (places_of place cursors) (length cursors)) so_far.parts
-          ∙ next-one (joined_list parts) from c.args.f now (rarer-end parts from c.args.f now (place-behind list place parts cursors (length cursors) so_far.parts (λ _. length cursors)) passed);
+      parts = c.loop-i.invariant.parts;
+      stands = behind.stands;
+      place = behind.there ∙ next-one (joined_list (parts_of g.C.DocCursor.list c.args.parts.now)) (joined_place (parts_of g.C.DocCursor.list c.args.parts.now) (places_of g.C.DocCursor.place c.args.parts.now) c.args.at) c.args.f (joined_place (parts_of g.C.DocCursor.list c.args.parts.now) (places_of g.C.DocCursor.place c.loop-i.parts) c.loop-i.i) (rarer-end (parts_of g.C.DocCursor.list c.args.parts.now) (joined_place (parts_of g.C.DocCursor.list c.args.parts.now) (places_of g.C.DocCursor.place c.args.parts.now) c.args.at) c.args.f (joined_place (parts_of g.C.DocCursor.list c.args.parts.now) (places_of g.C.DocCursor.place c.loop-i.parts) c.loop-i.i) behind.at_end c.loop-i.invariant.passed);
     }
