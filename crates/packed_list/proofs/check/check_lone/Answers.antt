@@ -5,8 +5,10 @@ use Rattle.part_cost.specs.Payload.{payload}
 use Rattle.part_cost.specs.Span.{past}
 use Rattle.part_cost.specs.Stored.{HoldsPart}
 use Rattle.part_codec.specs.PartBits.{part_bits}
-use Rattle.packed_list.proofs.LonePlaces.{lone-facts, lone-found}
+use Rattle.packed_list.specs.ListPlaces.{IsSequenceBefore}
+use Rattle.packed_list.proofs.LonePlaces.{LoneFacts, lone-facts, lone-found}
 use Rattle.packed_list.proofs.check.check_lone.Goals as goal
+use Rattle.packed_list.proofs.check.check_lone.Goals.{After-part_takes_its_payload}
 
 -- a part, by other names of its place
 move : (words : List ℕ) (bits : List ℕ) (place there u v m k : ℕ) (ys : List ℕ) → bits ≡ bits_of words → place ≡ there → u ≡ v → m ≡ k → HoldsPart part_bits bits place u m ys → HoldsPart part_bits (bits_of words) there v k ys
@@ -14,43 +16,43 @@ move words bits place there u v m k ys e f g h held =
     subst (λ zs. HoldsPart part_bits zs there v k ys) e
     (subst (λ p. HoldsPart part_bits bits p v k ys) f (subst (λ x. HoldsPart part_bits bits place x k ys) g (subst (λ j. HoldsPart part_bits bits place u j ys) h held)))
 
+-- what is known of a sequence that stands there
+facts : (c : After-part_takes_its_payload) → (xs ends : List ℕ) → IsSequenceBefore c.args.sought.last c.args.sought.m c.args.sought.bound (bits_of c.args.words.now) c.args.at c.args.end xs ends → LoneFacts (bits_of c.args.words.now) c.args.at c.args.end c.args.sought.last c.args.sought.m c.args.sought.bound xs
+facts c xs ends h =
+    lone-facts c.part_takes_its_payload.ensures.payload c.args.sought.last c.args.sought.m c.args.sought.bound (bits_of c.args.words.now) c.args.at c.args.end xs ends (omega (arith, c.args.sought.many)) c.args.sought.bound_fits c.requires.flag h
+
 pub returns-then-end-place-clause-none : goal.returns-then-end-place-clause-none
 returns-then-end-place-clause-none c = λ xs ends h.
-    let s = c.args.sought in
-    let f = lone-facts c.part_takes_its_payload.ensures.payload s.last s.m s.bound (bits_of c.args.words.now) c.args.at c.args.end xs ends (omega (arith, s.many)) s.bound_fits c.requires.flag h in
+    let f = facts (goal.at.returns-then-end-place-clause-none c).After-part_takes_its_payload xs ends h in
     omega (arith, f.place, c.from.ensures, c.if-end-place.true)
 
 pub returns-then-saturating_sub-field-clause-none : goal.returns-then-saturating_sub-field-clause-none
 returns-then-saturating_sub-field-clause-none c = λ xs ends h.
-    let s = c.args.sought in
-    let f = lone-facts c.part_takes_its_payload.ensures.payload s.last s.m s.bound (bits_of c.args.words.now) c.args.at c.args.end xs ends (omega (arith, s.many)) s.bound_fits c.requires.flag h in
+    let f = facts (goal.at.returns-then-saturating_sub-field-clause-none c).After-part_takes_its_payload xs ends h in
     omega (arith, f.end_is, f.below, c.get-field.ensures, c.saturating_sub.ensures, c.if-saturating_sub-field.true)
 
 pub returns-then-universe-m-clause-none : goal.returns-then-universe-m-clause-none
 returns-then-universe-m-clause-none c = λ xs ends h.
-    let s = c.args.sought in
-    let f = lone-facts c.part_takes_its_payload.ensures.payload s.last s.m s.bound (bits_of c.args.words.now) c.args.at c.args.end xs ends (omega (arith, s.many)) s.bound_fits c.requires.flag h in
+    let f = facts (goal.at.returns-then-universe-m-clause-none c).After-part_takes_its_payload xs ends h in
     omega (arith, f.end_is, f.room, c.get-field.ensures, c.from-m.ensures, c.if-universe-m.true)
 
 pub returns-then-end-behind-clause-none : goal.returns-then-end-behind-clause-none
 returns-then-end-behind-clause-none c = λ xs ends h.
-    let s = c.args.sought in
-    let f = lone-facts c.part_takes_its_payload.ensures.payload s.last s.m s.bound (bits_of c.args.words.now) c.args.at c.args.end xs ends (omega (arith, s.many)) s.bound_fits c.requires.flag h in
-    let u : c.get-field.result + s.last.less + 1 ≡ past xs (length xs) = omega (arith, f.end_is, c.get-field.ensures) in
-    let bits : c.payload_bits.result ≡ payload (past xs (length xs)) s.m = c.payload_bits.ensures ∙ ap (λ x. payload x c.from-m.result) u ∙ ap (payload (past xs (length xs))) c.from-m.ensures in
+    let f = facts (goal.at.returns-then-end-behind-clause-none c).After-part_takes_its_payload xs ends h in
+    let u : c.get-field.result + c.args.sought.last.less + 1 ≡ past xs (length xs) = omega (arith, f.end_is, c.get-field.ensures) in
+    let bits : c.payload_bits.result ≡ payload (past xs (length xs)) c.args.sought.m = c.payload_bits.ensures ∙ ap (λ x. payload x c.from-m.result) u ∙ ap (payload (past xs (length xs))) c.from-m.ensures in
     omega (arith, f.behind, bits, c.from.ensures, c.if-end-behind.true)
 
 pub returns-in-None-clause-none : goal.returns-in-None-clause-none
 returns-in-None-clause-none c = λ xs ends h.
-    let s = c.args.sought in
     let words : List ℕ = c.args.words.now in
-    let f = lone-facts c.part_takes_its_payload.ensures.payload s.last s.m s.bound (bits_of words) c.args.at c.args.end xs ends (omega (arith, s.many)) s.bound_fits c.requires.flag h in
+    let f = facts (goal.at.returns-in-None-clause-none c).After-part_takes_its_payload xs ends h in
     let p = c.at.result in
-    let place : c.args.at + 1 + s.last.width ≡ p.place = omega (arith, c.from.ensures, c.at.ensures.place) in
+    let place : c.args.at + 1 + c.args.sought.last.width ≡ p.place = omega (arith, c.from.ensures, c.at.ensures.place) in
     let u : past xs (length xs) ≡ p.u = omega (arith, f.end_is, c.get-field.ensures, c.at.ensures.u) in
-    let m : s.m ≡ p.m = omega (arith, c.from-m.ensures, c.at.ensures.m) in
+    let m : c.args.sought.m ≡ p.m = omega (arith, c.from-m.ensures, c.at.ensures.m) in
     let bits : bits_of words ≡ bits_of p.bits.words.now = ap bits_of (sym c.at.ensures.bits) in
-    c.in-None.ensures.none xs (move p.bits.words.now (bits_of words) (c.args.at + 1 + s.last.width) p.place (past xs (length xs)) p.u s.m p.m xs bits place u m f.held)
+    c.in-None.ensures.none xs (move p.bits.words.now (bits_of words) (c.args.at + 1 + c.args.sought.last.width) p.place (past xs (length xs)) p.u c.args.sought.m p.m xs bits place u m f.held)
 
 pub returns-in-Some-clause-some : goal.returns-in-Some-clause-some
 returns-in-Some-clause-some c =

@@ -6,11 +6,11 @@ use Rattle.bit_words.proofs.Value.{length-bits_of}
 use Rattle.collection_model.specs.FormatNumbers.{format_three}
 use Rattle.collection_model.specs.Collection.{Posting}
 use Rattle.collection_model.specs.Sequences.{doc_sequence, freq_sequence}
-use Rattle.packed_list.specs.declared.check.Found.{Found}
 use Rattle.packed_list.specs.ListBits.{last_doc, last_sum}
-use Rattle.packed_list.specs.ListPlaces.{IsFound, OneSequenceAtPlace}
+use Rattle.packed_list.specs.ListPlaces.{IsFound, IsSequenceBefore, HoldsTail}
 use Rattle.packed_list.proofs.ListPlaces.{TailFacts, tail-facts, many-found, found-as, before-as, FoundFacts, found-facts, sums-behind, ends-behind}
 use Rattle.packed_list.proofs.check.check_many.Goals as goal
+use Rattle.packed_list.proofs.check.check_many.Goals.{After-last_sum, In-Some, In-Some-check_sequence}
 
 eq-true : (a b : ℕ) → IsTrue (nat_eq a b) → a ≡ b
 eq-true a b h = grind (arith, nat_tests)
@@ -18,78 +18,60 @@ eq-true a b h = grind (arith, nat_tests)
 true-eq : (a b : ℕ) → a ≡ b → IsTrue (nat_eq a b)
 true-eq a b h = grind (arith, nat_tests)
 
--- what a list that stands there says of what was found of its documents, and of its sums
-docs-found : OneSequenceAtPlace → (n m g : ℕ) (bits : List ℕ) (at to : ℕ) (first : Found) (list : List Posting) (ends cuts : List ℕ) → 2 ≤ m → m < 2 ^ 32 → IsFound (last_doc n) m n bits at to first → TailFacts n m g bits at to list ends cuts
-    → FoundFacts (last_doc n) at (doc_sequence list) ends first
-docs-found one n m g bits at to first list ends cuts many few h t = found-facts one (last_doc n) m n bits at to first (doc_sequence list) ends many few h t.docs
+-- what a list that stands there is
+tail : (c : After-last_sum) → (h : HoldsTail c.args.documents c.args.m c.args.greatest (bits_of c.args.words.now) c.args.at c.args.to) → TailFacts c.args.documents c.args.m c.args.greatest (bits_of c.args.words.now) c.args.at c.args.to h.0 h.1 h.2
+tail c h =
+    tail-facts c.sequences_of_a_list_rise.ensures c.sequences_give_their_list.ensures c.args.documents c.args.m c.args.greatest (bits_of c.args.words.now) c.args.at c.args.to h.0 h.1 h.2 (omega (arith, c.ranges.documents.fits)) c.requires.many c.requires.ordered
+    (omega (arith, c.requires.range, length-bits_of c.args.words.now)) h.3
 
-sums-found : OneSequenceAtPlace → (n m g : ℕ) (bits : List ℕ) (at to : ℕ) (first second : Found) (list : List Posting) (ends cuts : List ℕ) → 2 ≤ m → m < 2 ^ 32 → IsFound (last_doc n) m n bits at to first
-    → IsFound (last_sum m g) m format_three.most_sum bits first.behind to second → TailFacts n m g bits at to list ends cuts → FoundFacts (last_sum m g) first.behind (freq_sequence list) cuts second
-sums-found one n m g bits at to first second list ends cuts many few h k t =
-    found-facts one (last_sum m g) m format_three.most_sum bits first.behind to second (freq_sequence list) cuts many few k
-    (sums-behind n m g bits at to first list ends cuts (docs-found one n m g bits at to first list ends cuts many few h t) t)
+-- what was found of documents, and of sums behind them
+docs-found : (c : In-Some) → IsFound (last_doc c.args.documents) c.args.m c.args.documents (bits_of c.args.words.now) c.args.at c.args.to c.in-Some.first
+docs-found c = found-as c.last_doc.result (last_doc c.args.documents) c.args.m c.from.result c.args.documents (bits_of c.args.words.now) c.args.at c.args.to c.in-Some.first c.last_doc.ensures c.from.ensures c.in-Some.ensures.some
+
+sums-found : (c : In-Some-check_sequence) → IsFound (last_sum c.args.m c.args.greatest) c.args.m format_three.most_sum (bits_of c.args.words.now) c.in-Some.first.behind c.args.to c.in-Some-check_sequence.second
+sums-found c =
+    found-as c.last_sum.result (last_sum c.args.m c.args.greatest) c.args.m c.most_sum.result format_three.most_sum (bits_of c.args.words.now) c.in-Some.first.behind c.args.to c.in-Some-check_sequence.second c.last_sum.ensures c.most_sum.ensures c.in-Some-check_sequence.ensures.some
+
+-- what a list that stands there says of them
+docs-are : (c : In-Some) → (h : HoldsTail c.args.documents c.args.m c.args.greatest (bits_of c.args.words.now) c.args.at c.args.to) → FoundFacts (last_doc c.args.documents) c.args.at (doc_sequence h.0) h.1 c.in-Some.first
+docs-are c h =
+    found-facts c.one_sequence_at_place.ensures (last_doc c.args.documents) c.args.m c.args.documents (bits_of c.args.words.now) c.args.at c.args.to c.in-Some.first (doc_sequence h.0) h.1 c.requires.many (omega (arith, c.ranges.m.fits)) (docs-found c)
+    (tail (goal.at.In-Some c).After-last_sum h).docs
+
+sums-behind-docs : (c : In-Some) → (h : HoldsTail c.args.documents c.args.m c.args.greatest (bits_of c.args.words.now) c.args.at c.args.to) → IsSequenceBefore (last_sum c.args.m c.args.greatest) c.args.m format_three.most_sum (bits_of c.args.words.now) c.in-Some.first.behind c.args.to (freq_sequence h.0) h.2
+sums-behind-docs c h = sums-behind c.args.documents c.args.m c.args.greatest (bits_of c.args.words.now) c.args.at c.args.to c.in-Some.first h.0 h.1 h.2 (docs-are c h) (tail (goal.at.In-Some c).After-last_sum h)
+
+sums-are : (c : In-Some-check_sequence) → (h : HoldsTail c.args.documents c.args.m c.args.greatest (bits_of c.args.words.now) c.args.at c.args.to) → FoundFacts (last_sum c.args.m c.args.greatest) c.in-Some.first.behind (freq_sequence h.0) h.2 c.in-Some-check_sequence.second
+sums-are c h =
+    found-facts c.one_sequence_at_place.ensures (last_sum c.args.m c.args.greatest) c.args.m format_three.most_sum (bits_of c.args.words.now) c.in-Some.first.behind c.args.to c.in-Some-check_sequence.second (freq_sequence h.0) h.2 c.requires.many (omega (arith, c.ranges.m.fits))
+    (sums-found c) (sums-behind-docs (goal.at.In-Some-check_sequence c).In-Some h)
 
 pub returns-in_default : goal.returns-in_default
-returns-in_default c =
-    let n : ℕ = c.args.documents in
-    let m : ℕ = c.args.m in
-    let bits : List ℕ = bits_of c.args.words.now in
-    let fit : c.args.to ≤ length bits = omega (arith, c.requires.range, length-bits_of c.args.words.now) in (
-      λ t. cc,
-      λ h. (let t = tail-facts c.sequences_of_a_list_rise.ensures c.sequences_give_their_list.ensures n m c.args.greatest bits c.args.at c.args.to h.0 h.1 h.2 (omega (arith, c.ranges.documents.fits)) c.requires.many c.requires.ordered fit h.3 in
-          absurd (c.in_default.ensures.none (doc_sequence h.0) h.1 (before-as (last_doc n) c.last_doc.result m n c.from.result bits c.args.at c.args.to (doc_sequence h.0) h.1 (sym c.last_doc.ensures) (sym c.from.ensures) t.docs))),
-    )
+returns-in_default c = (
+  λ t. cc,
+  λ h. absurd (c.in_default.ensures.none (doc_sequence h.0) h.1
+      (before-as (last_doc c.args.documents) c.last_doc.result c.args.m c.args.documents c.from.result (bits_of c.args.words.now) c.args.at c.args.to (doc_sequence h.0) h.1 (sym c.last_doc.ensures) (sym c.from.ensures) (tail (goal.at.returns-in_default c).After-last_sum h).docs)),
+)
 
 pub returns-in_default-check_sequence : goal.returns-in_default-check_sequence
-returns-in_default-check_sequence c =
-    let n : ℕ = c.args.documents in
-    let m : ℕ = c.args.m in
-    let g : ℕ = c.args.greatest in
-    let bits : List ℕ = bits_of c.args.words.now in
-    let fit : c.args.to ≤ length bits = omega (arith, c.requires.range, length-bits_of c.args.words.now) in
-    let first : Found = c.in-Some.first in
-    let got = found-as c.last_doc.result (last_doc n) m c.from.result n bits c.args.at c.args.to first c.last_doc.ensures c.from.ensures c.in-Some.ensures.some in (
-      λ t. cc,
-      λ h. (let t = tail-facts c.sequences_of_a_list_rise.ensures c.sequences_give_their_list.ensures n m g bits c.args.at c.args.to h.0 h.1 h.2 (omega (arith, c.ranges.documents.fits)) c.requires.many c.requires.ordered fit h.3 in
-          let f = docs-found c.one_sequence_at_place.ensures n m g bits c.args.at c.args.to first h.0 h.1 h.2 c.requires.many (omega (arith, c.ranges.m.fits)) got t in
-          absurd
-          ((c.in_default-check_sequence).ensures.none (freq_sequence h.0) h.2
-          (before-as (last_sum m g) c.last_sum.result m format_three.most_sum c.most_sum.result bits first.behind c.args.to (freq_sequence h.0) h.2 (sym c.last_sum.ensures) (sym c.most_sum.ensures)
-          (sums-behind n m g bits c.args.at c.args.to first h.0 h.1 h.2 f t)))),
-    )
+returns-in_default-check_sequence c = (
+  λ t. cc,
+  λ h. absurd ((c.in_default-check_sequence).ensures.none (freq_sequence h.0) h.2
+      (before-as (last_sum c.args.m c.args.greatest) c.last_sum.result c.args.m format_three.most_sum c.most_sum.result (bits_of c.args.words.now) c.in-Some.first.behind c.args.to (freq_sequence h.0) h.2 (sym c.last_sum.ensures) (sym c.most_sum.ensures)
+      (sums-behind-docs (goal.at.returns-in_default-check_sequence c).In-Some h))),
+)
 
 pub returns-then-second-to : goal.returns-then-second-to
-returns-then-second-to c =
-    let n : ℕ = c.args.documents in
-    let m : ℕ = c.args.m in
-    let g : ℕ = c.args.greatest in
-    let bits : List ℕ = bits_of c.args.words.now in
-    let fit : c.args.to ≤ length bits = omega (arith, c.requires.range, length-bits_of c.args.words.now) in
-    let first : Found = c.in-Some.first in
-    let second : Found = c.in-Some-check_sequence.second in
-    let got = found-as c.last_doc.result (last_doc n) m c.from.result n bits c.args.at c.args.to first c.last_doc.ensures c.from.ensures c.in-Some.ensures.some in
-    let had = found-as c.last_sum.result (last_sum m g) m c.most_sum.result format_three.most_sum bits first.behind c.args.to second c.last_sum.ensures c.most_sum.ensures c.in-Some-check_sequence.ensures.some in (
-      λ t. cc,
-      λ h. (let t = tail-facts c.sequences_of_a_list_rise.ensures c.sequences_give_their_list.ensures n m g bits c.args.at c.args.to h.0 h.1 h.2 (omega (arith, c.ranges.documents.fits)) c.requires.many c.requires.ordered fit h.3 in
-          let f = docs-found c.one_sequence_at_place.ensures n m g bits c.args.at c.args.to first h.0 h.1 h.2 c.requires.many (omega (arith, c.ranges.m.fits)) got t in
-          let k = sums-found c.one_sequence_at_place.ensures n m g bits c.args.at c.args.to first second h.0 h.1 h.2 c.requires.many (omega (arith, c.ranges.m.fits)) got had t in
-          absurd (c.if-second-to.true (ends-behind n m g bits c.args.at c.args.to first second h.0 h.1 h.2 f k t))),
-    )
+returns-then-second-to c = (
+  λ t. cc,
+  λ h. absurd (c.if-second-to.true (ends-behind c.args.documents c.args.m c.args.greatest (bits_of c.args.words.now) c.args.at c.args.to c.in-Some.first c.in-Some-check_sequence.second h.0 h.1 h.2 (docs-are (goal.at.returns-then-second-to c).In-Some h)
+      (sums-are (goal.at.returns-then-second-to c).In-Some-check_sequence h) (tail (goal.at.returns-then-second-to c).After-last_sum h))),
+)
 
 pub returns : goal.returns
-returns c =
-    let n : ℕ = c.args.documents in
-    let m : ℕ = c.args.m in
-    let g : ℕ = c.args.greatest in
-    let bits : List ℕ = bits_of c.args.words.now in
-    let fit : c.args.to ≤ length bits = omega (arith, c.requires.range, length-bits_of c.args.words.now) in
-    let first : Found = c.in-Some.first in
-    let second : Found = c.in-Some-check_sequence.second in
-    let got = found-as c.last_doc.result (last_doc n) m c.from.result n bits c.args.at c.args.to first c.last_doc.ensures c.from.ensures c.in-Some.ensures.some in
-    let had = found-as c.last_sum.result (last_sum m g) m c.most_sum.result format_three.most_sum bits first.behind c.args.to second c.last_sum.ensures c.most_sum.ensures c.in-Some-check_sequence.ensures.some in (
-      λ t. many-found c.sequences_are_a_list.ensures n m g bits c.args.at c.args.to first second c.requires.many (omega (arith, c.ranges.greatest.fits)) got had c.if-second-to.false
-          (eq-true second.greatest c.from-2.result t ∙ c.from-2.ensures),
-      λ h. (let t = tail-facts c.sequences_of_a_list_rise.ensures c.sequences_give_their_list.ensures n m g bits c.args.at c.args.to h.0 h.1 h.2 (omega (arith, c.ranges.documents.fits)) c.requires.many c.requires.ordered fit h.3 in
-          let k = sums-found c.one_sequence_at_place.ensures n m g bits c.args.at c.args.to first second h.0 h.1 h.2 c.requires.many (omega (arith, c.ranges.m.fits)) got had t in
-          true-eq second.greatest c.from-2.result (k.greatest_is ∙ t.step ∙ sym c.from-2.ensures)),
-    )
+returns c = (
+  λ t. many-found c.sequences_are_a_list.ensures c.args.documents c.args.m c.args.greatest (bits_of c.args.words.now) c.args.at c.args.to c.in-Some.first c.in-Some-check_sequence.second c.requires.many (omega (arith, c.ranges.greatest.fits)) (docs-found (goal.at.returns c).In-Some)
+      (sums-found (goal.at.returns c).In-Some-check_sequence) c.if-second-to.false (eq-true c.in-Some-check_sequence.second.greatest c.from-2.result t ∙ c.from-2.ensures),
+  λ h. true-eq c.in-Some-check_sequence.second.greatest c.from-2.result
+      ((sums-are (goal.at.returns c).In-Some-check_sequence h).greatest_is ∙ (tail (goal.at.returns c).After-last_sum h).step ∙ sym c.from-2.ensures),
+)

@@ -5,17 +5,21 @@ use Rattle.part_cost.specs.Payload.{payload}
 use Rattle.part_cost.specs.Span.{past}
 use Rattle.part_cost.specs.Stored.{HoldsPart}
 use Rattle.part_codec.specs.PartBits.{part_bits}
-use Rattle.part_codec.specs.Laws.{TakesItsPayload}
 use Rattle.two_level.specs.SequenceView.{SequenceView}
 use Rattle.packed_list.specs.declared.last_field.LastField.{LastField}
 use Rattle.packed_list.specs.ListPlaces.{IsSequenceBefore}
 use Rattle.packed_list.proofs.LonePlaces.{LoneFacts, lone-facts, lone-size, one-end, one-when-zero}
 use Rattle.packed_list.proofs.view.known_lone.Goals as goal
+use Rattle.packed_list.proofs.view.known_lone.Goals.{After-part_takes_its_payload}
 
 -- what is known of the one part
-facts : TakesItsPayload → (words : List ℕ) (at m : ℕ) (last : LastField) (xs ends : List ℕ) → 2 ≤ m → slice_index (bits_of words) at ≡ 0 → IsSequenceBefore last m format_three.most_sum (bits_of words) at (64 * length words) xs ends
-    → LoneFacts (bits_of words) at (64 * length words) last m format_three.most_sum xs
-facts payloads words at m last xs ends many flag h = lone-facts payloads last m format_three.most_sum (bits_of words) at (64 * length words) xs ends (omega (arith, many)) (omega arith) flag h
+facts : (c : After-part_takes_its_payload) → (xs ends : List ℕ) → IsSequenceBefore c.args.last c.args.m format_three.most_sum (bits_of c.args.words.now) c.args.at (64 * length c.args.words.now) xs ends
+    → LoneFacts (bits_of c.args.words.now) c.args.at (64 * length c.args.words.now) c.args.last c.args.m format_three.most_sum xs
+facts c xs ends h =
+    lone-facts c.part_takes_its_payload.ensures.payload c.args.last c.args.m format_three.most_sum (bits_of c.args.words.now) c.args.at (64 * length c.args.words.now) xs ends (omega (arith, c.requires.many)) (omega arith) c.requires.flag h
+
+stood : (c : After-part_takes_its_payload) → LoneFacts (bits_of c.args.words.now) c.args.at (64 * length c.args.words.now) c.args.last c.args.m format_three.most_sum c.requires.stands.0
+stood c = facts c c.requires.stands.0 c.requires.stands.1 c.requires.stands.2
 
 -- and how many bits it takes, by the numbers that are read
 taken : (words : List ℕ) (at m j got bits : ℕ) (last : LastField) (xs : List ℕ) → LoneFacts (bits_of words) at (64 * length words) last m format_three.most_sum xs → got ≡ field_at (bits_of words) (at + 1) last.width → j ≡ m
@@ -30,71 +34,58 @@ held words at m w got last xs f value width =
     (subst (λ u. HoldsPart part_bits (bits_of words) (at + 1 + last.width) u m xs) (let e : past xs (length xs) ≡ got + last.less + 1 = omega (arith, f.end_is, value) in e) f.held)
 
 pub get-requires-clause-range : goal.get-requires-clause-range
-get-requires-clause-range c =
-    let h = c.requires.stands in
-    let f = facts c.part_takes_its_payload.ensures.payload c.args.words.now c.args.at c.args.m c.args.last h.0 h.1 c.requires.many c.requires.flag h.2 in
-    omega (arith, f.place)
+get-requires-clause-range c = omega (arith, (stood (goal.at.get-requires-clause-range c).After-part_takes_its_payload).place)
 
 pub overflow_add-end : goal.overflow_add-end
 overflow_add-end c =
-    let h = c.requires.stands in
-    let f = facts c.part_takes_its_payload.ensures.payload c.args.words.now c.args.at c.args.m c.args.last h.0 h.1 c.requires.many c.requires.flag h.2 in
+    let f = stood (goal.at.overflow_add-end c).After-part_takes_its_payload in
     omega (arith, f.end_is, f.below, c.get.ensures)
 
 pub standing_alone-requires-clause-small : goal.standing_alone-requires-clause-small
 standing_alone-requires-clause-small c =
-    let h = c.requires.stands in
-    let f = facts c.part_takes_its_payload.ensures.payload c.args.words.now c.args.at c.args.m c.args.last h.0 h.1 c.requires.many c.requires.flag h.2 in
+    let f = stood (goal.at.standing_alone-requires-clause-small c).After-part_takes_its_payload in
     omega (arith, f.end_is, f.below, c.get.ensures)
 
 pub standing_alone-requires-clause-place : goal.standing_alone-requires-clause-place
 standing_alone-requires-clause-place c =
-    let h = c.requires.stands in
-    let f = facts c.part_takes_its_payload.ensures.payload c.args.words.now c.args.at c.args.m c.args.last h.0 h.1 c.requires.many c.requires.flag h.2 in
+    let f = stood (goal.at.standing_alone-requires-clause-place c).After-part_takes_its_payload in
     omega (arith, f.place, c.from.ensures)
 
 pub standing_alone-requires-clause-part : goal.standing_alone-requires-clause-part
-standing_alone-requires-clause-part c = λ many.
-    let h = c.requires.stands in
-    let f = facts c.part_takes_its_payload.ensures.payload c.args.words.now c.args.at c.args.m c.args.last h.0 h.1 c.requires.many c.requires.flag h.2 in
-    (h.0, held c.args.words.now c.args.at c.args.m c.from.result c.get.result c.args.last h.0 f c.get.ensures c.from.ensures)
+standing_alone-requires-clause-part c = λ many. (
+  c.requires.stands.0,
+  held c.args.words.now c.args.at c.args.m c.from.result c.get.result c.args.last c.requires.stands.0 (stood (goal.at.standing_alone-requires-clause-part c).After-part_takes_its_payload) c.get.ensures c.from.ensures,
+)
 
 pub overflow_add-end-2 : goal.overflow_add-end-2
 overflow_add-end-2 c =
-    let h = c.requires.stands in
-    let f = facts c.part_takes_its_payload.ensures.payload c.args.words.now c.args.at c.args.m c.args.last h.0 h.1 c.requires.many c.requires.flag h.2 in
+    let f = stood (goal.at.overflow_add-end-2 c).After-part_takes_its_payload in
     omega (arith, f.end_is, f.below, c.get.ensures)
 
 pub payload_bits-requires-clause-fit : goal.payload_bits-requires-clause-fit
 payload_bits-requires-clause-fit c =
-    let h = c.requires.stands in
-    let f = facts c.part_takes_its_payload.ensures.payload c.args.words.now c.args.at c.args.m c.args.last h.0 h.1 c.requires.many c.requires.flag h.2 in
+    let f = stood (goal.at.payload_bits-requires-clause-fit c).After-part_takes_its_payload in
     omega (arith, f.end_is, f.room, c.get.ensures, c.from-2.ensures)
 
 pub payload_bits-requires-clause-in_range : goal.payload_bits-requires-clause-in_range
 payload_bits-requires-clause-in_range c =
-    let h = c.requires.stands in
-    let f = facts c.part_takes_its_payload.ensures.payload c.args.words.now c.args.at c.args.m c.args.last h.0 h.1 c.requires.many c.requires.flag h.2 in
+    let f = stood (goal.at.payload_bits-requires-clause-in_range c).After-part_takes_its_payload in
     omega (arith, f.end_is, f.below, c.get.ensures)
 
 pub overflow_add-result : goal.overflow_add-result
 overflow_add-result c =
-    let h = c.requires.stands in
-    let f = facts c.part_takes_its_payload.ensures.payload c.args.words.now c.args.at c.args.m c.args.last h.0 h.1 c.requires.many c.requires.flag h.2 in
-    let t = taken c.args.words.now c.args.at c.args.m c.from-2.result c.get.result c.payload_bits.result c.args.last h.0 f c.get.ensures c.from-2.ensures c.payload_bits.ensures in
-    omega (arith, f.behind, t, c.from.ensures, c.requires.words)
+    let f = stood (goal.at.overflow_add-result c).After-part_takes_its_payload in
+    omega (arith, f.behind, taken c.args.words.now c.args.at c.args.m c.from-2.result c.get.result c.payload_bits.result c.args.last c.requires.stands.0 f c.get.ensures c.from-2.ensures c.payload_bits.ensures, c.from.ensures, c.requires.words)
 
 pub returns-clause-view : goal.returns-clause-view
 returns-clause-view c = λ xs ends h.
-    let m : ℕ = c.args.m in
-    let f = facts c.part_takes_its_payload.ensures.payload c.args.words.now c.args.at m c.args.last xs ends c.requires.many c.requires.flag h in
     let view : List ℕ → SequenceView = λ es. record { format = format_three; values = xs; ends = es } in
-    let one = one-when-zero c.args.last m format_three.most_sum (bits_of c.args.words.now) c.args.at (64 * length c.args.words.now) xs ends (omega (arith, c.requires.many)) c.requires.flag h in
-    c.standing_alone.ensures.more xs c.requires.many (held c.args.words.now c.args.at m c.from.result c.get.result c.args.last xs f c.get.ensures c.from.ensures) ∙ ap view (sym (one-end m ends h.stored.partition one))
+    let one = one-when-zero c.args.last c.args.m format_three.most_sum (bits_of c.args.words.now) c.args.at (64 * length c.args.words.now) xs ends (omega (arith, c.requires.many)) c.requires.flag h in
+    c.standing_alone.ensures.more xs c.requires.many (held c.args.words.now c.args.at c.args.m c.from.result c.get.result c.args.last xs (facts (goal.at.returns-clause-view c).After-part_takes_its_payload xs ends h) c.get.ensures c.from.ensures)
+    ∙ ap view (sym (one-end c.args.m ends h.stored.partition one))
 
 pub returns-clause-behind : goal.returns-clause-behind
 returns-clause-behind c = λ xs ends h.
-    let f = facts c.part_takes_its_payload.ensures.payload c.args.words.now c.args.at c.args.m c.args.last xs ends c.requires.many c.requires.flag h in
-    let t = taken c.args.words.now c.args.at c.args.m c.from-2.result c.get.result c.payload_bits.result c.args.last xs f c.get.ensures c.from-2.ensures c.payload_bits.ensures in
+    let t = taken c.args.words.now c.args.at c.args.m c.from-2.result c.get.result c.payload_bits.result c.args.last xs (facts (goal.at.returns-clause-behind c).After-part_takes_its_payload xs ends h) c.get.ensures c.from-2.ensures c.payload_bits.ensures in
     let s = lone-size c.part_takes_its_payload.ensures.payload c.args.last c.args.m format_three.most_sum (bits_of c.args.words.now) c.args.at (64 * length c.args.words.now) xs ends (omega (arith, c.requires.many)) (omega arith) c.requires.flag h in
     omega (arith, t, s, c.from.ensures)

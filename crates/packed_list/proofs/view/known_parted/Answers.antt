@@ -14,6 +14,7 @@ use Rattle.packed_list.specs.ListPlaces.{IsSequenceBefore, IsPartedHead}
 use Rattle.packed_list.specs.Laws.{SequenceWordsFit}
 use Rattle.packed_list.proofs.PartedPlaces.{head-read, parted-head, parted-begins, parted-size}
 use Rattle.packed_list.proofs.view.known_parted.Goals as goal
+use Rattle.packed_list.proofs.view.known_parted.Goals.{After-digits-width, After-div_ceil-start, After-words_from, After-used}
 
 rounds : (n r : ℕ) → r ≡ n / 64 + min 1 (n % 64) → r ≡ (n + 63) / 64
 rounds n r e = omega arith
@@ -66,74 +67,61 @@ begun appended whole fits words lent at m parts start last xs ends small many fe
 small-words : (words : List ℕ) → ((i : ℕ) → get_or words i 0 < 2 ^ 64) → All (λ w. w < 2 ^ 64) words
 small-words words h = All-from_get_or (λ w. w < 2 ^ 64) words 0 (λ i lt. h i)
 
+-- how its head stands
+head : (c : After-digits-width) → IsPartedHead c.args.m (bits_of c.args.words.now) c.args.at (64 * length c.args.words.now) (length c.requires.stands.1) ((c.args.at + 1 + digits c.args.m + 63) / 64)
+head c =
+    parted-head c.args.last c.args.m format_three.most_sum (bits_of c.args.words.now) c.args.at (64 * length c.args.words.now) c.requires.stands.0 c.requires.stands.1 (omega (arith, c.requires.many)) (omega (arith, c.ranges.m.fits))
+    c.requires.flag c.requires.stands.2
+
+width-is : (c : After-digits-width) → c.digits-width.result ≡ digits c.args.m
+width-is c = c.digits-width.ensures ∙ ap digits c.from.ensures
+
+-- what was read of a sequence that stands there
+seen : (c : After-div_ceil-start) → (xs ends : List ℕ) → IsSequenceBefore c.args.last c.args.m format_three.most_sum (bits_of c.args.words.now) c.args.at (64 * length c.args.words.now) xs ends → Read c.args.words.now c.args.at c.args.m c.get-parts.result c.div_ceil-start.result c.args.last xs ends
+seen c xs ends h =
+    read c.args.words.now c.args.at c.args.m c.from.result c.digits-width.result c.from-2.result c.get-parts.result c.div_ceil-start.result c.args.last xs ends c.requires.many (omega (arith, c.ranges.m.fits)) c.requires.flag c.from.ensures c.digits-width.ensures
+    c.from-2.ensures c.get-parts.ensures c.div_ceil-start.ensures h
+
+-- the words behind the head begin with it
+began : (c : After-words_from) → (xs ends : List ℕ) → IsSequenceBefore c.args.last c.args.m format_three.most_sum (bits_of c.args.words.now) c.args.at (64 * length c.args.words.now) xs ends → BeginWith c.words_from.result.now c.get-parts.result c.args.m (view-of xs ends)
+began c xs ends h =
+    begun c.words_are_bits.ensures.appended c.words_are_bits.ensures.words c.sequence_words_fit.ensures c.args.words.now c.words_from.result.now c.args.at c.args.m c.get-parts.result c.div_ceil-start.result c.args.last xs ends
+    (small-words c.args.words.now (λ i. (let f = c.type_inv.words i in omega (arith, f)))) c.requires.many (omega (arith, c.ranges.m.fits)) c.requires.flag c.words_from.ensures (seen (goal.at.After-words_from c).After-div_ceil-start xs ends h) h
+
+-- and are as many as are used
+used-are : (c : After-used) → (xs ends : List ℕ) → IsSequenceBefore c.args.last c.args.m format_three.most_sum (bits_of c.args.words.now) c.args.at (64 * length c.args.words.now) xs ends → c.used.result ≡ length (sequence_words format_three xs ends)
+used-are c xs ends h = c.used.ensures ∙ ap words_used (c.known-view.ensures.same (view-of xs ends) refl (began (goal.at.After-used c).After-words_from xs ends h))
+
 pub get-parts-requires-clause-range : goal.get-parts-requires-clause-range
 get-parts-requires-clause-range c =
-    let h = c.requires.stands in
-    let head = parted-head c.args.last c.args.m format_three.most_sum (bits_of c.args.words.now) c.args.at (64 * length c.args.words.now) h.0 h.1 (omega (arith, c.requires.many)) (omega (arith, c.ranges.m.fits)) c.requires.flag h.2 in
-    let width : c.digits-width.result ≡ digits c.args.m = c.digits-width.ensures ∙ ap digits c.from.ensures in
-    omega (arith, head.word, head.within, width)
+    let stands = head (goal.at.get-parts-requires-clause-range c).After-digits-width in
+    omega (arith, stands.word, stands.within, width-is (goal.at.get-parts-requires-clause-range c).After-digits-width)
 
 pub overflow_cast-parts : goal.overflow_cast-parts
 overflow_cast-parts c =
-    let h = c.requires.stands in
-    let bits : List ℕ = bits_of c.args.words.now in
-    let m : ℕ = c.args.m in
-    let head = parted-head c.args.last m format_three.most_sum bits c.args.at (64 * length c.args.words.now) h.0 h.1 (omega (arith, c.requires.many)) (omega (arith, c.ranges.m.fits)) c.requires.flag h.2 in
-    let got = head-read m bits c.args.at (64 * length c.args.words.now) (length h.1) ((c.args.at + 1 + digits m + 63) / 64) head in
-    let width : c.digits-width.result ≡ digits m = c.digits-width.ensures ∙ ap digits c.from.ensures in
-    let value : c.get-parts.result ≡ field_at bits (c.args.at + 1) (digits m) = c.get-parts.ensures ∙ ap (field_at bits (c.args.at + 1)) width in
-    omega (arith, value, got.parts_are, few-parts 0 m h.1 h.2.stored.partition, c.ranges.m.fits)
+    let got = head-read c.args.m (bits_of c.args.words.now) c.args.at (64 * length c.args.words.now) (length c.requires.stands.1) ((c.args.at + 1 + digits c.args.m + 63) / 64) (head (goal.at.overflow_cast-parts c).After-digits-width) in
+    let value = c.get-parts.ensures ∙ ap (field_at (bits_of c.args.words.now) (c.args.at + 1)) (width-is (goal.at.overflow_cast-parts c).After-digits-width) in
+    omega (arith, value, got.parts_are, few-parts 0 c.args.m c.requires.stands.1 c.requires.stands.2.stored.partition, c.ranges.m.fits)
 
 pub words_from-requires : goal.words_from-requires
-words_from-requires c =
-    let h = c.requires.stands in
-    let r = read c.args.words.now c.args.at c.args.m c.from.result c.digits-width.result c.from-2.result c.get-parts.result c.div_ceil-start.result c.args.last h.0 h.1 c.requires.many (omega (arith, c.ranges.m.fits)) c.requires.flag c.from.ensures c.digits-width.ensures
-    c.from-2.ensures c.get-parts.ensures c.div_ceil-start.ensures h.2 in
-    record { within = omega (arith, r.within) }
+words_from-requires c = record { within = omega (arith, (seen (goal.at.words_from-requires c).After-div_ceil-start c.requires.stands.0 c.requires.stands.1 c.requires.stands.2).within) }
 
 pub known-view-requires-clause-checked : goal.known-view-requires-clause-checked
-known-view-requires-clause-checked c =
-    let h = c.requires.stands in
-    let r = read c.args.words.now c.args.at c.args.m c.from.result c.digits-width.result c.from-2.result c.get-parts.result c.div_ceil-start.result c.args.last h.0 h.1 c.requires.many (omega (arith, c.ranges.m.fits)) c.requires.flag c.from.ensures c.digits-width.ensures
-    c.from-2.ensures c.get-parts.ensures c.div_ceil-start.ensures h.2 in (
-      view-of h.0 h.1,
-      refl,
-      begun c.words_are_bits.ensures.appended c.words_are_bits.ensures.words c.sequence_words_fit.ensures c.args.words.now c.words_from.result.now c.args.at c.args.m c.get-parts.result c.div_ceil-start.result c.args.last h.0 h.1
-          (small-words c.args.words.now (λ i. (let f = c.type_inv.words i in omega (arith, f)))) c.requires.many (omega (arith, c.ranges.m.fits)) c.requires.flag c.words_from.ensures r h.2,
-    )
+known-view-requires-clause-checked c = (view-of c.requires.stands.0 c.requires.stands.1, refl, began (goal.at.known-view-requires-clause-checked c).After-words_from c.requires.stands.0 c.requires.stands.1 c.requires.stands.2)
 
 pub overflow_add-behind : goal.overflow_add-behind
 overflow_add-behind c =
-    let h = c.requires.stands in
-    let r = read c.args.words.now c.args.at c.args.m c.from.result c.digits-width.result c.from-2.result c.get-parts.result c.div_ceil-start.result c.args.last h.0 h.1 c.requires.many (omega (arith, c.ranges.m.fits)) c.requires.flag c.from.ensures c.digits-width.ensures
-    c.from-2.ensures c.get-parts.ensures c.div_ceil-start.ensures h.2 in
-    let view = c.known-view.ensures.same (view-of h.0 h.1) refl (begun c.words_are_bits.ensures.appended c.words_are_bits.ensures.words c.sequence_words_fit.ensures c.args.words.now c.words_from.result.now c.args.at c.args.m c.get-parts.result c.div_ceil-start.result c.args.last h.0 h.1
-    (small-words c.args.words.now (λ i. (let f = c.type_inv.words i in omega (arith, f)))) c.requires.many (omega (arith, c.ranges.m.fits)) c.requires.flag c.words_from.ensures r h.2) in
-    let used : c.used.result ≡ length (sequence_words format_three h.0 h.1) = c.used.ensures ∙ ap words_used view in
-    omega (arith, r.behind, r.inside, used, c.requires.words)
+    let r = seen (goal.at.overflow_add-behind c).After-div_ceil-start c.requires.stands.0 c.requires.stands.1 c.requires.stands.2 in
+    omega (arith, r.behind, r.inside, used-are (goal.at.overflow_add-behind c).After-used c.requires.stands.0 c.requires.stands.1 c.requires.stands.2, c.requires.words)
 
 pub overflow_mul-behind : goal.overflow_mul-behind
 overflow_mul-behind c =
-    let h = c.requires.stands in
-    let r = read c.args.words.now c.args.at c.args.m c.from.result c.digits-width.result c.from-2.result c.get-parts.result c.div_ceil-start.result c.args.last h.0 h.1 c.requires.many (omega (arith, c.ranges.m.fits)) c.requires.flag c.from.ensures c.digits-width.ensures
-    c.from-2.ensures c.get-parts.ensures c.div_ceil-start.ensures h.2 in
-    let view = c.known-view.ensures.same (view-of h.0 h.1) refl (begun c.words_are_bits.ensures.appended c.words_are_bits.ensures.words c.sequence_words_fit.ensures c.args.words.now c.words_from.result.now c.args.at c.args.m c.get-parts.result c.div_ceil-start.result c.args.last h.0 h.1
-    (small-words c.args.words.now (λ i. (let f = c.type_inv.words i in omega (arith, f)))) c.requires.many (omega (arith, c.ranges.m.fits)) c.requires.flag c.words_from.ensures r h.2) in
-    let used : c.used.result ≡ length (sequence_words format_three h.0 h.1) = c.used.ensures ∙ ap words_used view in
-    omega (arith, r.behind, r.inside, used, c.requires.words)
+    let r = seen (goal.at.overflow_mul-behind c).After-div_ceil-start c.requires.stands.0 c.requires.stands.1 c.requires.stands.2 in
+    omega (arith, r.behind, r.inside, used-are (goal.at.overflow_mul-behind c).After-used c.requires.stands.0 c.requires.stands.1 c.requires.stands.2, c.requires.words)
 
 pub returns-clause-view : goal.returns-clause-view
-returns-clause-view c = λ xs ends h.
-    let r = read c.args.words.now c.args.at c.args.m c.from.result c.digits-width.result c.from-2.result c.get-parts.result c.div_ceil-start.result c.args.last xs ends c.requires.many (omega (arith, c.ranges.m.fits)) c.requires.flag c.from.ensures c.digits-width.ensures
-    c.from-2.ensures c.get-parts.ensures c.div_ceil-start.ensures h in
-    c.known-view.ensures.same (view-of xs ends) refl (begun c.words_are_bits.ensures.appended c.words_are_bits.ensures.words c.sequence_words_fit.ensures c.args.words.now c.words_from.result.now c.args.at c.args.m c.get-parts.result c.div_ceil-start.result c.args.last xs ends
-    (small-words c.args.words.now (λ i. (let f = c.type_inv.words i in omega (arith, f)))) c.requires.many (omega (arith, c.ranges.m.fits)) c.requires.flag c.words_from.ensures r h)
+returns-clause-view c = λ xs ends h. c.known-view.ensures.same (view-of xs ends) refl (began (goal.at.returns-clause-view c).After-words_from xs ends h)
 
 pub returns-clause-behind : goal.returns-clause-behind
 returns-clause-behind c = λ xs ends h.
-    let r = read c.args.words.now c.args.at c.args.m c.from.result c.digits-width.result c.from-2.result c.get-parts.result c.div_ceil-start.result c.args.last xs ends c.requires.many (omega (arith, c.ranges.m.fits)) c.requires.flag c.from.ensures c.digits-width.ensures
-    c.from-2.ensures c.get-parts.ensures c.div_ceil-start.ensures h in
-    let view = c.known-view.ensures.same (view-of xs ends) refl (begun c.words_are_bits.ensures.appended c.words_are_bits.ensures.words c.sequence_words_fit.ensures c.args.words.now c.words_from.result.now c.args.at c.args.m c.get-parts.result c.div_ceil-start.result c.args.last xs ends
-    (small-words c.args.words.now (λ i. (let f = c.type_inv.words i in omega (arith, f)))) c.requires.many (omega (arith, c.ranges.m.fits)) c.requires.flag c.words_from.ensures r h) in
-    let used : c.used.result ≡ length (sequence_words format_three xs ends) = c.used.ensures ∙ ap words_used view in
-    ap (λ k. 64 * (c.div_ceil-start.result + k)) used ∙ r.behind
+    ap (λ k. 64 * (c.div_ceil-start.result + k)) (used-are (goal.at.returns-clause-behind c).After-used xs ends h) ∙ (seen (goal.at.returns-clause-behind c).After-div_ceil-start xs ends h).behind

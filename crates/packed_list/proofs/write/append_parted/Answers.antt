@@ -10,6 +10,7 @@ use Rattle.part_cost.proofs.Partitions.{few-parts}
 use Rattle.two_level.specs.SequenceWords.{sequence_words}
 use Rattle.packed_list.proofs.Written.{parted-head, length-head, length-parted, parted-number, parted-padded, prefix-head, prefix-words, all-words}
 use Rattle.packed_list.proofs.write.append_parted.Goals as goal
+use Rattle.packed_list.proofs.write.append_parted.Goals.{In_ok-put-2, After-new-words, After-deref}
 
 pub put-requires-2-clause-fits : goal.put-requires-2-clause-fits
 put-requires-2-clause-fits c =
@@ -20,75 +21,56 @@ put-requires-2-clause-fits c =
 
 pub put-requires-2-clause-room : goal.put-requires-2-clause-room
 put-requires-2-clause-room c =
-    let old : List ℕ = c.args.to.now in
-    let xs : List ℕ = c.args.values.now in
-    let ends : List ℕ = c.args.ends.now in
     omega (
       arith,
       c.requires.room,
       ap length c.in_ok-put.ensures.ok,
-      length-append old (1 ∷ []),
-      length-parted old xs ends,
-      length-head old (digits (length xs)) (length ends),
+      length-append c.args.to.now (1 ∷ []),
+      length-parted c.args.to.now c.args.values.now c.args.ends.now,
+      length-head c.args.to.now (digits (length c.args.values.now)) (length c.args.ends.now),
       c.digits.ensures,
     )
 
--- what was appended before the zeros, and with them
-number : (old a b xs ends : List ℕ) (d : ℕ) → a ≡ old ++ (1 ∷ []) → b ≡ a ++ field_bits d (length ends) → d ≡ digits (length xs) → b ≡ old ++ (1 ∷ field_bits (digits (length xs)) (length ends))
-number old a b xs ends d e f is = parted-number old a b (digits (length xs)) (length ends) e (f ∙ ap (λ k. a ++ field_bits k (length ends)) is)
-
-head : (old a b c xs ends : List ℕ) (d : ℕ) → a ≡ old ++ (1 ∷ []) → b ≡ a ++ field_bits d (length ends) → d ≡ digits (length xs) → c ≡ padded b → c ≡ old ++ parted-head old (digits (length xs)) (length ends)
-head old a b c xs ends d e f is g = parted-padded old b c (digits (length xs)) (length ends) (number old a b xs ends d e f is) g
+-- the head, up to its last zero
+head : (c : In_ok-put-2) → padded c.put-2.new.self ≡ c.args.to.now ++ parted-head c.args.to.now (digits (length c.args.values.now)) (length c.args.ends.now)
+head c =
+    parted-padded c.args.to.now c.put-2.new.self (padded c.put-2.new.self) (digits (length c.args.values.now)) (length c.args.ends.now)
+    (parted-number c.args.to.now c.put.new.self c.put-2.new.self (digits (length c.args.values.now)) (length c.args.ends.now) c.in_ok-put.ensures.ok (c.in_ok-put-2.ensures.ok ∙ ap (λ k. c.put.new.self ++ field_bits k (length c.args.ends.now)) c.digits.ensures)) refl
 
 pub pad-requires : goal.pad-requires
-pad-requires c =
-    let old : List ℕ = c.args.to.now in
-    let xs : List ℕ = c.args.values.now in
-    let ends : List ℕ = c.args.ends.now in
-    let b : List ℕ = c.put-2.new.self in
-    let whole = head old c.put.new.self b (padded b) xs ends c.digits.result c.in_ok-put.ensures.ok c.in_ok-put-2.ensures.ok c.digits.ensures refl in
-    record { room = omega (arith, c.requires.room, ap length whole, length-append old (parted-head old (digits (length xs)) (length ends)), length-parted old xs ends) }
+pad-requires c = record {
+  room = omega (arith, c.requires.room, ap length (head (goal.at.pad-requires c).In_ok-put-2), length-append c.args.to.now (parted-head c.args.to.now (digits (length c.args.values.now)) (length c.args.ends.now)), length-parted c.args.to.now c.args.values.now c.args.ends.now);
+}
+
+head-whole : (c : After-new-words) → c.pad.new.self ≡ c.args.to.now ++ parted-head c.args.to.now (digits (length c.args.values.now)) (length c.args.ends.now)
+head-whole c = c.in_ok-pad.ensures.ok ∙ head (goal.at.After-new-words c).In_ok-put-2
 
 pub returns-in_err-write_seq-clause-err : goal.returns-in_err-write_seq-clause-err
-returns-in_err-write_seq-clause-err c =
-    let old : List ℕ = c.args.to.now in
-    let xs : List ℕ = c.args.values.now in
-    let ends : List ℕ = c.args.ends.now in
-    on-err _ _ (prefix-head old c.pad.new.self xs ends (head old c.put.new.self c.put-2.new.self c.pad.new.self xs ends c.digits.result c.in_ok-put.ensures.ok c.in_ok-put-2.ensures.ok c.digits.ensures c.in_ok-pad.ensures.ok))
+returns-in_err-write_seq-clause-err c = on-err _ _ (prefix-head c.args.to.now c.pad.new.self c.args.values.now c.args.ends.now (head-whole (goal.at.returns-in_err-write_seq-clause-err c).After-new-words))
+
+-- the words behind it
+words-are : (c : After-deref) → c.deref.result.now ≡ sequence_words format_three c.args.values.now c.args.ends.now
+words-are c = c.deref.ensures.value ∙ c.in_ok-write_seq.ensures.ok ∙ ap (λ ws. ws ++ sequence_words format_three c.args.values.now c.args.ends.now) c.new-words.ensures.items
 
 pub append_words-requires : goal.append_words-requires
-append_words-requires c =
-    let old : List ℕ = c.args.to.now in
-    let xs : List ℕ = c.args.values.now in
-    let ends : List ℕ = c.args.ends.now in
-    let whole = head old c.put.new.self c.put-2.new.self c.pad.new.self xs ends c.digits.result c.in_ok-put.ensures.ok c.in_ok-put-2.ensures.ok c.digits.ensures c.in_ok-pad.ensures.ok in
-    let words : c.deref.result.now ≡ sequence_words format_three xs ends = c.deref.ensures.value ∙ c.in_ok-write_seq.ensures.ok ∙ ap (λ ws. ws ++ sequence_words format_three xs ends) c.new-words.ensures.items in
-    record {
-      room =
-          omega (
-            arith,
-            c.requires.room,
-            ap length whole,
-            length-append old (parted-head old (digits (length xs)) (length ends)),
-            length-parted old xs ends,
-            ap (λ ws. length (bits_of ws)) words,
-          );
-    }
+append_words-requires c = record {
+  room =
+      omega (
+        arith,
+        c.requires.room,
+        ap length (head-whole (goal.at.append_words-requires c).After-new-words),
+        length-append c.args.to.now (parted-head c.args.to.now (digits (length c.args.values.now)) (length c.args.ends.now)),
+        length-parted c.args.to.now c.args.values.now c.args.ends.now,
+        ap (λ ws. length (bits_of ws)) (words-are (goal.at.append_words-requires c).After-deref),
+      );
+}
 
 pub returns-clause-ok : goal.returns-clause-ok
 returns-clause-ok c =
-    let old : List ℕ = c.args.to.now in
-    let xs : List ℕ = c.args.values.now in
-    let ends : List ℕ = c.args.ends.now in
-    let whole = head old c.put.new.self c.put-2.new.self c.pad.new.self xs ends c.digits.result c.in_ok-put.ensures.ok c.in_ok-put-2.ensures.ok c.digits.ensures c.in_ok-pad.ensures.ok in
-    let words : c.deref.result.now ≡ sequence_words format_three xs ends = c.deref.ensures.value ∙ c.in_ok-write_seq.ensures.ok ∙ ap (λ ws. ws ++ sequence_words format_three xs ends) c.new-words.ensures.items in
-    on_ok_weaker c.append_words.result (λ e. all-words old c.pad.new.self c.append_words.new.to xs ends c.deref.result.now whole words e) c.append_words.ensures.ok
+    on_ok_weaker c.append_words.result
+    (λ e. all-words c.args.to.now c.pad.new.self c.append_words.new.to c.args.values.now c.args.ends.now c.deref.result.now (head-whole (goal.at.returns-clause-ok c).After-new-words) (words-are (goal.at.returns-clause-ok c).After-deref) e) c.append_words.ensures.ok
 
 pub returns-clause-err : goal.returns-clause-err
 returns-clause-err c =
-    let old : List ℕ = c.args.to.now in
-    let xs : List ℕ = c.args.values.now in
-    let ends : List ℕ = c.args.ends.now in
-    let whole = head old c.put.new.self c.put-2.new.self c.pad.new.self xs ends c.digits.result c.in_ok-put.ensures.ok c.in_ok-put-2.ensures.ok c.digits.ensures c.in_ok-pad.ensures.ok in
-    let words : c.deref.result.now ≡ sequence_words format_three xs ends = c.deref.ensures.value ∙ c.in_ok-write_seq.ensures.ok ∙ ap (λ ws. ws ++ sequence_words format_three xs ends) c.new-words.ensures.items in
-    on_err_weaker c.append_words.result (λ h. prefix-words old c.pad.new.self c.append_words.new.to xs ends c.deref.result.now whole words h) c.append_words.ensures.err
+    on_err_weaker c.append_words.result
+    (λ h. prefix-words c.args.to.now c.pad.new.self c.append_words.new.to c.args.values.now c.args.ends.now c.deref.result.now (head-whole (goal.at.returns-clause-err c).After-new-words) (words-are (goal.at.returns-clause-err c).After-deref) h) c.append_words.ensures.err
