@@ -99,6 +99,27 @@ length-parted-of at m xs ends =
       length-bits_of (sequence_words format_three xs ends),
     )
 
+-- and where its pieces stand
+record PartedPieces (bits : List ℕ) (at m : ℕ) (xs ends : List ℕ) : Type 0 where
+  number : StandAt bits (at + 1) (field_bits (digits m) (length ends))
+  zeros : StandAt bits (at + 1 + digits m) (replicate (padding (at + 1 + digits m)) 0)
+  words : StandAt bits (at + 1 + digits m + padding (at + 1 + digits m)) (bits_of (sequence_words format_three xs ends))
+
+parted-pieces : (bits : List ℕ) (at m : ℕ) (xs ends : List ℕ) → StandAt bits at (parted-of at m xs ends) → PartedPieces bits at m xs ends
+parted-pieces bits at m xs ends whole =
+    let w : ℕ = digits m in
+    let head : List ℕ = 1 ∷ field_bits w (length ends) in
+    let zeros : List ℕ = replicate (padding (at + 1 + w)) 0 in
+    let ws : List ℕ = bits_of (sequence_words format_three xs ends) in
+    let size : length head ≡ 1 + w = omega (arith, length-field_bits w (length ends)) in
+    let both : length (head ++ zeros) ≡ 1 + w + padding (at + 1 + w) = omega (arith, size, length-append head zeros, length-replicate {A = ℕ} (padding (at + 1 + w)) 0) in
+    let front : StandAt bits at (head ++ zeros) = stands-first bits at (head ++ zeros) ws whole in
+    record {
+      number = stands-second bits at (1 ∷ []) (field_bits w (length ends)) (stands-first bits at head zeros front);
+      zeros = subst (λ k. StandAt bits k zeros) (let e : at + length head ≡ at + 1 + w = omega (arith, size) in e) (stands-second bits at head zeros front);
+      words = subst (λ k. StandAt bits k ws) (let e : at + length (head ++ zeros) ≡ at + 1 + w + padding (at + 1 + w) = omega (arith, both) in e) (stands-second bits at (head ++ zeros) ws whole);
+    }
+
 -- the bits of words from one of them on
 pub bits-behind : BitsOfAppended → (words : List ℕ) (p : ℕ) → p ≤ length words → drop (64 * p) (bits_of words) ≡ bits_of (drop p words)
 bits-behind appended words p le =
@@ -171,26 +192,17 @@ pub parted-head : (last : LastField) (m bound : ℕ) (bits : List ℕ) (at end :
 parted-head last m bound bits at end xs ends some few flag h =
     let many = more-when-one last m bound bits at end xs ends some flag h in
     let w : ℕ = digits m in
-    let n : ℕ = length ends in
     let start : ℕ = (at + 1 + w + 63) / 64 in
-    let zeros : List ℕ = replicate (padding (at + 1 + w)) 0 in
-    let ws : List ℕ = sequence_words format_three xs ends in
-    let head : List ℕ = 1 ∷ field_bits w n in
-    let is : sequence_bits last at xs ends ≡ parted-of at m xs ends = parted-by last at m xs ends h.stored.count many in
-    let whole : StandAt bits at (parted-of at m xs ends) = subst (StandAt bits at) is (piece-stands bits at (sequence_bits last at xs ends) h.stands) in
-    let prefix : StandAt bits at (head ++ zeros) = stands-first bits at (head ++ zeros) (bits_of ws) whole in
-    let first : StandAt bits at head = stands-first bits at head zeros prefix in
-    let number : StandAt bits (at + 1) (field_bits w n) = stands-second bits at (1 ∷ []) (field_bits w n) first in
-    let size : length head ≡ 1 + w = omega (arith, length-field_bits w n) in
-    let pad : StandAt bits (at + 1 + w) zeros = subst (λ k. StandAt bits k zeros) (let e : at + length head ≡ at + 1 + w = omega (arith, size) in e) (stands-second bits at head zeros prefix) in
+    let is = parted-by last at m xs ends h.stored.count many in
+    let pieces = parted-pieces bits at m xs ends (subst (StandAt bits at) is (piece-stands bits at (sequence_bits last at xs ends) h.stands)) in
     let room : m < 2 ^ w = digits-hold m (omega (arith, few)) in
     let word : 64 * start ≡ at + 1 + w + padding (at + 1 + w) = omega arith in
     record {
       some = many;
       few = omega (arith, few-parts 0 m ends h.stored.partition, room);
-      number = stands-range bits (at + 1) (at + 1 + w) (field_bits w n) (omega (arith, length-field_bits w n)) number;
+      number = stands-range bits (at + 1) (at + 1 + w) (field_bits w (length ends)) (omega (arith, length-field_bits w (length ends))) pieces.number;
       word = word;
-      zeros = stands-range bits (at + 1 + w) (64 * start) zeros (omega (arith, word, length-replicate {A = ℕ} (padding (at + 1 + w)) 0)) pad;
+      zeros = stands-range bits (at + 1 + w) (64 * start) (replicate (padding (at + 1 + w)) 0) (omega (arith, word, length-replicate {A = ℕ} (padding (at + 1 + w)) 0)) pieces.zeros;
       within = omega (arith, h.within, ap length is, length-parted-of at m xs ends, word);
     }
 
@@ -201,19 +213,13 @@ pub parted-begins : BitsOfAppended → WordsOfBits → SequenceWordsFit → (las
 parted-begins appended whole fits last m bound words at end parts start q xs ends small some few fit flag h got at_end =
     let bits : List ℕ = bits_of words in
     let many = more-when-one last m bound bits at end xs ends some flag h in
-    let w : ℕ = digits m in
-    let n : ℕ = length ends in
-    let zeros : List ℕ = replicate (padding (at + 1 + w)) 0 in
     let ws : List ℕ = sequence_words format_three xs ends in
-    let head : List ℕ = 1 ∷ field_bits w n in
-    let is : sequence_bits last at xs ends ≡ parted-of at m xs ends = parted-by last at m xs ends h.stored.count many in
-    let stands : StandAt bits at (parted-of at m xs ends) = subst (StandAt bits at) is (piece-stands bits at (sequence_bits last at xs ends) h.stands) in
+    let is = parted-by last at m xs ends h.stored.count many in
+    let pieces = parted-pieces bits at m xs ends (subst (StandAt bits at) is (piece-stands bits at (sequence_bits last at xs ends) h.stands)) in
     let read = head-read m bits at end parts start got in
-    let read_too = head-read m bits at end n ((at + 1 + w + 63) / 64) (parted-head last m bound bits at end xs ends some few flag h) in
-    let count : n ≡ parts = omega (arith, read.parts_are, read_too.parts_are) in
-    let size : length (head ++ zeros) ≡ 1 + w + padding (at + 1 + w) = omega (arith, length-append head zeros, length-field_bits w n, length-replicate {A = ℕ} (padding (at + 1 + w)) 0) in
-    let place : at + length (head ++ zeros) ≡ 64 * start = omega (arith, size, got.word) in
-    let piece : StandAt bits (64 * start) (bits_of ws) = subst (λ k. StandAt bits k (bits_of ws)) place (stands-second bits at (head ++ zeros) (bits_of ws) stands) in
+    let read_too = head-read m bits at end (length ends) ((at + 1 + digits m + 63) / 64) (parted-head last m bound bits at end xs ends some few flag h) in
+    let count : length ends ≡ parts = omega (arith, read.parts_are, read_too.parts_are) in
+    let piece : StandAt bits (64 * start) (bits_of ws) = subst (λ k. StandAt bits k (bits_of ws)) (sym got.word) pieces.words in
     let ends_at : 64 * start + 64 * length ws ≤ end = omega (arith, h.within, ap length is, length-parted-of at m xs ends, got.word) in
     let rest : List ℕ = drop start words in
     let prefix : take (length (bits_of ws)) (bits_of rest) ≡ bits_of ws = ap (take (length (bits_of ws))) (sym (bits-behind appended words start (omega (arith, ends_at, fit)))) ∙ piece in
@@ -240,5 +246,4 @@ parted-begins appended whole fits last m bound words at end parts start q xs end
 pub parted-size : (last : LastField) (m bound : ℕ) (bits : List ℕ) (at end : ℕ) (xs ends : List ℕ) → 1 ≤ m → slice_index bits at ≡ 1 → IsSequenceBefore last m bound bits at end xs ends
     → 64 * ((at + 1 + digits m + 63) / 64 + length (sequence_words format_three xs ends)) ≡ at + length (sequence_bits last at xs ends)
 parted-size last m bound bits at end xs ends some flag h =
-    let is : sequence_bits last at xs ends ≡ parted-of at m xs ends = parted-by last at m xs ends h.stored.count (more-when-one last m bound bits at end xs ends some flag h) in
-    omega (arith, ap length is, length-parted-of at m xs ends)
+    omega (arith, ap length (parted-by last at m xs ends h.stored.count (more-when-one last m bound bits at end xs ends some flag h)), length-parted-of at m xs ends)

@@ -1,10 +1,9 @@
-use Rattle.std.proofs.Common.{◌≡◌, ℕ, ◌≤◌, ◌<◌, ◌^◌, List, length, sym, ◌∙◌, arith}
+use Rattle.std.proofs.Common.{◌≡◌, ℕ, sym, ◌∙◌, arith}
 use Rattle.std.specs.Prelude.{IsTrue, nat_eq}
 use Rattle.std.proofs.lemmas.Bool.Decides.{nat_tests}
 use Rattle.bit_words.specs.Bits.{bits_of}
 use Rattle.bit_words.proofs.Value.{length-bits_of}
 use Rattle.collection_model.specs.FormatNumbers.{format_three}
-use Rattle.collection_model.specs.Collection.{Posting}
 use Rattle.collection_model.specs.Sequences.{doc_sequence, freq_sequence}
 use Rattle.packed_list.specs.ListBits.{last_doc, last_sum}
 use Rattle.packed_list.specs.ListPlaces.{IsFound, IsSequenceBefore, HoldsTail}

@@ -1,4 +1,4 @@
-use Rattle.std.proofs.Common.{◌≡◌, ℕ, ◌+◌, ◌*◌, ◌≤◌, List, length, slice_index, sym, ap, ◌∙◌, subst, arith}
+use Rattle.std.proofs.Common.{◌≡◌, ℕ, ◌+◌, ◌*◌, List, length, sym, ap, ◌∙◌, subst, arith}
 use Rattle.bit_words.specs.Bits.{bits_of, field_at}
 use Rattle.collection_model.specs.FormatNumbers.{format_three}
 use Rattle.part_cost.specs.Payload.{payload}
