@@ -74,7 +74,7 @@ impl<'a> Side<'a> {
         }
     }
 
-    /// The same side file of words that `view` accepts, without looking whether it does.
+    /// The side file that the words are, where it is known that `view` accepts them: nothing is looked at.
     pub fn known<S: BlockSource>(words: &'a [u64], _source: &S) -> Side<'a>
         requires { words.now ≡ side_words (S.lists _source.now) }
         ensures { words_seen result ≡ words.entry.now }

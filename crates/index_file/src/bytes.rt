@@ -27,7 +27,7 @@ pub fn spell_words(alloc: Global, words: &[u64]) -> Result<Vec<u8>, NoMemory>
     Ok(bytes)
 }
 
-/// The same bytes into a piece that has room for just them.
+/// Writes the bytes of words into a piece that has room for just them.
 pub fn spell_into(words: &[u64], piece: &mut [u8])
     requires { length piece.old ≡ 8 * length words.now }
     ensures { piece.new ≡ word_bytes words.now }

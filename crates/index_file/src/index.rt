@@ -52,7 +52,7 @@ impl<'a> Index<'a> {
         Ok(Index { words })
     }
 
-    /// The same index of words that `view` accepts, without looking whether it does.
+    /// The index that the words are, where it is known that `view` accepts them: nothing is checked.
     pub fn known(words: &'a [u64]) -> Index<'a>
         requires words { length words.now < 2 ^ 57 }
         requires index { IsIndex words.now }

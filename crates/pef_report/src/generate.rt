@@ -67,7 +67,7 @@ impl Gen {
         answer
     }
 
-    // The same, but for what the vectors hold without a list.
+    // Draws the next list. Where there is none, or no memory, the vectors may hold anything.
     fn draw_next(&mut self, docs: &mut Vec<u32>, freqs: &mut Vec<u32>) -> Result<bool, NoMemory>
         ensures same_length { result ≡ Ok true → length docs.new.items ≡ length freqs.new.items }
         ensures list { result ≡ Ok true → self.old.lists

@@ -12,7 +12,7 @@ pub fn document_sizes(alloc: Global, n: u32) -> Result<Vec<u32>, NoMemory>
     Ok(sizes_of(alloc, n)?)
 }
 
-// The same, refused as its allocation is.
+// The sizes, with the refusal of their allocation.
 fn sizes_of(alloc: Global, n: u32) -> Result<Vec<u32>, AllocError>
     ensures { IfOk result (λ sizes. sizes.items ≡ map (λ d. 1 + d % 1000) (range_with_len 0 n)) }
 {

@@ -14,7 +14,7 @@ pub fn summary(alloc: Global, counts: &Counts) -> Result<Value, NoMemory>
     Ok(object_of(alloc, counts)?)
 }
 
-// The same, refused as its allocations are.
+// The object, with the refusal of its allocations.
 fn object_of(alloc: Global, counts: &Counts) -> Result<Value, AllocError>
     ensures { IfOk result (λ v. view v ≡ summary_of counts.now) }
 {

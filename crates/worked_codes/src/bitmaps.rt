@@ -104,7 +104,7 @@ fn kept(view: &MapView<'_, 512>, from: u64) -> (usize, [u64; 2]) {
     (words, marks)
 }
 
-// The same numbers: the marks of whole words of places.
+// 599 of 600 places: the marks of whole words of places.
 #[test]
 fn keeps_marks_in_whole_words(rt: HostRuntime) {
     let all = u64::MAX;
@@ -123,7 +123,7 @@ fn keeps_marks_in_whole_words(rt: HostRuntime) {
     }
 }
 
-// The same with another sample, with fewer words, and at a later place.
+// 599 of 600 places with another sample, with fewer words, and at a later place.
 #[test]
 fn refuses_other_bits(rt: HostRuntime) {
     assert_eq!(rt; number_of_599(&words_of_600(510), 0, 0), None);
@@ -215,7 +215,7 @@ fn gives(view: &MapView<'_, 512>, values: &[u64], k: usize, x: u64, room: usize)
     true
 }
 
-// The same for x at number k, at one more, at the last number and at the universe, with room for none, for one, for two and for
+// Whether they are given below number k, one more, the last number and the universe, with room for none, for one, for two and for
 // all.
 fn gives_blocks(view: &MapView<'_, 512>, values: &[u64], k: usize) -> bool
     requires held { (ys : List ℕ) × Holds 512 view.now ys }

@@ -285,7 +285,7 @@ fn misfound(view: &EfView<128>, values: &[u64]) -> Option<(u64, u64)>
     None
 }
 
-// The same parts, from places about the borders of words and runs, up to numbers near and far.
+// Parts of runs, from places about the borders of words and runs, up to numbers near and far.
 #[test]
 fn reads_first_from_numbers(rt: HostRuntime) -> Result<(), Fail> {
     for count in [128, 129, 256, 257, 5_000] {
@@ -354,7 +354,7 @@ fn misgiven(view: &EfView<128>, values: &[u64]) -> Option<(u64, u64)>
     None
 }
 
-// The same parts, from places about the borders of words and runs; below each number that is at most at the end of the room, and
+// Parts of runs, from places about the borders of words and runs; below each number that is at most at the end of the room, and
 // one more.
 #[test]
 fn reads_numbers_below(rt: HostRuntime) -> Result<(), Fail> {

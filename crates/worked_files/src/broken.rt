@@ -15,7 +15,7 @@ fn broken(words: &[u64]) -> Option<(Check, u32, u64)>
     Some((fault.check, fault.term, fault.part))
 }
 
-// The same of a small file with one word changed.
+// The check that a small file breaks first once one of its words is changed.
 fn broken_by(
     rt: &impl Abort,
     alloc: Global,

@@ -27,7 +27,7 @@ pub(crate) const ONE_LIST: &[u64] = &[
     END,
 ];
 
-// The same in the second format: its entries have three words.
+// That collection in the second format: its entries have three words.
 pub(crate) const ONE_LIST_OF_TWO: &[u64] = &[
     OPENING,
     2,
@@ -51,7 +51,7 @@ pub(crate) const ONE_LIST_OF_TWO: &[u64] = &[
     END,
 ];
 
-// The same in the first format with its documents in two parts: 0 alone, of which nothing is stored, and 2 in two bits.
+// And in the first format with its documents in two parts: 0 alone, of which nothing is stored, and 2 in two bits.
 pub(crate) const IN_TWO_PARTS: &[u64] = &[
     OPENING,
     1,

@@ -56,7 +56,7 @@ fn three_below<C: DocCursor>(cursor: &mut C, end: u64) -> (usize, [u64; 3], [u64
     (count, docs, freqs)
 }
 
-// The same of documents alone.
+// How many documents below an end it gives, at most three, and which.
 fn three_docs_below<C: DocCursor>(cursor: &mut C, end: u64) -> (usize, [u64; 3]) {
     let mut docs = [0; 3];
     let count = cursor.docs_below(end, &mut docs);

@@ -23,7 +23,7 @@ fn two_lists(rt: HostRuntime) {
     assert_eq!(rt; all.as_slice(), [(4, 4), (1, 3), (2, 3)].as_slice());
 }
 
-// The same lists: a frequency counts as often as its list weighs.
+// With weights a frequency counts as often as its list weighs.
 #[test]
 fn weighted_lists(rt: HostRuntime) {
     let starts = [

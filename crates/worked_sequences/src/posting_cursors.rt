@@ -110,7 +110,7 @@ fn two_below<C: DocCursor>(cursor: &mut C, end: u64) -> (usize, [u64; 2], [u64; 
     (count, docs, freqs)
 }
 
-// The same of documents alone.
+// How many documents below an end it gives, at most two, and which.
 fn two_docs_below<C: DocCursor>(cursor: &mut C, end: u64) -> (usize, [u64; 2]) {
     let mut docs = [0; 2];
     let count = cursor.docs_below(end, &mut docs);
