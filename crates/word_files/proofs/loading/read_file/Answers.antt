@@ -4,10 +4,12 @@ use Rattle.std.proofs.lemmas.List.{length-append, length-take, take_at}
 use Rattle.std.proofs.lemmas.Result.{err_from_is_err_and}
 use Rattle.collection_model.specs.Bytes.{word_bytes}
 use Rattle.command_model.proofs.WordBytes.{word_bytes-length}
+use Rattle.index_file.specs.Builder.{most_words}
+use Rattle.word_files.specs.ReadWords.{HasWords}
 use Rattle.word_files.proofs.LoadedWords.{more-words, all-words, piece-too_large, words-refused, prefix-kept}
 use Rattle.word_files.proofs.loading.read_file.Given as given
 use Rattle.word_files.proofs.loading.read_file.Goals as goal
-use Rattle.word_files.proofs.loading.read_file.Goals.{After-deref}
+use Rattle.word_files.proofs.loading.read_file.Goals.{After-deref, After-words_fit, After-len-then-index-opening}
 
 -- so many words more than there were, of a piece of the file
 grown : (words more piece : List ℕ) (count : ℕ) → count ≤ length piece → word_bytes more ≡ word_bytes words ++ take count piece → 8 * length more ≡ 8 * length words + count
@@ -30,6 +32,25 @@ same-first : (words : List ℕ) (word : ℕ) → 0 < length words → word ≡ g
 same-first [] word some e = absurd (omega (arith, some))
 same-first (x ∷ words) word some e = e
 
+-- the words that were read, with those of the piece
+added : (g : given.Over) (c : After-words_fit g) → word_bytes c.add_words.new.words.items ≡ word_bytes c.loop-words.words.items ++ take c.in_ok-count.count c.fill_piece.new.piece
+added g c = c.in_ok-add_words.ensures.added ∙ ap (λ xs. word_bytes c.loop-words.words.items ++ take c.in_ok-count.count xs) (lent-is g (goal.at.After-words_fit g c).After-deref)
+
+more-are : (g : given.Over) (c : After-words_fit g) → 8 * length c.add_words.new.words.items ≡ 8 * length c.loop-words.words.items + c.in_ok-count.count
+more-are g c = grown c.loop-words.words.items c.add_words.new.words.items c.fill_piece.new.piece c.in_ok-count.count c.in_ok-count.ensures.filled.within (added g c)
+
+are-few : (g : given.Over) (c : After-words_fit g) → length c.add_words.new.words.items ≤ most_words
+are-few g c = omega (arith, more-are g c, c.if-len-count-gt-LONGEST_FILE.false, c.len.ensures, c.loop-words.words.ok.0)
+
+have-words : (g : given.Over) (c : After-words_fit g) → HasWords c.args.slot (g.D.Depot.state c.args.depot.now) (g.D.Depot.state c.fill_piece.new.depot) c.add_words.new.words.items
+have-words g c = more-words c.args.slot (g.D.Depot.state c.args.depot.now) (g.D.Depot.state c.loop-words.depot) (g.D.Depot.state c.fill_piece.new.depot) c.loop-words.words.items c.add_words.new.words.items c.fill_piece.new.piece c.in_ok-count.count c.loop-words.invariant.read c.in_ok-count.ensures.filled (added g c)
+
+fit-words : (g : given.Over) (c : After-words_fit g) → All (λ w. w < 2 ^ 64) c.add_words.new.words.items
+fit-words g c = let P : List ℕ → Type 0 = λ ws. All (λ w. w < 2 ^ 64) ws in subst P c.deref-in-loop-words.ensures.value c.words_fit.ensures
+
+count-is : (g : given.Over) (c : After-len-then-index-opening g) → length c.add_words.new.words.items ≡ c.len-then-index-opening.result
+count-is g c = omega (arith, c.len-then-index-opening.ensures, c.add_words.new.words.ok.0)
+
 pub returns-then-len-count-gt-LONGEST_FILE : goal.returns-then-len-count-gt-LONGEST_FILE
 returns-then-len-count-gt-LONGEST_FILE g c =
     piece-too_large c.args.slot (g.D.Depot.state c.args.depot.now) (g.D.Depot.state c.loop-words.depot) (g.D.Depot.state c.fill_piece.new.depot) c.loop-words.words.items c.fill_piece.new.piece c.in_ok-count.count
@@ -47,84 +68,37 @@ returns-in_err-add_words g c =
     (λ is even. c.in_err-add_words.ensures.ragged is (ap (λ n. n % 8) all ∙ even)))
 
 pub returns-then-count-lt-PIECE_BYTES : goal.returns-then-count-lt-PIECE_BYTES
-returns-then-count-lt-PIECE_BYTES g c =
-    let at = (goal.at.returns-then-count-lt-PIECE_BYTES g c).After-deref in
-    let count = c.in_ok-count.count in
-    let words = c.loop-words.words.items in
-    let more : List ℕ = c.add_words.new.words.items in
-    let filled = c.in_ok-count.ensures.filled in
-    let P : List ℕ → Type 0 = λ ws. All (λ w. w < 2 ^ 64) ws in
-    let are : word_bytes more ≡ word_bytes words ++ take count c.fill_piece.new.piece = c.in_ok-add_words.ensures.added ∙ ap (λ xs. word_bytes words ++ take count xs) (lent-is g at) in (
-      more,
-      inl refl,
-      subst P c.deref-in-loop-words.ensures.value c.words_fit.ensures,
-      all-words c.args.slot (g.D.Depot.state c.args.depot.now) (g.D.Depot.state c.loop-words.depot) (g.D.Depot.state c.fill_piece.new.depot) words more c.fill_piece.new.piece count c.loop-words.invariant.read filled are
-          (omega (arith, whole g at, c.if-count-lt-PIECE_BYTES.true)) (omega (arith, grown words more c.fill_piece.new.piece count filled.within are, c.if-len-count-gt-LONGEST_FILE.false, c.len.ensures, c.loop-words.words.ok.0)),
-    )
+returns-then-count-lt-PIECE_BYTES g c = (
+  c.add_words.new.words.items,
+  inl refl,
+  fit-words g (goal.at.returns-then-count-lt-PIECE_BYTES g c).After-words_fit,
+  all-words c.args.slot (g.D.Depot.state c.args.depot.now) (g.D.Depot.state c.loop-words.depot) (g.D.Depot.state c.fill_piece.new.depot) c.loop-words.words.items c.add_words.new.words.items c.fill_piece.new.piece c.in_ok-count.count c.loop-words.invariant.read c.in_ok-count.ensures.filled (added g (goal.at.returns-then-count-lt-PIECE_BYTES g c).After-words_fit)
+      (omega (arith, whole g (goal.at.returns-then-count-lt-PIECE_BYTES g c).After-deref, c.if-count-lt-PIECE_BYTES.true)) (are-few g (goal.at.returns-then-count-lt-PIECE_BYTES g c).After-words_fit),
+)
 
 pub pass_rest-requires-clause-few : goal.pass_rest-requires-clause-few
-pass_rest-requires-clause-few g c =
-    let at = (goal.at.pass_rest-requires-clause-few g c).After-deref in
-    let count = c.in_ok-count.count in
-    let words = c.loop-words.words.items in
-    let more : List ℕ = c.add_words.new.words.items in
-    let are : word_bytes more ≡ word_bytes words ++ take count c.fill_piece.new.piece = c.in_ok-add_words.ensures.added ∙ ap (λ xs. word_bytes words ++ take count xs) (lent-is g at) in
-    omega (
-      arith,
-      grown words more c.fill_piece.new.piece count c.in_ok-count.ensures.filled.within are,
-      c.if-len-count-gt-LONGEST_FILE.false,
-      c.len.ensures,
-      c.loop-words.words.ok.0,
-      c.len-then-index-opening.ensures,
-      c.add_words.new.words.ok.0,
-    )
+pass_rest-requires-clause-few g c = omega (arith, more-are g (goal.at.pass_rest-requires-clause-few g c).After-words_fit, c.if-len-count-gt-LONGEST_FILE.false, c.len.ensures, c.loop-words.words.ok.0, c.len-then-index-opening.ensures, c.add_words.new.words.ok.0)
 
 pub returns-in_err-pass_rest : goal.returns-in_err-pass_rest
 returns-in_err-pass_rest g c =
-    let p = err_from_is_err_and c.from_residual-in_err-pass_rest.result c.from_residual-in_err-pass_rest.ensures.1 in
-    let at = (goal.at.returns-in_err-pass_rest g c).After-deref in
-    let count = c.in_ok-count.count in
-    let words = c.loop-words.words.items in
-    let more : List ℕ = c.add_words.new.words.items in
-    let are : word_bytes more ≡ word_bytes words ++ take count c.fill_piece.new.piece = c.in_ok-add_words.ensures.added ∙ ap (λ xs. word_bytes words ++ take count xs) (lent-is g at) in
-    let held : length more ≡ c.len-then-index-opening.result = omega (arith, c.len-then-index-opening.ensures, c.add_words.new.words.ok.0) in
-    rw (p.1, p.2) (c.in_err-pass_rest.ensures (g.D.Depot.state c.args.depot.now) more held
-    (more-words c.args.slot (g.D.Depot.state c.args.depot.now) (g.D.Depot.state c.loop-words.depot) (g.D.Depot.state c.fill_piece.new.depot) words more c.fill_piece.new.piece count c.loop-words.invariant.read c.in_ok-count.ensures.filled are))
+    let q = err_from_is_err_and c.from_residual-in_err-pass_rest.result c.from_residual-in_err-pass_rest.ensures.1 in
+    rw (q.1, q.2) (c.in_err-pass_rest.ensures (g.D.Depot.state c.args.depot.now) c.add_words.new.words.items (count-is g (goal.at.returns-in_err-pass_rest g c).After-len-then-index-opening) (have-words g (goal.at.returns-in_err-pass_rest g c).After-words_fit))
 
 pub returns-then-index-opening : goal.returns-then-index-opening
 returns-then-index-opening g c =
-    let at = (goal.at.returns-then-index-opening g c).After-deref in
-    let count = c.in_ok-count.count in
-    let words = c.loop-words.words.items in
-    let more : List ℕ = c.add_words.new.words.items in
-    let P : List ℕ → Type 0 = λ ws. All (λ w. w < 2 ^ 64) ws in
-    let are : word_bytes more ≡ word_bytes words ++ take count c.fill_piece.new.piece = c.in_ok-add_words.ensures.added ∙ ap (λ xs. word_bytes words ++ take count xs) (lent-is g at) in
-    let held : length more ≡ c.len-then-index-opening.result = omega (arith, c.len-then-index-opening.ensures, c.add_words.new.words.ok.0) in
-    let many : 6 ≤ length more = omega (arith, grown words more c.fill_piece.new.piece count c.in_ok-count.ensures.filled.within are, c.if-count-lt-PIECE_BYTES.false) in
-    prefix-kept c.args.opening c.args.slot (g.D.Depot.state c.args.depot.now) (g.D.Depot.state c.pass_rest.new.depot) more
-    (c.in_ok-pass_rest.ensures (g.D.Depot.state c.args.depot.now) more held
-    (more-words c.args.slot (g.D.Depot.state c.args.depot.now) (g.D.Depot.state c.loop-words.depot) (g.D.Depot.state c.fill_piece.new.depot) words more c.fill_piece.new.piece count c.loop-words.invariant.read c.in_ok-count.ensures.filled are))
-    (subst P c.deref-in-loop-words.ensures.value c.words_fit.ensures) many (λ is. c.if-index-opening.true (same-first more c.index.result.now (omega (arith, many)) c.index.ensures ∙ is))
+    let many : 6 ≤ length c.add_words.new.words.items = omega (arith, more-are g (goal.at.returns-then-index-opening g c).After-words_fit, c.if-count-lt-PIECE_BYTES.false) in
+    prefix-kept c.args.opening c.args.slot (g.D.Depot.state c.args.depot.now) (g.D.Depot.state c.pass_rest.new.depot) c.add_words.new.words.items
+    (c.in_ok-pass_rest.ensures (g.D.Depot.state c.args.depot.now) c.add_words.new.words.items (count-is g (goal.at.returns-then-index-opening g c).After-len-then-index-opening) (have-words g (goal.at.returns-then-index-opening g c).After-words_fit))
+    (fit-words g (goal.at.returns-then-index-opening g c).After-words_fit) many (λ is. c.if-index-opening.true (same-first c.add_words.new.words.items c.index.result.now (omega (arith, many)) c.index.ensures ∙ is))
 
 pub loop-words-smaller : goal.loop-words-smaller
-loop-words-smaller g c =
-    let at = (goal.at.loop-words-smaller g c).After-deref in
-    let count = c.in_ok-count.count in
-    let words = c.loop-words.words.items in
-    let more = c.add_words.new.words.items in
-    let are : word_bytes more ≡ word_bytes words ++ take count c.fill_piece.new.piece = c.in_ok-add_words.ensures.added ∙ ap (λ xs. word_bytes words ++ take count xs) (lent-is g at) in
-    omega (arith, grown words more c.fill_piece.new.piece count c.in_ok-count.ensures.filled.within are, c.if-len-count-gt-LONGEST_FILE.false, c.len.ensures, c.loop-words.words.ok.0, c.if-count-lt-PIECE_BYTES.false)
+loop-words-smaller g c = omega (arith, more-are g (goal.at.loop-words-smaller g c).After-words_fit, c.if-len-count-gt-LONGEST_FILE.false, c.len.ensures, c.loop-words.words.ok.0, c.if-count-lt-PIECE_BYTES.false)
 
 pub loop-words-preserved : goal.loop-words-preserved
 loop-words-preserved g c =
     let at = (goal.at.loop-words-preserved g c).After-deref in
-    let count = c.in_ok-count.count in
-    let words = c.loop-words.words.items in
-    let more = c.add_words.new.words.items in
-    let filled = c.in_ok-count.ensures.filled in
-    let are : word_bytes more ≡ word_bytes words ++ take count c.fill_piece.new.piece = c.in_ok-add_words.ensures.added ∙ ap (λ xs. word_bytes words ++ take count xs) (lent-is g at) in
     record {
       room = ap length (sym c.deref.ensures.value ∙ lent-is g at) ∙ whole g at;
-      few = omega (arith, grown words more c.fill_piece.new.piece count filled.within are, c.if-len-count-gt-LONGEST_FILE.false, c.len.ensures, c.loop-words.words.ok.0);
-      read = more-words c.args.slot (g.D.Depot.state c.args.depot.now) (g.D.Depot.state c.loop-words.depot) (g.D.Depot.state c.fill_piece.new.depot) words more c.fill_piece.new.piece count c.loop-words.invariant.read filled are;
+      few = omega (arith, more-are g (goal.at.loop-words-preserved g c).After-words_fit, c.if-len-count-gt-LONGEST_FILE.false, c.len.ensures, c.loop-words.words.ok.0);
+      read = have-words g (goal.at.loop-words-preserved g c).After-words_fit;
     }
