@@ -11,7 +11,7 @@ use Rattle.std.proofs.lemmas.List.Sorted.{All-permutation, Contains-permutation,
 use Rattle.collection_model.specs.FormatNumbers.{FormatNumbers}
 use Rattle.collection_model.specs.Collection.{Posting, Collection, IsPostingList, docs_of, freqs_of, list_of}
 use Rattle.remap.specs.NewIds.{AreNewIds, new_id, Undoes}
-use Rattle.remap.specs.Image.{renamed, IsImageList}
+use Rattle.remap.specs.Image.{renamed, IsImage, IsImageList}
 use Rattle.remap.specs.Laws.{Orders, ImageIsWellFormed, OneImage, UndoneImage}
 use Rattle.remap.proofs.Members.{one-by_key}
 use Rattle.remap.proofs.Arranged.{new-id_below, has-document}
@@ -120,64 +120,53 @@ same-collection a b p q r = λ i. record { documents = p i; lists = q i; sizes =
 list-good : (format : FormatNumbers) (ids : List ℕ) (c : Collection) → Orders format ids c → (t : ℕ) → t < length c.lists → IsPostingList format (length ids) (list_of c t)
 list-good format ids c orders t within = subst (λ (n : ℕ). IsPostingList format n (list_of c t)) (sym orders.each) (orders.well_formed.lists t [] within)
 
+-- the document whose size an image has at a place
+record SizeOf (ids : List ℕ) (c image : Collection) (k : ℕ) : Type 0 where
+  doc : ℕ
+  old : doc < length ids
+  within : doc < length c.sizes
+  new : new_id ids doc ≡ k
+  size_is : get_or image.sizes k 0 ≡ get_or c.sizes doc 0
+
+size-of : (format : FormatNumbers) (ids : List ℕ) (c image : Collection) (k : ℕ) → Orders format ids c → IsImage ids c image → k < length image.sizes → SizeOf ids c image k
+size-of format ids c image k orders is within =
+    let of = has-document ids k orders.new_ids (omega (arith, within, is.size_each, orders.well_formed.size_each, orders.each)) in
+    let inside : of.0 < length c.sizes = omega (arith, of.1, orders.well_formed.size_each, orders.each) in
+    record { doc = of.0; old = of.1; within = inside; new = of.2; size_is = ap (λ (k : ℕ). get_or image.sizes k 0) (sym of.2) ∙ is.sizes of.0 inside }
+
 pub image-well_formed : ImageIsWellFormed
-image-well_formed format ids c image orders is =
-    let terms = is.terms in
-    let sizes = orders.well_formed.size_each in
-    let count = is.size_each in
-    let each = orders.each in
-    let documents = is.documents in
-    record {
-      documents = (let most = orders.well_formed.documents in omega arith);
-      terms = (let most = orders.well_formed.terms in omega arith);
-      lists = All-from_get_or (IsPostingList format image.documents) image.lists [] (λ t within.
-          let t_in : t < length c.lists = omega arith in
-          subst (λ (n : ℕ). IsPostingList format n (list_of image t)) (each ∙ sym documents) (image-list_good format ids (list_of c t) (list_of image t) orders.new_ids (list-good format ids c orders t t_in) (is.lists t t_in)));
-      size_each = count ∙ sizes ∙ sym documents;
-      sizes = All-from_get_or (λ s. s < 2 ^ 32) image.sizes 0 (λ k within.
-          let of = has-document ids k orders.new_ids (omega arith) in
-          let d : ℕ = of.0 in
-          let d_in = of.1 in
-          let size = is.sizes d (omega arith) in
-          let at : get_or image.sizes (new_id ids d) 0 ≡ get_or image.sizes k 0 = ap (λ (k : ℕ). get_or image.sizes k 0) of.2 in
-          let small = orders.well_formed.sizes d 0 (omega arith) in
-          omega arith);
-    }
+image-well_formed format ids c image orders is = record {
+  documents = omega (arith, is.documents, orders.well_formed.documents);
+  terms = omega (arith, is.terms, orders.well_formed.terms);
+  lists = All-from_get_or (IsPostingList format image.documents) image.lists [] (λ t within.
+      let inside : t < length c.lists = omega (arith, within, is.terms) in
+      subst (λ (n : ℕ). IsPostingList format n (list_of image t)) (orders.each ∙ sym is.documents) (image-list_good format ids (list_of c t) (list_of image t) orders.new_ids (list-good format ids c orders t inside) (is.lists t inside)));
+  size_each = is.size_each ∙ orders.well_formed.size_each ∙ sym is.documents;
+  sizes = All-from_get_or (λ s. s < 2 ^ 32) image.sizes 0 (λ k within.
+      let of = size-of format ids c image k orders is within in
+      let small = orders.well_formed.sizes of.doc 0 of.within in
+      let same = of.size_is in
+      omega arith);
+}
 
 pub one-image : OneImage
 one-image format ids c a b orders is other =
-    let terms = is.terms in
-    let other_terms = other.terms in
-    let each = orders.each in
-    let sizes = orders.well_formed.size_each in
-    let count = is.size_each in
-    let other_count = other.size_each in
     same-collection a b (is.documents ∙ sym other.documents)
-    (same-lists a.lists b.lists (omega arith) (λ t within. let t_in : t < length c.lists = omega arith in one-image_list ids (list_of c t) (list_of a t) (list_of b t) (is.lists t t_in) (other.lists t t_in)))
-    (same-numbers a.sizes b.sizes (omega arith) (λ k within.
-    let of = has-document ids k orders.new_ids (omega arith) in
-    let d : ℕ = of.0 in
-    let d_in = of.1 in
-    sym (ap (λ (k : ℕ). get_or a.sizes k 0) of.2) ∙ is.sizes d (omega arith) ∙ sym (other.sizes d (omega arith)) ∙ ap (λ (k : ℕ). get_or b.sizes k 0) of.2))
+    (same-lists a.lists b.lists (is.terms ∙ sym other.terms) (λ t within. (let inside : t < length c.lists = omega (arith, within, is.terms) in one-image_list ids (list_of c t) (list_of a t) (list_of b t) (is.lists t inside) (other.lists t inside))))
+    (same-numbers a.sizes b.sizes (is.size_each ∙ sym other.size_each) (λ k within.
+    let of = size-of format ids c a k orders is within in
+    of.size_is ∙ sym (other.sizes of.doc of.within) ∙ ap (λ (k : ℕ). get_or b.sizes k 0) of.new))
 
 pub undone-image : UndoneImage
-undone-image format ids back c image orders undoes is =
-    let terms = is.terms in
-    let each = orders.each in
-    let sizes = orders.well_formed.size_each in
-    let count = is.size_each in
-    record {
-      documents = sym is.documents;
-      terms = sym terms;
-      lists = λ t within.
-          let t_in : t < length c.lists = omega arith in
-          let good = list-good format ids c orders t t_in in
-          undone-list ids back (list_of c t) (list_of image t) undoes good.in_range good.rising (is.lists t t_in);
-      size_each = sym count;
-      sizes = λ k within.
-          let of = has-document ids k orders.new_ids (omega arith) in
-          let d : ℕ = of.0 in
-          let d_in = of.1 in
-          let again : new_id back k ≡ d = ap (new_id back) (sym of.2) ∙ undoes.back_again d d_in in
-          ap (λ (k : ℕ). get_or c.sizes k 0) again ∙ sym (is.sizes d (omega arith)) ∙ ap (λ (k : ℕ). get_or image.sizes k 0) of.2;
-    }
+undone-image format ids back c image orders undoes is = record {
+  documents = sym is.documents;
+  terms = sym is.terms;
+  lists = λ t within.
+      let inside : t < length c.lists = omega (arith, within, is.terms) in
+      let good = list-good format ids c orders t inside in
+      undone-list ids back (list_of c t) (list_of image t) undoes good.in_range good.rising (is.lists t inside);
+  size_each = sym is.size_each;
+  sizes = λ k within.
+      let of = size-of format ids c image k orders is within in
+      ap (λ (k : ℕ). get_or c.sizes k 0) (ap (new_id back) (sym of.new) ∙ undoes.back_again of.doc of.old) ∙ sym of.size_is;
+}

@@ -7,32 +7,25 @@ use Rattle.block_max.proofs.cursor.SideCursorBlockCursor.block_at.Goals as goal
 
 pub greatest-requires-clause-within : goal.greatest-requires-clause-within
 greatest-requires-clause-within g c =
-    let s = c.args.self.now in
-    let cs : List BlockList = g.S.BlockSource.lists s.source.now in
-    let q : ℕ = c.blocks_below-block.result in
-    seen-within cs (words_seen s.side) s.term q c.blocks_before-before.result s.of_side c.blocks_before-before.ensures s.within (omega (arith, c.if-block-blocks.true, c.blocks-blocks.ensures))
+    let cs : List BlockList = g.S.BlockSource.lists c.args.self.now.source.now in
+    seen-within cs (words_seen c.args.self.now.side) c.args.self.now.term c.blocks_below-block.result c.blocks_before-before.result c.args.self.now.of_side c.blocks_before-before.ensures c.args.self.now.within (omega (arith, c.if-block-blocks.true, c.blocks-blocks.ensures))
 
 pub greatest-requires-clause-fits : goal.greatest-requires-clause-fits
 greatest-requires-clause-fits g c =
-    let s = c.args.self.now in
-    let cs : List BlockList = g.S.BlockSource.lists s.source.now in
-    let q : ℕ = c.blocks_below-block.result in
-    let block : q < length (nth_list cs s.term).ends = omega (arith, c.if-block-blocks.true, c.blocks-blocks.ensures) in
-    let at = seen-at cs (words_seen s.side) s.term q c.blocks_before-before.result s.of_side c.blocks_before-before.ensures s.within block in
-    let fits = block-fits cs s.term q (g.met.S.BlockSource.cut s.source.now) s.within block in
+    let cs : List BlockList = g.S.BlockSource.lists c.args.self.now.source.now in
+    let block : c.blocks_below-block.result < length (nth_list cs c.args.self.now.term).ends = omega (arith, c.if-block-blocks.true, c.blocks-blocks.ensures) in
+    let at = seen-at cs (words_seen c.args.self.now.side) c.args.self.now.term c.blocks_below-block.result c.blocks_before-before.result c.args.self.now.of_side c.blocks_before-before.ensures c.args.self.now.within block in
+    let fits = block-fits cs c.args.self.now.term c.blocks_below-block.result (g.met.S.BlockSource.cut c.args.self.now.source.now) c.args.self.now.within block in
     omega arith
 
 pub returns-then-block-blocks : goal.returns-then-block-blocks
 returns-then-block-blocks g c =
-    let s = c.args.self.now in
-    let cs : List BlockList = g.S.BlockSource.lists s.source.now in
-    let q : ℕ = c.blocks_below-block.result in
-    let block : q < length (nth_list cs s.term).ends = omega (arith, c.if-block-blocks.true, c.blocks-blocks.ensures) in
-    told-found cs s.term q c.args.doc c.last-last.result c.greatest.result block c.blocks_below-block.ensures.first c.last-last.ensures
-    (c.greatest.ensures ∙ seen-at cs (words_seen s.side) s.term q c.blocks_before-before.result s.of_side c.blocks_before-before.ensures s.within block)
+    let cs : List BlockList = g.S.BlockSource.lists c.args.self.now.source.now in
+    let block : c.blocks_below-block.result < length (nth_list cs c.args.self.now.term).ends = omega (arith, c.if-block-blocks.true, c.blocks-blocks.ensures) in
+    told-found cs c.args.self.now.term c.blocks_below-block.result c.args.doc c.last-last.result c.greatest.result block c.blocks_below-block.ensures.first c.last-last.ensures
+    (c.greatest.ensures ∙ seen-at cs (words_seen c.args.self.now.side) c.args.self.now.term c.blocks_below-block.result c.blocks_before-before.result c.args.self.now.of_side c.blocks_before-before.ensures c.args.self.now.within block)
 
 pub returns-else-block-blocks : goal.returns-else-block-blocks
 returns-else-block-blocks g c =
-    let s = c.args.self.now in
-    let cs : List BlockList = g.S.BlockSource.lists s.source.now in
-    told-none cs s.term c.blocks_below-block.result c.args.doc (omega (arith, c.if-block-blocks.false, c.blocks-blocks.ensures)) c.blocks_below-block.ensures.first
+    let cs : List BlockList = g.S.BlockSource.lists c.args.self.now.source.now in
+    told-none cs c.args.self.now.term c.blocks_below-block.result c.args.doc (omega (arith, c.if-block-blocks.false, c.blocks-blocks.ensures)) c.blocks_below-block.ensures.first

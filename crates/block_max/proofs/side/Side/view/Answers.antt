@@ -15,52 +15,39 @@ total-is g c = let cs : List BlockList = g.S.BlockSource.lists c.args.source.now
 
 pub returns-in-Err-clause-other_words : goal.returns-in-Err-clause-other_words
 returns-in-Err-clause-other_words g c =
-    let cs : List BlockList = g.S.BlockSource.lists c.args.source.now in
-    fault-differs cs c.args.words.now c.whole.result (subst (IsFirstSideFault cs c.args.words.now) (sym c.whole.ensures) (c.in-Err.ensures.broken cs))
+    fault-differs (g.S.BlockSource.lists c.args.source.now) c.args.words.now c.whole.result (subst (IsFirstSideFault (g.S.BlockSource.lists c.args.source.now) c.args.words.now) (sym c.whole.ensures) (c.in-Err.ensures.broken (g.S.BlockSource.lists c.args.source.now)))
 
 pub returns-then-stated-total-clause-first : goal.returns-then-stated-total-clause-first
 returns-then-stated-total-clause-first g c =
-    let cs : List BlockList = g.S.BlockSource.lists c.args.source.now in
-    let words : List ℕ = c.args.words.now in
-    let frame = c.in-Ok.ensures.ok in
     let total = total-is g (goal.at.returns-then-stated-total-clause-first g c).After-blocks_before-total in
-    let long = frame.long in
-    subst (IsFirstSideFault cs words) (sym c.whole-then-stated-total.ensures)
+    let long = c.in-Ok.ensures.ok.long in
+    subst (IsFirstSideFault (g.S.BlockSource.lists c.args.source.now) c.args.words.now) (sym c.whole-then-stated-total.ensures)
     (elim c.then-stated-total.branch [
-      | then-stated-total-via-then-stated-total w ↦ count-broken cs words c.in-Ok.stated frame (λ is. omega (arith, w.if-stated-total.true, is, total))
-      | then-stated-total-via-else-stated-total+then-words-total w ↦ length-broken cs words c.in-Ok.stated frame (λ is. omega (arith, w.if-words-total.true, is, total, long))
+      | then-stated-total-via-then-stated-total w ↦ count-broken (g.S.BlockSource.lists c.args.source.now) c.args.words.now c.in-Ok.stated c.in-Ok.ensures.ok (λ is. omega (arith, w.if-stated-total.true, is, total))
+      | then-stated-total-via-else-stated-total+then-words-total w ↦ length-broken (g.S.BlockSource.lists c.args.source.now) c.args.words.now c.in-Ok.stated c.in-Ok.ensures.ok (λ is. omega (arith, w.if-words-total.true, is, total, long))
     ])
 
 pub returns-then-stated-total-clause-other_words : goal.returns-then-stated-total-clause-other_words
 returns-then-stated-total-clause-other_words g c =
-    let cs : List BlockList = g.S.BlockSource.lists c.args.source.now in
-    fault-differs cs c.args.words.now c.whole-then-stated-total.result (returns-then-stated-total-clause-first g c)
+    fault-differs (g.S.BlockSource.lists c.args.source.now) c.args.words.now c.whole-then-stated-total.result (returns-then-stated-total-clause-first g c)
 
 pub first_wrong-requires : goal.first_wrong-requires
 first_wrong-requires g c =
     let cs : List BlockList = g.S.BlockSource.lists c.args.source.now in
-    let frame = c.in-Ok.ensures.ok in
     let total = total-is g (goal.at.first_wrong-requires g c).After-blocks_before-total in
-    omega (arith, c.if-words-total.false, total, frame.long)
+    omega (arith, c.if-words-total.false, total, c.in-Ok.ensures.ok.long)
 
 pub returns-in-Some-clause-first : goal.returns-in-Some-clause-first
 returns-in-Some-clause-first g c =
-    let cs : List BlockList = g.S.BlockSource.lists c.args.source.now in
-    let words : List ℕ = c.args.words.now in
-    let frame = c.in-Ok.ensures.ok in
     let total = total-is g (goal.at.returns-in-Some-clause-first g c).After-blocks_before-total in
-    block-broken cs words c.in-Ok.stated frame c.in-Some.term c.in-Some.part (omega (arith, c.if-stated-total.false, total)) (omega (arith, c.if-words-total.false, total, frame.long)) c.in-Some.ensures.some
+    block-broken (g.S.BlockSource.lists c.args.source.now) c.args.words.now c.in-Ok.stated c.in-Ok.ensures.ok c.in-Some.term c.in-Some.part (omega (arith, c.if-stated-total.false, total)) (omega (arith, c.if-words-total.false, total, c.in-Ok.ensures.ok.long)) c.in-Some.ensures.some
 
 pub returns-in-Some-clause-other_words : goal.returns-in-Some-clause-other_words
 returns-in-Some-clause-other_words g c =
-    let cs : List BlockList = g.S.BlockSource.lists c.args.source.now in
-    fault-differs cs c.args.words.now _ (returns-in-Some-clause-first g c)
+    fault-differs (g.S.BlockSource.lists c.args.source.now) c.args.words.now _ (returns-in-Some-clause-first g c)
 
 pub returns-in-None-clause-ok : goal.returns-in-None-clause-ok
 returns-in-None-clause-ok g c =
-    let cs : List BlockList = g.S.BlockSource.lists c.args.source.now in
-    let words : List ℕ = c.args.words.now in
-    let frame = c.in-Ok.ensures.ok in
     let total = total-is g (goal.at.returns-in-None-clause-ok g c).After-blocks_before-total in
-    let count : c.in-Ok.stated ≡ length (block_freqs cs) = omega (arith, c.if-stated-total.false, total) in
-    words-are cs words (subst (HasFrame words) count frame) (omega (arith, c.if-words-total.false, total, frame.long)) c.in-None.ensures.none
+    let count : c.in-Ok.stated ≡ length (block_freqs (g.S.BlockSource.lists c.args.source.now)) = omega (arith, c.if-stated-total.false, total) in
+    words-are (g.S.BlockSource.lists c.args.source.now) c.args.words.now (subst (HasFrame c.args.words.now) count c.in-Ok.ensures.ok) (omega (arith, c.if-words-total.false, total, c.in-Ok.ensures.ok.long)) c.in-None.ensures.none
