@@ -46,18 +46,16 @@ stored-by a b m k xs ends is same h = subst (λ l. IsStored l k xs ends) (sym is
 pub with-head : (n at : ℕ) (p : ListParts) (list : List Posting) → IsPartsOf n p list → 1 ≤ length p.docs.now
     → (rest : List ℕ) × (list_bits n at list p.doc_ends.now p.sum_ends.now ≡ head-of (length p.docs.now) p.greatest ++ rest)
 with-head n at p list h some =
-    let xs : List ℕ = p.docs.now in
     let ys : List ℕ = p.sums.now in
     let ends : List ℕ = p.doc_ends.now in
     let cuts : List ℕ = p.sum_ends.now in
-    let m : ℕ = length xs in
     let g : ℕ = p.greatest in
-    elim (cases_lt m 2) [
-      | inl less ↦ (field_bits (digits (n - 1)) (slice_index xs 0), single-of n at g list xs ends cuts h.of_docs h.most (omega (arith, less, some)))
+    elim (cases_lt (length p.docs.now) 2) [
+      | inl less ↦ (field_bits (digits (n - 1)) (slice_index p.docs.now 0), single-of n at g list p.docs.now ends cuts h.of_docs h.most (omega (arith, less, some)))
       | inr more ↦ (
-        docs-of n at m g xs ends ++ sequence_bits (last_sum m g) (at + length (head-of m g) + length (docs-of n at m g xs ends)) ys cuts,
-        many-of n at g list xs ys ends cuts h.of_docs h.of_sums h.most more
-            ∙ append_assoc (head-of m g) (docs-of n at m g xs ends) (sequence_bits (last_sum m g) (at + length (head-of m g) + length (docs-of n at m g xs ends)) ys cuts),
+        docs-of n at (length p.docs.now) g p.docs.now ends ++ sequence_bits (last_sum (length p.docs.now) g) (at + length (head-of (length p.docs.now) g) + length (docs-of n at (length p.docs.now) g p.docs.now ends)) ys cuts,
+        many-of n at g list p.docs.now ys ends cuts h.of_docs h.of_sums h.most more
+            ∙ append_assoc (head-of (length p.docs.now) g) (docs-of n at (length p.docs.now) g p.docs.now ends) (sequence_bits (last_sum (length p.docs.now) g) (at + length (head-of (length p.docs.now) g) + length (docs-of n at (length p.docs.now) g p.docs.now ends)) ys cuts),
       )
     ]
 
@@ -69,12 +67,11 @@ length-head-of m g some few one most =
 pub room-of-head : (n : ℕ) (p : ListParts) (list : List Posting) (old : List ℕ) → n ≤ format_three.most_documents → IsPartsOf n p list → 1 ≤ length p.docs.now
     → length old + gamma_length (length p.docs.now) + gamma_length p.greatest ≤ length old + length (list_bits n (length old) list p.doc_ends.now p.sum_ends.now)
 room-of-head n p list old small h some =
-    let w = with-head n (length old) p list h some in
     let has = has-parts n p list h some in
     omega (
       arith,
-      ap length w.1,
-      length-append (head-of (length p.docs.now) p.greatest) w.0,
+      ap length (with-head n (length old) p list h some).1,
+      length-append (head-of (length p.docs.now) p.greatest) (with-head n (length old) p list h some).0,
       length-head-of (length p.docs.now) p.greatest some (omega (arith, has.few, count-docs list p.docs.now h.of_docs, small)) (omega (arith, has.least, h.most)) (omega (arith, has.most, h.most)),
     )
 
@@ -82,17 +79,13 @@ room-of-head n p list old small h some =
 pub prefix-count : (n : ℕ) (p : ListParts) (list : List Posting) (old new : List ℕ) → IsPartsOf n p list → 1 ≤ length p.docs.now → AppendsBits old new (gamma (length p.docs.now))
     → AppendsBits old new (list_bits n (length old) list p.doc_ends.now p.sum_ends.now)
 prefix-count n p list old new h some f =
-    let w = with-head n (length old) p list h some in
-    let m : ℕ = length p.docs.now in
-    subst (AppendsBits old new) (sym w.1) (appends-prefix old new (head-of m p.greatest) w.0 (appends-prefix old new (gamma m) (gamma p.greatest) f))
+    subst (AppendsBits old new) (sym (with-head n (length old) p list h some).1) (appends-prefix old new (head-of (length p.docs.now) p.greatest) (with-head n (length old) p list h some).0 (appends-prefix old new (gamma (length p.docs.now)) (gamma p.greatest) f))
 
 pub prefix-most : (n : ℕ) (p : ListParts) (list : List Posting) (old a new : List ℕ) → IsPartsOf n p list → 1 ≤ length p.docs.now → a ≡ old ++ gamma (length p.docs.now) → (g : ℕ) → g ≡ p.greatest
     → AppendsBits a new (gamma g) → AppendsBits old new (list_bits n (length old) list p.doc_ends.now p.sum_ends.now)
 prefix-most n p list old a new h some e g is f =
-    let w = with-head n (length old) p list h some in
-    let m : ℕ = length p.docs.now in
-    subst (AppendsBits old new) (sym w.1)
-    (appends-prefix old new (head-of m p.greatest) w.0 (appends-behind old a new (gamma m) (gamma p.greatest) e (subst (λ k. AppendsBits a new (gamma k)) is f)))
+    subst (AppendsBits old new) (sym (with-head n (length old) p list h some).1)
+    (appends-prefix old new (head-of (length p.docs.now) p.greatest) (with-head n (length old) p list h some).0 (appends-behind old a new (gamma (length p.docs.now)) (gamma p.greatest) e (subst (λ k. AppendsBits a new (gamma k)) is f)))
 
 -- the whole head
 pub head-whole : (old a b : List ℕ) (m j g : ℕ) → a ≡ old ++ gamma m → b ≡ a ++ gamma j → j ≡ g → b ≡ old ++ head-of m g
@@ -105,16 +98,14 @@ length-behind old b m g e = ap length e ∙ length-append old (head-of m g)
 pub single-whole : (n : ℕ) (p : ListParts) (list : List Posting) (old b new : List ℕ) (w : ℕ) → IsPartsOf n p list → length p.docs.now ≡ 1 → b ≡ old ++ head-of (length p.docs.now) p.greatest → w ≡ digits (n - 1)
     → new ≡ b ++ field_bits w (slice_index p.docs.now 0) → new ≡ old ++ list_bits n (length old) list p.doc_ends.now p.sum_ends.now
 single-whole n p list old b new w h one e is f =
-    let xs : List ℕ = p.docs.now in
-    appends-both old b new (head-of (length xs) p.greatest) (field_bits (digits (n - 1)) (slice_index xs 0)) e (f ∙ ap (λ k. b ++ field_bits k (slice_index xs 0)) is)
-    ∙ ap (λ bits. old ++ bits) (sym (single-of n (length old) p.greatest list xs p.doc_ends.now p.sum_ends.now h.of_docs h.most one))
+    appends-both old b new (head-of (length p.docs.now) p.greatest) (field_bits (digits (n - 1)) (slice_index p.docs.now 0)) e (f ∙ ap (λ k. b ++ field_bits k (slice_index p.docs.now 0)) is)
+    ∙ ap (λ bits. old ++ bits) (sym (single-of n (length old) p.greatest list p.docs.now p.doc_ends.now p.sum_ends.now h.of_docs h.most one))
 
 pub single-prefix : (n : ℕ) (p : ListParts) (list : List Posting) (old b new : List ℕ) → IsPartsOf n p list → length p.docs.now ≡ 1 → b ≡ old ++ head-of (length p.docs.now) p.greatest → new ≡ b
     → AppendsBits old new (list_bits n (length old) list p.doc_ends.now p.sum_ends.now)
 single-prefix n p list old b new h one e f =
-    let xs : List ℕ = p.docs.now in
-    subst (AppendsBits old new) (sym (single-of n (length old) p.greatest list xs p.doc_ends.now p.sum_ends.now h.of_docs h.most one))
-    (appends-some old new (head-of (length xs) p.greatest) (field_bits (digits (n - 1)) (slice_index xs 0)) (f ∙ e))
+    subst (AppendsBits old new) (sym (single-of n (length old) p.greatest list p.docs.now p.doc_ends.now p.sum_ends.now h.of_docs h.most one))
+    (appends-some old new (head-of (length p.docs.now) p.greatest) (field_bits (digits (n - 1)) (slice_index p.docs.now 0)) (f ∙ e))
 
 -- two postings and more: the documents, and the sums behind them
 docs-here : (n : ℕ) (p : ListParts) (old b : List ℕ) (last : LastField) → b ≡ old ++ head-of (length p.docs.now) p.greatest → last ≡ last_doc n
@@ -127,8 +118,7 @@ pub docs-whole : (n : ℕ) (p : ListParts) (old b d : List ℕ) (last : LastFiel
     → d ≡ b ++ sequence_bits last (length b) p.docs.now p.doc_ends.now
     → d ≡ old ++ (head-of (length p.docs.now) p.greatest ++ docs-of n (length old) (length p.docs.now) p.greatest p.docs.now p.doc_ends.now)
 docs-whole n p old b d last e is f =
-    let m : ℕ = length p.docs.now in
-    appends-both old b d (head-of m p.greatest) (docs-of n (length old) m p.greatest p.docs.now p.doc_ends.now) e (f ∙ ap (λ bits. b ++ bits) (docs-here n p old b last e is))
+    appends-both old b d (head-of (length p.docs.now) p.greatest) (docs-of n (length old) (length p.docs.now) p.greatest p.docs.now p.doc_ends.now) e (f ∙ ap (λ bits. b ++ bits) (docs-here n p old b last e is))
 
 sums-here : (n : ℕ) (p : ListParts) (old d : List ℕ) (last : LastField)
     → d ≡ old ++ (head-of (length p.docs.now) p.greatest ++ docs-of n (length old) (length p.docs.now) p.greatest p.docs.now p.doc_ends.now) → last ≡ last_sum (length p.docs.now) p.greatest
@@ -136,10 +126,9 @@ sums-here : (n : ℕ) (p : ListParts) (old d : List ℕ) (last : LastField)
     ≡ sequence_bits (last_sum (length p.docs.now) p.greatest)
     (length old + length (head-of (length p.docs.now) p.greatest) + length (docs-of n (length old) (length p.docs.now) p.greatest p.docs.now p.doc_ends.now)) p.sums.now p.sum_ends.now
 sums-here n p old d last e is =
-    let m : ℕ = length p.docs.now in
-    let docs : List ℕ = docs-of n (length old) m p.greatest p.docs.now p.doc_ends.now in
-    let place : length d ≡ length old + length (head-of m p.greatest) + length docs = omega (arith, ap length e, length-append old (head-of m p.greatest ++ docs), length-append (head-of m p.greatest) docs) in
-    ap (λ l. sequence_bits l (length d) p.sums.now p.sum_ends.now) is ∙ ap (λ k. sequence_bits (last_sum m p.greatest) k p.sums.now p.sum_ends.now) place
+    let docs : List ℕ = docs-of n (length old) (length p.docs.now) p.greatest p.docs.now p.doc_ends.now in
+    let place : length d ≡ length old + length (head-of (length p.docs.now) p.greatest) + length docs = omega (arith, ap length e, length-append old (head-of (length p.docs.now) p.greatest ++ docs), length-append (head-of (length p.docs.now) p.greatest) docs) in
+    ap (λ l. sequence_bits l (length d) p.sums.now p.sum_ends.now) is ∙ ap (λ k. sequence_bits (last_sum (length p.docs.now) p.greatest) k p.sums.now p.sum_ends.now) place
 
 -- what is appended last, and all of it
 module _ (n : ℕ) (p : ListParts) (list : List Posting) (old : List ℕ) (h : IsPartsOf n p list) (many : 2 ≤ length p.docs.now) where

@@ -10,33 +10,28 @@ use Rattle.packed_list.proofs.check.check_parted.Goals as goal
 
 pub returns-in_default-clause-none : goal.returns-in_default-clause-none
 returns-in_default-clause-none c = λ xs ends h.
-    let s = c.args.sought in
-    c.in_default.ensures.none (length ends) ((c.args.at + 1 + digits s.m + 63) / 64)
-    (parted-head s.last s.m s.bound (bits_of c.args.words.now) c.args.at c.args.end xs ends (omega (arith, s.many)) s.few c.requires.flag h)
+    c.in_default.ensures.none (length ends) ((c.args.at + 1 + digits c.args.sought.m + 63) / 64)
+    (parted-head c.args.sought.last c.args.sought.m c.args.sought.bound (bits_of c.args.words.now) c.args.at c.args.end xs ends (omega (arith, c.args.sought.many)) c.args.sought.few c.requires.flag h)
 
 pub returns-in-Ok-clause-some : goal.returns-in-Ok-clause-some
 returns-in-Ok-clause-some c =
-    let s = c.args.sought in
-    let head = c.in-Some.head in
     let view = c.in-Ok.checked.view in
     let begun = c.in-Ok.ensures.ok in
     let used : c.in-Ok.checked.used ≡ length (sequence_words format_three view.values view.ends) = c.in-Ok.ensures.used ∙ ap (λ f. length (sequence_words f view.values view.ends)) c.in-Ok.ensures.format in
-    let found = parted-found c.words_are_bits.ensures.appended s.last s.m s.bound c.args.words.now c.args.at c.args.end head.parts head.start (c.args.end / 64) begun.0 view.values view.ends s.bound_fits c.requires.range
+    let found = parted-found c.words_are_bits.ensures.appended c.args.sought.last c.args.sought.m c.args.sought.bound c.args.words.now c.args.at c.args.end c.in-Some.head.parts c.in-Some.head.start (c.args.end / 64) begun.0 view.values view.ends c.args.sought.bound_fits c.requires.range
     c.requires.within c.requires.flag c.in-Some.ensures.some (let e : c.args.end / 64 ≡ c.args.end / 64 = omega arith in e) begun.1 in
     record {
       values = view.values;
       ends = view.ends;
       sequence = found.sequence;
-      behind = ap (λ k. 64 * (head.start + k)) used ∙ found.behind_is;
+      behind = ap (λ k. 64 * (c.in-Some.head.start + k)) used ∙ found.behind_is;
       step = c.in-Ok.ensures.step;
     }
 
 pub returns-in-Err-clause-none : goal.returns-in-Err-clause-none
 returns-in-Err-clause-none c = λ xs ends h.
-    let s = c.args.sought in
-    let head = c.in-Some.head in
     let words : List ℕ = c.args.words.now in
     let small : All (λ w. w < 2 ^ 64) words = All-from_get_or (λ w. w < 2 ^ 64) words 0 (λ i lt. (let f = c.type_inv.words i in omega (arith, f))) in
     c.in-Err.ensures.none xs ends (length (sequence_words format_three xs ends))
-    (parted-begins c.words_are_bits.ensures.appended c.words_are_bits.ensures.words c.sequence_words_fit.ensures s.last s.m s.bound words c.args.at c.args.end head.parts head.start (c.args.end / 64) xs ends small
-    (omega (arith, s.many)) s.few c.requires.range c.requires.flag h c.in-Some.ensures.some (let e : c.args.end / 64 ≡ c.args.end / 64 = omega arith in e))
+    (parted-begins c.words_are_bits.ensures.appended c.words_are_bits.ensures.words c.sequence_words_fit.ensures c.args.sought.last c.args.sought.m c.args.sought.bound words c.args.at c.args.end c.in-Some.head.parts c.in-Some.head.start (c.args.end / 64) xs ends small
+    (omega (arith, c.args.sought.many)) c.args.sought.few c.requires.range c.requires.flag h c.in-Some.ensures.some (let e : c.args.end / 64 ≡ c.args.end / 64 = omega arith in e))

@@ -34,11 +34,10 @@ record Seen (n : ℕ) (words : List ℕ) (from to m behind g last : ℕ) (h : Ho
 seen : (n : ℕ) (words : List ℕ) (from to m behind g last : ℕ) → n ≤ format_three.most_documents → from < to → to ≤ 64 * length words → IsGammaBefore (bits_of words) from to m → behind ≡ from + gamma_length m → IsGammaBefore (bits_of words) behind to g
     → last ≡ behind + gamma_length g → (h : HoldsList n (bits_of words) from to) → Seen n words from to m behind g last h
 seen n words from to m behind g last small lt within count is most there h =
-    let bits : List ℕ = bits_of words in
-    let fit : to ≤ length bits = omega (arith, within, length-bits_of words) in
+    let fit : to ≤ length (bits_of words) = omega (arith, within, length-bits_of words) in
     let f = facts-between n words from to small (λ e. omega (arith, e, lt)) (omega (arith, lt)) within h in
-    let r = are-read n bits from to m behind g h.0 h.1 h.2 fit count is most f in
-    let t = tail-behind n bits from to m behind g last h.0 h.1 h.2 is there r f in
+    let r = are-read n (bits_of words) from to m behind g h.0 h.1 h.2 fit count is most f in
+    let t = tail-behind n (bits_of words) from to m behind g last h.0 h.1 h.2 is there r f in
     record { count = r.count; most = r.most; tail = t; le = omega (arith, there, most.within); fit = fit; some = count.some }
 
 stated : ListsStateBack → (n : ℕ) (words : List ℕ) (from to : ℕ) → n ≤ format_three.most_documents → All (λ w. w < 2 ^ 64) words → from < to → to ≤ 64 * length words → (h : HoldsList n (bits_of words) from to)
@@ -51,39 +50,35 @@ stated back n words from to small tiny lt within h =
 docs-stand : (n m g : ℕ) (words : List ℕ) (last to : ℕ) (field : LastField) (list : List Posting) (ends cuts : List ℕ) → n ≤ format_three.most_documents → to ≤ 64 * length words → field ≡ last_doc n → TailFacts n m g (bits_of words) last to list ends cuts
     → IsSequenceBefore field m format_three.most_sum (bits_of words) last (64 * length words) (doc_sequence list) ends
 docs-stand n m g words last to field list ends cuts small within is t =
-    let bits : List ℕ = bits_of words in
-    before-as (last_doc n) field m format_three.most_sum format_three.most_sum bits last (64 * length words) (doc_sequence list) ends (sym is) refl
-    (before-more (last_doc n) m n format_three.most_sum bits last (64 * length words) (doc_sequence list) ends (omega (arith, small)) (before-later (last_doc n) m n bits last to (64 * length words) (doc_sequence list) ends within t.docs))
+    before-as (last_doc n) field m format_three.most_sum format_three.most_sum (bits_of words) last (64 * length words) (doc_sequence list) ends (sym is) refl
+    (before-more (last_doc n) m n format_three.most_sum (bits_of words) last (64 * length words) (doc_sequence list) ends (omega (arith, small)) (before-later (last_doc n) m n (bits_of words) last to (64 * length words) (doc_sequence list) ends within t.docs))
 
 sums-stand : (n m g : ℕ) (words : List ℕ) (last to behind : ℕ) (field other : LastField) (list : List Posting) (ends cuts : List ℕ) → to ≤ 64 * length words → other ≡ last_doc n → field ≡ last_sum m g
     → behind ≡ last + length (sequence_bits other last (doc_sequence list) ends) → TailFacts n m g (bits_of words) last to list ends cuts
     → IsSequenceBefore field m format_three.most_sum (bits_of words) behind (64 * length words) (freq_sequence list) cuts
 sums-stand n m g words last to behind field other list ends cuts within is also there t =
-    let bits : List ℕ = bits_of words in
     let place : last + length (sequence_bits (last_doc n) last (doc_sequence list) ends) ≡ behind = ap (λ l. last + length (sequence_bits l last (doc_sequence list) ends)) (sym is) ∙ sym there in
-    before-as (last_sum m g) field m format_three.most_sum format_three.most_sum bits behind (64 * length words) (freq_sequence list) cuts (sym also) refl
-    (before-later (last_sum m g) m format_three.most_sum bits behind to (64 * length words) (freq_sequence list) cuts within
-    (subst (λ p. IsSequenceBefore (last_sum m g) m format_three.most_sum bits p to (freq_sequence list) cuts) place t.sums))
+    before-as (last_sum m g) field m format_three.most_sum format_three.most_sum (bits_of words) behind (64 * length words) (freq_sequence list) cuts (sym also) refl
+    (before-later (last_sum m g) m format_three.most_sum (bits_of words) behind to (64 * length words) (freq_sequence list) cuts within
+    (subst (λ p. IsSequenceBefore (last_sum m g) m format_three.most_sum (bits_of words) p to (freq_sequence list) cuts) place t.sums))
 
 one-of : (n m g : ℕ) (bits : List ℕ) (last to : ℕ) (list : List Posting) (ends cuts : List ℕ) → m ≡ 1 → IsTailBetween n m g bits last to list ends cuts → IsTailBetween n 1 g bits last to list ends cuts
 one-of n m g bits last to list ends cuts e h = subst (λ k. IsTailBetween n k g bits last to list ends cuts) e h
 
 pub unreachable-requires : goal.unreachable-requires
 unreachable-requires c =
-    let h = c.requires.list in
-    let f = facts-between c.args.documents c.args.words.now c.args.from c.args.to (omega (arith, c.ranges.documents.fits)) (λ e. omega (arith, e, c.requires.some)) (omega (arith, c.requires.some)) c.requires.range h in
-    c.in_default.ensures.none (length h.0) f.count
+    let f = facts-between c.args.documents c.args.words.now c.args.from c.args.to (omega (arith, c.ranges.documents.fits)) (λ e. omega (arith, e, c.requires.some)) (omega (arith, c.requires.some)) c.requires.range c.requires.list in
+    c.in_default.ensures.none (length c.requires.list.0) f.count
 
 pub unreachable-requires-in_default-gamma_before : goal.unreachable-requires-in_default-gamma_before
 unreachable-requires-in_default-gamma_before c =
-    let h = c.requires.list in
     let bits : List ℕ = bits_of c.args.words.now in
-    let f = facts-between c.args.documents c.args.words.now c.args.from c.args.to (omega (arith, c.ranges.documents.fits)) (λ e. omega (arith, e, c.requires.some)) (omega (arith, c.requires.some)) c.requires.range h in
+    let f = facts-between c.args.documents c.args.words.now c.args.from c.args.to (omega (arith, c.ranges.documents.fits)) (λ e. omega (arith, e, c.requires.some)) (omega (arith, c.requires.some)) c.requires.range c.requires.list in
     let fit : c.args.to ≤ length bits = omega (arith, c.requires.range, length-bits_of c.args.words.now) in
     let m : ℕ = c.in-Some.count.number in
-    let same : m ≡ length h.0 = one-number bits c.args.from c.args.to c.args.to m (length h.0) fit fit c.in-Some.ensures.some f.count in
-    let place : c.args.from + gamma_length (length h.0) ≡ c.in-Some.count.behind = omega (arith, c.in-Some.ensures.behind, ap gamma_length same) in
-    (c.in_default-gamma_before).ensures.none (greatest_freq h.0) (subst (λ p. IsGammaBefore bits p c.args.to (greatest_freq h.0)) place f.most)
+    let same : m ≡ length c.requires.list.0 = one-number bits c.args.from c.args.to c.args.to m (length c.requires.list.0) fit fit c.in-Some.ensures.some f.count in
+    let place : c.args.from + gamma_length (length c.requires.list.0) ≡ c.in-Some.count.behind = omega (arith, c.in-Some.ensures.behind, ap gamma_length same) in
+    (c.in_default-gamma_before).ensures.none (greatest_freq c.requires.list.0) (subst (λ p. IsGammaBefore bits p c.args.to (greatest_freq c.requires.list.0)) place f.most)
 
 -- what was read of the list
 read : (c : After-last_doc-field)
@@ -129,40 +124,35 @@ docs-there c more =
 sums-there : (c : After-last_sum-sums)
     → IsSequenceBefore c.last_sum-sums.result c.in-Some.count.number format_three.most_sum (bits_of c.args.words.now) c.known_sequence-docs.result.behind (64 * length c.args.words.now) (freq_sequence c.requires.list.0) c.requires.list.2
 sums-there c =
-    let h = c.requires.list in
-    let place = c.known_sequence-docs.ensures.behind (doc_sequence h.0) h.1 (docs-there (goal.at.After-last_sum-sums c).After-last_doc-field c.if-count-eq1.false) in
-    sums-stand c.args.documents c.in-Some.count.number c.in-Some-gamma_before.most.number c.args.words.now c.in-Some-gamma_before.most.behind c.args.to c.known_sequence-docs.result.behind c.last_sum-sums.result c.last_doc-field.result h.0 h.1 h.2 c.requires.range c.last_doc-field.ensures c.last_sum-sums.ensures place (several (goal.at.After-last_sum-sums c).After-last_doc-field c.if-count-eq1.false)
+    let place = c.known_sequence-docs.ensures.behind (doc_sequence c.requires.list.0) c.requires.list.1 (docs-there (goal.at.After-last_sum-sums c).After-last_doc-field c.if-count-eq1.false) in
+    sums-stand c.args.documents c.in-Some.count.number c.in-Some-gamma_before.most.number c.args.words.now c.in-Some-gamma_before.most.behind c.args.to c.known_sequence-docs.result.behind c.last_sum-sums.result c.last_doc-field.result c.requires.list.0 c.requires.list.1 c.requires.list.2 c.requires.range c.last_doc-field.ensures c.last_sum-sums.ensures place (several (goal.at.After-last_sum-sums c).After-last_doc-field c.if-count-eq1.false)
 
 pub get-doc-requires-clause-range : goal.get-doc-requires-clause-range
 get-doc-requires-clause-range c =
-    let h = c.requires.list in
     let s = read (goal.at.get-doc-requires-clause-range c).After-last_doc-field in
-    let f = single-facts c.args.documents c.in-Some-gamma_before.most.number (bits_of c.args.words.now) c.in-Some-gamma_before.most.behind c.args.to h.0 h.1 h.2 (omega (arith, c.ranges.documents.fits)) s.le s.fit (single (goal.at.get-doc-requires-clause-range c).After-last_doc-field c.if-count-eq1.true) in
+    let f = single-facts c.args.documents c.in-Some-gamma_before.most.number (bits_of c.args.words.now) c.in-Some-gamma_before.most.behind c.args.to c.requires.list.0 c.requires.list.1 c.requires.list.2 (omega (arith, c.ranges.documents.fits)) s.le s.fit (single (goal.at.get-doc-requires-clause-range c).After-last_doc-field c.if-count-eq1.true) in
     omega (arith, f.size, width-is (goal.at.get-doc-requires-clause-range c).After-last_doc-field, s.le, c.requires.range)
 
 pub standing_alone-requires-clause-small : goal.standing_alone-requires-clause-small
 standing_alone-requires-clause-small c =
-    let h = c.requires.list in
     let s = read (goal.at.standing_alone-requires-clause-small c).After-last_doc-field in
-    let f = single-facts c.args.documents c.in-Some-gamma_before.most.number (bits_of c.args.words.now) c.in-Some-gamma_before.most.behind c.args.to h.0 h.1 h.2 (omega (arith, c.ranges.documents.fits)) s.le s.fit (single (goal.at.standing_alone-requires-clause-small c).After-last_doc-field c.if-count-eq1.true) in
+    let f = single-facts c.args.documents c.in-Some-gamma_before.most.number (bits_of c.args.words.now) c.in-Some-gamma_before.most.behind c.args.to c.requires.list.0 c.requires.list.1 c.requires.list.2 (omega (arith, c.ranges.documents.fits)) s.le s.fit (single (goal.at.standing_alone-requires-clause-small c).After-last_doc-field c.if-count-eq1.true) in
     omega (arith, f.inside, doc-is (goal.at.standing_alone-requires-clause-small c).After-get-doc, c.ranges.documents.fits)
 
 pub returns-then-count-eq1-clause-docs : goal.returns-then-count-eq1-clause-docs
 returns-then-count-eq1-clause-docs c =
-    let h = c.requires.list in
     let s = read (goal.at.returns-then-count-eq1-clause-docs c).After-last_doc-field in
-    let r = single-read c.args.documents c.in-Some-gamma_before.most.number (bits_of c.args.words.now) c.in-Some-gamma_before.most.behind c.args.to h.0 h.1 h.2 (omega (arith, c.ranges.documents.fits)) s.le s.fit (single (goal.at.returns-then-count-eq1-clause-docs c).After-last_doc-field c.if-count-eq1.true) in
+    let r = single-read c.args.documents c.in-Some-gamma_before.most.number (bits_of c.args.words.now) c.in-Some-gamma_before.most.behind c.args.to c.requires.list.0 c.requires.list.1 c.requires.list.2 (omega (arith, c.ranges.documents.fits)) s.le s.fit (single (goal.at.returns-then-count-eq1-clause-docs c).After-last_doc-field c.if-count-eq1.true) in
     let view : List ℕ → List ℕ → SequenceView = λ xs es. record { format = format_three; values = xs; ends = es } in
-    c.standing_alone.ensures.one refl ∙ ap (λ d. view (d ∷ []) (1 ∷ [])) (doc-is (goal.at.returns-then-count-eq1-clause-docs c).After-get-doc) ∙ ap (λ xs. view xs (1 ∷ [])) (sym r.docs) ∙ ap (view (doc_sequence h.0)) (sym r.doc_end) ∙ sym (said (goal.at.returns-then-count-eq1-clause-docs c).After-last_doc-field).docs
+    c.standing_alone.ensures.one refl ∙ ap (λ d. view (d ∷ []) (1 ∷ [])) (doc-is (goal.at.returns-then-count-eq1-clause-docs c).After-get-doc) ∙ ap (λ xs. view xs (1 ∷ [])) (sym r.docs) ∙ ap (view (doc_sequence c.requires.list.0)) (sym r.doc_end) ∙ sym (said (goal.at.returns-then-count-eq1-clause-docs c).After-last_doc-field).docs
 
 pub returns-then-count-eq1-clause-freqs : goal.returns-then-count-eq1-clause-freqs
 returns-then-count-eq1-clause-freqs c =
-    let h = c.requires.list in
     let s = read (goal.at.returns-then-count-eq1-clause-freqs c).After-last_doc-field in
-    let r = single-read c.args.documents c.in-Some-gamma_before.most.number (bits_of c.args.words.now) c.in-Some-gamma_before.most.behind c.args.to h.0 h.1 h.2 (omega (arith, c.ranges.documents.fits)) s.le s.fit (single (goal.at.returns-then-count-eq1-clause-freqs c).After-last_doc-field c.if-count-eq1.true) in
+    let r = single-read c.args.documents c.in-Some-gamma_before.most.number (bits_of c.args.words.now) c.in-Some-gamma_before.most.behind c.args.to c.requires.list.0 c.requires.list.1 c.requires.list.2 (omega (arith, c.ranges.documents.fits)) s.le s.fit (single (goal.at.returns-then-count-eq1-clause-freqs c).After-last_doc-field c.if-count-eq1.true) in
     let view : List ℕ → List ℕ → SequenceView = λ xs es. record { format = format_three; values = xs; ends = es } in
     let value : c.from-sum.result - 1 ≡ c.in-Some-gamma_before.most.number - 1 = omega (arith, c.from-sum.ensures) in
-    c.standing_alone-then-count-eq1.ensures.one refl ∙ ap (λ d. view (d ∷ []) (1 ∷ [])) value ∙ ap (λ xs. view xs (1 ∷ [])) (sym r.sums) ∙ ap (view (freq_sequence h.0)) (sym r.sum_end) ∙ sym (said (goal.at.returns-then-count-eq1-clause-freqs c).After-last_doc-field).freqs
+    c.standing_alone-then-count-eq1.ensures.one refl ∙ ap (λ d. view (d ∷ []) (1 ∷ [])) value ∙ ap (λ xs. view xs (1 ∷ [])) (sym r.sums) ∙ ap (view (freq_sequence c.requires.list.0)) (sym r.sum_end) ∙ sym (said (goal.at.returns-then-count-eq1-clause-freqs c).After-last_doc-field).freqs
 
 pub returns-then-count-eq1-clause-greatest : goal.returns-then-count-eq1-clause-greatest
 returns-then-count-eq1-clause-greatest c = (read (goal.at.returns-then-count-eq1-clause-greatest c).After-last_doc-field).most ∙ sym (said (goal.at.returns-then-count-eq1-clause-greatest c).After-last_doc-field).most

@@ -6,17 +6,13 @@ use Rattle.packed_list.proofs.write.append_sequence.Goals as goal
 
 pub returns-else-ends-eq1-clause-ok : goal.returns-else-ends-eq1-clause-ok
 returns-else-ends-eq1-clause-ok c =
-    let old : List ℕ = c.args.to.now in
-    let xs : List ℕ = c.args.values.now in
-    let is = as-several c.args.last (length old) (length xs) xs c.args.ends.now c.requires.some c.requires.stored.partition c.if-ends-eq1.false in
-    on_ok_weaker c.append_parted.result (λ e. e ∙ ap (λ bits. old ++ bits) (sym is)) c.append_parted.ensures.ok
+    let is = as-several c.args.last (length c.args.to.now) (length c.args.values.now) c.args.values.now c.args.ends.now c.requires.some c.requires.stored.partition c.if-ends-eq1.false in
+    on_ok_weaker c.append_parted.result (λ e. e ∙ ap (λ bits. c.args.to.now ++ bits) (sym is)) c.append_parted.ensures.ok
 
 pub returns-else-ends-eq1-clause-err : goal.returns-else-ends-eq1-clause-err
 returns-else-ends-eq1-clause-err c =
-    let old : List ℕ = c.args.to.now in
-    let xs : List ℕ = c.args.values.now in
-    let is = as-several c.args.last (length old) (length xs) xs c.args.ends.now c.requires.some c.requires.stored.partition c.if-ends-eq1.false in
-    on_err_weaker c.append_parted.result (λ h. subst (AppendsBits old c.append_parted.new.to) (sym is) h) c.append_parted.ensures.err
+    let is = as-several c.args.last (length c.args.to.now) (length c.args.values.now) c.args.values.now c.args.ends.now c.requires.some c.requires.stored.partition c.if-ends-eq1.false in
+    on_err_weaker c.append_parted.result (λ h. subst (AppendsBits c.args.to.now c.append_parted.new.to) (sym is) h) c.append_parted.ensures.err
 
 pub append_lone-requires-clause-less : goal.append_lone-requires-clause-less
 append_lone-requires-clause-less c = c.requires.stored.less c.if-ends-eq1.true

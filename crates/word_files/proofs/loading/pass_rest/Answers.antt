@@ -25,40 +25,30 @@ returns-then-passed-count-gt-LONGEST_FILE g c =
 pub returns-in_err-add_words : goal.returns-in_err-add_words
 returns-in_err-add_words g c =
     let p = err_from_is_err_and c.from_residual-in_err-add_words.result c.from_residual-in_err-add_words.ensures.1 in
-    let count = c.in_ok-count.count in
-    let piece : List ℕ = c.fill_piece.new.piece in
-    let all : length (take count piece) ≡ count = omega (arith, length-take count piece, c.in_ok-count.ensures.filled.within) in
-    let room : length piece ≡ 65536 = c.in_ok-count.ensures.room ∙ c.loop-words.invariant.room in
+    let all : length (take c.in_ok-count.count c.fill_piece.new.piece) ≡ c.in_ok-count.count = omega (arith, length-take c.in_ok-count.count c.fill_piece.new.piece, c.in_ok-count.ensures.filled.within) in
+    let room : length c.fill_piece.new.piece ≡ 65536 = c.in_ok-count.ensures.room ∙ c.loop-words.invariant.room in
     rw (p.1, p.2) (passed-no_words c.args.slot c.args.held c.loop-words.passed (g.D.Depot.state c.args.depot.now) (g.D.Depot.state c.loop-words.depot) (g.D.Depot.state c.fill_piece.new.depot)
-    piece count c.in_err-add_words.field-0.0 c.loop-words.invariant.read c.in_ok-count.ensures.filled (ap (λ n. n % 8) room) (omega (arith, c.if-passed-count-gt-LONGEST_FILE.false))
+    c.fill_piece.new.piece c.in_ok-count.count c.in_err-add_words.field-0.0 c.loop-words.invariant.read c.in_ok-count.ensures.filled (ap (λ n. n % 8) room) (omega (arith, c.if-passed-count-gt-LONGEST_FILE.false))
     (λ is even. c.in_err-add_words.ensures.ragged is (ap (λ n. n % 8) all ∙ even)))
 
 pub returns-then-count-piece : goal.returns-then-count-piece
 returns-then-count-piece g c =
-    let count = c.in_ok-count.count in
-    let piece : List ℕ = c.fill_piece.new.piece in
-    let more : List ℕ = c.add_words.new.words.items in
-    let filled = c.in_ok-count.ensures.filled in
-    let are : word_bytes more ≡ take count piece = alone c.clear.new.self.items more piece count c.clear.ensures.items c.in_ok-add_words.ensures.added in
+    let are : word_bytes c.add_words.new.words.items ≡ take c.in_ok-count.count c.fill_piece.new.piece = alone c.clear.new.self.items c.add_words.new.words.items c.fill_piece.new.piece c.in_ok-count.count c.clear.ensures.items c.in_ok-add_words.ensures.added in
     let P : List ℕ → Type 0 = λ ws. All (λ w. w < 2 ^ 64) ws in
     passed-all c.args.slot c.args.held c.loop-words.passed (g.D.Depot.state c.args.depot.now) (g.D.Depot.state c.loop-words.depot) (g.D.Depot.state c.fill_piece.new.depot)
-    more piece count c.loop-words.invariant.read filled are (subst P c.deref.ensures.value c.words_fit.ensures)
+    c.add_words.new.words.items c.fill_piece.new.piece c.in_ok-count.count c.loop-words.invariant.read c.in_ok-count.ensures.filled are (subst P c.deref.ensures.value c.words_fit.ensures)
     (omega (arith, c.in_ok-count.ensures.room, c.loop-words.invariant.room, c.if-count-piece.true))
-    (omega (arith, in-piece more piece count filled.within are, c.if-passed-count-gt-LONGEST_FILE.false))
+    (omega (arith, in-piece c.add_words.new.words.items c.fill_piece.new.piece c.in_ok-count.count c.in_ok-count.ensures.filled.within are, c.if-passed-count-gt-LONGEST_FILE.false))
 
 pub loop-words-preserved : goal.loop-words-preserved
 loop-words-preserved g c =
-    let count = c.in_ok-count.count in
-    let piece : List ℕ = c.fill_piece.new.piece in
-    let more : List ℕ = c.add_words.new.words.items in
-    let filled = c.in_ok-count.ensures.filled in
-    let are : word_bytes more ≡ take count piece = alone c.clear.new.self.items more piece count c.clear.ensures.items c.in_ok-add_words.ensures.added in
+    let are : word_bytes c.add_words.new.words.items ≡ take c.in_ok-count.count c.fill_piece.new.piece = alone c.clear.new.self.items c.add_words.new.words.items c.fill_piece.new.piece c.in_ok-count.count c.clear.ensures.items c.in_ok-add_words.ensures.added in
     let P : List ℕ → Type 0 = λ ws. All (λ w. w < 2 ^ 64) ws in
-    let many : length more ≡ c.len.result = omega (arith, c.len.ensures, c.add_words.new.words.ok.0) in
+    let many : length c.add_words.new.words.items ≡ c.len.result = omega (arith, c.len.ensures, c.add_words.new.words.ok.0) in
     let H : ℕ → Type 0 = λ k. HasPassed c.args.slot c.args.held (c.loop-words.passed + k) (g.D.Depot.state c.args.depot.now) (g.D.Depot.state c.fill_piece.new.depot) in
     record {
       room = c.in_ok-count.ensures.room ∙ c.loop-words.invariant.room;
-      few = omega (arith, in-piece more piece count filled.within are, c.if-passed-count-gt-LONGEST_FILE.false, many);
+      few = omega (arith, in-piece c.add_words.new.words.items c.fill_piece.new.piece c.in_ok-count.count c.in_ok-count.ensures.filled.within are, c.if-passed-count-gt-LONGEST_FILE.false, many);
       read = subst H many (passed-more c.args.slot c.args.held c.loop-words.passed (g.D.Depot.state c.args.depot.now) (g.D.Depot.state c.loop-words.depot) (g.D.Depot.state c.fill_piece.new.depot)
-          more piece count c.loop-words.invariant.read filled are (subst P c.deref.ensures.value c.words_fit.ensures));
+          c.add_words.new.words.items c.fill_piece.new.piece c.in_ok-count.count c.loop-words.invariant.read c.in_ok-count.ensures.filled are (subst P c.deref.ensures.value c.words_fit.ensures));
     }
