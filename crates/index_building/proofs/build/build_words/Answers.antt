@@ -14,17 +14,15 @@ use Rattle.index_building.proofs.build.build_words.Goals.{Else-branch}
 
 pub returns-in_err-reader : goal.returns-in_err-reader
 returns-in_err-reader g c =
-    let format = c.args.format in
-    let small = (c.formats_have_room.ensures format).fit in
+    let small = (c.formats_have_room.ensures c.args.format).fit in
     let p = err_from_is_err_and c.from_residual.result c.from_residual.ensures.1 in
-    build-refused format (c.files_have_one_first_fault.ensures (numbers_of format) small) _ _ _ _ _ _ _
-    ((c.lists_are_read_in_turn.ensures (numbers_of format) small).start_refused _ _ _ _ c.in_err-reader.ensures)
+    build-refused c.args.format (c.files_have_one_first_fault.ensures (numbers_of c.args.format) small) _ _ _ _ _ _ _
+    ((c.lists_are_read_in_turn.ensures (numbers_of c.args.format) small).start_refused _ _ _ _ c.in_err-reader.ensures)
     (p.1 ∙ ap Err p.2)
 
 pub loop-freqs-init : goal.loop-freqs-init
 loop-freqs-init g c =
-    let format = c.args.format in
-    build-begun format (c.lists_are_read_in_turn.ensures (numbers_of format) (c.formats_have_room.ensures format).fit) _ _ _ _ _ _
+    build-begun c.args.format (c.lists_are_read_in_turn.ensures (numbers_of c.args.format) (c.formats_have_room.ensures c.args.format).fit) _ _ _ _ _ _
     c.in_ok-reader.ensures c.in_ok-builder.ensures.format (c.in_ok-builder.ensures.documents ∙ c.documents.ensures) c.in_ok-builder.ensures.no_list
 
 pub next_list-requires : goal.next_list-requires
@@ -32,10 +30,9 @@ next_list-requires g c = record { started = c.loop-freqs.invariant.read.started 
 
 pub returns-in_err-next_list : goal.returns-in_err-next_list
 returns-in_err-next_list g c =
-    let format = c.args.format in
-    let small = (c.formats_have_room.ensures format).fit in
+    let small = (c.formats_have_room.ensures c.args.format).fit in
     let p = err_from_is_err_and c.from_residual-in_err-next_list.result c.from_residual-in_err-next_list.ensures.1 in
-    list-refused format (c.lists_are_read_in_turn.ensures (numbers_of format) small) (c.files_have_one_first_fault.ensures (numbers_of format) small) _ _ _ _ _ _ _ _ _ _ _ _ _ _
+    list-refused c.args.format (c.lists_are_read_in_turn.ensures (numbers_of c.args.format) small) (c.files_have_one_first_fault.ensures (numbers_of c.args.format) small) _ _ _ _ _ _ _ _ _ _ _ _ _ _
     c.loop-freqs.invariant c.next_list.ensures.list c.in_err-next_list.was (p.1 ∙ ap Err p.2)
 
 pub add_list-requires-clause-list : goal.add_list-requires-clause-list
@@ -55,7 +52,6 @@ loop-freqs-smaller g c =
 
 pub loop-freqs-preserved : goal.loop-freqs-preserved
 loop-freqs-preserved g c =
-    let format = c.args.format in
     let docs = c.next_list.new.docs.items in
     let freqs = c.next_list.new.freqs.items in
     let old = c.loop-freqs.builder in
@@ -65,15 +61,14 @@ loop-freqs-preserved g c =
     subst (λ d. Adds d freqs) c.deref.ensures.value (subst (Adds c.deref.result.now) c.deref-in-loop-freqs.ensures.value c.in_ok-add_list.ensures.ok) in
     let most =
     subst (λ d. c.add_list.new.steps ≤ c.loop-freqs.steps + 6 * length (window_bounds old.format) * (length d + 1)) c.deref.ensures.value c.add_list.ensures.bounded in
-    build-more format (c.lists_are_read_in_turn.ensures (numbers_of format) (c.formats_have_room.ensures format).fit) _ _ _ _ _ _ _ _ _ _ _ _ _ _
+    build-more c.args.format (c.lists_are_read_in_turn.ensures (numbers_of c.args.format) (c.formats_have_room.ensures c.args.format).fit) _ _ _ _ _ _ _ _ _ _ _ _ _ _
     c.loop-freqs.invariant c.next_list.ensures.list (c.in_ok-next_list.was ∙ ap Ok c.if-branch.true) adds most
 
 pub returns-in_err-add_list : goal.returns-in_err-add_list
 returns-in_err-add_list g c =
-    let format = c.args.format in
-    let small = (c.formats_have_room.ensures format).fit in
+    let small = (c.formats_have_room.ensures c.args.format).fit in
     let p = err_from_is_err_and c.from_residual-in_err-add_list.result c.from_residual-in_err-add_list.ensures.1 in
-    memory-refused format (c.lists_are_read_in_turn.ensures (numbers_of format) small) (c.files_have_one_first_fault.ensures (numbers_of format) small) _ _ _ _ _ _ _ _ _ _ c.loop-freqs.steps _ _ _
+    memory-refused c.args.format (c.lists_are_read_in_turn.ensures (numbers_of c.args.format) small) (c.files_have_one_first_fault.ensures (numbers_of c.args.format) small) _ _ _ _ _ _ _ _ _ _ c.loop-freqs.steps _ _ _
     c.loop-freqs.invariant c.next_list.ensures.list (c.in_ok-next_list.was ∙ ap Ok c.if-branch.true) (p.1 ∙ ap Err p.2)
 
 -- all lists were read, and are built
@@ -90,10 +85,9 @@ finish-requires-clause-ended g c = (ended g (goal.at.finish-requires-clause-ende
 
 pub returns-in_err-finish : goal.returns-in_err-finish
 returns-in_err-finish g c =
-    let format = c.args.format in
-    let small = (c.formats_have_room.ensures format).fit in
+    let small = (c.formats_have_room.ensures c.args.format).fit in
     let p = err_from_is_err_and c.from_residual-in_err-finish.result c.from_residual-in_err-finish.ensures.1 in
-    sizes-refused format (c.lists_are_read_in_turn.ensures (numbers_of format) small) (c.files_have_one_first_fault.ensures (numbers_of format) small) _ _ _ _ _ _ _ _ _ _ _ _ _
+    sizes-refused c.args.format (c.lists_are_read_in_turn.ensures (numbers_of c.args.format) small) (c.files_have_one_first_fault.ensures (numbers_of c.args.format) small) _ _ _ _ _ _ _ _ _ _ _ _ _
     (ended g (goal.at.returns-in_err-finish g c).Else-branch) c.finish.ensures.sizes c.in_err-finish.was (p.1 ∙ ap Err p.2)
 
 pub finish-requires-2 : goal.finish-requires-2
@@ -104,11 +98,10 @@ finish-requires-2 g c =
 
 pub returns-in_err-finish-2 : goal.returns-in_err-finish-2
 returns-in_err-finish-2 g c =
-    let format = c.args.format in
-    let turn = c.lists_are_read_in_turn.ensures (numbers_of format) (c.formats_have_room.ensures format).fit in
+    let turn = c.lists_are_read_in_turn.ensures (numbers_of c.args.format) (c.formats_have_room.ensures c.args.format).fit in
     let sizes = c.deref-3.ensures.value in
     let p = err_from_is_err_and c.from_residual-in_err-finish-2.result c.from_residual-in_err-finish-2.ensures.1 in
-    words-refused format turn c.files_spell_collections.ensures _ _ _ _ _ _ _ c.finish.new.sizes.items _ _ _ c.in_err-finish-2.field-0.0 _
+    words-refused c.args.format turn c.files_spell_collections.ensures _ _ _ _ _ _ _ c.finish.new.sizes.items _ _ _ c.in_err-finish-2.field-0.0 _
     (ended g (goal.at.returns-in_err-finish-2 g c).Else-branch) c.finish.ensures.sizes c.in_ok-finish.was (subst (All (λ s. s < 2 ^ 32)) c.deref-2.ensures.value c.sizes_fit.ensures)
     (λ n h. (
       c.finish-2.ensures.too_large n (c.in_err-finish-2.was ∙ ap Err h),
@@ -119,10 +112,9 @@ returns-in_err-finish-2 g c =
 
 pub returns : goal.returns
 returns g c =
-    let format = c.args.format in
-    let turn = c.lists_are_read_in_turn.ensures (numbers_of format) (c.formats_have_room.ensures format).fit in
+    let turn = c.lists_are_read_in_turn.ensures (numbers_of c.args.format) (c.formats_have_room.ensures c.args.format).fit in
     let words = c.in_ok-finish-2.field-0 in
-    words-finished format turn c.files_spell_collections.ensures _ _ _ _ _ _ _ c.finish.new.sizes.items _ _ _ words
+    words-finished c.args.format turn c.files_spell_collections.ensures _ _ _ _ _ _ _ c.finish.new.sizes.items _ _ _ words
     (ended g (goal.at.returns g c).Else-branch) c.finish.ensures.sizes c.in_ok-finish.was (subst (All (λ s. s < 2 ^ 32)) c.deref-2.ensures.value c.sizes_fit.ensures)
     (λ cs stands.
     subst (λ z. words.items ≡ words_of_file (numbers_of c.loop-freqs.builder.format) c.loop-freqs.builder.documents cs z) c.deref-3.ensures.value (c.in_ok-finish-2.ensures.words cs stands))

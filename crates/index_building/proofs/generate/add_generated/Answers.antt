@@ -22,16 +22,14 @@ loop-freqs-init g c =
 pub add_list-requires-clause-list : goal.add_list-requires-clause-list
 add_list-requires-clause-list g c =
     let n = c.args.documents in
-    let docs = c.next_list.new.docs.items in
-    let freqs = c.next_list.new.freqs.items in
     let is = c.in_ok-next_list.was ∙ ap Ok c.if-branch.true in
     let same : c.loop-freqs.lists.documents ≡ n = c.loop-freqs.invariant.0 in
     let list = c.next_list.ensures.posting_list is format_two (omega (arith, same, c.ranges.documents.fits)) in
     let fits =
-    next-fits Two _ _ _ (postings_of docs freqs) _ _ c.loop-freqs.invariant.1
-    (subst (λ k. IsPostingList format_two k (postings_of docs freqs)) (same ∙ sym (generated-documents c.args.seed n c.args.terms)) list) in
+    next-fits Two _ _ _ (postings_of c.next_list.new.docs.items c.next_list.new.freqs.items) _ _ c.loop-freqs.invariant.1
+    (subst (λ k. IsPostingList format_two k (postings_of c.next_list.new.docs.items c.next_list.new.freqs.items)) (same ∙ sym (generated-documents c.args.seed n c.args.terms)) list) in
     let P = λ (d f : List ℕ). IsPostingList (numbers_of c.loop-freqs.builder.format) c.loop-freqs.builder.documents (postings_of d f) in
-    subst (λ d. P d c.deref-in-loop-freqs.result.now) (sym c.deref.ensures.value) (subst (P docs) (sym c.deref-in-loop-freqs.ensures.value) fits)
+    subst (λ d. P d c.deref-in-loop-freqs.result.now) (sym c.deref.ensures.value) (subst (P c.next_list.new.docs.items) (sym c.deref-in-loop-freqs.ensures.value) fits)
 
 pub add_list-requires-clause-room : goal.add_list-requires-clause-room
 add_list-requires-clause-room g c =
@@ -41,18 +39,16 @@ add_list-requires-clause-room g c =
 
 pub loop-freqs-preserved : goal.loop-freqs-preserved
 loop-freqs-preserved g c =
-    let docs = c.next_list.new.docs.items in
-    let freqs = c.next_list.new.freqs.items in
     let old = c.loop-freqs.builder in
     let new = c.add_list.new.self in
     let is = c.in_ok-next_list.was ∙ ap Ok c.if-branch.true in
     let Adds : List ℕ → List ℕ → Type 0 = λ d f. AddsList old new (postings_of d f) c.loop-freqs.steps c.add_list.new.steps in
-    let adds : Adds docs freqs =
-    subst (λ d. Adds d freqs) c.deref.ensures.value (subst (Adds c.deref.result.now) c.deref-in-loop-freqs.ensures.value c.in_ok-add_list.ensures.ok) in
+    let adds : Adds c.next_list.new.docs.items c.next_list.new.freqs.items =
+    subst (λ d. Adds d c.next_list.new.freqs.items) c.deref.ensures.value (subst (Adds c.deref.result.now) c.deref-in-loop-freqs.ensures.value c.in_ok-add_list.ensures.ok) in
     let most =
     subst (λ d. c.add_list.new.steps ≤ c.loop-freqs.steps + 6 * length (window_bounds old.format) * (length d + 1)) c.deref.ensures.value c.add_list.ensures.bounded in (
       c.next_list.ensures.documents is ∙ c.loop-freqs.invariant.0,
-      making-more Two _ _ _ _ _ docs freqs _ _ _ c.loop-freqs.invariant.1 (c.next_list.ensures.list is) (c.next_list.ensures.same_length is) adds most,
+      making-more Two _ _ _ _ _ c.next_list.new.docs.items c.next_list.new.freqs.items _ _ _ c.loop-freqs.invariant.1 (c.next_list.ensures.list is) (c.next_list.ensures.same_length is) adds most,
     )
 
 pub returns : goal.returns

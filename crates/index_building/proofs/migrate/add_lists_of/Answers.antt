@@ -11,31 +11,28 @@ use Rattle.index_building.proofs.migrate.add_lists_of.Goals as goal
 
 pub add_list-requires-clause-room : goal.add_list-requires-clause-room
 add_list-requires-clause-room g c =
-    let all = c.args.index.now.collection in
-    let within : c.loop-term.term < length all.lists = omega (arith, c.loop-term-test.true, c.terms-term-end.ensures) in
-    next-has_room c.lists_are_counted.ensures Two all _ _ _ _ _ _ c.loop-term.invariant (next-list all c.loop-term.term within)
+    let within : c.loop-term.term < length c.args.index.now.collection.lists = omega (arith, c.loop-term-test.true, c.terms-term-end.ensures) in
+    next-has_room c.lists_are_counted.ensures Two c.args.index.now.collection _ _ _ _ _ _ c.loop-term.invariant (next-list c.args.index.now.collection c.loop-term.term within)
     c.stands_for_a_collection.ensures.well_formed.terms
 
 pub loop-term-preserved : goal.loop-term-preserved
 loop-term-preserved g c =
-    let all = c.args.index.now.collection in
     let t : ℕ = c.loop-term.term in
     let docs : List ℕ = c.read_list.new.docs.items in
     let freqs : List ℕ = c.read_list.new.freqs.items in
     let old = c.loop-term.builder in
     let new = c.add_list.new.self in
-    let within : t < length all.lists = omega (arith, c.loop-term-test.true, c.terms-term-end.ensures) in
-    let next : drop t all.lists ≡ postings_of docs freqs ∷ drop (t + 1) all.lists =
-    next-list all t within ∙ ap (λ l. l ∷ drop (t + 1) all.lists) (sym (c.in_ok-read_list.ensures.list ∙ c.cursor.ensures.list)) in
+    let within : t < length c.args.index.now.collection.lists = omega (arith, c.loop-term-test.true, c.terms-term-end.ensures) in
+    let next : drop t c.args.index.now.collection.lists ≡ postings_of docs freqs ∷ drop (t + 1) c.args.index.now.collection.lists =
+    next-list c.args.index.now.collection t within ∙ ap (λ l. l ∷ drop (t + 1) c.args.index.now.collection.lists) (sym (c.in_ok-read_list.ensures.list ∙ c.cursor.ensures.list)) in
     let Adds : List ℕ → List ℕ → Type 0 = λ d f. AddsList old new (postings_of d f) c.loop-term.steps c.add_list.new.steps in
     let adds : Adds docs freqs =
     subst (λ d. Adds d freqs) c.deref.ensures.value (subst (Adds c.deref.result.now) c.deref-in-loop-term.ensures.value c.in_ok-add_list.ensures.ok) in
     let most =
     subst (λ d. c.add_list.new.steps ≤ c.loop-term.steps + 6 * length (window_bounds old.format) * (length d + 1)) c.deref.ensures.value c.add_list.ensures.bounded in
-    making-more Two all _ _ _ _ docs freqs _ _ _ c.loop-term.invariant next c.in_ok-read_list.ensures.same_length adds most
+    making-more Two c.args.index.now.collection _ _ _ _ docs freqs _ _ _ c.loop-term.invariant next c.in_ok-read_list.ensures.same_length adds most
 
 pub returns : goal.returns
 returns g c =
-    let all = c.args.index.now.collection in
-    let last : drop c.loop-term.term all.lists ≡ [] = drop_all c.loop-term.term all.lists (omega (arith, c.loop-term-test.false, c.terms-term-end.ensures)) in
-    making-ends Two all _ _ _ _ c.loop-term.invariant last
+    let last : drop c.loop-term.term c.args.index.now.collection.lists ≡ [] = drop_all c.loop-term.term c.args.index.now.collection.lists (omega (arith, c.loop-term-test.false, c.terms-term-end.ensures)) in
+    making-ends Two c.args.index.now.collection _ _ _ _ c.loop-term.invariant last

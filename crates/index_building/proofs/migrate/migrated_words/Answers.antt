@@ -8,18 +8,16 @@ use Rattle.index_building.proofs.migrate.migrated_words.Goals as goal
 
 pub finish-requires : goal.finish-requires
 finish-requires g c =
-    let all = c.args.index.now.collection in
-    let good = collection-fits c.args.index.now.format all c.stands_for_a_collection.ensures.well_formed in
-    let added : AreAdded Two c.in_ok-builder.builder all.documents all.lists c.args.steps.now c.add_lists_of.new.steps = search rules in
-    let sizes : ◌≡◌ {A = List ℕ} c.in_ok-sizes.sizes.items all.sizes = search rules in
+    let good = collection-fits c.args.index.now.format c.args.index.now.collection c.stands_for_a_collection.ensures.well_formed in
+    let added : AreAdded Two c.in_ok-builder.builder c.args.index.now.collection.documents c.args.index.now.collection.lists c.args.steps.now c.add_lists_of.new.steps = search rules in
+    let sizes : ◌≡◌ {A = List ℕ} c.in_ok-sizes.sizes.items c.args.index.now.collection.sizes = search rules in
     record { sizes = ap length (c.deref.ensures.value ∙ sizes) ∙ good.size_each ∙ sym added.documents }
 
 pub returns : goal.returns
 returns g c =
-    let all = c.args.index.now.collection in
-    let good = collection-fits c.args.index.now.format all c.stands_for_a_collection.ensures.well_formed in
-    let added : AreAdded Two c.in_ok-builder.builder all.documents all.lists c.args.steps.now c.add_lists_of.new.steps = search rules in
-    let sizes : ◌≡◌ {A = List ℕ} c.in_ok-sizes.sizes.items all.sizes = search rules in record {
-      words = made-or-not Two refl c.files_spell_collections.ensures all _ _ _ _ added good (c.deref.ensures.value ∙ sizes) c.finish.result c.finish.ensures.words c.finish.ensures.within;
-      too_large = λ n is. made-too_many Two c.files_spell_collections.ensures all _ _ _ _ n added (c.deref.ensures.value ∙ sizes) (c.finish.ensures.too_large n is) (c.finish.ensures.would_be n is);
+    let good = collection-fits c.args.index.now.format c.args.index.now.collection c.stands_for_a_collection.ensures.well_formed in
+    let added : AreAdded Two c.in_ok-builder.builder c.args.index.now.collection.documents c.args.index.now.collection.lists c.args.steps.now c.add_lists_of.new.steps = search rules in
+    let sizes : ◌≡◌ {A = List ℕ} c.in_ok-sizes.sizes.items c.args.index.now.collection.sizes = search rules in record {
+      words = made-or-not Two refl c.files_spell_collections.ensures c.args.index.now.collection _ _ _ _ added good (c.deref.ensures.value ∙ sizes) c.finish.result c.finish.ensures.words c.finish.ensures.within;
+      too_large = λ n is. made-too_many Two c.files_spell_collections.ensures c.args.index.now.collection _ _ _ _ n added (c.deref.ensures.value ∙ sizes) (c.finish.ensures.too_large n is) (c.finish.ensures.would_be n is);
     }
