@@ -6,27 +6,27 @@ _pefidx() {
     local previous=${COMP_WORDS[COMP_CWORD - 1]} place=$((COMP_CWORD - 1))
     COMPREPLY=()
     if ((COMP_CWORD == 1)); then
-        COMPREPLY=($(compgen -W 'build query answer inspect audit migrate
-            blocks bquery segments remap generate' -- "$word"))
+        mapfile -t COMPREPLY < <(compgen -W 'build query answer inspect audit migrate
+            blocks bquery segments remap generate' -- "$word")
         return
     fi
     # Options and their values; place 1 is the word behind the verb.
     case $verb:$place:$previous in
         build:4:--format)
-            COMPREPLY=($(compgen -W '1 2' -- "$word"))
+            mapfile -t COMPREPLY < <(compgen -W '1 2' -- "$word")
             return ;;
         query:3:--plan | answer:3:--plan | segments:*:--plan)
-            COMPREPLY=($(compgen -W 'exhaustive wand maxscore' -- "$word"))
+            mapfile -t COMPREPLY < <(compgen -W 'exhaustive wand maxscore' -- "$word")
             return ;;
         build:3:*)
-            COMPREPLY=($(compgen -W '--format' -- "$word"))
+            mapfile -t COMPREPLY < <(compgen -W '--format' -- "$word")
             return ;;
         query:2:* | answer:2:*)
-            COMPREPLY=($(compgen -W '--plan' -- "$word"))
+            mapfile -t COMPREPLY < <(compgen -W '--plan' -- "$word")
             return ;;
         segments:1:*) ;;
         segments:*)
-            [[ $word == -* ]] && COMPREPLY=($(compgen -W '--plan' -- "$word"))
+            [[ $word == -* ]] && mapfile -t COMPREPLY < <(compgen -W '--plan' -- "$word")
             [[ $word == -* || ${COMP_WORDS[COMP_CWORD - 2]} == --plan ]] && return ;;
     esac
     case $verb:$place in
@@ -34,19 +34,18 @@ _pefidx() {
         build:2 | query:1 | inspect:1 | audit:1 | migrate:[12] | blocks:[12] | \
             bquery:[12] | remap:[23] | segments:*)
             compopt -o filenames 2> /dev/null
-            local IFS=$'\n'
-            COMPREPLY=($(compgen -f -- "$word")) ;;
+            mapfile -t COMPREPLY < <(compgen -f -- "$word") ;;
     esac
 }
 
 # Folders, and the names of collections: files .docs without this ending.
 _pefidx_bases() {
-    local IFS=$'\n' file
+    local file
     compopt -o filenames 2> /dev/null
-    COMPREPLY=($(compgen -d -- "$1"))
-    for file in $(compgen -f -X '!*.docs' -- "$1"); do
+    mapfile -t COMPREPLY < <(compgen -d -- "$1")
+    while IFS= read -r file; do
         [[ -d $file ]] || COMPREPLY+=("${file%.docs}")
-    done
+    done < <(compgen -f -X '!*.docs' -- "$1")
 }
 
 complete -F _pefidx pefidx
