@@ -1,5 +1,5 @@
 #!/usr/bin/env python3
-"""Tries how `pefidx.build` writes its file: as `pefidx build` does (docs/COMMANDS.md, "The file that is written"). What only root can try is left
+"""Tries how `pefidx.build` writes its file: as `pefidx build` does (docs/COMMANDS.md, "How files are replaced"). What only root can try is left
 out where another user runs it."""
 
 import os

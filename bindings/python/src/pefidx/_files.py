@@ -1,4 +1,4 @@
-"""A file that is written as `pefidx build` writes its index (docs/COMMANDS.md, "The file that is written")."""
+"""A file that is written as `pefidx build` writes its index (docs/COMMANDS.md, "How files are replaced")."""
 
 from __future__ import annotations
 
