@@ -16,7 +16,7 @@ import tempfile
 import pefidx
 
 ROUNDS = 3
-COUNTS = {"next": 100000, "and": 5000, "or": 2000, "top": 2000}
+COUNTS = {"next": 200000, "and": 100000, "or": 50000, "top": 50000}
 
 
 def drawn(index, verb, count):
