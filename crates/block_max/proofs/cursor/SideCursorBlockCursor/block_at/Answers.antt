@@ -1,4 +1,4 @@
-use Rattle.std.proofs.Common.{◌∙◌, ℕ, ◌<◌, List, length, arith}
+use Rattle.std.proofs.Common.{◌∙◌, ◌<◌, List, length, arith}
 use Rattle.block_max.specs.Blocks.{BlockList, nth_list}
 use Rattle.block_max.specs.SideWords.{words_seen}
 use Rattle.block_max.proofs.Finds.{block-fits, told-found, told-none}

@@ -1,4 +1,4 @@
-use Rattle.std.proofs.Common.{◌≡◌, sym, ap, subst, ◌∙◌, ℕ, List, length, arith}
+use Rattle.std.proofs.Common.{◌≡◌, sym, ap, subst, ◌∙◌, List, length, arith}
 use Rattle.block_max.specs.Blocks.{BlockList, blocks_before}
 use Rattle.block_max.specs.SideFaults.{HasFrame, IsFirstSideFault}
 use Rattle.block_max.specs.SideWords.{block_freqs}
