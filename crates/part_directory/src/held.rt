@@ -276,6 +276,18 @@ impl<'a> Directory<'a> {
         }
     }
 
+    /// Holds a part of the sequence where it is to be held, and gives its first value; behind the last part it holds none.
+    #[inline(never)]
+    pub fn hold_into(&self, part: u32, into: &mut Option<HeldPart<'a>>) -> u64
+        requires within { part ≤ self.now.parts }
+        ensures lies { LiesIn (numbers_of self.now.format) (words_of self.now) self.now.parts
+            (end_before (numbers_of self.now.format) (words_of self.now) part) into.new result }
+    {
+        let (held, value) = self.hold_if_any(part);
+        *into = held;
+        value
+    }
+
     /// Holds the part of a place of the sequence.
     pub fn hold_place(&self, place: u32) -> HeldPart<'a>
         requires within { place < length (sequence_of self.now).values }
@@ -302,21 +314,22 @@ impl<'a> Directory<'a> {
         }
     }
 
-    /// The first value from the start of a part on that is at least x: a place at or before its own, and the values at both places,
-    /// with its part, which is put where it is to be held; else the end.
+    /// The first value from the start of a part on that is at least x: the value at a place at or before its own, and the value
+    /// itself. This place and the part are put where they are to be held. Else the end.
     #[inline(never)]
     pub fn first_from_part(
         &self,
         part: u32,
         x: u64,
         into: &mut Option<HeldPart<'a>>,
-    ) -> (u32, u64, u64)
+        counted: &mut u32,
+    ) -> (u64, u64)
         requires within { part ≤ self.now.parts }
         ensures lies { LiesIn (numbers_of self.now.format) (words_of self.now) self.now.parts
-            result.0 into.new result.1 }
-        ensures behind { StandsBehind into.new (sequence_of self.now).values result.0 result.2 }
-        ensures first { let xs = (sequence_of self.now).values in place_at_least xs result.0
-            result.2 ≡ place_at_least xs (end_before (numbers_of self.now.format)
+            counted.new into.new result.0 }
+        ensures behind { StandsBehind into.new (sequence_of self.now).values counted.new result.1 }
+        ensures first { let xs = (sequence_of self.now).values in place_at_least xs counted.new
+            result.1 ≡ place_at_least xs (end_before (numbers_of self.now.format)
             (words_of self.now) part) x }
     {
         let reaching = self.part_reaching(part, x);
@@ -324,10 +337,12 @@ impl<'a> Directory<'a> {
             let held = self.hold(reaching);
             let sought = held.seek_first(x);
             *into = Some(held);
-            (sought.place as u32, sought.there, sought.number)
+            *counted = sought.place as u32;
+            (sought.there, sought.number)
         } else {
             *into = None;
-            (self.m, 0, 0)
+            *counted = self.m;
+            (0, 0)
         }
     }
 

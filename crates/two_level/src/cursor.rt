@@ -73,7 +73,8 @@ impl<'a> SeqCursor<'a> {
         ensures place { result.place ≡ place_at_least (sequence_of directory.entry).values 0 x }
     {
         let mut held = None;
-        let (counted, known, value) = directory.first_from_part(0, x, &mut held);
+        let mut counted = 0;
+        let (known, value) = directory.first_from_part(0, x, &mut held, &mut counted);
         SeqCursor {
             directory,
             counted,
@@ -139,7 +140,7 @@ impl<'a> SeqCursor<'a> {
             self.counted = place + 1;
         } else {
             let behind = held.index + 1;
-            (self.held, self.value) = self.directory.hold_if_any(behind);
+            self.value = self.directory.hold_into(behind, &mut self.held);
             self.known = self.value;
             self.counted = place + 1;
         }
@@ -210,9 +211,9 @@ impl<'a> SeqCursor<'a> {
             self.value = sought.number;
         } else {
             let behind = held.index + 1;
-            (self.counted, self.known, self.value) = self
-                .directory
-                .first_from_part(behind, x, &mut self.held);
+            (self.known, self.value) =
+                self.directory
+                    .first_from_part(behind, x, &mut self.held, &mut self.counted);
         }
     }
 

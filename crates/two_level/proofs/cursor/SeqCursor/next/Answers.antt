@@ -67,12 +67,14 @@ returns-then-place-held-clause-place c =
 pub invariant_of-self-else-place-held : goal.invariant_of-self-else-place-held
 invariant_of-self-else-place-held c =
     let s = c.self.inside in
-    let next = c.hold_if_any.result in
-    let behind = lies-behind s c.in-Some.held next.0 next.1 c.in-Some.is c.self.invariant.0 (omega (arith, c.if-place-held.false)) c.hold_if_any.ensures.lies in
-    (behind, stands-here (numbers_of s.directory.format) (words_of s.directory) s.directory.parts (s.counted + 1) next.0 next.1 behind)
+    let held = c.hold_into-self-inside.new.into in
+    let value : ℕ = c.hold_into-self-inside.result in
+    let behind = lies-behind s c.in-Some.held held value c.in-Some.is c.self.invariant.0 (omega (arith, c.if-place-held.false)) c.hold_into-self-inside.ensures.lies in
+    (behind, stands-here (numbers_of s.directory.format) (words_of s.directory) s.directory.parts (s.counted + 1) held value behind)
 
 pub returns-else-place-held-clause-place : goal.returns-else-place-held-clause-place
 returns-else-place-held-clause-place c =
-    let next = c.hold_if_any.result in
-    one-on c.self.inside c.in-Some.held c.args.self.now next.0 next.1 c.in-Some.is c.self.invariant.0 c.self.invariant.1 (omega (arith, c.if-self-value.false)) c.self.view_is
-    (lies-behind c.self.inside c.in-Some.held next.0 next.1 c.in-Some.is c.self.invariant.0 (omega (arith, c.if-place-held.false)) c.hold_if_any.ensures.lies)
+    let held = c.hold_into-self-inside.new.into in
+    let value : ℕ = c.hold_into-self-inside.result in
+    one-on c.self.inside c.in-Some.held c.args.self.now held value c.in-Some.is c.self.invariant.0 c.self.invariant.1 (omega (arith, c.if-self-value.false)) c.self.view_is
+    (lies-behind c.self.inside c.in-Some.held held value c.in-Some.is c.self.invariant.0 (omega (arith, c.if-place-held.false)) c.hold_into-self-inside.ensures.lies)

@@ -60,7 +60,7 @@ returns-else-x-held-clause-place c =
     let small : stated_last (numbers_of d.format) (words_of d) part.index < c.args.x = omega (arith, lies.0.last, c.if-x-held.false) in
     let end : end_before (numbers_of d.format) (words_of d) (part.index + 1) ≡ stated_end (numbers_of d.format) (words_of d) part.index = end-before-next (numbers_of d.format) (words_of d) part.index in
     let next : ℕ = end_before (numbers_of d.format) (words_of d) (part.index + 1) in
-    subst (λ p. place_at_least v.values c.first_from_part.result.0 c.first_from_part.result.2 ≡ place_at_least p.sequence.values p.place c.args.x) c.self.view_is
+    subst (λ p. place_at_least v.values c.first_from_part.new.counted c.first_from_part.result.1 ≡ place_at_least p.sequence.values p.place c.args.x) c.self.view_is
     (c.first_from_part.ensures.first
     ∙ later-place v.values place next c.args.x (omega (arith, end, there.2, lies.0.to)) (omega (arith, end, lies.0.to, lies.0.values.within))
     (λ k after lt. below-last (numbers_of d.format) (words_of d) d.parts part.index c.args.x v d.stated lies.0.within small k (omega (arith, lt, end))))
