@@ -283,9 +283,15 @@ impl<'a> Directory<'a> {
         ensures lies { LiesIn (numbers_of self.now.format) (words_of self.now) self.now.parts
             (end_before (numbers_of self.now.format) (words_of self.now) part) into.new result }
     {
-        let (held, value) = self.hold_if_any(part);
-        *into = held;
-        value
+        if part < self.parts {
+            let held = self.hold(part);
+            let value = held.first();
+            *into = Some(held);
+            value
+        } else {
+            *into = None;
+            0
+        }
     }
 
     /// Holds the part of a place of the sequence.
