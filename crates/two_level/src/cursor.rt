@@ -211,9 +211,9 @@ impl<'a> SeqCursor<'a> {
             self.value = sought.number;
         } else {
             let behind = held.index + 1;
-            (self.known, self.value) =
-                self.directory
-                    .first_from_part(behind, x, &mut self.held, &mut self.counted);
+            (self.known, self.value) = self
+                .directory
+                .first_from_part(behind, x, &mut self.held, &mut self.counted);
         }
     }
 
