@@ -119,6 +119,7 @@ impl<'a> SeqCursor<'a> {
     }
 
     /// Goes to the next place.
+    #[inline(never)]
     pub fn next(&mut self)
         requires within { self.old.place < length self.old.sequence.values }
         ensures sequence { self.new.sequence ≡ self.old.sequence }
