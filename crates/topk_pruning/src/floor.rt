@@ -7,11 +7,7 @@ use crate::term::Term;
 use cursor_api::DocCursor;
 use scan_plans::frequent_postings_score;
 
-// A list of fewer postings is not asked for a frequency that many of them reach.
-const MANY_POSTINGS: u32 = 2_048;
-
-// A score that at least k documents reach, 0 where none is told: what a frequency adds that many postings of the first list reach. A
-// short list is not asked.
+// A score that at least k documents reach, 0 where none is told: what a frequency adds that k postings of the first list reach.
 pub(crate) fn common_score<C: DocCursor>(cursors: &[C], terms: &[Term], k: u32) -> u64
     requires within { All (λ t. t.list < length cursors.now) terms.now }
     requires some { 1 ≤ k }
@@ -24,8 +20,5 @@ pub(crate) fn common_score<C: DocCursor>(cursors: &[C], terms: &[Term], k: u32) 
         return 0;
     };
     let cursor = &cursors[first.list];
-    if cursor.len() < MANY_POSTINGS {
-        return 0;
-    }
     u64::from(first.weight) * u64::from(cursor.common_freq(k))
 }

@@ -29,10 +29,10 @@ use std::alloc::Global;
 /// It is MaxScore: while the lists of the lowest bounds together cannot beat the bar, candidates come from the others alone, the essential
 /// ones, which are scored window by window of documents, and from short lists. The other lists are asked for a candidate only as long as
 /// the bounds of those that are left can lift its score above the bar. A bound is the weight times the greatest frequency, and the bar is
-/// the least score held. From the start it is no lower than just below a score that k documents reach: where the list of the highest
-/// bound has at least 2,048 postings, it is asked for a frequency that k of them reach. While one list alone is essential, its postings
-/// are passed over whose frequencies cannot lift a document above the bar with the bounds of all the others. Where pruning can save
-/// nothing, every document is scored, as in `top_wand`.
+/// the least score held. From the start it is no lower than just below a score that k documents reach: the list of the highest bound is
+/// asked for a frequency that k of its postings reach. While one list alone is essential, its postings are passed over whose frequencies
+/// cannot lift a document above the bar with the bounds of all the others. Where pruning can save nothing, every document is scored, as
+/// in `top_wand`.
 pub fn top_maxscore<C: DocCursor>(
     alloc: Global,
     cursors: &mut [C],

@@ -17,6 +17,7 @@ const MOST_LISTS: usize = 16;
 const MOST_ALIKE: u128 = 2_048;
 
 // A list that has so many times the postings of all the others is asked for theirs rather than read, however few documents there are.
+// With half, twice and four times as many a dictionary of 4,877 documents takes 1.00 times the instructions.
 const MOST_TIMES: u128 = 16;
 
 // Whether it can save anything to look for documents to pass over, where k of `n` are wanted: it is what `top_wand`, `top_maxscore` and
