@@ -10,6 +10,7 @@ use Rattle.part_cost.specs.Formats.{numbers_of}
 use Rattle.pef_io.specs.declared.fail.Slot.{Slot}
 use Rattle.pef_io.specs.declared.fail.Slot.TheVariants.{Index}
 use Rattle.pef_io.specs.DepotState.{DepotState}
+use Rattle.collection_reader.specs.Starting.{names_under}
 use Rattle.collection_reader.specs.declared.fault.Fault.{Fault}
 use Rattle.collection_reader.specs.FirstFault.{IsFirstFault}
 use Rattle.collection_reader.specs.Laws.{OneFirstFault, SpelledHasNoFault}
@@ -153,7 +154,7 @@ module _ (format : Format) (base : List ℕ) (d d' : DepotState) (s s' : ℕ) (w
   same_counts slot = second (w.count_rises_only_there slot) (not_refused (building.Read slot))
 
   -- each file was started once
-  pub starts : (outcome : Outcome) → StartsOnly IsCollectionSlot outcome d d'
+  pub starts : (outcome : Outcome) → StartsOnly (names_under base) IsCollectionSlot outcome d d'
   starts outcome = built_starts format base d d' s s' (Ok words) outcome w (λ slot is. absurd (not_refused (building.Read slot) is)) (λ is. absurd (not_refused building.NoMemory is))
 
   -- the collection was read

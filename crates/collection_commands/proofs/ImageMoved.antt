@@ -9,7 +9,9 @@ use Rattle.collection_model.specs.Spelling.{Files, spelled}
 use Rattle.pef_io.specs.declared.fail.IoFail.{IoFail}
 use Rattle.pef_io.specs.declared.fail.IoFail.TheVariants as call
 use Rattle.pef_io.specs.declared.fail.Slot.{Slot}
-use Rattle.pef_io.specs.Calls.{Rose, one_more}
+use Rattle.pef_io.specs.Calls.{Rose}
+use Rattle.pef_io.proofs.OnlyReads.{NoneStartedTwice-then, StartedOnce-then}
+use Rattle.command_ends.proofs.Started.{in_turn-then}
 use Rattle.pef_io.specs.SourceState.{SourceState}
 use Rattle.pef_io.specs.SinkState.{SinkState}
 use Rattle.pef_io.specs.DepotState.{DepotState}
@@ -19,7 +21,7 @@ use Rattle.remap.specs.Image.{IsImage}
 use Rattle.remap.specs.Laws.{ImageIsWellFormed}
 use Rattle.command_model.specs.Found.{FindsCollection}
 use Rattle.command_model.specs.FilesWritten.{NamedFile, nth_file, AreApart, AreWritten, IsNotBegun, StopsAtFile, FileLeftByFault}
-use Rattle.command_model.specs.FoundMap.{remap_numbers, IsCollectionOrMap, FindsBothOf, OnImageFiles, files_under}
+use Rattle.command_model.specs.FoundMap.{remap_numbers, IsCollectionOrMap, names_with_map, FindsBothOf, OnImageFiles, files_under}
 use Rattle.remapped_files.specs.declared.image.ImageError.{ImageError}
 use Rattle.remapped_files.specs.declared.image.ImageFiles.{ImageFiles}
 use Rattle.remapped_files.specs.declared.image.FileFail.{FileFail}
@@ -129,13 +131,14 @@ module _ (laws : Laws) (well_formed : ImageIsWellFormed) (base map to : List ℕ
     starts : Starts (MapAt base map) outcome d d2
 
   module _ (r : Result (Unit {0}) FileFail) (v : WritesFiles files d1 d2 r) where
-    starts_moved : (outcome : Outcome) → ((slot : Slot) → r ≡ Err (file_fail slot call.NoMemory) → outcome ≡ NoMemory) → StartsOnly IsCollectionOrMap outcome d d2
+    starts_moved : (outcome : Outcome) → ((slot : Slot) → r ≡ Err (file_fail slot call.NoMemory) → outcome ≡ NoMemory) → StartsOnly (names_with_map base map) IsCollectionOrMap outcome d d2
     starts_moved outcome wants =
         let made = starts_made base map to d d1 files w outcome in
         record {
-          none_twice = λ slot. subst (λ n. n ≤ one_more (d.starts slot)) (sym (v.creates.starts slot)) (made.none_twice slot);
+          none_twice = NoneStartedTwice-then (names_with_map base map) d d1 d2 made.none_twice v.creates.starts;
           no_others = λ slot other. v.creates.starts slot ∙ made.no_others slot other;
-          once = λ is_read is_wanted slot is. v.creates.starts slot ∙ made.once is_read is_wanted slot is;
+          once = λ is_read is_wanted. StartedOnce-then (names_with_map base map) IsCollectionOrMap d d1 d2 (made.once is_read is_wanted) v.creates.starts;
+          in_turn = in_turn-then (names_with_map base map) IsCollectionOrMap d d1 d2 made.in_turn v.creates.starts;
           refusals = elim v.refusals_rise_only_there [ inl h ↦ inl (wants h.0 h.1) | inr same ↦ elim made.refusals [ inl h ↦ inl h | inr kept ↦ inr (same ∙ kept) ] ];
         }
 

@@ -15,7 +15,7 @@ use Rattle.collection_reader.specs.ReadCollection.{IsCollectionSlot}
 use Rattle.remap.specs.MapFaults.{IsMapFault}
 use Rattle.remap.specs.ReadMap.{OneMapFault}
 use Rattle.command_model.specs.Found.{FindsCollection}
-use Rattle.command_model.specs.FoundMap.{remap_numbers, IsCollectionOrMap}
+use Rattle.command_model.specs.FoundMap.{remap_numbers, IsCollectionOrMap, names_with_map}
 use Rattle.command_model.specs.FilesWritten.{NamedFile}
 use Rattle.remapped_files.specs.declared.image.ImageError.{ImageError}
 use Rattle.remapped_files.specs.declared.image.ImageError.TheVariants as making
@@ -102,7 +102,7 @@ is_map slot = inr (λ h. cc)
 
 module _ (base map to : List ℕ) (d d1 : DepotState) where
   -- a collection that is refused starts no map
-  broken_starts : (fault : Fault) → MakesImage base map to d d1 (Err (making.Broken fault)) → StartsOnly IsCollectionSlot (BrokenCollection fault) d d1
+  broken_starts : (fault : Fault) → MakesImage base map to d d1 (Err (making.Broken fault)) → StartsOnly (names_with_map base map) IsCollectionSlot (BrokenCollection fault) d d1
   broken_starts fault w = record {
     none_twice = w.none_twice;
     no_others = λ slot other. elim (is_map slot) as (λ _. d1.starts slot ≡ d.starts slot) [
@@ -110,12 +110,13 @@ module _ (base map to : List ℕ) (d d1 : DepotState) where
       | inr no_map ↦ w.reads.other_starts slot (λ h. elim h [ inl c ↦ other c | inr m ↦ no_map m ])
     ];
     once = λ files memory. w.started_once (λ slot h. let bad : making.Broken fault ≡ making.Read slot = same_error _ _ h in cc) (λ h. let bad : making.Broken fault ≡ making.NoMemory = same_error _ _ h in cc);
+    in_turn = λ earlier later is lt. w.in_turn earlier later (inl is) lt;
     refusals = elim w.refusals_rise_only_there [ inl h ↦ let bad : making.Broken fault ≡ making.NoMemory = same_error _ _ h in cc | inr same ↦ inr same ];
   }
 
   module _ (error : ImageError) (w : MakesImage base map to d d1 (Err error)) where
     -- any other refusal has come to all four files, where no call and no memory was refused
-    all_starts : ((fault : Fault) → error ≢ making.Broken fault) → StartsOnly IsCollectionOrMap (unmade error) d d1
+    all_starts : ((fault : Fault) → error ≢ making.Broken fault) → StartsOnly (names_with_map base map) IsCollectionOrMap (unmade error) d d1
     all_starts sound = record {
       none_twice = w.none_twice;
       no_others = λ slot other. w.reads.other_starts slot other;
@@ -126,6 +127,7 @@ module _ (base map to : List ℕ) (d d1 : DepotState) where
             | inl c ↦ w.started_once not_read not_wanted slot c
             | inr m ↦ w.map_started_once not_read not_wanted (λ fault h. sound fault (same_error error (making.Broken fault) h)) slot m
           ];
+      in_turn = w.in_turn;
       refusals = elim w.refusals_rise_only_there [ inl h ↦ inl (ap unmade (same_error error making.NoMemory h)) | inr same ↦ inr same ];
     }
 
@@ -164,7 +166,7 @@ module _ (base map to : List ℕ) (d d1 : DepotState) (files : List NamedFile) (
   not_refused : (error : ImageError) → ◌≡◌ {A = Result (List NamedFile) ImageError} (Ok files) (Err error) → ⊥
   not_refused error h = cc
 
-  pub starts_made : (outcome : Outcome) → StartsOnly IsCollectionOrMap outcome d d1
+  pub starts_made : (outcome : Outcome) → StartsOnly (names_with_map base map) IsCollectionOrMap outcome d d1
   starts_made outcome = record {
     none_twice = w.none_twice;
     no_others = λ slot other. w.reads.other_starts slot other;
@@ -172,6 +174,7 @@ module _ (base map to : List ℕ) (d d1 : DepotState) (files : List NamedFile) (
       | inl c ↦ w.started_once (λ s. not_refused (making.Read s)) (not_refused making.NoMemory) slot c
       | inr m ↦ w.map_started_once (λ s. not_refused (making.Read s)) (not_refused making.NoMemory) (λ fault. not_refused (making.Broken fault)) slot m
     ];
+    in_turn = w.in_turn;
     refusals = inr (second w.refusals_rise_only_there (not_refused making.NoMemory));
   }
 

@@ -6,6 +6,7 @@ ghost use Rattle.command_ends.specs.Outside.{outside};
 ghost use Rattle.command_ends.specs.Outcome.{is_refusal};
 ghost use Rattle.command_ends.specs.Steps.Leaves.{Leaves};
 ghost use Rattle.command_ends.specs.Steps.Stops.{outcome_of};
+ghost use Rattle.collection_reader.specs.Starting.{names_under};
 ghost use Rattle.command_ends.specs.Starts.{StartsOnly};
 ghost use Rattle.collection_reader.specs.ReadCollection.{IsCollectionSlot};
 
@@ -30,7 +31,8 @@ pub fn answer<D: Depot, I: Source, O: Sink, L: Ledger>(
     out: &mut O,
     steps: &mut Steps<L>,
 ) -> Result<(), Stop>
-    ensures leaves { (e e' : SinkState) → Leaves (Answers base.now) (StartsOnly IsCollectionSlot)
+    ensures leaves { (e e' : SinkState)
+        → Leaves (Answers base.now) (StartsOnly (names_under base.now) IsCollectionSlot)
         (outside (D.state depot.old) (I.state input.old) (O.state out.old) e steps.old)
         (outside (D.state depot.new) (I.state input.new) (O.state out.new) e' steps.new)
         (outcome_of result) }

@@ -6,6 +6,7 @@ ghost use Rattle.pef_io.specs.SinkState.{SinkState};
 ghost use Rattle.command_ends.specs.Outside.{outside};
 ghost use Rattle.command_ends.specs.Steps.Leaves.{Leaves};
 ghost use Rattle.command_ends.specs.Steps.Stops.{outcome_of};
+ghost use Rattle.collection_reader.specs.Starting.{names_under};
 ghost use Rattle.command_ends.specs.Starts.{StartsOnly};
 ghost use Rattle.collection_commands.specs.Build.{Builds};
 ghost use Rattle.collection_reader.specs.ReadCollection.{IsCollectionSlot};
@@ -32,7 +33,7 @@ pub fn build<D: Depot, L: Ledger>(
 ) -> Result<(), Stop>
     requires plain { (numbers_of format).kind ≡ Plain }
     ensures { (i : SourceState) (o e e' : SinkState)
-        → Leaves (Builds format base.now index.now) (StartsOnly IsCollectionSlot)
+        → Leaves (Builds format base.now index.now) (StartsOnly (names_under base.now) IsCollectionSlot)
         (outside (D.state depot.old) i o e steps.old) (outside (D.state depot.new) i o e' steps.new)
         (outcome_of result) }
 {

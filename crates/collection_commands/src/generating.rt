@@ -1,4 +1,4 @@
-ghost use Rattle.std.specs.Prelude.{◌≡◌, IsTrue};
+ghost use Rattle.std.specs.Prelude.{◌≡◌, [], IsTrue};
 ghost use Rattle.pef_io.specs.DepotState.{DepotState};
 ghost use Rattle.pef_io.specs.SourceState.{SourceState};
 ghost use Rattle.pef_io.specs.SinkState.{SinkState};
@@ -28,7 +28,7 @@ pub fn generate<O: Sink, L: Ledger>(
     steps: &mut Steps<L>,
 ) -> Result<(), Stop>
     ensures leaves { (d : DepotState) (i : SourceState) (e e' : SinkState)
-        → Leaves (Generates seed documents terms) (StartsOnly (λ slot. ⊥))
+        → Leaves (Generates seed documents terms) (StartsOnly (λ slot. []) (λ slot. ⊥))
         (outside d i (O.state out.old) e steps.old) (outside d i (O.state out.new) e' steps.new)
         (outcome_of result) }
     ensures refused { IsTrue (is_refusal (outcome_of result)) → out.new ≡ out.old }

@@ -13,7 +13,7 @@ use Rattle.collection_reader.specs.declared.fault.CollError.{CollError}
 use Rattle.collection_reader.specs.declared.fault.CollError.TheVariants.{Broken, Read, NoMemory}
 use Rattle.collection_reader.specs.declared.whole.Lists.{Lists as ListVectors}
 use Rattle.collection_reader.specs.FirstFault.{IsPrefix, IsLongestPrefix, head_fault, end_fault, IsFaultBehind, IsFirstFault}
-use Rattle.collection_reader.specs.Starting.{StartsInOrder}
+use Rattle.collection_reader.specs.Starting.{StartsInOrder, names_under}
 use Rattle.collection_reader.specs.ReadCollection.{files_at, IsCollectionSlot, ReadsCollection}
 use Rattle.collection_reader.specs.Reading.{Reading, rests, IsReadFault, IsNextFault, OnlyReadsCollection, StartsReading, ReadsSizes}
 use Rattle.collection_reader.specs.ReadLists.{HaveBeenRead, IsFaultBehindLists, ReadsLists}
@@ -21,7 +21,7 @@ use Rattle.collection_reader.proofs.Prefixes.{longest-from_blocked, longest-from
 use Rattle.collection_reader.proofs.Breaks.{zero-not, blocked-by_fault}
 use Rattle.collection_reader.proofs.FirstFaults.{one-first_fault, spelled-no_fault, prefix-head, none-first, match_bool-cases}
 use Rattle.collection_reader.proofs.ListsRead.{calls-then, read_fault-then, no_fault-at_ok, no_refusal-at_ok, not-ok, stay_started}
-use Rattle.pef_io.proofs.OnlyReads.{OnlyReads-trans, NoneStartedTwice-then}
+use Rattle.pef_io.proofs.OnlyReads.{OnlyReads-trans, NoneStartedTwice-then, StartedOnce-then}
 use Rattle.collection_reader.proofs.Starts.{all-started}
 
 -- the files of a well-formed collection have no first fault, and files with one are of none
@@ -35,7 +35,7 @@ not-both format small files c fault good same broken =
 pub refused : (format : FormatNumbers) → format.most_documents < 2 ^ 32 → (old new : DepotState) (base : List ℕ) (answer : Result Collection CollError) (e : CollError) → answer ≡ Err e
     → (IsTrue old.tells → (fault : Fault) → e ≡ Broken fault → IsFirstFault format (files_at old base) (Some fault))
     → ((slot : Slot) → e ≡ Read slot → IsReadFault old new slot)
-    → OnlyReadsCollection old new answer → StartsInOrder old new e → NoneStartedTwice old new → ReadsCollection format old new base answer
+    → OnlyReadsCollection old new answer → StartsInOrder base old new e → NoneStartedTwice (names_under base) old new → ReadsCollection format old new base answer
 refused format small old new base answer e is first_fault read_fault calls order twice = record {
   well_formed = not-ok (WellFormed format) answer e is;
   spelled_so = λ told. not-ok (λ c. files_at old base ≡ spelled c) answer e is;
@@ -45,8 +45,8 @@ refused format small old new base answer e is first_fault read_fault calls order
   read_only_where_it_rose = λ slot h. read_fault slot cc;
   count_rises_only_there = calls.count_rises_only_there;
   reads = calls.reads;
-  in_order = subst (λ r. IfErr r (StartsInOrder old new)) (sym is) order;
-  started_once = subst (λ r. OnOk r (StartedOnce IsCollectionSlot old new)) (sym is) tt;
+  in_order = subst (λ r. IfErr r (StartsInOrder base old new)) (sym is) order;
+  started_once = subst (λ r. OnOk r (StartedOnce (names_under base) IsCollectionSlot old new)) (sym is) tt;
   none_twice = twice;
   refusals_rise_only_there = calls.refusals_rise_only_there;
 }
@@ -69,7 +69,7 @@ start-refused format small old new base result e answer starts is answered =
     (λ told fault h. some-first (head_fault format (files_at old base).docs) _ fault (starts.first_fault told fault cc))
     (λ slot h. starts.read_only_where_it_rose slot cc)
     (same-calls old new result answer (λ slot h. cc) (λ h. cc) starts.depot)
-    (subst (λ r. IfErr r (StartsInOrder old new)) is starts.in_order)
+    (subst (λ r. IfErr r (StartsInOrder base old new)) is starts.in_order)
     starts.none_twice
 
 -- the prefix of the files that some lists behind the head are
@@ -118,8 +118,8 @@ lists-refused format small old start new base first now result e answer starts r
     next-faulty format small (files_at old base) first.documents found.lists found.docs_rest found.freqs_rest fault (prefix-read format old start base first found.lists found.docs_rest found.freqs_rest starts told found.within found.each found.docs found.freqs) found.next)
     (λ slot h. read_fault-then old start new slot (no_fault slot) (reads.read_only_where_it_rose slot cc))
     (calls-then old start new result answer no_fault (no_refusal-at_ok old start (Ok first) first refl starts.depot) starts.depot.reads reads.depot (λ slot h. cc) (λ h. cc))
-    (all-started old new e (record { started = stay_started start new starts.started reads.depot.reads; once = λ slot is. reads.starts slot ∙ starts.started_once slot is }))
-    (NoneStartedTwice-then old start new starts.none_twice reads.starts)
+    (all-started base old new e (record { started = stay_started start new starts.started reads.depot.reads; once = StartedOnce-then (names_under base) IsCollectionSlot old start new starts.started_once reads.starts }))
+    (NoneStartedTwice-then (names_under base) old start new starts.none_twice reads.starts)
 
 -- what is left once all lists are read
 record AllListsRead (format : FormatNumbers) (old start between : DepotState) (base : List ℕ) (now : Reading) (lists : List (List Posting)) : Type 0 where
@@ -133,8 +133,8 @@ record AllListsRead (format : FormatNumbers) (old start between : DepotState) (b
   no_fault : (slot : Slot) → between.faults slot ≡ old.faults slot
   no_refusal : between.refusals ≡ old.refusals
   reads : OnlyReads IsCollectionSlot old between
-  once : StartedOnce IsCollectionSlot old between
-  twice : NoneStartedTwice old between
+  once : StartedOnce (names_under base) IsCollectionSlot old between
+  twice : NoneStartedTwice (names_under base) old between
 
 all-lists : (format : FormatNumbers) (old start between : DepotState) (base : List ℕ) (first now : Reading) (lists : List (List Posting)) → StartsReading format old start base (Ok first) → HaveBeenRead first now start between lists
     → (IsTrue start.tells → (rests now between).docs ≡ []) → AllListsRead format old start between base now lists
@@ -154,8 +154,8 @@ all-lists format old start between base first now lists starts given ended =
       no_fault = λ slot. given.no_fault slot ∙ no_fault-at_ok old start (Ok first) first refl starts.depot slot;
       no_refusal = given.no_refusal ∙ no_refusal-at_ok old start (Ok first) first refl starts.depot;
       reads = OnlyReads-trans starts.depot.reads given.reads;
-      once = λ slot is. given.starts slot ∙ starts.started_once slot is;
-      twice = NoneStartedTwice-then old start between starts.none_twice given.starts;
+      once = StartedOnce-then (names_under base) IsCollectionSlot old start between starts.started_once given.starts;
+      twice = NoneStartedTwice-then (names_under base) old start between starts.none_twice given.starts;
     }
 
 -- where the sizes are refused
@@ -172,8 +172,8 @@ sizes-refused format small old start between new base first now last lists sizes
     fault-behind format small (files_at old base) now.documents lists [] (rests now between).freqs fault (longest-from_blocked format small (files_at old base) now.documents lists [] (rests now between).freqs prefix (blocked-at_end format now.documents (rests now between).freqs)) behind)
     (λ slot h. read_fault-then old between new slot (read.no_fault slot) (reads.read_only_where_it_rose read.refusal slot cc))
     (calls-then old between new result answer read.no_fault read.no_refusal read.reads reads.depot (λ slot h. cc) (λ h. cc))
-    (all-started old new e (record { started = stay_started between new (stay_started start between starts.started before.reads) reads.depot.reads; once = λ slot is. reads.starts slot ∙ read.once slot is }))
-    (NoneStartedTwice-then old between new read.twice reads.starts)
+    (all-started base old new e (record { started = stay_started between new (stay_started start between starts.started before.reads) reads.depot.reads; once = StartedOnce-then (names_under base) IsCollectionSlot old between new read.once reads.starts }))
+    (NoneStartedTwice-then (names_under base) old between new read.twice reads.starts)
 
 -- where all is read
 pub all-read : (format : FormatNumbers) → format.most_documents < 2 ^ 32 → (old start between new : DepotState) (base : List ℕ) (first now last : Reading) (lists : List (List Posting)) (n : ℕ) (sizes : List ℕ) (c : Collection)
@@ -205,7 +205,7 @@ all-read format small old start between new base first now last lists n sizes c 
       count_rises_only_there = calls.count_rises_only_there;
       reads = calls.reads;
       in_order = tt;
-      started_once = λ slot is. reads.starts slot ∙ read.once slot is;
-      none_twice = NoneStartedTwice-then old between new read.twice reads.starts;
+      started_once = StartedOnce-then (names_under base) IsCollectionSlot old between new read.once reads.starts;
+      none_twice = NoneStartedTwice-then (names_under base) old between new read.twice reads.starts;
       refusals_rise_only_there = calls.refusals_rise_only_there;
     }

@@ -9,13 +9,14 @@ use Rattle.collection_reader.specs.declared.fault.CollError.TheVariants.{NoMemor
 use Rattle.collection_reader.specs.declared.phase.Phase.{Phase}
 use Rattle.collection_reader.specs.declared.phase.Phase.TheVariants.{Lists}
 use Rattle.collection_reader.specs.declared.whole.Lists.{Lists as ListVectors}
-use Rattle.collection_reader.specs.ReadCollection.{ReadsCollection}
+use Rattle.collection_reader.specs.Starting.{names_under}
+use Rattle.collection_reader.specs.ReadCollection.{ReadsCollection, IsCollectionSlot}
 use Rattle.collection_reader.specs.Reading.{Reading, rests, after_lists, StartsReading, ReadsList, ReadsSizes}
 use Rattle.collection_reader.specs.ReadLists.{ReadsLists}
 use Rattle.collection_reader.specs.InTurn.{HasRead, HasReadAll, ReadsInTurn}
 use Rattle.collection_reader.proofs.ListsRead.{nothing-read, read-more, read-end, answered-list, stay_started, no_fault-at_ok, list-refused}
 use Rattle.collection_reader.proofs.CollectionRead.{refused, start-refused, lists-refused, sizes-refused, all-read}
-use Rattle.pef_io.proofs.OnlyReads.{OnlyReads-trans, NoneStartedTwice-then}
+use Rattle.pef_io.proofs.OnlyReads.{OnlyReads-trans, NoneStartedTwice-then, StartedOnce-then}
 
 started-reading : (format : FormatNumbers) (base : List ℕ) (old new : DepotState) (r : Reading) → StartsReading format old new base (Ok r) → HasRead format base old new r [] Lists
 started-reading format base old new r starts = record {
@@ -96,8 +97,8 @@ stopped-reading format small base old between now lists phase has =
       reads = OnlyReads-trans has.starts.depot.reads has.read.reads;
       refusals_rise_only_there = inl refl;
     })
-    (inl (record { started = has.started; once = λ slot is. has.read.starts slot ∙ has.starts.started_once slot is }))
-    (NoneStartedTwice-then old has.start between has.starts.none_twice has.read.starts)
+    (inl (record { started = has.started; once = StartedOnce-then (names_under base) IsCollectionSlot old has.start between has.starts.started_once has.read.starts }))
+    (NoneStartedTwice-then (names_under base) old has.start between has.starts.none_twice has.read.starts)
 
 pub reads-in_turn : (format : FormatNumbers) → format.most_documents < 2 ^ 32 → ReadsInTurn format
 reads-in_turn format small = record {

@@ -18,6 +18,7 @@ mod Refusals
 pub mod Aligned
 mod ListsRead
 mod CollectionRead
+pub mod InOrder
 mod InTurn
 mod Rows
 mod WholeFaults

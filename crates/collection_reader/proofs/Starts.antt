@@ -3,12 +3,11 @@ use Rattle.std.proofs.Common.{◌≡◌, refl, ◌∙◌, sym, ap, subst, ℕ, �
 use Rattle.std.specs.Prelude.{unwrap_or, codes}
 use Rattle.pef_io.specs.declared.fail.Slot.{Slot}
 use Rattle.pef_io.specs.declared.fail.Slot.TheVariants.{Docs, Freqs, Sizes, Index, Side, Map}
-use Rattle.pef_io.specs.DepotState.{DepotState, StartedOnce, NoneStartedTwice, OnlyReads}
-use Rattle.pef_io.specs.Calls.{one_more}
+use Rattle.pef_io.specs.DepotState.{DepotState, StartedOnce, NoneStartedTwice, OnlyReads, WasStartedAs}
 use Rattle.collection_reader.specs.declared.fault.Fault.{Fault}
 use Rattle.collection_reader.specs.declared.fault.CollError.{CollError}
 use Rattle.collection_reader.specs.declared.fault.CollError.TheVariants.{Broken, Read, NoMemory}
-use Rattle.collection_reader.specs.Starting.{IsCollectionSlot, WereStarted, turn, StopsAt, StartsInOrder}
+use Rattle.collection_reader.specs.Starting.{IsCollectionSlot, WereStarted, turn, names_under, StopsAt, StartsInOrder}
 use Rattle.collection_reader.specs.Reading.{Reading, IsListSlot, IsEndSlot, StartsReading}
 use Rattle.collection_reader.specs.FirstFault.{head_fault}
 use Rattle.collection_model.specs.FormatNumbers.{FormatNumbers}
@@ -16,7 +15,7 @@ use Rattle.collection_reader.specs.OneFile.{StartsFrom}
 use Rattle.collection_reader.specs.OneSequence.{ReadsHead}
 use Rattle.collection_reader.specs.OneReader.{StartsFile, StartsFiles}
 use Rattle.collection_reader.proofs.SameAnswer.{same-fault}
-use Rattle.pef_io.proofs.OnlyReads.{OnlyReads-trans, OnlyReads-wider, NoneStartedTwice-same, NoneStartedTwice-then, NoneStartedTwice-start}
+use Rattle.pef_io.proofs.OnlyReads.{OnlyReads-trans, OnlyReads-wider, NoneStartedTwice-same, NoneStartedTwice-then, NoneStartedTwice-start, StartedOnce-then, was-started-then, then-was-started}
 use Rattle.collection_reader.proofs.ReadsFrom.{as-starts, starts-then, starts-wider, starts-err}
 
 -- the slots of a collection, and that they differ
@@ -60,22 +59,22 @@ pub sizes-last : (slot : Slot) → slot ≡ Sizes → IsEndSlot slot
 sizes-last slot is = inr is
 
 -- a refusal with all three started
-pub all-started : (old new : DepotState) (e : CollError) → WereStarted old new → StartsInOrder old new e
-all-started old new (Broken fault) started = started
-all-started old new (Read slot) started = inl started
-all-started old new NoMemory started = inl started
+pub all-started : (base : List ℕ) (old new : DepotState) (e : CollError) → WereStarted base old new → StartsInOrder base old new e
+all-started base old new (Broken fault) started = started
+all-started base old new (Read slot) started = inl started
+all-started base old new NoMemory started = inl started
 
 read-not_want : (s : Slot) → (let r : Result (Unit {0}) CollError = Err (Read s) in r ≡ Err NoMemory) → ⊥
 read-not_want s h = cc
 
 -- the refusal of a start where the slots before are started, and those behind are as they were
-stopped : (old new : DepotState) (slot : Slot) (e : CollError) → ((fault : Fault) → (let r : Result (Unit {0}) CollError = Err e in r ≡ Err (Broken fault)) → ⊥)
-    → ((s : Slot) → (let r : Result (Unit {0}) CollError = Err e in r ≡ Err (Read s)) → s ≡ slot) → StopsAt old new slot
-    → (let r : Result (Unit {0}) CollError = Err e in (r ≡ Err NoMemory) ⊎ (new.starts slot ≡ one_more (old.starts slot))) → StartsInOrder old new e
-stopped old new slot (Broken fault) no_fault named stops once = absurd (no_fault fault refl)
-stopped old new slot (Read s) no_fault named stops once =
-    inr (subst (λ x. StopsAt old new x × (new.starts x ≡ one_more (old.starts x))) (sym (named s refl)) (stops, elim once [ inl h ↦ absurd (read-not_want s h) | inr o ↦ o ]))
-stopped old new slot NoMemory no_fault named stops once = inr (slot, stops)
+stopped : (base : List ℕ) (old new : DepotState) (slot : Slot) (e : CollError) → ((fault : Fault) → (let r : Result (Unit {0}) CollError = Err e in r ≡ Err (Broken fault)) → ⊥)
+    → ((s : Slot) → (let r : Result (Unit {0}) CollError = Err e in r ≡ Err (Read s)) → s ≡ slot) → StopsAt base old new slot
+    → (let r : Result (Unit {0}) CollError = Err e in (r ≡ Err NoMemory) ⊎ WasStartedAs (names_under base slot) slot old new) → StartsInOrder base old new e
+stopped base old new slot (Broken fault) no_fault named stops once = absurd (no_fault fault refl)
+stopped base old new slot (Read s) no_fault named stops once =
+    inr (subst (λ x. StopsAt base old new x × WasStartedAs (names_under base x) x old new) (sym (named s refl)) (stops, elim once [ inl h ↦ absurd (read-not_want s h) | inr o ↦ o ]))
+stopped base old new slot NoMemory no_fault named stops once = inr (slot, stops)
 
 not-in_turn : (slot other : Slot) → turn slot < turn other → other ≡ slot → ⊥
 not-in_turn slot other lt e = omega (arith, lt, ap turn e)
@@ -101,12 +100,12 @@ two-before P Side docs freqs lt = absurd (omega (arith, lt))
 two-before P Map docs freqs lt = absurd (omega (arith, lt))
 
 -- what is known of a slot before this one
-abbrev WasStarted : DepotState → DepotState → Slot → Type 0
-WasStarted old new slot = IsTrue (new.started slot) × (new.starts slot ≡ one_more (old.starts slot))
+abbrev WasStarted : List ℕ → DepotState → DepotState → Slot → Type 0
+WasStarted base old new slot = IsTrue (new.started slot) × WasStartedAs (names_under base slot) slot old new
 
 -- calls on this slot and those before it leave those behind it as they were
-stops-at : {a b : DepotState} (slot : Slot) → ((earlier : Slot) → turn earlier < turn slot → WasStarted a b earlier) → OnlyReads (λ s. turn s ≤ turn slot) a b → StopsAt a b slot
-stops-at slot before reads = record {
+stops-at : (base : List ℕ) {a b : DepotState} (slot : Slot) → ((earlier : Slot) → turn earlier < turn slot → WasStarted base a b earlier) → OnlyReads (λ s. turn s ≤ turn slot) a b → StopsAt base a b slot
+stops-at base slot before reads = record {
   before = λ earlier lt. (before earlier lt).0;
   behind = λ later lt. reads.other_slots later (λ le. omega (arith, lt, le));
   counts_behind = λ later lt. reads.other_counts later (λ le. omega (arith, lt, le));
@@ -119,7 +118,7 @@ in-turn slot last le s e = omega (arith, le, ap turn e)
 
 -- the answer is a failed call, after calls that did not fail
 start_refused : (base : List ℕ) (a b : DepotState) (e : CollError) → ((fault : Fault) → (let r : Result (Unit {0}) CollError = Err e in r ≡ Err (Broken fault)) → ⊥)
-    → (let r : Result (Unit {0}) CollError = Err e in StartsFrom IsCollectionSlot a b r) → StartsInOrder a b e → NoneStartedTwice a b → StartsFiles base a b (Err e)
+    → (let r : Result (Unit {0}) CollError = Err e in StartsFrom IsCollectionSlot a b r) → StartsInOrder base a b e → NoneStartedTwice (names_under base) a b → StartsFiles base a b (Err e)
 start_refused base a b e no_fault reads order twice = record {
   started = tt;
   docs = λ t. tt;
@@ -133,78 +132,90 @@ start_refused base a b e no_fault reads order twice = record {
 }
 
 -- one file after another, none of them twice
-docs-twice : (docs : List ℕ) (a b : DepotState) (r : Result (Unit {0}) CollError) → StartsFile Docs docs a b r → NoneStartedTwice a b
-docs-twice docs a b r one = NoneStartedTwice-start a a b Docs (NoneStartedTwice-same a) refl one.depot.only one.not_twice
+docs-twice : (base : List ℕ) (a b : DepotState) (r : Result (Unit {0}) CollError) → StartsFile Docs (names_under base Docs) a b r → NoneStartedTwice (names_under base) a b
+docs-twice base a b r one = NoneStartedTwice-start (names_under base) a a b Docs (NoneStartedTwice-same (names_under base) a) refl one.depot.only one.not_twice
 
-freqs-twice : (docs freqs : List ℕ) (a b c : DepotState) (r : Result (Unit {0}) CollError) → StartsFile Docs docs a b (Ok tt) → StartsFile Freqs freqs b c r → NoneStartedTwice a c
-freqs-twice docs freqs a b c r one two = NoneStartedTwice-start a b c Freqs (docs-twice docs a b (Ok tt) one) (one.depot.only.other_starts Freqs freqs-not_docs) two.depot.only two.not_twice
+freqs-twice : (base : List ℕ) (a b c : DepotState) (r : Result (Unit {0}) CollError) → StartsFile Docs (names_under base Docs) a b (Ok tt) → StartsFile Freqs (names_under base Freqs) b c r → NoneStartedTwice (names_under base) a c
+freqs-twice base a b c r one two = NoneStartedTwice-start (names_under base) a b c Freqs (docs-twice base a b (Ok tt) one) (one.depot.only.other_starts Freqs freqs-not_docs) two.depot.only two.not_twice
 
-sizes-twice : (docs freqs sizes : List ℕ) (a b c d : DepotState) (r : Result (Unit {0}) CollError) → StartsFile Docs docs a b (Ok tt) → StartsFile Freqs freqs b c (Ok tt) → StartsFile Sizes sizes c d r → NoneStartedTwice a d
-sizes-twice docs freqs sizes a b c d r one two three =
-    NoneStartedTwice-start a c d Sizes (freqs-twice docs freqs a b c (Ok tt) one two) (two.depot.only.other_starts Sizes sizes-not_freqs ∙ one.depot.only.other_starts Sizes sizes-not_docs) three.depot.only three.not_twice
+sizes-twice : (base : List ℕ) (a b c d : DepotState) (r : Result (Unit {0}) CollError) → StartsFile Docs (names_under base Docs) a b (Ok tt) → StartsFile Freqs (names_under base Freqs) b c (Ok tt) → StartsFile Sizes (names_under base Sizes) c d r
+    → NoneStartedTwice (names_under base) a d
+sizes-twice base a b c d r one two three =
+    NoneStartedTwice-start (names_under base) a c d Sizes (freqs-twice base a b c (Ok tt) one two) (two.depot.only.other_starts Sizes sizes-not_freqs ∙ one.depot.only.other_starts Sizes sizes-not_docs) three.depot.only three.not_twice
 
 -- a file that was started is started once
-once-at_ok : (slot : Slot) (name : List ℕ) (a b : DepotState) → StartsFile slot name a b (Ok tt) → b.starts slot ≡ one_more (a.starts slot)
+once-at_ok : (slot : Slot) (name : List ℕ) (a b : DepotState) → StartsFile slot name a b (Ok tt) → WasStartedAs name slot a b
 once-at_ok slot name a b one = elim one.started_once [ inl h ↦ absurd (ok-not_want h) | inr o ↦ o ]
   where
     ok-not_want : (let r : Result (Unit {0}) CollError = Ok tt in r ≡ Err NoMemory) → ⊥
     ok-not_want h = cc
 
 -- as long as the slots behind it are started
-docs-once : (docs freqs : List ℕ) (a b c : DepotState) (r : Result (Unit {0}) CollError) → StartsFile Docs docs a b (Ok tt) → StartsFile Freqs freqs b c r → WasStarted a c Docs
-docs-once docs freqs a b c r one two = (two.depot.only.stay_started Docs one.started, two.depot.only.other_starts Docs docs-not_freqs ∙ once-at_ok Docs docs a b one)
-
-docs-still_once : (sizes : List ℕ) (a c d : DepotState) (r : Result (Unit {0}) CollError) → WasStarted a c Docs → StartsFile Sizes sizes c d r → WasStarted a d Docs
-docs-still_once sizes a c d r before three = (three.depot.only.stay_started Docs before.0, three.depot.only.other_starts Docs docs-not_sizes ∙ before.1)
-
-freqs-once : (docs freqs sizes : List ℕ) (a b c d : DepotState) (r : Result (Unit {0}) CollError) → StartsFile Docs docs a b (Ok tt) → StartsFile Freqs freqs b c (Ok tt) → StartsFile Sizes sizes c d r → WasStarted a d Freqs
-freqs-once docs freqs sizes a b c d r one two three = (
-  three.depot.only.stay_started Freqs two.started,
-  three.depot.only.other_starts Freqs freqs-not_sizes ∙ once-at_ok Freqs freqs b c two ∙ ap one_more (one.depot.only.other_starts Freqs freqs-not_docs),
+docs-once : (base : List ℕ) (a b c : DepotState) (r : Result (Unit {0}) CollError) → StartsFile Docs (names_under base Docs) a b (Ok tt) → StartsFile Freqs (names_under base Freqs) b c r → WasStarted base a c Docs
+docs-once base a b c r one two = (
+  two.depot.only.stay_started Docs one.started,
+  was-started-then (names_under base Docs) Docs a b c (once-at_ok Docs (names_under base Docs) a b one) (two.depot.only.other_starts Docs docs-not_freqs),
 )
 
--- a refusal names its slot, which was started once
-pub docs_refused : (base docs : List ℕ) (a b : DepotState) (e : CollError) → StartsFile Docs docs a b (Err e) → StartsFiles base a b (Err e)
-docs_refused base docs a b e one =
-    start_refused base a b e one.no_fault (starts-wider docs-is one.depot)
-    (stopped a b Docs e one.no_fault (λ s h. (one.depot.read_only_where_it_rose s h).0)
-    (stops-at Docs (none-before (WasStarted a b)) (OnlyReads-wider (in-turn Docs Docs (omega arith)) one.depot.only)) one.started_once)
-    (docs-twice docs a b (Err e) one)
+docs-still_once : (base : List ℕ) (a c d : DepotState) (r : Result (Unit {0}) CollError) → WasStarted base a c Docs → StartsFile Sizes (names_under base Sizes) c d r → WasStarted base a d Docs
+docs-still_once base a c d r before three = (
+  three.depot.only.stay_started Docs before.0,
+  was-started-then (names_under base Docs) Docs a c d before.1 (three.depot.only.other_starts Docs docs-not_sizes),
+)
 
-pub freqs_refused : (base docs freqs : List ℕ) (a b c : DepotState) (e : CollError) → StartsFile Docs docs a b (Ok tt) → StartsFile Freqs freqs b c (Err e) → StartsFiles base a c (Err e)
-freqs_refused base docs freqs a b c e one two =
+freqs-only : (base : List ℕ) (a b c : DepotState) → StartsFile Docs (names_under base Docs) a b (Ok tt) → WasStartedAs (names_under base Freqs) Freqs b c → WasStartedAs (names_under base Freqs) Freqs a c
+freqs-only base a b c one two = then-was-started (names_under base Freqs) Freqs a b c (one.depot.only.other_starts Freqs freqs-not_docs) two
+
+freqs-once : (base : List ℕ) (a b c d : DepotState) (r : Result (Unit {0}) CollError) → StartsFile Docs (names_under base Docs) a b (Ok tt) → StartsFile Freqs (names_under base Freqs) b c (Ok tt) → StartsFile Sizes (names_under base Sizes) c d r
+    → WasStarted base a d Freqs
+freqs-once base a b c d r one two three = (
+  three.depot.only.stay_started Freqs two.started,
+  was-started-then (names_under base Freqs) Freqs a c d (freqs-only base a b c one (once-at_ok Freqs (names_under base Freqs) b c two)) (three.depot.only.other_starts Freqs freqs-not_sizes),
+)
+
+sizes-only : (base : List ℕ) (a b c d : DepotState) → StartsFile Docs (names_under base Docs) a b (Ok tt) → StartsFile Freqs (names_under base Freqs) b c (Ok tt) → WasStartedAs (names_under base Sizes) Sizes c d → WasStartedAs (names_under base Sizes) Sizes a d
+sizes-only base a b c d one two three =
+    then-was-started (names_under base Sizes) Sizes a c d (two.depot.only.other_starts Sizes sizes-not_freqs ∙ one.depot.only.other_starts Sizes sizes-not_docs) three
+
+-- a refusal names its slot, which was started once
+pub docs_refused : (base : List ℕ) (a b : DepotState) (e : CollError) → StartsFile Docs (names_under base Docs) a b (Err e) → StartsFiles base a b (Err e)
+docs_refused base a b e one =
+    start_refused base a b e one.no_fault (starts-wider docs-is one.depot)
+    (stopped base a b Docs e one.no_fault (λ s h. (one.depot.read_only_where_it_rose s h).0)
+    (stops-at base Docs (none-before (WasStarted base a b)) (OnlyReads-wider (in-turn Docs Docs (omega arith)) one.depot.only)) one.started_once)
+    (docs-twice base a b (Err e) one)
+
+pub freqs_refused : (base : List ℕ) (a b c : DepotState) (e : CollError) → StartsFile Docs (names_under base Docs) a b (Ok tt) → StartsFile Freqs (names_under base Freqs) b c (Err e) → StartsFiles base a c (Err e)
+freqs_refused base a b c e one two =
     start_refused base a c e two.no_fault (starts-then (starts-wider docs-is one.depot) (starts-wider freqs-is two.depot))
-    (stopped a c Freqs e two.no_fault (λ s h. (two.depot.read_only_where_it_rose s h).0)
-    (stops-at Freqs (λ s. docs-before (WasStarted a c) s (docs-once docs freqs a b c (Err e) one two))
+    (stopped base a c Freqs e two.no_fault (λ s h. (two.depot.read_only_where_it_rose s h).0)
+    (stops-at base Freqs (λ s. docs-before (WasStarted base a c) s (docs-once base a b c (Err e) one two))
     (OnlyReads-trans (OnlyReads-wider (in-turn Docs Freqs (omega arith)) one.depot.only) (OnlyReads-wider (in-turn Freqs Freqs (omega arith)) two.depot.only)))
-    (elim two.started_once [ inl h ↦ inl h | inr o ↦ inr (o ∙ ap one_more (one.depot.only.other_starts Freqs freqs-not_docs)) ]))
-    (freqs-twice docs freqs a b c (Err e) one two)
+    (elim two.started_once [ inl h ↦ inl h | inr o ↦ inr (freqs-only base a b c one o) ]))
+    (freqs-twice base a b c (Err e) one two)
 
 -- the last file is started behind the other two
-pub all_started : (base : List ℕ) (a b c d : DepotState) (r : Result (Unit {0}) CollError) → StartsFile Docs (base ++ codes ".docs") a b (Ok tt) → StartsFile Freqs (base ++ codes ".freqs") b c (Ok tt)
-    → StartsFile Sizes (base ++ codes ".sizes") c d r → StartsFiles base a d r
+pub all_started : (base : List ℕ) (a b c d : DepotState) (r : Result (Unit {0}) CollError) → StartsFile Docs (names_under base Docs) a b (Ok tt) → StartsFile Freqs (names_under base Freqs) b c (Ok tt)
+    → StartsFile Sizes (names_under base Sizes) c d r → StartsFiles base a d r
 all_started base a b c d (Err e) one two three =
     let p = one.depot.only in
     let q = two.depot.only in
     let s = three.depot.only in
-    let docs = docs-still_once (base ++ codes ".sizes") a c d (Err e) (docs-once (base ++ codes ".docs") (base ++ codes ".freqs") a b c (Ok tt) one two) three in
-    let freqs = freqs-once (base ++ codes ".docs") (base ++ codes ".freqs") (base ++ codes ".sizes") a b c d (Err e) one two three in
+    let docs = docs-still_once base a c d (Err e) (docs-once base a b c (Ok tt) one two) three in
+    let freqs = freqs-once base a b c d (Err e) one two three in
     start_refused base a d e three.no_fault (starts-then (starts-then (starts-wider docs-is one.depot) (starts-wider freqs-is two.depot)) (starts-wider sizes-is three.depot))
-    (stopped a d Sizes e three.no_fault (λ s h. (three.depot.read_only_where_it_rose s h).0)
-    (stops-at Sizes (λ slot. two-before (WasStarted a d) slot docs freqs)
+    (stopped base a d Sizes e three.no_fault (λ s h. (three.depot.read_only_where_it_rose s h).0)
+    (stops-at base Sizes (λ slot. two-before (WasStarted base a d) slot docs freqs)
     (OnlyReads-trans (OnlyReads-trans (OnlyReads-wider (in-turn Docs Sizes (omega arith)) p) (OnlyReads-wider (in-turn Freqs Sizes (omega arith)) q)) (OnlyReads-wider (in-turn Sizes Sizes (omega arith)) s)))
-    (elim three.started_once [ inl h ↦ inl h | inr o ↦ inr (o ∙ ap one_more (q.other_starts Sizes sizes-not_freqs ∙ p.other_starts Sizes sizes-not_docs)) ]))
-    (sizes-twice (base ++ codes ".docs") (base ++ codes ".freqs") (base ++ codes ".sizes") a b c d (Err e) one two three)
+    (elim three.started_once [ inl h ↦ inl h | inr o ↦ inr (sizes-only base a b c d one two o) ]))
+    (sizes-twice base a b c d (Err e) one two three)
 all_started base a b c d (Ok x) one two three =
     let p = one.depot.only in
     let q = two.depot.only in
     let s = three.depot.only in
-    let docs_name = base ++ codes ".docs" in
-    let freqs_name = base ++ codes ".freqs" in
-    let sizes_name = base ++ codes ".sizes" in
-    let docs_once = docs-still_once sizes_name a c d (Ok x) (docs-once docs_name freqs_name a b c (Ok tt) one two) three in
-    let freqs_once = freqs-once docs_name freqs_name sizes_name a b c d (Ok x) one two three in
-    let sizes_once = once-at_ok Sizes sizes_name c d three ∙ ap one_more (q.other_starts Sizes sizes-not_freqs ∙ p.other_starts Sizes sizes-not_docs) in
+    let docs_once = docs-still_once base a c d (Ok x) (docs-once base a b c (Ok tt) one two) three in
+    let freqs_once = freqs-once base a b c d (Ok x) one two three in
+    let sizes_once = sizes-only base a b c d one two (once-at_ok Sizes (names_under base Sizes) c d three) in
     record {
       started = record {
         docs = s.stay_started Docs (q.stay_started Docs one.started);
@@ -226,14 +237,14 @@ all_started base a b c d (Ok x) one two three =
       no_fault = three.no_fault;
       depot = starts-then (starts-then (starts-wider docs-is one.depot) (starts-wider freqs-is two.depot)) (starts-wider sizes-is three.depot);
       in_order = tt;
-      started_once = λ slot is. all-once a d docs_once.1 freqs_once.1 sizes_once slot is;
-      none_twice = sizes-twice docs_name freqs_name sizes_name a b c d (Ok x) one two three;
+      started_once = λ slot is. all-once slot docs_once.1 freqs_once.1 sizes_once is;
+      none_twice = sizes-twice base a b c d (Ok x) one two three;
     }
   where
-    all-once : (a d : DepotState) → d.starts Docs ≡ one_more (a.starts Docs) → d.starts Freqs ≡ one_more (a.starts Freqs) → d.starts Sizes ≡ one_more (a.starts Sizes) → StartedOnce IsCollectionSlot a d
-    all-once a d docs freqs sizes slot (inl is) = ap d.starts is ∙ docs ∙ ap (λ s. one_more (a.starts s)) (sym is)
-    all-once a d docs freqs sizes slot (inr (inl is)) = ap d.starts is ∙ freqs ∙ ap (λ s. one_more (a.starts s)) (sym is)
-    all-once a d docs freqs sizes slot (inr (inr is)) = ap d.starts is ∙ sizes ∙ ap (λ s. one_more (a.starts s)) (sym is)
+    all-once : (slot : Slot) → WasStartedAs (names_under base Docs) Docs a d → WasStartedAs (names_under base Freqs) Freqs a d → WasStartedAs (names_under base Sizes) Sizes a d → IsCollectionSlot slot → WasStartedAs (names_under base slot) slot a d
+    all-once slot docs freqs sizes (inl is) = subst (λ s. WasStartedAs (names_under base s) s a d) (sym is) docs
+    all-once slot docs freqs sizes (inr (inl is)) = subst (λ s. WasStartedAs (names_under base s) s a d) (sym is) freqs
+    all-once slot docs freqs sizes (inr (inr is)) = subst (λ s. WasStartedAs (names_under base s) s a d) (sym is) sizes
 
 -- a refusal before or in the head
 pub reading_refused : (format : FormatNumbers) (base : List ℕ) (a b : DepotState) (e : CollError) → StartsFiles base a b (Err e) → StartsReading format a b base (Err e)
@@ -270,15 +281,15 @@ head_refused format base held a b c e starts head =
       first_fault = λ t fault h. ap (λ bytes. head_fault format bytes) (sym (starts.docs t)) ∙ head.first_fault (starts.depot.only.tells ∙ t) fault (same-fault {A = Reading} {B = ℕ} e fault h);
       read_only_where_it_rose = reads.read_only_where_it_rose;
       depot = record { count_rises_only_there = reads.count_rises_only_there; reads = reads.only; refusals_rise_only_there = reads.refusals_rise_only_there };
-      in_order = all-started a c e (record {
+      in_order = all-started base a c e (record {
         started = record {
           docs = head.depot.only.stay_started Docs starts.started.docs;
           freqs = head.depot.only.stay_started Freqs starts.started.freqs;
           sizes = head.depot.only.stay_started Sizes starts.started.sizes;
         };
-        once = λ slot is. head.depot.starts slot ∙ starts.started_once slot is;
+        once = StartedOnce-then (names_under base) IsCollectionSlot a b c starts.started_once head.depot.starts;
       });
       fault_term = λ fault h. head.fault_term fault (same-fault {A = Reading} {B = ℕ} e fault h);
       started_once = tt;
-      none_twice = NoneStartedTwice-then a b c starts.none_twice head.depot.starts;
+      none_twice = NoneStartedTwice-then (names_under base) a b c starts.none_twice head.depot.starts;
     }

@@ -2,13 +2,12 @@ use Rattle.std.specs.Prelude.{◌≡◌, ℕ, ◌≤◌, ◌⊎◌, Bool, true, 
 use Rattle.collection_model.specs.Bytes.{number_sequence}
 use Rattle.pef_io.specs.declared.fail.Slot.{Slot}
 use Rattle.pef_io.specs.declared.fail.Slot.TheVariants.{Docs, Freqs, Sizes}
-use Rattle.pef_io.specs.Calls.{one_more}
-use Rattle.pef_io.specs.DepotState.{DepotState, StartedOnce, NoneStartedTwice, OnlyReads, bytes_under}
+use Rattle.pef_io.specs.DepotState.{DepotState, StartedOnce, NoneStartedTwice, OnlyReads, WasStartedAs, bytes_under}
 use Rattle.collection_reader.specs.declared.fault.Fault.{Fault}
 use Rattle.collection_reader.specs.declared.fault.CollError.{CollError}
 use Rattle.collection_reader.specs.declared.fault.CollError.TheVariants.{Broken, NoMemory}
 use Rattle.collection_reader.specs.FirstFault.{end_fault}
-use Rattle.collection_reader.specs.Starting.{IsCollectionSlot, AreStarted, StartsInOrder}
+use Rattle.collection_reader.specs.Starting.{IsCollectionSlot, AreStarted, StartsInOrder, names_under}
 use Rattle.collection_reader.specs.ReadCollection.{files_at}
 use Rattle.collection_reader.specs.Reading.{Reading, rests, IsListSlot, IsEndSlot, IsNextFault, GivesList, EndsLists}
 use Rattle.collection_reader.specs.OneFile.{StartsFrom, ReadsFrom}
@@ -19,8 +18,8 @@ pub record StartsFile (slot : Slot) (name : List ℕ) (old new : DepotState) (re
   pub whole_file : IsTrue old.tells → OnOk result (new.left slot ≡ bytes_under old name)
   pub no_fault : (fault : Fault) → result ≡ Err (Broken fault) → ⊥
   pub depot : StartsFrom (λ s. s ≡ slot) old new result
-  pub started_once : (result ≡ Err NoMemory) ⊎ (new.starts slot ≡ one_more (old.starts slot))
-  pub not_twice : new.starts slot ≤ one_more (old.starts slot)
+  pub started_once : (result ≡ Err NoMemory) ⊎ WasStartedAs name slot old new
+  pub not_twice : (new.starts slot ≡ old.starts slot) ⊎ WasStartedAs name slot old new
 
 -- The three files of a collection are started.
 pub record StartsFiles (base : List ℕ) (old new : DepotState) (result : Result (Unit {0}) CollError) : Type 0 where
@@ -30,9 +29,9 @@ pub record StartsFiles (base : List ℕ) (old new : DepotState) (result : Result
   pub sizes : IsTrue old.tells → OnOk result (new.left Sizes ≡ (files_at old base).sizes)
   pub no_fault : (fault : Fault) → result ≡ Err (Broken fault) → ⊥
   pub depot : StartsFrom IsCollectionSlot old new result
-  pub in_order : IfErr result (StartsInOrder old new)
-  pub started_once : OnOk result (StartedOnce IsCollectionSlot old new)
-  pub none_twice : NoneStartedTwice old new
+  pub in_order : IfErr result (StartsInOrder base old new)
+  pub started_once : OnOk result (StartedOnce (names_under base) IsCollectionSlot old new)
+  pub none_twice : NoneStartedTwice (names_under base) old new
 
 -- The next list is tried, by a reader that keeps no refusal yet.
 pub record TriesList (old new : Reading) (before after : DepotState) (docs freqs : List ℕ) (result : Result Bool CollError) : Type 0 where

@@ -9,7 +9,7 @@ use Rattle.collection_reader.specs.declared.fault.Fault.{Fault}
 use Rattle.collection_reader.specs.declared.fault.CollError.{CollError}
 use Rattle.collection_reader.specs.declared.fault.CollError.TheVariants.{Broken, Read, NoMemory}
 use Rattle.collection_reader.specs.FirstFault.{IsFirstFault}
-use Rattle.collection_reader.specs.Starting.{StartsInOrder}
+use Rattle.collection_reader.specs.Starting.{StartsInOrder, names_under}
 pub use Rattle.collection_reader.specs.Starting.{IsCollectionSlot}
 
 -- the bytes of the three files of a collection in a depot
@@ -26,7 +26,7 @@ pub record ReadsCollection (format : FormatNumbers) (old new : DepotState) (base
   pub read_only_where_it_rose : (slot : Slot) → result ≡ Err (Read slot) → IsCollectionSlot slot × Rose (old.faults slot) (new.faults slot)
   pub count_rises_only_there : (slot : Slot) → (result ≡ Err (Read slot)) ⊎ (new.faults slot ≡ old.faults slot)
   pub reads : OnlyReads IsCollectionSlot old new
-  pub in_order : IfErr result (StartsInOrder old new)
-  pub started_once : OnOk result (StartedOnce IsCollectionSlot old new)
-  pub none_twice : NoneStartedTwice old new
+  pub in_order : IfErr result (StartsInOrder base old new)
+  pub started_once : OnOk result (StartedOnce (names_under base) IsCollectionSlot old new)
+  pub none_twice : NoneStartedTwice (names_under base) old new
   pub refusals_rise_only_there : (result ≡ Err NoMemory) ⊎ (new.refusals ≡ old.refusals)

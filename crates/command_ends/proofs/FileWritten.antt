@@ -1,6 +1,6 @@
 -- What a run leaves that wrote bytes as the file of a slot behind a source that was read, or stopped at that.
 use Rattle.std.proofs.Common.{◌≡◌, ℕ, ◌≤◌, arith, refl, sym, ◌∙◌, ap, subst, List, inl, inr, ◌⊎◌}
-use Rattle.std.specs.Prelude.{Some, None, IsTrue, Result, Ok, Err}
+use Rattle.std.specs.Prelude.{Some, None, IsTrue, Result, Ok, Err, take}
 use Rattle.pef_io.specs.declared.fail.IoFail.{IoFail}
 use Rattle.pef_io.specs.declared.fail.IoFail.TheVariants as call
 use Rattle.pef_io.specs.declared.fail.Slot.{Slot}
@@ -15,7 +15,8 @@ use Rattle.command_ends.specs.Outside.{Outside, NoCallFailed, outside, OfFile, O
 use Rattle.command_ends.specs.Outcome.{Outcome, Done, WriteFault, NoMemory, is_refusal, fault_of}
 use Rattle.command_ends.specs.Ends.{EndsByFault, FirstFaultEnds, OrNoMemory}
 use Rattle.command_ends.specs.WrittenFile.{IsLeftInPart, WritesFile, EndsByWriting, WritesOnlyAccepted}
-use Rattle.command_ends.specs.Sources.{Source, Accepts, IndexesAt, ReadsFrom, StartedIn, Starts}
+use Rattle.command_ends.specs.Sources.{Source, Accepts, IndexesAt, ReadsFrom, StartedIn, Starts, names_of}
+use Rattle.command_ends.specs.SegmentStarts.{StartedUnder}
 use Rattle.command_ends.specs.Products.{Does, File, builds_words}
 use Rattle.command_ends.specs.Steps.Leaves.{Leaves}
 use Rattle.command_ends.specs.Steps.Stops.{written_outcome}
@@ -59,14 +60,14 @@ was_written slot (Err call.NoMemory) = refl
 then_written : (source : Source) (bytes name : List ℕ) (d d1 d2 : DepotState) (r : Written) (outcome : Outcome) → Starts source outcome d d1 → WritesBytes bytes name d1 d2 r
     → (r ≡ Err call.NoMemory → outcome ≡ NoMemory) → Starts source outcome d d2
 then_written (IndexesAt names) bytes name d d1 d2 r outcome s v refused = record {
-  in_turn = (s.in_turn.0, s.in_turn.1, s.in_turn.2, v.writes.starts Index ∙ s.in_turn.3);
+  in_turn = (s.in_turn.0, s.in_turn.1, s.in_turn.2, subst (StartedUnder (take s.in_turn.0 names) (d.starts Index)) (sym (v.writes.starts Index)) s.in_turn.3);
   no_others = λ slot other. v.writes.starts slot ∙ s.no_others slot other;
   refusals = elim v.refusals_rise_only_there [
     | inl is ↦ inl (refused is)
     | inr same ↦ elim s.refusals [ inl is ↦ inl is | inr before ↦ inr (same ∙ before) ]
   ];
 }
-then_written source bytes name d d1 d2 r outcome s v refused = written_starts (StartedIn source outcome) bytes name d d1 d2 r outcome s v refused
+then_written source bytes name d d1 d2 r outcome s v refused = written_starts (names_of source) (StartedIn source outcome) bytes name d d1 d2 r outcome s v refused
 
 -- Bytes of which OnBytes tells were made of a source over depot `d`, which is `d1` then, and written as the file of a slot or not, which leaves `d2`.
 module _ (source : Source) (laws : Laws source) (Makes : Outside → Outside → Outcome → Type 0) (slot : Slot) (d d1 d2 : DepotState) (read : IsRead source d d1)

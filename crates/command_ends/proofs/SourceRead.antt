@@ -1,6 +1,7 @@
 -- What a run leaves at its source: it is refused, or a call on one of its files failed, or it was read.
 use Rattle.std.proofs.Common.{◌≡◌, ℕ, arith, refl, sym, ◌∙◌, ap, subst, inl, inr}
 use Rattle.std.specs.Prelude.{◌≢◌, ◌⊎◌, true, false, Bool, IsTrue, Some, None}
+use Rattle.std.proofs.lemmas.List.{append-nil}
 use Rattle.collection_model.specs.Collection.{Collection}
 use Rattle.pef_io.specs.declared.fail.Slot.{Slot}
 use Rattle.pef_io.specs.declared.fail.Slot.TheVariants.{Index}
@@ -12,7 +13,7 @@ use Rattle.command_ends.specs.Outside.{Outside, outside, Count, NoCallFailed, Of
 use Rattle.command_ends.specs.Outcome.{Outcome, Done, FileFault, InputFault, WriteFault, OutFault, NoMemory, TooLarge, InputTooLarge, fault_of}
 use Rattle.command_ends.specs.Ends.{EndsByFault, OrNoMemory}
 use Rattle.command_ends.specs.WrittenFile.{WritesOnlyAccepted}
-use Rattle.command_ends.specs.Sources.{Source, Nothing, IndexesAt, Accepts, ComesTo, EndsAt, Finds, IsRefusedAs, ReadsFrom, Refuses, Stands, StartedIn, Starts}
+use Rattle.command_ends.specs.Sources.{Source, Nothing, IndexesAt, Accepts, ComesTo, EndsAt, Finds, IsRefusedAs, ReadsFrom, Refuses, Stands, StartedIn, Starts, names_of}
 use Rattle.command_ends.specs.Products.{Product, Replies, File, Files, Completes, Does, IsComplete, Touches, WritesTo, builds_words}
 use Rattle.command_ends.specs.Steps.Leaves.{Leaves}
 use Rattle.command_ends.proofs.Counted.{stays, all_end, or_larger, Of}
@@ -228,7 +229,7 @@ pub nothing_laws : Laws Nothing
 nothing_laws = record { one = λ d t a b x y. absurd x; none = λ d stands a x. x }
 
 nothing_starts : (outcome : Outcome) (d : DepotState) → Starts Nothing outcome d d
-nothing_starts outcome d = started.uncalled (λ slot. ⊥) outcome d (inr (λ slot is. is))
+nothing_starts outcome d = started.uncalled (names_of Nothing) (λ slot. ⊥) outcome d (inr (λ slot is. is))
 
 pub nothing_read : (d : DepotState) → IsRead Nothing d d
 nothing_read d = record { accepted = tt; reads = OnlyReads-same d; starts = λ outcome read. nothing_starts outcome d; counts = λ slot. refl }
@@ -260,11 +261,11 @@ still_read source d d' read i o e e' s s' outcome none starts = record {
 
 pub none_started : (source : Source) (d : DepotState) → Starts source NoMemory d d
 none_started (IndexesAt names) d = record {
-  in_turn = (0, omega arith, λ s lt. absurd (omega (arith, lt)), refl);
+  in_turn = (0, omega arith, λ s lt. absurd (omega (arith, lt)), record { count = refl; told = λ t. t; named = λ t. sym (append-nil (d.starts Index).names) });
   no_others = λ slot other. refl;
   refusals = inr refl;
 }
-none_started source d = started.uncalled (StartedIn source NoMemory) NoMemory d (inl refl)
+none_started source d = started.uncalled (names_of source) (StartedIn source NoMemory) NoMemory d (inl refl)
 
 pub uncalled : (source : Source) (product : Product) (Makes : Outside → Outside → Outcome → Type 0) (d : DepotState) (i : SourceState) (o e e' : SinkState) (s : ℕ)
     → Makes (outside d i o e s) (outside d i o e' s) NoMemory

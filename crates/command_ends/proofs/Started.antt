@@ -1,11 +1,12 @@
 -- What a run starts, and what memory its depot is refused.
-use Rattle.std.proofs.Common.{◌≡◌, ◌≤◌, ℕ, arith, refl, sym, ◌∙◌, subst, List, inl, inr}
+use Rattle.std.proofs.Common.{◌≡◌, ◌<◌, ℕ, refl, sym, ◌∙◌, List, inl, inr}
 use Rattle.std.specs.Prelude.{◌⊎◌, Result, Err}
 use Rattle.pef_io.specs.declared.fail.Slot.{Slot}
 use Rattle.pef_io.specs.declared.fail.IoFail.{IoFail}
 use Rattle.pef_io.specs.declared.fail.IoFail.TheVariants as call
-use Rattle.pef_io.specs.Calls.{one_more}
-use Rattle.pef_io.specs.DepotState.{DepotState}
+use Rattle.pef_io.specs.DepotState.{DepotState, SameStarts, WasStartedAs}
+use Rattle.pef_io.proofs.OnlyReads.{NoneStartedTwice-then, StartedOnce-then, was-started-then}
+use Rattle.collection_reader.specs.Starting.{StartedInTurn, names_under}
 use Rattle.collection_reader.specs.ReadCollection.{IsCollectionSlot}
 use Rattle.part_cost.specs.declared.formats.Format.{Format}
 use Rattle.index_building.specs.declared.build.BuildError.{BuildError}
@@ -19,46 +20,53 @@ use Rattle.command_ends.specs.Outcome.{Outcome, FileFault, NoMemory}
 use Rattle.command_ends.specs.Starts.{StartsOnly}
 use Rattle.command_ends.proofs.Counted.{by_slot}
 
-at_most : (n : ℕ) → n ≤ one_more n
-at_most n = omega arith
+-- slots that were started in turn, and then not again
+pub in_turn-then : (names : Slot → List ℕ) (slots : Slot → Type 0) (a b c : DepotState) → StartedInTurn names slots a b → SameStarts b c → StartedInTurn names slots a c
+in_turn-then names slots a b c p same earlier later is lt = elim (p earlier later is lt) [
+  | inl none ↦ inl (same later ∙ none)
+  | inr once ↦ inr (was-started-then (names earlier) earlier a b c once (same earlier))
+]
 
 -- a depot that is not called
-pub uncalled : (slots : Slot → Type 0) (outcome : Outcome) (d : DepotState) → (outcome ≡ NoMemory) ⊎ ((slot : Slot) → slots slot → ⊥) → StartsOnly slots outcome d d
-uncalled slots outcome d why = record {
-  none_twice = λ slot. at_most (d.starts slot);
+pub uncalled : (names : Slot → List ℕ) (slots : Slot → Type 0) (outcome : Outcome) (d : DepotState) → (outcome ≡ NoMemory) ⊎ ((slot : Slot) → slots slot → ⊥) → StartsOnly names slots outcome d d
+uncalled names slots outcome d why = record {
+  none_twice = λ slot. inl refl;
   no_others = λ slot other. refl;
   once = λ files memory slot is. elim why [ inl refused ↦ absurd (memory refused) | inr none ↦ absurd (none slot is) ];
+  in_turn = λ earlier later is lt. inl refl;
   refusals = inr refl;
 }
 
 -- words that are built, or not, where the outcome is the same want of memory and the same fault of a file
 pub built_starts : (format : Format) (base : List ℕ) (d d' : DepotState) (s s' : ℕ) (r : Result (List ℕ) BuildError) (outcome : Outcome) → BuildsWords format base d d' s s' r
-    → ((slot : Slot) → r ≡ Err (building.Read slot) → outcome ≡ FileFault slot) → (r ≡ Err building.NoMemory → outcome ≡ NoMemory) → StartsOnly IsCollectionSlot outcome d d'
+    → ((slot : Slot) → r ≡ Err (building.Read slot) → outcome ≡ FileFault slot) → (r ≡ Err building.NoMemory → outcome ≡ NoMemory) → StartsOnly (names_under base) IsCollectionSlot outcome d d'
 built_starts format base d d' s s' r outcome w read refused = record {
   none_twice = w.none_twice;
   no_others = λ slot other. w.reads.other_starts slot other;
   once = λ files memory. w.started_once (λ slot is. files slot (read slot is)) (λ is. memory (refused is));
+  in_turn = w.in_turn;
   refusals = elim w.refusals_rise_only_there [ inl is ↦ inl (refused is) | inr same ↦ inr same ];
 }
 
 -- words that are loaded, or not, where the outcome is the same want of memory
 pub loaded_starts : (it : Slot) (name : List ℕ) (d d' : DepotState) (r : Result (List ℕ) LoadWordsError) (outcome : Outcome) → LoadsWords it name d d' r
-    → (r ≡ Err loading.NoMemory → outcome ≡ NoMemory) → StartsOnly (λ slot. slot ≡ it) outcome d d'
+    → (r ≡ Err loading.NoMemory → outcome ≡ NoMemory) → StartsOnly (λ slot. name) (λ slot. slot ≡ it) outcome d d'
 loaded_starts it name d d' r outcome w refused = record {
-  none_twice = by_slot it (λ slot. d'.starts slot ≤ one_more (d.starts slot)) (omega (arith, w.started_once it refl))
-      (λ slot other. subst (λ n. n ≤ one_more (d.starts slot)) (sym (w.reads.other_starts slot other)) (at_most (d.starts slot)));
+  none_twice = by_slot it (λ slot. (d'.starts slot ≡ d.starts slot) ⊎ WasStartedAs name slot d d') (inr (w.started_once it refl)) (λ slot other. inl (w.reads.other_starts slot other));
   no_others = λ slot other. w.reads.other_starts slot other;
   once = λ files memory. w.started_once;
+  in_turn = λ earlier later is lt. inr (w.started_once earlier is);
   refusals = elim w.refusals_rise_only_there [ inl is ↦ inl (refused is) | inr same ↦ inr same ];
 }
 
 -- bytes that are then written, or not, where the outcome is the same want of memory
-pub written_starts : (slots : Slot → Type 0) (bytes name : List ℕ) (d d1 d2 : DepotState) (r : Result (Unit {0}) IoFail) (outcome : Outcome)
-    → StartsOnly slots outcome d d1 → WritesBytes bytes name d1 d2 r → (r ≡ Err call.NoMemory → outcome ≡ NoMemory) → StartsOnly slots outcome d d2
-written_starts slots bytes name d d1 d2 r outcome read v refused = record {
-  none_twice = λ slot. subst (λ n. n ≤ one_more (d.starts slot)) (sym (v.writes.starts slot)) (read.none_twice slot);
+pub written_starts : (names : Slot → List ℕ) (slots : Slot → Type 0) (bytes name : List ℕ) (d d1 d2 : DepotState) (r : Result (Unit {0}) IoFail) (outcome : Outcome)
+    → StartsOnly names slots outcome d d1 → WritesBytes bytes name d1 d2 r → (r ≡ Err call.NoMemory → outcome ≡ NoMemory) → StartsOnly names slots outcome d d2
+written_starts names slots bytes name d d1 d2 r outcome read v refused = record {
+  none_twice = NoneStartedTwice-then names d d1 d2 read.none_twice v.writes.starts;
   no_others = λ slot other. v.writes.starts slot ∙ read.no_others slot other;
-  once = λ files memory slot is. v.writes.starts slot ∙ read.once files memory slot is;
+  once = λ files memory. StartedOnce-then names slots d d1 d2 (read.once files memory) v.writes.starts;
+  in_turn = in_turn-then names slots d d1 d2 read.in_turn v.writes.starts;
   refusals = elim v.refusals_rise_only_there [
     | inl is ↦ inl (refused is)
     | inr same ↦ elim read.refusals [ inl is ↦ inl is | inr before ↦ inr (same ∙ before) ]

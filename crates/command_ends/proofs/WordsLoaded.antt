@@ -69,12 +69,12 @@ module _ (slot : Slot) (ragged : Stop) (no_fault : (count : Count) → ¬ Of (fa
         })
         (λ other ne. stays (OfFile other) (unloaded slot ragged error) _ _ (λ h. ne (is_slot error other h)) (w.reads.other_counts other ne))
 
-    pub unloaded_starts : StartsOnly (λ s. s ≡ slot) (unloaded slot ragged error) d d'
+    pub unloaded_starts : StartsOnly (λ s. name) (λ s. s ≡ slot) (unloaded slot ragged error) d d'
     unloaded_starts = loaded_starts slot name d d' (refused error) (unloaded slot ragged error) w (λ is. ap (unloaded slot ragged) (same_error error loading.NoMemory is))
 
 -- ---- words that are loaded
 
-pub starts : (slot : Slot) (name : List ℕ) (d d' : DepotState) (words : List ℕ) → LoadsWords slot name d d' (Ok words) → (outcome : Outcome) → StartsOnly (λ s. s ≡ slot) outcome d d'
+pub starts : (slot : Slot) (name : List ℕ) (d d' : DepotState) (words : List ℕ) → LoadsWords slot name d d' (Ok words) → (outcome : Outcome) → StartsOnly (λ s. name) (λ s. s ≡ slot) outcome d d'
 starts slot name d d' words w outcome =
     loaded_starts slot name d d' (Ok words) outcome w (λ is. let s : ◌≡◌ {A = Result (List ℕ) LoadWordsError} (Ok words) (Err loading.NoMemory) = is in cc)
 

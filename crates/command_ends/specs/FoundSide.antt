@@ -23,6 +23,11 @@ IsSideSlot slot = slot ≡ Side
 abbrev pub IsIndexOrSide : Slot → Type 0
 IsIndexOrSide slot = IsIndexSlot slot ⊎ IsSideSlot slot
 
+-- the names of their files
+abbrev pub names_with_side : List ℕ → List ℕ → Slot → List ℕ
+names_with_side index side Side = side
+names_with_side index side slot = index
+
 -- the words of the side file of a collection in these parts
 abbrev pub side_of : Collection → List ListParts → List ℕ
 side_of c parts = side_words (block_lists c.lists parts)

@@ -1,16 +1,17 @@
 -- What a command reads, and what is known of its run by that alone: what it starts, what it refuses, and where.
-use Rattle.std.specs.Prelude.{◌≡◌, ◌<◌, ◌⊎◌, ⊤, ℕ, IsTrue, List, length}
+use Rattle.std.specs.Prelude.{◌≡◌, ◌<◌, ◌⊎◌, ⊤, ℕ, IsTrue, List, [], length}
 use Rattle.collection_model.specs.FormatNumbers.{FormatNumbers}
 use Rattle.collection_model.specs.Collection.{Collection}
 use Rattle.pef_io.specs.declared.fail.Slot.{Slot}
 use Rattle.pef_io.specs.declared.fail.Slot.TheVariants.{Index, Map}
 use Rattle.pef_io.specs.DepotState.{DepotState, bytes_under}
 use Rattle.collection_reader.specs.ReadCollection.{IsCollectionSlot}
+use Rattle.collection_reader.specs.Starting.{names_under}
 use Rattle.command_model.specs.Found.{FindsCollection, HasFault, IsIndexSlot, most_bytes}
-use Rattle.command_model.specs.FoundMap.{IsCollectionOrMap, FindsBothOf, HasMapFault, remap_numbers}
+use Rattle.command_model.specs.FoundMap.{IsCollectionOrMap, names_with_map, FindsBothOf, HasMapFault, remap_numbers}
 use Rattle.command_ends.specs.Outcome.{Outcome, BrokenCollection, BrokenIndex, BrokenSide, BrokenMap, BrokenSegment, FileFault, NoMemory, TooLarge, UnfitSegment}
 use Rattle.command_ends.specs.FoundIndex.{FindsIndexOf, HasBroken}
-use Rattle.command_ends.specs.FoundSide.{FindsWithSide, HasBrokenSide, IsIndexOrSide, IsSideSlot}
+use Rattle.command_ends.specs.FoundSide.{FindsWithSide, HasBrokenSide, IsIndexOrSide, IsSideSlot, names_with_side}
 use Rattle.command_ends.specs.FoundSegments.{FindsJoined, IsRefusedAt}
 use Rattle.command_ends.specs.SegmentStarts.{StartsEach}
 use Rattle.command_ends.specs.Starts.{StartsOnly}
@@ -120,8 +121,17 @@ StartedIn (SideAt index side) (TooLarge Index) = IsIndexSlot
 StartedIn (MapAt base map) (BrokenCollection fault) = IsCollectionSlot
 StartedIn source outcome = ReadsFrom source
 
--- What a run starts: each file of several indexes in turn, and of any other source each slot to which it
--- comes once.
+-- the names of its files, by the slots from which they are read; several indexes are read from one slot
+abbrev pub names_of : Source → Slot → List ℕ
+names_of (CollectionAt format base) = names_under base
+names_of (IndexAt name) = λ slot. name
+names_of (SideAt index side) = names_with_side index side
+names_of (MapAt base map) = names_with_map base map
+names_of source = λ slot. []
+
+-- What a run starts, and under which names: each file of several indexes in turn, and of any other source
+-- each slot to which it comes once.
 abbrev pub Starts : Source → Outcome → DepotState → DepotState → Type 0
 Starts (IndexesAt names) outcome old new = StartsEach names outcome old new
-Starts source outcome old new = StartsOnly (StartedIn source outcome) outcome old new
+Starts source outcome old new =
+    StartsOnly (names_of source) (StartedIn source outcome) outcome old new

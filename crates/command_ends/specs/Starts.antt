@@ -1,16 +1,20 @@
-use Rattle.std.specs.Prelude.{◌≡◌, ◌≢◌, ◌⊎◌}
+use Rattle.std.specs.Prelude.{◌≡◌, ◌≢◌, ◌⊎◌, ℕ, List}
 use Rattle.pef_io.specs.declared.fail.Slot.{Slot}
 use Rattle.pef_io.specs.DepotState.{DepotState, StartedOnce, NoneStartedTwice}
+use Rattle.collection_reader.specs.Starting.{StartedInTurn}
 use Rattle.command_ends.specs.Outcome.{Outcome, FileFault, NoMemory}
 
--- What a run that reads from these slots starts, and what memory its depot is refused.
-pub record StartsOnly (slots : Slot → Type 0) (outcome : Outcome) (old new : DepotState)
-    : Type 0 where
-  -- No slot is started twice, and no other is started.
-  pub none_twice : NoneStartedTwice old new
+-- What a run that reads the files of these names from these slots starts, and what memory its depot is
+-- refused.
+pub record StartsOnly (names : Slot → List ℕ) (slots : Slot → Type 0) (outcome : Outcome)
+    (old new : DepotState) : Type 0 where
+  -- No slot is started twice, or under another name than its own, and no other is started.
+  pub none_twice : NoneStartedTwice names old new
   pub no_others : (slot : Slot) → ¬ slots slot → new.starts slot ≡ old.starts slot
   -- Each is started exactly once, but where a call on a file failed or memory was refused.
   pub once : ((slot : Slot) → outcome ≢ FileFault slot) → outcome ≢ NoMemory
-      → StartedOnce slots old new
+      → StartedOnce names slots old new
+  -- They are started in their order: none before those that come before it.
+  pub in_turn : StartedInTurn names slots old new
   -- The first memory that the depot is refused ends the run.
   pub refusals : (outcome ≡ NoMemory) ⊎ (new.refusals ≡ old.refusals)

@@ -10,6 +10,7 @@ use Rattle.pef_io.specs.declared.fail.Slot.{Slot}
 use Rattle.pef_io.specs.declared.fail.Slot.TheVariants.{Map}
 use Rattle.pef_io.specs.DepotState.{DepotState, bytes_under}
 use Rattle.collection_reader.specs.ReadCollection.{IsCollectionSlot}
+use Rattle.collection_reader.specs.Starting.{names_under}
 use Rattle.remap.specs.declared.fault.MapFault.{MapFault}
 use Rattle.remap.specs.NewIds.{AreNewIds}
 use Rattle.remap.specs.Image.{IsImage}
@@ -24,6 +25,11 @@ remap_numbers = numbers_of Two
 -- the slots from which a collection and a map are read
 abbrev pub IsCollectionOrMap : Slot → Type 0
 IsCollectionOrMap slot = IsCollectionSlot slot ⊎ (slot ≡ Map)
+
+-- the names of their files
+abbrev pub names_with_map : List ℕ → List ℕ → Slot → List ℕ
+names_with_map base map Map = map
+names_with_map base map slot = names_under base slot
 
 -- The new ids of n documents stand under the name, as far as the depot tells.
 pub record FindsMap (name : List ℕ) (n : ℕ) (depot : DepotState) (ids : List ℕ) : Type 0 where

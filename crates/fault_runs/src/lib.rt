@@ -19,6 +19,8 @@ mod maps;
 #[cfg(test)]
 mod migration_failures;
 #[cfg(test)]
+mod missing;
+#[cfg(test)]
 mod print_failures;
 #[cfg(test)]
 mod remap_failures;

@@ -1,7 +1,7 @@
 // Maps that break a rule, each named by its first fault, and a map that is cut at each byte.
 use pef_io::{Op, Slot};
 use pef_top::Status;
-use run_tables::{MAP, Numbers, ONE_LIST, REMAP, steady_run, with_map};
+use run_tables::{MAP, Numbers, ONE_LIST, REMAP, files_of, steady_run, with_map};
 use std::alloc::Global;
 
 // The one list where the second of its documents has no frequency.
@@ -43,6 +43,29 @@ fn broken_maps_are_named(rt: HostRuntime) {
     let end = (Status::Collection, "collection C7 freqs term 0 place 1\n");
     let right = is_refused(rt.alloc(), BROKEN, (&[2], 4), end, 0);
     assert_eq!(rt; right, Some(true));
+}
+
+// The words of a run that takes the documents of the collection for the map.
+const SAME: [&str; 5] = ["pefidx", "remap", "x", "x.docs", "y"];
+
+// Whether it ends at the map, and starts each file under its name.
+fn same_is_refused(alloc: Global) -> Option<bool> {
+    let run = steady_run(alloc, &SAME, files_of(alloc, ONE_LIST)?, b"")?;
+    let mut right = run.ends(Status::Map, "map M2 place 0\n");
+    for (slot, name) in [
+        (Slot::Docs, "x.docs"),
+        (Slot::Freqs, "x.freqs"),
+        (Slot::Sizes, "x.sizes"),
+        (Slot::Map, "x.docs"),
+    ] {
+        right = right && run.started(slot, &[name]);
+    }
+    Some(right)
+}
+
+#[test]
+fn documents_are_no_map(rt: HostRuntime) {
+    assert_eq!(rt; same_is_refused(rt.alloc()), Some(true));
 }
 
 #[test]

@@ -21,6 +21,8 @@ use Rattle.collection_reader.specs.declared.fault.CollError.{CollError}
 use Rattle.collection_reader.specs.declared.fault.CollError.TheVariants as reading
 use Rattle.collection_reader.specs.Laws.{OneFirstFault}
 use Rattle.collection_reader.specs.ReadCollection.{files_at, IsCollectionSlot, ReadsCollection}
+use Rattle.collection_reader.specs.Starting.{names_under}
+use Rattle.collection_reader.proofs.InOrder.{read-in_turn}
 use Rattle.collection_reader.specs.Reading.{Reading, StartsReading, ReadsList, ReadsSizes}
 use Rattle.collection_reader.specs.InTurn.{HasReadAll, ReadsInTurn}
 use Rattle.index_file.specs.declared.builder.FinishError.{FinishError}
@@ -170,7 +172,7 @@ broken-ends format one base old new (reading.Read slot) reads told fault broken 
 broken-ends format one base old new reading.NoMemory reads told fault broken = inr (inr refl)
 
 -- the three files were started once, where neither a call nor memory was refused
-build-once : (format : FormatNumbers) (base : List ℕ) (old new : DepotState) (e : CollError) → ReadsCollection format old new base (Err e) → ((slot : Slot) → build_error e ≢ Read slot) → build_error e ≢ NoMemory → StartedOnce IsCollectionSlot old new
+build-once : (format : FormatNumbers) (base : List ℕ) (old new : DepotState) (e : CollError) → ReadsCollection format old new base (Err e) → ((slot : Slot) → build_error e ≢ Read slot) → build_error e ≢ NoMemory → StartedOnce (names_under base) IsCollectionSlot old new
 build-once format base old new (reading.Broken fault) reads not_read not_wanted = reads.in_order.once
 build-once format base old new (reading.Read slot) reads not_read not_wanted = absurd (not_read slot refl)
 build-once format base old new reading.NoMemory reads not_read not_wanted = absurd (not_wanted refl)
@@ -192,6 +194,7 @@ build-refused format one base old new before after e result reads is =
       reads = reads.reads;
       started_once = λ not_read not_wanted. build-once (numbers_of format) base old new e reads (λ slot h. not_read slot (ap Err h)) (λ h. not_wanted (ap Err h));
       none_twice = reads.none_twice;
+      in_turn = read-in_turn (numbers_of format) base old new (Err e) reads;
       refusals_rise_only_there = elim reads.refusals_rise_only_there [ inl h ↦ let at : e ≡ reading.NoMemory = cc in inl (ap (λ x. Err (build_error x)) at) | inr same ↦ inr same ];
     })
 
@@ -310,6 +313,7 @@ answered format base old now before after c parts result reads cut words large n
   reads = reads.reads;
   started_once = λ not_read not_wanted. reads.started_once;
   none_twice = reads.none_twice;
+  in_turn = read-in_turn (numbers_of format) base old now (Ok c) reads;
   refusals_rise_only_there = elim reads.refusals_rise_only_there [ inl h ↦ absurd cc | inr same ↦ inr same ];
 }
   where

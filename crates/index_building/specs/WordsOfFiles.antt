@@ -8,6 +8,7 @@ use Rattle.pef_io.specs.Calls.{Rose}
 use Rattle.pef_io.specs.DepotState.{DepotState, StartedOnce, NoneStartedTwice, OnlyReads}
 use Rattle.collection_reader.specs.declared.fault.Fault.{Fault}
 use Rattle.collection_reader.specs.ReadCollection.{IsCollectionSlot}
+use Rattle.collection_reader.specs.Starting.{StartedInTurn, names_under}
 use Rattle.index_file.specs.FileWords.{ListParts, file_words}
 use Rattle.index_file.specs.Builder.{most_words}
 use Rattle.index_building.specs.declared.build.BuildError.{BuildError}
@@ -38,8 +39,10 @@ pub record BuildsWords (format : Format) (base : List ℕ) (old new : DepotState
   pub count_rises_only_there : (slot : Slot) → (result ≡ Err (Read slot)) ⊎ (new.faults slot ≡ old.faults slot)
   -- The three files are read, and nothing else is called.
   pub reads : OnlyReads IsCollectionSlot old new
-  -- None is started twice, and each is started exactly once where neither a call nor memory was refused.
-  pub started_once : ((slot : Slot) → result ≢ Err (Read slot)) → result ≢ Err NoMemory → StartedOnce IsCollectionSlot old new
-  pub none_twice : NoneStartedTwice old new
+  -- None is started twice, or under another name than its own, and each is started exactly once where neither a call nor memory was refused.
+  pub started_once : ((slot : Slot) → result ≢ Err (Read slot)) → result ≢ Err NoMemory → StartedOnce (names_under base) IsCollectionSlot old new
+  pub none_twice : NoneStartedTwice (names_under base) old new
+  -- They are started in their order: documents, frequencies, sizes.
+  pub in_turn : StartedInTurn (names_under base) IsCollectionSlot old new
   -- The first memory that the depot is refused ends the building.
   pub refusals_rise_only_there : (result ≡ Err NoMemory) ⊎ (new.refusals ≡ old.refusals)

@@ -28,7 +28,7 @@ pub fn audit<D: Depot, O: Sink, L: Ledger>(
     steps: &mut Steps<L>,
 ) -> Result<(), Stop>
     ensures leaves { (i : SourceState) (e e' : SinkState)
-        → Leaves (Audits index.now) (StartsOnly IsIndexSlot)
+        → Leaves (Audits index.now) (StartsOnly (λ slot. index.now) IsIndexSlot)
         (outside (D.state depot.old) i (O.state out.old) e steps.old)
         (outside (D.state depot.new) i (O.state out.new) e' steps.new) (outcome_of result) }
     ensures refused { IsTrue (is_refusal (outcome_of result)) → out.new ≡ out.old }

@@ -25,7 +25,7 @@ pub fn inspect<D: Depot, O: Sink>(
     out: &mut O,
 ) -> Result<(), Stop>
     ensures leaves { (i : SourceState) (e e' : SinkState) (costs : ℕ)
-        → Leaves (Inspects index.now) (StartsOnly IsIndexSlot)
+        → Leaves (Inspects index.now) (StartsOnly (λ slot. index.now) IsIndexSlot)
         (outside (D.state depot.old) i (O.state out.old) e costs)
         (outside (D.state depot.new) i (O.state out.new) e' costs) (outcome_of result) }
     ensures refused { IsTrue (is_refusal (outcome_of result)) → out.new ≡ out.old }

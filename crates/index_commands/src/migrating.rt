@@ -25,7 +25,7 @@ pub fn migrate<D: Depot, L: Ledger>(
     steps: &mut Steps<L>,
 ) -> Result<(), Stop>
     ensures { (i : SourceState) (o e e' : SinkState)
-        → Leaves (Migrates from.now to.now) (StartsOnly IsIndexSlot)
+        → Leaves (Migrates from.now to.now) (StartsOnly (λ slot. from.now) IsIndexSlot)
         (outside (D.state depot.old) i o e steps.old) (outside (D.state depot.new) i o e' steps.new)
         (outcome_of result) }
 {

@@ -26,7 +26,7 @@ pub fn query<D: Depot, I: Source, O: Sink>(
     out: &mut O,
 ) -> Result<(), Stop>
     ensures leaves { (e e' : SinkState) (costs : ℕ)
-        → Leaves (Queries index.now) (StartsOnly IsIndexSlot)
+        → Leaves (Queries index.now) (StartsOnly (λ slot. index.now) IsIndexSlot)
         (outside (D.state depot.old) (I.state input.old) (O.state out.old) e costs)
         (outside (D.state depot.new) (I.state input.new) (O.state out.new) e' costs)
         (outcome_of result) }

@@ -3,8 +3,8 @@ use Rattle.std.proofs.Common.{arith, ◌≡◌, ◌≢◌, refl, inl, inr, ℕ, 
 use Rattle.pef_io.specs.declared.fail.IoFail.{IoFail}
 use Rattle.pef_io.specs.declared.fail.IoFail.TheVariants.{Failed}
 use Rattle.pef_io.specs.declared.fail.Slot.{Slot}
-use Rattle.pef_io.specs.Calls.{CountsFaults, CountsRefusals, one_more}
-use Rattle.pef_io.specs.DepotState.{DepotState, SameStarts, SameButCounts, CountsSlot, Starts, ReadsSlot}
+use Rattle.pef_io.specs.Calls.{CountsFaults, CountsRefusals}
+use Rattle.pef_io.specs.DepotState.{DepotState, SameStarts, SameButCounts, WasStartedAs, CountsSlot, Starts, ReadsSlot}
 
 abbrev failed : Result (Unit {0}) IoFail
 failed = Err Failed
@@ -28,7 +28,7 @@ refusals-as before now c = record {
   rises_only_there = elim c.rises_only_there [ inl h ↦ absurd cc | inr h ↦ inr h ];
 }
 
-pub failed-start : (old new : DepotState) (slot : Slot) (name : List ℕ) (fail : IoFail) → fail ≡ Failed → new.tells ≡ old.tells → SameButCounts old new → CountsSlot old new slot failed → new.starts slot ≡ one_more (old.starts slot)
+pub failed-start : (old new : DepotState) (slot : Slot) (name : List ℕ) (fail : IoFail) → fail ≡ Failed → new.tells ≡ old.tells → SameButCounts old new → CountsSlot old new slot failed → WasStartedAs name slot old new
     → ((other : Slot) → other ≢ slot → new.starts other ≡ old.starts other) → Starts old new slot name (Err fail)
 failed-start old new slot name fail is tells same counts this others = rw is (record {
   tells = tells;
@@ -39,7 +39,7 @@ failed-start old new slot name fail is tells same counts this others = rw is (re
   writing = same.writing;
   unchanged = same;
   counts = counts;
-  start_count = this;
+  asked = this;
   other_starts = others;
 })
 

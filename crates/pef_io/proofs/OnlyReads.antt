@@ -2,8 +2,8 @@
 use Rattle.std.proofs.Common.{◌≡◌, ◌≢◌, ◌≤◌, ◌⊎◌, refl, ◌∙◌, ap, subst, sym, arith, inl, inr, ℕ, List, IsTrue, Result, Ok, Err}
 use Rattle.pef_io.specs.declared.fail.IoFail.{IoFail}
 use Rattle.pef_io.specs.declared.fail.Slot.{Slot}
-use Rattle.pef_io.specs.Calls.{one_more}
-use Rattle.pef_io.specs.DepotState.{DepotState, SameStarts, NoneStartedTwice, OnlyReads, ReadsSlot, Starts}
+use Rattle.pef_io.specs.Starting.{Starting, StartedAs}
+use Rattle.pef_io.specs.DepotState.{DepotState, SameStarts, StartedOnce, NoneStartedTwice, OnlyReads, ReadsSlot, Starts, WasStartedAs}
 use Rattle.pef_io.proofs.Ops.{same_or_other}
 
 -- nothing read
@@ -83,8 +83,8 @@ OnlyReads-start old new slot name result s = record {
   create_count = s.counts.create_count;
   finish_count = s.counts.finish_count;
   starts_never_fall = λ other. elim (same_or_other other slot) [
-    | inl e ↦ omega (arith, s.start_count, ap old.starts e, ap new.starts e)
-    | inr n ↦ omega (arith, s.other_starts other n)
+    | inl e ↦ omega (arith, s.asked.count, ap (λ x. (old.starts x).count) e, ap (λ x. (new.starts x).count) e)
+    | inr n ↦ omega (arith, ap (λ x. x.count) (s.other_starts other n))
   ];
   other_starts = s.other_starts;
   refusals_never_fall = s.counts.refusals.never_falls;
@@ -119,7 +119,7 @@ OnlyReads-then {touched} {a} {b} {c} {slot} p it r = record {
       r.counts.others s other ∙ p.other_counts s n;
   create_count = r.counts.create_count ∙ p.create_count;
   finish_count = r.counts.finish_count ∙ p.finish_count;
-  starts_never_fall = λ s. omega (arith, p.starts_never_fall s, r.starts s);
+  starts_never_fall = λ s. omega (arith, p.starts_never_fall s, ap (λ x. x.count) (r.starts s));
   other_starts = λ s n. r.starts s ∙ p.other_starts s n;
   refusals_never_fall = omega (arith, p.refusals_never_fall, r.counts.refusals.never_falls);
 }
@@ -128,17 +128,43 @@ OnlyReads-then {touched} {a} {b} {c} {slot} p it r = record {
 pub faults-there : {old new : DepotState} {slot : Slot} {before after : List ℕ} {result : Result ℕ IoFail} → ReadsSlot old new slot before after result → (other : Slot) → (other ≡ slot) ⊎ (new.faults other ≡ old.faults other)
 faults-there {slot = slot} r other = elim (same_or_other other slot) [ inl e ↦ inl e | inr n ↦ inr (r.counts.others other n) ]
 
+-- a slot that was started, and then not again
+pub was-started-then : (name : List ℕ) (slot : Slot) (a b c : DepotState) → WasStartedAs name slot a b → c.starts slot ≡ b.starts slot → WasStartedAs name slot a c
+was-started-then name slot a b c p same = subst (StartedAs name (a.starts slot)) (sym same) p
+
+-- a slot that was not started, and then once
+pub then-was-started : (name : List ℕ) (slot : Slot) (a b c : DepotState) → b.starts slot ≡ a.starts slot → WasStartedAs name slot b c → WasStartedAs name slot a c
+then-was-started name slot a b c same q = subst (λ s. StartedAs name s (c.starts slot)) same q
+
+-- one slot that was started once
+pub StartedOnce-slot : (name : List ℕ) (slot : Slot) (a b : DepotState) → WasStartedAs name slot a b → StartedOnce (λ s. name) (λ s. s ≡ slot) a b
+StartedOnce-slot name slot a b once s is = subst (λ x. WasStartedAs name x a b) (sym is) once
+
+-- slots that were started once, and then not again
+pub StartedOnce-then : (names : Slot → List ℕ) (slots : Slot → Type 0) (a b c : DepotState) → StartedOnce names slots a b → SameStarts b c → StartedOnce names slots a c
+StartedOnce-then names slots a b c p same slot is = was-started-then (names slot) slot a b c (p slot is) (same slot)
+
 -- no start
-pub NoneStartedTwice-same : (a : DepotState) → NoneStartedTwice a a
-NoneStartedTwice-same a slot = omega arith
+pub NoneStartedTwice-same : (names : Slot → List ℕ) (a : DepotState) → NoneStartedTwice names a a
+NoneStartedTwice-same names a slot = inl refl
 
 -- calls that start nothing, after some that start no slot twice
-pub NoneStartedTwice-then : (a b c : DepotState) → NoneStartedTwice a b → SameStarts b c → NoneStartedTwice a c
-NoneStartedTwice-then a b c p same slot = omega (arith, p slot, same slot)
+pub NoneStartedTwice-then : (names : Slot → List ℕ) (a b c : DepotState) → NoneStartedTwice names a b → SameStarts b c → NoneStartedTwice names a c
+NoneStartedTwice-then names a b c p same slot = elim (p slot) [
+  | inl none ↦ inl (same slot ∙ none)
+  | inr once ↦ inr (was-started-then (names slot) slot a b c once (same slot))
+]
 
 -- calls that start one slot at most once, which was not started since
-pub NoneStartedTwice-start : (a b c : DepotState) (slot : Slot) → NoneStartedTwice a b → b.starts slot ≡ a.starts slot → OnlyReads (λ s. s ≡ slot) b c → c.starts slot ≤ one_more (b.starts slot) → NoneStartedTwice a c
-NoneStartedTwice-start a b c slot p fresh reads once other = elim (same_or_other other slot) [
-  | inl e ↦ omega (arith, once, fresh, ap a.starts e, ap c.starts e)
-  | inr n ↦ omega (arith, p other, reads.other_starts other n)
+pub NoneStartedTwice-start : (names : Slot → List ℕ) (a b c : DepotState) (slot : Slot) → NoneStartedTwice names a b → b.starts slot ≡ a.starts slot → OnlyReads (λ s. s ≡ slot) b c
+    → (c.starts slot ≡ b.starts slot) ⊎ WasStartedAs (names slot) slot b c → NoneStartedTwice names a c
+NoneStartedTwice-start names a b c slot p fresh reads once other = elim (same_or_other other slot) [
+  | inl e ↦ subst (λ s. (c.starts s ≡ a.starts s) ⊎ WasStartedAs (names s) s a c) (sym e) (elim once [
+    | inl none ↦ inl (none ∙ fresh)
+    | inr it ↦ inr (then-was-started (names slot) slot a b c fresh it)
+  ])
+  | inr n ↦ elim (p other) [
+    | inl none ↦ inl (reads.other_starts other n ∙ none)
+    | inr it ↦ inr (was-started-then (names other) other a b c it (reads.other_starts other n))
+  ]
 ]

@@ -1,6 +1,7 @@
 pub mod Calls
 pub mod SourceState
 pub mod SinkState
+pub mod Starting
 pub mod DepotState
 pub mod Helpers
 pub mod Loads
@@ -8,6 +9,7 @@ pub mod PerSlot
 pub mod LentSlot
 pub mod Opened
 pub mod Files
+pub mod Asked
 pub mod DepotCalls
 pub mod SteadyDepot
 pub mod MemDepot

@@ -22,7 +22,10 @@ mem_depot d =
 -- The counts of a call of this kind that failed.
 abbrev pub CountsFault : Op → DepotState → DepotState → Type 0
 CountsFault (Start slot) old new =
-    CountsSlot {A = Unit {0}} old new slot (Err Failed) × (new.starts slot ≡ one_more (old.starts slot)) × ((other : Slot) → other ≢ slot → new.starts other ≡ old.starts other)
+    CountsSlot {A = Unit {0}} old new slot (Err Failed)
+    × ((new.starts slot).count ≡ one_more (old.starts slot).count)
+    × ((new.starts slot).told ≡ (old.starts slot).told) × ((new.starts slot).names ≡ (old.starts slot).names)
+    × ((other : Slot) → other ≢ slot → new.starts other ≡ old.starts other)
 CountsFault (Read slot) old new = CountsSlot {A = Unit {0}} old new slot (Err Failed) × SameStarts old new
 CountsFault Create old new =
     CountsWriting {A = Unit {0}} old new (Err Failed) × CountsFaults {A = Unit {0}} old.create_faults new.create_faults (Err Failed) × (new.finish_faults ≡ old.finish_faults)

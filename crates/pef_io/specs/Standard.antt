@@ -10,5 +10,5 @@ pub record IsUntouched (state : DepotState) : Type 0 where
   pub no_writing_faults : state.writing_faults ≡ 0
   pub no_create_faults : state.create_faults ≡ 0
   pub no_finish_faults : state.finish_faults ≡ 0
-  pub no_starts : (slot : Slot) → state.starts slot ≡ 0
+  pub no_starts : (slot : Slot) → (state.starts slot).count ≡ 0
   pub no_refusals : state.refusals ≡ 0

@@ -8,6 +8,7 @@ use Rattle.pef_io.specs.InMemory.{DepotInMemory, file_in}
 use Rattle.pef_io.specs.Files.{name_at}
 use Rattle.pef_io.specs.Opened.{rest}
 use Rattle.pef_io.specs.PerSlot.{at_slot}
+use Rattle.pef_io.specs.Asked.{starting}
 
 -- the bytes that a slot has left, none where it is not started
 abbrev pub left_in : Option Opened → List ℕ
@@ -32,7 +33,7 @@ steady_state d = record {
   writing_faults = 0;
   create_faults = 0;
   finish_faults = 0;
-  starts = λ slot. at_slot d.calls.starts slot;
+  starts = λ slot. starting (at_slot d.calls.starts slot) (at_slot d.asked slot);
   refusals = d.refusals;
 }
 

@@ -1,4 +1,4 @@
-ghost use Rattle.std.specs.Prelude.{◌≡◌, ◌≤◌, ◌↔◌, ◌⊎◌, min, length, IfOk, IsOk, IsErrOf, IsTrue, None, option_map};
+ghost use Rattle.std.specs.Prelude.{◌≡◌, ◌≤◌, ◌↔◌, ◌⊎◌, min, length, IfOk, IsOk, IsErrOf, IsTrue, IsSome, IfSome, None, map, string_bytes, option_map};
 ghost use Rattle.pef_io.specs.InMemory.{IsNewDepot, CalledOnce, FailsNext};
 ghost use Rattle.pef_io.specs.MemDepot.{mem_depot, CountsFault};
 ghost use Rattle.pef_io.specs.DepotState.{SameButCounts, Starts, ReadsSlot, Creates, WritesFile, Finishes};
@@ -65,6 +65,16 @@ impl MemDepot {
         self.depot.calls(op)
     }
 
+    /// The names under which the slot was asked to start, in their order, also where that failed; none once
+    /// memory was refused for one.
+    pub fn names(&self, slot: Slot) -> Option<&[String]>
+        ensures told { IsSome result ↔ IsTrue ((mem_depot self.now).state.starts slot).told }
+        ensures names { IfSome result (λ names. map string_bytes names.now
+            ≡ ((mem_depot self.now).state.starts slot).names) }
+    {
+        self.depot.names(slot)
+    }
+
     // Whether the next call of this kind is one of those that fail.
     fn fails_next(&self, op: Op) -> bool
         ensures { IsTrue result ↔ FailsNext (mem_depot self.now) op }
@@ -110,6 +120,7 @@ impl Depot for MemDepot {
     {
         let op = Op::Start(slot);
         if self.fails_next(op) || self.depot.file(name).is_none() {
+            self.depot.asked.note(self.depot.alloc, slot, name);
             return Err(self.fail(op));
         }
         self.depot.start(slot, name)

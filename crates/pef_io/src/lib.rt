@@ -1,6 +1,7 @@
 //! What the program knows of the outside: sources, sinks and files under names.
 #![tactic(auto)]
 
+mod asked;
 mod calls;
 mod fail;
 mod failing;

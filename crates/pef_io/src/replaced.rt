@@ -62,6 +62,8 @@ impl<R: Files + AllocGlobal> Replacement<R> {
         ensures not_nothing { 0 < length piece.now → IfSome result (λ n. 0 < n) }
         ensures taken { IfSome result (λ n. Appends (⟦<R::File as Write>⟧.contents self.old.file)
             (⟦<R::File as Write>⟧.contents self.new.file) (take n piece.now)) }
+        ensures target { self.new.target ≡ self.old.target }
+        ensures temporary { self.new.temporary ≡ self.old.temporary }
     {
         write_some(&mut self.file, piece)
     }

@@ -1,10 +1,11 @@
-ghost use Rattle.std.specs.Prelude.{◌≡◌, ◌≤◌, ◌<◌, false, [], None, is_some, IsTrue, IfSome, IfOk, IsErrOf, length, take, option_and_then};
+ghost use Rattle.std.specs.Prelude.{◌≡◌, ◌≤◌, ◌<◌, false, [], None, is_some, IsTrue, IfSome, IfOk, OnOk, OnErr, IsErrOf, Contains, ◌↔◌, ◌⊎◌, length, take, option_and_then};
 ghost use Rattle.std.specs.Io.KnownBytes.{Appends, ReadConsumes};
 ghost use Rattle.pef_io.specs.SourceState.{SourceState, Reads};
 ghost use Rattle.pef_io.specs.SinkState.{SinkState, Writes};
 ghost use Rattle.pef_io.specs.DepotState.{DepotState, Finishes, ReadsSlot, WritesFile};
 ghost use Rattle.pef_io.specs.Standard.{IsUntouched};
 ghost use Rattle.pef_io.specs.PerSlot.{at_slot};
+ghost use Rattle.pef_io.specs.declared.started.FileId.{FileId};
 
 use crate::fail::{IoFail, Slot};
 use crate::names::found_at;
@@ -108,10 +109,12 @@ enum Created<R: Files> {
 }
 
 impl<R: Files + AllocGlobal> Created<R> {
-    ghost use Rattle.pef_io.specs.Created.{file_of};
+    ghost use Rattle.pef_io.specs.Created.{file_of, IsBesideTarget};
 
     // Creates what stands under the name, unless it leads to a file that was started.
-    fn begin(rt: &R, started: &Started, name: &str) -> io::Result<Created<R>> {
+    fn begin(rt: &R, started: &Started, name: &str) -> io::Result<Created<R>>
+        ensures beside { IfOk result IsBesideTarget }
+    {
         let found = found_at(rt, name)?;
         match &found {
             Some(found) if started.has(FileId::of(found)) => Err(ErrorKind::ResourceBusy.into()),
@@ -223,7 +226,12 @@ fn discard<R: Files + AllocGlobal>(rt: &R, created: Option<Created<R>>) {
 
 // Opens the file of this name, and notes which it is. Its descriptor is none of the three of the standard
 // streams, one of which may have been closed when the program started.
-fn open_file<R: Files>(rt: &R, known: &mut Started, name: &str) -> io::Result<R::File> {
+fn open_file<R: Files>(rt: &R, known: &mut Started, name: &str) -> io::Result<R::File>
+    ensures remembered { OnOk result ((file : FileId) × ((other : FileId)
+        → Contains known.new.files.items other
+        ↔ (Contains known.old.files.items other ⊎ (other ≡ file)))) }
+    ensures unchanged { OnErr result (known.new.files.items ≡ known.old.files.items) }
+{
     let file = fs::open(rt, name)?.try_clone()?;
     known.add(FileId::of(&file.metadata()?))?;
     Ok(file)
@@ -232,7 +240,7 @@ fn open_file<R: Files>(rt: &R, known: &mut Started, name: &str) -> io::Result<R:
 impl<R: Files + AllocGlobal> Depot for StdDepot<R> {
     ghost use Rattle.pef_io.specs.Created.{file_of};
 
-    ghost state = { λ d. record { tells = false; file = λ _. None; left = λ _. []; name = []; started = λ slot. is_some (at_slot d.opened slot); created = is_some d.created; faults = λ slot. at_slot d.faults slot; writing_faults = d.writing_faults; create_faults = d.create_faults; finish_faults = d.finish_faults; starts = λ slot. at_slot d.starts slot; refusals = d.refusals } };
+    ghost state = { λ d. record { tells = false; file = λ _. None; left = λ _. []; name = []; started = λ slot. is_some (at_slot d.opened slot); created = is_some d.created; faults = λ slot. at_slot d.faults slot; writing_faults = d.writing_faults; create_faults = d.create_faults; finish_faults = d.finish_faults; starts = λ slot. record { count = at_slot d.starts slot; told = false; names = [] }; refusals = d.refusals } };
 
     fn start(&mut self, slot: Slot, name: &str) -> Result<(), IoFail> {
         self.starts.raise(slot);

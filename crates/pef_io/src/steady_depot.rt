@@ -1,9 +1,10 @@
-ghost use Rattle.std.specs.Prelude.{◌≡◌, ℕ, ◌≤◌, [], Some, min, length, IfOk, IsOk, IsErrOf, IsTrue, option_map};
+ghost use Rattle.std.specs.Prelude.{◌≡◌, ℕ, ◌≤◌, [], Some, min, length, IfOk, IsOk, IsErrOf, IsTrue, IsSome, IfSome, ◌↔◌, map, string_bytes, option_map};
 ghost use Rattle.pef_io.specs.InMemory.{IsNewDepot, CalledOnce};
 ghost use Rattle.pef_io.specs.Files.{IsFirst};
 ghost use Rattle.pef_io.specs.DepotState.{Starts, ReadsSlot, Creates, WritesFile, Finishes};
 ghost use Rattle.pef_io.specs.declared.calls.Op.{Op};
 
+use crate::asked::Asked;
 use crate::calls::{Calls, Op};
 use crate::fail::{IoFail, Slot};
 use crate::files::Files;
@@ -16,12 +17,13 @@ use std::alloc::Global;
 /// Files in memory that are read and written without a fault; memory may be refused.
 #[derive(Drop)]
 pub struct SteadyDepot {
-    alloc: Global,
+    pub(crate) alloc: Global,
     pub(crate) files: Files,
     opened: PerSlot<Option<Opened>>,
     created: Option<usize>,
     most: usize,
     pub(crate) calls: Calls,
+    pub(crate) asked: PerSlot<Asked>,
     refusals: u64,
     ghost moves_some: { 1 ≤ most },
     ghost writes_first: { (at : ℕ) → created ≡ Some at → IsFirst files.list.items at },
@@ -57,6 +59,14 @@ impl SteadyDepot {
             created: None,
             most,
             calls: Calls::new(),
+            asked: PerSlot {
+                docs: Asked::new(alloc),
+                freqs: Asked::new(alloc),
+                sizes: Asked::new(alloc),
+                index: Asked::new(alloc),
+                side: Asked::new(alloc),
+                map: Asked::new(alloc),
+            },
             refusals: 0,
         })
     }
@@ -75,6 +85,16 @@ impl SteadyDepot {
     {
         self.calls.of(op)
     }
+
+    /// The names under which the slot was asked to start, in their order, also where that failed; none once
+    /// memory was refused for one.
+    pub fn names(&self, slot: Slot) -> Option<&[String]>
+        ensures told { IsSome result ↔ IsTrue ((steady_depot self.now).state.starts slot).told }
+        ensures names { IfSome result (λ names. map string_bytes names.now
+            ≡ ((steady_depot self.now).state.starts slot).names) }
+    {
+        self.asked.get(slot).names()
+    }
 }
 
 impl Depot for SteadyDepot {
@@ -90,6 +110,7 @@ impl Depot for SteadyDepot {
             (steady_depot self.new) }
     {
         self.calls.count(Op::Start(slot));
+        self.asked.note(self.alloc, slot, name);
         let Ok(bytes) = self.files.copy_of(self.alloc, name) else {
             self.refusals = self.refusals.saturating_add(1);
             return Err(IoFail::NoMemory);

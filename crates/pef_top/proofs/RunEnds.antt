@@ -1,6 +1,6 @@
 -- What a run leaves, from what its command left and what was reported.
 use Rattle.std.proofs.Common.{inr, ◌≡◌, refl, sym, ◌∙◌, ap, subst, ℕ}
-use Rattle.std.specs.Prelude.{◌≢◌, not, IsTrue, Result, Ok, Err, IsOk, Option, None}
+use Rattle.std.specs.Prelude.{◌≢◌, not, IsTrue, List, [], Result, Ok, Err, IsOk, Option, None}
 use Rattle.pef_io.specs.SourceState.{SourceState}
 use Rattle.pef_io.specs.SinkState.{SinkState}
 use Rattle.pef_io.specs.DepotState.{DepotState}
@@ -30,7 +30,7 @@ no_command d i o e e' s = record {
     input = stays OfInput Usage _ _ (λ h. cc) refl;
     out = stays OfOut Usage _ _ (λ h. cc) refl;
   });
-  starts = uncalled (λ slot. ⊥) Usage d (inr (λ slot is. is));
+  starts = uncalled (λ slot. []) (λ slot. ⊥) Usage d (inr (λ slot is. is));
   depot_tells = refl;
   input_tells = refl;
   out_tells = refl;

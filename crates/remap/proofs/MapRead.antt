@@ -6,9 +6,9 @@ use Rattle.pef_io.specs.declared.fail.IoFail.{IoFail}
 use Rattle.pef_io.specs.declared.fail.IoFail.TheVariants as call
 use Rattle.pef_io.specs.declared.fail.Slot.{Slot}
 use Rattle.pef_io.specs.declared.fail.Slot.TheVariants.{Map}
-use Rattle.pef_io.specs.Calls.{Rose, one_more}
-use Rattle.pef_io.specs.DepotState.{DepotState, Starts, OnlyReads, bytes_under}
-use Rattle.pef_io.proofs.OnlyReads.{OnlyReads-start, OnlyReads-trans}
+use Rattle.pef_io.specs.Calls.{Rose}
+use Rattle.pef_io.specs.DepotState.{DepotState, Starts, OnlyReads, WasStartedAs, bytes_under}
+use Rattle.pef_io.proofs.OnlyReads.{OnlyReads-start, OnlyReads-trans, StartedOnce-slot, was-started-then}
 use Rattle.remap.specs.declared.fault.MapFault.{MapFault}
 use Rattle.remap.specs.declared.fault.MapError.{MapError}
 use Rattle.remap.specs.declared.fault.MapError.TheVariants.{Broken, Read, NoMemory}
@@ -31,7 +31,7 @@ order-none n ids fault few are count broken =
 -- what a refusal has to say
 refused : (name : List ℕ) (n : ℕ) (old new : DepotState) (e : MapError) → n < 2 ^ 32 → (IsTrue old.tells → (fault : MapFault) → e ≡ Broken fault → IsMapFault n (bytes_under old name) fault)
     → (e ≡ Read → Rose (old.faults Map) (new.faults Map)) → (e ≡ Read) ⊎ (new.faults Map ≡ old.faults Map) → (e ≡ NoMemory) ⊎ (new.refusals ≡ old.refusals)
-    → OnlyReads (λ slot. slot ≡ Map) old new → new.starts Map ≡ one_more (old.starts Map) → ReadsMap name n old new (Err e)
+    → OnlyReads (λ slot. slot ≡ Map) old new → WasStartedAs name Map old new → ReadsMap name n old new (Err e)
 refused name n old new e few fault rose rises wants reads once = record {
   new_ids = tt;
   each = tt;
@@ -45,7 +45,7 @@ refused name n old new e few fault rose rises wants reads once = record {
   count_rises_only_there = elim rises [ inl h ↦ inl (ap Err h) | inr same ↦ inr same ];
   refusals_rise_only_there = elim wants [ inl h ↦ inl (ap Err h) | inr same ↦ inr same ];
   reads = reads;
-  starts = λ slot is. subst (λ (s : Slot). new.starts s ≡ one_more (old.starts s)) (sym is) once;
+  starts = StartedOnce-slot name Map old new once;
 }
 
 failed-not_no_memory : (let r : Result (Unit {0}) IoFail = Err call.Failed in r ≡ Err call.NoMemory) → ⊥
@@ -59,16 +59,16 @@ pub start-refused : (name : List ℕ) (n : ℕ) (a b : DepotState) (fail : IoFai
 start-refused name n a b call.Failed few s =
     refused name n a b Read few (λ t f is. absurd cc) (λ h. s.counts.this.failed_only_where_it_rose refl) (inl refl)
     (elim s.counts.refusals.rises_only_there [ inl h ↦ absurd (failed-not_no_memory h) | inr same ↦ inr same ])
-    (OnlyReads-start a b Map name _ s) s.start_count
+    (OnlyReads-start a b Map name _ s) s.asked
 start-refused name n a b call.NoMemory few s =
     refused name n a b NoMemory few (λ t f is. absurd cc) (λ h. absurd cc) (inr (s.counts.this.same_at_no_memory refl)) (inl refl)
-    (OnlyReads-start a b Map name _ s) s.start_count
+    (OnlyReads-start a b Map name _ s) s.asked
 
 -- where there is no room for a piece
 pub no-piece : (name : List ℕ) (n : ℕ) (a b : DepotState) → n < 2 ^ 32 → Starts a b Map name (Ok tt) → ReadsMap name n a b (Err NoMemory)
 no-piece name n a b few s =
     refused name n a b NoMemory few (λ t f is. absurd cc) (λ h. absurd cc) (inr (s.counts.this.same_at_ok refl)) (inl refl)
-    (OnlyReads-start a b Map name _ s) s.start_count
+    (OnlyReads-start a b Map name _ s) s.asked
 
 -- what is left once the slot is started are the bytes under the name
 whole : (name held : List ℕ) (a b : DepotState) → Starts a b Map name (Ok tt) → held ≡ [] → IsTrue a.tells → rest_of held b ≡ bytes_under a name
@@ -98,7 +98,7 @@ ids-refused name held last n a b c e few none s ids =
     (elim q.count_rises_only_there [ inl h ↦ inl (read-of e h) | inr same ↦ inr (same ∙ faults) ])
     (elim q.refusals_rise_only_there [ inl h ↦ inl (want-of e h) | inr same ↦ inr (same ∙ wants-at_start name a b s) ])
     (OnlyReads-trans (OnlyReads-start a b Map name _ s) q.only)
-    (q.starts Map ∙ s.start_count)
+    (was-started-then name Map a b c s.asked (q.starts Map))
 
 -- the ids that were read are an order
 pub read-new_ids : (n : ℕ) (held last ids : List ℕ) (b c : DepotState) → ReadsIds n held last b c (Ok ids) → AreNewIds ids
@@ -124,5 +124,5 @@ map-read name held last ids n a b c few none s read =
       count_rises_only_there = inr (counts-at_ok {x = ids} q ∙ faults);
       refusals_rise_only_there = inr (refusals-at_ok {x = ids} q ∙ wants-at_start name a b s);
       reads = OnlyReads-trans (OnlyReads-start a b Map name _ s) q.only;
-      starts = λ slot is. subst (λ (x : Slot). c.starts x ≡ one_more (a.starts x)) (sym is) (q.starts Map ∙ s.start_count);
+      starts = StartedOnce-slot name Map a c (was-started-then name Map a b c s.asked (q.starts Map));
     }

@@ -20,12 +20,12 @@ pub record ReadsMap (name : List ℕ) (n : ℕ) (old new : DepotState) (result :
   pub first_fault : IsTrue old.tells → (fault : MapFault) → result ≡ Err (Broken fault) → IsMapFault n (bytes_under old name) fault
   pub faulty_is_refused : IsTrue old.tells → (fault : MapFault) → IsMapFault n (bytes_under old name) fault → (ids : List ℕ) → result ≢ Ok ids
   pub no_fault : IsTrue old.tells → (ids : List ℕ) → AreNewIds ids → length ids ≡ n → bytes_under old name ≡ number_sequence ids → (fault : MapFault) → result ≢ Err (Broken fault)
-  -- The first call that fails ends the reading; the slot of the map is started and read, and nothing else is called.
+  -- The first call that fails ends the reading; the slot of the map is started once, under the name, and read, and nothing else is called.
   pub read_only_where_it_rose : result ≡ Err Read → Rose (old.faults Map) (new.faults Map)
   pub count_rises_only_there : (result ≡ Err Read) ⊎ (new.faults Map ≡ old.faults Map)
   pub refusals_rise_only_there : (result ≡ Err NoMemory) ⊎ (new.refusals ≡ old.refusals)
   pub reads : OnlyReads (λ slot. slot ≡ Map) old new
-  pub starts : StartedOnce (λ slot. slot ≡ Map) old new
+  pub starts : StartedOnce (λ slot. name) (λ slot. slot ≡ Map) old new
 
 -- Bytes that are no order of n documents have one first fault, and those of an order have none.
 pub record OneMapFault : Type 0 where

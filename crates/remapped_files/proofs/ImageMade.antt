@@ -1,19 +1,21 @@
 -- What making the files of an image gives: at each refusal, and at the end.
-use Rattle.std.proofs.Common.{◌≡◌, ◌≢◌, refl, sym, ap, ◌∙◌, subst, inl, inr, ℕ, List, [], IsTrue, Result, Ok, Err, unwrap_or, arith}
+use Rattle.std.proofs.Common.{◌≡◌, ◌≢◌, ◌<◌, refl, sym, ap, ◌∙◌, subst, inl, inr, ℕ, List, [], IsTrue, Result, Ok, Err, unwrap_or, arith}
 use Rattle.std.specs.Prelude.{◌⊎◌, IfOk}
 use Rattle.collection_model.specs.Collection.{Collection}
 use Rattle.collection_model.specs.Laws.{OneCollection}
 use Rattle.collection_model.specs.Spelling.{spelled}
 use Rattle.pef_io.specs.declared.fail.Slot.{Slot}
 use Rattle.pef_io.specs.declared.fail.Slot.TheVariants.{Docs, Freqs, Sizes, Index, Side, Map}
-use Rattle.pef_io.specs.Calls.{Rose, one_more}
-use Rattle.pef_io.specs.DepotState.{DepotState, StartedOnce, OnlyReads, bytes_under}
-use Rattle.pef_io.proofs.OnlyReads.{OnlyReads-trans, OnlyReads-wider, NoneStartedTwice-start}
+use Rattle.pef_io.specs.Calls.{Rose}
+use Rattle.pef_io.specs.DepotState.{DepotState, StartedOnce, NoneStartedTwice, OnlyReads, WasStartedAs, bytes_under}
+use Rattle.pef_io.proofs.OnlyReads.{OnlyReads-trans, OnlyReads-wider, NoneStartedTwice-start, was-started-then, then-was-started}
 use Rattle.collection_reader.specs.declared.fault.Fault.{Fault}
 use Rattle.collection_reader.specs.declared.fault.CollError.{CollError}
 use Rattle.collection_reader.specs.declared.fault.CollError.TheVariants as reading
 use Rattle.collection_reader.specs.Laws.{OneFirstFault}
 use Rattle.collection_reader.specs.ReadCollection.{files_at, IsCollectionSlot, ReadsCollection}
+use Rattle.collection_reader.specs.Starting.{turn, names_under, StartedInTurn}
+use Rattle.collection_reader.proofs.InOrder.{read-in_turn}
 use Rattle.remap.specs.declared.fault.MapFault.{MapFault}
 use Rattle.remap.specs.declared.fault.MapError.{MapError}
 use Rattle.remap.specs.declared.fault.MapError.TheVariants as mapping
@@ -22,7 +24,7 @@ use Rattle.remap.specs.MapFaults.{IsMapFault}
 use Rattle.remap.specs.ReadMap.{ReadsMap, OneMapFault}
 use Rattle.command_model.specs.Found.{FindsCollection, HasFault}
 use Rattle.command_model.specs.FilesWritten.{NamedFile}
-use Rattle.command_model.specs.FoundMap.{remap_numbers, IsCollectionOrMap, FindsBothOf, HasMapFault, OnImageFiles, files_under}
+use Rattle.command_model.specs.FoundMap.{remap_numbers, IsCollectionOrMap, names_with_map, FindsBothOf, HasMapFault, OnImageFiles, files_under}
 use Rattle.remapped_files.specs.declared.image.ImageError.{ImageError}
 use Rattle.remapped_files.specs.declared.image.ImageError.TheVariants.{Broken, BrokenMap, Read, NoMemory}
 use Rattle.remapped_files.specs.MakeImage.{MakesImage, image_error, map_error}
@@ -51,6 +53,49 @@ not-map slot (inr (inr h)) is = let bad : Sizes ≡ Map = sym h ∙ is in cc
 
 map-apart : IsCollectionSlot Map → ⊥
 map-apart h = not-map Map h refl
+
+-- the names of the files, by their slots
+collection-named : (base map : List ℕ) (slot : Slot) → (slot ≡ Map → ⊥) → names_under base slot ≡ names_with_map base map slot
+collection-named base map Docs other = refl
+collection-named base map Freqs other = refl
+collection-named base map Sizes other = refl
+collection-named base map Index other = refl
+collection-named base map Side other = refl
+collection-named base map Map other = absurd (other refl)
+
+-- the map is the last
+none-behind : (earlier later : Slot) → earlier ≡ Map → turn earlier < turn later → ⊥
+none-behind earlier Docs is lt = omega (arith, lt)
+none-behind earlier Freqs is lt = omega (arith, lt, ap turn is)
+none-behind earlier Sizes is lt = omega (arith, lt, ap turn is)
+none-behind earlier Index is lt = omega (arith, lt, ap turn is)
+none-behind earlier Side is lt = omega (arith, lt, ap turn is)
+none-behind earlier Map is lt = omega (arith, lt, ap turn is)
+
+-- what is known of the starts of a collection's files, with the name of the map beside
+module _ (base map : List ℕ) (a b : DepotState) where
+  once-with_map : StartedOnce (names_under base) IsCollectionSlot a b → StartedOnce (names_with_map base map) IsCollectionSlot a b
+  once-with_map once slot is = subst (λ n. WasStartedAs n slot a b) (collection-named base map slot (not-map slot is)) (once slot is)
+
+  twice-with_map : OnlyReads IsCollectionSlot a b → NoneStartedTwice (names_under base) a b → NoneStartedTwice (names_with_map base map) a b
+  twice-with_map reads twice slot = elim (is-map slot) [
+    | inl is ↦ inl (reads.other_starts slot (λ h. not-map slot h is))
+    | inr other ↦ elim (twice slot) [
+      | inl none ↦ inl none
+      | inr once ↦ inr (subst (λ n. WasStartedAs n slot a b) (collection-named base map slot other) once)
+    ]
+  ]
+
+  in_turn-with_map : StartedInTurn (names_under base) IsCollectionSlot a b → StartedInTurn (names_with_map base map) IsCollectionOrMap a b
+  in_turn-with_map in_turn earlier later (inl is) lt = elim (in_turn earlier later is lt) [
+    | inl none ↦ inl none
+    | inr once ↦ inr (subst (λ n. WasStartedAs n earlier a b) (collection-named base map earlier (not-map earlier is)) once)
+  ]
+  in_turn-with_map in_turn earlier later (inr is) lt = absurd (none-behind earlier later is lt)
+
+  all-in_turn : StartedOnce (names_with_map base map) IsCollectionSlot a b → StartedInTurn (names_with_map base map) IsCollectionOrMap a b
+  all-in_turn once earlier later (inl is) lt = inr (once earlier is)
+  all-in_turn once earlier later (inr is) lt = absurd (none-behind earlier later is lt)
 
 -- the documents of a collection, by its view
 pub of-view : {name : List ℕ} {n m : ℕ} {a b : DepotState} {r : Result (List ℕ) MapError} → n ≡ m → ReadsMap name n a b r → ReadsMap name m a b r
@@ -91,7 +136,7 @@ module _ (one : OneFirstFault remap_numbers) (base map to : List ℕ) (a b : Dep
   sound-ends reading.NoMemory reads told c found = inr refl
 
   -- the three files were started once, where neither a call nor memory was refused
-  read-once : (e : CollError) → ReadsCollection remap_numbers a b base (Err e) → ((slot : Slot) → image_error e ≢ Read slot) → image_error e ≢ NoMemory → StartedOnce IsCollectionSlot a b
+  read-once : (e : CollError) → ReadsCollection remap_numbers a b base (Err e) → ((slot : Slot) → image_error e ≢ Read slot) → image_error e ≢ NoMemory → StartedOnce (names_under base) IsCollectionSlot a b
   read-once (reading.Broken fault) reads not_read not_wanted = reads.in_order.once
   read-once (reading.Read slot) reads not_read not_wanted = absurd (not_read slot refl)
   read-once reading.NoMemory reads not_read not_wanted = absurd (not_wanted refl)
@@ -128,8 +173,9 @@ module _ (one : OneFirstFault remap_numbers) (base map to : List ℕ) (a b : Dep
           | inr same ↦ inr same
         ];
         reads = OnlyReads-wider (λ slot is. inl is) reads.reads;
-        none_twice = reads.none_twice;
-        started_once = λ not_read not_wanted. read-once e reads (λ slot h. not_read slot (ap Err h)) (λ h. not_wanted (ap Err h));
+        none_twice = twice-with_map base map a b reads.reads reads.none_twice;
+        in_turn = in_turn-with_map base map a b (read-in_turn remap_numbers base a b (Err e) reads);
+        started_once = λ not_read not_wanted. once-with_map base map a b (read-once e reads (λ slot h. not_read slot (ap Err h)) (λ h. not_wanted (ap Err h)));
         map_started_once = λ not_read not_wanted not_broken. absurd (no-other e (λ slot h. not_read slot (ap Err h)) (λ h. not_wanted (ap Err h)) (λ fault h. not_broken fault (ap Err h)));
         map_not_started = λ fault h. reads.reads.other_starts Map map-apart;
         refusals_rise_only_there = elim reads.refusals_rise_only_there [
@@ -198,11 +244,16 @@ module _ (single : OneCollection remap_numbers) (map_one : OneMapFault) (base ma
     both-read : OnlyReads IsCollectionOrMap a c
     both-read = OnlyReads-trans (OnlyReads-wider (λ slot is. inl is) read.reads) (OnlyReads-wider (λ slot is. inr is) m.reads)
 
-    map-once : c.starts Map ≡ one_more (a.starts Map)
-    map-once = m.starts Map refl ∙ ap one_more map-kept
+    map-once : WasStartedAs map Map a c
+    map-once = then-was-started map Map a b c map-kept (m.starts Map refl)
 
-    started : StartedOnce IsCollectionSlot a c
-    started slot is = m.reads.other_starts slot (not-map slot is) ∙ read.started_once slot is
+    started : StartedOnce (names_with_map base map) IsCollectionSlot a c
+    started slot is =
+        was-started-then (names_with_map base map slot) slot a b c (once-with_map base map a b read.started_once slot is) (m.reads.other_starts slot (not-map slot is))
+
+    twice : NoneStartedTwice (names_with_map base map) a c
+    twice =
+        NoneStartedTwice-start (names_with_map base map) a b c Map (twice-with_map base map a b read.reads read.none_twice) map-kept m.reads (inr (m.starts Map refl))
 
     counted : (slot : Slot) → ((slot ≡ Map) × (r ≡ Err mapping.Read)) ⊎ (c.faults slot ≡ a.faults slot)
     counted slot = elim (is-map slot) as (λ _. ((slot ≡ Map) × (r ≡ Err mapping.Read)) ⊎ (c.faults slot ≡ a.faults slot)) [
@@ -253,9 +304,10 @@ module _ (single : OneCollection remap_numbers) (map_one : OneMapFault) (base ma
           | inr same ↦ inr same
         ];
         reads = both-read m;
-        none_twice = NoneStartedTwice-start a b c Map read.none_twice map-kept m.reads (omega (arith, m.starts Map refl));
+        none_twice = twice m;
+        in_turn = all-in_turn base map a c (started m);
         started_once = λ not_read not_wanted. started m;
-        map_started_once = λ not_read not_wanted not_broken slot is. subst (λ s. c.starts s ≡ one_more (a.starts s)) (sym is) (map-once m);
+        map_started_once = λ not_read not_wanted not_broken slot is. subst (λ s. WasStartedAs (names_with_map base map s) s a c) (sym is) (map-once m);
         map_not_started = λ fault h. absurd (never-collection e fault (at (Broken fault) h));
         refusals_rise_only_there = elim m.refusals_rise_only_there [
           | inl h ↦ let this : e ≡ mapping.NoMemory = cc in inl (ap (λ x. Err (map_error x)) this)
@@ -298,9 +350,10 @@ module _ (single : OneCollection remap_numbers) (map_one : OneMapFault) (base ma
           read_only_where_it_rose = λ slot h. absurd (not_read slot h);
           count_rises_only_there = λ slot. inr (map-counts slot);
           reads = both-read m;
-          none_twice = NoneStartedTwice-start a b c Map read.none_twice map-kept m.reads (omega (arith, m.starts Map refl));
+          none_twice = twice m;
+          in_turn = all-in_turn base map a c (started m);
           started_once = λ is_read is_wanted. started m;
-          map_started_once = λ is_read is_wanted is_broken slot is. subst (λ s. c.starts s ≡ one_more (a.starts s)) (sym is) (map-once m);
+          map_started_once = λ is_read is_wanted is_broken slot is. subst (λ s. WasStartedAs (names_with_map base map s) s a c) (sym is) (map-once m);
           map_not_started = λ fault h. absurd (not_broken fault h);
           refusals_rise_only_there = inr map-wants;
         }

@@ -8,12 +8,13 @@ use Rattle.collection_reader.specs.declared.fault.Fault.{Fault}
 use Rattle.collection_reader.specs.declared.fault.CollError.{CollError}
 use Rattle.collection_reader.specs.declared.fault.CollError.TheVariants as reading
 use Rattle.collection_reader.specs.ReadCollection.{IsCollectionSlot}
+use Rattle.collection_reader.specs.Starting.{StartedInTurn}
 use Rattle.remap.specs.declared.fault.MapFault.{MapFault}
 use Rattle.remap.specs.declared.fault.MapError.{MapError}
 use Rattle.remap.specs.declared.fault.MapError.TheVariants as mapping
 use Rattle.command_model.specs.Found.{FindsCollection, HasFault}
 use Rattle.command_model.specs.FilesWritten.{NamedFile}
-use Rattle.command_model.specs.FoundMap.{remap_numbers, IsCollectionOrMap, FindsBothOf, HasMapFault, OnImageFiles}
+use Rattle.command_model.specs.FoundMap.{remap_numbers, IsCollectionOrMap, names_with_map, FindsBothOf, HasMapFault, OnImageFiles}
 use Rattle.remapped_files.specs.declared.image.ImageError.{ImageError}
 use Rattle.remapped_files.specs.declared.image.ImageError.TheVariants.{Broken, BrokenMap, Read, NoMemory}
 use Rattle.remapped_files.specs.declared.image.NamedFile as made
@@ -63,8 +64,9 @@ pub record MakesImage (base map to : List ℕ) (old new : DepotState) (result : 
   pub read_only_where_it_rose : (slot : Slot) → result ≡ Err (Read slot) → IsCollectionOrMap slot × Rose (old.faults slot) (new.faults slot)
   pub count_rises_only_there : (slot : Slot) → (result ≡ Err (Read slot)) ⊎ (new.faults slot ≡ old.faults slot)
   pub reads : OnlyReads IsCollectionOrMap old new
-  pub none_twice : NoneStartedTwice old new
-  pub started_once : ((slot : Slot) → result ≢ Err (Read slot)) → result ≢ Err NoMemory → StartedOnce IsCollectionSlot old new
-  pub map_started_once : ((slot : Slot) → result ≢ Err (Read slot)) → result ≢ Err NoMemory → ((fault : Fault) → result ≢ Err (Broken fault)) → StartedOnce (λ slot. slot ≡ Map) old new
+  pub none_twice : NoneStartedTwice (names_with_map base map) old new
+  pub in_turn : StartedInTurn (names_with_map base map) IsCollectionOrMap old new
+  pub started_once : ((slot : Slot) → result ≢ Err (Read slot)) → result ≢ Err NoMemory → StartedOnce (names_with_map base map) IsCollectionSlot old new
+  pub map_started_once : ((slot : Slot) → result ≢ Err (Read slot)) → result ≢ Err NoMemory → ((fault : Fault) → result ≢ Err (Broken fault)) → StartedOnce (names_with_map base map) (λ slot. slot ≡ Map) old new
   pub map_not_started : (fault : Fault) → result ≡ Err (Broken fault) → new.starts Map ≡ old.starts Map
   pub refusals_rise_only_there : (result ≡ Err NoMemory) ⊎ (new.refusals ≡ old.refusals)

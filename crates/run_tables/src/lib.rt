@@ -22,5 +22,5 @@ pub use printed::{
 };
 pub use runs::{
     ANSWER, AUDIT, BLOCKS, BQUERY, BUILD, BUILD_ONE, FileList, INSPECT, MIGRATE, OPS, Outcome,
-    QUERY, REMAP, run_over, run_to_replies, run_words, steady_run,
+    QUERY, REMAP, are_names, run_over, run_to_replies, run_words, steady_run,
 };

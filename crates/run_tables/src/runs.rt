@@ -70,6 +70,24 @@ impl Outcome {
             && self.input.calls() == 0
             && self.out.calls() == 0
     }
+
+    /// Whether the slot was asked to start under these names, in this order, and under no other.
+    pub fn started(&self, slot: Slot, names: &[&str]) -> bool {
+        are_names(self.depot.names(slot), names)
+    }
+}
+
+/// Whether these names are told.
+pub fn are_names(told: Option<&[String]>, names: &[&str]) -> bool {
+    let Some(told) = told else {
+        return false;
+    };
+    if told.len() != names.len() {
+        return false;
+    }
+    told.iter()
+        .zip(names.iter())
+        .all(|(name, wanted)| name.as_str() == *wanted)
 }
 
 /// Runs these words, the program's name first; none where memory for them is wanting.

@@ -4,14 +4,16 @@ use Rattle.std.specs.Prelude.{◌≢◌, ◌⊎◌, ◌==◌, ◌^◌, not, nat_
 use Rattle.std.specs.declared.alloc.Global.{Global}
 use Rattle.std.specs.List.{All}
 use Rattle.std.proofs.lemmas.Bool.{cases_lt, eqb-true, eqb-false, ltb-true, ltb-false, not-true}
-use Rattle.std.proofs.lemmas.List.{length-append, length-take, map-append, get_or-take, get_or_append_left, get_or-append_right, get_or-map}
+use Rattle.std.proofs.lemmas.List.{append_assoc, append-nil, length_push, length-append, length-take, map-append, get_or-take, get_or_append_left, get_or-append_right, get_or-map}
 use Rattle.std.proofs.lemmas.List.Elements.{All-append, All-cons, All-nil}
 use Rattle.std.proofs.lemmas.List.Sums.{sum_by_push}
+use Rattle.std.proofs.Math.Seq.{take-suc}
 use Rattle.collection_model.specs.Collection.{Collection}
 use Rattle.part_cost.specs.Formats.{numbers_of}
 use Rattle.pef_io.specs.declared.fail.Slot.TheVariants.{Index}
 use Rattle.pef_io.specs.Calls.{one_more}
-use Rattle.pef_io.specs.DepotState.{DepotState, OnlyReads, bytes_under}
+use Rattle.pef_io.specs.Starting.{Starting, StartedAs}
+use Rattle.pef_io.specs.DepotState.{DepotState, OnlyReads, WasStartedAs, bytes_under}
 use Rattle.pef_io.proofs.OnlyReads.{OnlyReads-same, OnlyReads-trans}
 use Rattle.index_file.specs.declared.fault.OpenFault.{OpenFault}
 use Rattle.index_file.specs.FileWords.{IsIndex, file_words}
@@ -29,7 +31,7 @@ use Rattle.command_ends.specs.Ends.{EndsByFault}
 use Rattle.command_ends.specs.FoundIndex.{FindsIndexOf, HasBroken, IsFirstBrokenOfFile}
 use Rattle.command_ends.specs.FoundSegments.{no_collection, OnSegment, IsUnfit}
 use Rattle.command_ends.specs.Sources.{EndsAt, IndexesAt}
-use Rattle.command_ends.specs.SegmentStarts.{raised, IsSegmentCount}
+use Rattle.command_ends.specs.SegmentStarts.{raised, IsSegmentCount, StartedUnder}
 use Rattle.segment_commands.specs.Private.ReadSegments.{first_terms, pushed_of, IsAccepted, RejectedAs, IsRejected, AreAccepted, AreRejected}
 use Rattle.command_ends.proofs.Counted.{stays, Of}
 use Rattle.segment_commands.proofs.SegmentsFound.{come}
@@ -116,6 +118,14 @@ broken_before old mid name fault reads t broken =
 
 -- ---- one after the other
 
+-- one more start behind those under some names
+started_more : (names : List (List ℕ)) (name : List ℕ) (a b c : Starting) → StartedUnder names a b → StartedAs name b c → StartedUnder (names ++ name ∷ []) a c
+started_more names name a b c before this = record {
+  count = this.count ∙ ap one_more before.count ∙ ap (λ n. raised n a.count) (let e : suc (length names) ≡ length (names ++ name ∷ []) = omega (arith, length_push names name) in e);
+  told = λ t. before.told (this.told t);
+  named = λ t. this.named t ∙ ap (λ ns. ns ++ name ∷ []) (before.named (this.told t)) ∙ append_assoc a.names names (name ∷ []);
+}
+
 -- none is read
 pub none_accepted : (names : List (List ℕ)) (old : DepotState) → AreAccepted names 0 none_pushed old old []
 none_accepted names old = record {
@@ -124,7 +134,7 @@ none_accepted names old = record {
   pushed = refl;
   reads = OnlyReads-same old;
   faults = refl;
-  starts = refl;
+  starts = record { count = refl; told = λ t. t; named = λ t. sym (append-nil (old.starts Index).names) };
   refusals = refl;
 }
   where
@@ -135,6 +145,12 @@ module _ (names : List (List ℕ)) (k : ℕ) (name : List ℕ) (before : Pushed)
     (lt : k < length names) (is : name ≡ get_or names k []) where
   abbrev cs : List Collection
   cs = collections_of files
+
+  -- its file is started behind those before it
+  one_more_started : WasStartedAs name Index mid now → StartedUnder (take (suc k) names) (old.starts Index) (now.starts Index)
+  one_more_started this =
+      subst (λ ns. StartedUnder ns (old.starts Index) (now.starts Index)) (ap (λ n. take k names ++ n ∷ []) is ∙ sym (take-suc names k [] lt))
+      (started_more (take k names) name (old.starts Index) (mid.starts Index) (now.starts Index) accepted.starts this)
 
   -- the next one is accepted
   pub one_accepted : (after : Pushed) (words : List ℕ) (more : List (List ℕ)) → IsAccepted name before after mid now words → more ≡ files ++ words ∷ [] → AreAccepted names (k + 1) after old now more
@@ -160,7 +176,7 @@ module _ (names : List (List ℕ)) (k : ℕ) (name : List ℕ) (before : Pushed)
         pushed = w.pushed ∙ ap (λ p. with_segment p c.documents (length c.lists)) accepted.pushed ∙ with_pushed cs c ∙ ap pushed_of (sym all);
         reads = OnlyReads-trans accepted.reads w.reads;
         faults = w.faults ∙ accepted.faults;
-        starts = w.starts ∙ ap one_more accepted.starts ∙ ap (λ n. raised n (old.starts Index)) next;
+        starts = subst (λ n. StartedUnder (take n names) (old.starts Index) (now.starts Index)) next (one_more_started w.starts);
         refusals = w.refusals ∙ accepted.refusals;
       }
     where
@@ -187,7 +203,7 @@ module _ (names : List (List ℕ)) (k : ℕ) (name : List ℕ) (before : Pushed)
     ends = (told outcome w.ends).0;
     reads = OnlyReads-trans accepted.reads w.reads;
     faults = subst (λ n. EndsByFault (OfFile Index) outcome n (now.faults Index)) accepted.faults w.faults;
-    starts = (suc k, (told outcome w.ends).1, come names old cs k (suc k) accepted.found (omega arith) (omega (arith, lt)), w.starts ∙ ap one_more accepted.starts);
+    starts = (suc k, (told outcome w.ends).1, come names old cs k (suc k) accepted.found (omega arith) (omega (arith, lt)), one_more_started w.starts);
     refusals = elim w.refusals [ inl refused ↦ inl refused | inr same ↦ inr (same ∙ accepted.refusals) ];
   }
     where

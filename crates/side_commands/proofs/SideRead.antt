@@ -1,14 +1,14 @@
 -- What a run leaves at an index and its side file: it came to no index, or to no side file, or both were read.
-use Rattle.std.proofs.Common.{◌≡◌, ℕ, ◌≤◌, ◌<◌, refl, sym, ◌∙◌, ap, subst, List, [], length, inl, inr}
-use Rattle.std.specs.Prelude.{◌≢◌, ◌%◌, IsTrue, Ok, Err, unwrap_or}
+use Rattle.std.proofs.Common.{◌≡◌, ℕ, ◌≤◌, ◌<◌, arith, refl, sym, ◌∙◌, ap, subst, List, [], length, inl, inr}
+use Rattle.std.specs.Prelude.{◌≢◌, ◌⊎◌, ◌%◌, IsTrue, Ok, Err, unwrap_or}
 use Rattle.part_cost.specs.Formats.{numbers_of}
 use Rattle.pef_io.specs.declared.fail.Slot.{Slot}
-use Rattle.pef_io.specs.declared.fail.Slot.TheVariants.{Index, Side}
-use Rattle.pef_io.specs.Calls.{one_more}
-use Rattle.pef_io.specs.DepotState.{DepotState, OnlyReads, bytes_under}
+use Rattle.pef_io.specs.declared.fail.Slot.TheVariants.{Docs, Freqs, Sizes, Index, Side, Map}
+use Rattle.pef_io.specs.DepotState.{DepotState, NoneStartedTwice, OnlyReads, WasStartedAs, bytes_under}
 use Rattle.pef_io.specs.SourceState.{SourceState}
 use Rattle.pef_io.specs.SinkState.{SinkState}
-use Rattle.pef_io.proofs.OnlyReads.{OnlyReads-trans, OnlyReads-wider}
+use Rattle.pef_io.proofs.OnlyReads.{OnlyReads-trans, OnlyReads-wider, was-started-then, then-was-started}
+use Rattle.collection_reader.specs.Starting.{turn}
 use Rattle.index_file.specs.FileWords.{Spells}
 use Rattle.index_file.specs.IndexView.{IndexView}
 use Rattle.block_max.specs.declared.fault.SideFault.{SideFault}
@@ -24,7 +24,7 @@ use Rattle.command_ends.specs.Outside.{Count, Outside, outside, OfFile}
 use Rattle.command_ends.specs.Outcome.{Outcome, Done, BrokenIndex, BrokenSide, FileFault, NoMemory, TooLarge, fault_of}
 use Rattle.command_ends.specs.Ends.{EndsByFault, IsStopped}
 use Rattle.command_ends.specs.FoundIndex.{FindsIndex}
-use Rattle.command_ends.specs.FoundSide.{FindsWithSide, HasBrokenSide, IsFirstSideFaultOfFile, IsIndexOrSide, IsSideSlot}
+use Rattle.command_ends.specs.FoundSide.{FindsWithSide, HasBrokenSide, IsFirstSideFaultOfFile, IsIndexOrSide, IsSideSlot, names_with_side}
 use Rattle.command_ends.specs.Sources.{Accepts, EndsAt, IndexAt, SideAt, Starts}
 use Rattle.command_ends.specs.Starts.{StartsOnly}
 use Rattle.command_ends.specs.Steps.LoadedIndex.{IsLoaded}
@@ -53,12 +53,44 @@ no_fault count h = cc
 
 -- ---- what is started
 
+-- the slots behind that of the index
+behind_index : (earlier later : Slot) → IsIndexOrSide earlier → turn earlier < turn later → later ≢ Index
+behind_index earlier later (inl e) lt l = omega (arith, lt, ap turn e, ap turn l)
+behind_index earlier later (inr e) lt l = omega (arith, lt, ap turn e, ap turn l)
+
+behind_side : (earlier later : Slot) → earlier ≡ Side → turn earlier < turn later → later ≢ Side
+behind_side earlier later e lt l = omega (arith, lt, ap turn e, ap turn l)
+
+index_named : (index side : List ℕ) (slot : Slot) → slot ≢ Side → index ≡ names_with_side index side slot
+index_named index side Side other = absurd (other refl)
+index_named index side Docs other = refl
+index_named index side Freqs other = refl
+index_named index side Sizes other = refl
+index_named index side Index other = refl
+index_named index side Map other = refl
+
+-- the index at most once, and no other slot
+index_once : (index side : List ℕ) (outcome : Outcome) (d d' : DepotState) → StartsOnly (λ slot. index) IsIndexSlot outcome d d' → NoneStartedTwice (names_with_side index side) d d'
+index_once index side outcome d d' s =
+    by_slot Index (λ slot. (d'.starts slot ≡ d.starts slot) ⊎ WasStartedAs (names_with_side index side slot) slot d d') (s.none_twice Index) (λ slot other. inl (s.no_others slot other))
+
 -- the index alone, where a call on its file failed or memory was refused
-widened : (outcome : Outcome) (d d' : DepotState) → IsStopped outcome → StartsOnly IsIndexSlot outcome d d' → StartsOnly IsIndexOrSide outcome d d'
-widened outcome d d' why s = record {
-  none_twice = s.none_twice;
+widened : (index side : List ℕ) (outcome : Outcome) (d d' : DepotState) → IsStopped outcome → StartsOnly (λ slot. index) IsIndexSlot outcome d d' → StartsOnly (names_with_side index side) IsIndexOrSide outcome d d'
+widened index side outcome d d' why s = record {
+  none_twice = index_once index side outcome d d' s;
   no_others = λ slot other. s.no_others slot (λ is. other (inl is));
   once = λ files memory slot is. elim why [ inl file ↦ absurd (files file.0 file.1) | inr refused ↦ absurd (memory refused) ];
+  in_turn = λ earlier later is lt. inl (s.no_others later (behind_index earlier later is lt));
+  refusals = s.refusals;
+}
+
+-- the index alone, with the name of the side file beside
+with_side : (index side : List ℕ) (outcome : Outcome) (d d' : DepotState) → StartsOnly (λ slot. index) IsIndexSlot outcome d d' → StartsOnly (names_with_side index side) IsIndexSlot outcome d d'
+with_side index side outcome d d' s = record {
+  none_twice = index_once index side outcome d d' s;
+  no_others = s.no_others;
+  once = λ files memory slot is. subst (λ x. WasStartedAs (names_with_side index side x) x d d') (sym is) (s.once files memory Index refl);
+  in_turn = λ earlier later is lt. inl (s.no_others later (behind_index earlier later (inl is) lt));
   refusals = s.refusals;
 }
 
@@ -69,7 +101,7 @@ not_index : (slot : Slot) → slot ≡ Side → slot ≢ Index
 not_index slot is h = let bad : Side ≡ Index = sym is ∙ h in cc
 
 -- both, by a run that was not refused the index
-both_started : (index side : List ℕ) (d d2 : DepotState) (outcome : Outcome) → IsTrue (was_read outcome) → StartsOnly IsIndexOrSide outcome d d2 → Starts (SideAt index side) outcome d d2
+both_started : (index side : List ℕ) (d d2 : DepotState) (outcome : Outcome) → IsTrue (was_read outcome) → StartsOnly (names_with_side index side) IsIndexOrSide outcome d d2 → Starts (SideAt index side) outcome d d2
 both_started index side d d2 (BrokenIndex fault) read s = absurd (not_true read)
 both_started index side d d2 (TooLarge Index) read s = absurd (not_true read)
 both_started index side d d2 outcome read s = s
@@ -83,11 +115,11 @@ at_index index side d (FileFault slot) h = inl h
 at_index index side d (TooLarge slot) h = inl h
 at_index index side d outcome h = absurd h
 
-index_started : (index side : List ℕ) (d d1 : DepotState) (outcome : Outcome) → EndsAt (IndexAt index) d outcome → StartsOnly IsIndexSlot outcome d d1
+index_started : (index side : List ℕ) (d d1 : DepotState) (outcome : Outcome) → EndsAt (IndexAt index) d outcome → StartsOnly (λ slot. index) IsIndexSlot outcome d d1
     → Starts (SideAt index side) outcome d d1
-index_started index side d d1 (BrokenIndex fault) h s = s
-index_started index side d d1 (FileFault slot) h s = widened (FileFault slot) d d1 (inl (slot, refl)) s
-index_started index side d d1 (TooLarge Index) h s = s
+index_started index side d d1 (BrokenIndex fault) h s = with_side index side (BrokenIndex fault) d d1 s
+index_started index side d d1 (FileFault slot) h s = widened index side (FileFault slot) d d1 (inl (slot, refl)) s
+index_started index side d d1 (TooLarge Index) h s = with_side index side (TooLarge Index) d d1 s
 index_started index side d d1 (TooLarge slot) h s = let bad : slot ≡ Index = h.0 in cc
 index_started index side d d1 outcome h s = absurd h
 
@@ -100,7 +132,7 @@ as_unread index side old new outcome (why, w) = (
       | inl at ↦ index_started index side old.depot new.depot outcome at w.starts
       | inr memory ↦
           subst (λ x. Starts (SideAt index side) x old.depot new.depot) (sym memory)
-          (widened NoMemory old.depot new.depot (inr refl) (subst (λ x. StartsOnly IsIndexSlot x old.depot new.depot) memory w.starts))
+          (widened index side NoMemory old.depot new.depot (inr refl) (subst (λ x. StartsOnly (λ slot. index) IsIndexSlot x old.depot new.depot) memory w.starts))
     ];
     files = w.files;
     input = w.input;
@@ -123,7 +155,7 @@ module _ (laws : Laws) (index side : List ℕ) (d d1 : DepotState) (view : Index
     inr refl,
     record {
       reads = OnlyReads-wider (λ slot is. inl is) opened.loads.reads;
-      starts = widened NoMemory d d1 (inr refl) (starts Index index d d1 opened.words opened.loads NoMemory);
+      starts = widened index side NoMemory d d1 (inr refl) (starts Index index d d1 opened.words opened.loads NoMemory);
       files = λ slot. stays (OfFile slot) NoMemory _ _ (λ h. cc) (loaded_counts Index index d d1 opened.words opened.loads slot);
       input = refl;
       out = refl;
@@ -138,18 +170,32 @@ module _ (laws : Laws) (index side : List ℕ) (d d1 : DepotState) (view : Index
     both_read : OnlyReads IsSideSlot d1 d2 → OnlyReads IsIndexOrSide d d2
     both_read r = OnlyReads-trans (OnlyReads-wider (λ slot is. inl is) opened.loads.reads) (OnlyReads-wider (λ slot is. inr is) r)
 
-    both_start : (outcome : Outcome) → StartsOnly IsSideSlot outcome d1 d2 → StartsOnly IsIndexOrSide outcome d d2
+    side_fresh : d1.starts Side ≡ d.starts Side
+    side_fresh = opened.loads.reads.other_starts Side (not_index Side refl)
+
+    both_start : (outcome : Outcome) → StartsOnly (λ slot. side) IsSideSlot outcome d1 d2 → StartsOnly (names_with_side index side) IsIndexOrSide outcome d d2
     both_start outcome s =
         let w = opened.loads in
-        let first : StartsOnly IsIndexSlot Done d d1 = starts Index index d d1 opened.words w Done in
+        let first : StartsOnly (λ slot. index) IsIndexSlot Done d d1 = starts Index index d d1 opened.words w Done in
+        let index_there : (slot : Slot) → slot ≡ Index → WasStartedAs (names_with_side index side slot) slot d d2 = λ slot one.
+        subst (λ x. WasStartedAs (names_with_side index side x) x d d2) (sym one)
+        (was-started-then index Index d d1 d2 (w.started_once Index refl) (s.no_others Index (not_side Index refl))) in
         record {
-          none_twice = by_slot Side (λ slot. d2.starts slot ≤ one_more (d.starts slot))
-              (subst (λ n. d2.starts Side ≤ one_more n) (w.reads.other_starts Side (not_index Side refl)) (s.none_twice Side))
-              (λ slot other. subst (λ n. n ≤ one_more (d.starts slot)) (sym (s.no_others slot other)) (first.none_twice slot));
+          none_twice = by_slot Side (λ slot. (d2.starts slot ≡ d.starts slot) ⊎ WasStartedAs (names_with_side index side slot) slot d d2)
+              (elim (s.none_twice Side) [ inl none ↦ inl (none ∙ side_fresh) | inr once ↦ inr (then-was-started side Side d d1 d2 side_fresh once) ])
+              (λ slot other. elim (first.none_twice slot) [
+                | inl none ↦ inl (s.no_others slot other ∙ none)
+                | inr once ↦ inr (subst (λ n. WasStartedAs n slot d d2) (index_named index side slot other) (was-started-then index slot d d1 d2 once (s.no_others slot other)))
+              ]);
           no_others = λ slot other. s.no_others slot (λ is. other (inr is)) ∙ w.reads.other_starts slot (λ is. other (inl is));
           once = λ files memory slot is. elim is [
-            | inl one ↦ s.no_others slot (not_side slot one) ∙ w.started_once slot one
-            | inr two ↦ s.once files memory slot two ∙ ap one_more (w.reads.other_starts slot (not_index slot two))
+            | inl one ↦ index_there slot one
+            | inr two ↦
+                subst (λ x. WasStartedAs (names_with_side index side x) x d d2) (sym two) (then-was-started side Side d d1 d2 side_fresh (s.once files memory Side refl))
+          ];
+          in_turn = λ earlier later is lt. elim is [
+            | inl one ↦ inr (index_there earlier one)
+            | inr two ↦ inl (s.no_others later (behind_side earlier later two lt) ∙ w.reads.other_starts later (behind_index earlier later (inr two) lt))
           ];
           refusals = elim s.refusals [ inl refused ↦ inl refused | inr same ↦ inr (same ∙ second first.refusals (λ h. let bad : Done ≡ NoMemory = h in cc)) ];
         }
@@ -174,7 +220,7 @@ module _ (laws : Laws) (index side : List ℕ) (d d1 : DepotState) (view : Index
         out = refl;
       }
 
-      started : (error : LoadWordsError) → LoadsWords Side side d1 d2 (Err error) → StartsOnly IsIndexOrSide (outcome_of_stop (stop_of_side error)) d d2
+      started : (error : LoadWordsError) → LoadsWords Side side d1 d2 (Err error) → StartsOnly (names_with_side index side) IsIndexOrSide (outcome_of_stop (stop_of_side error)) d d2
       started error w = both_start (outcome_of_stop (stop_of_side error)) (unloaded_starts Side (stop.Side ragged_side) no_fault side d1 d2 error w)
 
       -- the file breaks this check

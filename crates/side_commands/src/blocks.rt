@@ -23,7 +23,7 @@ pub fn write_blocks<D: Depot>(
     depot: &mut D,
 ) -> Result<(), Stop>
     ensures { (i : SourceState) (o e e' : SinkState) (costs : ℕ) →
-        Leaves (WritesBlocks index.now side.now) (StartsOnly IsIndexSlot)
+        Leaves (WritesBlocks index.now side.now) (StartsOnly (λ slot. index.now) IsIndexSlot)
         (outside (D.state depot.old) i o e costs) (outside (D.state depot.new) i o e' costs)
         (outcome_of result) }
 {

@@ -9,9 +9,9 @@ use Rattle.collection_model.specs.Bytes.{le64, word_bytes}
 use Rattle.pef_io.specs.declared.fail.IoFail.{IoFail}
 use Rattle.pef_io.specs.declared.fail.IoFail.TheVariants as call
 use Rattle.pef_io.specs.declared.fail.Slot.{Slot}
-use Rattle.pef_io.specs.Calls.{Rose, one_more}
-use Rattle.pef_io.specs.DepotState.{DepotState, StartedOnce, Starts, bytes_under}
-use Rattle.pef_io.proofs.OnlyReads.{OnlyReads-same, OnlyReads-start, OnlyReads-trans}
+use Rattle.pef_io.specs.Calls.{Rose}
+use Rattle.pef_io.specs.DepotState.{DepotState, StartedOnce, Starts, WasStartedAs, bytes_under}
+use Rattle.pef_io.proofs.OnlyReads.{OnlyReads-same, OnlyReads-start, OnlyReads-trans, StartedOnce-slot, was-started-then}
 use Rattle.pef_io.specs.Loads.{FillsPiece}
 use Rattle.index_file.specs.declared.bytes.WordsError.{WordsError}
 use Rattle.index_file.specs.declared.bytes.WordsError.TheVariants as spelled
@@ -35,8 +35,8 @@ stays-then (inl p) e = inl p
 stays-then (inr h) e = inr (h ∙ e)
 
 -- the slot was started once
-once-slot : (slot : Slot) (old mid new : DepotState) → mid.starts slot ≡ one_more (old.starts slot) → new.starts slot ≡ mid.starts slot → StartedOnce (λ s. s ≡ slot) old new
-once-slot slot old mid new once same s is = ap new.starts is ∙ same ∙ once ∙ ap (λ x. one_more (old.starts x)) (sym is)
+once-slot : (slot : Slot) (name : List ℕ) (old mid new : DepotState) → WasStartedAs name slot old mid → new.starts slot ≡ mid.starts slot → StartedOnce (λ s. name) (λ s. s ≡ slot) old new
+once-slot slot name old mid new once same = StartedOnce-slot name slot old new (was-started-then name slot old mid new once same)
 
 -- memory that was not refused
 not-wanted : {A : Type 0} (r : Result A IoFail) {before now : ℕ} → (IsErrOf r call.NoMemory → ⊥) → IsErrOf r call.NoMemory ⊎ (now ≡ before) → now ≡ before
@@ -273,7 +273,7 @@ start-refused slot name old new call.Failed s = record {
   read_only_where_it_rose = λ is. s.counts.this.failed_only_where_it_rose refl;
   count_rises_only_there = inl refl;
   reads = OnlyReads-start old new slot name (Err call.Failed) s;
-  started_once = once-slot slot old new new s.start_count refl;
+  started_once = once-slot slot name old new new s.asked refl;
   refusals_rise_only_there = inr (not-wanted {A = Unit {0}} (Err call.Failed) (λ h. cc) s.counts.refusals.rises_only_there);
 }
 start-refused slot name old new call.NoMemory s = record {
@@ -287,7 +287,7 @@ start-refused slot name old new call.NoMemory s = record {
   read_only_where_it_rose = λ is. cc;
   count_rises_only_there = inr (s.counts.this.same_at_no_memory refl);
   reads = OnlyReads-start old new slot name (Err call.NoMemory) s;
-  started_once = once-slot slot old new new s.start_count refl;
+  started_once = once-slot slot name old new new s.asked refl;
   refusals_rise_only_there = inl refl;
 }
 
@@ -304,7 +304,7 @@ words-loaded slot name old mid new words s r fit = record {
   read_only_where_it_rose = λ is. cc;
   count_rises_only_there = inr (count-stays r.count_rises_only_there (λ h. cc) (s.counts.this.same_at_ok refl));
   reads = OnlyReads-trans (OnlyReads-start old mid slot name (Ok tt) s) r.reads;
-  started_once = once-slot slot old mid new s.start_count (r.starts slot);
+  started_once = once-slot slot name old mid new s.asked (r.starts slot);
   refusals_rise_only_there = inr (count-stays r.refusals_rise_only_there (λ h. cc) (not-wanted {A = Unit {0}} (Ok tt) started-well s.counts.refusals.rises_only_there));
 }
   where
@@ -324,7 +324,7 @@ loading-refused slot name old mid new e s r = record {
   read_only_where_it_rose = λ is. let P : ℕ → Type 0 = λ n. Rose n (new.faults slot) in subst P (s.counts.this.same_at_ok refl) (r.read_only_where_it_rose is);
   count_rises_only_there = stays-then r.count_rises_only_there (s.counts.this.same_at_ok refl);
   reads = OnlyReads-trans (OnlyReads-start old mid slot name (Ok tt) s) r.reads;
-  started_once = once-slot slot old mid new s.start_count (r.starts slot);
+  started_once = once-slot slot name old mid new s.asked (r.starts slot);
   refusals_rise_only_there = stays-then r.refusals_rise_only_there (not-wanted {A = Unit {0}} (Ok tt) started-well s.counts.refusals.rises_only_there);
 }
   where

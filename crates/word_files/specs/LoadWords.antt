@@ -34,8 +34,8 @@ pub record LoadsWords (slot : Slot) (name : List ℕ) (old new : DepotState) (re
   pub count_rises_only_there : (result ≡ Err Read) ⊎ (new.faults slot ≡ old.faults slot)
   -- The slot is started and read, and nothing else is called.
   pub reads : OnlyReads (λ s. s ≡ slot) old new
-  -- It is started exactly once, whatever comes of it, and the first memory that the depot is refused ends the loading.
-  pub started_once : StartedOnce (λ s. s ≡ slot) old new
+  -- It is started exactly once, under the name, whatever comes of it, and the first memory that the depot is refused ends the loading.
+  pub started_once : StartedOnce (λ s. name) (λ s. s ≡ slot) old new
   pub refusals_rise_only_there : (result ≡ Err NoMemory) ⊎ (new.refusals ≡ old.refusals)
 
 -- What loading a file gives of which all words are kept only where it begins with this word.

@@ -1,5 +1,6 @@
 // Replies from an index and its side file.
 use crate::rows::is_answered;
+use pef_io::Slot;
 use pef_top::Status;
 use run_tables::{BQUERY, ONE_LIST_WORDS, ONE_LIST_WORDS_OF_TWO, index_and_side, steady_run};
 use std::alloc::Global;
@@ -107,7 +108,8 @@ const REFUSED: [(&[&str], &[u64], &[u64], Status, &str); 10] = [
     ),
 ];
 
-// Whether a run of these words over an index and a side file ends so.
+// Whether a run of these words over an index and a side file ends so, and starts each file under its name, the side file only where
+// the index is one.
 fn is_refused(
     alloc: Global,
     words: &[&str],
@@ -117,7 +119,11 @@ fn is_refused(
     line: &str,
 ) -> Option<bool> {
     let run = steady_run(alloc, words, index_and_side(alloc, index, side)?, TEXT)?;
-    Some(run.ends(status, line))
+    let names = words.get(2..)?;
+    let sides = if status == Status::Side { 1 } else { 0 };
+    let started = run.started(Slot::Index, names.get(..1)?)
+        && run.started(Slot::Side, names.get(1..)?.get(..sides)?);
+    Some(started && run.ends(status, line))
 }
 
 #[test]

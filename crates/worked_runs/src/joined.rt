@@ -1,7 +1,7 @@
 // Indexes that are answered as one collection.
 use crate::answers::USAGE;
 use crate::rows::run_in_turn;
-use pef_io::{Op, Slot};
+use pef_io::Slot;
 use pef_top::Status;
 use run_tables::{
     BUILD, BUILD_ONE, FileList, NO_LIST_WORDS, Numbers, ONE_LIST_WORDS, ONE_LIST_WORDS_OF_TWO,
@@ -50,12 +50,19 @@ const TWICE_TEXT: &str = "next 0 3\nor 0\ntop 2 0\nand 0\nnext 0 6\nnext 1 0\n";
 
 const TWICE_REPLIES: &str = "3 1\n4 0 2 3 5\n2 2:5 5:5\n4 0 2 3 5\nend\nbad term\n";
 
-// The words of runs over index files, a text, how they end, with replies or refused, and how many files are started. A file that is
+// The words of runs over index files, a text, how they end, with replies or refused, and how many of their files are started, each under its name. A file that is
 // no index, or cannot be joined to those before it, ends the run before the next is started.
-const JOINED: [(&[&str], Indexes, &str, Result<&str, (Status, &str)>, u64); 10] = [
+const JOINED: [(&[&str], Indexes, &str, Result<&str, (Status, &str)>, usize); 11] = [
     (BY_ALL, TWICE, TWICE_TEXT, Ok(TWICE_REPLIES), 2),
     (BY_WAND, TWICE, TWICE_TEXT, Ok(TWICE_REPLIES), 2),
     (BY_MAXSCORE, TWICE, TWICE_TEXT, Ok(TWICE_REPLIES), 2),
+    (
+        &["pefidx", "segments", "y", "y"],
+        &[("y", &ONE_LIST_WORDS)],
+        TWICE_TEXT,
+        Ok(TWICE_REPLIES),
+        2,
+    ),
     (
         &["pefidx", "segments", "y"],
         &[("y", &NO_LIST_WORDS)],
@@ -107,14 +114,14 @@ const JOINED: [(&[&str], Indexes, &str, Result<&str, (Status, &str)>, u64); 10] 
     ),
 ];
 
-// Whether a run of these words over index files ends so, with replies or refused, and starts so many files.
+// Whether a run of these words over index files ends so, with replies or refused, and starts so many of its files, the first first.
 fn ends_so(
     alloc: Global,
     words: &[&str],
     indexes: &[(&str, &[u64])],
     text: &str,
     end: Result<&str, (Status, &str)>,
-    starts: u64,
+    starts: usize,
 ) -> Option<bool> {
     let run = steady_run(alloc, words, indexes_of(alloc, indexes)?, text.as_bytes())?;
     let right = match end {
@@ -124,7 +131,8 @@ fn ends_so(
         }
         Err((status, line)) => run.ends(status, line),
     };
-    Some(right && run.depot.calls(Op::Start(Slot::Index)) == starts)
+    let names = words.get(2..)?.get(..starts)?;
+    Some(right && run.started(Slot::Index, names))
 }
 
 #[test]

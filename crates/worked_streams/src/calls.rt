@@ -31,3 +31,16 @@ pub(crate) fn load<D: Depot>(
     depot.start(Slot::Index, name)?;
     load_bytes(alloc, depot, Slot::Index, limit)
 }
+
+// Whether these names are told.
+pub(crate) fn are_names(told: Option<&[String]>, names: &[&str]) -> bool {
+    let Some(told) = told else {
+        return false;
+    };
+    if told.len() != names.len() {
+        return false;
+    }
+    told.iter()
+        .zip(names.iter())
+        .all(|(name, wanted)| name.as_str() == *wanted)
+}

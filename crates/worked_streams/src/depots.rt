@@ -1,5 +1,5 @@
 // Depots in memory, read and written.
-use crate::calls::{put, read_twice};
+use crate::calls::{are_names, put, read_twice};
 use crate::held::files;
 use pef_io::{Depot, IoFail, MemDepot, Op, Slot, SteadyDepot};
 
@@ -25,6 +25,8 @@ fn depots_read_and_write(rt: HostRuntime) {
     for op in [Op::Write, Op::Start(Slot::Docs)] {
         assert_eq!(rt; depot.calls(op), 2, "{op:?}");
     }
+    assert!(rt; are_names(depot.names(Slot::Docs), &["a", "none"]));
+    assert!(rt; are_names(depot.names(Slot::Freqs), &[]));
 }
 
 #[test]
@@ -49,5 +51,7 @@ fn depots_fail_where_they_are_told_to(rt: HostRuntime) {
         let wanted = written.map(|text| text.as_bytes());
         assert_eq!(rt; outcome, (result, wanted), "{op:?} {number}");
         assert_eq!(rt; depot.start(Slot::Index, "none"), Err(IoFail::Failed));
+        assert!(rt; are_names(depot.names(Slot::Docs), &["a"]));
+        assert!(rt; are_names(depot.names(Slot::Index), &["none"]));
     }
 }

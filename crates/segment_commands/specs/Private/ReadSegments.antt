@@ -1,8 +1,7 @@
 use Rattle.std.specs.Prelude.{◌≡◌, ◌⊎◌, ⊤, ℕ, ◌<◌, ◌^◌, IsTrue, List, [], ◌∷◌, length, take, Option, Some, None}
 use Rattle.collection_model.specs.Collection.{Collection}
 use Rattle.pef_io.specs.declared.fail.Slot.TheVariants.{Index}
-use Rattle.pef_io.specs.DepotState.{DepotState, OnlyReads, bytes_under}
-use Rattle.pef_io.specs.Calls.{one_more}
+use Rattle.pef_io.specs.DepotState.{DepotState, OnlyReads, WasStartedAs, bytes_under}
 use Rattle.index_file.specs.FileWords.{IsIndex}
 use Rattle.index_file.specs.IndexView.{index_stated}
 use Rattle.segments.specs.Joined.{documents_in}
@@ -15,7 +14,7 @@ use Rattle.command_ends.specs.Ends.{EndsByFault}
 use Rattle.command_ends.specs.FoundIndex.{FindsIndexOf, HasBroken}
 use Rattle.command_ends.specs.FoundSegments.{FindsSegments}
 use Rattle.command_ends.specs.Sources.{EndsAt, IndexesAt}
-use Rattle.command_ends.specs.SegmentStarts.{raised, StartsInTurn}
+use Rattle.command_ends.specs.SegmentStarts.{StartedUnder, StartsInTurn}
 
 -- how many terms the first of some collections has, where there is one
 abbrev pub first_terms : List Collection → Option ℕ
@@ -38,7 +37,7 @@ pub record IsAccepted (name : List ℕ) (before after : Pushed) (old now : Depot
       (length (index_stated words).collection.lists)
   pub reads : OnlyReads IsIndexSlot old now
   pub faults : now.faults Index ≡ old.faults Index
-  pub starts : now.starts Index ≡ one_more (old.starts Index)
+  pub starts : WasStartedAs name Index old now
   pub refusals : now.refusals ≡ old.refusals
 
 -- How a run ends at the index under the name, which is segment s behind what was pushed.
@@ -60,7 +59,7 @@ pub record IsRejected (name : List ℕ) (s : ℕ) (before : Pushed) (old now : D
   pub ends : RejectedAs name s before old outcome
   pub reads : OnlyReads IsIndexSlot old now
   pub faults : EndsByFault (OfFile Index) outcome (old.faults Index) (now.faults Index)
-  pub starts : now.starts Index ≡ one_more (old.starts Index)
+  pub starts : WasStartedAs name Index old now
   pub refusals : (outcome ≡ NoMemory) ⊎ (now.refusals ≡ old.refusals)
 
 -- The words of the first k segments were read, and these are accepted.
@@ -71,7 +70,7 @@ pub record AreAccepted (names : List (List ℕ)) (k : ℕ) (after : Pushed) (old
   pub pushed : after ≡ pushed_of (collections_of files)
   pub reads : OnlyReads IsIndexSlot old now
   pub faults : now.faults Index ≡ old.faults Index
-  pub starts : now.starts Index ≡ raised k (old.starts Index)
+  pub starts : StartedUnder (take k names) (old.starts Index) (now.starts Index)
   pub refusals : now.refusals ≡ old.refusals
 
 -- A run ends before all segments are accepted.

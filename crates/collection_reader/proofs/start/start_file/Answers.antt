@@ -1,4 +1,4 @@
-use Rattle.std.proofs.Common.{rules, arith, inr}
+use Rattle.std.proofs.Common.{rules}
 use Rattle.collection_reader.proofs.start.start_file.Goals as goal
 
 pub returns : goal.returns
@@ -7,6 +7,6 @@ returns g c = record {
   whole_file = λ t. tt;
   no_fault = search rules;
   depot = search rules;
-  started_once = inr c.start.ensures.start_count;
-  not_twice = omega (arith, c.start.ensures.start_count);
+  started_once = search rules;
+  not_twice = search rules;
 }
