@@ -14,7 +14,7 @@ use Rattle.scan_plans.specs.IsTop.{IsTopOf, IsTopFrom}
 use Rattle.scan_plans.specs.Scan.{HasPassed}
 use Rattle.scan_plans.specs.Skips.{IsBarred, CannotEnter, TopAfterSkips, TopIsBelow, HasOnlyBelow}
 use Rattle.topk_pruning.specs.declared.term.Term.{Term}
-use Rattle.topk_pruning.specs.Terms.{term_of, list_of, in_lists, bounds, AreTerms, AreAllTerms, score_in, beats, IsFirstDoc, IsNextDoc, AreSpared, IsEssential}
+use Rattle.topk_pruning.specs.Terms.{term_of, list_of, in_lists, bounds, AreTerms, AreAllTerms, score_in, beats, IsFirstDoc, IsNextDoc, AreSpared, IsEssential, FollowsTo}
 use Rattle.topk_pruning.proofs.Scores.{any-is, score-is, bounded-at, shares-within, few-bound}
 use Rattle.topk_pruning.proofs.Bars.{barred-lower}
 use Rattle.topk_pruning.proofs.Moves.{later-passed}
@@ -130,3 +130,8 @@ pub next-same : (now lists : List (List Posting)) (slice terms : List Term) (f g
 next-same now lists slice terms f g j k from held o same slices floors ks next =
     subst (λ (ls : List (List Posting)). IsNextDoc ls terms g k held from o) same (subst (λ (ts : List Term). IsNextDoc now ts g k held from o) slices
     (subst (λ (f : ℕ). IsNextDoc now slice f k held from o) floors (subst (λ (j : ℕ). IsNextDoc now slice f j held from o) ks next)))
+
+pub follows-same : (now lists : List (List Posting)) (slice terms : List Term) (f g j k from to : ℕ) (held new : List (ℕ × ℕ)) → now ≡ lists → slice ≡ terms → f ≡ g → j ≡ k → FollowsTo now slice f j from to held new → FollowsTo lists terms g k from to held new
+follows-same now lists slice terms f g j k from to held new same slices floors ks follows =
+    subst (λ (ls : List (List Posting)). FollowsTo ls terms g k from to held new) same (subst (λ (ts : List Term). FollowsTo now ts g k from to held new) slices
+    (subst (λ (f : ℕ). FollowsTo now slice f k from to held new) floors (subst (λ (j : ℕ). FollowsTo now slice f j from to held new) ks follows)))

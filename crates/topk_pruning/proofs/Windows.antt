@@ -35,24 +35,20 @@ terms-apart lists weights terms moved =
     let b = ap (λ (t : Term). t.list) (get_or-map-range_with_len (term_of lists weights) 0 n j j d (omega arith) (omega arith)) in
     λ e. absurd (omega arith))
 
+-- what holds for each weight holds for that of each term
+terms-each : (P : ℕ → Type 0) (lists : List (List Posting)) (weights : List ℕ) (terms : List Term) → length weights ≡ length lists → All P weights → IsPermutation (terms_of lists weights) terms → All (λ t. P t.weight) terms
+terms-each P lists weights terms each all moved =
+    let Has : Term → Type 0 = λ t. P t.weight in
+    All-permutation Has (terms_of lists weights) terms moved (All-map Has (term_of lists weights) (range_with_len 0 (length lists)) (λ k d within.
+    let l = length-range_with_len 0 (length lists) in
+    let at = get_or-range_with_len 0 (length lists) k d (omega arith) in
+    all (get_or (range_with_len 0 (length lists)) k d) 0 (omega arith)))
+
 pub terms-small : (lists : List (List Posting)) (weights : List ℕ) (terms : List Term) → length weights ≡ length lists → sum weights < 2 ^ 26 → IsPermutation (terms_of lists weights) terms → All (λ t. t.weight < 2 ^ 26) terms
-terms-small lists weights terms each light moved =
-    let Small : Term → Type 0 = λ t. t.weight < 2 ^ 26 in
-    let n : ℕ = length lists in
-    All-permutation Small (terms_of lists weights) terms moved (All-map Small (term_of lists weights) (range_with_len 0 n) (λ k d within.
-    let l = length-range_with_len 0 n in
-    let at = get_or-range_with_len 0 n k d (omega arith) in
-    let le = get_or-le-sum_by (λ (w : ℕ). w) weights (get_or (range_with_len 0 n) k d) 0 (omega arith) in
-    omega arith))
+terms-small lists weights terms each light moved = terms-each (λ w. w < 2 ^ 26) lists weights terms each (λ k d within. let le = get_or-le-sum_by (λ (w : ℕ). w) weights k d within in omega arith) moved
 
 pub terms-weighty : (lists : List (List Posting)) (weights : List ℕ) (terms : List Term) → length weights ≡ length lists → All (λ w. 1 ≤ w) weights → IsPermutation (terms_of lists weights) terms → All (λ t. 1 ≤ t.weight) terms
-terms-weighty lists weights terms each some moved =
-    let Weighty : Term → Type 0 = λ t. 1 ≤ t.weight in
-    let n : ℕ = length lists in
-    All-permutation Weighty (terms_of lists weights) terms moved (All-map Weighty (term_of lists weights) (range_with_len 0 n) (λ k d within.
-    let l = length-range_with_len 0 n in
-    let at = get_or-range_with_len 0 n k d (omega arith) in
-    some (get_or (range_with_len 0 n) k d) 0 (omega arith)))
+terms-weighty lists weights terms each some moved = terms-each (λ w. 1 ≤ w) lists weights terms each some moved
 
 -- all that is known of them
 pub query-terms : (lists : List (List Posting)) (weights : List ℕ) (terms : List Term) → length weights ≡ length lists → sum weights < 2 ^ 26 → IsPermutation (terms_of lists weights) terms → bounds terms < 2 ^ 58 → AreQueryTerms lists terms
@@ -64,24 +60,18 @@ query-terms lists weights terms each light moved bounded = record {
 
 -- ---- some of the terms
 pub are-take : (lists : List (List Posting)) (from to : ℕ) (terms : List Term) (i : ℕ) → AreTermsIn lists from to terms → AreTermsIn lists from to (take i terms)
-are-take lists from to terms i are =
-    let whole = sum_by-take-drop (λ (t : Term). t.bound) terms i in
-    let light = are.light in
-    record {
-      within = All-take (λ (t : Term). t.list < length lists) i terms are.within;
-      bounded = λ d after before. All-take (λ (t : Term). share lists d t ≤ t.bound) i terms (are.bounded d after before);
-      light = omega arith;
-    }
+are-take lists from to terms i are = record {
+  within = All-take (λ (t : Term). t.list < length lists) i terms are.within;
+  bounded = λ d after before. All-take (λ (t : Term). share lists d t ≤ t.bound) i terms (are.bounded d after before);
+  light = omega (arith, sum_by-take-drop (λ (t : Term). t.bound) terms i, are.light);
+}
 
 pub are-drop : (lists : List (List Posting)) (from to : ℕ) (terms : List Term) (i : ℕ) → AreTermsIn lists from to terms → AreTermsIn lists from to (drop i terms)
-are-drop lists from to terms i are =
-    let whole = sum_by-take-drop (λ (t : Term). t.bound) terms i in
-    let light = are.light in
-    record {
-      within = All-drop (λ (t : Term). t.list < length lists) i terms are.within;
-      bounded = λ d after before. All-drop (λ (t : Term). share lists d t ≤ t.bound) i terms (are.bounded d after before);
-      light = omega arith;
-    }
+are-drop lists from to terms i are = record {
+  within = All-drop (λ (t : Term). t.list < length lists) i terms are.within;
+  bounded = λ d after before. All-drop (λ (t : Term). share lists d t ≤ t.bound) i terms (are.bounded d after before);
+  light = omega (arith, sum_by-take-drop (λ (t : Term). t.bound) terms i, are.light);
+}
 
 pub apart-take : (terms : List Term) (n : ℕ) → AreApart terms → AreApart (take n terms)
 apart-take terms n apart i j d lt within =
@@ -188,10 +178,7 @@ module _ (lists : List (List Posting)) (terms : List Term) (essential first : �
 
   -- the whole score of a document is what is known, and what the others give
   pub whole-score : (k : ℕ) → k < length scores → get_or scores k 0 + score_in lists (first + k) (drop essential terms) ≡ score_in lists (first + k) terms
-  whole-score k within =
-      let whole = sum_by-take-drop (share lists (first + k)) terms essential in
-      let known = scored k within in
-      omega arith
+  whole-score k within = omega (arith, sum_by-take-drop (share lists (first + k)) terms essential, scored k within)
 
   pub light-score : (k : ℕ) → k < length scores → get_or scores k 0 + bounds (drop essential terms) < 2 ^ 58
   light-score k within =

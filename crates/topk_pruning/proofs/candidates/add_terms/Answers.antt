@@ -1,4 +1,4 @@
-use Rattle.std.proofs.Common.{◌≡◌, refl, sym, ap, ◌∙◌, subst, ℕ, ◌+◌, ◌*◌, ◌||◌, max, List, map, take, length, get_or, arith}
+use Rattle.std.proofs.Common.{◌≡◌, refl, sym, ap, ◌∙◌, subst, ℕ, ◌+◌, ◌*◌, ◌<◌, ◌||◌, max, List, map, take, length, get_or, arith}
 use Rattle.std.specs.List.{list_any}
 use Rattle.std.proofs.lemmas.List.{get_or_default}
 use Rattle.std.proofs.lemmas.List.Elements.{All-set}
@@ -30,32 +30,18 @@ loop-term-init g c = record {
 
 pub doc_from-requires : goal.doc_from-requires
 doc_from-requires g c =
-    let list = g.C.DocCursor.list in
-    let place = g.C.DocCursor.place in
-    let lists : List (List Posting) = map list c.args.cursors.now in
-    let terms : List Term = c.args.terms.now in
-    let cs = c.loop-term.cursors in
-    let i : ℕ = c.loop-term.term-index in
-    let t : Term = get_or terms i no_term in
-    let d = c.index-cursors-term.result in
-    let so_far = c.loop-term.invariant in
-    let same = kept-read terms c.args.cursors.now cs i no_term d c.loop-term-test.true c.requires.terms.apart so_far.kept in
-    record { passed = subst (λ x. HasPassed c.args.window.first (list x) (place x)) (sym same) (c.requires.passed t.list d (term-inside list place c.args.cursors.now lists terms i no_term refl c.requires.terms.terms_in.within c.loop-term-test.true)) }
+    let same = kept-read c.args.terms.now c.args.cursors.now c.loop-term.cursors c.loop-term.term-index no_term c.index-cursors-term.result c.loop-term-test.true c.requires.terms.apart c.loop-term.invariant.kept in
+    let inside = term-inside g.C.DocCursor.list g.C.DocCursor.place c.args.cursors.now (map g.C.DocCursor.list c.args.cursors.now) c.args.terms.now c.loop-term.term-index no_term refl c.requires.terms.terms_in.within c.loop-term-test.true in
+    record { passed = subst (λ x. HasPassed c.args.window.first (g.C.DocCursor.list x) (g.C.DocCursor.place x)) (sym same) (c.requires.passed (get_or c.args.terms.now c.loop-term.term-index no_term).list c.index-cursors-term.result inside) }
 
 pub add_list-requires-clause-room : goal.add_list-requires-clause-room
 add_list-requires-clause-room g c = λ k e inside_scores.
-    let lists : List (List Posting) = map g.C.DocCursor.list c.args.cursors.now in
-    let terms : List Term = c.args.terms.now in
-    let i : ℕ = c.loop-term.term-index in
-    let so_far = c.loop-term.invariant in
-    let count = so_far.count in
+    let short : k < length c.args.window.scores.now = omega (arith, inside_scores, c.loop-term.invariant.count) in
     let read = get_or_default c.loop-term.scores k e 0 inside_scores in
-    let scored = so_far.scored k (omega arith) in
-    let le = shares-within lists (c.args.window.first + k) (take i terms) ((are-take lists c.args.window.first (c.args.window.first + length c.args.window.scores.now) terms i c.requires.terms.terms_in).bounded (c.args.window.first + k) (omega arith) (omega arith)) in
-    let whole = sum_by-take-le (λ (t : Term). t.bound) terms i in
-    let light = c.requires.terms.terms_in.light in
-    let small = c.requires.terms.small i no_term c.loop-term-test.true in
-    omega arith
+    let le = shares-within (map g.C.DocCursor.list c.args.cursors.now) (c.args.window.first + k) (take c.loop-term.term-index c.args.terms.now)
+    ((are-take (map g.C.DocCursor.list c.args.cursors.now) c.args.window.first (c.args.window.first + length c.args.window.scores.now) c.args.terms.now c.loop-term.term-index c.requires.terms.terms_in).bounded (c.args.window.first + k) (omega arith) (omega (arith, short))) in
+    let whole = sum_by-take-le (λ (t : Term). t.bound) c.args.terms.now c.loop-term.term-index in
+    omega (arith, read, c.loop-term.invariant.scored k short, le, whole, c.requires.terms.terms_in.light, c.requires.terms.small c.loop-term.term-index no_term c.loop-term-test.true)
 
 pub loop-term-preserved : goal.loop-term-preserved
 loop-term-preserved g c =

@@ -1,4 +1,4 @@
-use Rattle.std.proofs.Common.{◌≡◌, refl, sym, ap, ◌∙◌, subst, inl, inr, ℕ, ◌+◌, ◌-◌, ◌<◌, false, min, List, map, take, drop, length, get_or, arith}
+use Rattle.std.proofs.Common.{◌≡◌, refl, sym, ap, ◌∙◌, subst, inl, inr, ℕ, ◌+◌, ◌-◌, ◌<◌, ◌≤◌, true, false, min, List, map, take, drop, length, get_or, arith}
 use Rattle.std.proofs.lemmas.Bool.{cases_lt}
 use Rattle.std.proofs.lemmas.List.{get_or_default}
 use Rattle.std.specs.Option.{IfSome}
@@ -8,13 +8,13 @@ use Rattle.scan_plans.specs.Window.{is_marked}
 use Rattle.scan_plans.specs.Skips.{IsBarred}
 use Rattle.scan_plans.proofs.TakenBack.{taken-then}
 use Rattle.topk_pruning.specs.declared.term.Term.{Term}
-use Rattle.topk_pruning.specs.Terms.{AreBefore, AreTermsIn, Considers, bounds, score_in}
+use Rattle.topk_pruning.specs.Terms.{AreBefore, AreTermsIn, Considers, FollowsTo, bounds, score_in}
 use Rattle.topk_pruning.proofs.Alike.{in-narrower}
 use Rattle.topk_pruning.proofs.Bars.{bars-at}
 use Rattle.topk_pruning.proofs.Windows.{IsNextCandidate, are-drop, behind-is, before-later, spared-kept, unmarked-none, light-score, marked-any, follows-passed, follows-considered, considered-above, candidate-there, none-there}
 use Rattle.topk_pruning.proofs.candidates.offer_candidates.Given as given
 use Rattle.topk_pruning.proofs.candidates.offer_candidates.Goals as goal
-use Rattle.topk_pruning.proofs.candidates.offer_candidates.Goals.{In-Some}
+use Rattle.topk_pruning.proofs.candidates.offer_candidates.Goals.{After-total_bound-left, After-least_score, In-Some}
 
 pub loop-place-init : goal.loop-place-init
 loop-place-init g c =
@@ -39,6 +39,20 @@ total_bound-left-requires g c =
     let light = (are-drop (map g.C.DocCursor.list c.args.cursors.now) c.args.window.first (c.args.window.first + length c.args.window.scores.now) c.args.terms.all.now c.args.terms.essential c.requires.terms).light in
     let same = ap bounds (behind-is c.args.terms.all.now c.args.terms.essential) in
     record { light = omega arith }
+
+-- what the other terms can add
+left-is : (g : given.Over) (c : After-total_bound-left g) → c.total_bound-left.result ≡ bounds (drop c.args.terms.essential c.args.terms.all.now)
+left-is g c = c.total_bound-left.ensures ∙ ap bounds (behind-is c.args.terms.all.now c.args.terms.essential)
+
+-- documents whose scores they cannot lift are passed over
+passed-to : (g : given.Over) (c : After-least_score g) (to : ℕ) → c.args.window.first + c.loop-place.from ≤ to → to ≤ c.args.window.first + length c.args.window.scores.now
+    → ((j : ℕ) → c.loop-place.from ≤ j → c.args.window.first + j < to → is_marked c.args.window.marks.now j ≡ true → get_or c.args.window.scores.now j 0 < c.least_score.result)
+    → FollowsTo (map g.C.DocCursor.list c.args.cursors.now) c.args.terms.all.now c.args.top.now.floor c.args.top.now.k c.args.window.first to c.args.top.now.held c.loop-place.top.held
+passed-to g c to le end lower =
+    let bars = bars-at c.bar.result c.loop-place.top.floor c.args.top.now.floor c.loop-place.top.k c.args.top.now.k c.loop-place.top.held c.loop-place.invariant.floor c.loop-place.invariant.k c.bar.ensures in
+    let low = subst (λ (b : ℕ). IfSome c.bar.result (λ least. c.least_score.result ≡ min (least + 1) 18446744073709551615 - b)) (left-is g (goal.at.After-least_score g c).After-total_bound-left) c.least_score.ensures.some in
+    follows-passed (map g.C.DocCursor.list c.args.cursors.now) c.args.terms.all.now c.args.terms.essential c.args.window.first c.args.window.scores.now c.args.window.marks.now c.requires.terms c.requires.scored.scored c.requires.scored.marked c.top_list_grows.ensures.skipped
+    c.loop-place.from to c.args.top.now.floor c.args.top.now.k c.least_score.result c.bar.result c.args.top.now.held c.loop-place.top.held c.loop-place.invariant.spared bars c.least_score.ensures.none low le end lower c.loop-place.invariant.held
 
 pub take_candidate-requires-clause-reached : goal.take_candidate-requires-clause-reached
 take_candidate-requires-clause-reached g c =
@@ -66,9 +80,8 @@ candidate-known g c =
 candidate-below : (g : given.Over) (c : In-Some g) → c.args.window.first + c.in-Some.place < c.args.top.now.n
 candidate-below g c =
     let next = candidate-known g c in
-    let lists : List (List Posting) = map g.C.DocCursor.list c.args.cursors.now in
-    c.top_list_grows.ensures.in_range c.args.top.now.n lists (c.args.window.first + c.in-Some.place) c.requires.search.below
-    (marked-any lists c.args.terms.all.now c.args.terms.essential c.args.window.first c.args.window.scores.now c.args.window.marks.now c.requires.terms c.requires.scored.scored c.requires.scored.marked c.in-Some.place next.within next.marked)
+    c.top_list_grows.ensures.in_range c.args.top.now.n (map g.C.DocCursor.list c.args.cursors.now) (c.args.window.first + c.in-Some.place) c.requires.search.below
+    (marked-any (map g.C.DocCursor.list c.args.cursors.now) c.args.terms.all.now c.args.terms.essential c.args.window.first c.args.window.scores.now c.args.window.marks.now c.requires.terms c.requires.scored.scored c.requires.scored.marked c.in-Some.place next.within next.marked)
 
 pub overflow_cast-doc : goal.overflow_cast-doc
 overflow_cast-doc g c =
@@ -76,36 +89,26 @@ overflow_cast-doc g c =
 
 pub consider-requires-clause-asked : goal.consider-requires-clause-asked
 consider-requires-clause-asked g c =
-    let list = g.C.DocCursor.list in
-    let place = g.C.DocCursor.place in
-    let lists : List (List Posting) = map list c.args.cursors.now in
-    let now : List (List Posting) = map list c.loop-place.cursors in
-    let terms : List Term = c.args.terms.all.now in
-    let others : List Term = drop c.args.terms.essential terms in
-    let end : ℕ = c.args.window.first + length c.args.window.scores.now in
+    let lists : List (List Posting) = map g.C.DocCursor.list c.args.cursors.now in
     let next = candidate-known g (goal.at.consider-requires-clause-asked g c).In-Some in
-    let inside = next.within in
-    let after = next.after in
-    let is = next.scored in
-    let start = c.from.ensures in
-    let left = c.total_bound-left.ensures in
-    let same = ap bounds (behind-is terms c.args.terms.essential) in
-    let light = light-score lists terms c.args.terms.essential c.args.window.first c.args.window.scores.now c.args.window.marks.now c.requires.terms c.requires.scored.scored c.requires.scored.marked c.in-Some.place inside in
+    let lent = behind-is c.args.terms.all.now c.args.terms.essential in
+    let light = light-score lists c.args.terms.all.now c.args.terms.essential c.args.window.first c.args.window.scores.now c.args.window.marks.now c.requires.terms c.requires.scored.scored c.requires.scored.marked c.in-Some.place next.within in
     let doc : ℕ = c.from.result + c.in-Some.place in
-    let here : AreTermsIn lists doc (doc + 1) others = in-narrower lists c.args.window.first end doc (doc + 1) others (omega arith) (omega arith) (are-drop lists c.args.window.first end terms c.args.terms.essential c.requires.terms) in
+    let here : AreTermsIn lists doc (doc + 1) (drop c.args.terms.essential c.args.terms.all.now) =
+    in-narrower lists c.args.window.first (c.args.window.first + length c.args.window.scores.now) doc (doc + 1) (drop c.args.terms.essential c.args.terms.all.now) (omega (arith, c.from.ensures)) (omega (arith, c.from.ensures, next.within))
+    (are-drop lists c.args.window.first (c.args.window.first + length c.args.window.scores.now) c.args.terms.all.now c.args.terms.essential c.requires.terms) in
     record {
-      terms_in = subst (AreTermsIn now doc (doc + 1)) (sym (behind-is terms c.args.terms.essential)) (subst (λ (ls : List (List Posting)). AreTermsIn ls doc (doc + 1) others) (sym c.loop-place.invariant.lists) here);
-      bound = left;
-      light = omega arith;
-      before = subst (λ (ts : List Term). AreBefore list place doc ts c.loop-place.cursors) (sym (behind-is terms c.args.terms.essential))
-          (before-later list place (c.args.window.first + c.loop-place.from) doc others c.loop-place.cursors (omega arith) c.loop-place.invariant.before);
+      terms_in = subst (AreTermsIn (map g.C.DocCursor.list c.loop-place.cursors) doc (doc + 1)) (sym lent) (subst (λ (ls : List (List Posting)). AreTermsIn ls doc (doc + 1) (drop c.args.terms.essential c.args.terms.all.now)) (sym c.loop-place.invariant.lists) here);
+      bound = c.total_bound-left.ensures;
+      light = omega (arith, light, next.scored, left-is g (goal.at.consider-requires-clause-asked g c).After-total_bound-left);
+      before = subst (λ (ts : List Term). AreBefore g.C.DocCursor.list g.C.DocCursor.place doc ts c.loop-place.cursors) (sym lent)
+          (before-later g.C.DocCursor.list g.C.DocCursor.place (c.args.window.first + c.loop-place.from) doc (drop c.args.terms.essential c.args.terms.all.now) c.loop-place.cursors (omega (arith, c.from.ensures, next.after)) c.loop-place.invariant.before);
     }
 
 pub consider-requires-clause-above : goal.consider-requires-clause-above
 consider-requires-clause-above g c =
-    let after = (candidate-known g (goal.at.consider-requires-clause-above g c).In-Some).after in
-    let start = c.from.ensures in
-    λ i e within. let h = c.loop-place.invariant.above i e within in omega arith
+    let next = (candidate-known g (goal.at.consider-requires-clause-above g c).In-Some).after in
+    λ i e within. omega (arith, c.loop-place.invariant.above i e within, next, c.from.ensures)
 
 pub consider-requires-clause-in_range : goal.consider-requires-clause-in_range
 consider-requires-clause-in_range g c =
@@ -131,12 +134,8 @@ loop-place-preserved g c =
     let held : List (ℕ × ℕ) = c.loop-place.top.held in
     let new : List (ℕ × ℕ) = c.consider.new.top.held in
     let lent : take (length terms - c.args.terms.essential) (drop c.args.terms.essential terms) ≡ others = behind-is terms c.args.terms.essential in
-    let left : c.total_bound-left.result ≡ bounds others = c.total_bound-left.ensures ∙ ap bounds lent in
-    let low : IfSome c.bar.result (λ least. c.least_score.result ≡ min (least + 1) 18446744073709551615 - bounds others) = subst (λ (b : ℕ). IfSome c.bar.result (λ least. c.least_score.result ≡ min (least + 1) 18446744073709551615 - b)) left c.least_score.ensures.some in
     let floor : ℕ = c.args.top.now.floor in
-    let bars = bars-at c.bar.result c.loop-place.top.floor floor c.loop-place.top.k c.args.top.now.k held so_far.floor k c.bar.ensures in
-    let here = follows-passed lists terms c.args.terms.essential c.args.window.first c.args.window.scores.now c.args.window.marks.now c.requires.terms c.requires.scored.scored c.requires.scored.marked c.top_list_grows.ensures.skipped c.loop-place.from (c.args.window.first + at) floor c.args.top.now.k c.least_score.result c.bar.result c.args.top.now.held held
-    so_far.spared bars c.least_score.ensures.none low (omega arith) (omega arith) (λ j f lt is. next.passed j f (omega arith) is) so_far.held in
+    let here = passed-to g (goal.at.loop-place-preserved g c).After-least_score (c.args.window.first + at) (omega arith) (omega arith) (λ j f lt is. next.passed j f (omega arith) is) in
     let known : c.in-Some.score + score_in (map list c.loop-place.cursors) (c.from.result + at) (take (length terms - c.args.terms.essential) (drop c.args.terms.essential terms)) ≡ get_or c.args.window.scores.now at 0 + score_in lists (c.args.window.first + at) others =
     (let a = next.scored in
     let b = ap (λ (ls : List (List Posting)). score_in ls (c.from.result + at) (take (length terms - c.args.terms.essential) (drop c.args.terms.essential terms))) so_far.lists in
@@ -190,23 +189,10 @@ returns-clause-left g c =
 
 pub returns-clause-searched : goal.returns-clause-searched
 returns-clause-searched g c =
-    let lists : List (List Posting) = map g.C.DocCursor.list c.args.cursors.now in
-    let terms : List Term = c.args.terms.all.now in
-    let so_far = c.loop-place.invariant in
-    let k = so_far.k in
-    let held : List (ℕ × ℕ) = c.loop-place.top.held in
-    let others : List Term = drop c.args.terms.essential terms in
-    let left : c.total_bound-left.result ≡ bounds others = c.total_bound-left.ensures ∙ ap bounds (behind-is terms c.args.terms.essential) in
-    let low : IfSome c.bar.result (λ least. c.least_score.result ≡ min (least + 1) 18446744073709551615 - bounds others) = subst (λ (b : ℕ). IfSome c.bar.result (λ least. c.least_score.result ≡ min (least + 1) 18446744073709551615 - b)) left c.least_score.ensures.some in
-    let floor : ℕ = c.args.top.now.floor in
-    let bars = bars-at c.bar.result c.loop-place.top.floor floor c.loop-place.top.k c.args.top.now.k held so_far.floor k c.bar.ensures in
-    let within = so_far.within in
-    let in_range = so_far.in_range in
-    let none = none-there c.args.window.scores.now c.args.window.marks.now c.loop-place.scores c.loop-place.marks c.loop-place.from c.requires.scored.wide so_far.taken c.least_score.result c.in_default.ensures.none in
+    let none = none-there c.args.window.scores.now c.args.window.marks.now c.loop-place.scores c.loop-place.marks c.loop-place.from c.requires.scored.wide c.loop-place.invariant.taken c.least_score.result c.in_default.ensures.none in
     record {
-      k = k;
-      n = so_far.n;
-      floor = so_far.floor;
-      held = follows-passed lists terms c.args.terms.essential c.args.window.first c.args.window.scores.now c.args.window.marks.now c.requires.terms c.requires.scored.scored c.requires.scored.marked c.top_list_grows.ensures.skipped c.loop-place.from (min (c.args.window.first + length c.args.window.scores.now) c.args.top.now.n) floor c.args.top.now.k c.least_score.result c.bar.result c.args.top.now.held held
-          so_far.spared bars c.least_score.ensures.none low (omega arith) (omega arith) (λ j f lt is. none j f (omega arith) is) so_far.held;
+      k = c.loop-place.invariant.k;
+      n = c.loop-place.invariant.n;
+      floor = c.loop-place.invariant.floor;
+      held = passed-to g (goal.at.returns-clause-searched g c).After-least_score (min (c.args.window.first + length c.args.window.scores.now) c.args.top.now.n) (omega (arith, c.loop-place.invariant.within, c.loop-place.invariant.in_range)) (omega arith) (λ j f lt is. none j f (omega (arith, lt)) is);
     }

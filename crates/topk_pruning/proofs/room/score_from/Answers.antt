@@ -1,21 +1,24 @@
-use Rattle.std.proofs.Common.{sym, ◌∙◌, subst, ℕ, ◌<◌, ◌^◌, List, map, arith}
+use Rattle.std.proofs.Common.{◌≡◌, sym, ◌∙◌, subst, ℕ, ◌<◌, ◌^◌, ◌++◌, List, map, take, drop, length, arith}
 use Rattle.collection_model.specs.Collection.{Posting}
 use Rattle.topk_pruning.specs.declared.term.Term.{Term}
 use Rattle.topk_pruning.specs.Terms.{AreWindowTerms, FollowsTo}
 use Rattle.topk_pruning.proofs.Alike.{alike-all, alike-apart, follows-alike}
 use Rattle.topk_pruning.proofs.Near.{written-back}
+use Rattle.topk_pruning.proofs.room.score_from.Given as given
 use Rattle.topk_pruning.proofs.room.score_from.Goals as goal
+use Rattle.topk_pruning.proofs.room.score_from.Goals.{After-bound_terms-reach}
+
+-- the terms that were bounded are those of the room
+bounded : (g : given.Over) (c : After-bound_terms-reach g) → take c.args.room.now.terms.len (c.bound_terms-reach.new.near ++ drop (length c.bound_terms-reach.new.near) c.args.room.now.terms.items) ≡ c.bound_terms-reach.new.near
+bounded g c = written-back c.args.room.now.terms.len c.bound_terms-reach.new.near c.args.room.now.terms.items c.args.room.now.terms.ok.0 (c.bound_terms-reach.ensures.each ∙ sym c.requires.ready.each)
 
 pub score_up_to-requires-clause-terms : goal.score_up_to-requires-clause-terms
 score_up_to-requires-clause-terms g c =
-    let lists : List (List Posting) = map g.C.DocCursor.list c.args.cursors.now in
-    let near : List Term = c.bound_terms-reach.new.near in
     let is = c.bound_terms-reach.ensures.near in
-    let same = written-back c.args.room.now.terms.len near c.args.room.now.terms.items c.args.room.now.terms.ok.0 (c.bound_terms-reach.ensures.each ∙ sym c.requires.ready.each) in
-    subst (AreWindowTerms lists c.args.first c.bound_terms-reach.result) (sym same) (record {
+    subst (AreWindowTerms (map g.C.DocCursor.list c.args.cursors.now) c.args.first c.bound_terms-reach.result) (sym (bounded g (goal.at.score_up_to-requires-clause-terms g c).After-bound_terms-reach)) (record {
       terms_in = is.bounded;
-      apart = alike-apart c.args.terms.now near is.alike c.requires.terms.apart;
-      small = alike-all (λ e. e.1 < 2 ^ 26) c.args.terms.now near is.alike c.requires.terms.small;
+      apart = alike-apart c.args.terms.now c.bound_terms-reach.new.near is.alike c.requires.terms.apart;
+      small = alike-all (λ e. e.1 < 2 ^ 26) c.args.terms.now c.bound_terms-reach.new.near is.alike c.requires.terms.small;
     })
 
 pub score_up_to-requires-clause-search : goal.score_up_to-requires-clause-search
@@ -38,7 +41,7 @@ returns-clause-searched g c =
     let to : ℕ = c.score_up_to.result in
     let held : List (ℕ × ℕ) = c.args.top.now.held in
     let new : List (ℕ × ℕ) = c.score_up_to.new.top.held in
-    let same = written-back c.args.room.now.terms.len near c.args.room.now.terms.items c.args.room.now.terms.ok.0 (c.bound_terms-reach.ensures.each ∙ sym c.requires.ready.each) in
+    let same = bounded g (goal.at.returns-clause-searched g c).After-bound_terms-reach in
     record {
       k = c.score_up_to.ensures.searched.k;
       n = c.score_up_to.ensures.searched.n;

@@ -12,24 +12,21 @@ use Rattle.topk_pruning.proofs.room.score_up_to.Goals.{After-deref-2}
 
 pub returns-then-essential-eq0-clause-searched : goal.returns-then-essential-eq0-clause-searched
 returns-then-essential-eq0-clause-searched g c =
-    let lists : List (List Posting) = map g.C.DocCursor.list c.args.cursors.now in
-    let later = c.requires.later in
-    let spared : AreSpared c.args.top.now.floor c.args.top.now.k c.args.top.now.held c.args.room.now.terms.items c.essential_now-essential.result = subst (λ (ts : List Term). AreSpared c.args.top.now.floor c.args.top.now.k c.args.top.now.held ts c.essential_now-essential.result) c.deref.ensures.value c.essential_now-essential.ensures in
+    let spared = subst (λ (ts : List Term). AreSpared c.args.top.now.floor c.args.top.now.k c.args.top.now.held ts c.essential_now-essential.result) c.deref.ensures.value c.essential_now-essential.ensures in
     record {
       k = refl;
       n = refl;
       floor = refl;
-      held = follows-none c.top_list_grows.ensures.skipped lists c.args.room.now.terms.items c.args.top.now.floor c.args.top.now.k c.args.first c.args.reach c.essential_now-essential.result c.args.top.now.held (omega arith) c.requires.terms.terms_in c.if-essential-eq0.true spared;
+      held = follows-none c.top_list_grows.ensures.skipped (map g.C.DocCursor.list c.args.cursors.now) c.args.room.now.terms.items c.args.top.now.floor c.args.top.now.k c.args.first c.args.reach c.essential_now-essential.result c.args.top.now.held
+          (omega (arith, c.requires.later)) c.requires.terms.terms_in c.if-essential-eq0.true spared;
     }
 
 -- the terms of the window: those of the room in another order
 reordered : (g : given.Over) (c : After-deref-2 g) → IsPermutation c.args.room.now.terms.items c.with_short_lists-essential.new.terms × (c.deref-2.result.now ≡ c.with_short_lists-essential.new.terms)
-reordered g c =
-    let old : List Term = c.args.room.now.terms.items in
-    let near : List Term = c.with_short_lists-essential.new.terms in (
-      subst (λ (ts : List Term). IsPermutation ts near) c.as_mut_slice.ensures.value c.with_short_lists-essential.ensures.moved,
-      c.deref-2.ensures.value ∙ written-back c.args.room.now.terms.len near old c.args.room.now.terms.ok.0 (c.with_short_lists-essential.auto.terms ∙ ap length c.as_mut_slice.ensures.value),
-    )
+reordered g c = (
+  subst (λ (ts : List Term). IsPermutation ts c.with_short_lists-essential.new.terms) c.as_mut_slice.ensures.value c.with_short_lists-essential.ensures.moved,
+  c.deref-2.ensures.value ∙ written-back c.args.room.now.terms.len c.with_short_lists-essential.new.terms c.args.room.now.terms.items c.args.room.now.terms.ok.0 (c.with_short_lists-essential.auto.terms ∙ ap length c.as_mut_slice.ensures.value),
+)
 
 pub score_window-requires-clause-terms : goal.score_window-requires-clause-terms
 score_window-requires-clause-terms g c =
@@ -50,10 +47,12 @@ score_window-requires-clause-terms g c =
 pub score_window-requires-clause-search : goal.score_window-requires-clause-search
 score_window-requires-clause-search g c =
     let search = c.requires.search in
-    let in_range = search.in_range in
-    let count = c.min-count.ensures in
-    let later = c.requires.later in
-    record { below = search.below; narrow = search.narrow; in_range = omega arith; above = search.above }
+    record {
+      below = search.below;
+      narrow = search.narrow;
+      in_range = omega (arith, search.in_range, c.min-count.ensures, c.requires.later);
+      above = search.above;
+    }
 
 pub score_window-requires-clause-essential : goal.score_window-requires-clause-essential
 score_window-requires-clause-essential g c =
@@ -66,16 +65,15 @@ score_window-requires-clause-essential g c =
 
 pub returns-clause-searched : goal.returns-clause-searched
 returns-clause-searched g c =
-    let lists : List (List Posting) = map g.C.DocCursor.list c.args.cursors.now in
-    let old : List Term = c.args.room.now.terms.items in
-    let near : List Term = c.with_short_lists-essential.new.terms in
     let is = reordered g (goal.at.returns-clause-searched g c).After-deref-2 in
-    let first : ℕ = c.args.first in
-    let to : ℕ = first + c.min-count.result in
+    let ranking = c.args.top.now in
+    let searched = c.score_window.ensures.searched in
+    let to : ℕ = c.args.first + c.min-count.result in
+    let new : List (ℕ × ℕ) = c.score_window.new.top.held in
     record {
-      k = c.score_window.ensures.searched.k;
-      n = c.score_window.ensures.searched.n;
-      floor = c.score_window.ensures.searched.floor;
-      held = follows-alike lists old near c.args.top.now.floor c.args.top.now.k first to c.args.top.now.held c.score_window.new.top.held (alike-moved old near is.0)
-          (subst (λ (ts : List Term). FollowsTo lists ts c.args.top.now.floor c.args.top.now.k first to c.args.top.now.held c.score_window.new.top.held) is.1 c.score_window.ensures.searched.held);
+      k = searched.k;
+      n = searched.n;
+      floor = searched.floor;
+      held = follows-alike (map g.C.DocCursor.list c.args.cursors.now) c.args.room.now.terms.items c.with_short_lists-essential.new.terms ranking.floor ranking.k c.args.first to ranking.held new (alike-moved c.args.room.now.terms.items c.with_short_lists-essential.new.terms is.0)
+          (subst (λ (ts : List Term). FollowsTo (map g.C.DocCursor.list c.args.cursors.now) ts ranking.floor ranking.k c.args.first to ranking.held new) is.1 searched.held);
     }

@@ -7,27 +7,28 @@ use Rattle.collection_model.specs.Collection.{Posting, greatest_freq}
 use Rattle.topk_pruning.specs.declared.term.Term.{Term}
 use Rattle.topk_pruning.specs.Terms.{term_of}
 use Rattle.topk_pruning.proofs.Tops.{terms-more}
+use Rattle.topk_pruning.proofs.term.terms_in_order.Given as given
 use Rattle.topk_pruning.proofs.term.terms_in_order.Goals as goal
+use Rattle.topk_pruning.proofs.term.terms_in_order.Goals.{After-len-list}
+
+-- there is a term for each list so far
+count : (g : given.Over) (c : After-len-list g) → c.len-list.result ≡ c.loop-cursor.cursor-index
+count g c =
+    let each = ap length c.loop-cursor.invariant.all ∙ length-map-range_with_len (term_of (map g.C.DocCursor.list c.args.cursors.now) c.args.weights.now) 0 c.loop-cursor.cursor-index in
+    omega (arith, each, c.len-list.ensures, c.loop-cursor.terms.ok.0)
 
 pub bounds-weights-list : goal.bounds-weights-list
-bounds-weights-list g c =
-    let f = term_of (map g.C.DocCursor.list c.args.cursors.now) c.args.weights.now in
-    let count = ap length c.loop-cursor.invariant.all ∙ length-map-range_with_len f 0 c.loop-cursor.cursor-index in
-    omega (arith, count, c.len-list.ensures, c.loop-cursor.terms.ok.0, c.loop-cursor-test.true, c.requires.each)
+bounds-weights-list g c = omega (arith, count g (goal.at.bounds-weights-list g c).After-len-list, c.loop-cursor-test.true, c.requires.each)
 
 pub offset_bounds-weights-list : goal.offset_bounds-weights-list
-offset_bounds-weights-list g c =
-    let f = term_of (map g.C.DocCursor.list c.args.cursors.now) c.args.weights.now in
-    let count = ap length c.loop-cursor.invariant.all ∙ length-map-range_with_len f 0 c.loop-cursor.cursor-index in
-    omega (arith, count, c.len-list.ensures, c.loop-cursor.terms.ok.0, c.loop-cursor-test.true, c.requires.each)
+offset_bounds-weights-list g c = omega (arith, count g (goal.at.offset_bounds-weights-list g c).After-len-list, c.loop-cursor-test.true, c.requires.each)
 
 pub loop-cursor-preserved : goal.loop-cursor-preserved
 loop-cursor-preserved g c =
     let lists : List (List Posting) = map g.C.DocCursor.list c.args.cursors.now in
     let weights : List ℕ = c.args.weights.now in
     let i : ℕ = c.loop-cursor.cursor-index in
-    let count = ap length c.loop-cursor.invariant.all ∙ length-map-range_with_len (term_of lists weights) 0 i in
-    let at : c.len-list.result ≡ i = omega (arith, count, c.len-list.ensures, c.loop-cursor.terms.ok.0) in
+    let at = count g (goal.at.loop-cursor-preserved g c).After-len-list in
     let weight : get_or weights c.len-list.result 0 ≡ get_or weights i 0 = ap (λ (k : ℕ). get_or weights k 0) at in
     let t : Term = record { list = c.len-list.result; weight = get_or weights c.len-list.result 0; bound = c.bound_of-bound.result } in
     let within : i < length c.args.cursors.now = c.loop-cursor-test.true in
