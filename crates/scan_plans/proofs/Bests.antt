@@ -242,8 +242,6 @@ pub record IsPiece (from n : ℕ) (scores piece : List ℕ) : Type 0 where
 
 pub scored-piece : (lists : List (List Posting)) (weights : List ℕ) (first base from n : ℕ) (scores piece : List ℕ) → base ≡ first + from → IsPiece from n scores piece → AreScored lists weights first scores → AreScored lists weights base piece
 scored-piece lists weights first base from n scores piece start is are =
-    let count = is.count in
-    let within = is.within in
     record {
       scored = λ k inside.
           let doc : first + (from + k) ≡ base + k = omega arith in
@@ -260,8 +258,6 @@ pub offered-word : (first base at to : ℕ) (scores piece : List ℕ) (old now n
     → (All (λ s. s < 2 ^ 58) piece → All (λ (e : Pair). e.1 < 2 ^ 58) now.held → All (λ (e : Pair). e.1 < 2 ^ 58) new.held) → IsOffered first at scores old now → IsOffered first to scores old new
 offered-word first base at to scores piece old now new start end is k n above best bound so_far =
     let next : base + 64 ≡ first + to = omega arith in
-    let within = is.within in
-    let count = is.count in
     record {
       k = k ∙ so_far.k;
       n = n ∙ so_far.n;

@@ -162,18 +162,13 @@ module _ (list : List Posting) (good : IsCursorList list) (first place n : ℕ) 
   -- its last document is the last that was passed
   pub step-below : 0 < count → (i : ℕ) → i < place + count → get_or (docs_of list) i 0 < first + (get_or block (count - 1) 0 - first + 1)
   step-below some i lt =
-      let within = block-within in
-      let read = next.same (count - 1) (omega arith) in
-      let rise = docs-rise list good i (place + (count - 1)) (omega arith) (omega arith) in
-      omega arith
+      let rise = docs-rise list good i (place + (count - 1)) (omega arith) (omega (arith, block-within)) in
+      omega (arith, next.same (count - 1) (omega arith))
 
   pub step-within : 0 < count → get_or block (count - 1) 0 - first + 1 ≤ n
   step-within some =
-      let read = next.same (count - 1) (omega arith) in
       let inside = block-inside (count - 1) (omega arith) in
-      let low = inside.0 in
-      let high = inside.1 in
-      omega arith
+      omega (arith, next.same (count - 1) (omega arith), inside.0, inside.1)
 
   -- a score has room for what a posting of the block adds
   pub step-room : (weight from : ℕ) (give : ℕ → ℕ) (old now freqs : List ℕ) → n ≡ length old → AreGiven ◌+◌ first (docs_of list) give from place (slice_index old) (slice_index now) → All (λ s. s + weight * 4294967295 < 2 ^ 64) old

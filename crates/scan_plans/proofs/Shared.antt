@@ -9,7 +9,6 @@ use Rattle.collection_model.specs.Collection.{Posting}
 use Rattle.cursor_api.specs.NextGeq.{IsCursorAt}
 use Rattle.scan_plans.specs.Matches.{has_doc}
 use Rattle.scan_plans.specs.Scan.{doc_at, StandsFrom, in_each}
-use Rattle.scan_plans.proofs.Postings.{doc_at-some}
 use Rattle.scan_plans.proofs.Scans.{filter-skip}
 use Rattle.scan_plans.proofs.Steps.{nothing-between, nothing-left, next-is-later, has-next}
 
@@ -24,12 +23,12 @@ module _ (first : List Posting) (others : List (List Posting)) (d : ℕ) where
   in-both here there = list_all-from_AllPass (has_doc d) (first ∷ others) (All-cons (λ l. has_doc d l ≡ true) first others here (AllPass-from_list_all (has_doc d) others there))
 
 -- what is known where the shortest list stands at a document
-pub record IsTurn (first : List Posting) (others : List (List Posting)) (low doc place : ℕ) : Type 0 where
+pub record IsTurn (first : List Posting) (others : List (List Posting)) (low doc : ℕ) : Type 0 where
   pub later : low ≤ doc
   pub none : (d : ℕ) → low ≤ d → d < doc → in_each d (first ∷ others) ≡ false
   pub has : has_doc doc first ≡ true
 
-pub turn : (first : List Posting) (others : List (List Posting)) (low doc place : ℕ) → IsCursorAt first place → StandsFrom low first place → doc_at first place ≡ Some doc → IsTurn first others low doc place
+pub turn : (first : List Posting) (others : List (List Posting)) (low doc place : ℕ) → IsCursorAt first place → StandsFrom low first place → doc_at first place ≡ Some doc → IsTurn first others low doc
 turn first others low doc place good stand is = record {
   later = next-is-later first low place doc stand is;
   none = λ d from before. not-first first others d (nothing-between first low place doc d good stand is from before);
@@ -49,13 +48,3 @@ none-later first others low doc none ends d from = elim (cases_lt d doc) as (λ 
 -- nor where the list is at its end
 pub none-left : (first : List Posting) (others : List (List Posting)) (low place : ℕ) → StandsFrom low first place → doc_at first place ≡ None → (d : ℕ) → low ≤ d → in_each d (first ∷ others) ≡ false
 none-left first others low place stand is d from = not-first first others d (nothing-left first low place d stand is from)
-
--- a cursor that stands later stands farther on
-pub farther : (list : List Posting) (doc next place new : ℕ) → doc_at list place ≡ Some doc → doc < next → StandsFrom next list new → place < new
-farther list doc next place new is lt stand =
-    let here = doc_at-some list place doc is in
-    let read = here.1 in
-    elim (cases_lt place new) as (λ _. place < new) [
-      | inl before ↦ before
-      | inr after ↦ (let high = stand.left place after here.0 in absurd (omega arith))
-    ]

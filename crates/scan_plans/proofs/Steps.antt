@@ -20,6 +20,22 @@ use Rattle.scan_plans.proofs.Scans.{contains-first, contained-all, contains-from
 abbrev pub share : ℕ → List Posting × ℕ → ℕ
 share doc e = e.1 * freq_of_doc doc e.0
 
+-- cursors of the same lists are as many
+pub as-many : {X : Type 0} (list : X → List Posting) (now old : List X) → map list now ≡ map list old → length now ≡ length old
+as-many list now old same = omega (arith, ap length same, length-map now list, length-map old list)
+
+-- a cursor that goes on from a document has fewer left
+pub left-fewer : (l m : List Posting) (d e p q : ℕ) → m ≡ l → d < e → doc_at l p ≡ Some d → StandsFrom e m q → length m - q < length l - p
+left-fewer l m d e p q same forward is after =
+    let count = ap length same in
+    let here = doc_at-some l p d is in
+    let within = here.0 in
+    let is_d = here.1 in
+    elim (cases_lt p q) as (λ _. length m - q < length l - p) [
+      | inl lt ↦ omega arith
+      | inr ge ↦ (let high = after.left p ge (omega arith) in let doc = ap (λ (l : List Posting). get_or (docs_of l) p 0) same in absurd (omega arith))
+    ]
+
 module _ {X : Type 0} (list : X → List Posting) (place : X → ℕ) where
   -- a cursor that moves leaves the lists as they are
   pub lists-set : (cs : List X) (i : ℕ) (new d : X) → i < length cs → list new ≡ list (get_or cs i d) → map list (set cs i new) ≡ map list cs
@@ -76,51 +92,29 @@ module _ {X : Type 0} (list : X → List Posting) (place : X → ℕ) where
         | inr ge ↦ omega arith
       ]
 
-  left-fewer : (l m : List Posting) (d e p q : ℕ) → m ≡ l → d < e → doc_at l p ≡ Some d → StandsFrom e m q → length m - q < length l - p
-  left-fewer l m d e p q same forward is after =
-      let count = ap length same in
-      let here = doc_at-some l p d is in
-      let within = here.0 in
-      let is_d = here.1 in
-      elim (cases_lt p q) as (λ _. length m - q < length l - p) [
-        | inl lt ↦ omega arith
-        | inr ge ↦ (let high = after.left p ge (omega arith) in let doc = ap (λ (l : List Posting). get_or (docs_of l) p 0) same in absurd (omega arith))
-      ]
-
   sums-le : (f : X → ℕ) (xs ys : List X) → length ys ≡ length xs → ((k : ℕ) (d : X) → k < length xs → f (get_or ys k d) ≤ f (get_or xs k d)) → sum_by f ys ≤ sum_by f xs
   sums-le f [] [] same le = omega arith
   sums-le f [] (y ∷ ys) same le = absurd (omega arith)
   sums-le f (x ∷ xs) [] same le = absurd (omega arith)
   sums-le f (x ∷ xs) (y ∷ ys) same le =
       let here : f y ≤ f x = le 0 x (omega arith) in
-      let x-sum = sum_by-cons f x xs in
-      let y-sum = sum_by-cons f y ys in
-      let others = sums-le f xs ys (omega arith) (λ k d within. le (suc k) d (omega arith)) in
-      omega arith
+      omega (arith, sum_by-cons f x xs, sum_by-cons f y ys, sums-le f xs ys (omega arith) (λ k d within. le (suc k) d (omega arith)))
 
   sums-less : (f : X → ℕ) (xs ys : List X) (k : ℕ) → length ys ≡ length xs → ((k : ℕ) (d : X) → k < length xs → f (get_or ys k d) ≤ f (get_or xs k d)) → k < length xs → ((d : X) → f (get_or ys k d) < f (get_or xs k d)) → sum_by f ys < sum_by f xs
   sums-less f [] ys k same le within lt = absurd (omega arith)
   sums-less f (x ∷ xs) [] k same le within lt = absurd (omega arith)
   sums-less f (x ∷ xs) (y ∷ ys) zero same le within lt =
       let here : f y < f x = lt x in
-      let x-sum = sum_by-cons f x xs in
-      let y-sum = sum_by-cons f y ys in
-      let others = sums-le f xs ys (omega arith) (λ k d within. le (suc k) d (omega arith)) in
-      omega arith
+      omega (arith, sum_by-cons f x xs, sum_by-cons f y ys, sums-le f xs ys (omega arith) (λ k d within. le (suc k) d (omega arith)))
   sums-less f (x ∷ xs) (y ∷ ys) (suc k) same le within lt =
       let here : f y ≤ f x = le 0 x (omega arith) in
-      let x-sum = sum_by-cons f x xs in
-      let y-sum = sum_by-cons f y ys in
-      let others = sums-less f xs ys k (omega arith) (λ k d within. le (suc k) d (omega arith)) (omega arith) lt in
-      omega arith
+      omega (arith, sum_by-cons f x xs, sum_by-cons f y ys, sums-less f xs ys k (omega arith) (λ k d within. le (suc k) d (omega arith)) (omega arith) lt)
 
   -- some documents passed, less is left
   pub passing-leaves-less : ((c : X) → IsCursorAt (list c) (place c)) → (d e : ℕ) (cs ns : List X) → d < e → map list ns ≡ map list cs → All (λ c. StandsFrom d (list c) (place c)) cs → All (λ c. StandsFrom e (list c) (place c)) ns
       → (c : X) × Contains cs c × (doc_at (list c) (place c) ≡ Some d) → sum_by (λ c. length (list c) - place c) ns < sum_by (λ c. length (list c) - place c) cs
   passing-leaves-less good d e cs ns forward lists before after at =
-      let counts = ap length lists in
-      let cs-count = length-map cs list in
-      let ns-count = length-map ns list in
+      let counts = as-many list ns cs lists in
       let same : (k : ℕ) (x : X) → k < length cs → list (get_or ns k x) ≡ list (get_or cs k x) = λ k x w. sym (get_or-map list ns k x [] (omega arith)) ∙ ap (λ (ls : List (List Posting)). get_or ls k []) lists ∙ get_or-map list cs k x [] w in
       let first : X = at.0 in
       let place-of : ℕ = at.1.0 in

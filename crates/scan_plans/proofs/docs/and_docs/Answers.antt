@@ -7,17 +7,19 @@ use Rattle.std.proofs.lemmas.Result.{IfOk-weaker}
 use Rattle.collection_model.specs.Collection.{Posting, docs_of}
 use Rattle.scan_plans.specs.Matches.{in_all}
 use Rattle.scan_plans.proofs.Reordered.{in_all-same}
+use Rattle.scan_plans.proofs.docs.and_docs.Given as given
 use Rattle.scan_plans.proofs.docs.and_docs.Goals as goal
+use Rattle.scan_plans.proofs.docs.and_docs.Goals.{In-Some}
+
+-- the cursors in their new order stand at the start
+at-start : (g : given.Over) (c : In-Some g) → All (λ x. g.C.DocCursor.place x ≡ 0) (c.in-Some.shortest.now ∷ c.in-Some.others.now)
+at-start g c = subst (All (λ x. g.C.DocCursor.place x ≡ 0)) c.in-Some.ensures.cases.0 (All-permutation (λ x. g.C.DocCursor.place x ≡ 0) c.args.cursors.now c.shortest_first.new.cursors c.shortest_first.ensures.same c.requires.at_start)
 
 pub shared_docs-requires-clause-at_start : goal.shared_docs-requires-clause-at_start
-shared_docs-requires-clause-at_start g c =
-    let all = All-permutation (λ x. g.C.DocCursor.place x ≡ 0) c.args.cursors.now c.shortest_first.new.cursors c.shortest_first.ensures.same c.requires.at_start in
-    All-head (λ x. g.C.DocCursor.place x ≡ 0) c.in-Some.shortest.now c.in-Some.others.now (subst (All (λ x. g.C.DocCursor.place x ≡ 0)) c.in-Some.ensures.cases.0 all)
+shared_docs-requires-clause-at_start g c = All-head (λ x. g.C.DocCursor.place x ≡ 0) c.in-Some.shortest.now c.in-Some.others.now (at-start g (goal.at.shared_docs-requires-clause-at_start g c).In-Some)
 
 pub shared_docs-requires-clause-others_at_start : goal.shared_docs-requires-clause-others_at_start
-shared_docs-requires-clause-others_at_start g c =
-    let all = All-permutation (λ x. g.C.DocCursor.place x ≡ 0) c.args.cursors.now c.shortest_first.new.cursors c.shortest_first.ensures.same c.requires.at_start in
-    All-tail (λ x. g.C.DocCursor.place x ≡ 0) c.in-Some.shortest.now c.in-Some.others.now (subst (All (λ x. g.C.DocCursor.place x ≡ 0)) c.in-Some.ensures.cases.0 all)
+shared_docs-requires-clause-others_at_start g c = All-tail (λ x. g.C.DocCursor.place x ≡ 0) c.in-Some.shortest.now c.in-Some.others.now (at-start g (goal.at.shared_docs-requires-clause-others_at_start g c).In-Some)
 
 pub returns-in-Some : goal.returns-in-Some
 returns-in-Some g c = λ n below.

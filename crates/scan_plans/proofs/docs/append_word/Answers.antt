@@ -9,10 +9,7 @@ loop-rest-init c = record { low = 0; rest = rest-all c.args.word; taken = taken-
 -- the document of the lowest bit is one of 32 bits
 fits : (c : After-from) → c.args.base + c.from.result < 2 ^ 32
 fits c =
-    let so_far = c.loop-rest.invariant in
-    let some = c.loop-rest-test.true in
-    let word = c.loop-rest.auto.rest-fits in
-    let is = lowest-one c.args.word so_far.low c.loop-rest.rest (omega arith) (omega arith) so_far.rest in
+    let is = lowest-one c.args.word c.loop-rest.invariant.low c.loop-rest.rest (omega (arith, c.loop-rest-test.true)) (omega (arith, c.loop-rest.auto.rest-fits)) c.loop-rest.invariant.rest in
     let fit = c.requires.fit _ is.0 is.1 in
     let one = c.from.ensures in
     omega arith
@@ -24,11 +21,7 @@ pub overflow_cast-base : goal.overflow_cast-base
 overflow_cast-base c = omega (arith, fits (goal.at.overflow_cast-base c).After-from)
 
 pub loop-rest-smaller : goal.loop-rest-smaller
-loop-rest-smaller c =
-    let so_far = c.loop-rest.invariant in
-    let some = c.loop-rest-test.true in
-    let fits = c.loop-rest.auto.rest-fits in
-    rest-less c.args.word so_far.low c.loop-rest.rest (omega arith) (omega arith) so_far.rest
+loop-rest-smaller c = rest-less c.args.word c.loop-rest.invariant.low c.loop-rest.rest (omega (arith, c.loop-rest-test.true)) (omega (arith, c.loop-rest.auto.rest-fits)) c.loop-rest.invariant.rest
 
 pub loop-rest-preserved : goal.loop-rest-preserved
 loop-rest-preserved c =
@@ -51,7 +44,5 @@ loop-rest-preserved c =
 
 pub returns : goal.returns
 returns c =
-    let so_far = c.loop-rest.invariant in
-    let none = c.loop-rest-test.false in
-    let zero : c.loop-rest.rest ≡ 0 = omega arith in
-    record { docs = (taken-all c.args.base so_far.low c.args.word c.args.docs.now.items c.loop-rest.docs.items (subst (IsRest c.args.word so_far.low) zero so_far.rest) so_far.taken).docs }
+    let zero : c.loop-rest.rest ≡ 0 = omega (arith, c.loop-rest-test.false) in
+    record { docs = (taken-all c.args.base c.loop-rest.invariant.low c.args.word c.args.docs.now.items c.loop-rest.docs.items (subst (IsRest c.args.word c.loop-rest.invariant.low) zero c.loop-rest.invariant.rest) c.loop-rest.invariant.taken).docs }

@@ -1,4 +1,4 @@
-use Rattle.std.proofs.Common.{◌≡◌, sym, ap, ◌∙◌, ℕ, ◌+◌, ◌*◌, ◌<◌, ◌∷◌, map, take, arith}
+use Rattle.std.proofs.Common.{◌≡◌, sym, ap, ◌∙◌, ℕ, ◌+◌, ◌*◌, ◌<◌, ◌∷◌, length, map, take, arith}
 use Rattle.std.proofs.lemmas.List.{length-take-le}
 use Rattle.scan_plans.specs.Scan.{in_each}
 use Rattle.scan_plans.specs.Window.{passing, is_marked}
@@ -16,22 +16,19 @@ kept g c k inside =
     told-in_all c.keep_in_all-words.result c.keep_in_all-words.new.marks c.keep_in_words-told.new.marks c.args.marks.now c.args.first (g.C.DocCursor.list c.args.shortest.now) (map g.C.DocCursor.list c.args.others.now) k inside
     (c.requires.marked k (omega (arith, told.within, all.within))) (told.kept k (omega (arith, all.within))) (all.kept k inside)
 
+-- and they are so many
+long : (g : given.Over) (c : After-keep_in_all-words g) → length (take c.keep_in_all-words.result c.keep_in_all-words.new.marks) ≡ c.keep_in_all-words.result
+long g c = length-take-le c.keep_in_all-words.result c.keep_in_all-words.new.marks (omega (arith, c.keep_in_words-told.ensures.within, c.keep_in_words-told.ensures.count, c.keep_in_all-words.ensures.within, c.keep_in_all-words.ensures.count))
+
 pub append_marked-requires-clause-fit : goal.append_marked-requires-clause-fit
 append_marked-requires-clause-fit g c k lt marked =
-    let told = c.keep_in_words-told.ensures in
-    let all = c.keep_in_all-words.ensures in
-    let words = c.keep_in_all-words.result in
-    let count = length-take-le words c.keep_in_all-words.new.marks (omega (arith, told.within, told.count, all.within, all.count)) in
-    let is = kept g (goal.at.append_marked-requires-clause-fit g c).After-keep_in_all-words k (omega arith) in
+    let is = kept g (goal.at.append_marked-requires-clause-fit g c).After-keep_in_all-words k (omega (arith, long g (goal.at.append_marked-requires-clause-fit g c).After-keep_in_all-words)) in
     let below = shared-below (g.C.DocCursor.list c.args.shortest.now) (map g.C.DocCursor.list c.args.others.now) (g.met.C.DocCursor.well_formed c.args.shortest.now).well_formed (c.args.first + k) (sym is ∙ marked) in
     omega arith
 
 pub returns-clause-docs : goal.returns-clause-docs
 returns-clause-docs g c is =
-    let told = c.keep_in_words-told.ensures in
-    let all = c.keep_in_all-words.ensures in
-    let words = c.keep_in_all-words.result in
-    let count = length-take-le words c.keep_in_all-words.new.marks (omega (arith, told.within, told.count, all.within, all.count)) in
+    let count = long g (goal.at.returns-clause-docs g c).After-keep_in_all-words in
     let lists = g.C.DocCursor.list c.args.shortest.now ∷ map g.C.DocCursor.list c.args.others.now in
     c.in_ok-append_marked.ensures.docs (λ d. in_each d lists) (λ k lt. kept g (goal.at.returns-clause-docs g c).After-keep_in_all-words k (omega arith)) is
     ∙ ap (λ (n : ℕ). passing (λ d. in_each d lists) (c.args.first + 64 * n)) count

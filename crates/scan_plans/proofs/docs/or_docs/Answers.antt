@@ -4,9 +4,15 @@ use Rattle.collection_model.specs.Collection.{Posting}
 use Rattle.scan_plans.specs.Matches.{AreBelow, has_doc, in_any}
 use Rattle.scan_plans.specs.Scan.{StandsFrom}
 use Rattle.scan_plans.specs.Window.{AreMarked}
-use Rattle.scan_plans.proofs.Scans.{next-doc, no-next-doc, any-bound}
+use Rattle.scan_plans.proofs.Scans.{IsNextDoc, next-doc, no-next-doc, any-bound}
 use Rattle.scan_plans.proofs.Steps.{passing-leaves-less, starts-stand, all-below}
+use Rattle.scan_plans.proofs.docs.or_docs.Given as given
 use Rattle.scan_plans.proofs.docs.or_docs.Goals as goal
+use Rattle.scan_plans.proofs.docs.or_docs.Goals.{In-Some}
+
+-- the next document that a list has
+next-known : (g : given.Over) (c : In-Some g) → IsNextDoc g.C.DocCursor.list g.C.DocCursor.place g.met.C.DocCursor.well_formed c.loop-first.cursors c.loop-first.invariant.low c.in-Some.first
+next-known g c = next-doc g.C.DocCursor.list g.C.DocCursor.place g.met.C.DocCursor.well_formed c.loop-first.cursors c.loop-first.invariant.low c.in-Some.first c.loop-first.invariant.stand (sym c.least_doc.ensures ∙ c.in-Some.is)
 
 pub loop-first-init : goal.loop-first-init
 loop-first-init g c = record {
@@ -20,9 +26,7 @@ loop-first-init g c = record {
 }
 
 pub mark_lists-reached-requires-clause-stand : goal.mark_lists-reached-requires-clause-stand
-mark_lists-reached-requires-clause-stand g c =
-    let next = next-doc g.C.DocCursor.list g.C.DocCursor.place g.met.C.DocCursor.well_formed c.loop-first.cursors c.loop-first.invariant.low c.in-Some.first c.loop-first.invariant.stand (sym c.least_doc.ensures ∙ c.in-Some.is) in
-    next.stand
+mark_lists-reached-requires-clause-stand g c = (next-known g (goal.at.mark_lists-reached-requires-clause-stand g c).In-Some).stand
 
 pub append_marked-requires : goal.append_marked-requires
 append_marked-requires g c =
@@ -39,9 +43,8 @@ append_marked-requires g c =
 
 pub loop-first-smaller : goal.loop-first-smaller
 loop-first-smaller g c =
-    let next = next-doc g.C.DocCursor.list g.C.DocCursor.place g.met.C.DocCursor.well_formed c.loop-first.cursors c.loop-first.invariant.low c.in-Some.first c.loop-first.invariant.stand (sym c.least_doc.ensures ∙ c.in-Some.is) in
-    let some = c.loop-first.invariant.some in
-    passing-leaves-less g.C.DocCursor.list g.C.DocCursor.place g.met.C.DocCursor.well_formed c.in-Some.first (c.in-Some.first + 64 * length c.loop-first.marks) c.loop-first.cursors c.mark_lists-reached.new.cursors (omega arith) c.mark_lists-reached.ensures.lists next.stand c.mark_lists-reached.ensures.stand next.at
+    let next = next-known g (goal.at.loop-first-smaller g c).In-Some in
+    passing-leaves-less g.C.DocCursor.list g.C.DocCursor.place g.met.C.DocCursor.well_formed c.in-Some.first (c.in-Some.first + 64 * length c.loop-first.marks) c.loop-first.cursors c.mark_lists-reached.new.cursors (omega (arith, c.loop-first.invariant.some)) c.mark_lists-reached.ensures.lists next.stand c.mark_lists-reached.ensures.stand next.at
 
 pub loop-first-preserved : goal.loop-first-preserved
 loop-first-preserved g c =
@@ -50,7 +53,7 @@ loop-first-preserved g c =
     let same = c.loop-first.invariant.lists in
     let given : List (List Posting) = map g.C.DocCursor.list c.args.cursors.now in
     let now : List (List Posting) = map g.C.DocCursor.list c.loop-first.cursors in
-    let next = next-doc g.C.DocCursor.list g.C.DocCursor.place g.met.C.DocCursor.well_formed c.loop-first.cursors low first c.loop-first.invariant.stand (sym c.least_doc.ensures ∙ c.in-Some.is) in
+    let next = next-known g (goal.at.loop-first-preserved g c).In-Some in
     let skipped : in_any low given ≡ in_any first given = subst (λ (ls : List (List Posting)). in_any low ls ≡ in_any first ls) same next.skipped in
     let marked : AreMarked given first c.mark_lists-reached.new.marks = subst (λ (ls : List (List Posting)). AreMarked ls first c.mark_lists-reached.new.marks) same c.mark_lists-reached.ensures.marks in
     let some = c.loop-first.invariant.some in

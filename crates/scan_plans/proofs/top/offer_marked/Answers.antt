@@ -52,33 +52,27 @@ loop-i-preserved c =
 none-behind : (reached from : ℕ) (marks scores : List ℕ) → reached ≤ from → IsReached scores marks reached → (k : ℕ) → from ≤ k → k < length scores → get_or scores k 0 ≡ 0
 none-behind reached from marks scores le is k after inside = let wide = is.wide in is.scored k inside (is.behind k (omega arith) (omega arith))
 
-pub returns-clause-best : goal.returns-clause-best
-returns-clause-best c =
-    let scores : List ℕ = c.args.scores.now in
-    let at : ℕ = 64 * c.loop-i.i in
-    let within = c.requires.reached.within in
-    let same = c.requires.same in
-    let ceil = c.div_ceil-i-end.ensures in
-    (offered-skip c.args.first at (length scores) scores c.args.top.now c.loop-i.top (omega arith) (omega arith) (none-behind c.args.reached at c.args.marks.now scores (omega arith) c.requires.reached) c.loop-i.invariant.offered).best
-
-pub returns-clause-left : goal.returns-clause-left
-returns-clause-left c =
-    let scores : List ℕ = c.args.scores.now in
-    let marks : List ℕ = c.args.marks.now in
-    let i : ℕ = c.loop-i.i in
-    let so_far = c.loop-i.invariant in
-    let within = c.requires.reached.within in
-    let same = c.requires.same in
-    let ceil = c.div_ceil-i-end.ensures in
-    let count = so_far.cleared.count in
-    let words = so_far.unmarked.count in
+pub returns : goal.returns
+returns c =
+    let offered = c.loop-i.invariant.offered in
+    let cleared = c.loop-i.invariant.cleared in
+    let words = c.loop-i.invariant.unmarked in
+    let past : c.args.reached ≤ 64 * c.loop-i.i = omega (arith, c.div_ceil-i-end.ensures) in
+    let fit : 64 * c.loop-i.i ≤ length c.args.scores.now = omega (arith, c.requires.reached.within, c.requires.same, c.div_ceil-i-end.ensures) in
+    let none = none-behind c.args.reached (64 * c.loop-i.i) c.args.marks.now c.args.scores.now past c.requires.reached in
     record {
-      count = count;
-      marks_count = words;
-      blank = record {
-        wide = omega arith;
-        clear = cleared-all 0 scores (64 * i) c.loop-i.scores (none-behind c.args.reached (64 * i) marks scores (omega arith) c.requires.reached) so_far.cleared;
-        none = unmarked c.loop-i.marks (cleared-all 0 marks i c.loop-i.marks
-            (λ k from inside. let fits = so_far.fits k in word-unmarked marks k (omega arith) (λ j lt. c.requires.reached.behind (64 * k + j) (omega arith) (omega arith))) so_far.unmarked);
+      k = offered.k;
+      n = offered.n;
+      best = (offered-skip c.args.first (64 * c.loop-i.i) (length c.args.scores.now) c.args.scores.now c.args.top.now c.loop-i.top fit (omega arith) none offered).best;
+      bound = offered.bound;
+      left = record {
+        count = cleared.count;
+        marks_count = words.count;
+        blank = record {
+          wide = omega (arith, c.requires.same, cleared.count, words.count);
+          clear = cleared-all 0 c.args.scores.now (64 * c.loop-i.i) c.loop-i.scores none cleared;
+          none = unmarked c.loop-i.marks (cleared-all 0 c.args.marks.now c.loop-i.i c.loop-i.marks
+              (λ k from inside. let fits = c.loop-i.invariant.fits k in word-unmarked c.args.marks.now k (omega arith) (λ j lt. c.requires.reached.behind (64 * k + j) (omega arith) (omega arith))) words);
+        };
       };
     }

@@ -1,7 +1,6 @@
 use Rattle.std.proofs.Common.{◌≡◌, refl, sym, ap, inl, inr, ◌∙◌, subst, ℕ, ◌+◌, ◌*◌, ◌^◌, ◌<◌, true, false, List, [], length, map, slice_index, arith}
 use Rattle.std.proofs.lemmas.Bool.{cases_lt, false≢true}
 use Rattle.std.specs.List.{All, list_any}
-use Rattle.std.proofs.lemmas.List.{length-map}
 use Rattle.std.proofs.lemmas.List.Elements.{All-nil}
 use Rattle.std.proofs.lemmas.Result.{IfOk-weaker}
 use Rattle.collection_model.specs.Collection.{Posting}
@@ -13,7 +12,7 @@ use Rattle.scan_plans.specs.Scan.{StandsFrom}
 use Rattle.scan_plans.specs.Window.{AreScored, is_marked}
 use Rattle.scan_plans.proofs.Bests.{best-none, best-below, best-top, any-below}
 use Rattle.scan_plans.proofs.Scans.{IsNextDoc, next-doc, no-next-doc, any-bound}
-use Rattle.scan_plans.proofs.Steps.{passing-leaves-less, starts-stand}
+use Rattle.scan_plans.proofs.Steps.{as-many, passing-leaves-less, starts-stand}
 use Rattle.scan_plans.proofs.top.score_all.Given as given
 use Rattle.scan_plans.proofs.top.score_all.Goals as goal
 use Rattle.scan_plans.proofs.top.score_all.Goals.{In-Some}
@@ -51,12 +50,7 @@ pub add_lists-reached-requires-clause-stand : goal.add_lists-reached-requires-cl
 add_lists-reached-requires-clause-stand g c = (next-known g (goal.at.add_lists-reached-requires-clause-stand g c).In-Some).stand
 
 pub add_lists-reached-requires-clause-each : goal.add_lists-reached-requires-clause-each
-add_lists-reached-requires-clause-each g c =
-    let same = ap length c.loop-first.invariant.lists in
-    let now-mapped = length-map c.loop-first.cursors g.C.DocCursor.list in
-    let old-mapped = length-map c.args.cursors.now g.C.DocCursor.list in
-    let each = c.requires.each in
-    omega arith
+add_lists-reached-requires-clause-each g c = omega (arith, as-many g.C.DocCursor.list c.loop-first.cursors c.args.cursors.now c.loop-first.invariant.lists, c.requires.each)
 
 pub offer_marked-requires-clause-same : goal.offer_marked-requires-clause-same
 offer_marked-requires-clause-same g c = let scores = c.add_lists-reached.ensures.filled.count in let marks = c.add_lists-reached.ensures.filled.marks_count in let same = c.loop-first.invariant.same in omega arith
@@ -95,9 +89,7 @@ offer_marked-requires-clause-offers g c =
 pub loop-first-smaller : goal.loop-first-smaller
 loop-first-smaller g c =
     let next = next-known g (goal.at.loop-first-smaller g c).In-Some in
-    let some = c.loop-first.invariant.some in
-    let same = c.loop-first.invariant.same in
-    passing-leaves-less g.C.DocCursor.list g.C.DocCursor.place g.met.C.DocCursor.well_formed c.in-Some.first (c.in-Some.first + length c.loop-first.scores) c.loop-first.cursors c.add_lists-reached.new.cursors (omega arith) c.add_lists-reached.ensures.lists next.stand c.add_lists-reached.ensures.stand next.at
+    passing-leaves-less g.C.DocCursor.list g.C.DocCursor.place g.met.C.DocCursor.well_formed c.in-Some.first (c.in-Some.first + length c.loop-first.scores) c.loop-first.cursors c.add_lists-reached.new.cursors (omega (arith, c.loop-first.invariant.some, c.loop-first.invariant.same)) c.add_lists-reached.ensures.lists next.stand c.add_lists-reached.ensures.stand next.at
 
 pub loop-first-preserved : goal.loop-first-preserved
 loop-first-preserved g c =

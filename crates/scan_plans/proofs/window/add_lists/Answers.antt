@@ -1,6 +1,6 @@
-use Rattle.std.proofs.Common.{◌≡◌, refl, sym, ap, ◌∙◌, subst, ℕ, ◌+◌, ◌<◌, true, List, length, get_or, map, max, arith}
+use Rattle.std.proofs.Common.{◌≡◌, refl, sym, ap, ◌∙◌, subst, ℕ, ◌+◌, ◌*◌, ◌<◌, ◌≤◌, true, List, length, get_or, take, map, max, arith}
 use Rattle.std.specs.Prelude.{◌↔◌}
-use Rattle.std.specs.List.{list_any}
+use Rattle.std.specs.List.{list_any, sum}
 use Rattle.std.proofs.lemmas.List.{get_or_default, length-map, take_all}
 use Rattle.std.proofs.lemmas.List.Elements.{AllWithin-more_set}
 use Rattle.std.proofs.lemmas.List.Sums.{sum_by_more, sum_by-take-le}
@@ -9,7 +9,7 @@ use Rattle.scan_plans.specs.Matches.{has_doc, score}
 use Rattle.scan_plans.specs.Scan.{StandsFrom}
 use Rattle.scan_plans.specs.Window.{is_marked}
 use Rattle.scan_plans.proofs.Found.{score-found}
-use Rattle.scan_plans.proofs.Steps.{lists-set, rest-set, score-whole, all-rising}
+use Rattle.scan_plans.proofs.Steps.{as-many, lists-set, rest-set, score-whole, all-rising}
 use Rattle.scan_plans.proofs.Windows.{any-step, scores-step}
 use Rattle.scan_plans.proofs.window.add_lists.Goals as goal
 
@@ -30,22 +30,16 @@ loop-i-init g c = record {
 pub add_list-requires-clause-stand : goal.add_list-requires-clause-stand
 add_list-requires-clause-stand g c = c.loop-i.invariant.rest c.loop-i.i c.index-cursors-i.result (omega arith) (omega arith)
 
+-- a score so far
+most : (scores weights : List ℕ) (i n k d : ℕ) → length scores ≡ n → ((k : ℕ) → k < n → get_or scores k 0 ≤ sum (take i weights) * 4294967295) → k < length scores → get_or scores k d ≤ sum (take i weights) * 4294967295
+most scores weights i n k d count bound within = omega (arith, get_or_default scores k d 0 within, bound k (omega arith))
+
 pub add_list-requires-clause-room : goal.add_list-requires-clause-room
 add_list-requires-clause-room g c = λ k d within.
-    let so_far = c.loop-i.invariant in
-    let i : ℕ = c.loop-i.i in
-    let weights : List ℕ = c.args.weights.now in
-    let count = so_far.count in
-    let read = get_or_default c.loop-i.scores k d 0 within in
-    let bound = so_far.bound k (omega arith) in
-    let mapped = ap length so_far.lists in
-    let now-mapped = length-map c.loop-i.cursors g.C.DocCursor.list in
-    let old-mapped = length-map c.args.cursors.now g.C.DocCursor.list in
-    let each = c.requires.each in
-    let heavier = sum_by_more (λ w. w) weights i 0 (omega arith) in
-    let whole = sum_by-take-le (λ w. w) weights (i + 1) in
-    let light = c.requires.light in
-    omega arith
+    let bound = most c.loop-i.scores c.args.weights.now c.loop-i.i (length c.args.window.scores.now) k d c.loop-i.invariant.count c.loop-i.invariant.bound within in
+    let heavier = sum_by_more (λ w. w) c.args.weights.now c.loop-i.i 0 (omega (arith, c.requires.each, as-many g.C.DocCursor.list c.loop-i.cursors c.args.cursors.now c.loop-i.invariant.lists)) in
+    let whole = sum_by-take-le (λ w. w) c.args.weights.now (c.loop-i.i + 1) in
+    omega (arith, c.requires.light)
 
 pub loop-i-preserved : goal.loop-i-preserved
 loop-i-preserved g c =
@@ -55,12 +49,8 @@ loop-i-preserved g c =
     let item = c.index-cursors-i.result in
     let new = c.add_list.new.cursor in
     let weights : List ℕ = c.args.weights.now in
-    let mapped = ap length so_far.lists in
-    let now-mapped = length-map cs g.C.DocCursor.list in
-    let old-mapped = length-map c.args.cursors.now g.C.DocCursor.list in
-    let each = c.requires.each in
     let within : i < length cs = omega arith in
-    let weighed : i < length weights = omega arith in
+    let weighed : i < length weights = omega (arith, c.requires.each, as-many g.C.DocCursor.list cs c.args.cursors.now so_far.lists) in
     let count = so_far.count in
     let heavier = sum_by_more (λ w. w) weights i 0 weighed in
     let most : c.max-reached.result ≡ max c.add_list.result c.loop-i.reached = c.max-reached.ensures in
@@ -84,38 +74,32 @@ loop-i-preserved g c =
 
 pub returns : goal.returns
 returns g c =
-    let so_far = c.loop-i.invariant in
-    let weights : List ℕ = c.args.weights.now in
+    let now = c.loop-i.invariant in
     let lists : List (List Posting) = map g.C.DocCursor.list c.args.cursors.now in
-    let count = so_far.count in
-    let marks_count = so_far.marks_count in
+    let count = now.count in
+    let marks_count = now.marks_count in
     let whole = c.requires.same in
     let each = c.requires.each in
-    let mapped = ap length so_far.lists in
-    let now-mapped = length-map c.loop-i.cursors g.C.DocCursor.list in
-    let old-mapped = length-map c.args.cursors.now g.C.DocCursor.list in
-    let all : c.loop-i.i ≡ length lists = omega arith in
-    let scored : (k : ℕ) → k < length c.loop-i.scores → get_or c.loop-i.scores k 0 ≡ score lists weights (c.args.window.first + k) = λ k within.
-    score-whole g.C.DocCursor.list g.C.DocCursor.place (c.args.window.first + k) c.args.cursors.now weights c.loop-i.i (get_or c.loop-i.scores k 0) (omega arith) (so_far.scored k (omega arith)) in
+    let many = as-many g.C.DocCursor.list c.loop-i.cursors c.args.cursors.now now.lists in
+    let all : c.loop-i.i ≡ length lists = omega (arith, length-map c.args.cursors.now g.C.DocCursor.list) in
+    let scored : (k : ℕ) → k < length c.loop-i.scores → get_or c.loop-i.scores k 0 ≡ score lists c.args.weights.now (c.args.window.first + k) = λ k within.
+    score-whole g.C.DocCursor.list g.C.DocCursor.place (c.args.window.first + k) c.args.cursors.now c.args.weights.now c.loop-i.i (get_or c.loop-i.scores k 0) (omega arith) (now.scored k (omega arith)) in
     record {
-      lists = so_far.lists;
-      stand = λ k d within. so_far.done k d (omega arith) (omega arith);
+      lists = now.lists;
+      stand = λ k d within. now.done k d (omega arith) (omega arith);
       filled = record {
         count = count;
         marks_count = marks_count;
         scored = record {
           scored = scored;
           found = λ k within. subst (λ (s : ℕ). (0 < s) ↔ (list_any (has_doc (c.args.window.first + k)) lists ≡ true)) (sym (scored k within))
-              (score-found lists weights (c.args.window.first + k) (omega arith) c.requires.some (all-rising g.C.DocCursor.list g.C.DocCursor.place g.met.C.DocCursor.well_formed c.args.cursors.now));
+              (score-found lists c.args.weights.now (c.args.window.first + k) (omega arith) c.requires.some (all-rising g.C.DocCursor.list g.C.DocCursor.place g.met.C.DocCursor.well_formed c.args.cursors.now));
         };
-        marked = λ k within. so_far.marked k (omega arith) ∙ ap (list_any (has_doc (c.args.window.first + k))) (take_all c.loop-i.i lists (omega arith));
+        marked = λ k within. now.marked k (omega arith) ∙ ap (list_any (has_doc (c.args.window.first + k))) (take_all c.loop-i.i lists (omega arith));
         bound = λ k d within.
-            let read = get_or_default c.loop-i.scores k d 0 within in
-            let bound = so_far.bound k (omega arith) in
-            let heavy = sum_by-take-le (λ w. w) weights c.loop-i.i in
-            let light = c.requires.light in
-            omega arith;
-        within = so_far.within;
-        behind = so_far.behind;
+            let bound = most c.loop-i.scores c.args.weights.now c.loop-i.i (length c.args.window.scores.now) k d count now.bound within in
+            omega (arith, sum_by-take-le (λ w. w) c.args.weights.now c.loop-i.i, c.requires.light);
+        within = now.within;
+        behind = now.behind;
       };
     }

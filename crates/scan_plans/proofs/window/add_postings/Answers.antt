@@ -14,16 +14,13 @@ loop-j-init c = record {
 
 pub overflow_add-scores : goal.overflow_add-scores
 overflow_add-scores c =
-    let docs : List ℕ = c.args.docs.now in
-    let j : ℕ = c.loop-j.j in
-    let d : ℕ = get_or docs j 0 in
+    let doc : ℕ = get_or c.args.docs.now c.loop-j.j 0 in
     let each = c.requires.each in
-    let inside = c.requires.inside j 0 (omega arith) in
-    let low = inside.0 in
-    let room = c.requires.room j (omega arith) in
-    let same = c.loop-j.invariant.given.others (d - c.args.window.first) (λ i from lt e. let apart : get_or docs i 0 < d = AllPairs-from_increasing docs c.requires.rising i j 0 lt (omega arith) in absurd (omega arith)) in
-    let read = ap (λ (n : ℕ). get_or c.loop-j.scores (d - n) 0) c.from.ensures in
-    let times = ap (λ (n : ℕ). n * get_or c.args.freqs.now j 0) c.from-in-loop-j.ensures in
+    let above = (c.requires.inside c.loop-j.j 0 (omega arith)).0 in
+    let room = c.requires.room c.loop-j.j (omega arith) in
+    let same = c.loop-j.invariant.given.others (doc - c.args.window.first) (λ i from lt e. let apart : get_or c.args.docs.now i 0 < doc = AllPairs-from_increasing c.args.docs.now c.requires.rising i c.loop-j.j 0 lt (omega arith) in absurd (omega arith)) in
+    let read = ap (λ (n : ℕ). get_or c.loop-j.scores (doc - n) 0) c.from.ensures in
+    let times = ap (λ (n : ℕ). n * get_or c.args.freqs.now c.loop-j.j 0) c.from-in-loop-j.ensures in
     omega arith
 
 pub loop-j-preserved : goal.loop-j-preserved

@@ -54,13 +54,9 @@ returns-clause-stand g c = λ k d within. c.loop-cursor.invariant.done k d (omeg
 
 pub returns-clause-marks : goal.returns-clause-marks
 returns-clause-marks g c = λ k within.
-    let so_far = c.loop-cursor.invariant in
     let lists : List (List Posting) = map g.C.DocCursor.list c.args.cursors.now in
-    let count = so_far.count in
-    let mapped = length-map c.args.cursors.now g.C.DocCursor.list in
-    let now-mapped = length-map c.loop-cursor.cursors g.C.DocCursor.list in
-    let same = ap length so_far.lists in
-    so_far.marked k (omega arith) ∙ ap (list_any (has_doc (c.args.first + k))) (take_all c.loop-cursor.cursor-index lists (omega arith))
+    let same = ap length c.loop-cursor.invariant.lists in
+    c.loop-cursor.invariant.marked k (omega (arith, c.loop-cursor.invariant.count)) ∙ ap (list_any (has_doc (c.args.first + k))) (take_all c.loop-cursor.cursor-index lists (omega (arith, length-map c.loop-cursor.cursors g.C.DocCursor.list)))
 
 pub returns-clause-within : goal.returns-clause-within
 returns-clause-within g c = c.loop-cursor.invariant.within
