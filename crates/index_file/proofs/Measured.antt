@@ -29,9 +29,9 @@ use Rattle.index_file.specs.ListAt.{HasFrame, StandsAt, StandFrom, word_after}
 use Rattle.index_file.specs.Measures.{measure_at, measure_of_part, measure_of_list, IsMeasured}
 use Rattle.index_file.specs.Laws.{SequenceLaws}
 use Rattle.index_file.proofs.Lengths.{some-charge}
-use Rattle.index_file.proofs.Prefixes.{stand-from, prefix-pieces, length-lists}
+use Rattle.index_file.proofs.Prefixes.{length-lists}
 use Rattle.index_file.proofs.StatedIndex.{opened}
-use Rattle.index_file.proofs.Reading.{OpenedList, opened-stand, docs-read, freqs-read}
+use Rattle.index_file.proofs.Reading.{OpenedList, opened-stand, has-frame, list-at, docs-read, freqs-read}
 
 -- a part adds at most one more than its payload
 one-at_most : (b : Bool) (p : ℕ) → cond b 1 0 ≤ 1 + p
@@ -122,17 +122,8 @@ index-at_most format room takes rise words c parts h few measure =
     let o = opened format words c parts h in
     let cs : List CutList = with_parts c.lists parts in
     let most : sum_by (measure_of_list measure) (with_parts c.lists parts) ≤ 64 * length (lists_words format (with_parts c.lists parts)) =
-    lists-at_most format room takes rise words 0 2 cs o.laid.frame few (stand-from format words 0 2 cs (prefix-pieces format words cs o.prefix)) measure in
+    lists-at_most format room takes rise words 0 2 cs o.laid.frame few o.stand measure in
     omega (arith, sum-map (measure_of_list measure) cs, most, o.laid.sizes, o.laid.frame.whole, few)
-
--- a list among those that stand, in its parts
-cut-at : (format : FormatNumbers) (words : List ℕ) (t p : ℕ) (cs : List CutList) → StandFrom format words t p cs → (i : ℕ) → i < length cs
-    → (c : CutList) × (q : ℕ) × StandsAt format words (t + i) q c × ((f : CutList → ℕ) → slice_index (map f cs) i ≡ f c)
-cut-at format words t p [] h i lt = absurd (omega (arith, lt))
-cut-at format words t p (c ∷ cs) h zero lt = (c, p, subst (λ k. StandsAt format words k p c) (let e : t ≡ t + 0 = omega arith in e) h.0, λ f. refl)
-cut-at format words t p (c ∷ cs) h (suc i) lt =
-    let r = cut-at format words (t + 1) (word_after format p c) cs h.1 i (omega (arith, lt)) in
-    (r.0, r.1, subst (λ k. StandsAt format words k r.1 r.0) (let e : t + 1 + i ≡ t + suc i = omega arith in e) r.2, λ f. r.3 f)
 
 -- a list of an index, opened and measured
 pub record MeasuredAt (format : FormatNumbers) (words : List ℕ) (t : ℕ) (measure : Measure) (cs : List CutList) (x : CutList) : Type 0 where
@@ -143,16 +134,13 @@ pub record MeasuredAt (format : FormatNumbers) (words : List ℕ) (t : ℕ) (mea
 pub measured-at : (format : FormatNumbers) (room : HasRoom format) → SequenceLaws format → TakesItsCost format → (words : List ℕ) (c : Collection) (parts : List ListParts) → Spells format words c parts → length words < 2 ^ 57
     → (measure : Measure) (t : ℕ) → t < stated_terms words → (x : CutList) × MeasuredAt format words t measure (with_parts c.lists parts) x
 measured-at format room laws takes words c parts h few measure t lt =
-    let o = opened format words c parts h in
-    let cs : List CutList = with_parts c.lists parts in
-    let frame = o.laid.frame in
-    let s = cut-at format words 0 2 cs (stand-from format words 0 2 cs (prefix-pieces format words cs o.prefix)) t (omega (arith, lt, o.laid.terms)) in
-    let at : StandsAt format words t s.1 s.0 = subst (λ k. StandsAt format words k s.1 s.0) (let e : 0 + t ≡ t = omega arith in e) s.2 in (
+    let s = list-at format words c parts h t lt in
+    let frame = has-frame format words c parts h in (
       s.0,
       record {
-        list = opened-stand format room laws words t s.1 s.0 frame at;
-        measured = stands-measured format room takes laws.rise words t s.1 s.0 frame few at measure;
-        adds = s.3 (measure_of_list measure);
+        list = opened-stand format room laws words t s.1 s.0 frame s.2;
+        measured = stands-measured format room takes laws.rise words t s.1 s.0 frame few s.2 measure;
+        adds = s.5 (measure_of_list measure);
       },
     )
 

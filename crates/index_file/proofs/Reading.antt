@@ -1,5 +1,5 @@
 -- Lemmas on what an index answers.
-use Rattle.std.proofs.Common.{◌≡◌, ℕ, zero, suc, ◌+◌, ◌/◌, ◌%◌, ◌^◌, ◌≤◌, ◌<◌, List, [], ◌∷◌, length, drop, get_or, refl, sym, ap, ◌∙◌, subst, arith}
+use Rattle.std.proofs.Common.{◌≡◌, ℕ, zero, suc, ◌+◌, ◌/◌, ◌%◌, ◌^◌, ◌≤◌, ◌<◌, List, [], ◌∷◌, length, drop, get_or, map, refl, sym, ap, ◌∙◌, subst, arith}
 use Rattle.std.specs.Prelude.{slice_index, ◌==◌}
 use Rattle.std.proofs.lemmas.List.Elements.{All-weaker}
 use Rattle.collection_model.specs.FormatNumbers.{FormatNumbers}
@@ -16,15 +16,9 @@ use Rattle.index_file.specs.IndexView.{IndexView, index_stated, docs_stated, fre
 use Rattle.index_file.specs.ListAt.{HasFrame, StandsAt, StandFrom, word_after}
 use Rattle.index_file.specs.Laws.{SequenceLaws}
 use Rattle.index_file.proofs.Standing.{counts, docs-from, freqs-from}
-use Rattle.index_file.proofs.Prefixes.{stand-from, prefix-pieces}
 use Rattle.index_file.proofs.FilePieces.{half_of}
 use Rattle.index_file.proofs.CutLists.{lists_in, parts_in}
 use Rattle.index_file.proofs.StatedIndex.{opened, size-stated, stated-is}
-
--- the words of an index spell what they state
-pub spells-view : (words : List ℕ) (i : IndexView) → Spells (numbers_of (index_stated words).format) words (index_stated words).collection (index_stated words).parts → index_stated words ≡ i
-    → Spells (numbers_of i.format) words i.collection i.parts
-spells-view words i h e = subst (λ x. Spells (numbers_of x.format) words x.collection x.parts) e h
 
 -- an index spells what its words state
 pub spells-stated : ((v : Format) → SequenceLaws (numbers_of v)) → ((v : Format) → WordsState (numbers_of v)) → (words : List ℕ) → IsIndex words
@@ -35,11 +29,22 @@ spells-stated laws state words (v, i) =
 pub has-frame : (format : FormatNumbers) (words : List ℕ) (c : Collection) (parts : List ListParts) → Spells format words c parts → HasFrame format words
 has-frame format words c parts h = (opened format words c parts h).laid.frame
 
-pub documents-are : (format : FormatNumbers) (words : List ℕ) (c : Collection) (parts : List ListParts) → Spells format words c parts → stated_documents words ≡ c.documents
-documents-are format words c parts h = (opened format words c parts h).laid.docs
+-- an index, in its words
+pub record IsRead (words : List ℕ) (i : IndexView) : Type 0 where
+  pub spells : Spells (numbers_of i.format) words i.collection i.parts
+  pub frame : HasFrame (numbers_of i.format) words
+  pub documents : stated_documents words ≡ i.collection.documents
+  pub terms : stated_terms words ≡ length i.collection.lists
 
-pub terms-are : (format : FormatNumbers) (words : List ℕ) (c : Collection) (parts : List ListParts) → Spells format words c parts → stated_terms words ≡ length c.lists
-terms-are format words c parts h = let o = opened format words c parts h in o.laid.terms ∙ o.count
+pub is-read : {words : List ℕ} {i : IndexView} → Spells (numbers_of (index_stated words).format) words (index_stated words).collection (index_stated words).parts → index_stated words ≡ i → IsRead words i
+is-read {words} {i} h e =
+    let spells = subst (λ x. Spells (numbers_of x.format) words x.collection x.parts) e h in
+    let o = opened (numbers_of i.format) words i.collection i.parts spells in
+    record { spells = spells; frame = o.laid.frame; documents = o.laid.docs; terms = o.laid.terms ∙ o.count }
+
+-- in the format that it tells
+pub spells-in : {words : List ℕ} {i : IndexView} {v : Format} → IsRead words i → v ≡ i.format → Spells (numbers_of v) words i.collection i.parts
+spells-in {words} {i} {v} r e = subst (λ x. Spells (numbers_of x) words i.collection i.parts) (sym e) r.spells
 
 pub size-is : (format : FormatNumbers) (words : List ℕ) (c : Collection) (parts : List ListParts) → Spells format words c parts → (d : ℕ) → d < c.documents
     → half_of (d % 2 == 0) (slice_index words (stated_sizes words + d / 2)) ≡ slice_index c.sizes d
@@ -55,12 +60,20 @@ size-odd format words c parts h d lt e = ap (λ r. half_of (r == 0) (slice_index
 
 -- a list among those that stand
 stand-at : (format : FormatNumbers) (words : List ℕ) (t p : ℕ) (cs : List CutList) → StandFrom format words t p cs → (i : ℕ) → i < length cs
-    → (c : CutList) × (q : ℕ) × StandsAt format words (t + i) q c × (get_or (lists_in cs) i [] ≡ c.list) × ((none : ListParts) → get_or (parts_in cs) i none ≡ c.parts)
+    → (c : CutList) × (q : ℕ) × StandsAt format words (t + i) q c × (get_or (lists_in cs) i [] ≡ c.list) × ((none : ListParts) → get_or (parts_in cs) i none ≡ c.parts) × ((f : CutList → ℕ) → slice_index (map f cs) i ≡ f c)
 stand-at format words t p [] h i lt = absurd (omega (arith, lt))
-stand-at format words t p (c ∷ cs) h zero lt = (c, p, subst (λ k. StandsAt format words k p c) (let e : t ≡ t + 0 = omega arith in e) h.0, refl, λ none. refl)
+stand-at format words t p (c ∷ cs) h zero lt = (c, p, subst (λ k. StandsAt format words k p c) (let e : t ≡ t + 0 = omega arith in e) h.0, refl, (λ none. refl), (λ f. refl))
 stand-at format words t p (c ∷ cs) h (suc i) lt =
     let r = stand-at format words (t + 1) (word_after format p c) cs h.1 i (omega (arith, lt)) in
-    (r.0, r.1, subst (λ k. StandsAt format words k r.1 r.0) (let e : t + 1 + i ≡ t + suc i = omega arith in e) r.2, r.3, r.4)
+    (r.0, r.1, subst (λ k. StandsAt format words k r.1 r.0) (let e : t + 1 + i ≡ t + suc i = omega arith in e) r.2, r.3, r.4, r.5)
+
+-- list t of an index, where it stands
+pub list-at : (format : FormatNumbers) (words : List ℕ) (c : Collection) (parts : List ListParts) → Spells format words c parts → (t : ℕ) → t < stated_terms words
+    → (x : CutList) × (p : ℕ) × StandsAt format words t p x × (list_of c t ≡ x.list) × ((none : ListParts) → get_or parts t none ≡ x.parts) × ((f : CutList → ℕ) → slice_index (map f (with_parts c.lists parts)) t ≡ f x)
+list-at format words c parts h t lt =
+    let o = opened format words c parts h in
+    let s = stand-at format words 0 2 (with_parts c.lists parts) o.stand t (omega (arith, lt, o.laid.terms)) in
+    (s.0, s.1, subst (λ k. StandsAt format words k s.1 s.0) (let e : 0 + t ≡ t = omega arith in e) s.2, ap (λ l. get_or l t []) (sym o.lists) ∙ s.3, (λ none. ap (λ l. get_or l t none) (sym o.parts_are) ∙ s.4 none), s.5)
 
 -- a list of an index, in its words
 pub record OpenedList (format : FormatNumbers) (words : List ℕ) (t : ℕ) (x : CutList) : Type 0 where
@@ -97,29 +110,16 @@ opened-stand format room laws words t p x frame at =
 pub opened-list : (format : FormatNumbers) (room : HasRoom format) → SequenceLaws format → (words : List ℕ) (c : Collection) (parts : List ListParts) → Spells format words c parts → (t : ℕ) → t < stated_terms words
     → (x : CutList) × OpenedList format words t x × (list_of c t ≡ x.list)
 opened-list format room laws words c parts h t lt =
-    let o = opened format words c parts h in
-    let cs : List CutList = with_parts c.lists parts in
-    let frame = o.laid.frame in
-    let s = stand-at format words 0 2 cs (stand-from format words 0 2 cs (prefix-pieces format words cs o.prefix)) t (omega (arith, lt, o.laid.terms)) in
-    let x : CutList = s.0 in
-    let p : ℕ = s.1 in
-    let at : StandsAt format words t s.1 s.0 = subst (λ k. StandsAt format words k s.1 s.0) (let e : 0 + t ≡ t = omega arith in e) s.2 in
-    (x, opened-stand format room laws words t p x frame at, ap (λ l. get_or l t []) (sym o.lists) ∙ s.3)
+    let s = list-at format words c parts h t lt in
+    (s.0, opened-stand format room laws words t s.1 s.0 (has-frame format words c parts h) s.2, s.3)
 
 -- the same list, with its parts
 pub opened-cut : (format : FormatNumbers) (room : HasRoom format) → SequenceLaws format → (words : List ℕ) (c : Collection) (parts : List ListParts) (none : ListParts) → Spells format words c parts → (t : ℕ) → t < stated_terms words
     → OpenedList format words t (record { list = list_of c t; parts = get_or parts t none })
 opened-cut format room laws words c parts none h t lt =
-    let o = opened format words c parts h in
-    let cs : List CutList = with_parts c.lists parts in
-    let frame = o.laid.frame in
-    let within : t < length cs = omega (arith, lt, o.laid.terms) in
-    let s = stand-at format words 0 2 cs (stand-from format words 0 2 cs (prefix-pieces format words cs o.prefix)) t within in
-    let at : StandsAt format words t s.1 s.0 = subst (λ k. StandsAt format words k s.1 s.0) (let e : 0 + t ≡ t = omega arith in e) s.2 in
-    let list : s.0.list ≡ list_of c t = sym s.3 ∙ ap (λ l. get_or l t []) o.lists in
-    let its_parts : s.0.parts ≡ get_or parts t none = sym (s.4 none) ∙ ap (λ l. get_or l t none) o.parts_are in
-    subst (λ l. OpenedList format words t (record { list = l; parts = get_or parts t none })) list
-    (subst (λ p. OpenedList format words t (record { list = s.0.list; parts = p })) its_parts (opened-stand format room laws words t s.1 s.0 frame at))
+    let its = list-at format words c parts h t lt in
+    subst (λ l. OpenedList format words t (record { list = l; parts = get_or parts t none })) (sym its.3)
+    (subst (λ p. OpenedList format words t (record { list = its.0.list; parts = p })) (sym (its.4 none)) (opened-stand format room laws words t its.1 its.0 (has-frame format words c parts h) its.2))
 
 -- the sequences that words state of a list of an index are its own
 pub docs-read : (format : FormatNumbers) → SequenceLaws format → (words : List ℕ) (t : ℕ) (x : CutList) → OpenedList format words t x → docs_stated format words t ≡ docs_view format x
@@ -160,7 +160,7 @@ list-read format room laws words c parts h t lt docs freqs greatest docs_are fre
     let as_docs : docs ≡ docs_view format l.0 = docs_are ∙ docs-read format laws words t l.0 l.1 in
     let as_freqs : freqs ≡ freqs_view format l.0 = freqs_are ∙ freqs-read format laws words t l.0 l.1 in
     let read = read-list format words t l.0 docs freqs l.1 as_docs as_freqs in
-    let within : t < length c.lists = omega (arith, lt, terms-are format words c parts h) in
+    let within : t < length c.lists = omega (arith, lt, (opened format words c parts h).laid.terms, (opened format words c parts h).count) in
     record {
       same_length = ap (λ v. length v.values) as_docs ∙ same-length format laws words t c parts h l.0 l.2 within ∙ sym (ap (λ v. length v.values) as_freqs);
       cursor = subst IsCursorList (sym read) l.1.cursor;

@@ -12,7 +12,6 @@ use Rattle.index_file.specs.FirstBroken.{stated_documents, stated_terms, stated_
 use Rattle.index_file.specs.IndexView.{size_stated}
 use Rattle.index_file.specs.ListAt.{HasFrame, StandFrom, word_after}
 use Rattle.index_file.proofs.Standing.{counts}
-use Rattle.index_file.proofs.Prefixes.{stand-from, prefix-pieces}
 use Rattle.index_file.proofs.CutLists.{lists_in}
 use Rattle.index_file.proofs.StatedIndex.{opened, sizes-are}
 
@@ -33,9 +32,8 @@ pub postings-are : (format : FormatNumbers) (room : HasRoom format) (words : Lis
     → sum_by (stated_length words) (range_with_len 0 (stated_terms words)) ≡ sum_by (length {A = Posting}) c.lists
 postings-are format room words c parts h =
     let o = opened format words c parts h in
-    let cs : List CutList = with_parts c.lists parts in
     ap (λ n. sum_by (stated_length words) (range_with_len 0 n)) o.laid.terms
-    ∙ lengths-sum format room words 0 2 cs o.laid.frame (stand-from format words 0 2 cs (prefix-pieces format words cs o.prefix)) ∙ ap (sum_by (length {A = Posting})) o.lists
+    ∙ lengths-sum format room words 0 2 (with_parts c.lists parts) o.laid.frame o.stand ∙ ap (sum_by (length {A = Posting})) o.lists
 
 pub sizes-sum : (format : FormatNumbers) (words : List ℕ) (c : Collection) (parts : List ListParts) → Spells format words c parts → sum_by (size_stated words) (range_with_len 0 (stated_documents words)) ≡ sum c.sizes
 sizes-sum format words c parts h = sym (sum-map (size_stated words) (range_with_len 0 (stated_documents words))) ∙ ap sum (sizes-are format words c parts h)

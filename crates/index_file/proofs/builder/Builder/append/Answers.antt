@@ -1,4 +1,4 @@
-use Rattle.std.proofs.Common.{◌≡◌, ◌∙◌, sym, ap, subst, rules, arith, ◌/◌, ◌≤◌, ◌<◌, ◌++◌, length}
+use Rattle.std.proofs.Common.{◌≡◌, ◌∙◌, sym, ap, subst, rules, arith, ◌/◌, ◌^◌, ◌≤◌, ◌<◌, ◌++◌, length}
 use Rattle.collection_model.specs.FormatNumbers.{most_terms, part_charge}
 use Rattle.collection_model.specs.Sequences.{doc_sequence}
 use Rattle.two_level.specs.SequenceWords.{sequence_words}
@@ -9,64 +9,65 @@ use Rattle.part_cost.specs.Partition.{IsPartition, partition_cost}
 use Rattle.index_file.specs.FileWords.{CutList, doc_words, freq_words, list_entry}
 use Rattle.index_file.specs.Builder.{IsNearCut, cut_list, with_list, lists_added}
 use Rattle.collection_model.proofs.Sequences.{sums-length}
-use Rattle.index_file.proofs.Added.{postings-are, list-within, parts-few, entry-is, KeepsMore, keeps-more}
+use Rattle.index_file.proofs.Added.{ArePostings, postings-are, list-within, parts-few, entry-is, KeepsMore, keeps-more}
 use Rattle.index_file.proofs.builder.Builder.append.Goals as goal
+use Rattle.index_file.proofs.builder.Builder.append.Goals.{After-len-first, Else-is_err}
+
+-- the postings that are added
+added : (c : After-len-first) → ArePostings c.args.self.now.documents c.args.docs.now c.args.freqs.now
+added c = postings-are (numbers_of c.args.self.now.format) c.args.self.now.documents c.args.docs.now c.args.freqs.now c.requires.same_length c.requires.list
+
+-- are few
+few : (c : After-len-first) → length c.args.docs.now < 2 ^ 32
+few c =
+    let small : c.args.self.now.documents ≤ (numbers_of c.args.self.now.format).most_documents = subst (λ b. b.documents ≤ (numbers_of b.format).most_documents) c.self.view_is c.self.invariant.documents in
+    omega (arith, (added c).few, (c.formats_have_room.ensures c.args.self.now.format).fit)
+
+-- and a list of the index that is built
+good : (c : After-len-first) → IsPostingList (numbers_of c.self.inside.format) c.self.inside.documents (postings_of c.args.docs.now c.args.freqs.now)
+good c = subst (λ b. IsPostingList (numbers_of b.format) b.documents (postings_of c.args.docs.now c.args.freqs.now)) (sym c.self.view_is) c.requires.list
 
 pub spell_entry-entry-requires-clause-postings : goal.spell_entry-entry-requires-clause-postings
 spell_entry-entry-requires-clause-postings c =
-    let small : c.args.self.now.documents ≤ (numbers_of c.args.self.now.format).most_documents = subst (λ b. b.documents ≤ (numbers_of b.format).most_documents) c.self.view_is c.self.invariant.documents in
-    let are = postings-are (numbers_of c.args.self.now.format) c.args.self.now.documents c.args.docs.now c.args.freqs.now c.requires.same_length c.requires.list in
-    omega (arith, (c.formats_have_room.ensures c.args.self.now.format).fit, are.few, c.requires.same_length)
+    omega (arith, few (goal.at.spell_entry-entry-requires-clause-postings c).After-len-first, c.requires.same_length)
 
 pub spell_entry-entry-requires-clause-doc_parts : goal.spell_entry-entry-requires-clause-doc_parts
 spell_entry-entry-requires-clause-doc_parts c =
-    let small : c.args.self.now.documents ≤ (numbers_of c.args.self.now.format).most_documents = subst (λ b. b.documents ≤ (numbers_of b.format).most_documents) c.self.view_is c.self.invariant.documents in
-    let are = postings-are (numbers_of c.args.self.now.format) c.args.self.now.documents c.args.docs.now c.args.freqs.now c.requires.same_length c.requires.list in
-    omega (arith, (c.formats_have_room.ensures c.args.self.now.format).fit, are.few, are.count, parts-few (length (postings_of c.args.docs.now c.args.freqs.now)) c.args.doc_cuts.now.ends c.requires.near.docs.allowed.partition)
+    omega (arith, few (goal.at.spell_entry-entry-requires-clause-doc_parts c).After-len-first, (added (goal.at.spell_entry-entry-requires-clause-doc_parts c).After-len-first).count, parts-few (length (postings_of c.args.docs.now c.args.freqs.now)) c.args.doc_cuts.now.ends c.requires.near.docs.allowed.partition)
 
 pub spell_entry-entry-requires-clause-freq_parts : goal.spell_entry-entry-requires-clause-freq_parts
 spell_entry-entry-requires-clause-freq_parts c =
-    let small : c.args.self.now.documents ≤ (numbers_of c.args.self.now.format).most_documents = subst (λ b. b.documents ≤ (numbers_of b.format).most_documents) c.self.view_is c.self.invariant.documents in
-    let are = postings-are (numbers_of c.args.self.now.format) c.args.self.now.documents c.args.docs.now c.args.freqs.now c.requires.same_length c.requires.list in
-    omega (arith, (c.formats_have_room.ensures c.args.self.now.format).fit, are.few, are.count, parts-few (length (postings_of c.args.docs.now c.args.freqs.now)) c.args.freq_cuts.now.ends c.requires.near.freqs.allowed.partition)
+    omega (arith, few (goal.at.spell_entry-entry-requires-clause-freq_parts c).After-len-first, (added (goal.at.spell_entry-entry-requires-clause-freq_parts c).After-len-first).count, parts-few (length (postings_of c.args.docs.now c.args.freqs.now)) c.args.freq_cuts.now.ends c.requires.near.freqs.allowed.partition)
 
 pub write_sequences-requires-clause-doc_parts : goal.write_sequences-requires-clause-doc_parts
 write_sequences-requires-clause-doc_parts c =
-    let are = postings-are (numbers_of c.args.self.now.format) c.args.self.now.documents c.args.docs.now c.args.freqs.now c.requires.same_length c.requires.list in
-    subst (IsPartition (length c.args.docs.now)) (sym c.ends.ensures) (subst (λ m. IsPartition m c.args.doc_cuts.now.ends) are.count c.requires.near.docs.allowed.partition)
+    subst (IsPartition (length c.args.docs.now)) (sym c.ends.ensures) (subst (λ m. IsPartition m c.args.doc_cuts.now.ends) (added (goal.at.write_sequences-requires-clause-doc_parts c).After-len-first).count c.requires.near.docs.allowed.partition)
 
 pub write_sequences-requires-clause-freq_parts : goal.write_sequences-requires-clause-freq_parts
 write_sequences-requires-clause-freq_parts c =
-    let are = postings-are (numbers_of c.args.self.now.format) c.args.self.now.documents c.args.docs.now c.args.freqs.now c.requires.same_length c.requires.list in
-    let count : length c.args.sums.now ≡ length c.args.freqs.now = ap length c.requires.sums ∙ sums-length 0 (freqs_of (postings_of c.args.docs.now c.args.freqs.now)) ∙ ap length are.freqs_are in
-    subst (IsPartition (length c.args.sums.now)) (sym c.ends-2.ensures) (subst (λ m. IsPartition m c.args.freq_cuts.now.ends) (are.count ∙ c.requires.same_length ∙ sym count) c.requires.near.freqs.allowed.partition)
+    let count : length c.args.sums.now ≡ length c.args.freqs.now = ap length c.requires.sums ∙ sums-length 0 (freqs_of (postings_of c.args.docs.now c.args.freqs.now)) ∙ ap length (added (goal.at.write_sequences-requires-clause-freq_parts c).After-len-first).freqs_are in
+    subst (IsPartition (length c.args.sums.now)) (sym c.ends-2.ensures) (subst (λ m. IsPartition m c.args.freq_cuts.now.ends) ((added (goal.at.write_sequences-requires-clause-freq_parts c).After-len-first).count ∙ c.requires.same_length ∙ sym count) c.requires.near.freqs.allowed.partition)
 
 pub write_sequences-requires-clause-list : goal.write_sequences-requires-clause-list
 write_sequences-requires-clause-list c =
-    let s = c.self.inside in
-    let list = postings_of c.args.docs.now c.args.freqs.now in
-    let are = postings-are (numbers_of c.args.self.now.format) c.args.self.now.documents c.args.docs.now c.args.freqs.now c.requires.same_length c.requires.list in
-    let good : IsPostingList (numbers_of s.format) s.documents list = subst (λ b. IsPostingList (numbers_of b.format) b.documents list) (sym c.self.view_is) c.requires.list in
-    (list, list-within (numbers_of s.format) s.documents (numbers_of s.format).most_documents list c.self.invariant.documents good, sym are.docs_are, c.requires.sums)
+    (postings_of c.args.docs.now c.args.freqs.now, list-within (numbers_of c.self.inside.format) c.self.inside.documents (numbers_of c.self.inside.format).most_documents (postings_of c.args.docs.now c.args.freqs.now) c.self.invariant.documents (good (goal.at.write_sequences-requires-clause-list c).After-len-first), sym (added (goal.at.write_sequences-requires-clause-list c).After-len-first).docs_are, c.requires.sums)
 
-keeps : (c : goal.Else-is_err) → KeepsMore c.self.inside.format c.self.inside.documents c.self.inside.words.items c.self.inside.directory.items c.write_sequences.new.to.items c.extend_from_slice.new.self.items
+keeps : (c : Else-is_err) → KeepsMore c.self.inside.format c.self.inside.documents c.self.inside.words.items c.self.inside.directory.items c.write_sequences.new.to.items c.extend_from_slice.new.self.items
     (cut_list c.args.docs.now c.args.freqs.now c.args.doc_cuts.now.ends c.args.freq_cuts.now.ends)
 keeps c =
     let s = c.self.inside in
     let list : CutList = cut_list c.args.docs.now c.args.freqs.now c.args.doc_cuts.now.ends c.args.freq_cuts.now.ends in
-    let good : IsPostingList (numbers_of s.format) s.documents (postings_of c.args.docs.now c.args.freqs.now) = subst (λ b. IsPostingList (numbers_of b.format) b.documents (postings_of c.args.docs.now c.args.freqs.now)) (sym c.self.view_is) c.requires.list in
     let near : IsNearCut (numbers_of s.format) list = subst (λ b. IsNearCut (numbers_of b.format) list) (sym c.self.view_is) c.requires.near in
     let total : c.args.doc_cuts.now.total ≡ partition_cost (cost_of_part (part_charge (numbers_of s.format)) (doc_sequence list.list)) c.args.doc_cuts.now.ends =
     subst (λ b. c.args.doc_cuts.now.total ≡ partition_cost (cost_of_part (part_charge (numbers_of b.format)) (doc_sequence list.list)) c.args.doc_cuts.now.ends) (sym c.self.view_is) c.requires.total in
     let room : length s.directory.items / 4 < most_terms = subst (λ b. lists_added b < most_terms) (sym c.self.view_is) c.requires.room in
-    let are = postings-are (numbers_of s.format) s.documents c.args.docs.now c.args.freqs.now c.requires.same_length good in
-    let docs_are : c.args.docs.now ≡ doc_sequence list.list = sym are.docs_are in
+    let docs_are : c.args.docs.now ≡ doc_sequence list.list = sym (added (goal.at.Else-is_err c).After-len-first).docs_are in
     let written : c.write_sequences.new.to.items ≡ s.words.items ++ doc_words (numbers_of s.format) list ++ freq_words (numbers_of s.format) list = c.in_ok-write_sequences.ensures.ok ∙ (λ t. s.words.items ++ sequence_words (numbers_of s.format) (docs_are t) (c.ends.ensures t) ++ sequence_words (numbers_of s.format) (c.requires.sums t) (c.ends-2.ensures t)) in
     let place : c.len-first.result ≡ length s.words.items = search rules in
     let entry : c.spell_entry-entry.result ≡ list_entry (numbers_of s.format) (length s.words.items) list =
-    c.spell_entry-entry.ensures ∙ entry-is (numbers_of s.format) (c.formats_have_room.ensures s.format) s.documents _ c.args.doc_cuts.now.total c.args.docs.now c.args.freqs.now c.args.doc_cuts.now.ends c.args.freq_cuts.now.ends (c.sequence_takes_its_cost.ensures s.format) c.requires.same_length c.self.invariant.documents good near total ∙ ap (λ p. list_entry (numbers_of s.format) p list) place in
+    c.spell_entry-entry.ensures ∙ entry-is (numbers_of s.format) (c.formats_have_room.ensures s.format) s.documents _ c.args.doc_cuts.now.total c.args.docs.now c.args.freqs.now c.args.doc_cuts.now.ends c.args.freq_cuts.now.ends (c.sequence_takes_its_cost.ensures s.format) c.requires.same_length c.self.invariant.documents (good (goal.at.Else-is_err c).After-len-first) near total ∙ ap (λ p. list_entry (numbers_of s.format) p list) place in
     let entered : c.extend_from_slice.new.self.items ≡ s.directory.items ++ c.spell_entry-entry.result = search rules in
-    keeps-more s.format s.documents s.words.items s.directory.items c.write_sequences.new.to.items c.extend_from_slice.new.self.items list c.self.invariant good near room written (entered ∙ ap (λ ws. s.directory.items ++ ws) entry)
+    keeps-more s.format s.documents s.words.items s.directory.items c.write_sequences.new.to.items c.extend_from_slice.new.self.items list c.self.invariant (good (goal.at.Else-is_err c).After-len-first) near room written (entered ∙ ap (λ ws. s.directory.items ++ ws) entry)
 
 pub invariant_of-self-else-is_err : goal.invariant_of-self-else-is_err
 invariant_of-self-else-is_err c = (keeps c).kept

@@ -15,8 +15,7 @@ returns-then-count-gt-MOST_WORDS-clause-would_be c = λ n is cs stands.
 
 pub returns-then-count-gt-MOST_WORDS-clause-refused : goal.returns-then-count-gt-MOST_WORDS-clause-refused
 returns-then-count-gt-MOST_WORDS-clause-refused c = λ cs stands large.
-    let count : c.count_words-count.result ≡ length (words_of_file (numbers_of c.args.self.format) c.args.self.documents cs c.args.sizes.now) = c.count_words-count.ensures ∙ sym (file-count c.args.self c.args.sizes.now cs stands) in
-    ap (λ n. Err (TooLarge n)) count
+    ap (λ n. Err (TooLarge n)) (c.count_words-count.ensures ∙ sym (file-count c.args.self c.args.sizes.now cs stands))
 
 pub returns-clause-within : goal.returns-clause-within
 returns-clause-within c =

@@ -12,10 +12,9 @@ use Rattle.index_file.proofs.index.Index.view.Goals as goal
 
 pub returns-in_err-check_file-clause-no_index : goal.returns-in_err-check_file-clause-no_index
 returns-in_err-check_file-clause-no_index c =
-    let laws = c.sequence_laws.ensures in
     from-err c.check_file.result c.from_residual.result c.in_err-check_file.field-0.0 (λ f. ¬ IsIndex c.args.words.now) (first_of (search rules, cc)) (first_of (search rules, cc))
     (IfErr-weaker c.check_file.result (λ f. IsFirstBroken c.args.words.now f) (λ f. ¬ IsIndex c.args.words.now)
-    (λ f h is. (one-broken-check (λ v. one-broken-check-in (numbers_of v) (formats-have-room v) (laws v))).none_in_index c.args.words.now f is h)
+    (λ f h is. (one-broken-check (λ v. one-broken-check-in (numbers_of v) (formats-have-room v) (c.sequence_laws.ensures v))).none_in_index c.args.words.now f is h)
     c.check_file.ensures.first)
 
 pub returns-in_err-check_file-clause-first : goal.returns-in_err-check_file-clause-first
@@ -25,10 +24,8 @@ returns-in_err-check_file-clause-first c =
 
 pub invariant_of-result : goal.invariant_of-result
 invariant_of-result c =
-    let laws = c.sequence_laws.ensures in
-    (spells-stated laws (λ v. (laws v).state) c.args.words.now c.in_ok-check_file.ensures.ok, c.requires.words)
+    (spells-stated c.sequence_laws.ensures (λ v. (c.sequence_laws.ensures v).state) c.args.words.now c.in_ok-check_file.ensures.ok, c.requires.words)
 
 pub returns-clause-ok : goal.returns-clause-ok
 returns-clause-ok c =
-    let laws = c.sequence_laws.ensures in
-    spells-stated laws (λ v. (laws v).state) c.args.words.now c.in_ok-check_file.ensures.ok
+    spells-stated c.sequence_laws.ensures (λ v. (c.sequence_laws.ensures v).state) c.args.words.now c.in_ok-check_file.ensures.ok
