@@ -210,30 +210,20 @@ all_started base a b c d (Err e) one two three =
     (elim three.started_once [ inl h ↦ inl h | inr o ↦ inr (sizes-only base a b c d one two o) ]))
     (sizes-twice base a b c d (Err e) one two three)
 all_started base a b c d (Ok x) one two three =
-    let p = one.depot.only in
-    let q = two.depot.only in
-    let s = three.depot.only in
+    let first : IsTrue a.tells → IsTrue b.tells = λ t. one.depot.only.tells ∙ t in
+    let second : IsTrue a.tells → IsTrue c.tells = λ t. two.depot.only.tells ∙ first t in
     let docs_once = docs-still_once base a c d (Ok x) (docs-once base a b c (Ok tt) one two) three in
     let freqs_once = freqs-once base a b c d (Ok x) one two three in
     let sizes_once = sizes-only base a b c d one two (once-at_ok Sizes (names_under base Sizes) c d three) in
     record {
       started = record {
-        docs = s.stay_started Docs (q.stay_started Docs one.started);
-        freqs = s.stay_started Freqs two.started;
+        docs = three.depot.only.stay_started Docs (two.depot.only.stay_started Docs one.started);
+        freqs = three.depot.only.stay_started Freqs two.started;
         sizes = three.started;
       };
-      docs = λ t.
-          let u = p.tells ∙ t in
-          let v = q.tells ∙ u in
-          (s.other_slots Docs docs-not_sizes).1 v ∙ (q.other_slots Docs docs-not_freqs).1 u ∙ one.whole_file t;
-      freqs = λ t.
-          let u = p.tells ∙ t in
-          let v = q.tells ∙ u in
-          (s.other_slots Freqs freqs-not_sizes).1 v ∙ two.whole_file u ∙ ap (λ f. unwrap_or f []) (p.files t (base ++ codes ".freqs"));
-      sizes = λ t.
-          let u = p.tells ∙ t in
-          let v = q.tells ∙ u in
-          three.whole_file v ∙ ap (λ f. unwrap_or f []) (q.files u (base ++ codes ".sizes") ∙ p.files t (base ++ codes ".sizes"));
+      docs = λ t. (three.depot.only.other_slots Docs docs-not_sizes).1 (second t) ∙ (two.depot.only.other_slots Docs docs-not_freqs).1 (first t) ∙ one.whole_file t;
+      freqs = λ t. (three.depot.only.other_slots Freqs freqs-not_sizes).1 (second t) ∙ two.whole_file (first t) ∙ ap (λ f. unwrap_or f []) (one.depot.only.files t (base ++ codes ".freqs"));
+      sizes = λ t. three.whole_file (second t) ∙ ap (λ f. unwrap_or f []) (two.depot.only.files (first t) (base ++ codes ".sizes") ∙ one.depot.only.files t (base ++ codes ".sizes"));
       no_fault = three.no_fault;
       depot = starts-then (starts-then (starts-wider docs-is one.depot) (starts-wider freqs-is two.depot)) (starts-wider sizes-is three.depot);
       in_order = tt;

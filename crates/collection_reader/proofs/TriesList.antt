@@ -134,40 +134,34 @@ frequencies_refused r mid last flast ds fs a b c d e fits few look docs freqs = 
 -- the list that was read
 pub list_read : (r : Reading) (mid last flast ds fs : List ℕ) (a b c d : DepotState) → r.lists < most_terms → LooksAhead Docs r.docs mid a b (Ok true)
     → ReadsDocuments r.documents r.lists mid last b c ds (Ok tt) → ReadsFrequencies r.format r.lists (length ds) r.freqs flast c d fs (Ok tt) → TriesList r (record r { docs = last; freqs = flast; lists = r.lists + 1 }) a d ds fs (Ok true)
-list_read r mid last flast ds fs a b c d few look docs freqs = record {
-  list = λ h. record {
-    same_length = sym freqs.count;
-    list = record {
-      rising = rw (docs-of_postings ds fs (sym freqs.count)) docs.rising;
-      in_range = rw (docs-of_postings ds fs (sym freqs.count)) docs.in_range;
-      not_zero = rw (freqs-of_postings ds fs (sym freqs.count)) freqs.not_zero;
-      fit = rw (freqs-of_postings ds fs (sym freqs.count)) freqs.fit;
-      sum_within = rw (freqs-of_postings ds fs (sym freqs.count)) freqs.sum_within;
-    };
-    counted = refl;
-    within = omega (arith, few);
-    phase = refl;
-    docs_rest = λ t.
-        let u = look.depot.only.tells ∙ t in
-        let v = docs.depot.only.tells ∙ u in
-        sym (look.same_rest t) ∙ docs.rest u ∙ ap (λ l. number_sequence ds ++ (last ++ l)) (sym ((freqs.depot.only.other_slots Docs docs-not_freqs).1 v));
-    freqs_rest = λ t.
-        let u = look.depot.only.tells ∙ t in
-        let v = docs.depot.only.tells ∙ u in
-        ap (λ l. r.freqs ++ l) (sym ((docs.depot.only.other_slots Freqs freqs-not_docs).1 u ∙ (look.depot.only.other_slots Freqs freqs-not_docs).1 t)) ∙ freqs.rest v;
-    sizes_rest = λ t.
-        let u = look.depot.only.tells ∙ t in
-        let v = docs.depot.only.tells ∙ u in
-        ap (λ l. r.sizes ++ l) ((freqs.depot.only.other_slots Sizes sizes-not_freqs).1 v ∙ (docs.depot.only.other_slots Sizes sizes-not_docs).1 u ∙ (look.depot.only.other_slots Sizes sizes-not_docs).1 t);
-  };
-  ended = λ h. absurd (true-not_false h);
-  none_lent = λ h. absurd (true-not_false h);
-  format = refl;
-  documents = refl;
-  refusal = refl;
-  first_fault = λ t fault h. cc;
-  depot = reads-then (reads-wider docs-is (reads-then look.depot docs.depot)) (reads-wider freqs-is (answers-ok {B = Bool} true freqs.depot));
-  unchanged = tt;
-  fault_term = λ fault h. cc;
-  slots = OnlyReads-trans (OnlyReads-wider docs-listed (OnlyReads-trans look.depot.only docs.depot.only)) (OnlyReads-wider freqs-listed freqs.depot.only);
-}
+list_read r mid last flast ds fs a b c d few look docs freqs =
+    let first : IsTrue a.tells → IsTrue b.tells = λ t. look.depot.only.tells ∙ t in
+    let second : IsTrue a.tells → IsTrue c.tells = λ t. docs.depot.only.tells ∙ first t in
+    record {
+      list = λ h. record {
+        same_length = sym freqs.count;
+        list = record {
+          rising = rw (docs-of_postings ds fs (sym freqs.count)) docs.rising;
+          in_range = rw (docs-of_postings ds fs (sym freqs.count)) docs.in_range;
+          not_zero = rw (freqs-of_postings ds fs (sym freqs.count)) freqs.not_zero;
+          fit = rw (freqs-of_postings ds fs (sym freqs.count)) freqs.fit;
+          sum_within = rw (freqs-of_postings ds fs (sym freqs.count)) freqs.sum_within;
+        };
+        counted = refl;
+        within = omega (arith, few);
+        phase = refl;
+        docs_rest = λ t. sym (look.same_rest t) ∙ docs.rest (first t) ∙ ap (λ l. number_sequence ds ++ (last ++ l)) (sym ((freqs.depot.only.other_slots Docs docs-not_freqs).1 (second t)));
+        freqs_rest = λ t. ap (λ l. r.freqs ++ l) (sym ((docs.depot.only.other_slots Freqs freqs-not_docs).1 (first t) ∙ (look.depot.only.other_slots Freqs freqs-not_docs).1 t)) ∙ freqs.rest (second t);
+        sizes_rest = λ t. ap (λ l. r.sizes ++ l) ((freqs.depot.only.other_slots Sizes sizes-not_freqs).1 (second t) ∙ (docs.depot.only.other_slots Sizes sizes-not_docs).1 (first t) ∙ (look.depot.only.other_slots Sizes sizes-not_docs).1 t);
+      };
+      ended = λ h. absurd (true-not_false h);
+      none_lent = λ h. absurd (true-not_false h);
+      format = refl;
+      documents = refl;
+      refusal = refl;
+      first_fault = λ t fault h. cc;
+      depot = reads-then (reads-wider docs-is (reads-then look.depot docs.depot)) (reads-wider freqs-is (answers-ok {B = Bool} true freqs.depot));
+      unchanged = tt;
+      fault_term = λ fault h. cc;
+      slots = OnlyReads-trans (OnlyReads-wider docs-listed (OnlyReads-trans look.depot.only docs.depot.only)) (OnlyReads-wider freqs-listed freqs.depot.only);
+    }
