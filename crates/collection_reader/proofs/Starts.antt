@@ -3,7 +3,7 @@ use Rattle.std.proofs.Common.{◌≡◌, refl, ◌∙◌, sym, ap, subst, ℕ, �
 use Rattle.std.specs.Prelude.{unwrap_or, codes}
 use Rattle.pef_io.specs.declared.fail.Slot.{Slot}
 use Rattle.pef_io.specs.declared.fail.Slot.TheVariants.{Docs, Freqs, Sizes, Index, Side, Map}
-use Rattle.pef_io.specs.DepotState.{DepotState, StartedOnce, NoneStartedTwice, OnlyReads, WasStartedAs}
+use Rattle.pef_io.specs.DepotState.{DepotState, NoneStartedTwice, OnlyReads, WasStartedAs}
 use Rattle.collection_reader.specs.declared.fault.Fault.{Fault}
 use Rattle.collection_reader.specs.declared.fault.CollError.{CollError}
 use Rattle.collection_reader.specs.declared.fault.CollError.TheVariants.{Broken, Read, NoMemory}

@@ -9,7 +9,7 @@ use crate::fault::{CollError, Rule};
 use crate::held::has_byte;
 use crate::phase::Phase;
 use crate::position::Position;
-use crate::sequences::{read_documents, read_frequencies, read_head, read_sizes};
+use crate::sequences::{Expected, read_documents, read_frequencies, read_head, read_sizes};
 use crate::start::start_files;
 use held_pieces::Held;
 use part_cost::Format;
@@ -155,7 +155,11 @@ impl ListReader {
             return Err(at.breaks(Rule::C9));
         }
         read_documents(&mut self.docs, depot, term, self.documents, docs)?;
-        read_frequencies(&mut self.freqs, depot, self.format, term, docs.len(), freqs)?;
+        let expected = Expected {
+            term,
+            count: docs.len(),
+        };
+        read_frequencies(&mut self.freqs, depot, self.format, expected, freqs)?;
         self.lists = term + 1;
         Ok(true)
     }

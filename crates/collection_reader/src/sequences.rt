@@ -70,27 +70,34 @@ pub(crate) fn read_documents<D: Depot>(
     Ok(())
 }
 
+// The list whose frequencies are to come: its term, and how many documents it has.
+#[derive(Clone, Copy)]
+pub(crate) struct Expected {
+    pub(crate) term: u32,
+    pub(crate) count: usize,
+}
+
 // Reads the frequencies of a term, as many as it has documents, whose sum is within the format's greatest.
 pub(crate) fn read_frequencies<D: Depot>(
     held: &mut Held,
     depot: &mut D,
     format: Format,
-    term: u32,
-    expected: usize,
+    expected: Expected,
     freqs: &mut Vec<u32>,
 ) -> Result<(), CollError>
     requires started { IsTrue ((D.state depot.old).started Freqs) }
     requires empty { freqs.old.items ≡ [] }
-    ensures { ReadsFrequencies (numbers_of format) term expected held.old held.new
+    ensures { ReadsFrequencies (numbers_of format) expected.term expected.count held.old held.new
         (D.state depot.old) (D.state depot.new) freqs.new.items result }
 {
+    let Expected { term, count } = expected;
     let head = Position {
         file: Slot::Freqs,
         term,
         place: 0,
     };
     let length = read_number(held, head, depot)?;
-    if length as usize != expected {
+    if length as usize != count {
         return Err(head.breaks(Rule::C6));
     }
     let mut sum = 0;

@@ -149,6 +149,17 @@ fn check_sequence(words: &[u64], at: u64, end: u64, sought: Sought) -> Option<Fo
     }
 }
 
+// A list whose head says how many postings it has and its greatest frequency, over so many documents.
+#[derive(Clone, Copy)]
+struct HeadedList {
+    documents: u32,
+    m: u32,
+    greatest: u32,
+    ghost documents_fit: { documents < 2 ^ 32 },
+    ghost few: { m < 2 ^ 32 },
+    ghost greatest_fits: { greatest < 2 ^ 32 },
+}
+
 // Whether the bits between two places are the document of one posting.
 fn check_single(words: &[u64], at: u64, to: u64, documents: u32, greatest: u32) -> bool
     requires ordered { at ≤ to }
@@ -163,19 +174,25 @@ fn check_single(words: &[u64], at: u64, to: u64, documents: u32, greatest: u32) 
     (Bits { words }).get(at, width) < u64::from(documents)
 }
 
-// Whether they are the two sequences of m postings.
-fn check_many(words: &[u64], at: u64, to: u64, documents: u32, m: u32, greatest: u32) -> bool
+// Whether they are the two sequences of a list of several postings.
+fn check_many(words: &[u64], at: u64, to: u64, list: HeadedList) -> bool
     requires words { length words.now < 2 ^ 57 }
     requires ordered { at ≤ to }
     requires range { to ≤ 64 * length words.now }
-    requires many { 2 ≤ m }
-    requires not_zero { 1 ≤ greatest }
-    ensures { IsTrue result ↔ HoldsTail documents m greatest (bits_of words.now) at to }
+    requires many { 2 ≤ list.m }
+    requires not_zero { 1 ≤ list.greatest }
+    ensures { IsTrue result ↔ HoldsTail list.documents list.m list.greatest (bits_of words.now) at
+        to }
 {
     one_sequence_at_place();
     sequences_of_a_list_rise();
     sequences_give_their_list();
     sequences_are_a_list();
+    let HeadedList {
+        documents,
+        m,
+        greatest,
+    } = list;
     let docs = Sought {
         m,
         bound: u64::from(documents),
@@ -198,19 +215,20 @@ fn check_many(words: &[u64], at: u64, to: u64, documents: u32, m: u32, greatest:
     second.greatest == u64::from(greatest)
 }
 
-// Whether they are a list of m postings behind its head.
-fn check_tail(words: &[u64], at: u64, to: u64, documents: u32, m: u32, greatest: u32) -> bool
+// Whether they are a list behind its head.
+fn check_tail(words: &[u64], at: u64, to: u64, list: HeadedList) -> bool
     requires words { length words.now < 2 ^ 57 }
     requires ordered { at ≤ to }
     requires range { to ≤ 64 * length words.now }
-    requires some { 1 ≤ m }
-    requires not_zero { 1 ≤ greatest }
-    ensures { IsTrue result ↔ HoldsTail documents m greatest (bits_of words.now) at to }
+    requires some { 1 ≤ list.m }
+    requires not_zero { 1 ≤ list.greatest }
+    ensures { IsTrue result ↔ HoldsTail list.documents list.m list.greatest (bits_of words.now) at
+        to }
 {
-    if m == 1 {
-        check_single(words, at, to, documents, greatest)
+    if list.m == 1 {
+        check_single(words, at, to, list.documents, list.greatest)
     } else {
-        check_many(words, at, to, documents, m, greatest)
+        check_many(words, at, to, list)
     }
 }
 
@@ -233,12 +251,10 @@ pub fn check_list(words: &[u64], from: u64, to: u64, documents: u32) -> bool
     let Some(greatest) = gamma_before(bits, count.behind, to) else {
         return false;
     };
-    check_tail(
-        words,
-        greatest.behind,
-        to,
+    let list = HeadedList {
         documents,
-        count.number,
-        greatest.number,
-    )
+        m: count.number,
+        greatest: greatest.number,
+    };
+    check_tail(words, greatest.behind, to, list)
 }

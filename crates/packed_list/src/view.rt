@@ -31,6 +31,7 @@ struct KnownSequence<'a> {
 }
 
 // The sequence of m values that stands as one part, behind a zero.
+#[inline(always)]
 fn known_lone<'a>(words: &'a [u64], at: u64, m: u32, last: LastField) -> KnownSequence<'a>
     requires words { length words.now < 2 ^ 57 }
     requires many { 2 ≤ m }
@@ -87,6 +88,7 @@ fn known_parted<'a>(words: &'a [u64], at: u64, m: u32, last: LastField) -> Known
 }
 
 // The sequence of m values that stands at a place.
+#[inline(always)]
 fn known_sequence<'a>(words: &'a [u64], at: u64, m: u32, last: LastField) -> KnownSequence<'a>
     requires words { length words.now < 2 ^ 57 }
     requires many { 2 ≤ m }

@@ -13,4 +13,4 @@ pub use laws::{
     cursors_stand_in_lists, sequences_are_a_list, sequences_give_their_list,
     sequences_of_a_list_rise,
 };
-pub use write::{doc_values, freq_sums, write_postings, write_sequences};
+pub use write::{CutSequence, doc_values, freq_sums, write_postings, write_sequences};

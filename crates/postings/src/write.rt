@@ -34,32 +34,45 @@ pub fn write_postings(
 {
     let values = doc_values(alloc, docs)?;
     let sums = freq_sums(alloc, freqs)?;
-    write_sequences(alloc, &values, &sums, doc_ends, freq_ends, format, to)
+    let docs = CutSequence {
+        values: &values,
+        ends: doc_ends,
+    };
+    let sums = CutSequence {
+        values: &sums,
+        ends: freq_ends,
+    };
+    write_sequences(alloc, docs, sums, format, to)
+}
+
+/// The values of a sequence, and the ends of the parts into which it is cut.
+#[derive(Clone, Copy)]
+pub struct CutSequence<'a> {
+    pub values: &'a [u64],
+    pub ends: &'a [u64],
 }
 
 /// Appends the same words by the values of the two sequences, as `doc_values` and `freq_sums` give them.
 pub fn write_sequences(
     alloc: Global,
-    docs: &[u64],
-    sums: &[u64],
-    doc_ends: &[u64],
-    freq_ends: &[u64],
+    docs: CutSequence<'_>,
+    sums: CutSequence<'_>,
     format: Format,
     to: &mut Vec<u64>,
 ) -> Result<(), NoMemory>
     requires list { (list : List Posting) × IsPostingList (numbers_of format)
         (numbers_of format).most_documents list
-        × (docs.now ≡ doc_sequence list) × (sums.now ≡ freq_sequence list) }
-    requires doc_parts { IsPartition (length docs.now) doc_ends.now }
-    requires freq_parts { IsPartition (length sums.now) freq_ends.now }
+        × (docs.values.now ≡ doc_sequence list) × (sums.values.now ≡ freq_sequence list) }
+    requires doc_parts { IsPartition (length docs.values.now) docs.ends.now }
+    requires freq_parts { IsPartition (length sums.values.now) sums.ends.now }
     ensures ok { OnOk result (to.new.items ≡ to.old.items
-        ++ sequence_words (numbers_of format) docs.now doc_ends.now
-        ++ sequence_words (numbers_of format) sums.now freq_ends.now) }
+        ++ sequence_words (numbers_of format) docs.entry.values.now docs.entry.ends.now
+        ++ sequence_words (numbers_of format) sums.entry.values.now sums.entry.ends.now) }
     ensures err { OnErr result (to.new.items ≡ to.old.items) }
 {
     let first = to.len();
-    write_seq(alloc, docs, doc_ends, format, to)?;
-    let written = write_seq(alloc, sums, freq_ends, format, to);
+    write_seq(alloc, docs.values, docs.ends, format, to)?;
+    let written = write_seq(alloc, sums.values, sums.ends, format, to);
     if written.is_err() {
         to.truncate(first);
     }

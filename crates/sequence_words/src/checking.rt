@@ -30,26 +30,36 @@ pub struct Found {
     pub greatest: u64,
 }
 
+/// A sequence that words are to begin with: so many values below a bound, in so many parts, in a format.
+#[derive(Clone, Copy)]
+pub struct SeqShape {
+    pub parts: u32,
+    pub m: u32,
+    pub bound: u64,
+    pub format: Format,
+    pub ghost few: { m < 2 ^ 32 },
+}
+
 /// Looks for the first check that breaks, and answers what it finds out of the words.
-pub fn check_words(
-    words: &[u64],
-    parts: u32,
-    m: u32,
-    bound: u64,
-    format: Format,
-    with_steps: bool,
-) -> Result<Found, SeqFault>
+pub fn check_words(words: &[u64], shape: SeqShape, with_steps: bool) -> Result<Found, SeqFault>
     requires words { length words.now < 2 ^ 57 }
-    requires bound { bound ≤ (numbers_of format).most_sum }
-    ensures ok { IfOk result (λ found. PassChecks (numbers_of format) words.now parts m bound) }
+    requires bound { shape.bound ≤ (numbers_of shape.format).most_sum }
+    ensures ok { IfOk result (λ found. PassChecks (numbers_of shape.format) words.now shape.parts
+        shape.m shape.bound) }
     ensures used { IfOk result (λ found. found.used
-        ≡ word_behind (numbers_of format) words.now parts) }
+        ≡ word_behind (numbers_of shape.format) words.now shape.parts) }
     ensures step { IfOk result (λ found. with_steps ≡ true
         → found.greatest ≡ greatest (steps_from 0
-        (sequence_stated (numbers_of format) words.now parts).values)) }
-    ensures first { IfErr result (λ f. IsSequenceFault (numbers_of format) words.now parts m bound
-        f.check f.part) }
+        (sequence_stated (numbers_of shape.format) words.now shape.parts).values)) }
+    ensures first { IfErr result (λ f. IsSequenceFault (numbers_of shape.format) words.now
+        shape.parts shape.m shape.bound f.check f.part) }
 {
+    let SeqShape {
+        parts,
+        m,
+        bound,
+        format,
+    } = shape;
     let directory = directory_words(parts, format);
     if !parts_fit(m, parts) || (words.len() as u64) < directory {
         return Err(SeqFault {

@@ -8,7 +8,7 @@ mod laws;
 mod write;
 
 pub use check::Check;
-pub use checking::{Found, SeqFault, check_words, parts_fit};
+pub use checking::{Found, SeqFault, SeqShape, check_words, parts_fit};
 pub use entry::{Entry, directory_bits, entry_at, entry_last};
 pub use laws::{
     checks_accept_a_sequence, checks_refuse_no_sequence, directory_states_its_parts, one_sequence,

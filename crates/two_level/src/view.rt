@@ -23,7 +23,7 @@ use part_codec::one_list_at_place;
 use part_cost::Format;
 use part_directory::{Directory, Part};
 use sequence_words::{
-    SeqFault, check_words, checks_accept_a_sequence, checks_refuse_no_sequence,
+    SeqFault, SeqShape, check_words, checks_accept_a_sequence, checks_refuse_no_sequence,
     directory_states_its_parts, words_state_their_sequence,
 };
 use std::marker::Model;
@@ -110,7 +110,13 @@ impl<'a> SeqView<'a> {
         ensures first { IfErr result (λ f. IsSequenceFault (numbers_of format) words.entry.now parts
             m bound f.check f.part) }
     {
-        match SeqView::check_sequence(words, parts, m, bound, format, false) {
+        let shape = SeqShape {
+            parts,
+            m,
+            bound,
+            format,
+        };
+        match SeqView::check_sequence(words, shape, false) {
             Ok(checked) => Ok(Checked {
                 view: checked.view,
                 used: checked.used,
@@ -143,42 +149,46 @@ impl<'a> SeqView<'a> {
         ensures first { IfErr result (λ f. IsSequenceFault (numbers_of format) words.entry.now parts
             m bound f.check f.part) }
     {
-        SeqView::check_sequence(words, parts, m, bound, format, true)
+        let shape = SeqShape {
+            parts,
+            m,
+            bound,
+            format,
+        };
+        SeqView::check_sequence(words, shape, true)
     }
 
     // The sequence with which the words begin, how many they are, and its greatest step where it is asked for.
     fn check_sequence(
         words: &'a [u64],
-        parts: u32,
-        m: u32,
-        bound: u64,
-        format: Format,
+        shape: SeqShape,
         with_steps: bool,
     ) -> Result<CheckedSteps<'a>, SeqFault>
         requires words { length words.now < 2 ^ 57 }
-        requires bound { bound ≤ (numbers_of format).most_sum }
-        ensures format { IfOk result (λ c. c.view.format ≡ numbers_of format) }
+        requires bound { shape.bound ≤ (numbers_of shape.format).most_sum }
+        ensures format { IfOk result (λ c. c.view.format ≡ numbers_of shape.format) }
         ensures ok { IfOk result (λ c. (used : ℕ)
-            × BeginsSequence (numbers_of format) m bound parts c.view.values c.view.ends
-            words.entry.now used) }
+            × BeginsSequence (numbers_of shape.format) shape.m shape.bound shape.parts
+            c.view.values c.view.ends words.entry.now used) }
         ensures used { IfOk result (λ c. c.used ≡ words_used c.view) }
         ensures step { IfOk result (λ c. with_steps ≡ true
             → c.greatest ≡ greatest (steps_from 0 c.view.values)) }
-        ensures count { IfOk result (λ c. length c.view.values ≡ m) }
-        ensures parts { IfOk result (λ c. length c.view.ends ≡ parts) }
+        ensures count { IfOk result (λ c. length c.view.values ≡ shape.m) }
+        ensures parts { IfOk result (λ c. length c.view.ends ≡ shape.parts) }
         ensures none { IfErr result (λ f. (xs ends : List ℕ) (used : ℕ)
-            → ¬ BeginsSequence (numbers_of format) m bound parts xs ends words.entry.now used) }
-        ensures first { IfErr result (λ f. IsSequenceFault (numbers_of format) words.entry.now parts
-            m bound f.check f.part) }
+            → ¬ BeginsSequence (numbers_of shape.format) shape.m shape.bound shape.parts xs ends
+            words.entry.now used) }
+        ensures first { IfErr result (λ f. IsSequenceFault (numbers_of shape.format) words.entry.now
+            shape.parts shape.m shape.bound f.check f.part) }
     {
         checks_accept_a_sequence();
         checks_refuse_no_sequence();
         words_state_their_sequence();
         directory_states_its_parts();
-        let found = check_words(words, parts, m, bound, format, with_steps)?;
+        let found = check_words(words, shape, with_steps)?;
         Ok(CheckedSteps {
             view: SeqView {
-                directory: Directory::at_front(words, parts, m, format),
+                directory: Directory::at_front(words, shape.parts, shape.m, shape.format),
             },
             used: found.used,
             greatest: found.greatest,

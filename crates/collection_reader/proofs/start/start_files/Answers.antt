@@ -1,5 +1,3 @@
-use Rattle.std.proofs.Common.{◌++◌}
-use Rattle.std.specs.Prelude.{codes}
 use Rattle.std.proofs.lemmas.Result.{err_from_is_err_and}
 use Rattle.collection_reader.proofs.Starts.{docs_refused, freqs_refused, all_started}
 use Rattle.collection_reader.proofs.start.start_files.Goals as goal

@@ -18,58 +18,58 @@ true-eq : (a b : ℕ) → a ≡ b → IsTrue (nat_eq a b)
 true-eq a b h = grind (arith, nat_tests)
 
 -- what a list that stands there is
-tail : (c : After-last_sum) → (h : HoldsTail c.args.documents c.args.m c.args.greatest (bits_of c.args.words.now) c.args.at c.args.to) → TailFacts c.args.documents c.args.m c.args.greatest (bits_of c.args.words.now) c.args.at c.args.to h.0 h.1 h.2
+tail : (c : After-last_sum) → (h : HoldsTail c.args.list.documents c.args.list.m c.args.list.greatest (bits_of c.args.words.now) c.args.at c.args.to) → TailFacts c.args.list.documents c.args.list.m c.args.list.greatest (bits_of c.args.words.now) c.args.at c.args.to h.0 h.1 h.2
 tail c h =
-    tail-facts c.sequences_of_a_list_rise.ensures c.sequences_give_their_list.ensures c.args.documents c.args.m c.args.greatest (bits_of c.args.words.now) c.args.at c.args.to h.0 h.1 h.2 (omega (arith, c.ranges.documents.fits)) c.requires.many c.requires.ordered
+    tail-facts c.sequences_of_a_list_rise.ensures c.sequences_give_their_list.ensures c.args.list.documents c.args.list.m c.args.list.greatest (bits_of c.args.words.now) c.args.at c.args.to h.0 h.1 h.2 (omega (arith, c.args.list.documents_fit)) c.requires.many c.requires.ordered
     (omega (arith, c.requires.range, length-bits_of c.args.words.now)) h.3
 
 -- what was found of documents, and of sums behind them
-docs-found : (c : In-Some) → IsFound (last_doc c.args.documents) c.args.m c.args.documents (bits_of c.args.words.now) c.args.at c.args.to c.in-Some.first
-docs-found c = found-as c.last_doc.result (last_doc c.args.documents) c.args.m c.from.result c.args.documents (bits_of c.args.words.now) c.args.at c.args.to c.in-Some.first c.last_doc.ensures c.from.ensures c.in-Some.ensures.some
+docs-found : (c : In-Some) → IsFound (last_doc c.args.list.documents) c.args.list.m c.args.list.documents (bits_of c.args.words.now) c.args.at c.args.to c.in-Some.first
+docs-found c = found-as c.last_doc.result (last_doc c.args.list.documents) c.args.list.m c.from.result c.args.list.documents (bits_of c.args.words.now) c.args.at c.args.to c.in-Some.first c.last_doc.ensures c.from.ensures c.in-Some.ensures.some
 
-sums-found : (c : In-Some-check_sequence) → IsFound (last_sum c.args.m c.args.greatest) c.args.m format_three.most_sum (bits_of c.args.words.now) c.in-Some.first.behind c.args.to c.in-Some-check_sequence.second
+sums-found : (c : In-Some-check_sequence) → IsFound (last_sum c.args.list.m c.args.list.greatest) c.args.list.m format_three.most_sum (bits_of c.args.words.now) c.in-Some.first.behind c.args.to c.in-Some-check_sequence.second
 sums-found c =
-    found-as c.last_sum.result (last_sum c.args.m c.args.greatest) c.args.m c.most_sum.result format_three.most_sum (bits_of c.args.words.now) c.in-Some.first.behind c.args.to c.in-Some-check_sequence.second c.last_sum.ensures c.most_sum.ensures c.in-Some-check_sequence.ensures.some
+    found-as c.last_sum.result (last_sum c.args.list.m c.args.list.greatest) c.args.list.m c.most_sum.result format_three.most_sum (bits_of c.args.words.now) c.in-Some.first.behind c.args.to c.in-Some-check_sequence.second c.last_sum.ensures c.most_sum.ensures c.in-Some-check_sequence.ensures.some
 
 -- what a list that stands there says of them
-docs-are : (c : In-Some) → (h : HoldsTail c.args.documents c.args.m c.args.greatest (bits_of c.args.words.now) c.args.at c.args.to) → FoundFacts (last_doc c.args.documents) c.args.at (doc_sequence h.0) h.1 c.in-Some.first
+docs-are : (c : In-Some) → (h : HoldsTail c.args.list.documents c.args.list.m c.args.list.greatest (bits_of c.args.words.now) c.args.at c.args.to) → FoundFacts (last_doc c.args.list.documents) c.args.at (doc_sequence h.0) h.1 c.in-Some.first
 docs-are c h =
-    found-facts c.one_sequence_at_place.ensures (last_doc c.args.documents) c.args.m c.args.documents (bits_of c.args.words.now) c.args.at c.args.to c.in-Some.first (doc_sequence h.0) h.1 c.requires.many (omega (arith, c.ranges.m.fits)) (docs-found c)
+    found-facts c.one_sequence_at_place.ensures (last_doc c.args.list.documents) c.args.list.m c.args.list.documents (bits_of c.args.words.now) c.args.at c.args.to c.in-Some.first (doc_sequence h.0) h.1 c.requires.many (omega (arith, c.args.list.few)) (docs-found c)
     (tail (goal.at.In-Some c).After-last_sum h).docs
 
-sums-behind-docs : (c : In-Some) → (h : HoldsTail c.args.documents c.args.m c.args.greatest (bits_of c.args.words.now) c.args.at c.args.to) → IsSequenceBefore (last_sum c.args.m c.args.greatest) c.args.m format_three.most_sum (bits_of c.args.words.now) c.in-Some.first.behind c.args.to (freq_sequence h.0) h.2
-sums-behind-docs c h = sums-behind c.args.documents c.args.m c.args.greatest (bits_of c.args.words.now) c.args.at c.args.to c.in-Some.first h.0 h.1 h.2 (docs-are c h) (tail (goal.at.In-Some c).After-last_sum h)
+sums-behind-docs : (c : In-Some) → (h : HoldsTail c.args.list.documents c.args.list.m c.args.list.greatest (bits_of c.args.words.now) c.args.at c.args.to) → IsSequenceBefore (last_sum c.args.list.m c.args.list.greatest) c.args.list.m format_three.most_sum (bits_of c.args.words.now) c.in-Some.first.behind c.args.to (freq_sequence h.0) h.2
+sums-behind-docs c h = sums-behind c.args.list.documents c.args.list.m c.args.list.greatest (bits_of c.args.words.now) c.args.at c.args.to c.in-Some.first h.0 h.1 h.2 (docs-are c h) (tail (goal.at.In-Some c).After-last_sum h)
 
-sums-are : (c : In-Some-check_sequence) → (h : HoldsTail c.args.documents c.args.m c.args.greatest (bits_of c.args.words.now) c.args.at c.args.to) → FoundFacts (last_sum c.args.m c.args.greatest) c.in-Some.first.behind (freq_sequence h.0) h.2 c.in-Some-check_sequence.second
+sums-are : (c : In-Some-check_sequence) → (h : HoldsTail c.args.list.documents c.args.list.m c.args.list.greatest (bits_of c.args.words.now) c.args.at c.args.to) → FoundFacts (last_sum c.args.list.m c.args.list.greatest) c.in-Some.first.behind (freq_sequence h.0) h.2 c.in-Some-check_sequence.second
 sums-are c h =
-    found-facts c.one_sequence_at_place.ensures (last_sum c.args.m c.args.greatest) c.args.m format_three.most_sum (bits_of c.args.words.now) c.in-Some.first.behind c.args.to c.in-Some-check_sequence.second (freq_sequence h.0) h.2 c.requires.many (omega (arith, c.ranges.m.fits))
+    found-facts c.one_sequence_at_place.ensures (last_sum c.args.list.m c.args.list.greatest) c.args.list.m format_three.most_sum (bits_of c.args.words.now) c.in-Some.first.behind c.args.to c.in-Some-check_sequence.second (freq_sequence h.0) h.2 c.requires.many (omega (arith, c.args.list.few))
     (sums-found c) (sums-behind-docs (goal.at.In-Some-check_sequence c).In-Some h)
 
 pub returns-in_default : goal.returns-in_default
 returns-in_default c = (
   λ t. cc,
   λ h. absurd (c.in_default.ensures.none (doc_sequence h.0) h.1
-      (before-as (last_doc c.args.documents) c.last_doc.result c.args.m c.args.documents c.from.result (bits_of c.args.words.now) c.args.at c.args.to (doc_sequence h.0) h.1 (sym c.last_doc.ensures) (sym c.from.ensures) (tail (goal.at.returns-in_default c).After-last_sum h).docs)),
+      (before-as (last_doc c.args.list.documents) c.last_doc.result c.args.list.m c.args.list.documents c.from.result (bits_of c.args.words.now) c.args.at c.args.to (doc_sequence h.0) h.1 (sym c.last_doc.ensures) (sym c.from.ensures) (tail (goal.at.returns-in_default c).After-last_sum h).docs)),
 )
 
 pub returns-in_default-check_sequence : goal.returns-in_default-check_sequence
 returns-in_default-check_sequence c = (
   λ t. cc,
   λ h. absurd ((c.in_default-check_sequence).ensures.none (freq_sequence h.0) h.2
-      (before-as (last_sum c.args.m c.args.greatest) c.last_sum.result c.args.m format_three.most_sum c.most_sum.result (bits_of c.args.words.now) c.in-Some.first.behind c.args.to (freq_sequence h.0) h.2 (sym c.last_sum.ensures) (sym c.most_sum.ensures)
+      (before-as (last_sum c.args.list.m c.args.list.greatest) c.last_sum.result c.args.list.m format_three.most_sum c.most_sum.result (bits_of c.args.words.now) c.in-Some.first.behind c.args.to (freq_sequence h.0) h.2 (sym c.last_sum.ensures) (sym c.most_sum.ensures)
       (sums-behind-docs (goal.at.returns-in_default-check_sequence c).In-Some h))),
 )
 
 pub returns-then-second-to : goal.returns-then-second-to
 returns-then-second-to c = (
   λ t. cc,
-  λ h. absurd (c.if-second-to.true (ends-behind c.args.documents c.args.m c.args.greatest (bits_of c.args.words.now) c.args.at c.args.to c.in-Some.first c.in-Some-check_sequence.second h.0 h.1 h.2 (docs-are (goal.at.returns-then-second-to c).In-Some h)
+  λ h. absurd (c.if-second-to.true (ends-behind c.args.list.documents c.args.list.m c.args.list.greatest (bits_of c.args.words.now) c.args.at c.args.to c.in-Some.first c.in-Some-check_sequence.second h.0 h.1 h.2 (docs-are (goal.at.returns-then-second-to c).In-Some h)
       (sums-are (goal.at.returns-then-second-to c).In-Some-check_sequence h) (tail (goal.at.returns-then-second-to c).After-last_sum h))),
 )
 
 pub returns : goal.returns
 returns c = (
-  λ t. many-found c.sequences_are_a_list.ensures c.args.documents c.args.m c.args.greatest (bits_of c.args.words.now) c.args.at c.args.to c.in-Some.first c.in-Some-check_sequence.second c.requires.many (omega (arith, c.ranges.greatest.fits)) (docs-found (goal.at.returns c).In-Some)
+  λ t. many-found c.sequences_are_a_list.ensures c.args.list.documents c.args.list.m c.args.list.greatest (bits_of c.args.words.now) c.args.at c.args.to c.in-Some.first c.in-Some-check_sequence.second c.requires.many (omega (arith, c.args.list.greatest_fits)) (docs-found (goal.at.returns c).In-Some)
       (sums-found (goal.at.returns c).In-Some-check_sequence) c.if-second-to.false (eq-true c.in-Some-check_sequence.second.greatest c.from-2.result t ∙ c.from-2.ensures),
   λ h. true-eq c.in-Some-check_sequence.second.greatest c.from-2.result
       ((sums-are (goal.at.returns c).In-Some-check_sequence h).greatest_is ∙ (tail (goal.at.returns c).After-last_sum h).step ∙ sym c.from-2.ensures),

@@ -42,28 +42,28 @@ padding-breaks format words parts (Ok x) stored check part breaks = check
 padding-breaks format words parts (Err f) stored check part breaks = inr ((λ q lt no. no (stored q lt)), inl (breaks, (check, part)))
 
 pub check_parts-requires-clause-entries : goal.check_parts-requires-clause-entries
-check_parts-requires-clause-entries c = (c.args.m, c.args.bound, c.requires.bound, c.in_ok-payload.ensures.entries)
+check_parts-requires-clause-entries c = (c.args.shape.m, c.args.shape.bound, c.requires.bound, c.in_ok-payload.ensures.entries)
 
 pub returns-in_err-greatest-clause-first : goal.returns-in_err-greatest-clause-first
 returns-in_err-greatest-clause-first c =
-    let format = numbers_of c.args.format in
+    let format = numbers_of c.args.shape.format in
     let e : SeqFault = c.in_err-greatest.field-0.0 in
-    let step : PartsStep format c.args.words.now c.args.parts e.check e.part =
-    IfErr-at_err (λ f. PartsStep format c.args.words.now c.args.parts f.check f.part) (first_of (search rules, cc))
-    (part-breaks format c.args.words.now c.args.parts c.check_parts.result c.check_parts.ensures.check c.check_parts.ensures.part c.check_parts.ensures.breaks c.check_parts.ensures.first) in
+    let step : PartsStep format c.args.words.now c.args.shape.parts e.check e.part =
+    IfErr-at_err (λ f. PartsStep format c.args.words.now c.args.shape.parts f.check f.part) (first_of (search rules, cc))
+    (part-breaks format c.args.words.now c.args.shape.parts c.check_parts.result c.check_parts.ensures.check c.check_parts.ensures.part c.check_parts.ensures.breaks c.check_parts.ensures.first) in
     let is : c.from_residual-in_err-greatest.result ≡ Err e = first_of (search rules, cc) in
-    let fault : IsSequenceFault format c.args.words.now c.args.parts c.args.m c.args.bound e.check e.part =
-    behind-entries format c.args.words.now c.args.parts c.args.m c.args.bound e.check e.part (search rules) (search rules) c.in_ok-payload.ensures.entries (search rules) step in
+    let fault : IsSequenceFault format c.args.words.now c.args.shape.parts c.args.shape.m c.args.shape.bound e.check e.part =
+    behind-entries format c.args.words.now c.args.shape.parts c.args.shape.m c.args.shape.bound e.check e.part (search rules) (search rules) c.in_ok-payload.ensures.entries (search rules) step in
     rw is fault
 
 pub returns-in_err-check_padding-clause-first : goal.returns-in_err-check_padding-clause-first
 returns-in_err-check_padding-clause-first c =
-    let format = numbers_of c.args.format in
+    let format = numbers_of c.args.shape.format in
     let e : SeqFault = c.in_err-check_padding.field-0.0 in
-    let step : PartsStep format c.args.words.now c.args.parts e.check e.part =
-    IfErr-at_err (λ f. PartsStep format c.args.words.now c.args.parts f.check f.part) (first_of (search rules, cc))
-    (padding-breaks format c.args.words.now c.args.parts c.check_padding.result c.in_ok-greatest.ensures.ok c.check_padding.ensures.check c.check_padding.ensures.part c.check_padding.ensures.breaks) in
+    let step : PartsStep format c.args.words.now c.args.shape.parts e.check e.part =
+    IfErr-at_err (λ f. PartsStep format c.args.words.now c.args.shape.parts f.check f.part) (first_of (search rules, cc))
+    (padding-breaks format c.args.words.now c.args.shape.parts c.check_padding.result c.in_ok-greatest.ensures.ok c.check_padding.ensures.check c.check_padding.ensures.part c.check_padding.ensures.breaks) in
     let is : c.from_residual-in_err-check_padding.result ≡ Err e = first_of (search rules, cc) in
-    let fault : IsSequenceFault format c.args.words.now c.args.parts c.args.m c.args.bound e.check e.part =
-    behind-entries format c.args.words.now c.args.parts c.args.m c.args.bound e.check e.part (search rules) (search rules) c.in_ok-payload.ensures.entries (search rules) step in
+    let fault : IsSequenceFault format c.args.words.now c.args.shape.parts c.args.shape.m c.args.shape.bound e.check e.part =
+    behind-entries format c.args.words.now c.args.shape.parts c.args.shape.m c.args.shape.bound e.check e.part (search rules) (search rules) c.in_ok-payload.ensures.entries (search rules) step in
     rw is fault
