@@ -16,16 +16,23 @@ longest_of lists = greatest (map length lists)
 abbrev pub are_apart : List (List Posting) → List ℕ → ℕ → Bool
 are_apart lists weights k = nat_le (count_of lists * k) (2048 * bounds (terms_of lists weights))
 
--- one list has sixteen times the postings of all the others, and these are k or more
-abbrev pub one_is_long : List (List Posting) → ℕ → Bool
-one_is_long lists k =
-    nat_le (16 * (count_of lists - longest_of lists)) (longest_of lists)
-    && nat_le k (count_of lists - longest_of lists)
+-- the longest of some lists has sixteen times the postings of all the others, and these are k or more
+abbrev pub is_long : ℕ → ℕ → ℕ → Bool
+is_long all longest k = nat_le (16 * (all - longest)) longest && nat_le k (all - longest)
 
--- one long list beside short ones, or more than one window of n documents, and one list or a few whose scores
--- lie apart
+-- one of some lists does
+abbrev pub one_is_long : List (List Posting) → ℕ → Bool
+one_is_long lists k = is_long (count_of lists) (longest_of lists) k
+
+-- there are k postings or more for each of k documents
+abbrev pub are_many : List (List Posting) → ℕ → Bool
+are_many lists k = nat_le (k * k) (count_of lists)
+
+-- of many postings, one long list beside short ones, or more than one window of n documents, and one list or a few
+-- whose scores lie apart
 abbrev pub pruning_saves : ℕ → List (List Posting) → List ℕ → ℕ → Bool
 pruning_saves n lists weights k =
     nat_le (length lists) 16
+    && are_many lists k
     && (one_is_long lists k
     || (nat_lt 8192 n && (nat_eq (length lists) 1 || are_apart lists weights k)))

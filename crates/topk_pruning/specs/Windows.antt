@@ -7,8 +7,8 @@ use Rattle.topk_pruning.specs.declared.room.Room.{Room}
 use Rattle.topk_pruning.specs.declared.term.Term.{Term}
 use Rattle.topk_pruning.specs.Terms.{AreBefore, AreTermsIn, bounds, in_lists, score_in}
 
--- room for the terms of a query, of which there are so many, and for the next window of documents
-pub record IsReady (count : ℕ) (r : Room) : Type 0 where
+-- room for the terms of a query, of which there are so many, and for the next window of the n documents
+pub record IsReady (count n : ℕ) (r : Room) : Type 0 where
   -- there is room for each term
   pub each : length r.terms.items ≡ count
   -- the window has a document
@@ -17,6 +17,10 @@ pub record IsReady (count : ℕ) (r : Room) : Type 0 where
   pub fits : r.width ≤ length r.scores.items
   -- nothing is scored or marked
   pub blank : IsBlank r.scores.items r.marks.items
+  -- the documents are so many
+  pub documents : r.n ≡ n
+  -- and have numbers of 32 bits
+  pub narrow : n < 2 ^ 32
 
 -- a window of documents from `first` on that are scored and marked by the lists of some terms; so many places were reached
 pub record IsScoredIn (lists : List (List Posting)) (terms : List Term) (first : ℕ) (scores marks : List ℕ) (reached : ℕ) : Type 0 where

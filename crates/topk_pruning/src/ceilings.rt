@@ -30,18 +30,16 @@ pub(crate) fn bound_terms<C: DocCursor, B: Ceilings<C>>(
     terms: &[Term],
     ceilings: &B,
     first: u32,
-    n: u32,
     near: &mut [Term],
 ) -> u32
     requires terms { AreTerms (map C.list cursors.now) terms.now }
     requires each { length near.old ≡ length terms.now }
-    requires in_range { first < n }
+    requires in_range { first < 4294967295 }
     ensures each { length near.new ≡ length terms.now }
     ensures later { first < result }
-    ensures in_range { result ≤ n }
     ensures near { AreNear (map C.list cursors.now) terms.now first result near.new }
 {
-    let reach = bound_each(cursors, terms, ceilings, first, n, near);
+    let reach = bound_each(cursors, terms, ceilings, first, near);
     near.sort_unstable_by(|a, b| b.bound.cmp(&a.bound));
     reach
 }
@@ -52,18 +50,16 @@ fn bound_each<C: DocCursor, B: Ceilings<C>>(
     terms: &[Term],
     ceilings: &B,
     first: u32,
-    n: u32,
     near: &mut [Term],
 ) -> u32
     requires terms { AreTerms (map C.list cursors.now) terms.now }
     requires each { length near.old ≡ length terms.now }
-    requires in_range { first < n }
+    requires in_range { first < 4294967295 }
     ensures each { length near.new ≡ length terms.now }
     ensures later { first < result }
-    ensures in_range { result ≤ n }
     ensures near { AreNear (map C.list cursors.now) terms.now first result near.new }
 {
-    let mut reach = n;
+    let mut reach = u32::MAX;
     for place in 0..terms.len() {
         let term = terms[place];
         let (last, greatest) = ceilings.ceiling(&cursors[term.list], first);

@@ -10,7 +10,7 @@ use crate::ceilings::Greatest;
 use crate::essential::essential_now;
 use crate::floor::common_score;
 use crate::probe::doc_from;
-use crate::room::{Room, score_from};
+use crate::room::Room;
 use crate::saves::pruning_can_save;
 use crate::shortlist::Shortlist;
 use crate::term::{Term, terms_by_bound};
@@ -76,7 +76,7 @@ fn score_essential<C: DocCursor>(
     let mut from = 0;
     while let Some(first) = next_candidate(cursors, &terms, &top, from) {
         room.narrow_after(postings_between(cursors, &terms, from, first, n));
-        from = score_from(cursors, &terms, &Greatest, first, n, &mut room, &mut top);
+        from = room.score_from(cursors, &terms, &Greatest, first, &mut top);
     }
     top.into_list()
 }

@@ -35,12 +35,14 @@ pub(crate) struct Room {
     block: Block,
     // How many documents the next window has, at most.
     width: usize,
+    // How many documents there are.
+    n: u32,
 }
 
 impl Room {
     // Room for the windows of a query with these terms, the first of 8 documents.
     pub(crate) fn new(alloc: Global, terms: &[Term], n: u32) -> Result<Room, NoMemory>
-        ensures { IfOk result (IsReady (length terms.now)) }
+        ensures { IfOk result (IsReady (length terms.now) n) }
     {
         let mut near = Vec::new(alloc);
         near.extend_from_slice(terms)?;
@@ -53,52 +55,45 @@ impl Room {
             marks,
             block: Block::new(),
             width: FIRST_WIDTH,
+            n,
         })
     }
 
     // Makes the next window no wider than the first where many postings were passed over before it: of those in it most would be too.
     pub(crate) fn narrow_after(&mut self, passed: u64)
-        ensures ready { (count : ℕ) → IsReady count self.old → IsReady count self.new }
+        ensures ready { (count n : ℕ) → IsReady count n self.old → IsReady count n self.new }
     {
         if passed >= MANY_PASSED {
             self.width = self.width.min(FIRST_WIDTH);
         }
     }
-}
 
-// Scores the documents of a window from `first` on that can be held and offers them, or passes over documents of which none can, and
-// tells from which document on the search goes on. No document from there on has been passed by a cursor.
-#[inline(never)]
-pub(crate) fn score_from<C: DocCursor, B: Ceilings<C>>(
-    cursors: &mut [C],
-    terms: &[Term],
-    ceilings: &B,
-    first: u32,
-    n: u32,
-    room: &mut Room,
-    top: &mut Shortlist,
-) -> u32
-    requires terms { AreQueryTerms (map C.list cursors.old) terms.now }
-    requires passed { All (λ c. HasPassed first (C.list c) (C.place c)) cursors.old }
-    requires search { IsSearch (map C.list cursors.old) first (first + 1) top.old }
-    requires ready { IsReady (length terms.now) room.old }
-    requires same_n { top.old.n ≡ n }
-    ensures lists { map C.list cursors.new ≡ map C.list cursors.old }
-    ensures passed { All (λ c. HasPassed result (C.list c) (C.place c)) cursors.new }
-    ensures ready { IsReady (length terms.now) room.new }
-    ensures between { (first < result) × (result ≤ n) }
-    ensures searched { IsSearchedTo (map C.list cursors.old) terms.now first result top.old
-        top.new }
-{
-    let reach = bound_terms(
-        cursors,
-        terms,
-        ceilings,
-        first,
-        n,
-        room.terms.as_mut_slice(),
-    );
-    score_up_to(cursors, first, reach, room, top)
+    // Scores the documents of a window from `first` on that can be held and offers them, or passes over documents of which none can,
+    // and tells from which document on the search goes on. No document from there on has been passed by a cursor.
+    #[inline(never)]
+    pub(crate) fn score_from<C: DocCursor, B: Ceilings<C>>(
+        &mut self,
+        cursors: &mut [C],
+        terms: &[Term],
+        ceilings: &B,
+        first: u32,
+        top: &mut Shortlist,
+    ) -> u32
+        requires terms { AreQueryTerms (map C.list cursors.old) terms.now }
+        requires passed { All (λ c. HasPassed first (C.list c) (C.place c)) cursors.old }
+        requires search { IsSearch (map C.list cursors.old) first (first + 1) top.old }
+        requires ready { IsReady (length terms.now) top.old.n self.old }
+        ensures lists { map C.list cursors.new ≡ map C.list cursors.old }
+        ensures passed { All (λ c. HasPassed result (C.list c) (C.place c)) cursors.new }
+        ensures ready { IsReady (length terms.now) top.old.n self.new }
+        ensures between { (first < result) × (result ≤ top.old.n) }
+        ensures searched { IsSearchedTo (map C.list cursors.old) terms.now first result top.old
+            top.new }
+    {
+        let near = self.terms.as_mut_slice();
+        let reach = bound_terms(cursors, terms, ceilings, first, near).min(self.n);
+        score_up_to(cursors, first, reach, self, top)
+    }
 }
 
 // Scores a window of the documents from `first` on by the terms of the room, whose bounds hold up to `reach`, and tells from which
@@ -115,10 +110,10 @@ fn score_up_to<C: DocCursor>(
     requires passed { All (λ c. HasPassed first (C.list c) (C.place c)) cursors.old }
     requires search { IsSearch (map C.list cursors.old) first reach top.old }
     requires later { first < reach }
-    requires ready { IsReady (length room.old.terms.items) room.old }
+    requires ready { IsReady (length room.old.terms.items) top.old.n room.old }
     ensures lists { map C.list cursors.new ≡ map C.list cursors.old }
     ensures passed { All (λ c. HasPassed result (C.list c) (C.place c)) cursors.new }
-    ensures ready { IsReady (length room.old.terms.items) room.new }
+    ensures ready { IsReady (length room.old.terms.items) top.old.n room.new }
     ensures between { (first < result) × (result ≤ reach) }
     ensures searched { IsSearchedTo (map C.list cursors.old) room.old.terms.items first result
         top.old top.new }

@@ -1,9 +1,8 @@
 ghost use Rattle.std.specs.Prelude.{◌≡◌, ◌<◌, ◌^◌, IsTrue, IfSome, IfNone, map, length, sum};
-ghost use Rattle.topk_pruning.specs.Saves.{are_apart, longest_of, one_is_long, pruning_saves};
+ghost use Rattle.topk_pruning.specs.Saves.{are_apart, count_of, is_long, longest_of, one_is_long, pruning_saves};
 
 use crate::term::highest_score;
 use cursor_api::DocCursor;
-use scan_plans::count_postings;
 
 // The documents of one window of `top_exhaustive`. Where there are no more, most is read before there is a bar: pruning cost 0.99 to 1.34
 // times as much as scoring every document.
@@ -20,16 +19,23 @@ const MOST_ALIKE: u128 = 2_048;
 // With half, twice and four times as many a dictionary of 4,877 documents takes 1.00 times the instructions.
 const MOST_TIMES: u128 = 16;
 
-// Whether it can save anything to look for documents to pass over, where k of `n` are wanted: it is what `top_wand`, `top_maxscore` and
-// `top_wand_under` decide by.
-pub(crate) fn pruning_can_save<C: DocCursor>(cursors: &[C], weights: &[u32], k: u32, n: u32) -> bool
+/// Whether it can save anything to look for documents to pass over, where k of `n` are wanted: it is what `top_wand`, `top_maxscore` and
+/// `top_wand_under` decide by.
+pub fn pruning_can_save<C: DocCursor>(cursors: &[C], weights: &[u32], k: u32, n: u32) -> bool
     requires each { length weights.now ≡ length cursors.now }
     requires light { sum weights.now < 2 ^ 26 }
     ensures { result ≡ pruning_saves n (map C.list cursors.now) weights.now k }
 {
-    cursors.len() <= MOST_LISTS
-        && (one_list_is_long(cursors, k)
-            || (n > ONE_WINDOW && (cursors.len() == 1 || scores_lie_apart(cursors, weights, k))))
+    if cursors.len() > MOST_LISTS {
+        return false;
+    }
+    let postings = count_lists(cursors);
+    // Of fewer than k postings for each of the k documents, nearly all are read: with 1,000 wanted pruning cost 1.02 to 1.23 times as much
+    // with up to 150 for each, and with 500 mostly as much with up to 300.
+    u64::from(k) * u64::from(k) <= postings.all
+        && (postings.one_list_is_long(k)
+            || (n > ONE_WINDOW
+                && (cursors.len() == 1 || scores_lie_apart(cursors, weights, postings.all, k))))
 }
 
 /// How many postings the one list has that has sixteen times those of all the others together, where these are k or more; None where
@@ -39,39 +45,53 @@ pub fn long_list<C: DocCursor>(cursors: &[C], k: u32) -> Option<u32>
         × (longest ≡ longest_of (map C.list cursors.now))) }
     ensures none { IfNone result (¬ IsTrue (one_is_long (map C.list cursors.now) k)) }
 {
-    if one_list_is_long(cursors, k) {
-        Some(longest_list(cursors))
+    let postings = count_lists(cursors);
+    if postings.one_list_is_long(k) {
+        Some(postings.longest)
     } else {
         None
     }
 }
 
-// Whether nearly all postings are in one list, and those of the others can be the best.
-fn one_list_is_long<C: DocCursor>(cursors: &[C], k: u32) -> bool
-    ensures { result ≡ one_is_long (map C.list cursors.now) k }
-{
-    let longest = u64::from(longest_list(cursors));
-    let others = count_postings(cursors).saturating_sub(longest);
-    u128::from(others) * MOST_TIMES <= u128::from(longest) && u64::from(k) <= others
+// How many postings some lists have together, as far as a u64 counts, and how many the longest of them has.
+#[derive(Clone, Copy)]
+struct Postings {
+    all: u64,
+    longest: u32,
 }
 
-// How many postings the longest of the lists has.
-fn longest_list<C: DocCursor>(cursors: &[C]) -> u32
-    ensures { result ≡ longest_of (map C.list cursors.now) }
+// The postings of the lists of some cursors.
+fn count_lists<C: DocCursor>(cursors: &[C]) -> Postings
+    ensures all { result.all ≡ count_of (map C.list cursors.now) }
+    ensures longest { result.longest ≡ longest_of (map C.list cursors.now) }
 {
+    let mut all: u64 = 0;
     let mut longest = 0;
-    for list in 0..cursors.len() {
-        longest = cursors[list].len().max(longest);
+    for cursor in cursors {
+        let count = cursor.len();
+        all = all.saturating_add(u64::from(count));
+        longest = count.max(longest);
     }
-    longest
+    Postings { all, longest }
 }
 
-// Whether few of the postings have to share a score.
-fn scores_lie_apart<C: DocCursor>(cursors: &[C], weights: &[u32], k: u32) -> bool
+impl Postings {
+    // Whether nearly all of them are in one list, and those of the others can be the best.
+    fn one_list_is_long(self, k: u32) -> bool
+        ensures { result ≡ is_long self.all self.longest k }
+    {
+        let longest = u64::from(self.longest);
+        let others = self.all.saturating_sub(longest);
+        u128::from(others) * MOST_TIMES <= u128::from(longest) && u64::from(k) <= others
+    }
+}
+
+// Whether few of the postings, of which there are so many, have to share a score.
+fn scores_lie_apart<C: DocCursor>(cursors: &[C], weights: &[u32], postings: u64, k: u32) -> bool
     requires each { length weights.now ≡ length cursors.now }
     requires light { sum weights.now < 2 ^ 26 }
+    requires count { postings ≡ count_of (map C.list cursors.now) }
     ensures { result ≡ are_apart (map C.list cursors.now) weights.now k }
 {
-    let postings = count_postings(cursors) as u128 * k as u128;
-    postings <= MOST_ALIKE * highest_score(cursors, weights) as u128
+    u128::from(postings) * u128::from(k) <= MOST_ALIKE * u128::from(highest_score(cursors, weights))
 }

@@ -25,11 +25,9 @@ loop-place-preserved g c =
     let bound = c.most_under-bound.ensures in
     let reaches = c.ceiling-last.ensures.reach in
     let later = so_far.later in
-    let in_range = so_far.in_range in
-    let n = c.ranges.n.fits in
+    let in_range = c.requires.in_range in
     record {
       later = omega arith;
-      in_range = omega arith;
       so_far = set-more lists terms c.args.first c.loop-place.reach c.min-reach.result i c.loop-place.near set_to no_term c.loop-place-test.true (omega arith) refl (omega arith)
           (λ d after before.
           let reach : d ≤ c.ceiling-last.result.0 = omega arith in

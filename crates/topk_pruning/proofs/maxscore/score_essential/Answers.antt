@@ -89,12 +89,14 @@ score_from-from-requires-clause-search g c =
     }
 
 pub score_from-from-requires-clause-ready : goal.score_from-from-requires-clause-ready
-score_from-from-requires-clause-ready g c = subst (λ (count : ℕ). IsReady count c.narrow_after.new.self) (sym (ap length c.deref-in-Some-2.ensures.value)) (c.narrow_after.ensures.ready (length c.in_ok-terms.terms.items) c.loop-first.invariant.ready)
+score_from-from-requires-clause-ready g c =
+    subst (λ (n : ℕ). IsReady (length c.deref-in-Some-2.result.now) n c.narrow_after.new.self) (sym c.loop-first.invariant.n)
+    (subst (λ (count : ℕ). IsReady count c.args.n c.narrow_after.new.self) (sym (ap length c.deref-in-Some-2.ensures.value)) (c.narrow_after.ensures.ready (length c.in_ok-terms.terms.items) c.args.n c.loop-first.invariant.ready))
 
 pub loop-first-smaller : goal.loop-first-smaller
 loop-first-smaller g c =
     let step = first-step g (goal.at.loop-first-smaller g c).In-Some in
-    omega (arith, step.later, c.score_from-from.ensures.between.0, c.score_from-from.ensures.between.1, c.ranges.n.fits)
+    omega (arith, step.later, c.score_from-from.ensures.between.0, c.score_from-from.ensures.between.1, c.loop-first.invariant.n, c.ranges.n.fits)
 
 pub loop-first-preserved : goal.loop-first-preserved
 loop-first-preserved g c =
@@ -103,8 +105,9 @@ loop-first-preserved g c =
     record {
       lists = scored.lists ∙ c.in-Some.ensures.lists ∙ so_far.lists;
       passed = scored.passed;
-      in_range = scored.between.1;
-      ready = subst (λ (count : ℕ). IsReady count c.score_from-from.new.room) (ap length c.deref-in-Some-2.ensures.value) scored.ready;
+      in_range = omega (arith, scored.between.1, so_far.n);
+      ready = subst (λ (n : ℕ). IsReady (length c.in_ok-terms.terms.items) n c.score_from-from.new.self) so_far.n
+          (subst (λ (count : ℕ). IsReady count c.loop-first.top.n c.score_from-from.new.self) (ap length c.deref-in-Some-2.ensures.value) scored.ready);
       k = scored.searched.k ∙ so_far.k;
       n = scored.searched.n ∙ so_far.n;
       floor = scored.searched.floor ∙ so_far.floor;

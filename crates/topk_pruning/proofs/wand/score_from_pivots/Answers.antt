@@ -42,8 +42,8 @@ in-order : (g : given.Over) (c : In_ok-catch_up g)
 in-order g c = all-again (map g.C.DocCursor.list c.args.cursors.now) c.args.weights.now c.in_ok-terms.terms.items c.loop-room.from c.catch_up.new.order.items (caught g c) (known g (goal.at.In_ok-catch_up g c).In_ok-terms).1
 
 -- a score that does not beat the bar is barred
-barred : (g : given.Over) (c : After-bar g) → (s : ℕ) → beats c.bar.result s ≡ false → IsBarred c.common_score-floor.result c.args.k c.loop-room.top.held s
-barred g c = bars-at c.bar.result c.loop-room.top.floor c.common_score-floor.result c.loop-room.top.k c.args.k c.loop-room.top.held c.loop-room.invariant.floor c.loop-room.invariant.k c.bar.ensures
+barred : (g : given.Over) (c : After-bar g) → (s : ℕ) → beats c.bar.result s ≡ false → IsBarred c.common_score-floor.result c.args.wanted.k c.loop-room.top.held s
+barred g c = bars-at c.bar.result c.loop-room.top.floor c.common_score-floor.result c.loop-room.top.k c.args.wanted.k c.loop-room.top.held c.loop-room.invariant.floor c.loop-room.invariant.k c.bar.ensures
 
 pub order_of-requires-clause-terms : goal.order_of-requires-clause-terms
 order_of-requires-clause-terms g c =
@@ -63,10 +63,10 @@ loop-room-init g c =
       k = ap (λ (t : RankingFrom). t.k) c.in_ok-top.ensures;
       n = ap (λ (t : RankingFrom). t.n) c.in_ok-top.ensures;
       floor = ap (λ (t : RankingFrom). t.floor) c.in_ok-top.ensures;
-      held = subst (λ (h : List (ℕ × ℕ)). IsTopFrom c.common_score-floor.result 0 (map g.C.DocCursor.list c.args.cursors.now) c.args.weights.now c.args.k h) (sym (ap (λ (t : RankingFrom). t.held) c.in_ok-top.ensures)) (c.top_list_grows.ensures.none c.common_score-floor.result (map g.C.DocCursor.list c.args.cursors.now) c.args.weights.now c.args.k);
+      held = subst (λ (h : List (ℕ × ℕ)). IsTopFrom c.common_score-floor.result 0 (map g.C.DocCursor.list c.args.cursors.now) c.args.weights.now c.args.wanted.k h) (sym (ap (λ (t : RankingFrom). t.held) c.in_ok-top.ensures)) (c.top_list_grows.ensures.none c.common_score-floor.result (map g.C.DocCursor.list c.args.cursors.now) c.args.weights.now c.args.wanted.k);
       order = subst (λ (ts : List Term). IsOrder (map g.C.DocCursor.list c.args.cursors.now) ts 0 c.in_ok-order.order.items) c.deref-2.ensures.value c.in_ok-order.ensures.order;
       falling = c.in_ok-order.ensures.falling;
-      ready = subst (λ (count : ℕ). IsReady count c.in_ok-room.room) (ap length c.deref-3.ensures.value) c.in_ok-room.ensures;
+      ready = subst (λ (count : ℕ). IsReady count c.args.wanted.n c.in_ok-room.room) (ap length c.deref-3.ensures.value) c.in_ok-room.ensures;
     }
 
 pub catch_up-requires-clause-within : goal.catch_up-requires-clause-within
@@ -89,41 +89,41 @@ pivot-requires g c =
     record { light = omega arith }
 
 -- what is known at a pivot
-pivot-known : (g : given.Over) (c : In-Some g) → IsStep c.args.n (map g.C.DocCursor.list c.args.cursors.now) c.args.weights.now c.common_score-floor.result c.args.k c.loop-room.from c.in-Some.first c.loop-room.top.held
+pivot-known : (g : given.Over) (c : In-Some g) → IsStep c.args.wanted.n (map g.C.DocCursor.list c.args.cursors.now) c.args.weights.now c.common_score-floor.result c.args.wanted.k c.loop-room.from c.in-Some.first c.loop-room.top.held
 pivot-known g c =
     let lists : List (List Posting) = map g.C.DocCursor.list c.args.cursors.now in
     let at = goal.at.In-Some g c in
     let order : List Standing = c.catch_up.new.order.items in
     let pivot : IsPivot order c.bar.result (Some c.in-Some.first) = subst (λ (o : List Standing). IsPivot o c.bar.result (Some c.in-Some.first)) c.deref-in-loop-room.ensures.value c.in-Some.ensures in
     let grows = c.top_list_grows.ensures in
-    next-step grows.skipped grows.below grows.in_range c.args.n lists c.args.weights.now (all-of lists c.in_ok-terms.terms.items c.loop-room.from order (caught g at.In_ok-catch_up)) c.common_score-floor.result c.args.k c.loop-room.from c.in-Some.first c.loop-room.top.held
+    next-step grows.skipped grows.below grows.in_range c.args.wanted.n lists c.args.weights.now (all-of lists c.in_ok-terms.terms.items c.loop-room.from order (caught g at.In_ok-catch_up)) c.common_score-floor.result c.args.wanted.k c.loop-room.from c.in-Some.first c.loop-room.top.held
     c.requires.in_range (in-order g at.In_ok-catch_up) c.loop-room.invariant.held
-    (pivot-step lists c.in_ok-terms.terms.items c.common_score-floor.result c.args.k c.loop-room.from c.in-Some.first order c.bar.result c.loop-room.top.held (known g at.In_ok-terms).0.terms_are (caught g at.In_ok-catch_up) c.in_ok-catch_up.ensures.falling c.in_ok-catch_up.ensures.caught_up
+    (pivot-step lists c.in_ok-terms.terms.items c.common_score-floor.result c.args.wanted.k c.loop-room.from c.in-Some.first order c.bar.result c.loop-room.top.held (known g at.In_ok-terms).0.terms_are (caught g at.In_ok-catch_up) c.in_ok-catch_up.ensures.falling c.in_ok-catch_up.ensures.caught_up
     (barred g at.After-bar) pivot)
 
 -- what is held where there is none
-top-of_none : (g : given.Over) (c : In_default g) → IsTop c.args.n (map g.C.DocCursor.list c.args.cursors.now) c.args.weights.now c.args.k c.loop-room.top.held
+top-of_none : (g : given.Over) (c : In_default g) → IsTop c.args.wanted.n (map g.C.DocCursor.list c.args.cursors.now) c.args.weights.now c.args.wanted.k c.loop-room.top.held
 top-of_none g c =
     let lists : List (List Posting) = map g.C.DocCursor.list c.args.cursors.now in
     let at = goal.at.In_default g c in
     let order : List Standing = c.catch_up.new.order.items in
     let pivot : IsPivot order c.bar.result None = subst (λ (o : List Standing). IsPivot o c.bar.result None) c.deref-in-loop-room.ensures.value c.in_default.ensures in
-    let top = last-step c.top_list_grows.ensures.skipped c.args.n lists c.args.weights.now (all-of lists c.in_ok-terms.terms.items c.loop-room.from order (caught g at.In_ok-catch_up)) c.common_score-floor.result c.args.k c.loop-room.from c.loop-room.top.held
+    let top = last-step c.top_list_grows.ensures.skipped c.args.wanted.n lists c.args.weights.now (all-of lists c.in_ok-terms.terms.items c.loop-room.from order (caught g at.In_ok-catch_up)) c.common_score-floor.result c.args.wanted.k c.loop-room.from c.loop-room.top.held
     (in-order g at.In_ok-catch_up) c.loop-room.invariant.in_range c.loop-room.invariant.held
-    (pivot-end lists c.in_ok-terms.terms.items c.common_score-floor.result c.args.k c.loop-room.from order c.bar.result c.loop-room.top.held (known g at.In_ok-terms).0.terms_are (caught g at.In_ok-catch_up) (barred g at.After-bar) pivot) in
-    c.top_list_has_a_floor.ensures c.common_score-floor.result c.args.n lists c.args.weights.now c.args.k c.loop-room.top.held
-    (c.common_score-floor.ensures c.args.n c.args.weights.now c.requires.in_range (subst (AreAllTerms lists c.args.weights.now) (sym c.deref.ensures.value) (known g at.In_ok-terms).1)) top
+    (pivot-end lists c.in_ok-terms.terms.items c.common_score-floor.result c.args.wanted.k c.loop-room.from order c.bar.result c.loop-room.top.held (known g at.In_ok-terms).0.terms_are (caught g at.In_ok-catch_up) (barred g at.After-bar) pivot) in
+    c.top_list_has_a_floor.ensures c.common_score-floor.result c.args.wanted.n lists c.args.weights.now c.args.wanted.k c.loop-room.top.held
+    (c.common_score-floor.ensures c.args.wanted.n c.args.weights.now c.requires.in_range (subst (AreAllTerms lists c.args.weights.now) (sym c.deref.ensures.value) (known g at.In_ok-terms).1)) top
 
 pub returns-in_default-clause-first : goal.returns-in_default-clause-first
 returns-in_default-clause-first g c =
     let top = top-of_none g (goal.at.returns-in_default-clause-first g c).In_default in
-    IfOk-weaker c.into_list.result (λ r. r.items ≡ c.loop-room.top.held) (λ r. IsTop c.args.n (map g.C.DocCursor.list c.args.cursors.now) c.args.weights.now c.args.k r.items)
-    (λ r is. subst (IsTop c.args.n (map g.C.DocCursor.list c.args.cursors.now) c.args.weights.now c.args.k) (sym is) top) c.into_list.ensures
+    IfOk-weaker c.into_list.result (λ r. r.items ≡ c.loop-room.top.held) (λ r. IsTop c.args.wanted.n (map g.C.DocCursor.list c.args.cursors.now) c.args.weights.now c.args.wanted.k r.items)
+    (λ r is. subst (IsTop c.args.wanted.n (map g.C.DocCursor.list c.args.cursors.now) c.args.weights.now c.args.wanted.k) (sym is) top) c.into_list.ensures
 
 pub returns-in_default-clause-bound : goal.returns-in_default-clause-bound
 returns-in_default-clause-bound g c =
     let is = known g (goal.at.returns-in_default-clause-bound g c).In_ok-terms in
-    let light = scores-light (in_any c.args.n (map g.C.DocCursor.list c.args.cursors.now)) (map g.C.DocCursor.list c.args.cursors.now) c.args.weights.now c.in_ok-terms.terms.items c.args.k c.loop-room.top.held is.1 is.0.terms_are (top-of_none g (goal.at.returns-in_default-clause-bound g c).In_default) in
+    let light = scores-light (in_any c.args.wanted.n (map g.C.DocCursor.list c.args.cursors.now)) (map g.C.DocCursor.list c.args.cursors.now) c.args.weights.now c.in_ok-terms.terms.items c.args.wanted.k c.loop-room.top.held is.1 is.0.terms_are (top-of_none g (goal.at.returns-in_default-clause-bound g c).In_default) in
     IfOk-weaker c.into_list.result (λ r. r.items ≡ c.loop-room.top.held) (λ r. All (λ e. e.1 < 2 ^ 58) r.items) (λ r is. subst (λ (h : List (ℕ × ℕ)). All (λ e. e.1 < 2 ^ 58) h) (sym is) light) c.into_list.ensures
 
 pub score_from-from-requires-clause-terms : goal.score_from-from-requires-clause-terms
@@ -141,18 +141,20 @@ score_from-from-requires-clause-search g c =
     let step = pivot-known g (goal.at.score_from-from-requires-clause-search g c).In-Some in
     record {
       below = subst (AreBelow c.loop-room.top.n) (sym (c.catch_up.ensures.lists ∙ c.loop-room.invariant.lists)) (subst (λ (n : ℕ). AreBelow n (map g.C.DocCursor.list c.args.cursors.now)) (sym c.loop-room.invariant.n) c.requires.in_range);
-      narrow = omega (arith, c.loop-room.invariant.n, c.ranges.n.fits);
+      narrow = omega (arith, c.loop-room.invariant.n, c.loop-room.invariant.ready.narrow);
       in_range = omega (arith, step.in_range, c.loop-room.invariant.n);
       above = step.above;
     }
 
 pub score_from-from-requires-clause-ready : goal.score_from-from-requires-clause-ready
-score_from-from-requires-clause-ready g c = subst (λ (count : ℕ). IsReady count c.loop-room.room) (sym (ap length c.deref-in-loop-room-2.ensures.value)) c.loop-room.invariant.ready
+score_from-from-requires-clause-ready g c =
+    subst (λ (n : ℕ). IsReady (length c.deref-in-loop-room-2.result.now) n c.loop-room.room) (sym c.loop-room.invariant.n)
+    (subst (λ (count : ℕ). IsReady count c.args.wanted.n c.loop-room.room) (sym (ap length c.deref-in-loop-room-2.ensures.value)) c.loop-room.invariant.ready)
 
 pub loop-room-smaller : goal.loop-room-smaller
 loop-room-smaller g c =
     let known = pivot-known g (goal.at.loop-room-smaller g c).In-Some in
-    omega (arith, known.later, c.score_from-from.ensures.between.0, c.score_from-from.ensures.between.1, c.ranges.n.fits)
+    omega (arith, known.later, c.score_from-from.ensures.between.0, c.score_from-from.ensures.between.1, c.loop-room.invariant.n, c.loop-room.invariant.ready.narrow)
 
 pub loop-room-preserved : goal.loop-room-preserved
 loop-room-preserved g c =
@@ -162,12 +164,13 @@ loop-room-preserved g c =
     record {
       lists = scored.lists ∙ c.catch_up.ensures.lists ∙ so_far.lists;
       passed = scored.passed;
-      in_range = scored.between.1;
-      ready = subst (λ (count : ℕ). IsReady count c.score_from-from.new.room) (ap length c.deref-in-loop-room-2.ensures.value) scored.ready;
+      in_range = omega (arith, scored.between.1, so_far.n);
+      ready = subst (λ (n : ℕ). IsReady (length c.in_ok-terms.terms.items) n c.score_from-from.new.self) so_far.n
+          (subst (λ (count : ℕ). IsReady count c.loop-room.top.n c.score_from-from.new.self) (ap length c.deref-in-loop-room-2.ensures.value) scored.ready);
       k = scored.searched.k ∙ so_far.k;
       n = scored.searched.n ∙ so_far.n;
       floor = scored.searched.floor ∙ so_far.floor;
-      held = follows-same (map g.C.DocCursor.list c.catch_up.new.cursors) (map g.C.DocCursor.list c.args.cursors.now) c.deref-in-loop-room-2.result.now c.in_ok-terms.terms.items c.loop-room.top.floor c.common_score-floor.result c.loop-room.top.k c.args.k
+      held = follows-same (map g.C.DocCursor.list c.catch_up.new.cursors) (map g.C.DocCursor.list c.args.cursors.now) c.deref-in-loop-room-2.result.now c.in_ok-terms.terms.items c.loop-room.top.floor c.common_score-floor.result c.loop-room.top.k c.args.wanted.k
           c.in-Some.first c.score_from-from.result c.loop-room.top.held c.score_from-from.new.top.held (c.catch_up.ensures.lists ∙ so_far.lists) c.deref-in-loop-room-2.ensures.value so_far.floor so_far.k scored.searched.held
           c.args.weights.now (known g (goal.at.loop-room-preserved g c).In_ok-terms).1 step.top;
       order = order-later (map g.C.DocCursor.list c.args.cursors.now) c.in_ok-terms.terms.items c.loop-room.from c.score_from-from.result c.catch_up.new.order.items (omega (arith, step.later, scored.between.0)) (caught g (goal.at.loop-room-preserved g c).In_ok-catch_up);
