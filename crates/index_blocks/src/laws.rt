@@ -1,6 +1,6 @@
-ghost use Rattle.index_blocks.specs.Laws.{SideFilesAreShort};
+ghost use Rattle.index_blocks.specs.Laws.{SideFilesFit};
 
-/// The side file of an index has no more words than the index.
-pub fn side_files_are_short()
-    ensures { SideFilesAreShort }
+/// The side file of an index of at most 2^37 words has no more than 2^37 words.
+pub fn side_files_fit()
+    ensures { SideFilesFit }
 {}

@@ -6,7 +6,7 @@ mod side;
 mod source;
 mod starts;
 
-pub use laws::side_files_are_short;
+pub use laws::side_files_fit;
 pub use side::index_side_words;
 pub use source::IndexBlocks;
 pub use starts::block_starts;

@@ -25,6 +25,7 @@ use Rattle.collection_reader.specs.Starting.{names_under}
 use Rattle.collection_reader.proofs.InOrder.{read-in_turn}
 use Rattle.collection_reader.specs.Reading.{Reading, StartsReading, ReadsList, ReadsSizes}
 use Rattle.collection_reader.specs.InTurn.{HasReadAll, ReadsInTurn}
+use Rattle.index_file.proofs.NearStored.{docs-partition, freqs-partition}
 use Rattle.index_file.specs.declared.builder.FinishError.{FinishError}
 use Rattle.index_file.specs.declared.builder.FinishError.TheVariants as finishing
 use Rattle.index_file.specs.FileWords.{CutList, ListParts, with_parts, words_of_file, file_words, ArePartitions}
@@ -97,8 +98,8 @@ one-added format old new n lists docs freqs before between after added same adds
       lists_are = map_push (λ c. c.list) added.cuts cut ∙ ap (λ l. l ++ list ∷ []) added.lists_are;
       counted =
           count-more format lists list before between after (length made.0.doc_ends) (length made.0.freq_ends) (length docs) added.counted count
-          (some-part (length list) made.0.doc_ends near.docs.allowed.partition)
-          (some-part (length list) made.0.freq_ends near.freqs.allowed.partition)
+          (some-part (length list) made.0.doc_ends (docs-partition (numbers_of new.format) cut near))
+          (some-part (length list) made.0.freq_ends (freqs-partition (numbers_of new.format) cut near))
           made.2
           (subst (λ f. after ≤ between + 6 * length (window_bounds f) * (length docs + 1)) added.format_is most);
     }

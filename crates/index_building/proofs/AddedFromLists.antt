@@ -3,7 +3,7 @@ use Rattle.std.proofs.Common.{◌≡◌, refl, sym, ap, ◌∙◌, subst, ℕ, �
 use Rattle.std.specs.Prelude.{Result, Ok, Err, IfOk, Vec}
 use Rattle.std.specs.declared.alloc.Global.{Global}
 use Rattle.std.proofs.lemmas.List.{length-map}
-use Rattle.collection_model.specs.FormatNumbers.{Plain, most_terms}
+use Rattle.collection_model.specs.FormatNumbers.{most_terms}
 use Rattle.collection_model.specs.Collection.{Posting, Collection, WellFormed, postings_of, IsPostingList}
 use Rattle.part_cost.specs.declared.formats.Format.{Format}
 use Rattle.part_cost.specs.Formats.{numbers_of}
@@ -12,6 +12,7 @@ use Rattle.index_file.specs.declared.builder.FinishError.{FinishError}
 use Rattle.index_file.specs.FileWords.{CutList, words_of_file}
 use Rattle.index_file.specs.Builder.{Built, StandsFor, AddsList, lists_added, most_words}
 use Rattle.index_file.specs.Laws.{ListsAreCounted, FilesSpellCollections}
+use Rattle.index_file.proofs.FittingFiles.{fits-file}
 use Rattle.index_building.specs.AddedFromFiles.{AreAdded}
 use Rattle.index_building.specs.AddedFromLists.{IsMaking}
 use Rattle.index_building.specs.WordsOfCollection.{AreWordsOf, WouldBeTooMany}
@@ -58,11 +59,11 @@ making-ends format c lists b before after h last =
     subst (λ l. AreAdded format b c.documents l before after) all h.added
 
 -- the words were finished, or are too many
-made-words : (format : Format) → (numbers_of format).kind ≡ Plain → FilesSpellCollections → (c : Collection) (b : Built) (sizes words : List ℕ) (before after : ℕ)
+made-words : (format : Format) → FilesSpellCollections → (c : Collection) (b : Built) (sizes words : List ℕ) (before after : ℕ)
     → AreAdded format b c.documents c.lists before after → WellFormed (numbers_of format) c → sizes ≡ c.sizes
     → ((cs : List CutList) → StandsFor b cs → words ≡ words_of_file (numbers_of b.format) b.documents cs sizes) → length words ≤ most_words
     → AreWordsOf format c before after words
-made-words format plain spell c b sizes words before after added good sizes_are made within =
+made-words format spell c b sizes words before after added good sizes_are made within =
     let all = all-added format spell b c before after added in
     let is : words ≡ words_of_file (numbers_of b.format) b.documents all.cuts c.sizes =
     made all.cuts all.stands ∙ ap (λ z. words_of_file (numbers_of b.format) b.documents all.cuts z) sizes_are in
@@ -70,15 +71,20 @@ made-words format plain spell c b sizes words before after added good sizes_are 
       within = within;
       parts = all.parts;
       cut = record { collection = refl; near = all.near; counted = all.counted };
-      spelled = record { plain = plain; well_formed = good; partitions = all.near.partitions; spelled = is ∙ all.words_are };
+      spelled = record {
+        well_formed = good;
+        partitions = all.near.partitions;
+        fits = fits-file (numbers_of format) c all.parts (subst (λ ws. length ws ≤ most_words) (is ∙ all.words_are) within);
+        spelled = is ∙ all.words_are;
+      };
     }
 
-pub made-or-not : (format : Format) → (numbers_of format).kind ≡ Plain → FilesSpellCollections → (c : Collection) (b : Built) (sizes : List ℕ) (before after : ℕ)
+pub made-or-not : (format : Format) → FilesSpellCollections → (c : Collection) (b : Built) (sizes : List ℕ) (before after : ℕ)
     → AreAdded format b c.documents c.lists before after → WellFormed (numbers_of format) c → sizes ≡ c.sizes → (r : Result (Vec ℕ Global) FinishError)
     → ((cs : List CutList) → StandsFor b cs → IfOk r (λ words. words.items ≡ words_of_file (numbers_of b.format) b.documents cs sizes))
     → IfOk r (λ words. length words.items ≤ most_words) → IfOk r (λ words. AreWordsOf format c before after words.items)
-made-or-not format plain spell c b sizes before after added good sizes_are (Ok words) made within = made-words format plain spell c b sizes words.items before after added good sizes_are made within
-made-or-not format plain spell c b sizes before after added good sizes_are (Err e) made within = tt
+made-or-not format spell c b sizes before after added good sizes_are (Ok words) made within = made-words format spell c b sizes words.items before after added good sizes_are made within
+made-or-not format spell c b sizes before after added good sizes_are (Err e) made within = tt
 
 pub made-too_many : (format : Format) → FilesSpellCollections → (c : Collection) (b : Built) (sizes : List ℕ) (before after n : ℕ)
     → AreAdded format b c.documents c.lists before after → sizes ≡ c.sizes

@@ -1,4 +1,4 @@
 mod AddedFromFiles
 mod AddedFromLists
 mod Generating
-mod Migrating
+pub mod Migrating

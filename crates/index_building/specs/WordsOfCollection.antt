@@ -1,10 +1,16 @@
 use Rattle.std.specs.Prelude.{◌≡◌, ℕ, ◌<◌, ◌≤◌, List, length}
+use Rattle.collection_model.specs.FormatNumbers.{FormatNumbers}
 use Rattle.collection_model.specs.Collection.{Collection}
 use Rattle.part_cost.specs.declared.formats.Format.{Format}
 use Rattle.part_cost.specs.Formats.{numbers_of}
 use Rattle.index_file.specs.FileWords.{ListParts, file_words, Spells}
 use Rattle.index_file.specs.Builder.{most_words}
 use Rattle.command_model.specs.CollectionCut.{AreCut}
+
+-- What one format may hold, the other may hold.
+pub record HoldsAllOf (one other : FormatNumbers) : Type 0 where
+  pub documents : one.most_documents ≤ other.most_documents
+  pub sums : one.most_sum ≤ other.most_sum
 
 -- The words are those of a collection in near-cheapest parts, each of which was counted, and at most so many.
 pub record AreWordsOf (format : Format) (c : Collection) (before after : ℕ) (words : List ℕ) : Type 0 where

@@ -16,7 +16,7 @@ same-by q r a b =
     ]
 
 -- both find the same, or both go on
-first-of-agree : (B F G : ℕ → Type 0) (n : ℕ) (L M : Type 0) → FirstOf B n F L → FirstOf B n G M → ((q : ℕ) × F q × G q) ⊎ (L × M)
+pub first-of-agree : (B F G : ℕ → Type 0) (n : ℕ) (L M : Type 0) → FirstOf B n F L → FirstOf B n G M → ((q : ℕ) × F q × G q) ⊎ (L × M)
 first-of-agree B F G n L M h k =
     elim h [
       | inl (q, lt, breaks, before, f) ↦
@@ -32,7 +32,7 @@ pub match-agree : (a : Bool) (P Q R S : Type 0) → MatchBool a P Q → MatchBoo
 match-agree true P Q R S h k = inl (h, k)
 match-agree false P Q R S h k = inr (h, k)
 
-or-else-agree : (A H K L M : Type 0) → OrElse A H L → OrElse A K M → (H × K) ⊎ (L × M)
+pub or-else-agree : (A H K L M : Type 0) → OrElse A H L → OrElse A K M → (H × K) ⊎ (L × M)
 or-else-agree A H K L M h k =
     elim h [
       | inl (a, x) ↦ elim k [ inl (b, y) ↦ inl (x, y) | inr (none, y) ↦ absurd (none a) ]

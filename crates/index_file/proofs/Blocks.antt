@@ -97,7 +97,7 @@ block-of format room n list ends q few h partition lt =
     }
 
 -- the parts of a list of an index
-partition-at : (lists : List (List Posting)) (parts : List ListParts) (none : ListParts) → ArePartitions lists parts → (t : ℕ) → t < length lists
+pub partition-at : (lists : List (List Posting)) (parts : List ListParts) (none : ListParts) → ArePartitions lists parts → (t : ℕ) → t < length lists
     → IsPartition (length (get_or lists t [])) (get_or parts t none).doc_ends
 partition-at [] parts none h t lt = absurd (omega (arith, lt))
 partition-at (list ∷ lists) [] none h t lt = absurd h

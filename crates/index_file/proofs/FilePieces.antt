@@ -6,7 +6,7 @@ use Rattle.std.proofs.lemmas.List.{get_or-take}
 use Rattle.std.proofs.lemmas.List.Elements.{All-head, All-tail}
 use Rattle.std.proofs.Math.Seq.{take-length}
 use Rattle.collection_model.specs.FormatNumbers.{FormatNumbers, most_terms}
-use Rattle.index_file.specs.FileWords.{CutList, opening_magic, end_magic, lists_words, sizes_words, lists_directory, words_of_file}
+use Rattle.index_file.specs.FileWords.{CutList, opening_magic, end_magic, lists_words, sizes_words, lists_directory, plain_words}
 use Rattle.index_file.specs.FirstBroken.{stated_documents, stated_terms, stated_sizes, directory_word}
 use Rattle.index_file.specs.ListAt.{HasFrame}
 use Rattle.index_file.proofs.Prefixes.{prefix-of, rest-of, joined, word-of, four-words}
@@ -73,7 +73,7 @@ ends_words format cs = (opening_magic ∷ format.version ∷ []) ++ lists_words 
 abbrev pub last_words : FormatNumbers → ℕ → List CutList → List ℕ
 last_words format n cs = n ∷ length cs ∷ (2 + length (lists_words format cs)) ∷ end_magic ∷ []
 
-two-words : (words : List ℕ) (a b : ℕ) → 2 ≤ length words → slice_index words 0 ≡ a → slice_index words 1 ≡ b → take 2 words ≡ a ∷ b ∷ []
+pub two-words : (words : List ℕ) (a b : ℕ) → 2 ≤ length words → slice_index words 0 ≡ a → slice_index words 1 ≡ b → take 2 words ≡ a ∷ b ∷ []
 two-words [] a b fit ea eb = absurd (omega (arith, fit))
 two-words (x ∷ []) a b fit ea eb = absurd (omega (arith, fit))
 two-words (x ∷ y ∷ words) a b fit ea eb = ap (λ z. z ∷ y ∷ []) ea ∙ ap (λ z. a ∷ z ∷ []) eb
@@ -83,7 +83,7 @@ pub words-of : (format : FormatNumbers) (words : List ℕ) (n : ℕ) (cs : List 
     → stated_sizes words ≡ 2 + length (lists_words format cs)
     → take (length (lists_words format cs)) (drop 2 words) ≡ lists_words format cs
     → take (length (sizes_words xs)) (drop (stated_sizes words) words) ≡ sizes_words xs
-    → take (4 * length cs) (drop (directory_word words) words) ≡ lists_directory format 2 cs → words ≡ words_of_file format n cs xs
+    → take (4 * length cs) (drop (directory_word words) words) ≡ lists_directory format 2 cs → words ≡ plain_words format n cs xs
 words-of format words n cs xs frame docs count terms sizes hl hz hd =
     let a : List ℕ = opening_magic ∷ format.version ∷ [] in
     let l : List ℕ = lists_words format cs in
@@ -117,7 +117,7 @@ pub record Laid (format : FormatNumbers) (words : List ℕ) (n : ℕ) (cs : List
   pub sizes_at : take (length (sizes_words xs)) (drop (stated_sizes words) words) ≡ sizes_words xs
   pub directory_at : take (4 * length cs) (drop (directory_word words) words) ≡ lists_directory format 2 cs
 
-pub laid-of : (format : FormatNumbers) (words : List ℕ) (n : ℕ) (cs : List CutList) (xs : List ℕ) → n ≤ format.most_documents → length cs ≤ most_terms → length xs ≡ n → words ≡ words_of_file format n cs xs
+pub laid-of : (format : FormatNumbers) (words : List ℕ) (n : ℕ) (cs : List CutList) (xs : List ℕ) → n ≤ format.most_documents → length cs ≤ most_terms → length xs ≡ n → words ≡ plain_words format n cs xs
     → Laid format words n cs xs
 laid-of format words n cs xs few most count same =
     let a : List ℕ = opening_magic ∷ format.version ∷ [] in

@@ -2,16 +2,16 @@
 use Rattle.std.proofs.Common.{◌≡◌, ap, ◌∙◌, ℕ, ◌+◌, ◌/◌, List, [], ◌∷◌, ◌++◌, length, drop, arith}
 use Rattle.part_cost.specs.declared.formats.Format.{Format}
 use Rattle.part_cost.specs.Formats.{numbers_of}
-use Rattle.index_file.specs.FileWords.{CutList, opening_magic, end_magic, lists_words, sizes_words, words_of_file}
-use Rattle.index_file.specs.Builder.{Built, StandsFor}
+use Rattle.index_file.specs.FileWords.{CutList, opening_magic, end_magic, lists_words, sizes_words, plain_words}
+use Rattle.index_file.specs.Builder.{Built, StandsForPlain}
 use Rattle.index_file.proofs.Lengths.{directory-length, file-length}
 
 -- the words of the lists behind those that begin a file, then the sizes, the directory and the closing words
 pub file-words : (format : Format) (n lists at : ℕ) (words directory sizes : List ℕ) (cs : List CutList)
     → words ≡ opening_magic ∷ (numbers_of format).version ∷ drop 2 words
-    → StandsFor (record { format = format; documents = n; words = drop 2 words; directory = directory }) cs
+    → StandsForPlain (record { format = format; documents = n; words = drop 2 words; directory = directory }) cs
     → lists ≡ length directory / 4 → at ≡ length words
-    → words ++ sizes_words sizes ++ directory ++ (n ∷ lists ∷ at ∷ end_magic ∷ []) ≡ words_of_file (numbers_of format) n cs sizes
+    → words ++ sizes_words sizes ++ directory ++ (n ∷ lists ∷ at ∷ end_magic ∷ []) ≡ plain_words (numbers_of format) n cs sizes
 file-words format n lists at words directory sizes cs opening stands many from =
     let whole : words ≡ opening_magic ∷ (numbers_of format).version ∷ lists_words (numbers_of format) cs = opening ∙ ap (λ ws. opening_magic ∷ (numbers_of format).version ∷ ws) stands.words in
     let count : lists ≡ length cs = omega (arith, ap length stands.directory, directory-length (numbers_of format) 2 cs) in
@@ -19,5 +19,5 @@ file-words format n lists at words directory sizes cs opening stands many from =
     (λ t. whole t ++ sizes_words sizes ++ stands.directory t ++ (n ∷ count t ∷ place t ∷ end_magic ∷ []))
 
 -- how many words the file has
-pub file-count : (b : Built) (sizes : List ℕ) (cs : List CutList) → StandsFor b cs → length (words_of_file (numbers_of b.format) b.documents cs sizes) ≡ 2 + length b.words + (length sizes + 1) / 2 + length b.directory + 4
+pub file-count : (b : Built) (sizes : List ℕ) (cs : List CutList) → StandsForPlain b cs → length (plain_words (numbers_of b.format) b.documents cs sizes) ≡ 2 + length b.words + (length sizes + 1) / 2 + length b.directory + 4
 file-count b sizes cs stands = omega (arith, file-length (numbers_of b.format) b.documents cs sizes, ap length stands.words, ap length stands.directory)

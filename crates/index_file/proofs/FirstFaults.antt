@@ -7,7 +7,7 @@ use Rattle.std.proofs.lemmas.Bool.Decides.{nat_tests}
 use Rattle.collection_model.specs.FormatNumbers.{FormatNumbers}
 use Rattle.index_file.specs.declared.fault.OpenFault.{OpenFault}
 use Rattle.index_file.specs.FileWords.{CutList, lists_words}
-use Rattle.index_file.specs.FirstBroken.{stated_terms, IsFilePrefix, IsTermFault, IsClosingFault, IsFirstBrokenIn}
+use Rattle.index_file.specs.FirstBroken.{stated_terms, IsFilePrefix, IsTermFault, IsClosingFault, IsFirstBrokenPlain}
 use Rattle.index_file.specs.ListAt.{HasFrame, IsFirstListFault}
 use Rattle.index_file.proofs.Frames.{behind-frame}
 use Rattle.sequence_words.proofs.Choices.{match-false, match-true}
@@ -16,7 +16,7 @@ true-lt : (a b : ℕ) → a < b → nat_lt a b ≡ true
 true-lt a b h = grind (arith, nat_tests)
 
 -- a list breaks a check
-pub list-first : (format : FormatNumbers) (words : List ℕ) (f : OpenFault) → HasFrame format words → IsFirstListFault format words f → IsFirstBrokenIn format words f
+pub list-first : (format : FormatNumbers) (words : List ℕ) (f : OpenFault) → HasFrame format words → IsFirstListFault format words f → IsFirstBrokenPlain format words f
 list-first format words f frame h =
     behind-frame format words f frame (
       h.0,
@@ -27,7 +27,7 @@ list-first format words f frame h =
 
 -- all lists stand, and what closes the file breaks a check
 pub closing-first : (format : FormatNumbers) (words : List ℕ) (cs : List CutList) (p : ℕ) (f : OpenFault) → HasFrame format words → IsFilePrefix format words cs → length cs ≡ stated_terms words
-    → p ≡ 2 + length (lists_words format cs) → IsClosingFault words p f → IsFirstBrokenIn format words f
+    → p ≡ 2 + length (lists_words format cs) → IsClosingFault words p f → IsFirstBrokenPlain format words f
 closing-first format words cs p f frame prefix all place h =
     behind-frame format words f frame (
       cs,

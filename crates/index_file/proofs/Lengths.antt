@@ -3,7 +3,7 @@ use Rattle.std.proofs.Common.{◌≡◌, refl, sym, ap, ◌∙◌, ℕ, ◌+◌,
 use Rattle.collection_model.specs.FormatNumbers.{FormatNumbers, EntryShape, EndBesideLast, EachApart, EndInTwo, entry_words, part_charge, words_of_shape}
 use Rattle.std.proofs.lemmas.List.{drop-drop, drop_more, length-drop}
 use Rattle.collection_model.specs.Collection.{greatest}
-use Rattle.index_file.specs.FileWords.{end_magic, CutList, doc_words, freq_words, lists_words, list_entry, lists_directory, sizes_words, words_of_file}
+use Rattle.index_file.specs.FileWords.{end_magic, CutList, doc_words, freq_words, lists_words, list_entry, lists_directory, sizes_words, plain_words}
 
 -- an entry has a word
 some-of-shape : (shape : EntryShape) → 1 ≤ words_of_shape shape
@@ -50,7 +50,7 @@ sizes-length (a ∷ b ∷ sizes) = omega (arith, sizes-length sizes)
 
 -- how many words the file has
 pub file-length : (format : FormatNumbers) (n : ℕ) (cs : List CutList) (sizes : List ℕ)
-    → length (words_of_file format n cs sizes) ≡ 2 + length (lists_words format cs) + (length sizes + 1) / 2 + length (lists_directory format 2 cs) + 4
+    → length (plain_words format n cs sizes) ≡ 2 + length (lists_words format cs) + (length sizes + 1) / 2 + length (lists_directory format 2 cs) + 4
 file-length format n cs sizes =
     let lists = lists_words format cs in
     let directory = lists_directory format 2 cs in

@@ -3,6 +3,7 @@ mod WordBytes
 pub mod Lengths
 pub mod CutLists
 mod Files
+mod OnePackedFile
 mod Added
 mod Spelled
 mod OneList
@@ -21,3 +22,21 @@ mod Both
 mod Sums
 mod Measured
 mod Blocks
+mod PackedFrames
+mod PackedFirst
+mod PackedStarts
+mod PackedPieces
+mod PackedBack
+mod PackedGather
+mod PackedStated
+mod PackedIndex
+mod FileKinds
+pub mod PackedCosts
+mod MeasuredFiles
+pub mod FittingFiles
+pub mod NearStored
+mod StoredCosts
+mod PackedChecks
+mod PackedLists
+mod AddedBoth
+mod PackedBuilt

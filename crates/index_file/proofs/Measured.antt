@@ -1,44 +1,42 @@
 -- Lemmas on what is summed over the parts of an index.
-use Rattle.std.proofs.Common.{◌≡◌, ℕ, zero, suc, ◌+◌, ◌-◌, ◌*◌, ◌/◌, ◌^◌, ◌<◌, ◌≤◌, Bool, true, false, cond, List, [], ◌∷◌, length, drop, map, refl, sym, ap, ◌∙◌, subst, arith, add-one, drop-cons}
+use Rattle.std.proofs.Common.{◌≡◌, ℕ, zero, suc, ◌+◌, ◌-◌, ◌*◌, ◌/◌, ◌^◌, ◌<◌, ◌≤◌, Bool, true, false, cond, List, [], ◌∷◌, length, drop, get_or, map, refl, sym, ap, ◌∙◌, subst, arith, add-one, drop-cons}
 use Rattle.std.specs.Prelude.{count_by, flat_map, sum_by, slice_index}
 use Rattle.std.specs.List.{All, sum}
 use Rattle.std.specs.List.Sorted.{IsStrictlyIncreasing}
+use Rattle.std.proofs.lemmas.List.{get_or-drop}
 use Rattle.std.proofs.lemmas.List.Elements.{All-weaker}
 use Rattle.std.proofs.lemmas.List.Sums.{sum_by-cons, sum_by-append, sum-map}
 use Rattle.collection_model.specs.FormatNumbers.{FormatNumbers, part_charge}
-use Rattle.collection_model.specs.Collection.{Collection}
+use Rattle.collection_model.specs.Collection.{Collection, list_of}
 use Rattle.collection_model.specs.Sequences.{doc_sequence, freq_sequence}
 use Rattle.part_cost.specs.declared.kinds.Kind.{Kind}
-use Rattle.part_cost.specs.declared.formats.Format.{Format}
-use Rattle.part_cost.specs.Formats.{numbers_of, HasRoom}
-use Rattle.part_cost.proofs.Rooms.{formats-have-room}
+use Rattle.part_cost.specs.Formats.{HasRoom}
 use Rattle.part_cost.specs.Payload.{payload, kind_of, widest_low}
 use Rattle.part_cost.specs.Span.{universe, cost_of_part}
 use Rattle.part_cost.specs.Partition.{IsPartition, IsPartitionFrom, cost_from, partition_cost}
 use Rattle.postings.specs.Laws.{SequencesRise}
 use Rattle.two_level.specs.Laws.{TakesItsCost}
 use Rattle.two_level.specs.SequenceWords.{sequence_words}
-use Rattle.two_level.specs.SequenceView.{SequenceView, start_of_part}
+use Rattle.two_level.specs.SequenceView.{start_of_part}
 use Rattle.part_cost.proofs.Partitions.{few-parts}
 use Rattle.index_file.specs.declared.measures.Measure.{Measure}
 use Rattle.index_file.specs.declared.measures.Measure.TheVariants.{PartsOf, Payload}
-use Rattle.index_file.specs.FileWords.{CutList, ListParts, with_parts, doc_words, freq_words, lists_words, Spells}
-use Rattle.index_file.specs.FirstBroken.{stated_documents, stated_terms}
-use Rattle.index_file.specs.IndexView.{index_stated, cut_lists, docs_stated, freqs_stated, same_kind, kinds_from, kinds_of_list, docs_view, freqs_view}
+use Rattle.index_file.specs.FileWords.{CutList, ListParts, with_parts, doc_words, freq_words, lists_words, SpellsPlain}
+use Rattle.index_file.specs.FirstBroken.{stated_documents}
+use Rattle.index_file.specs.IndexView.{same_kind, kinds_from, kinds_of_list, docs_view, freqs_view}
 use Rattle.index_file.specs.ListAt.{HasFrame, StandsAt, StandFrom, word_after}
 use Rattle.index_file.specs.Measures.{measure_at, measure_of_part, measure_of_list, IsMeasured}
-use Rattle.index_file.specs.Laws.{SequenceLaws}
 use Rattle.index_file.proofs.Lengths.{some-charge}
-use Rattle.index_file.proofs.Prefixes.{length-lists}
+use Rattle.index_file.proofs.Prefixes.{stand-from, prefix-pieces, length-lists}
 use Rattle.index_file.proofs.StatedIndex.{opened}
-use Rattle.index_file.proofs.Reading.{OpenedList, opened-stand, has-frame, list-at, docs-read, freqs-read}
+use Rattle.index_file.proofs.Reading.{stand-at}
 
 -- a part adds at most one more than its payload
 one-at_most : (b : Bool) (p : ℕ) → cond b 1 0 ≤ 1 + p
 one-at_most true p = omega arith
 one-at_most false p = omega arith
 
-part-at_most : (measure : Measure) (u m : ℕ) → measure_at measure u m ≤ 1 + payload u m
+pub part-at_most : (measure : Measure) (u m : ℕ) → measure_at measure u m ≤ 1 + payload u m
 part-at_most (PartsOf kind) u m = one-at_most (same_kind kind (kind_of u m)) (payload u m)
 part-at_most Payload u m = omega arith
 
@@ -116,61 +114,28 @@ lists-at_most format room takes rise words t p (c ∷ cs) frame few h measure =
     )
 
 -- what all lists of an index add is a small number
-pub index-at_most : (format : FormatNumbers) (room : HasRoom format) → TakesItsCost format → SequencesRise → (words : List ℕ) (c : Collection) (parts : List ListParts) → Spells format words c parts → length words < 2 ^ 57
+pub index-at_most : (format : FormatNumbers) (room : HasRoom format) → TakesItsCost format → SequencesRise → (words : List ℕ) (c : Collection) (parts : List ListParts) → SpellsPlain format words c parts → length words < 2 ^ 57
     → (measure : Measure) → sum (map (measure_of_list measure) (with_parts c.lists parts)) < 2 ^ 63
 index-at_most format room takes rise words c parts h few measure =
     let o = opened format words c parts h in
     let cs : List CutList = with_parts c.lists parts in
     let most : sum_by (measure_of_list measure) (with_parts c.lists parts) ≤ 64 * length (lists_words format (with_parts c.lists parts)) =
-    lists-at_most format room takes rise words 0 2 cs o.laid.frame few o.stand measure in
+    lists-at_most format room takes rise words 0 2 cs o.laid.frame few (stand-from format words 0 2 cs (prefix-pieces format words cs o.prefix)) measure in
     omega (arith, sum-map (measure_of_list measure) cs, most, o.laid.sizes, o.laid.frame.whole, few)
 
--- a list of an index, opened and measured
-pub record MeasuredAt (format : FormatNumbers) (words : List ℕ) (t : ℕ) (measure : Measure) (cs : List CutList) (x : CutList) : Type 0 where
-  pub list : OpenedList format words t x
-  pub measured : MeasuredList format measure x
-  pub adds : slice_index (map (measure_of_list measure) cs) t ≡ measure_of_list measure x
-
-pub measured-at : (format : FormatNumbers) (room : HasRoom format) → SequenceLaws format → TakesItsCost format → (words : List ℕ) (c : Collection) (parts : List ListParts) → Spells format words c parts → length words < 2 ^ 57
-    → (measure : Measure) (t : ℕ) → t < stated_terms words → (x : CutList) × MeasuredAt format words t measure (with_parts c.lists parts) x
-measured-at format room laws takes words c parts h few measure t lt =
-    let s = list-at format words c parts h t lt in
-    let frame = has-frame format words c parts h in (
-      s.0,
-      record {
-        list = opened-stand format room laws words t s.1 s.0 frame s.2;
-        measured = stands-measured format room takes laws.rise words t s.1 s.0 frame few s.2 measure;
-        adds = s.5 (measure_of_list measure);
-      },
-    )
-
--- the two sequences that are read of a list of an index can be measured, and add together what the list adds
-pub record MeasuredViews (measure : Measure) (v w : SequenceView) (added : ℕ) : Type 0 where
-  pub docs : IsMeasured measure v
-  pub freqs : IsMeasured measure w
-  pub adds : partition_cost (measure_of_part measure v.values) v.ends + partition_cost (measure_of_part measure w.values) w.ends ≡ added
-
-pub views-measured : {words : List ℕ} {t : ℕ} {v w : SequenceView} (measure : Measure) (format : Format)
-    → ((each : Format) → SequenceLaws (numbers_of each)) → ((each : Format) → TakesItsCost (numbers_of each)) → length words < 2 ^ 57
-    → Spells (numbers_of format) words (index_stated words).collection (index_stated words).parts → t < stated_terms words
-    → v ≡ docs_stated (numbers_of format) words t → w ≡ freqs_stated (numbers_of format) words t
-    → MeasuredViews measure v w (slice_index (map (measure_of_list measure) (cut_lists (index_stated words))) t)
-views-measured {words} {t} {v} {w} measure format each_laws each_takes few h lt ev ew =
-    let laws = each_laws format in
-    let takes = each_takes format in
-    let numbers = numbers_of format in
-    let l = measured-at numbers (formats-have-room format) laws takes words (index_stated words).collection (index_stated words).parts h few measure t lt in
-    let docs : v ≡ docs_view (numbers_of format) l.0 = ev ∙ docs-read numbers laws words t l.0 l.1.list in
-    let freqs : w ≡ freqs_view (numbers_of format) l.0 = ew ∙ freqs-read numbers laws words t l.0 l.1.list in
-    record {
-      docs = subst (IsMeasured measure) (sym docs) l.1.measured.docs;
-      freqs = subst (IsMeasured measure) (sym freqs) l.1.measured.freqs;
-      adds = ap (λ x. partition_cost (measure_of_part measure x.values) x.ends + partition_cost (measure_of_part measure w.values) w.ends) docs
-          ∙ ap (λ x. partition_cost (measure_of_part measure (doc_sequence l.0.list)) l.0.parts.doc_ends + partition_cost (measure_of_part measure x.values) x.ends) freqs ∙ sym l.1.adds;
-    }
-
-pub terms-count : (format : FormatNumbers) (words : List ℕ) (c : Collection) (parts : List ListParts) → Spells format words c parts → stated_terms words ≡ length (with_parts c.lists parts)
-terms-count format words c parts h = (opened format words c parts h).laid.terms
+-- a list of a plain file can be measured
+pub plain-measured : (format : FormatNumbers) (room : HasRoom format) → TakesItsCost format → SequencesRise → (words : List ℕ) (c : Collection) (parts : List ListParts) (none : ListParts) → SpellsPlain format words c parts
+    → length words < 2 ^ 57 → (measure : Measure) (t : ℕ) → t < length c.lists → MeasuredList format measure (record { list = list_of c t; parts = get_or parts t none })
+plain-measured format room takes rise words c parts none h few measure t lt =
+    let o = opened format words c parts h in
+    let cs : List CutList = with_parts c.lists parts in
+    let frame = o.laid.frame in
+    let s = stand-at format words 0 2 cs (stand-from format words 0 2 cs (prefix-pieces format words cs o.prefix)) t (omega (arith, lt, o.count)) in
+    let at : StandsAt format words t s.1 s.0 = subst (λ k. StandsAt format words k s.1 s.0) (let e : 0 + t ≡ t = omega arith in e) s.2 in
+    let list : s.0.list ≡ list_of c t = sym s.3 ∙ ap (λ l. get_or l t []) o.lists in
+    let its_parts : s.0.parts ≡ get_or parts t none = sym (s.4 none) ∙ ap (λ l. get_or l t none) o.parts_are in
+    subst (λ l. MeasuredList format measure (record { list = l; parts = get_or parts t none })) list
+    (subst (λ p. MeasuredList format measure (record { list = s.0.list; parts = p })) its_parts (stands-measured format room takes rise words t s.1 s.0 frame few at measure))
 
 -- each part of a partition begins before its end, which is within the sequence
 pub part-rises : (from n : ℕ) (ends : List ℕ) → IsPartitionFrom from n ends → (i before : ℕ) → i < length ends → before ≡ slice_index (from ∷ ends) i
@@ -215,12 +180,13 @@ kinds-are kind (c ∷ cs) =
     ∙ ap (λ n. count_by (same_kind kind) (kinds_of_list c) + n) (kinds-are kind cs)
     ∙ sym (sum_by-append one (kinds_of_list c) (flat_map kinds_of_list cs))
 
--- behind the last number the sum is whole
-none-behind : (ns : List ℕ) (k : ℕ) → length ns ≤ k → sum (drop k ns) ≡ 0
-none-behind [] zero le = refl
-none-behind [] (suc k) le = refl
-none-behind (n ∷ ns) zero le = absurd (omega arith)
-none-behind (n ∷ ns) (suc k) le = none-behind ns k (omega arith)
+-- where all numbers from a place on are 0 the sum is whole there
+none-all : (ns : List ℕ) → ((i : ℕ) → get_or ns i 0 ≡ 0) → sum ns ≡ 0
+none-all [] h = refl
+none-all (n ∷ ns) h = let first : n ≡ 0 = h 0 in omega (arith, first, sum_by-cons (λ x. x) n ns, none-all ns (λ i. h (suc i)))
 
-pub whole-sum : (total : ℕ) (ns : List ℕ) (k : ℕ) → length ns ≤ k → total + sum (drop k ns) ≡ sum ns → total ≡ sum ns
-whole-sum total ns k le e = omega (arith, none-behind ns k le, e)
+none-behind : (ns : List ℕ) (k : ℕ) → ((i : ℕ) → k ≤ i → get_or ns i 0 ≡ 0) → sum (drop k ns) ≡ 0
+none-behind ns k h = none-all (drop k ns) (λ i. get_or-drop k ns i 0 ∙ h (k + i) (omega arith))
+
+pub whole-sum : (total : ℕ) (ns : List ℕ) (k : ℕ) → ((i : ℕ) → k ≤ i → get_or ns i 0 ≡ 0) → total + sum (drop k ns) ≡ sum ns → total ≡ sum ns
+whole-sum total ns k h e = omega (arith, none-behind ns k h, e)

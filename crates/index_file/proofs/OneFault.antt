@@ -2,20 +2,21 @@
 use Rattle.std.proofs.Common.{◌≡◌, ℕ, ◌+◌, ◌/◌, ◌%◌, ◌^◌, ◌-◌, List, length, refl, inl, inr, sym, ◌∙◌, subst, arith}
 use Rattle.std.specs.Prelude.{◌⊎◌, ◌≢◌, ◌==◌, not, nat_lt, slice_index, Option, Some, None, MatchBool, MatchOption}
 use Rattle.collection_model.specs.FormatNumbers.{FormatNumbers}
+use Rattle.collection_model.specs.Collection.{Collection}
 use Rattle.part_cost.specs.Formats.{HasRoom}
 use Rattle.sequence_words.specs.declared.check.Check.{Check}
 use Rattle.sequence_words.specs.declared.check.Check.TheVariants.{K6, K11}
 use Rattle.two_level.specs.Laws.{WordsState}
 use Rattle.two_level.specs.SequenceFault.{word_behind}
 use Rattle.index_file.specs.declared.fault.OpenFault.{OpenFault}
-use Rattle.index_file.specs.FileWords.{lists_words}
-use Rattle.index_file.specs.FirstBroken.{stated_documents, stated_terms, stated_sizes, directory_word, stated_length, stated_doc_parts, stated_freq_parts, up_to_sizes, frame_broken, IsFreqsFault, IsTermFault, IsClosingFault, IsFirstBrokenIn}
-use Rattle.index_file.specs.Laws.{OneIndexIn, OneBrokenCheckIn, SequenceLaws}
+use Rattle.index_file.specs.FileWords.{ListParts, lists_words, SpellsPlain}
+use Rattle.index_file.specs.FirstBroken.{stated_documents, stated_terms, stated_sizes, directory_word, stated_length, stated_doc_parts, stated_freq_parts, up_to_sizes, frame_broken, IsFreqsFault, IsTermFault, IsClosingFault, IsFirstBrokenPlain}
+use Rattle.index_file.specs.Laws.{SequenceLaws}
 use Rattle.index_file.proofs.Agree.{match-agree, first-agree}
 use Rattle.index_file.proofs.TermFaults.{IsAt, docs_cannot_begin, freqs_cannot_begin, InDocs, InFreqs, PassButGreatest}
 use Rattle.index_file.proofs.Prefixes.{stand-from, prefix-pieces, stand-same}
 use Rattle.index_file.proofs.Frames.{BreaksBehind, frame-stands}
-use Rattle.index_file.proofs.StatedIndex.{collection-is, parts-are, none-in-index}
+use Rattle.index_file.proofs.StatedIndex.{collection-is, parts-are}
 
 both : (f g : OpenFault) (t : ℕ) (k : Check) (q : ℕ) → IsAt f t k q → IsAt g t k q → f ≡ g
 both f g t k q a b = a ∙ sym b
@@ -69,17 +70,17 @@ behind-one format room laws words f g e (cs, lc, mf) (ds, ld, mg) =
       | inr (a, b) ↦ closing-one words p f g a b
     ]
 
-cases-option : (o : Option Check) → (o ≡ None) ⊎ ((k : Check) × (o ≡ Some k))
+pub cases-option : (o : Option Check) → (o ≡ None) ⊎ ((k : Check) × (o ≡ Some k))
 cases-option None = inl refl
 cases-option (Some k) = inr (k, refl)
 
-match-at-none : (o : Option Check) (P : Type 0) (Q : Check → Type 0) → o ≡ None → MatchOption o P Q → P
+pub match-at-none : (o : Option Check) (P : Type 0) (Q : Check → Type 0) → o ≡ None → MatchOption o P Q → P
 match-at-none o P Q e h = subst (λ x. MatchOption x P Q) e h
 
-match-at-some : (o : Option Check) (k : Check) (P : Type 0) (Q : Check → Type 0) → o ≡ Some k → MatchOption o P Q → Q k
+pub match-at-some : (o : Option Check) (k : Check) (P : Type 0) (Q : Check → Type 0) → o ≡ Some k → MatchOption o P Q → Q k
 match-at-some o k P Q e h = subst (λ x. MatchOption x P Q) e h
 
-pub one-fault : (format : FormatNumbers) (room : HasRoom format) → SequenceLaws format → (words : List ℕ) (f g : OpenFault) → IsFirstBrokenIn format words f → IsFirstBrokenIn format words g → f ≡ g
+pub one-fault : (format : FormatNumbers) (room : HasRoom format) → SequenceLaws format → (words : List ℕ) (f g : OpenFault) → IsFirstBrokenPlain format words f → IsFirstBrokenPlain format words g → f ≡ g
 one-fault format room laws words f g h k =
     elim (cases-option (frame_broken format words)) [
       | inl e ↦
@@ -90,12 +91,10 @@ one-fault format room laws words f g h k =
           (match-at-some (frame_broken format words) check (BreaksBehind format words g) (λ check. IsAt g 0 check 0) e k)
     ]
 
--- in a format words spell one collection, and have one first broken check
-pub one-index-in : (format : FormatNumbers) (room : HasRoom format) → SequenceLaws format → WordsState format → OneIndexIn format
-one-index-in format room laws state words c d e f h k = (
+-- in a format the words of a plain file spell one collection
+pub one-plain : (format : FormatNumbers) (room : HasRoom format) → SequenceLaws format → WordsState format → (words : List ℕ) (c d : Collection) (e f : List ListParts)
+    → SpellsPlain format words c e → SpellsPlain format words d f → (c ≡ d) × (e ≡ f)
+one-plain format room laws state words c d e f h k = (
   sym (collection-is format room laws state words c e h) ∙ collection-is format room laws state words d f k,
   sym (parts-are format room laws state words c e h) ∙ parts-are format room laws state words d f k,
 )
-
-pub one-broken-check-in : (format : FormatNumbers) (room : HasRoom format) → SequenceLaws format → OneBrokenCheckIn format
-one-broken-check-in format room laws = record { one = one-fault format room laws; none_in_index = none-in-index format room laws }

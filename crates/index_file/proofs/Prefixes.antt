@@ -71,47 +71,51 @@ pub record Pieces (format : FormatNumbers) (words : List ℕ) (t p : ℕ) (cs : 
   pub within : p + length (lists_words format cs) ≤ stated_sizes words
   pub directory : take (4 * length cs) (drop (directory_word words + 4 * t) words) ≡ lists_directory format p cs
 
--- the directory words of some pieces, those of the first list before the others
-whole-directory : (format : FormatNumbers) (words : List ℕ) (t p : ℕ) (c : CutList) (cs : List CutList) → Pieces format words t p (c ∷ cs)
-    → take (length (lists_directory format p (c ∷ cs))) (drop (directory_word words + 4 * t) words) ≡ lists_directory format p (c ∷ cs)
-whole-directory format words t p c cs h = ap (λ n. take n (drop (directory_word words + 4 * t) words)) (directory-length format p (c ∷ cs)) ∙ h.directory
-
 -- the rest of some pieces
 pieces-rest : (format : FormatNumbers) (words : List ℕ) (t p : ℕ) (c : CutList) (cs : List CutList) → Pieces format words t p (c ∷ cs) → Pieces format words (t + 1) (word_after format p c) cs
 pieces-rest format words t p c cs h =
+    let a : List ℕ = doc_words format c in
+    let b : List ℕ = freq_words format c in
+    let more : List ℕ = lists_words format cs in
     let q : ℕ = directory_word words + 4 * t in
+    let two : take (length more) (drop (length (a ++ b)) (drop p words)) ≡ more = rest-of (a ++ b) more (drop p words) h.sequences in
+    let entry : List ℕ = list_entry format p c in
     let rest : List ℕ = lists_directory format (word_after format p c) cs in
+    let whole : take (length (entry ++ rest)) (drop q words) ≡ entry ++ rest = ap (λ n. take n (drop q words)) (directory-length format p (c ∷ cs)) ∙ h.directory in
     record {
       lists = All-tail (IsListIn format words) c cs h.lists;
       doc_parts = All-tail HasDocParts c cs h.doc_parts;
       freq_parts = All-tail HasFreqParts c cs h.freq_parts;
-      sequences = ap (take (length (lists_words format cs))) (sym (behind-list format words p c)) ∙ rest-of (doc_words format c ++ freq_words format c) (lists_words format cs) (drop p words) h.sequences;
+      sequences = ap (take (length more)) (sym (behind-list format words p c)) ∙ two;
       within = omega (arith, h.within, length-lists format p c cs);
       directory =
           ap (λ n. take n (drop (directory_word words + 4 * (t + 1)) words)) (sym (directory-length format (word_after format p c) cs))
           ∙ ap (λ n. take (length rest) (drop n words)) (let e : directory_word words + 4 * (t + 1) ≡ q + 4 = omega arith in e)
-          ∙ ap (take (length rest)) (sym (drop-drop 4 q words)) ∙ rest-of (list_entry format p c) rest (drop q words) (whole-directory format words t p c cs h);
+          ∙ ap (take (length rest)) (sym (drop-drop 4 q words)) ∙ rest-of entry rest (drop q words) whole;
     }
 
 pieces-first : (format : FormatNumbers) (words : List ℕ) (t p : ℕ) (c : CutList) (cs : List CutList) → Pieces format words t p (c ∷ cs) → StandsAt format words t p c
 pieces-first format words t p c cs h =
-    let pair : take (length (doc_words format c ++ freq_words format c)) (drop p words) ≡ doc_words format c ++ freq_words format c =
-    prefix-of (doc_words format c ++ freq_words format c) (lists_words format cs) (drop p words) h.sequences in
-    let four : take 4 (drop (directory_word words + 4 * t) words) ≡ list_entry format p c =
-    prefix-of (list_entry format p c) (lists_directory format (word_after format p c) cs) (drop (directory_word words + 4 * t) words) (whole-directory format words t p c cs h) in
-    let word : (k x : ℕ) → k < 4 → get_or (list_entry format p c) k 0 ≡ x → slice_index words (directory_word words + 4 * t + k) ≡ x =
-    λ k x. word-of words (directory_word words + 4 * t) k x (list_entry format p c) four in
+    let a : List ℕ = doc_words format c in
+    let b : List ℕ = freq_words format c in
+    let more : List ℕ = lists_words format cs in
+    let q : ℕ = directory_word words + 4 * t in
+    let pair : take (length (a ++ b)) (drop p words) ≡ a ++ b = prefix-of (a ++ b) more (drop p words) h.sequences in
+    let entry : List ℕ = list_entry format p c in
+    let rest : List ℕ = lists_directory format (word_after format p c) cs in
+    let whole : take (length (entry ++ rest)) (drop q words) ≡ entry ++ rest = ap (λ n. take n (drop q words)) (directory-length format p (c ∷ cs)) ∙ h.directory in
+    let four : take 4 (drop q words) ≡ entry = prefix-of entry rest (drop q words) whole in
     record {
       list = All-head (IsListIn format words) c cs h.lists;
       doc_parts = All-head HasDocParts c cs h.doc_parts;
       freq_parts = All-head HasFreqParts c cs h.freq_parts;
-      docs = prefix-of (doc_words format c) (freq_words format c) (drop p words) pair;
-      freqs = ap (take (length (freq_words format c))) (sym (drop-drop (length (doc_words format c)) p words)) ∙ rest-of (doc_words format c) (freq_words format c) (drop p words) pair;
+      docs = prefix-of a b (drop p words) pair;
+      freqs = ap (take (length b)) (sym (drop-drop (length a) p words)) ∙ rest-of a b (drop p words) pair;
       within = omega (arith, h.within, length-lists format p c cs);
-      docs_word = word 0 p (omega arith) refl;
-      freqs_word = word 1 (p + length (doc_words format c)) (omega arith) refl;
-      doc_counts = word 2 (length c.list + 2 ^ 32 * length c.parts.doc_ends) (omega arith) refl;
-      freq_counts = word 3 (length c.parts.freq_ends + 2 ^ 32 * greatest_freq c.list) (omega arith) refl;
+      docs_word = word-of words q 0 p entry four (omega arith) refl;
+      freqs_word = word-of words q 1 (p + length a) entry four (omega arith) refl;
+      doc_counts = word-of words q 2 (length c.list + 2 ^ 32 * length c.parts.doc_ends) entry four (omega arith) refl;
+      freq_counts = word-of words q 3 (length c.parts.freq_ends + 2 ^ 32 * greatest_freq c.list) entry four (omega arith) refl;
     }
 
 pub stand-from : (format : FormatNumbers) (words : List ℕ) (t p : ℕ) (cs : List CutList) → Pieces format words t p cs → StandFrom format words t p cs
@@ -130,24 +134,27 @@ pieces-of format words t p [] frame fit le h = record {
 pieces-of format words t p (c ∷ cs) frame fit le h =
     let s = h.0 in
     let r = pieces-of format words (t + 1) (word_after format p c) cs frame (omega (arith, fit)) s.within h.1 in
-    let two : take (length (lists_words format cs)) (drop (length (doc_words format c ++ freq_words format c)) (drop p words)) ≡ lists_words format cs = ap (take (length (lists_words format cs))) (behind-list format words p c) ∙ r.sequences in
-    let pair : take (length (doc_words format c ++ freq_words format c)) (drop p words) ≡ doc_words format c ++ freq_words format c =
-    joined (doc_words format c) (freq_words format c) (drop p words) s.docs (ap (take (length (freq_words format c))) (drop-drop (length (doc_words format c)) p words) ∙ s.freqs) in
-    let from : ℕ = directory_word words + 4 * t in
-    let behind : List ℕ = lists_directory format (word_after format p c) cs in
-    let four : take 4 (drop from words) ≡ list_entry format p c =
-    four-words words from p (p + length (doc_words format c)) (length c.list + 2 ^ 32 * length c.parts.doc_ends) (length c.parts.freq_ends + 2 ^ 32 * greatest_freq c.list) (omega (arith, frame.whole, fit)) s.docs_word s.freqs_word s.doc_counts s.freq_counts in
-    let after : take (length behind) (drop 4 (drop from words)) ≡ behind =
-    ap (take (length behind)) (drop-drop 4 from words)
-    ∙ ap (λ n. take (length behind) (drop n words)) (let e : from + 4 ≡ directory_word words + 4 * (t + 1) = omega arith in e)
+    let a : List ℕ = doc_words format c in
+    let b : List ℕ = freq_words format c in
+    let more : List ℕ = lists_words format cs in
+    let q : ℕ = directory_word words + 4 * t in
+    let two : take (length more) (drop (length (a ++ b)) (drop p words)) ≡ more = ap (take (length more)) (behind-list format words p c) ∙ r.sequences in
+    let pair : take (length (a ++ b)) (drop p words) ≡ a ++ b = joined a b (drop p words) s.docs (ap (take (length b)) (drop-drop (length a) p words) ∙ s.freqs) in
+    let entry : List ℕ = list_entry format p c in
+    let rest : List ℕ = lists_directory format (word_after format p c) cs in
+    let four : take 4 (drop q words) ≡ entry =
+    four-words words q p (p + length a) (length c.list + 2 ^ 32 * length c.parts.doc_ends) (length c.parts.freq_ends + 2 ^ 32 * greatest_freq c.list) (omega (arith, frame.whole, fit)) s.docs_word s.freqs_word s.doc_counts s.freq_counts in
+    let after : take (length rest) (drop 4 (drop q words)) ≡ rest =
+    ap (take (length rest)) (drop-drop 4 q words)
+    ∙ ap (λ n. take (length rest) (drop n words)) (let e : q + 4 ≡ directory_word words + 4 * (t + 1) = omega arith in e)
     ∙ ap (λ n. take n (drop (directory_word words + 4 * (t + 1)) words)) (directory-length format (word_after format p c) cs) ∙ r.directory in
     record {
       lists = All-cons (IsListIn format words) c cs s.list r.lists;
       doc_parts = All-cons HasDocParts c cs s.doc_parts r.doc_parts;
       freq_parts = All-cons HasFreqParts c cs s.freq_parts r.freq_parts;
-      sequences = joined (doc_words format c ++ freq_words format c) (lists_words format cs) (drop p words) pair two;
+      sequences = joined (a ++ b) more (drop p words) pair two;
       within = omega (arith, r.within, length-lists format p c cs);
-      directory = ap (λ n. take n (drop from words)) (sym (directory-length format p (c ∷ cs))) ∙ joined (list_entry format p c) behind (drop from words) four after;
+      directory = ap (λ n. take n (drop q words)) (sym (directory-length format p (c ∷ cs))) ∙ joined entry rest (drop q words) four after;
     }
 
 -- a prefix is lists that stand from the first word of lists on

@@ -5,9 +5,9 @@ use Rattle.std.specs.List.{All, range_with_len}
 use Rattle.std.proofs.lemmas.List.{get_or-drop, length-map, length-drop}
 use Rattle.std.proofs.lemmas.List.Elements.{All-head, All-tail, All-map, All-from_get_or}
 use Rattle.std.proofs.lemmas.List.FromFn.{length-map-range_with_len, get_or-map-range_with_len}
-use Rattle.collection_model.specs.FormatNumbers.{FormatNumbers, Plain}
+use Rattle.collection_model.specs.FormatNumbers.{FormatNumbers}
 use Rattle.collection_model.specs.Collection.{Collection, IsPostingList}
-use Rattle.index_file.specs.FileWords.{CutList, lists_words, sizes_words, words_of_file, ArePartitions, IsIndexIn}
+use Rattle.index_file.specs.FileWords.{CutList, lists_words, sizes_words, plain_words, ArePartitions, IsPlainIn}
 use Rattle.index_file.specs.FirstBroken.{stated_documents, stated_terms, stated_sizes, directory_word, IsFilePrefix}
 use Rattle.index_file.specs.IndexView.{size_stated}
 use Rattle.index_file.specs.ListAt.{HasFrame, PassesClosing}
@@ -24,7 +24,7 @@ partitions-of (c ∷ cs) d f =
 abbrev pub sizes_stated : List ℕ → List ℕ
 sizes_stated words = map (size_stated words) (range_with_len 0 (stated_documents words))
 
-half-small : (b : Bool) (x : ℕ) → x < 2 ^ 64 → half_of b x < 2 ^ 32
+pub half-small : (b : Bool) (x : ℕ) → x < 2 ^ 64 → half_of b x < 2 ^ 32
 half-small true x h = omega arith
 half-small false x h = omega (arith, h)
 
@@ -58,9 +58,9 @@ sizes-at format words frame filled =
     ∙ filled (omega (arith, k, odd)))
 
 -- words with a frame, lists that stand up to the sizes, and filled sizes are an index
-pub is-index : (format : FormatNumbers) → format.kind ≡ Plain → (words : List ℕ) (cs : List CutList) → ((k : ℕ) → get_or words k 0 < 2 ^ 64) → HasFrame format words → IsFilePrefix format words cs → length cs ≡ stated_terms words
-    → PassesClosing words (2 + length (lists_words format cs)) → IsIndexIn format words
-is-index format plain words cs small frame prefix all pass =
+pub is-index : (format : FormatNumbers) (words : List ℕ) (cs : List CutList) → ((k : ℕ) → get_or words k 0 < 2 ^ 64) → HasFrame format words → IsFilePrefix format words cs → length cs ≡ stated_terms words
+    → PassesClosing words (2 + length (lists_words format cs)) → IsPlainIn format words
+is-index format words cs small frame prefix all pass =
     let n : ℕ = stated_documents words in
     let c : Collection = record { documents = n; lists = lists_in cs; sizes = sizes_stated words } in
     let count : length (lists_in cs) ≡ length cs = length-map cs (λ c. c.list) in
@@ -68,7 +68,6 @@ is-index format plain words cs small frame prefix all pass =
       c,
       parts_in cs,
       record {
-        plain = plain;
         well_formed = record {
           documents = frame.documents;
           terms = omega (arith, count, all, frame.terms);
@@ -78,6 +77,6 @@ is-index format plain words cs small frame prefix all pass =
         };
         partitions = partitions-of cs prefix.doc_parts prefix.freq_parts;
         spelled = words-of format words n cs (sizes_stated words) frame refl each (sym all) (sym pass.next) prefix.sequences (sizes-at format words frame pass.filled) prefix.directory
-            ∙ ap (λ l. words_of_file format n l (sizes_stated words)) (sym (with-parts-of cs));
+            ∙ ap (λ l. plain_words format n l (sizes_stated words)) (sym (with-parts-of cs));
       },
     )

@@ -9,16 +9,14 @@ use Rattle.std.proofs.lemmas.List.FromFn.{length-map-range_with_len, get_or-map-
 use Rattle.collection_model.specs.FormatNumbers.{FormatNumbers}
 use Rattle.collection_model.specs.Collection.{Posting, Collection, IsPostingList}
 use Rattle.collection_model.specs.Sequences.{doc_sequence, freq_sequence, postings_in}
-use Rattle.part_cost.specs.declared.formats.Format.{Format}
-use Rattle.part_cost.specs.Formats.{numbers_of, HasRoom}
-use Rattle.part_cost.proofs.Rooms.{formats-have-room}
+use Rattle.part_cost.specs.Formats.{HasRoom}
 use Rattle.sequence_words.specs.declared.check.Check.TheVariants.{K6, K11}
 use Rattle.two_level.specs.Laws.{WordsState}
 use Rattle.two_level.specs.SequenceView.{words_used, sequence_stated}
 use Rattle.index_file.specs.declared.fault.OpenFault.{OpenFault}
-use Rattle.index_file.specs.FileWords.{CutList, ListParts, with_parts, doc_words, lists_words, sizes_words, ArePartitions, Spells, IsIndexIn}
-use Rattle.index_file.specs.FirstBroken.{stated_documents, stated_terms, stated_sizes, directory_word, stated_length, stated_doc_parts, stated_freq_parts, IsFilePrefix, IsTermFault, IsClosingFault, IsFirstBrokenIn}
-use Rattle.index_file.specs.IndexView.{size_stated, docs_stated, freqs_stated, collection_stated, parts_stated, index_stated, docs_view, freqs_view}
+use Rattle.index_file.specs.FileWords.{CutList, ListParts, with_parts, doc_words, lists_words, sizes_words, ArePartitions, SpellsPlain, IsPlainIn}
+use Rattle.index_file.specs.FirstBroken.{stated_documents, stated_terms, stated_sizes, directory_word, stated_length, stated_doc_parts, stated_freq_parts, IsFilePrefix, IsTermFault, IsClosingFault, IsFirstBrokenPlain}
+use Rattle.index_file.specs.IndexView.{size_stated, docs_stated, freqs_stated, plain_collection, plain_parts, docs_view, freqs_view}
 use Rattle.index_file.specs.ListAt.{HasFrame, StandsAt, StandFrom, word_after}
 use Rattle.sequence_words.proofs.Choices.{unmatch}
 use Rattle.index_file.specs.Laws.{SequenceLaws}
@@ -29,16 +27,15 @@ use Rattle.index_file.proofs.FilePieces.{Laid, half_of, sizes-back, sizes-filled
 use Rattle.index_file.proofs.CutLists.{lists_in, parts_in}
 use Rattle.index_file.proofs.Spelling.{size-half}
 use Rattle.index_file.proofs.Frames.{breaks-behind}
-use Rattle.index_file.proofs.Both.{index-is-read}
 
 -- lists and their parts, taken apart again
-lists-back : (lists : List (List Posting)) (parts : List ListParts) → ArePartitions lists parts → lists_in (with_parts lists parts) ≡ lists
+pub lists-back : (lists : List (List Posting)) (parts : List ListParts) → ArePartitions lists parts → lists_in (with_parts lists parts) ≡ lists
 lists-back [] [] h = refl
 lists-back [] (p ∷ parts) h = absurd h
 lists-back (l ∷ lists) [] h = absurd h
 lists-back (l ∷ lists) (p ∷ parts) h = ap (λ x. l ∷ x) (lists-back lists parts h.2)
 
-parts-back : (lists : List (List Posting)) (parts : List ListParts) → ArePartitions lists parts → parts_in (with_parts lists parts) ≡ parts
+pub parts-back : (lists : List (List Posting)) (parts : List ListParts) → ArePartitions lists parts → parts_in (with_parts lists parts) ≡ parts
 parts-back [] [] h = refl
 parts-back [] (p ∷ parts) h = absurd h
 parts-back (l ∷ lists) [] h = absurd h
@@ -70,30 +67,27 @@ freqs-good (l ∷ lists) (p ∷ parts) h = All-cons HasFreqParts (record { list 
 pub record Opened (format : FormatNumbers) (words : List ℕ) (c : Collection) (parts : List ListParts) : Type 0 where
   pub laid : Laid format words c.documents (with_parts c.lists parts) c.sizes
   pub prefix : IsFilePrefix format words (with_parts c.lists parts)
-  pub stand : StandFrom format words 0 2 (with_parts c.lists parts)
   pub lists : lists_in (with_parts c.lists parts) ≡ c.lists
   pub parts_are : parts_in (with_parts c.lists parts) ≡ parts
   pub count : length (with_parts c.lists parts) ≡ length c.lists
 
-pub opened : (format : FormatNumbers) (words : List ℕ) (c : Collection) (parts : List ListParts) → Spells format words c parts → Opened format words c parts
+pub opened : (format : FormatNumbers) (words : List ℕ) (c : Collection) (parts : List ListParts) → SpellsPlain format words c parts → Opened format words c parts
 opened format words c parts h =
     let cs : List CutList = with_parts c.lists parts in
     let back : lists_in (with_parts c.lists parts) ≡ c.lists = lists-back c.lists parts h.partitions in
     let count : length (with_parts c.lists parts) ≡ length c.lists = sym (length-map (with_parts c.lists parts) (λ x. x.list)) ∙ ap length back in
     let laid : Laid format words c.documents cs c.sizes = laid-of format words c.documents cs c.sizes h.well_formed.documents (omega (arith, count, h.well_formed.terms)) h.well_formed.size_each h.spelled in
-    let prefix : IsFilePrefix format words (with_parts c.lists parts) = record {
-      lists = subst (λ n. All (IsListOver format n) (with_parts c.lists parts)) (sym laid.docs) (lists-good format c.documents c.lists parts h.partitions h.well_formed.lists);
-      doc_parts = docs-good c.lists parts h.partitions;
-      freq_parts = freqs-good c.lists parts h.partitions;
-      terms = omega (arith, laid.terms);
-      sequences = laid.lists_at;
-      within = omega (arith, laid.sizes);
-      directory = laid.directory_at;
-    } in
     record {
       laid = laid;
-      prefix = prefix;
-      stand = stand-from format words 0 2 cs (prefix-pieces format words cs prefix);
+      prefix = record {
+        lists = subst (λ n. All (IsListOver format n) (with_parts c.lists parts)) (sym laid.docs) (lists-good format c.documents c.lists parts h.partitions h.well_formed.lists);
+        doc_parts = docs-good c.lists parts h.partitions;
+        freq_parts = freqs-good c.lists parts h.partitions;
+        terms = omega (arith, laid.terms);
+        sequences = laid.lists_at;
+        within = omega (arith, laid.sizes);
+        directory = laid.directory_at;
+      };
       lists = back;
       parts_are = parts-back c.lists parts h.partitions;
       count = count;
@@ -121,34 +115,28 @@ list_stated format words t = postings_in (docs_stated format words t).values (fr
 abbrev pub cut_stated : FormatNumbers → List ℕ → ℕ → ListParts
 cut_stated format words t = record { doc_ends = (docs_stated format words t).ends; freq_ends = (freqs_stated format words t).ends }
 
--- are those of a list that stands
-one-stated : (format : FormatNumbers) (room : HasRoom format) → SequenceLaws format → WordsState format → (words : List ℕ) (t p : ℕ) (c : CutList) → HasFrame format words → StandsAt format words t p c
-    → (list_stated format words t ≡ c.list) × (cut_stated format words t ≡ c.parts)
-one-stated format room laws state words t p c frame h =
-    let a : docs_stated format words t ≡ docs_view format c = docs-stated format room laws state words t p c frame h in
-    let b : freqs_stated format words t ≡ freqs_view format c = freqs-stated format room laws state words t p c frame h in
-    let list : list_stated format words t ≡ c.list =
-    ap (λ v. postings_in v.values (freqs_stated format words t).values) a ∙ ap (λ v. postings_in (doc_sequence c.list) v.values) b ∙ laws.give format (stated_documents words) c.list h.list in
-    let parts : cut_stated format words t ≡ c.parts =
-    ap (λ v. record { doc_ends = v.ends; freq_ends = (freqs_stated format words t).ends }) a ∙ ap (λ v. record { doc_ends = c.parts.doc_ends; freq_ends = v.ends }) b in
-    (list, parts)
-
 lists-stated : (format : FormatNumbers) (room : HasRoom format) → SequenceLaws format → WordsState format → (words : List ℕ) (t p : ℕ) (cs : List CutList) → HasFrame format words → StandFrom format words t p cs
     → map (list_stated format words) (range_with_len t (length cs)) ≡ lists_in cs
 lists-stated format room laws state words t p [] frame h = refl
 lists-stated format room laws state words t p (c ∷ cs) frame h =
-    ap (λ x. x ∷ map (list_stated format words) (range_with_len (t + 1) (length cs))) (one-stated format room laws state words t p c frame h.0).0
-    ∙ ap (λ x. c.list ∷ x) (lists-stated format room laws state words (t + 1) (word_after format p c) cs frame h.1)
+    let a : docs_stated format words t ≡ docs_view format c = docs-stated format room laws state words t p c frame h.0 in
+    let b : freqs_stated format words t ≡ freqs_view format c = freqs-stated format room laws state words t p c frame h.0 in
+    let here : list_stated format words t ≡ c.list =
+    ap (λ v. postings_in v.values (freqs_stated format words t).values) a ∙ ap (λ v. postings_in (doc_sequence c.list) v.values) b ∙ laws.give format (stated_documents words) c.list h.0.list in
+    ap (λ x. x ∷ map (list_stated format words) (range_with_len (t + 1) (length cs))) here ∙ ap (λ x. c.list ∷ x) (lists-stated format room laws state words (t + 1) (word_after format p c) cs frame h.1)
 
 parts-stated : (format : FormatNumbers) (room : HasRoom format) → SequenceLaws format → WordsState format → (words : List ℕ) (t p : ℕ) (cs : List CutList) → HasFrame format words → StandFrom format words t p cs
     → map (cut_stated format words) (range_with_len t (length cs)) ≡ parts_in cs
 parts-stated format room laws state words t p [] frame h = refl
 parts-stated format room laws state words t p (c ∷ cs) frame h =
-    ap (λ x. x ∷ map (cut_stated format words) (range_with_len (t + 1) (length cs))) (one-stated format room laws state words t p c frame h.0).1
-    ∙ ap (λ x. c.parts ∷ x) (parts-stated format room laws state words (t + 1) (word_after format p c) cs frame h.1)
+    let a : docs_stated format words t ≡ docs_view format c = docs-stated format room laws state words t p c frame h.0 in
+    let b : freqs_stated format words t ≡ freqs_view format c = freqs-stated format room laws state words t p c frame h.0 in
+    let here : cut_stated format words t ≡ c.parts =
+    ap (λ v. record { doc_ends = v.ends; freq_ends = (freqs_stated format words t).ends }) a ∙ ap (λ v. record { doc_ends = c.parts.doc_ends; freq_ends = v.ends }) b in
+    ap (λ x. x ∷ map (cut_stated format words) (range_with_len (t + 1) (length cs))) here ∙ ap (λ x. c.parts ∷ x) (parts-stated format room laws state words (t + 1) (word_after format p c) cs frame h.1)
 
 -- a size that words state
-pub size-stated : (format : FormatNumbers) (words : List ℕ) (c : Collection) (parts : List ListParts) → Spells format words c parts → (d : ℕ) → d < c.documents → size_stated words d ≡ get_or c.sizes d 0
+pub size-stated : (format : FormatNumbers) (words : List ℕ) (c : Collection) (parts : List ListParts) → SpellsPlain format words c parts → (d : ℕ) → d < c.documents → size_stated words d ≡ get_or c.sizes d 0
 size-stated format words c parts h d lt =
     let o = opened format words c parts h in
     let z : List ℕ = sizes_words c.sizes in
@@ -159,7 +147,7 @@ size-stated format words c parts h d lt =
     ∙ sizes-back c.sizes h.well_formed.sizes d (omega (arith, lt, h.well_formed.size_each))
 
 -- the sizes of an index are those that its words state
-pub sizes-are : (format : FormatNumbers) (words : List ℕ) (c : Collection) (parts : List ListParts) → Spells format words c parts → map (size_stated words) (range_with_len 0 (stated_documents words)) ≡ c.sizes
+pub sizes-are : (format : FormatNumbers) (words : List ℕ) (c : Collection) (parts : List ListParts) → SpellsPlain format words c parts → map (size_stated words) (range_with_len 0 (stated_documents words)) ≡ c.sizes
 sizes-are format words c parts h =
     let n : ℕ = stated_documents words in
     let docs : stated_documents words ≡ c.documents = (opened format words c parts h).laid.docs in
@@ -168,43 +156,39 @@ sizes-are format words c parts h =
     (λ i lt. get_or-map-range_with_len (size_stated words) 0 n i i 0 (omega (arith, lt, count)) (omega arith) ∙ size-stated format words c parts h i (omega (arith, lt, count, docs)))
 
 -- its collection is, too
-pub collection-is : (format : FormatNumbers) (room : HasRoom format) → SequenceLaws format → WordsState format → (words : List ℕ) (c : Collection) (parts : List ListParts) → Spells format words c parts
-    → collection_stated format words ≡ c
+pub collection-is : (format : FormatNumbers) (room : HasRoom format) → SequenceLaws format → WordsState format → (words : List ℕ) (c : Collection) (parts : List ListParts) → SpellsPlain format words c parts
+    → plain_collection format words ≡ c
 collection-is format room laws state words c parts h =
     let o = opened format words c parts h in
+    let cs : List CutList = with_parts c.lists parts in
+    let stand : StandFrom format words 0 2 cs = stand-from format words 0 2 cs (prefix-pieces format words cs o.prefix) in
     let lists : map (list_stated format words) (range_with_len 0 (stated_terms words)) ≡ c.lists =
-    ap (λ n. map (list_stated format words) (range_with_len 0 n)) o.laid.terms ∙ lists-stated format room laws state words 0 2 (with_parts c.lists parts) o.laid.frame o.stand ∙ o.lists in
+    ap (λ n. map (list_stated format words) (range_with_len 0 n)) o.laid.terms ∙ lists-stated format room laws state words 0 2 cs o.laid.frame stand ∙ o.lists in
     ap (λ x. record { documents = x; lists = map (list_stated format words) (range_with_len 0 (stated_terms words)); sizes = map (size_stated words) (range_with_len 0 (stated_documents words)) }) o.laid.docs
     ∙ ap (λ x. record { documents = c.documents; lists = x; sizes = map (size_stated words) (range_with_len 0 (stated_documents words)) }) lists
     ∙ ap (λ x. record { documents = c.documents; lists = c.lists; sizes = x }) (sizes-are format words c parts h)
 
 -- and so are its parts
-pub parts-are : (format : FormatNumbers) (room : HasRoom format) → SequenceLaws format → WordsState format → (words : List ℕ) (c : Collection) (parts : List ListParts) → Spells format words c parts
-    → parts_stated format words ≡ parts
+pub parts-are : (format : FormatNumbers) (room : HasRoom format) → SequenceLaws format → WordsState format → (words : List ℕ) (c : Collection) (parts : List ListParts) → SpellsPlain format words c parts
+    → plain_parts format words ≡ parts
 parts-are format room laws state words c parts h =
     let o = opened format words c parts h in
-    ap (λ n. map (cut_stated format words) (range_with_len 0 n)) o.laid.terms ∙ parts-stated format room laws state words 0 2 (with_parts c.lists parts) o.laid.frame o.stand ∙ o.parts_are
-
--- an index is the one that its words state, in the format whose version they state
-pub stated-is : (v : Format) → SequenceLaws (numbers_of v) → WordsState (numbers_of v) → (words : List ℕ) (c : Collection) (parts : List ListParts) → Spells (numbers_of v) words c parts
-    → index_stated words ≡ record { format = v; collection = c; parts = parts }
-unfolding index_stated
-stated-is v laws state words c parts h =
-    ap (λ x. record { format = x; collection = collection_stated (numbers_of x) words; parts = parts_stated (numbers_of x) words }) (index-is-read v words (c, parts, h))
-    ∙ ap (λ x. record { format = v; collection = x; parts = parts_stated (numbers_of v) words }) (collection-is (numbers_of v) (formats-have-room v) laws state words c parts h)
-    ∙ ap (λ x. record { format = v; collection = c; parts = x }) (parts-are (numbers_of v) (formats-have-room v) laws state words c parts h)
+    let cs : List CutList = with_parts c.lists parts in
+    let stand : StandFrom format words 0 2 cs = stand-from format words 0 2 cs (prefix-pieces format words cs o.prefix) in
+    ap (λ n. map (cut_stated format words) (range_with_len 0 n)) o.laid.terms ∙ parts-stated format room laws state words 0 2 cs o.laid.frame stand ∙ o.parts_are
 
 -- words that are an index break no check
-pub none-in-index : (format : FormatNumbers) (room : HasRoom format) → SequenceLaws format → (words : List ℕ) (f : OpenFault) → IsIndexIn format words → IsFirstBrokenIn format words f → ⊥
+pub none-in-index : (format : FormatNumbers) (room : HasRoom format) → SequenceLaws format → (words : List ℕ) (f : OpenFault) → IsPlainIn format words → IsFirstBrokenPlain format words f → ⊥
 none-in-index format room laws words f (c, parts, h) broken =
     let o = opened format words c parts h in
+    let cs : List CutList = with_parts c.lists parts in
     let frame = o.laid.frame in
     let b = breaks-behind format words f frame broken in
     let ds : List CutList = b.0 in
-    let most : length (with_parts c.lists parts) ≤ length b.0 = b.1.longest (with_parts c.lists parts) o.prefix in
+    let most : length (with_parts c.lists parts) ≤ length b.0 = b.1.longest cs o.prefix in
     let same : length (with_parts c.lists parts) ≡ length b.0 = omega (arith, most, b.1.prefix.terms, o.laid.terms) in
-    let is : with_parts c.lists parts ≡ ds =
-    stand-same format room laws words 0 2 (with_parts c.lists parts) ds frame o.stand (stand-from format words 0 2 ds (prefix-pieces format words ds b.1.prefix)) same in
+    let is : cs ≡ ds =
+    stand-same format room laws words 0 2 cs ds frame (stand-from format words 0 2 cs (prefix-pieces format words cs o.prefix)) (stand-from format words 0 2 ds (prefix-pieces format words ds b.1.prefix)) same in
     let p : ℕ = 2 + length (lists_words format ds) in
     let closing : IsClosingFault words p f =
     unmatch (nat_lt (length ds) (stated_terms words)) (IsTermFault format words (length ds) p f) (IsClosingFault words p f) (le-ltb (length ds) (stated_terms words) (omega (arith, same, o.laid.terms))) b.2 in

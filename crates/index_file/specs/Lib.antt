@@ -1,4 +1,11 @@
+pub mod CutLists
+pub mod PlainWords
+pub mod PackedWords
+pub mod PackedLaws
 pub mod FileWords
+pub mod PackedAt
+pub mod PackedView
+pub mod PackedFaults
 pub mod FirstBroken
 pub mod ListAt
 pub mod Builder

@@ -7,20 +7,19 @@ ghost use Rattle.part_cost.specs.Span.{cost_of_part};
 ghost use Rattle.part_cost.specs.Partition.{partition_cost};
 ghost use Rattle.cost_windows.specs.WindowBounds.{window_bounds};
 ghost use Rattle.index_file.specs.FileWords.{CutList, words_of_file};
-ghost use Rattle.index_file.specs.Builder.{StandsFor, IsNearCut, AddsList, lists_added, most_words, cut_list, with_list};
+ghost use Rattle.index_file.specs.Builder.{StandsFor, AreCutsNear, IsAppended, AddsList, lists_added, most_words, cut_list};
 
-use crate::entries::{push_sizes, spell_entry};
-use crate::frame::{END_MAGIC, LIST_WORDS, OPENING_MAGIC, WORDS_BEHIND};
+use crate::packed_builder::PackedBuilder;
 use crate::partitions::cut;
+use crate::plain_builder::PlainBuilder;
 use no_memory::NoMemory;
-use part_cost::{Format, formats_have_room};
+use part_cost::{Format, formats_have_room, near_is_near_stored};
 use partition_path::Cuts;
-use postings::{doc_values, freq_sums, sequences_of_a_list_rise, write_sequences};
+use postings::{doc_values, freq_sums, sequences_of_a_list_rise};
 use std::alloc::Global;
 use std::marker::Model;
 use std::sync::ledger::Ledger;
 use step_count::Steps;
-use two_level::sequence_takes_its_cost;
 
 // The greatest number of words of a file.
 const MOST_WORDS: u64 = 1 << 37;
@@ -39,20 +38,19 @@ pub enum FinishError {
 pub struct Builder {
     alloc: Global,
     format: Format,
-    documents: u32,
-    words: Vec<u64>,
-    directory: Vec<u64>,
+    // The halves, of which that of the format's kind is filled.
+    plain: PlainBuilder,
+    packed: PackedBuilder,
 }
 
 impl Model for Builder {
-    ghost use Rattle.std.specs.Prelude.{drop};
-    ghost use Rattle.index_file.specs.Builder.{Built, IsKept};
+    ghost use Rattle.index_file.specs.Builder.{Built, IsBuilder, built_of};
 
     ghost Value = { Built };
 
-    ghost view = { λ b. record { format = b.format; documents = b.documents; words = drop 2 b.words.items; directory = b.directory.items } };
+    ghost view = { λ b. built_of b.format b.plain b.packed };
 
-    ghost invariant = { λ b. IsKept b.format b.documents b.words.items b.directory.items };
+    ghost invariant = { λ b. IsBuilder b.format b.plain b.packed };
 }
 
 impl Builder {
@@ -63,15 +61,13 @@ impl Builder {
         ensures documents { IfOk result (λ b. b.documents ≡ documents) }
         ensures no_list { IfOk result (λ b. StandsFor b []) }
     {
-        let mut words = Vec::new(alloc);
-        words.extend_from_slice(&[OPENING_MAGIC, format.version()])?;
-        let directory = Vec::new(alloc);
+        let plain = PlainBuilder::new(alloc, documents, format)?;
+        let packed = PackedBuilder::new(alloc, documents)?;
         Ok(Builder {
             alloc,
             format,
-            documents,
-            words,
-            directory,
+            plain,
+            packed,
         })
     }
 
@@ -102,7 +98,7 @@ impl Builder {
         self.append(&values, &sums, freqs, &doc_cuts, &freq_cuts)
     }
 
-    // Appends a list whose sequences are these, and are cut so.
+    // Appends a list whose sequences are these, and are cut so, or stored as one part.
     fn append(
         &mut self,
         docs: &[u64],
@@ -116,33 +112,24 @@ impl Builder {
             (postings_of docs.now freqs.now) }
         requires sums { sums.now ≡ freq_sequence (postings_of docs.now freqs.now) }
         requires room { lists_added self.old < most_terms }
-        requires near { IsNearCut (numbers_of self.old.format)
+        requires near { AreCutsNear (numbers_of self.old.format)
             (cut_list docs.now freqs.now doc_cuts.now.ends freq_cuts.now.ends) }
         requires total { doc_cuts.now.total ≡ partition_cost
             (cost_of_part (part_charge (numbers_of self.old.format))
             (doc_sequence (postings_of docs.now freqs.now))) doc_cuts.now.ends }
-        ensures ok { OnOk result (self.new ≡ with_list self.old
-            (cut_list docs.now freqs.now doc_cuts.now.ends freq_cuts.now.ends)) }
+        requires freq_total { freq_cuts.now.total ≡ partition_cost
+            (cost_of_part (part_charge (numbers_of self.old.format))
+            (freq_sequence (postings_of docs.now freqs.now))) freq_cuts.now.ends }
+        ensures ok { OnOk result (IsAppended self.old self.new (postings_of docs.now freqs.now)
+            doc_cuts.now.ends freq_cuts.now.ends) }
         ensures err { OnErr result (self.new ≡ self.old) }
     {
-        sequence_takes_its_cost();
-        formats_have_room();
-        let first = self.words.len();
-        let entry = spell_entry(first as u64, freqs, doc_cuts, freq_cuts);
-        write_sequences(
-            self.alloc,
-            docs,
-            sums,
-            doc_cuts.ends(),
-            freq_cuts.ends(),
-            self.format,
-            &mut self.words,
-        )?;
-        if self.directory.extend_from_slice(&entry).is_err() {
-            self.words.truncate(first);
-            return Err(NoMemory);
+        near_is_near_stored();
+        match self.format {
+            Format::One => self.plain.append(docs, sums, freqs, doc_cuts, freq_cuts),
+            Format::Two => self.plain.append(docs, sums, freqs, doc_cuts, freq_cuts),
+            Format::Three => self.packed.append(docs, sums, freqs, doc_cuts, freq_cuts),
         }
-        Ok(())
     }
 
     /// The words of the file of the lists, with these sizes. A file of more than 2^37 words is refused before memory is taken.
@@ -170,10 +157,15 @@ impl Builder {
     // How many words the file has with so many sizes.
     fn count_words(&self, sizes: u64) -> u64
         requires few { sizes < 2 ^ 32 }
-        ensures { result ≡ 2 + length self.now.words + (sizes + 1) / 2 + length self.now.directory
-            + 4 }
+        ensures { (cs : List CutList) (of : List ℕ) → StandsFor self.now cs → length of ≡ sizes
+            → result ≡ length (words_of_file (numbers_of self.now.format) self.now.documents cs
+            of) }
     {
-        self.words.len() as u64 + sizes.div_ceil(2) + self.directory.len() as u64 + WORDS_BEHIND
+        match self.format {
+            Format::One => self.plain.count_words(sizes),
+            Format::Two => self.plain.count_words(sizes),
+            Format::Three => self.packed.count_words(sizes),
+        }
     }
 
     // The words of the file.
@@ -184,16 +176,14 @@ impl Builder {
     {
         let Builder {
             alloc: _,
-            format: _,
-            documents,
-            mut words,
-            directory,
+            format,
+            plain,
+            packed,
         } = self;
-        let lists = directory.len() as u64 / LIST_WORDS;
-        let sizes_from = words.len() as u64;
-        push_sizes(&mut words, sizes)?;
-        words.extend_from_slice(&directory)?;
-        words.extend_from_slice(&[u64::from(documents), lists, sizes_from, END_MAGIC])?;
-        Ok(words)
+        match format {
+            Format::One => plain.into_words(sizes),
+            Format::Two => plain.into_words(sizes),
+            Format::Three => packed.into_words(sizes),
+        }
     }
 }

@@ -1,14 +1,15 @@
 ghost use Rattle.std.specs.Prelude.{◌≡◌, ◌<◌, ◌+◌, ◌^◌, List, length, None, IfOk, IfErr, IfSome, OnOk};
 ghost use Rattle.part_cost.specs.declared.formats.Format.{Format};
 ghost use Rattle.part_cost.specs.Formats.{numbers_of};
-ghost use Rattle.index_file.specs.FileWords.{CutList, lists_words, IsIndex};
-ghost use Rattle.index_file.specs.FirstBroken.{stated_terms, IsFilePrefix, IsClosingFault, IsFirstBroken};
+ghost use Rattle.index_file.specs.FileWords.{CutList, lists_words, IsPlainIn, IsIndex};
+ghost use Rattle.index_file.specs.FirstBroken.{stated_terms, IsFilePrefix, IsClosingFault, IsFirstBrokenPlain, IsFirstBroken};
 ghost use Rattle.index_file.specs.ListAt.{HasFrame, StatesFrame, IsFirstListFault, PassesClosing};
 
 use crate::fault::OpenFault;
 use crate::frame::{Frame, WORDS_BEFORE, directory_of, format_of, frame_fault, frame_of};
-use crate::laws::sequence_laws;
+use crate::laws::{file_laws, sequence_laws};
 use crate::lists::{HALF, check_list};
+use crate::packed_checking::check_packed;
 use part_cost::Format;
 use two_level::Check;
 
@@ -57,13 +58,12 @@ fn closing_fault(words: &[u64], frame: Frame, p: u64) -> Option<OpenFault>
     None
 }
 
-// Looks for the first check of the words that breaks.
-pub(crate) fn check_file(words: &[u64]) -> Result<(), OpenFault>
+// Looks for the first check that breaks of words that are read as a plain file.
+fn check_plain(words: &[u64], format: Format) -> Result<(), OpenFault>
     requires words { length words.now < 2 ^ 57 }
-    ensures ok { OnOk result (IsIndex words.now) }
-    ensures first { IfErr result (λ f. IsFirstBroken words.now f) }
+    ensures ok { OnOk result (IsPlainIn (numbers_of format) words.now) }
+    ensures first { IfErr result (λ f. IsFirstBrokenPlain (numbers_of format) words.now f) }
 {
-    let format = format_of(words);
     if let Some(check) = frame_fault(words, format) {
         return Err(OpenFault {
             check,
@@ -76,5 +76,19 @@ pub(crate) fn check_file(words: &[u64]) -> Result<(), OpenFault>
     match closing_fault(words, frame, p) {
         Some(fault) => Err(fault),
         None => Ok(()),
+    }
+}
+
+// Looks for the first check of the words that breaks.
+pub(crate) fn check_file(words: &[u64]) -> Result<(), OpenFault>
+    requires words { length words.now < 2 ^ 57 }
+    ensures ok { OnOk result (IsIndex words.now) }
+    ensures first { IfErr result (λ f. IsFirstBroken words.now f) }
+{
+    file_laws();
+    match format_of(words) {
+        Format::One => check_plain(words, Format::One),
+        Format::Two => check_plain(words, Format::Two),
+        Format::Three => check_packed(words),
     }
 }

@@ -18,7 +18,7 @@ fn word_of_halves(low: u64, high: u64) -> u64
 }
 
 // The greatest frequency, 0 where there is none.
-fn greatest_freq(freqs: &[u32]) -> u32
+pub(crate) fn greatest_freq(freqs: &[u32]) -> u32
     ensures { result ≡ greatest freqs.now }
 {
     let mut most = 0;

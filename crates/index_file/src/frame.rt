@@ -4,6 +4,7 @@ ghost use Rattle.index_file.specs.FileWords.{format_read};
 ghost use Rattle.index_file.specs.FirstBroken.{numbers_break, frame_broken};
 ghost use Rattle.index_file.specs.ListAt.{StatesFrame};
 
+use crate::packed_frame::PACKED_MAGIC;
 use part_cost::Format;
 use two_level::Check;
 
@@ -34,12 +35,14 @@ pub(crate) struct Frame {
     pub(crate) sizes: u64,
 }
 
-// The format of plain files whose version is word 1. Words with the version of none are read in the
-// first.
+// The format in which words are read: the third where they begin as a packed file; else that of
+// plain files whose version is word 1, and the first where it is the version of none.
 pub(crate) fn format_of(words: &[u64]) -> Format
     ensures { result ≡ format_read words.now }
 {
-    if words.len() > 1 && words[1] == Format::Two.version() {
+    if !words.is_empty() && words[0] == PACKED_MAGIC {
+        Format::Three
+    } else if words.len() > 1 && words[1] == Format::Two.version() {
         Format::Two
     } else {
         Format::One

@@ -1,6 +1,7 @@
 ghost use Rattle.std.specs.Prelude.{◌≡◌, ◌<◌, ◌-◌, ◌^◌, List, length, sum, slice_index, take, drop, option_map, IfOk, IfErr};
 ghost use Rattle.collection_model.specs.Collection.{Collection, WellFormed, list_of, docs_of, first_at_least, greatest_freq};
 ghost use Rattle.part_cost.specs.Formats.{numbers_of};
+ghost use Rattle.part_cost.specs.Partition.{IsPartition};
 ghost use Rattle.two_level.specs.SequenceView.{start_of_part};
 ghost use Rattle.index_file.specs.FileWords.{ListParts, ArePartitions, Spells, IsIndexIn, IsIndex};
 ghost use Rattle.index_file.specs.FirstBroken.{stated_terms, IsFirstBroken};
@@ -9,16 +10,17 @@ ghost use Rattle.index_file.specs.IndexView as of;
 use crate::checking::check_file;
 use crate::fault::OpenFault;
 use crate::frame::{format_of, frame_of};
-use crate::laws::sequence_laws;
+use crate::laws::file_laws;
 use crate::measures::{Measure, of_index};
-use crate::totals::{all_postings, all_sizes, size_at};
+use crate::totals::{all_postings, all_sizes, size_at, sizes_from};
 use crate::views::{ListViews, list_views};
 use cursor_api::DocCursor;
 use part_cost::{Format, Kind, Which};
 use postings::{PostingCursor, first_posting};
 use std::marker::Model;
+use two_level::SeqView;
 
-/// An index over the words of its file, in the format whose version is word 1.
+/// An index over the words of its file, a plain one or a packed one.
 #[derive(Drop)]
 pub struct Index<'a> {
     words: &'a [u64],
@@ -26,6 +28,7 @@ pub struct Index<'a> {
 
 impl<'a> Model for Index<'a> {
     ghost use Rattle.std.specs.Prelude.{◌<◌, ◌^◌, length};
+    ghost use Rattle.std.specs.List.{All};
     ghost use Rattle.part_cost.specs.Formats.{numbers_of};
     ghost use Rattle.index_file.specs.FileWords.{Spells};
     ghost use Rattle.index_file.specs.IndexView.{IndexView, index_stated};
@@ -34,11 +37,11 @@ impl<'a> Model for Index<'a> {
 
     ghost view = { λ i. index_stated i.words.now };
 
-    ghost invariant = { λ i. Spells (numbers_of (index_stated i.words.now).format) i.words.now (index_stated i.words.now).collection (index_stated i.words.now).parts × (length i.words.now < 2 ^ 57) };
+    ghost invariant = { λ i. Spells (numbers_of (index_stated i.words.now).format) i.words.now (index_stated i.words.now).collection (index_stated i.words.now).parts × (length i.words.now < 2 ^ 57) × All (λ w. w < 2 ^ 64) i.words.now };
 }
 
 impl<'a> Index<'a> {
-    /// The index that the words are, in the format whose version they state, or their first broken check.
+    /// The index that the words are, in the format in which they are read, or their first broken check.
     pub fn view(words: &'a [u64]) -> Result<Index<'a>, OpenFault>
         requires words { length words.now < 2 ^ 57 }
         ensures ok { IfOk result (λ index. Spells (numbers_of index.format) words.entry.now
@@ -47,7 +50,7 @@ impl<'a> Index<'a> {
         ensures first { IfErr result (λ f. IsFirstBroken words.entry.now f) }
         ensures stated { IfOk result (λ index. index ≡ of.index_stated words.entry.now) }
     {
-        sequence_laws();
+        file_laws();
         check_file(words)?;
         Ok(Index { words })
     }
@@ -60,7 +63,7 @@ impl<'a> Index<'a> {
             result.parts }
         ensures stated { result ≡ of.index_stated words.entry.now }
     {
-        sequence_laws();
+        file_laws();
         Index { words }
     }
 
@@ -83,6 +86,7 @@ impl<'a> Index<'a> {
     pub fn documents(&self) -> u32
         ensures { result ≡ self.now.collection.documents }
     {
+        file_laws();
         frame_of(self.words).documents as u32
     }
 
@@ -90,6 +94,7 @@ impl<'a> Index<'a> {
     pub fn terms(&self) -> u32
         ensures { result ≡ length self.now.collection.lists }
     {
+        file_laws();
         frame_of(self.words).terms as u32
     }
 
@@ -97,7 +102,7 @@ impl<'a> Index<'a> {
     pub fn postings(&self) -> u64
         ensures { result ≡ of.postings_count self.now }
     {
-        all_postings(self.words)
+        all_postings(self.words, self.format())
     }
 
     /// The size of document d.
@@ -105,14 +110,17 @@ impl<'a> Index<'a> {
         requires within { d < self.now.collection.documents }
         ensures { result ≡ slice_index self.now.collection.sizes d }
     {
-        size_at(self.words, frame_of(self.words).sizes, d)
+        file_laws();
+        size_at(self.words, sizes_from(self.words, self.format()), d)
     }
 
     /// The sum of all sizes.
     pub fn size_total(&self) -> u64
         ensures { result ≡ sum self.now.collection.sizes }
     {
-        all_sizes(self.words)
+        file_laws();
+        let first = sizes_from(self.words, self.format());
+        all_sizes(self.words, first, self.documents())
     }
 
     /// How many words the file has.
@@ -136,15 +144,18 @@ impl<'a> Index<'a> {
         of_index(Measure::Payload, self.words, self.format())
     }
 
-    /// What the parts of a sequence of list t cost as it stands in the file, in bits. It looks at one entry.
+    /// How many bits a sequence of list t takes as it stands in the file: what its parts cost, and in
+    /// a packed file of one part the payload alone, of one value none. It looks at one entry.
     pub fn seq_cost(&self, t: u32, which: Which) -> u64
         requires within { t < length self.now.collection.lists }
         ensures { result ≡ of.sequence_cost self.now t which }
     {
+        self.stands_for_a_collection();
+        let format = self.format();
         let list = self.list(t);
         match which {
-            Which::Docs => list.docs.cost(),
-            Which::Freqs => list.freqs.cost(),
+            Which::Docs => stored_cost(&list.docs, format),
+            Which::Freqs => stored_cost(&list.freqs, format),
         }
     }
 
@@ -192,7 +203,7 @@ impl<'a> Index<'a> {
         ensures freqs { result.freqs ≡ of.freqs_view (numbers_of self.now.format)
             (of.cut_list_at self.now t) }
     {
-        sequence_laws();
+        file_laws();
         list_views(self.words, t, self.format())
     }
 
@@ -203,6 +214,7 @@ impl<'a> Index<'a> {
             ≡ list_of self.now.collection t }
         ensures start { ⟦<PostingCursor<'a> as DocCursor>⟧.place result ≡ 0 }
     {
+        file_laws();
         cursor_at(self.words, t, self.format())
     }
 
@@ -212,7 +224,31 @@ impl<'a> Index<'a> {
         ensures { result ≡ option_map (λ p. (p.doc, p.freq))
             (first_at_least (list_of self.now.collection t) d) }
     {
+        file_laws();
         posting_from(self.words, t, d, self.format())
+    }
+}
+
+// How many bits a sequence takes as it stands in a file of a format.
+fn stored_cost(sequence: &SeqView, format: Format) -> u64
+    requires format { sequence.now.format ≡ numbers_of format }
+    requires cut { IsPartition (length sequence.now.values) sequence.now.ends }
+    ensures { result ≡ of.cost_of_view sequence.now }
+{
+    let cost = sequence.cost();
+    match format {
+        Format::One => cost,
+        Format::Two => cost,
+        Format::Three => {
+            if sequence.parts() != 1 {
+                return cost;
+            }
+            if sequence.len() == 1 {
+                0
+            } else {
+                cost - Format::Three.charge()
+            }
+        }
     }
 }
 
@@ -226,7 +262,7 @@ fn cursor_at<'a>(words: &'a [u64], t: u32, format: Format) -> PostingCursor<'a>
         → ⟦<PostingCursor<'a> as DocCursor>⟧.list result ≡ list_of c t }
     ensures start { ⟦<PostingCursor<'a> as DocCursor>⟧.place result ≡ 0 }
 {
-    sequence_laws();
+    file_laws();
     let list = list_views(words, t, format);
     PostingCursor::new(list.docs, list.freqs, list.greatest)
 }
@@ -240,7 +276,7 @@ fn posting_from(words: &[u64], t: u32, d: u32, format: Format) -> Option<(u32, u
         → Spells (numbers_of format) words.now c parts
         → result ≡ option_map (λ p. (p.doc, p.freq)) (first_at_least (list_of c t) d) }
 {
-    sequence_laws();
+    file_laws();
     let list = list_views(words, t, format);
     first_posting(&list.docs, &list.freqs, d)
 }

@@ -1,7 +1,11 @@
 ghost use Rattle.part_cost.specs.declared.formats.Format.{Format};
 ghost use Rattle.part_cost.specs.Formats.{numbers_of};
-ghost use Rattle.index_file.specs.Laws.{BytesAreSpelled, FilesSpellCollections, IndexIsRead, ListsAreCounted, NoVersionBreaks, OneBrokenCheck, OneIndex, SequenceLaws, WordsAreRead};
+ghost use Rattle.index_file.specs.Laws.{BytesAreSpelled, FilesSpellCollections, FileLaws, IndexIsRead, ListsAreCounted, NoVersionBreaks, OneBrokenCheck, OneIndex, SequenceLaws, WordsAreRead};
 
+use crate::packed_laws::one_packed_file;
+use bit_words::words_are_bits;
+use packed_list::{lists_are_short, lists_state_back};
+use part_codec::{one_list_at_place, part_takes_its_payload};
 use postings::{sequences_give_their_list, sequences_of_a_list_rise};
 use two_level::{one_sequence, sequences_pass_checks, words_state_their_sequence};
 
@@ -18,12 +22,12 @@ pub fn lists_are_counted()
 {}
 
 /// The file of a builder's lists, with a size for each document, is that of their collection, and
-/// the index of it where the format is one of plain files.
+/// the index of it where a file of its kind has room for them.
 pub fn files_spell_collections()
     ensures { FilesSpellCollections }
 {}
 
-/// An index is read in the format in which it is spelled: word 1 is the version of that format.
+/// An index is read in the format in which it is spelled.
 pub fn index_is_read()
     ensures { IndexIsRead }
 {}
@@ -32,14 +36,14 @@ pub fn index_is_read()
 pub fn one_index()
     ensures { OneIndex }
 {
-    sequence_laws();
+    file_laws();
 }
 
 /// Words that are no index have one first broken check, and an index has none.
 pub fn one_broken_check()
     ensures { OneBrokenCheck }
 {
-    sequence_laws();
+    file_laws();
 }
 
 /// Behind the opening word, a word 1 that is the version of no format of plain files is the first
@@ -57,4 +61,17 @@ pub(crate) fn sequence_laws()
     sequences_give_their_list();
     sequences_pass_checks();
     words_state_their_sequence();
+}
+
+// What holds of the lists and of the bits of files of both kinds.
+pub(crate) fn file_laws()
+    ensures { FileLaws }
+{
+    sequence_laws();
+    words_are_bits();
+    part_takes_its_payload();
+    one_list_at_place();
+    lists_state_back();
+    lists_are_short();
+    one_packed_file();
 }

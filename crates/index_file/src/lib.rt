@@ -11,7 +11,13 @@ mod index;
 mod laws;
 mod lists;
 mod measures;
+mod packed_builder;
+mod packed_checking;
+mod packed_frame;
+mod packed_laws;
+mod packed_views;
 mod partitions;
+mod plain_builder;
 mod totals;
 mod views;
 
@@ -23,3 +29,4 @@ pub use laws::{
     files_spell_collections, index_is_read, lists_are_counted, no_version_breaks, one_broken_check,
     one_index, words_and_bytes_undo_each_other,
 };
+pub use packed_laws::one_packed_file;

@@ -94,28 +94,37 @@ fn sums_cannot_begin(list: ListEntry, p: u64, frame: Frame, format: Format) -> b
     list.sums != p || frame.sizes < p + format.entry_words() * u64::from(list.sum_parts)
 }
 
-// Looks for the first check that breaks in the frequencies of list t, which are to begin at word p, and answers the word
+// List t, of which something is to begin at word p.
+#[derive(Clone, Copy)]
+struct ListPlace {
+    t: u32,
+    p: u64,
+}
+
+// Looks for the first check that breaks in the frequencies of a list, which are to begin at this place, and answers the word
 // behind them.
 fn check_sums(
     words: &[u64],
     frame: Frame,
     list: ListEntry,
-    t: u32,
-    p: u64,
+    at: ListPlace,
     format: Format,
 ) -> Result<u64, OpenFault>
     requires words { length words.now < 2 ^ 57 }
     requires frame { HasFrame (numbers_of format) words.now }
     requires numbers { StatesFrame words.now frame }
-    requires entry { StatesList words.now t list }
-    requires within { t < stated_terms words.now }
-    requires before { p ≤ stated_sizes words.now }
-    requires fit { parts_fit (stated_length words.now t) (stated_freq_parts words.now t) ≡ true }
+    requires entry { StatesList words.now at.t list }
+    requires within { at.t < stated_terms words.now }
+    requires before { at.p ≤ stated_sizes words.now }
+    requires fit { parts_fit (stated_length words.now at.t) (stated_freq_parts words.now at.t)
+        ≡ true }
     ensures ok { IfOk result (λ behind. (xs : List ℕ) × (ends : List ℕ) × (used : ℕ)
-        × FreqsStandAt (numbers_of format) words.now t p xs ends used × (behind ≡ p + used)) }
-    ensures first { IfErr result (λ f. IsFreqsFault (numbers_of format) words.now t p f) }
+        × FreqsStandAt (numbers_of format) words.now at.t at.p xs ends used
+        × (behind ≡ at.p + used)) }
+    ensures first { IfErr result (λ f. IsFreqsFault (numbers_of format) words.now at.t at.p f) }
 {
     sequence_laws();
+    let ListPlace { t, p } = at;
     if sums_cannot_begin(list, p, frame, format) {
         return Err(OpenFault {
             check: Check::K6,
@@ -166,7 +175,13 @@ pub(crate) fn check_list(
     }
     let rest = &words[p as usize..frame.sizes as usize];
     match SeqView::check_counting(rest, list.doc_parts, list.len, frame.documents, format) {
-        Ok(docs) => check_sums(words, frame, list, t, p + docs.used, format),
+        Ok(docs) => {
+            let at = ListPlace {
+                t,
+                p: p + docs.used,
+            };
+            check_sums(words, frame, list, at, format)
+        }
         Err(fault) => Err(fault_in(t, 0, fault)),
     }
 }

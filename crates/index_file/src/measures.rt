@@ -7,11 +7,10 @@ ghost use Rattle.index_file.specs.FirstBroken.{stated_terms};
 ghost use Rattle.index_file.specs.IndexView.{index_stated, cut_lists};
 ghost use Rattle.index_file.specs.Measures.{measure_at, measure_of_part, measure_of_list, IsMeasured};
 
-use crate::frame::frame_of;
-use crate::laws::sequence_laws;
+use crate::laws::file_laws;
+use crate::totals::walked_terms;
 use crate::views::list_views;
 use part_cost::{Format, Kind, part_is_relative};
-use postings::sequences_of_a_list_rise;
 use two_level::{Part, SeqView, sequence_takes_its_cost};
 
 // What is summed over the parts of an index.
@@ -60,7 +59,7 @@ fn of_list(measure: Measure, words: &[u64], t: u32, format: Format) -> u64
     ensures { result ≡ slice_index (map (measure_of_list measure)
         (cut_lists (index_stated words.now))) t }
 {
-    sequence_laws();
+    file_laws();
     sequence_takes_its_cost();
     let list = list_views(words, t, format);
     of_sequence(measure, &list.docs) + of_sequence(measure, &list.freqs)
@@ -73,11 +72,10 @@ pub(crate) fn of_index(measure: Measure, words: &[u64], format: Format) -> u64
         (index_stated words.now).parts }
     ensures { result ≡ sum_by (measure_of_list measure) (cut_lists (index_stated words.now)) }
 {
-    sequences_of_a_list_rise();
+    file_laws();
     sequence_takes_its_cost();
     let mut total = 0;
-    let terms = frame_of(words).terms as u32;
-    for t in 0..terms {
+    for t in 0..walked_terms(words, format) {
         total += of_list(measure, words, t, format);
     }
     total

@@ -1,53 +1,86 @@
-ghost use Rattle.std.specs.Prelude.{◌≡◌, ◌<◌, ◌^◌, sum_by, length};
+ghost use Rattle.std.specs.Prelude.{◌≡◌, ℕ, ◌≤◌, ◌<◌, ◌+◌, ◌/◌, ◌^◌, [], sum_by, length};
 ghost use Rattle.std.specs.List.{range_with_len};
-ghost use Rattle.part_cost.specs.declared.formats.Format.{Format};
+ghost use Rattle.collection_model.specs.Collection.{list_of};
 ghost use Rattle.part_cost.specs.Formats.{numbers_of};
-ghost use Rattle.index_file.specs.FirstBroken.{stated_documents, stated_terms, stated_sizes, stated_length};
-ghost use Rattle.index_file.specs.IndexView.{size_stated};
-ghost use Rattle.index_file.specs.ListAt.{HasFrame};
+ghost use Rattle.index_file.specs.FileWords.{IsIndexIn, Spells};
+ghost use Rattle.index_file.specs.FirstBroken.{stated_terms};
+ghost use Rattle.index_file.specs.IndexView.{index_stated, sizes_of_kind};
+ghost use Rattle.index_file.specs.PackedView.{size_at};
 
 use crate::frame::frame_of;
-use crate::lists::{halves, list_entry};
+use crate::laws::file_laws;
+use crate::lists::halves;
+use crate::packed_frame::{packed_frame_of, packed_sizes_of};
+use crate::views::list_views;
+use part_cost::Format;
+
+// The first word of sizes.
+pub(crate) fn sizes_from(words: &[u64], format: Format) -> u64
+    requires words { length words.now < 2 ^ 57 }
+    requires index { IsIndexIn (numbers_of format) words.now }
+    ensures { result ≡ sizes_of_kind (numbers_of format).kind words.now }
+{
+    file_laws();
+    match format {
+        Format::One => frame_of(words).sizes,
+        Format::Two => frame_of(words).sizes,
+        Format::Three => packed_sizes_of(packed_frame_of(words)),
+    }
+}
 
 // The size of document d, where the sizes begin at word `first`.
 pub(crate) fn size_at(words: &[u64], first: u64, d: u32) -> u32
     requires words { length words.now < 2 ^ 57 }
-    requires frame { (format : Format) × HasFrame (numbers_of format) words.now }
-    requires first { first ≡ stated_sizes words.now }
-    requires within { d < stated_documents words.now }
-    ensures { result ≡ size_stated words.now d }
+    requires within { first + d / 2 < length words.now }
+    ensures { result ≡ size_at words.now first d }
 {
     let at = first as usize + d as usize / 2;
     let (low, high) = halves(words[at]);
     if d % 2 == 0 { low } else { high }
 }
 
-// How many postings all lists have.
-pub(crate) fn all_postings(words: &[u64]) -> u64
+// The sum of the sizes of so many documents, which begin at word `first`.
+pub(crate) fn all_sizes(words: &[u64], first: u64, documents: u32) -> u64
     requires words { length words.now < 2 ^ 57 }
-    requires frame { (format : Format) × HasFrame (numbers_of format) words.now }
-    ensures { result ≡ sum_by (stated_length words.now)
-        (range_with_len 0 (stated_terms words.now)) }
+    requires within { first + (documents + 1) / 2 ≤ length words.now }
+    ensures { result ≡ sum_by (size_at words.now first) (range_with_len 0 documents) }
 {
     let mut total = 0;
-    let frame = frame_of(words);
-    for t in 0..frame.terms as u32 {
-        total += u64::from(list_entry(words, frame, t).len);
+    for d in 0..documents {
+        total += u64::from(size_at(words, first, d));
     }
     total
 }
 
-// The sum of all sizes.
-pub(crate) fn all_sizes(words: &[u64]) -> u64
+// How many lists a walk over all looks at: none where a packed file has no list bits, since then
+// all its lists are without postings.
+pub(crate) fn walked_terms(words: &[u64], format: Format) -> u32
     requires words { length words.now < 2 ^ 57 }
-    requires frame { (format : Format) × HasFrame (numbers_of format) words.now }
-    ensures { result ≡ sum_by (size_stated words.now)
-        (range_with_len 0 (stated_documents words.now)) }
+    requires index { Spells (numbers_of format) words.now (index_stated words.now).collection
+        (index_stated words.now).parts }
+    ensures within { result ≤ stated_terms words.now }
+    ensures rest { (t : ℕ) → result ≤ t → list_of (index_stated words.now).collection t ≡ [] }
 {
+    file_laws();
+    if let Format::Three = format {
+        if packed_frame_of(words).bits == 0 {
+            return 0;
+        }
+    }
+    frame_of(words).terms as u32
+}
+
+// How many postings all lists have.
+pub(crate) fn all_postings(words: &[u64], format: Format) -> u64
+    requires words { length words.now < 2 ^ 57 }
+    requires index { Spells (numbers_of format) words.now (index_stated words.now).collection
+        (index_stated words.now).parts }
+    ensures { result ≡ sum_by length (index_stated words.now).collection.lists }
+{
+    file_laws();
     let mut total = 0;
-    let frame = frame_of(words);
-    for d in 0..frame.documents as u32 {
-        total += u64::from(size_at(words, frame.sizes, d));
+    for t in 0..walked_terms(words, format) {
+        total += u64::from(list_views(words, t, format).docs.len());
     }
     total
 }

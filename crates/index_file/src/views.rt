@@ -1,13 +1,15 @@
 ghost use Rattle.std.specs.Prelude.{◌≡◌, ◌≤◌, ◌<◌, ◌^◌, length, drop};
 ghost use Rattle.part_cost.specs.Formats.{numbers_of};
 ghost use Rattle.two_level.specs.SequenceView.{SequenceView, BeginWith};
-ghost use Rattle.index_file.specs.FileWords.{IsIndexIn};
+ghost use Rattle.index_file.specs.FileWords.{IsPlainIn, IsIndexIn};
 ghost use Rattle.index_file.specs.FirstBroken.{stated_terms, stated_greatest};
-ghost use Rattle.index_file.specs.IndexView.{docs_stated, freqs_stated};
+ghost use Rattle.index_file.specs.IndexView.{docs_stated, freqs_stated, list_of_kind};
 
 use crate::frame::frame_of;
-use crate::laws::sequence_laws;
+use crate::laws::{file_laws, sequence_laws};
 use crate::lists::list_entry;
+use crate::packed_views::packed_list_views;
+use packed_list::PackedList;
 use part_cost::Format;
 use two_level::SeqView;
 
@@ -19,10 +21,43 @@ pub(crate) struct ListViews<'a> {
     pub(crate) greatest: u32,
 }
 
-// List t of the words of an index.
+// List t of the words of an index in a format.
 pub(crate) fn list_views<'a>(words: &'a [u64], t: u32, format: Format) -> ListViews<'a>
     requires words { length words.now < 2 ^ 57 }
     requires index { IsIndexIn (numbers_of format) words.now }
+    requires within { t < stated_terms words.now }
+    ensures docs { result.docs ≡ (list_of_kind (numbers_of format).kind (numbers_of format)
+        words.entry.now t).docs }
+    ensures freqs { result.freqs ≡ (list_of_kind (numbers_of format).kind (numbers_of format)
+        words.entry.now t).freqs }
+    ensures greatest { result.greatest ≡ (list_of_kind (numbers_of format).kind (numbers_of format)
+        words.entry.now t).most }
+{
+    file_laws();
+    match format {
+        Format::One => plain_list_views(words, t, Format::One),
+        Format::Two => plain_list_views(words, t, Format::Two),
+        Format::Three => views_of(packed_list_views(words, t)),
+    }
+}
+
+// A list of a packed file, as one of a file of any kind.
+fn views_of<'a>(list: PackedList<'a>) -> ListViews<'a>
+    ensures docs { result.docs ≡ list.entry.docs }
+    ensures freqs { result.freqs ≡ list.entry.freqs }
+    ensures greatest { result.greatest ≡ list.entry.greatest }
+{
+    ListViews {
+        docs: list.docs,
+        freqs: list.freqs,
+        greatest: list.greatest,
+    }
+}
+
+// List t of the words of a plain file.
+fn plain_list_views<'a>(words: &'a [u64], t: u32, format: Format) -> ListViews<'a>
+    requires words { length words.now < 2 ^ 57 }
+    requires index { IsPlainIn (numbers_of format) words.now }
     requires within { t < stated_terms words.now }
     ensures docs { result.docs ≡ docs_stated (numbers_of format) words.entry.now t }
     ensures freqs { result.freqs ≡ freqs_stated (numbers_of format) words.entry.now t }

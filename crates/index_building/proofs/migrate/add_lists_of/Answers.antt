@@ -1,18 +1,36 @@
 -- Each list keeps what is made.
-use Rattle.std.proofs.Common.{◌≡◌, sym, ap, ◌∙◌, subst, ℕ, ◌+◌, ◌*◌, ◌≤◌, ◌<◌, List, [], ◌∷◌, length, drop, arith}
+use Rattle.std.proofs.Common.{◌≡◌, refl, sym, ap, ◌∙◌, subst, ℕ, ◌+◌, ◌*◌, ◌≤◌, ◌<◌, List, [], ◌∷◌, length, drop, arith}
 use Rattle.std.proofs.lemmas.List.{drop_all}
-use Rattle.collection_model.specs.Collection.{postings_of}
-use Rattle.part_cost.specs.declared.formats.Format.TheVariants.{Two}
+use Rattle.collection_model.specs.Collection.{IsPostingList, postings_of}
+use Rattle.part_cost.specs.Formats.{numbers_of}
 use Rattle.cost_windows.specs.WindowBounds.{window_bounds}
 use Rattle.index_file.specs.Builder.{AddsList}
-use Rattle.index_building.proofs.AddedFromLists.{making-more, making-ends, next-has_room}
-use Rattle.index_building.proofs.Migrating.{next-list}
+use Rattle.index_building.proofs.AddedFromLists.{making-begins, making-more, making-ends, next-fits, next-has_room}
+use Rattle.index_building.proofs.Migrating.{list-at, next-list}
 use Rattle.index_building.proofs.migrate.add_lists_of.Goals as goal
+
+pub new-requires : goal.new-requires
+new-requires g c = omega (arith, c.documents.ensures, c.stands_for_a_collection.ensures.well_formed.documents, c.requires.documents)
+
+pub loop-term-init : goal.loop-term-init
+loop-term-init g c =
+    let all = c.args.index.now.collection in
+    let b = c.in_ok-builder in
+    making-begins c.args.format all all.lists b.builder c.args.steps.now refl b.ensures.format (b.ensures.documents ∙ c.documents.ensures) b.ensures.no_list
+
+pub add_list-requires-clause-list : goal.add_list-requires-clause-list
+add_list-requires-clause-list g c =
+    let within : c.loop-term.term < length c.args.index.now.collection.lists = omega (arith, c.loop-term-test.true, c.terms-term-end.ensures) in
+    let P : List ℕ → List ℕ → Type 0 = λ d f. IsPostingList (numbers_of c.loop-term.builder.format) c.loop-term.builder.documents (postings_of d f) in
+    let at = list-at (numbers_of c.args.index.now.format) (numbers_of c.args.format) c.requires c.args.index.now.collection c.loop-term.term c.stands_for_a_collection.ensures.well_formed within in
+    let fits = next-fits c.args.format c.args.index.now.collection _ _ _ _ _ c.loop-term.invariant
+    (subst (IsPostingList (numbers_of c.args.format) c.args.index.now.collection.documents) (sym (c.in_ok-read_list.ensures.list ∙ c.cursor.ensures.list)) at) in
+    subst (λ d. P d c.deref-in-loop-term.result.now) (sym c.deref.ensures.value) (subst (P c.read_list.new.docs.items) (sym c.deref-in-loop-term.ensures.value) fits)
 
 pub add_list-requires-clause-room : goal.add_list-requires-clause-room
 add_list-requires-clause-room g c =
     let within : c.loop-term.term < length c.args.index.now.collection.lists = omega (arith, c.loop-term-test.true, c.terms-term-end.ensures) in
-    next-has_room c.lists_are_counted.ensures Two c.args.index.now.collection _ _ _ _ _ _ c.loop-term.invariant (next-list c.args.index.now.collection c.loop-term.term within)
+    next-has_room c.lists_are_counted.ensures c.args.format c.args.index.now.collection _ _ _ _ _ _ c.loop-term.invariant (next-list c.args.index.now.collection c.loop-term.term within)
     c.stands_for_a_collection.ensures.well_formed.terms
 
 pub loop-term-preserved : goal.loop-term-preserved
@@ -30,9 +48,9 @@ loop-term-preserved g c =
     subst (λ d. Adds d freqs) c.deref.ensures.value (subst (Adds c.deref.result.now) c.deref-in-loop-term.ensures.value c.in_ok-add_list.ensures.ok) in
     let most =
     subst (λ d. c.add_list.new.steps ≤ c.loop-term.steps + 6 * length (window_bounds old.format) * (length d + 1)) c.deref.ensures.value c.add_list.ensures.bounded in
-    making-more Two c.args.index.now.collection _ _ _ _ docs freqs _ _ _ c.loop-term.invariant next c.in_ok-read_list.ensures.same_length adds most
+    making-more c.args.format c.args.index.now.collection _ _ _ _ docs freqs _ _ _ c.loop-term.invariant next c.in_ok-read_list.ensures.same_length adds most
 
 pub returns : goal.returns
 returns g c =
     let last : drop c.loop-term.term c.args.index.now.collection.lists ≡ [] = drop_all c.loop-term.term c.args.index.now.collection.lists (omega (arith, c.loop-term-test.false, c.terms-term-end.ensures)) in
-    making-ends Two c.args.index.now.collection _ _ _ _ c.loop-term.invariant last
+    making-ends c.args.format c.args.index.now.collection _ _ _ _ c.loop-term.invariant last

@@ -1,7 +1,6 @@
 use Rattle.std.proofs.Common.{drop}
-use Rattle.part_cost.specs.declared.formats.Format.TheVariants.{Two}
 use Rattle.index_building.specs.AddedFromLists.{IsMaking}
 use Rattle.index_building.proofs.migrate.add_lists_of.Given as goal
 
 abbrev pub invariant-loop-term : goal.invariant-loop-term
-invariant-loop-term g l = IsMaking Two l.index.collection (drop l.term l.index.collection.lists) l.builder l.initial.steps l.steps
+invariant-loop-term g l = IsMaking l.fn.format l.index.collection (drop l.term l.index.collection.lists) l.builder l.initial.steps l.steps

@@ -13,8 +13,9 @@ loop-t-init c = ([], reached-first (numbers_of c.args.format) c.args.words.now c
 
 pub loop-t-preserved : goal.loop-t-preserved
 loop-t-preserved c =
+    let r = c.loop-t.invariant in
     let next = c.in_ok-p.ensures.ok in
-    (c.loop-t.invariant.0 ++ next.0 ∷ [], reached-next (numbers_of c.args.format) c.args.words.now c.loop-t.t c.loop-t.p c.in_ok-p.p c.loop-t.invariant.0 next.0 c.loop-t.invariant.1 next.1 next.2)
+    (r.0 ++ next.0 ∷ [], reached-next (numbers_of c.args.format) c.args.words.now c.loop-t.t c.loop-t.p c.in_ok-p.p r.0 next.0 r.1 next.1 next.2)
 
 pub returns-in_err-p-clause-first : goal.returns-in_err-p-clause-first
 returns-in_err-p-clause-first c =
@@ -29,5 +30,6 @@ returns-in_err-p-clause-first c =
 
 pub returns-clause-ok : goal.returns-clause-ok
 returns-clause-ok c =
-    let all : length c.loop-t.invariant.0 ≡ stated_terms c.args.words.now = omega (arith, c.loop-t.invariant.1.count, c.loop-t-test.false, c.loop-t.auto.t-end, c.requires.numbers.terms) in
-    (c.loop-t.invariant.0, reached-prefix (numbers_of c.args.format) c.args.words.now c.loop-t.t c.loop-t.p c.loop-t.invariant.0 c.requires.frame (omega (arith, c.loop-t.invariant.1.count, all)) c.loop-t.invariant.1, all, c.loop-t.invariant.1.place)
+    let r = c.loop-t.invariant in
+    let all : length c.loop-t.invariant.0 ≡ stated_terms c.args.words.now = omega (arith, r.1.count, c.loop-t-test.false, c.loop-t.auto.t-end, c.requires.numbers.terms) in
+    (r.0, reached-prefix (numbers_of c.args.format) c.args.words.now c.loop-t.t c.loop-t.p r.0 c.requires.frame (omega (arith, r.1.count, all)) r.1, all, r.1.place)

@@ -1,24 +1,20 @@
-use Rattle.std.proofs.Common.{List, ◌∙◌, ap}
+use Rattle.std.proofs.Common.{◌∙◌, ap, arith}
 use Rattle.std.specs.Prelude.{option_map}
-use Rattle.collection_model.specs.Collection.{Collection, list_of, first_at_least}
-use Rattle.part_cost.specs.Formats.{numbers_of}
-use Rattle.part_cost.proofs.Rooms.{formats-have-room}
-use Rattle.index_file.specs.FileWords.{ListParts, Spells}
-use Rattle.index_file.proofs.Reading.{AreOfList, list-read}
+use Rattle.collection_model.specs.Collection.{first_at_least}
+use Rattle.index_file.proofs.FileKinds.{list-of-views, narrow-words}
 use Rattle.index_file.proofs.index.posting_from.Goals as goal
-use Rattle.index_file.proofs.index.posting_from.Goals.{After-list_views-list}
-
--- what was read is the list of each collection that the words spell
-read-as : (c : After-list_views-list) (collection : Collection) (parts : List ListParts) → Spells (numbers_of c.args.format) c.args.words.now collection parts → AreOfList c.list_views-list.result.docs c.list_views-list.result.freqs c.list_views-list.result.greatest (list_of collection c.args.t)
-read-as c collection parts h =
-    list-read (numbers_of c.args.format) (formats-have-room c.args.format) (c.sequence_laws.ensures c.args.format) c.args.words.now collection parts h c.args.t c.requires.within
-    c.list_views-list.result.docs c.list_views-list.result.freqs c.list_views-list.result.greatest c.list_views-list.ensures.docs c.list_views-list.ensures.freqs c.list_views-list.ensures.greatest
 
 pub first_posting-requires : goal.first_posting-requires
 first_posting-requires c =
-    let read = read-as (goal.at.first_posting-requires c).After-list_views-list c.requires.index.0 c.requires.index.1 c.requires.index.2 in
+    let list = c.list_views-list in
+    let i = c.requires.index in
+    let read = list-of-views c.file_laws.ensures c.args.format c.args.words.now (narrow-words c.args.words.now (λ k. omega (arith, c.type_inv.words k))) i.0 i.1 i.2 c.args.t c.requires.within
+    list.result.docs list.result.freqs list.result.greatest list.ensures.docs list.ensures.freqs list.ensures.greatest in
     record { same_length = read.same_length; list = read.cursor }
 
 pub returns : goal.returns
 returns c collection parts h =
-    c.first_posting.ensures ∙ ap (λ ps. option_map (λ p. (p.doc, p.freq)) (first_at_least ps c.args.d)) (read-as (goal.at.returns c).After-list_views-list collection parts h).give
+    let list = c.list_views-list in
+    let read = list-of-views c.file_laws.ensures c.args.format c.args.words.now (narrow-words c.args.words.now (λ k. omega (arith, c.type_inv.words k))) collection parts h c.args.t c.requires.within
+    list.result.docs list.result.freqs list.result.greatest list.ensures.docs list.ensures.freqs list.ensures.greatest in
+    c.first_posting.ensures ∙ ap (λ ps. option_map (λ p. (p.doc, p.freq)) (first_at_least ps c.args.d)) read.give

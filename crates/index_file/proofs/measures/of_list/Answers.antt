@@ -1,28 +1,48 @@
-use Rattle.std.proofs.Common.{map, ◌+◌, ◌∙◌, arith}
-use Rattle.std.specs.Prelude.{slice_index}
-use Rattle.index_file.specs.IndexView.{index_stated, cut_lists}
-use Rattle.index_file.specs.Measures.{measure_of_list}
-use Rattle.index_file.proofs.Measured.{MeasuredViews, views-measured}
+use Rattle.std.proofs.Common.{◌+◌, ◌∙◌, arith}
+use Rattle.index_file.specs.IndexView.{index_stated}
+use Rattle.index_file.proofs.FileKinds.{framed, narrow-words}
+use Rattle.index_file.proofs.MeasuredFiles.{views-measured}
 use Rattle.index_file.proofs.measures.of_list.Goals as goal
-use Rattle.index_file.proofs.measures.of_list.Goals.{After-list_views-list}
-
--- the two sequences of the list
-measured : (c : After-list_views-list) → MeasuredViews c.args.measure c.list_views-list.result.docs c.list_views-list.result.freqs (slice_index (map (measure_of_list c.args.measure) (cut_lists (index_stated c.args.words.now))) c.args.t)
-measured c =
-    views-measured c.args.measure c.args.format c.sequence_laws.ensures c.sequence_takes_its_cost.ensures c.requires.words c.requires.index c.requires.within c.list_views-list.ensures.docs c.list_views-list.ensures.freqs
 
 pub list_views-list-requires-clause-index : goal.list_views-list-requires-clause-index
 list_views-list-requires-clause-index c = let stated = index_stated c.args.words.now in (stated.collection, stated.parts, c.requires.index)
 
 pub of_sequence-requires : goal.of_sequence-requires
-of_sequence-requires c = record { measured = (measured (goal.at.of_sequence-requires c).After-list_views-list).docs }
+of_sequence-requires c =
+    let words = c.args.words.now in
+    let i = index_stated c.args.words.now in
+    let narrow = narrow-words words (λ k. omega (arith, c.type_inv.words k)) in
+    let f = framed c.file_laws.ensures.takes c.args.format words i.collection i.parts c.requires.index in
+    let list = c.list_views-list in
+    let views = views-measured c.file_laws.ensures c.sequence_takes_its_cost.ensures c.args.measure c.args.format words narrow c.requires.words i.collection i.parts c.requires.index c.args.t (omega (arith, c.requires.within, f.terms)) list.result.docs list.result.freqs list.ensures.docs list.ensures.freqs in
+    record { measured = views.docs }
 
 pub of_sequence-requires-2 : goal.of_sequence-requires-2
-of_sequence-requires-2 c = record { measured = (measured (goal.at.of_sequence-requires-2 c).After-list_views-list).freqs }
+of_sequence-requires-2 c =
+    let words = c.args.words.now in
+    let i = index_stated c.args.words.now in
+    let narrow = narrow-words words (λ k. omega (arith, c.type_inv.words k)) in
+    let f = framed c.file_laws.ensures.takes c.args.format words i.collection i.parts c.requires.index in
+    let list = c.list_views-list in
+    let views = views-measured c.file_laws.ensures c.sequence_takes_its_cost.ensures c.args.measure c.args.format words narrow c.requires.words i.collection i.parts c.requires.index c.args.t (omega (arith, c.requires.within, f.terms)) list.result.docs list.result.freqs list.ensures.docs list.ensures.freqs in
+    record { measured = views.freqs }
 
 pub overflow_add-result : goal.overflow_add-result
 overflow_add-result c =
-    omega (arith, c.of_sequence.ensures, c.of_sequence-2.ensures, (measured (goal.at.overflow_add-result c).After-list_views-list).docs.small, (measured (goal.at.overflow_add-result c).After-list_views-list).freqs.small)
+    let words = c.args.words.now in
+    let i = index_stated c.args.words.now in
+    let narrow = narrow-words words (λ k. omega (arith, c.type_inv.words k)) in
+    let f = framed c.file_laws.ensures.takes c.args.format words i.collection i.parts c.requires.index in
+    let list = c.list_views-list in
+    let views = views-measured c.file_laws.ensures c.sequence_takes_its_cost.ensures c.args.measure c.args.format words narrow c.requires.words i.collection i.parts c.requires.index c.args.t (omega (arith, c.requires.within, f.terms)) list.result.docs list.result.freqs list.ensures.docs list.ensures.freqs in
+    omega (arith, c.of_sequence.ensures, c.of_sequence-2.ensures, views.docs.small, views.freqs.small)
 
 pub returns : goal.returns
-returns c = (λ i. c.of_sequence.ensures i + c.of_sequence-2.ensures i) ∙ (measured (goal.at.returns c).After-list_views-list).adds
+returns c =
+    let words = c.args.words.now in
+    let i = index_stated c.args.words.now in
+    let narrow = narrow-words words (λ k. omega (arith, c.type_inv.words k)) in
+    let f = framed c.file_laws.ensures.takes c.args.format words i.collection i.parts c.requires.index in
+    let list = c.list_views-list in
+    let views = views-measured c.file_laws.ensures c.sequence_takes_its_cost.ensures c.args.measure c.args.format words narrow c.requires.words i.collection i.parts c.requires.index c.args.t (omega (arith, c.requires.within, f.terms)) list.result.docs list.result.freqs list.ensures.docs list.ensures.freqs in
+    (λ i. c.of_sequence.ensures i + c.of_sequence-2.ensures i) ∙ views.adds

@@ -1,24 +1,25 @@
-use Rattle.std.proofs.Common.{◌≡◌, ◌<◌, ◌≤◌, ◌-◌, length, slice_index, arith, ap, ◌∙◌}
+use Rattle.std.proofs.Common.{◌≡◌, ◌<◌, ◌-◌, length, slice_index, arith, ap, ◌∙◌}
 use Rattle.two_level.specs.SequenceView.{start_of_part}
 use Rattle.index_file.specs.Measures.{measure_at, measure_of_part}
 use Rattle.index_file.proofs.Measured.{part-rises, part-begins, cost-next}
 use Rattle.index_file.proofs.measures.of_sequence.Goals as goal
-use Rattle.index_file.proofs.measures.of_sequence.Goals.{After-part}
-
--- the part that is read begins before its end, which is within the sequence
-rises : (c : After-part) → (c.part.result.from < c.part.result.to) × (c.part.result.to ≤ length c.args.sequence.now.values)
-rises c =
-    let v = c.args.sequence.now in
-    let there = part-rises 0 (length v.values) v.ends c.requires.measured.partition c.loop-i.i (start_of_part v.ends c.loop-i.i) (omega (arith, c.parts-i-end.ensures)) (part-begins v.ends c.loop-i.i) in
-    (omega (arith, there.0, c.part.ensures.start, c.part.ensures.end), omega (arith, there.1, c.part.ensures.end))
 
 pub of_part-total-requires-clause-some : goal.of_part-total-requires-clause-some
-of_part-total-requires-clause-some c = (rises (goal.at.of_part-total-requires-clause-some c).After-part).0
+of_part-total-requires-clause-some c =
+    let v = c.args.sequence.now in
+    let i = c.loop-i.i in
+    let lt : c.loop-i.i < length c.args.sequence.now.ends = omega (arith, c.parts-i-end.ensures) in
+    let rises = part-rises 0 (length v.values) v.ends c.requires.measured.partition i (start_of_part v.ends i) lt (part-begins v.ends i) in
+    omega (arith, rises.0, c.part.ensures.start, c.part.ensures.end)
 
 pub of_part-total-requires-clause-fit : goal.of_part-total-requires-clause-fit
 of_part-total-requires-clause-fit c =
-    let room = c.part_is_relative.ensures.room c.args.sequence.now.values c.requires.measured.rising c.part.result.from c.part.result.to
-    (rises (goal.at.of_part-total-requires-clause-fit c).After-part).0 (rises (goal.at.of_part-total-requires-clause-fit c).After-part).1 in
+    let v = c.args.sequence.now in
+    let i = c.loop-i.i in
+    let lt : c.loop-i.i < length c.args.sequence.now.ends = omega (arith, c.parts-i-end.ensures) in
+    let rises = part-rises 0 (length v.values) v.ends c.requires.measured.partition i (start_of_part v.ends i) lt (part-begins v.ends i) in
+    let room = c.part_is_relative.ensures.room v.values c.requires.measured.rising c.part.result.from c.part.result.to
+    (omega (arith, rises.0, c.part.ensures.start, c.part.ensures.end)) (omega (arith, rises.1, c.part.ensures.end)) in
     omega (arith, room, c.part.ensures.universe_of_part)
 
 pub loop-i-preserved : goal.loop-i-preserved

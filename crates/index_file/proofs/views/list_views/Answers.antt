@@ -1,63 +1,56 @@
-use Rattle.std.proofs.Common.{◌≡◌, refl, sym, ◌∙◌, drop, arith}
-use Rattle.collection_model.specs.Collection.{list_of}
+use Rattle.std.proofs.Common.{refl, sym, ap, ◌∙◌, subst}
+use Rattle.part_cost.specs.declared.formats.Format.TheVariants.{One, Two, Three}
 use Rattle.part_cost.specs.Formats.{numbers_of}
-use Rattle.part_cost.proofs.Rooms.{formats-have-room}
-use Rattle.two_level.specs.SequenceView.{BeginWith}
-use Rattle.index_file.specs.FileWords.{CutList}
-use Rattle.index_file.specs.FirstBroken.{term_word, stated_length, stated_doc_parts, stated_freq_parts}
-use Rattle.index_file.specs.IndexView.{docs_view, freqs_view}
-use Rattle.index_file.proofs.Reading.{OpenedList, opened-list, has-frame, begin-as, docs-read, freqs-read}
+use Rattle.index_file.specs.FileWords.{IsIndexIn}
+use Rattle.index_file.specs.IndexView.{list_of_kind}
+use Rattle.index_file.proofs.FileKinds.{to-plain, to-packed}
+use Rattle.index_file.proofs.Both.{file-passes}
 use Rattle.index_file.proofs.views.list_views.Goals as goal
-use Rattle.index_file.proofs.views.list_views.Goals.{After-list_entry-list}
 
--- the list, as it stands in the words
-opened : (c : After-list_entry-list) → (x : CutList) × OpenedList (numbers_of c.args.format) c.args.words.now c.args.t x × (list_of c.requires.index.0 c.args.t ≡ x.list)
-opened c =
-    opened-list (numbers_of c.args.format) (formats-have-room c.args.format) (c.sequence_laws.ensures c.args.format) c.args.words.now c.requires.index.0 c.requires.index.1 c.requires.index.2 c.args.t c.requires.within
+pub plain_list_views-requires-clause-index : goal.plain_list_views-requires-clause-index
+plain_list_views-requires-clause-index c =
+    let words = c.args.words.now in
+    let i : IsIndexIn (numbers_of One) c.args.words.now = subst (λ v. IsIndexIn (numbers_of v) words) c.in-One.is c.requires.index in
+    (i.0, i.1, to-plain One words i.0 i.1 refl i.2)
 
--- its documents begin where its entry says
-docs-begin : (c : After-list_entry-list) → BeginWith (drop c.list_entry-list.result.docs c.args.words.now) c.list_entry-list.result.doc_parts c.list_entry-list.result.len (docs_view (numbers_of c.args.format) (opened c).0)
-docs-begin c =
-    begin-as c.args.words.now c.list_entry-list.result.docs (term_word c.args.words.now c.args.t 0) c.list_entry-list.result.len (stated_length c.args.words.now c.args.t) c.list_entry-list.result.doc_parts (stated_doc_parts c.args.words.now c.args.t) (docs_view (numbers_of c.args.format) (opened c).0) c.list_entry-list.ensures.docs c.list_entry-list.ensures.len c.list_entry-list.ensures.doc_parts (opened c).1.docs
+pub returns-in-One-clause-docs : goal.returns-in-One-clause-docs
+returns-in-One-clause-docs c = c.plain_list_views.ensures.docs ∙ ap (λ v. (list_of_kind (numbers_of v).kind (numbers_of v) c.args.words.now c.args.t).docs) (sym c.in-One.is)
 
--- and its frequencies
-freqs-begin : (c : After-list_entry-list) → BeginWith (drop c.list_entry-list.result.sums c.args.words.now) c.list_entry-list.result.sum_parts c.list_entry-list.result.len (freqs_view (numbers_of c.args.format) (opened c).0)
-freqs-begin c =
-    begin-as c.args.words.now c.list_entry-list.result.sums (term_word c.args.words.now c.args.t 1) c.list_entry-list.result.len (stated_length c.args.words.now c.args.t) c.list_entry-list.result.sum_parts (stated_freq_parts c.args.words.now c.args.t) (freqs_view (numbers_of c.args.format) (opened c).0) c.list_entry-list.ensures.sums c.list_entry-list.ensures.len c.list_entry-list.ensures.sum_parts (opened c).1.freqs
+pub returns-in-One-clause-freqs : goal.returns-in-One-clause-freqs
+returns-in-One-clause-freqs c = c.plain_list_views.ensures.freqs ∙ ap (λ v. (list_of_kind (numbers_of v).kind (numbers_of v) c.args.words.now c.args.t).freqs) (sym c.in-One.is)
 
-pub frame_of-requires : goal.frame_of-requires
-frame_of-requires c =
-    omega (arith, (has-frame (numbers_of c.args.format) c.args.words.now c.requires.index.0 c.requires.index.1 c.requires.index.2).some)
+pub returns-in-One-clause-greatest : goal.returns-in-One-clause-greatest
+returns-in-One-clause-greatest c = c.plain_list_views.ensures.greatest ∙ ap (λ v. (list_of_kind (numbers_of v).kind (numbers_of v) c.args.words.now c.args.t).most) (sym c.in-One.is)
 
-pub list_entry-list-requires-clause-frame : goal.list_entry-list-requires-clause-frame
-list_entry-list-requires-clause-frame c = let i = c.requires.index in (c.args.format, has-frame (numbers_of c.args.format) c.args.words.now i.0 i.1 i.2)
+pub plain_list_views-requires-in-Two-clause-index : goal.plain_list_views-requires-in-Two-clause-index
+plain_list_views-requires-in-Two-clause-index c =
+    let words = c.args.words.now in
+    let i : IsIndexIn (numbers_of Two) c.args.words.now = subst (λ v. IsIndexIn (numbers_of v) words) c.in-Two.is c.requires.index in
+    (i.0, i.1, to-plain Two words i.0 i.1 refl i.2)
 
-pub known_at-docs-requires-clause-within : goal.known_at-docs-requires-clause-within
-known_at-docs-requires-clause-within c =
-    omega (arith, (opened (goal.at.known_at-docs-requires-clause-within c).After-list_entry-list).1.docs_within, c.list_entry-list.ensures.docs)
+pub returns-in-Two-clause-docs : goal.returns-in-Two-clause-docs
+returns-in-Two-clause-docs c = c.plain_list_views-in-Two.ensures.docs ∙ ap (λ v. (list_of_kind (numbers_of v).kind (numbers_of v) c.args.words.now c.args.t).docs) (sym c.in-Two.is)
 
-pub known_at-docs-requires-clause-checked : goal.known_at-docs-requires-clause-checked
-known_at-docs-requires-clause-checked c =
-    let at = (goal.at.known_at-docs-requires-clause-checked c).After-list_entry-list in
-    (docs_view (numbers_of c.args.format) (opened at).0, refl, docs-begin at)
+pub returns-in-Two-clause-freqs : goal.returns-in-Two-clause-freqs
+returns-in-Two-clause-freqs c = c.plain_list_views-in-Two.ensures.freqs ∙ ap (λ v. (list_of_kind (numbers_of v).kind (numbers_of v) c.args.words.now c.args.t).freqs) (sym c.in-Two.is)
 
-pub known_at-freqs-requires-clause-within : goal.known_at-freqs-requires-clause-within
-known_at-freqs-requires-clause-within c =
-    omega (arith, (opened (goal.at.known_at-freqs-requires-clause-within c).After-list_entry-list).1.freqs_within, c.list_entry-list.ensures.sums)
+pub returns-in-Two-clause-greatest : goal.returns-in-Two-clause-greatest
+returns-in-Two-clause-greatest c = c.plain_list_views-in-Two.ensures.greatest ∙ ap (λ v. (list_of_kind (numbers_of v).kind (numbers_of v) c.args.words.now c.args.t).most) (sym c.in-Two.is)
 
-pub known_at-freqs-requires-clause-checked : goal.known_at-freqs-requires-clause-checked
-known_at-freqs-requires-clause-checked c =
-    let at = (goal.at.known_at-freqs-requires-clause-checked c).After-list_entry-list in
-    (freqs_view (numbers_of c.args.format) (opened at).0, refl, freqs-begin at)
+pub packed_list_views-requires-clause-passes : goal.packed_list_views-requires-clause-passes
+packed_list_views-requires-clause-passes c =
+    let words = c.args.words.now in
+    let i : IsIndexIn (numbers_of Three) c.args.words.now = subst (λ v. IsIndexIn (numbers_of v) words) c.in-Three.is c.requires.index in
+    file-passes c.file_laws.ensures words i.0 i.1 (to-packed words i.0 i.1 i.2)
 
-pub returns-clause-docs : goal.returns-clause-docs
-returns-clause-docs c =
-    let at = (goal.at.returns-clause-docs c).After-list_entry-list in
-    c.known_at-docs.ensures.same (docs_view (numbers_of c.args.format) (opened at).0) refl (docs-begin at)
-    ∙ sym (docs-read (numbers_of c.args.format) (c.sequence_laws.ensures c.args.format) c.args.words.now c.args.t (opened at).0 (opened at).1)
+pub returns-in-Three-clause-docs : goal.returns-in-Three-clause-docs
+returns-in-Three-clause-docs c =
+    c.views_of.ensures.docs ∙ c.packed_list_views.ensures.docs ∙ ap (λ v. (list_of_kind (numbers_of v).kind (numbers_of v) c.args.words.now c.args.t).docs) (sym c.in-Three.is)
 
-pub returns-clause-freqs : goal.returns-clause-freqs
-returns-clause-freqs c =
-    let at = (goal.at.returns-clause-freqs c).After-list_entry-list in
-    c.known_at-freqs.ensures.same (freqs_view (numbers_of c.args.format) (opened at).0) refl (freqs-begin at)
-    ∙ sym (freqs-read (numbers_of c.args.format) (c.sequence_laws.ensures c.args.format) c.args.words.now c.args.t (opened at).0 (opened at).1)
+pub returns-in-Three-clause-freqs : goal.returns-in-Three-clause-freqs
+returns-in-Three-clause-freqs c =
+    c.views_of.ensures.freqs ∙ c.packed_list_views.ensures.freqs ∙ ap (λ v. (list_of_kind (numbers_of v).kind (numbers_of v) c.args.words.now c.args.t).freqs) (sym c.in-Three.is)
+
+pub returns-in-Three-clause-greatest : goal.returns-in-Three-clause-greatest
+returns-in-Three-clause-greatest c =
+    c.views_of.ensures.greatest ∙ c.packed_list_views.ensures.greatest ∙ ap (λ v. (list_of_kind (numbers_of v).kind (numbers_of v) c.args.words.now c.args.t).most) (sym c.in-Three.is)

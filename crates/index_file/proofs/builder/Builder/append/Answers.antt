@@ -1,76 +1,180 @@
-use Rattle.std.proofs.Common.{◌≡◌, ◌∙◌, sym, ap, subst, rules, arith, ◌/◌, ◌^◌, ◌≤◌, ◌<◌, ◌++◌, length}
-use Rattle.collection_model.specs.FormatNumbers.{most_terms, part_charge}
-use Rattle.collection_model.specs.Sequences.{doc_sequence}
-use Rattle.two_level.specs.SequenceWords.{sequence_words}
-use Rattle.collection_model.specs.Collection.{postings_of, freqs_of, IsPostingList}
+use Rattle.std.proofs.Common.{◌≡◌, ◌∙◌, ◌<◌, sym, ap, subst, arith}
+use Rattle.std.proofs.lemmas.Result.{on_ok_weaker, on_err_weaker}
+use Rattle.collection_model.specs.FormatNumbers.{Plain, Packed, format_three, most_terms, part_charge}
+use Rattle.collection_model.specs.Collection.{postings_of, IsPostingList}
+use Rattle.collection_model.specs.Sequences.{doc_sequence, freq_sequence}
 use Rattle.part_cost.specs.Formats.{numbers_of}
 use Rattle.part_cost.specs.Span.{cost_of_part}
-use Rattle.part_cost.specs.Partition.{IsPartition, partition_cost}
-use Rattle.index_file.specs.FileWords.{CutList, doc_words, freq_words, list_entry}
-use Rattle.index_file.specs.Builder.{IsNearCut, cut_list, with_list, lists_added}
-use Rattle.collection_model.proofs.Sequences.{sums-length}
-use Rattle.index_file.proofs.Added.{ArePostings, postings-are, list-within, parts-few, entry-is, KeepsMore, keeps-more}
+use Rattle.part_cost.specs.Partition.{partition_cost}
+use Rattle.index_file.specs.CutLists.{CutList}
+use Rattle.index_file.specs.Builder.{IsNearCut, AreCutsNear, IsBuilder, cut_list, with_list, lists_added, lists_in, half_in, built_of}
+use Rattle.index_file.proofs.NearStored.{near-plain}
+use Rattle.index_file.proofs.AddedBoth.{either-way, plain-takes, packed-takes, plain-builder-after, packed-builder-after}
 use Rattle.index_file.proofs.builder.Builder.append.Goals as goal
-use Rattle.index_file.proofs.builder.Builder.append.Goals.{After-len-first, Else-is_err}
 
--- the postings that are added
-added : (c : After-len-first) → ArePostings c.args.self.now.documents c.args.docs.now c.args.freqs.now
-added c = postings-are (numbers_of c.args.self.now.format) c.args.self.now.documents c.args.docs.now c.args.freqs.now c.requires.same_length c.requires.list
+pub append-requires-clause-list : goal.append-requires-clause-list
+append-requires-clause-list c =
+    let list = postings_of c.args.docs.now c.args.freqs.now in
+    let h : IsPostingList (numbers_of c.self.inside.format) c.self.inside.plain.documents (postings_of c.args.docs.now c.args.freqs.now) = subst (λ b. IsPostingList (numbers_of b.format) b.documents list) (sym c.self.view_is) c.requires.list in
+    subst (λ f. IsPostingList (numbers_of f) c.self.inside.plain.documents list) (sym c.self.invariant.plain_format) h
 
--- are few
-few : (c : After-len-first) → length c.args.docs.now < 2 ^ 32
-few c =
-    let small : c.args.self.now.documents ≤ (numbers_of c.args.self.now.format).most_documents = subst (λ b. b.documents ≤ (numbers_of b.format).most_documents) c.self.view_is c.self.invariant.documents in
-    omega (arith, (added c).few, (c.formats_have_room.ensures c.args.self.now.format).fit)
-
--- and a list of the index that is built
-good : (c : After-len-first) → IsPostingList (numbers_of c.self.inside.format) c.self.inside.documents (postings_of c.args.docs.now c.args.freqs.now)
-good c = subst (λ b. IsPostingList (numbers_of b.format) b.documents (postings_of c.args.docs.now c.args.freqs.now)) (sym c.self.view_is) c.requires.list
-
-pub spell_entry-entry-requires-clause-postings : goal.spell_entry-entry-requires-clause-postings
-spell_entry-entry-requires-clause-postings c =
-    omega (arith, few (goal.at.spell_entry-entry-requires-clause-postings c).After-len-first, c.requires.same_length)
-
-pub spell_entry-entry-requires-clause-doc_parts : goal.spell_entry-entry-requires-clause-doc_parts
-spell_entry-entry-requires-clause-doc_parts c =
-    omega (arith, few (goal.at.spell_entry-entry-requires-clause-doc_parts c).After-len-first, (added (goal.at.spell_entry-entry-requires-clause-doc_parts c).After-len-first).count, parts-few (length (postings_of c.args.docs.now c.args.freqs.now)) c.args.doc_cuts.now.ends c.requires.near.docs.allowed.partition)
-
-pub spell_entry-entry-requires-clause-freq_parts : goal.spell_entry-entry-requires-clause-freq_parts
-spell_entry-entry-requires-clause-freq_parts c =
-    omega (arith, few (goal.at.spell_entry-entry-requires-clause-freq_parts c).After-len-first, (added (goal.at.spell_entry-entry-requires-clause-freq_parts c).After-len-first).count, parts-few (length (postings_of c.args.docs.now c.args.freqs.now)) c.args.freq_cuts.now.ends c.requires.near.freqs.allowed.partition)
-
-pub write_sequences-requires-clause-doc_parts : goal.write_sequences-requires-clause-doc_parts
-write_sequences-requires-clause-doc_parts c =
-    subst (IsPartition (length c.args.docs.now)) (sym c.ends.ensures) (subst (λ m. IsPartition m c.args.doc_cuts.now.ends) (added (goal.at.write_sequences-requires-clause-doc_parts c).After-len-first).count c.requires.near.docs.allowed.partition)
-
-pub write_sequences-requires-clause-freq_parts : goal.write_sequences-requires-clause-freq_parts
-write_sequences-requires-clause-freq_parts c =
-    let count : length c.args.sums.now ≡ length c.args.freqs.now = ap length c.requires.sums ∙ sums-length 0 (freqs_of (postings_of c.args.docs.now c.args.freqs.now)) ∙ ap length (added (goal.at.write_sequences-requires-clause-freq_parts c).After-len-first).freqs_are in
-    subst (IsPartition (length c.args.sums.now)) (sym c.ends-2.ensures) (subst (λ m. IsPartition m c.args.freq_cuts.now.ends) ((added (goal.at.write_sequences-requires-clause-freq_parts c).After-len-first).count ∙ c.requires.same_length ∙ sym count) c.requires.near.freqs.allowed.partition)
-
-pub write_sequences-requires-clause-list : goal.write_sequences-requires-clause-list
-write_sequences-requires-clause-list c =
-    (postings_of c.args.docs.now c.args.freqs.now, list-within (numbers_of c.self.inside.format) c.self.inside.documents (numbers_of c.self.inside.format).most_documents (postings_of c.args.docs.now c.args.freqs.now) c.self.invariant.documents (good (goal.at.write_sequences-requires-clause-list c).After-len-first), sym (added (goal.at.write_sequences-requires-clause-list c).After-len-first).docs_are, c.requires.sums)
-
-keeps : (c : Else-is_err) → KeepsMore c.self.inside.format c.self.inside.documents c.self.inside.words.items c.self.inside.directory.items c.write_sequences.new.to.items c.extend_from_slice.new.self.items
-    (cut_list c.args.docs.now c.args.freqs.now c.args.doc_cuts.now.ends c.args.freq_cuts.now.ends)
-keeps c =
+pub append-requires-clause-room : goal.append-requires-clause-room
+append-requires-clause-room c =
     let s = c.self.inside in
-    let list : CutList = cut_list c.args.docs.now c.args.freqs.now c.args.doc_cuts.now.ends c.args.freq_cuts.now.ends in
-    let near : IsNearCut (numbers_of s.format) list = subst (λ b. IsNearCut (numbers_of b.format) list) (sym c.self.view_is) c.requires.near in
-    let total : c.args.doc_cuts.now.total ≡ partition_cost (cost_of_part (part_charge (numbers_of s.format)) (doc_sequence list.list)) c.args.doc_cuts.now.ends =
-    subst (λ b. c.args.doc_cuts.now.total ≡ partition_cost (cost_of_part (part_charge (numbers_of b.format)) (doc_sequence list.list)) c.args.doc_cuts.now.ends) (sym c.self.view_is) c.requires.total in
-    let room : length s.directory.items / 4 < most_terms = subst (λ b. lists_added b < most_terms) (sym c.self.view_is) c.requires.room in
-    let docs_are : c.args.docs.now ≡ doc_sequence list.list = sym (added (goal.at.Else-is_err c).After-len-first).docs_are in
-    let written : c.write_sequences.new.to.items ≡ s.words.items ++ doc_words (numbers_of s.format) list ++ freq_words (numbers_of s.format) list = c.in_ok-write_sequences.ensures.ok ∙ (λ t. s.words.items ++ sequence_words (numbers_of s.format) (docs_are t) (c.ends.ensures t) ++ sequence_words (numbers_of s.format) (c.requires.sums t) (c.ends-2.ensures t)) in
-    let place : c.len-first.result ≡ length s.words.items = search rules in
-    let entry : c.spell_entry-entry.result ≡ list_entry (numbers_of s.format) (length s.words.items) list =
-    c.spell_entry-entry.ensures ∙ entry-is (numbers_of s.format) (c.formats_have_room.ensures s.format) s.documents _ c.args.doc_cuts.now.total c.args.docs.now c.args.freqs.now c.args.doc_cuts.now.ends c.args.freq_cuts.now.ends (c.sequence_takes_its_cost.ensures s.format) c.requires.same_length c.self.invariant.documents (good (goal.at.Else-is_err c).After-len-first) near total ∙ ap (λ p. list_entry (numbers_of s.format) p list) place in
-    let entered : c.extend_from_slice.new.self.items ≡ s.directory.items ++ c.spell_entry-entry.result = search rules in
-    keeps-more s.format s.documents s.words.items s.directory.items c.write_sequences.new.to.items c.extend_from_slice.new.self.items list c.self.invariant (good (goal.at.Else-is_err c).After-len-first) near room written (entered ∙ ap (λ ws. s.directory.items ++ ws) entry)
+    let h : lists_in (numbers_of c.self.inside.format).kind (half_in (numbers_of c.self.inside.format).kind c.self.inside.plain c.self.inside.packed).directory < most_terms = subst (λ b. lists_added b < most_terms) (sym c.self.view_is) c.requires.room in
+    subst (λ k. lists_in k (half_in k s.plain s.packed).directory < most_terms) (ap (λ f. (numbers_of f).kind) c.in-One.is) h
 
-pub invariant_of-self-else-is_err : goal.invariant_of-self-else-is_err
-invariant_of-self-else-is_err c = (keeps c).kept
+pub append-requires-clause-near : goal.append-requires-clause-near
+append-requires-clause-near c =
+    let cut = cut_list c.args.docs.now c.args.freqs.now c.args.doc_cuts.now.ends c.args.freq_cuts.now.ends in
+    let h : AreCutsNear (numbers_of c.self.inside.format) (cut_list c.args.docs.now c.args.freqs.now c.args.doc_cuts.now.ends c.args.freq_cuts.now.ends) = subst (λ b. AreCutsNear (numbers_of b.format) cut) (sym c.self.view_is) c.requires.near in
+    subst (λ f. IsNearCut (numbers_of f) cut) (sym c.self.invariant.plain_format)
+    (near-plain c.near_is_near_stored.ensures.plain (numbers_of c.self.inside.format) (ap (λ f. (numbers_of f).kind) c.in-One.is) cut h)
 
-pub returns-clause-ok : goal.returns-clause-ok
-returns-clause-ok c = (keeps c).is ∙ ap (λ b. with_list b (cut_list c.args.docs.now c.args.freqs.now c.args.doc_cuts.now.ends c.args.freq_cuts.now.ends)) c.self.view_is
+pub append-requires-clause-total : goal.append-requires-clause-total
+append-requires-clause-total c =
+    let list = postings_of c.args.docs.now c.args.freqs.now in
+    let ends = c.args.doc_cuts.now.ends in
+    let h : c.args.doc_cuts.now.total ≡ partition_cost (cost_of_part (part_charge (numbers_of c.self.inside.format)) (doc_sequence (postings_of c.args.docs.now c.args.freqs.now))) c.args.doc_cuts.now.ends =
+    subst (λ b. c.args.doc_cuts.now.total ≡ partition_cost (cost_of_part (part_charge (numbers_of b.format)) (doc_sequence list)) ends) (sym c.self.view_is) c.requires.total in
+    subst (λ f. c.args.doc_cuts.now.total ≡ partition_cost (cost_of_part (part_charge (numbers_of f)) (doc_sequence list)) ends) (sym c.self.invariant.plain_format) h
+
+pub invariant_of-self : goal.invariant_of-self
+invariant_of-self c =
+    let s = c.self.inside in
+    let list = postings_of c.args.docs.now c.args.freqs.now in
+    let cut = cut_list c.args.docs.now c.args.freqs.now c.args.doc_cuts.now.ends c.args.freq_cuts.now.ends in
+    let kind : (numbers_of c.self.inside.format).kind ≡ Plain = ap (λ f. (numbers_of f).kind) c.in-One.is in
+    let good : IsPostingList (numbers_of c.self.inside.format) c.self.inside.plain.documents (postings_of c.args.docs.now c.args.freqs.now) = subst (λ b. IsPostingList (numbers_of b.format) b.documents list) (sym c.self.view_is) c.requires.list in
+    let h : AreCutsNear (numbers_of c.self.inside.format) (cut_list c.args.docs.now c.args.freqs.now c.args.doc_cuts.now.ends c.args.freq_cuts.now.ends) = subst (λ b. AreCutsNear (numbers_of b.format) cut) (sym c.self.view_is) c.requires.near in
+    plain-builder-after s.format s.plain s.packed c.append.new.self cut kind c.self.invariant good (near-plain c.near_is_near_stored.ensures.plain (numbers_of s.format) kind cut h)
+    (either-way c.append.result c.append.ensures.ok c.append.ensures.err)
+
+pub returns-in-One-clause-ok : goal.returns-in-One-clause-ok
+returns-in-One-clause-ok c =
+    let s = c.self.inside in
+    let cut = cut_list c.args.docs.now c.args.freqs.now c.args.doc_cuts.now.ends c.args.freq_cuts.now.ends in
+    let kind : (numbers_of c.self.inside.format).kind ≡ Plain = ap (λ f. (numbers_of f).kind) c.in-One.is in
+    let h : AreCutsNear (numbers_of c.self.inside.format) (cut_list c.args.docs.now c.args.freqs.now c.args.doc_cuts.now.ends c.args.freq_cuts.now.ends) = subst (λ b. AreCutsNear (numbers_of b.format) cut) (sym c.self.view_is) c.requires.near in
+    let near : IsNearCut (numbers_of c.args.self.now.format) (cut_list c.args.docs.now c.args.freqs.now c.args.doc_cuts.now.ends c.args.freq_cuts.now.ends) =
+    subst (λ b. IsNearCut (numbers_of b.format) cut) c.self.view_is (near-plain c.near_is_near_stored.ensures.plain (numbers_of s.format) kind cut h) in
+    on_ok_weaker c.append.result
+    (λ taken. (cut.parts, near, omega arith, omega arith, plain-takes s.format kind s.plain s.packed c.append.new.self cut c.self.invariant.plain_format taken ∙ ap (λ b. with_list b cut) c.self.view_is)) c.append.ensures.ok
+
+pub returns-in-One-clause-err : goal.returns-in-One-clause-err
+returns-in-One-clause-err c = on_err_weaker c.append.result (λ h. ap (λ x. built_of c.self.inside.format x c.self.inside.packed) h ∙ c.self.view_is) c.append.ensures.err
+
+pub append-requires-in-Two-clause-list : goal.append-requires-in-Two-clause-list
+append-requires-in-Two-clause-list c =
+    let list = postings_of c.args.docs.now c.args.freqs.now in
+    let h : IsPostingList (numbers_of c.self.inside.format) c.self.inside.plain.documents (postings_of c.args.docs.now c.args.freqs.now) = subst (λ b. IsPostingList (numbers_of b.format) b.documents list) (sym c.self.view_is) c.requires.list in
+    subst (λ f. IsPostingList (numbers_of f) c.self.inside.plain.documents list) (sym c.self.invariant.plain_format) h
+
+pub append-requires-in-Two-clause-room : goal.append-requires-in-Two-clause-room
+append-requires-in-Two-clause-room c =
+    let s = c.self.inside in
+    let h : lists_in (numbers_of c.self.inside.format).kind (half_in (numbers_of c.self.inside.format).kind c.self.inside.plain c.self.inside.packed).directory < most_terms = subst (λ b. lists_added b < most_terms) (sym c.self.view_is) c.requires.room in
+    subst (λ k. lists_in k (half_in k s.plain s.packed).directory < most_terms) (ap (λ f. (numbers_of f).kind) c.in-Two.is) h
+
+pub append-requires-in-Two-clause-near : goal.append-requires-in-Two-clause-near
+append-requires-in-Two-clause-near c =
+    let cut = cut_list c.args.docs.now c.args.freqs.now c.args.doc_cuts.now.ends c.args.freq_cuts.now.ends in
+    let h : AreCutsNear (numbers_of c.self.inside.format) (cut_list c.args.docs.now c.args.freqs.now c.args.doc_cuts.now.ends c.args.freq_cuts.now.ends) = subst (λ b. AreCutsNear (numbers_of b.format) cut) (sym c.self.view_is) c.requires.near in
+    subst (λ f. IsNearCut (numbers_of f) cut) (sym c.self.invariant.plain_format)
+    (near-plain c.near_is_near_stored.ensures.plain (numbers_of c.self.inside.format) (ap (λ f. (numbers_of f).kind) c.in-Two.is) cut h)
+
+pub append-requires-in-Two-clause-total : goal.append-requires-in-Two-clause-total
+append-requires-in-Two-clause-total c =
+    let list = postings_of c.args.docs.now c.args.freqs.now in
+    let ends = c.args.doc_cuts.now.ends in
+    let h : c.args.doc_cuts.now.total ≡ partition_cost (cost_of_part (part_charge (numbers_of c.self.inside.format)) (doc_sequence (postings_of c.args.docs.now c.args.freqs.now))) c.args.doc_cuts.now.ends =
+    subst (λ b. c.args.doc_cuts.now.total ≡ partition_cost (cost_of_part (part_charge (numbers_of b.format)) (doc_sequence list)) ends) (sym c.self.view_is) c.requires.total in
+    subst (λ f. c.args.doc_cuts.now.total ≡ partition_cost (cost_of_part (part_charge (numbers_of f)) (doc_sequence list)) ends) (sym c.self.invariant.plain_format) h
+
+pub invariant_of-self-in-Two : goal.invariant_of-self-in-Two
+invariant_of-self-in-Two c =
+    let s = c.self.inside in
+    let list = postings_of c.args.docs.now c.args.freqs.now in
+    let cut = cut_list c.args.docs.now c.args.freqs.now c.args.doc_cuts.now.ends c.args.freq_cuts.now.ends in
+    let kind : (numbers_of c.self.inside.format).kind ≡ Plain = ap (λ f. (numbers_of f).kind) c.in-Two.is in
+    let good : IsPostingList (numbers_of c.self.inside.format) c.self.inside.plain.documents (postings_of c.args.docs.now c.args.freqs.now) = subst (λ b. IsPostingList (numbers_of b.format) b.documents list) (sym c.self.view_is) c.requires.list in
+    let h : AreCutsNear (numbers_of c.self.inside.format) (cut_list c.args.docs.now c.args.freqs.now c.args.doc_cuts.now.ends c.args.freq_cuts.now.ends) = subst (λ b. AreCutsNear (numbers_of b.format) cut) (sym c.self.view_is) c.requires.near in
+    plain-builder-after s.format s.plain s.packed c.append-in-Two.new.self cut kind c.self.invariant good (near-plain c.near_is_near_stored.ensures.plain (numbers_of s.format) kind cut h)
+    (either-way c.append-in-Two.result c.append-in-Two.ensures.ok c.append-in-Two.ensures.err)
+
+pub returns-in-Two-clause-ok : goal.returns-in-Two-clause-ok
+returns-in-Two-clause-ok c =
+    let s = c.self.inside in
+    let cut = cut_list c.args.docs.now c.args.freqs.now c.args.doc_cuts.now.ends c.args.freq_cuts.now.ends in
+    let kind : (numbers_of c.self.inside.format).kind ≡ Plain = ap (λ f. (numbers_of f).kind) c.in-Two.is in
+    let h : AreCutsNear (numbers_of c.self.inside.format) (cut_list c.args.docs.now c.args.freqs.now c.args.doc_cuts.now.ends c.args.freq_cuts.now.ends) = subst (λ b. AreCutsNear (numbers_of b.format) cut) (sym c.self.view_is) c.requires.near in
+    let near : IsNearCut (numbers_of c.args.self.now.format) (cut_list c.args.docs.now c.args.freqs.now c.args.doc_cuts.now.ends c.args.freq_cuts.now.ends) =
+    subst (λ b. IsNearCut (numbers_of b.format) cut) c.self.view_is (near-plain c.near_is_near_stored.ensures.plain (numbers_of s.format) kind cut h) in
+    on_ok_weaker c.append-in-Two.result
+    (λ taken. (cut.parts, near, omega arith, omega arith, plain-takes s.format kind s.plain s.packed c.append-in-Two.new.self cut c.self.invariant.plain_format taken ∙ ap (λ b. with_list b cut) c.self.view_is)) c.append-in-Two.ensures.ok
+
+pub returns-in-Two-clause-err : goal.returns-in-Two-clause-err
+returns-in-Two-clause-err c = on_err_weaker c.append-in-Two.result (λ h. ap (λ x. built_of c.self.inside.format x c.self.inside.packed) h ∙ c.self.view_is) c.append-in-Two.ensures.err
+
+pub append-requires-in-Three-clause-list : goal.append-requires-in-Three-clause-list
+append-requires-in-Three-clause-list c =
+    let list = postings_of c.args.docs.now c.args.freqs.now in
+    let h : IsPostingList (numbers_of c.self.inside.format) c.self.inside.plain.documents (postings_of c.args.docs.now c.args.freqs.now) = subst (λ b. IsPostingList (numbers_of b.format) b.documents list) (sym c.self.view_is) c.requires.list in
+    subst (λ n. IsPostingList format_three n list) (sym c.self.invariant.same_documents) (subst (λ f. IsPostingList (numbers_of f) c.self.inside.plain.documents list) c.in-Three.is h)
+
+pub append-requires-in-Three-clause-room : goal.append-requires-in-Three-clause-room
+append-requires-in-Three-clause-room c =
+    let s = c.self.inside in
+    let h : lists_in (numbers_of c.self.inside.format).kind (half_in (numbers_of c.self.inside.format).kind c.self.inside.plain c.self.inside.packed).directory < most_terms = subst (λ b. lists_added b < most_terms) (sym c.self.view_is) c.requires.room in
+    let k : lists_in Packed (half_in Packed c.self.inside.plain c.self.inside.packed).directory < most_terms = subst (λ k. lists_in k (half_in k s.plain s.packed).directory < most_terms) (ap (λ f. (numbers_of f).kind) c.in-Three.is) h in
+    omega (arith, k)
+
+pub append-requires-in-Three-clause-near : goal.append-requires-in-Three-clause-near
+append-requires-in-Three-clause-near c =
+    let cut = cut_list c.args.docs.now c.args.freqs.now c.args.doc_cuts.now.ends c.args.freq_cuts.now.ends in
+    let h : AreCutsNear (numbers_of c.self.inside.format) (cut_list c.args.docs.now c.args.freqs.now c.args.doc_cuts.now.ends c.args.freq_cuts.now.ends) = subst (λ b. AreCutsNear (numbers_of b.format) cut) (sym c.self.view_is) c.requires.near in
+    subst (λ f. AreCutsNear (numbers_of f) cut) c.in-Three.is h
+
+pub append-requires-in-Three-clause-total : goal.append-requires-in-Three-clause-total
+append-requires-in-Three-clause-total c =
+    let list = postings_of c.args.docs.now c.args.freqs.now in
+    let ends = c.args.doc_cuts.now.ends in
+    let h : c.args.doc_cuts.now.total ≡ partition_cost (cost_of_part (part_charge (numbers_of c.self.inside.format)) (doc_sequence (postings_of c.args.docs.now c.args.freqs.now))) c.args.doc_cuts.now.ends =
+    subst (λ b. c.args.doc_cuts.now.total ≡ partition_cost (cost_of_part (part_charge (numbers_of b.format)) (doc_sequence list)) ends) (sym c.self.view_is) c.requires.total in
+    subst (λ f. c.args.doc_cuts.now.total ≡ partition_cost (cost_of_part (part_charge (numbers_of f)) (doc_sequence list)) ends) c.in-Three.is h
+
+pub append-requires-in-Three-clause-freq_total : goal.append-requires-in-Three-clause-freq_total
+append-requires-in-Three-clause-freq_total c =
+    let list = postings_of c.args.docs.now c.args.freqs.now in
+    let ends = c.args.freq_cuts.now.ends in
+    let h : c.args.freq_cuts.now.total ≡ partition_cost (cost_of_part (part_charge (numbers_of c.self.inside.format)) (freq_sequence (postings_of c.args.docs.now c.args.freqs.now))) c.args.freq_cuts.now.ends =
+    subst (λ b. c.args.freq_cuts.now.total ≡ partition_cost (cost_of_part (part_charge (numbers_of b.format)) (freq_sequence list)) ends) (sym c.self.view_is) c.requires.freq_total in
+    subst (λ f. c.args.freq_cuts.now.total ≡ partition_cost (cost_of_part (part_charge (numbers_of f)) (freq_sequence list)) ends) c.in-Three.is h
+
+pub invariant_of-self-in-Three : goal.invariant_of-self-in-Three
+invariant_of-self-in-Three c =
+    let s = c.self.inside in
+    let list = postings_of c.args.docs.now c.args.freqs.now in
+    let good : IsPostingList (numbers_of c.self.inside.format) c.self.inside.plain.documents (postings_of c.args.docs.now c.args.freqs.now) = subst (λ b. IsPostingList (numbers_of b.format) b.documents list) (sym c.self.view_is) c.requires.list in
+    subst (λ f. IsBuilder f s.plain c.append-in-Three.new.self) (sym c.in-Three.is)
+    (packed-builder-after s.plain s.packed c.append-in-Three.new.self list c.args.doc_cuts.now.ends c.args.freq_cuts.now.ends (subst (λ f. IsBuilder f s.plain s.packed) c.in-Three.is c.self.invariant)
+    (subst (λ f. IsPostingList (numbers_of f) s.plain.documents list) c.in-Three.is good) (either-way c.append-in-Three.result c.append-in-Three.ensures.ok c.append-in-Three.ensures.err))
+
+pub returns-in-Three-clause-ok : goal.returns-in-Three-clause-ok
+returns-in-Three-clause-ok c =
+    let s = c.self.inside in
+    let list = postings_of c.args.docs.now c.args.freqs.now in
+    on_ok_weaker c.append-in-Three.result (λ a.
+    (let cut : CutList = record { list = list; parts = a.0 } in
+    let here : IsNearCut (numbers_of s.format) cut = subst (λ f. IsNearCut (numbers_of f) cut) (c.self.invariant.packed_format ∙ sym c.in-Three.is) a.1 in
+    let near : IsNearCut (numbers_of c.args.self.now.format) cut = subst (λ b. IsNearCut (numbers_of b.format) cut) c.self.view_is here in (
+      a.0,
+      near,
+      a.2,
+      a.3,
+      ap (λ f. built_of f s.plain c.append-in-Three.new.self) c.in-Three.is ∙ packed-takes s.plain s.packed c.append-in-Three.new.self cut c.self.invariant.packed_format c.self.invariant.same_documents a.4
+          ∙ ap (λ f. with_list (built_of f s.plain s.packed) cut) (sym c.in-Three.is) ∙ ap (λ b. with_list b cut) c.self.view_is,
+    ))) c.append-in-Three.ensures.ok
+
+pub returns-in-Three-clause-err : goal.returns-in-Three-clause-err
+returns-in-Three-clause-err c = on_err_weaker c.append-in-Three.result (λ h. ap (λ x. built_of c.self.inside.format c.self.inside.plain x) h ∙ c.self.view_is) c.append-in-Three.ensures.err

@@ -1,9 +1,25 @@
 use Rattle.std.proofs.Common.{◌∙◌, arith}
-use Rattle.index_file.proofs.Reading.{is-read}
+use Rattle.index_file.proofs.FileKinds.{spells-view, framed}
 use Rattle.index_file.proofs.index.Index.documents.Goals as goal
 
 pub frame_of-requires : goal.frame_of-requires
-frame_of-requires c = omega (arith, (is-read c.self.invariant.0 c.self.view_is).frame.some)
+frame_of-requires c =
+    let now = c.args.self.now in
+    let words = c.self.inside.words.now in
+    let spells = spells-view words now c.self.invariant.0 c.self.view_is in
+    omega (arith, (framed c.file_laws.ensures.takes now.format words now.collection now.parts spells).some)
+
+pub overflow_cast-result : goal.overflow_cast-result
+overflow_cast-result c =
+    let now = c.args.self.now in
+    let words = c.self.inside.words.now in
+    let spells = spells-view words now c.self.invariant.0 c.self.view_is in
+    let f = framed c.file_laws.ensures.takes now.format words now.collection now.parts spells in
+    omega (arith, f.documents, f.few, c.frame_of.ensures.documents)
 
 pub returns : goal.returns
-returns c = c.frame_of.ensures.documents ∙ (is-read c.self.invariant.0 c.self.view_is).documents
+returns c =
+    let now = c.args.self.now in
+    let words = c.self.inside.words.now in
+    let spells = spells-view words now c.self.invariant.0 c.self.view_is in
+    c.frame_of.ensures.documents ∙ (framed c.file_laws.ensures.takes now.format words now.collection now.parts spells).documents

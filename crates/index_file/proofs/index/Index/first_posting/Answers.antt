@@ -1,12 +1,22 @@
-use Rattle.std.proofs.Common.{arith}
-use Rattle.index_file.proofs.Reading.{is-read, spells-in}
+use Rattle.std.proofs.Common.{sym, subst, arith}
+use Rattle.part_cost.specs.Formats.{numbers_of}
+use Rattle.index_file.specs.FileWords.{Spells}
+use Rattle.index_file.proofs.FileKinds.{spells-view, framed}
 use Rattle.index_file.proofs.index.Index.first_posting.Goals as goal
 
 pub posting_from-requires-clause-index : goal.posting_from-requires-clause-index
-posting_from-requires-clause-index c = (c.args.self.now.collection, c.args.self.now.parts, spells-in (is-read c.self.invariant.0 c.self.view_is) c.format.ensures)
+posting_from-requires-clause-index c =
+    let now = c.args.self.now in
+    (now.collection, now.parts, subst (λ v. Spells (numbers_of v) c.self.inside.words.now now.collection now.parts) (sym c.format.ensures) (spells-view c.self.inside.words.now now c.self.invariant.0 c.self.view_is))
 
 pub posting_from-requires-clause-within : goal.posting_from-requires-clause-within
-posting_from-requires-clause-within c = omega (arith, c.requires.within, (is-read c.self.invariant.0 c.self.view_is).terms)
+posting_from-requires-clause-within c =
+    let now = c.args.self.now in
+    let spells = spells-view c.self.inside.words.now now c.self.invariant.0 c.self.view_is in
+    omega (arith, c.requires.within, (framed c.file_laws.ensures.takes now.format c.self.inside.words.now now.collection now.parts spells).terms)
 
 pub returns : goal.returns
-returns c = c.posting_from.ensures c.args.self.now.collection c.args.self.now.parts (spells-in (is-read c.self.invariant.0 c.self.view_is) c.format.ensures)
+returns c =
+    let now = c.args.self.now in
+    let spells = spells-view c.self.inside.words.now now c.self.invariant.0 c.self.view_is in
+    c.posting_from.ensures now.collection now.parts (subst (λ v. Spells (numbers_of v) c.self.inside.words.now now.collection now.parts) (sym c.format.ensures) spells)

@@ -1,11 +1,38 @@
-use Rattle.std.proofs.Common.{◌∙◌}
+use Rattle.std.proofs.Common.{◌≡◌, ◌∙◌, ap, sym, subst, arith}
+use Rattle.std.specs.Prelude.{sum_by}
+use Rattle.std.specs.List.{range_with_len}
 use Rattle.part_cost.specs.Formats.{numbers_of}
-use Rattle.index_file.proofs.Reading.{is-read}
-use Rattle.index_file.proofs.Sums.{sizes-sum}
+use Rattle.index_file.specs.FileWords.{Spells}
+use Rattle.index_file.specs.IndexView.{sizes_of_kind}
+use Rattle.index_file.specs.PackedView.{size_at}
+use Rattle.index_file.proofs.FileKinds.{spells-view, framed, sized, sizes-summed}
 use Rattle.index_file.proofs.index.Index.size_total.Goals as goal
 
-pub all_sizes-requires-clause-frame : goal.all_sizes-requires-clause-frame
-all_sizes-requires-clause-frame c = (c.args.self.now.format, (is-read c.self.invariant.0 c.self.view_is).frame)
+pub sizes_from-first-requires-clause-index : goal.sizes_from-first-requires-clause-index
+sizes_from-first-requires-clause-index c =
+    let now = c.args.self.now in
+    let words = c.self.inside.words.now in
+    let spells = spells-view words now c.self.invariant.0 c.self.view_is in
+    (now.collection, now.parts, subst (λ v. Spells (numbers_of v) words now.collection now.parts) (sym c.format.ensures) spells)
+
+pub all_sizes-requires-clause-within : goal.all_sizes-requires-clause-within
+all_sizes-requires-clause-within c =
+    let now = c.args.self.now in
+    let words = c.self.inside.words.now in
+    let spells = spells-view words now c.self.invariant.0 c.self.view_is in
+    let f = framed c.file_laws.ensures.takes now.format words now.collection now.parts spells in
+    let s = sized c.file_laws.ensures now.format words c.self.invariant.2 now.collection now.parts spells in
+    let first : c.sizes_from-first.result ≡ sizes_of_kind (numbers_of c.args.self.now.format).kind c.self.inside.words.now = c.sizes_from-first.ensures ∙ ap (λ v. sizes_of_kind (numbers_of v).kind words) c.format.ensures in
+    omega (arith, first, s.within, f.documents, c.documents.ensures)
 
 pub returns : goal.returns
-returns c = c.all_sizes.ensures ∙ sizes-sum (numbers_of c.args.self.now.format) c.self.inside.words.now c.args.self.now.collection c.args.self.now.parts (is-read c.self.invariant.0 c.self.view_is).spells
+returns c =
+    let now = c.args.self.now in
+    let words = c.self.inside.words.now in
+    let spells = spells-view words now c.self.invariant.0 c.self.view_is in
+    let f = framed c.file_laws.ensures.takes now.format words now.collection now.parts spells in
+    let s = sized c.file_laws.ensures now.format words c.self.invariant.2 now.collection now.parts spells in
+    let first : c.sizes_from-first.result ≡ sizes_of_kind (numbers_of c.args.self.now.format).kind c.self.inside.words.now = c.sizes_from-first.ensures ∙ ap (λ v. sizes_of_kind (numbers_of v).kind words) c.format.ensures in
+    c.all_sizes.ensures ∙ ap (λ i. sum_by (size_at words i) (range_with_len 0 c.documents.result)) first
+    ∙ ap (λ n. sum_by (size_at words (sizes_of_kind (numbers_of now.format).kind words)) (range_with_len 0 n)) c.documents.ensures
+    ∙ sizes-summed now.format words now.collection s f.documents

@@ -1,0 +1,181 @@
+ghost use Rattle.std.specs.Prelude.{◌≡◌, ℕ, ◌≤◌, ◌<◌, ◌^◌, List, [], ◌∷◌, length, IfOk, OnOk, OnErr};
+ghost use Rattle.collection_model.specs.FormatNumbers.{format_three, most_terms, part_charge};
+ghost use Rattle.collection_model.specs.Collection.{postings_of, IsPostingList};
+ghost use Rattle.collection_model.specs.Sequences.{doc_sequence, freq_sequence};
+ghost use Rattle.std.specs.List.{All};
+ghost use Rattle.std.specs.List.Sorted.{IsStrictlyIncreasing};
+ghost use Rattle.part_cost.specs.Span.{cost_of_part};
+ghost use Rattle.part_cost.specs.Partition.{partition_cost};
+ghost use Rattle.part_cost.specs.StoredBits.{IsNearStored};
+ghost use Rattle.part_cost.specs.StoredLaws.{IsCutNear};
+ghost use Rattle.index_file.specs.CutLists.{CutList};
+ghost use Rattle.index_file.specs.PackedWords.{packed_words};
+ghost use Rattle.index_file.specs.Builder.{StandsFor, AreCutsNear, IsAppended, cut_list};
+
+use crate::entries::{greatest_freq, push_sizes};
+use crate::packed_checking::FIRST_LIST_BIT;
+use crate::packed_frame::{PACKED_END, PACKED_MAGIC, PackedFrame, count_of};
+use bit_words::BitWriter;
+use no_memory::NoMemory;
+use packed_list::{ListParts, is_one_part, lists_are_short, write_list};
+use part_codec::{part_takes_its_payload, write_part};
+use part_cost::{Format, near_is_near_stored};
+use partition_path::Cuts;
+use postings::sequences_of_a_list_rise;
+use std::alloc::Global;
+use std::marker::Model;
+
+// The most bits behind which one list more is taken, many more than a file has.
+const MOST_HELD_BITS: u64 = 1 << 46;
+
+// The ends of the parts in which a sequence is stored: those of its cuts, or of the one part where
+// that is stored in no more bits.
+fn stored_ends<'a>(values: &[u64], cuts: &'a Cuts, whole: &'a [u64]) -> &'a [u64]
+    requires rising { IsStrictlyIncreasing values.now }
+    requires below { All (λ x. x < format_three.most_sum) values.now }
+    requires whole { whole.now ≡ length values.now ∷ [] }
+    requires near { IsCutNear format_three values.now cuts.now.ends }
+    requires total { cuts.now.total ≡ partition_cost
+        (cost_of_part (part_charge format_three) values.now) cuts.now.ends }
+    ensures near { IsNearStored format_three values.now result.now }
+    ensures few { length result.now ≤ length cuts.entry.now.ends }
+{
+    near_is_near_stored();
+    if values.is_empty() {
+        return cuts.ends();
+    }
+    if is_one_part(values, cuts.total()) {
+        whole
+    } else {
+        cuts.ends()
+    }
+}
+
+// The bits of a packed file, list by list, and the places where the lists begin.
+#[derive(Drop)]
+pub(crate) struct PackedBuilder {
+    alloc: Global,
+    documents: u32,
+    bits: BitWriter,
+    starts: Vec<u64>,
+}
+
+impl Model for PackedBuilder {
+    ghost use Rattle.index_file.specs.Builder.{Built, IsPackedKept, packed_built};
+
+    ghost Value = { Built };
+
+    ghost view = { λ b. packed_built b.documents b.bits b.starts.items };
+
+    ghost invariant = { λ b. IsPackedKept b.documents b.bits b.starts.items };
+}
+
+impl PackedBuilder {
+    // The builder of a packed file of so many documents, with no list.
+    pub(crate) fn new(alloc: Global, documents: u32) -> Result<PackedBuilder, NoMemory>
+        ensures format { IfOk result (λ b. b.format ≡ Format.Three) }
+        ensures documents { IfOk result (λ b. b.documents ≡ documents) }
+        ensures no_list { IfOk result (λ b. StandsFor b []) }
+    {
+        let mut bits = BitWriter::new(alloc)?;
+        bits.put(PACKED_MAGIC, 64)?;
+        bits.put(Format::Three.version(), 64)?;
+        let mut starts = Vec::new(alloc);
+        starts.push(0)?;
+        Ok(PackedBuilder {
+            alloc,
+            documents,
+            bits,
+            starts,
+        })
+    }
+
+    // Appends a list whose sequences are these, each in the parts into which it is cut, or as one
+    // part where it is stored in no more bits so. A refusal leaves the lists as they were.
+    pub(crate) fn append(
+        &mut self,
+        docs: &[u64],
+        sums: &[u64],
+        freqs: &[u32],
+        doc_cuts: &Cuts,
+        freq_cuts: &Cuts,
+    ) -> Result<(), NoMemory>
+        requires same_length { length docs.now ≡ length freqs.now }
+        requires list { IsPostingList format_three self.old.documents
+            (postings_of docs.now freqs.now) }
+        requires sums { sums.now ≡ freq_sequence (postings_of docs.now freqs.now) }
+        requires room { length self.old.directory ≤ most_terms }
+        requires near { AreCutsNear format_three
+            (cut_list docs.now freqs.now doc_cuts.now.ends freq_cuts.now.ends) }
+        requires total { doc_cuts.now.total ≡ partition_cost
+            (cost_of_part (part_charge format_three)
+            (doc_sequence (postings_of docs.now freqs.now))) doc_cuts.now.ends }
+        requires freq_total { freq_cuts.now.total ≡ partition_cost
+            (cost_of_part (part_charge format_three)
+            (freq_sequence (postings_of docs.now freqs.now))) freq_cuts.now.ends }
+        ensures ok { OnOk result (IsAppended self.old self.new (postings_of docs.now freqs.now)
+            doc_cuts.now.ends freq_cuts.now.ends) }
+        ensures err { OnErr result (self.new ≡ self.old) }
+    {
+        lists_are_short();
+        sequences_of_a_list_rise();
+        let first = self.bits.len();
+        if first > MOST_HELD_BITS {
+            return Err(NoMemory);
+        }
+        let whole = [docs.len() as u64];
+        let doc_ends = stored_ends(docs, doc_cuts, &whole);
+        let sum_ends = stored_ends(sums, freq_cuts, &whole);
+        let list = ListParts {
+            docs,
+            doc_ends,
+            sums,
+            sum_ends,
+            greatest: greatest_freq(freqs),
+        };
+        write_list(self.alloc, &list, self.documents, &mut self.bits)?;
+        let next = self.bits.len() - FIRST_LIST_BIT + self.starts.len() as u64;
+        if self.starts.push(next).is_err() {
+            self.bits.truncate(first);
+            return Err(NoMemory);
+        }
+        Ok(())
+    }
+
+    // How many words the file has with so many sizes.
+    pub(crate) fn count_words(&self, sizes: u64) -> u64
+        requires few { sizes < 2 ^ 32 }
+        ensures { (cs : List CutList) (of : List ℕ) → StandsFor self.now cs → length of ≡ sizes
+            → result ≡ length (packed_words self.now.documents cs of) }
+    {
+        part_takes_its_payload();
+        count_of(PackedFrame {
+            documents: sizes,
+            terms: self.starts.len() as u64 - 1,
+            bits: self.bits.len() - FIRST_LIST_BIT,
+        })
+    }
+
+    // The words of the file of the lists, with these sizes.
+    pub(crate) fn into_words(self, sizes: &[u32]) -> Result<Vec<u64>, NoMemory>
+        ensures { (cs : List CutList) → StandsFor self cs
+            → IfOk result (λ words. words.items ≡ packed_words self.documents cs sizes.now) }
+    {
+        part_takes_its_payload();
+        let PackedBuilder {
+            alloc,
+            documents,
+            bits,
+            starts,
+        } = self;
+        let lists = starts.len() as u64 - 1;
+        let list_bits = bits.len() - FIRST_LIST_BIT;
+        let mut words = bits.into_words();
+        push_sizes(&mut words, sizes)?;
+        let mut directory = BitWriter::new(alloc)?;
+        write_part(&starts, list_bits + lists + 1, &mut directory)?;
+        words.extend_from_slice(&directory.into_words())?;
+        words.extend_from_slice(&[documents as u64, lists, list_bits, PACKED_END])?;
+        Ok(words)
+    }
+}

@@ -1,0 +1,224 @@
+ghost use Rattle.std.specs.Prelude.{◌≡◌, ℕ, ◌≤◌, ◌<◌, ◌+◌, ◌*◌, ◌^◌, ◌↔◌, ◌-◌, IsTrue, List, length, slice_index, IfOk, OnOk, IfErr, IfSome, None};
+ghost use Rattle.bit_words.specs.Bits.{bits_of, HasNoOne};
+ghost use Rattle.part_cost.specs.Payload.{payload};
+ghost use Rattle.part_codec.specs.PartView.{Holds, count_of};
+ghost use Rattle.index_file.specs.PackedAt.{packed_terms, packed_bits, packed_directory, starts_universe, starts_stated, AreStarts, HasStarts, IsListStored, HasPackedFrame, AreListsStored, PassesPackedClosing, PassesPacked};
+ghost use Rattle.index_file.specs.PackedFaults.{IsPackedClosingFault, IsFirstBrokenPacked, StatesPackedFrame, IsFirstPackedListFault};
+
+use crate::fault::OpenFault;
+use crate::frame::WORDS_BEHIND;
+use crate::lists::HALF;
+use crate::packed_frame::{
+    PackedFrame, WORD_BITS, packed_directory_of, packed_frame_fault, packed_frame_of,
+    packed_sizes_of,
+};
+use bit_words::Bits;
+use packed_list::check_list;
+use part_codec::{PartCodec, PartView, check_part, one_list_at_place};
+use part_cost::{PlacedPart, payload_bits};
+use two_level::Check;
+
+// The first bit of the lists.
+pub(crate) const FIRST_LIST_BIT: u64 = 128;
+
+// The directory of a packed file: the part of the places where its lists begin and the last ends.
+pub(crate) fn starts_part<'a>(words: &'a [u64], frame: PackedFrame) -> PlacedPart<'a>
+    requires words { length words.now < 2 ^ 57 }
+    requires frame { HasPackedFrame words.now }
+    requires numbers { StatesPackedFrame words.now frame }
+    ensures bits { result.bits.words.now ≡ words.entry.now }
+    ensures place { result.place ≡ 64 * packed_directory words.entry.now }
+    ensures u { result.u ≡ starts_universe (packed_bits words.entry.now)
+        (packed_terms words.entry.now) }
+    ensures m { result.m ≡ packed_terms words.entry.now + 1 }
+{
+    PlacedPart::at(
+        Bits { words },
+        WORD_BITS * packed_directory_of(frame),
+        frame.bits + frame.terms + 1,
+        frame.terms + 1,
+    )
+}
+
+// Whether the bits of the directory are those of some places.
+fn starts_stand(words: &[u64], frame: PackedFrame) -> bool
+    requires words { length words.now < 2 ^ 57 }
+    requires frame { HasPackedFrame words.now }
+    requires numbers { StatesPackedFrame words.now frame }
+    ensures { IsTrue result ↔ ((ys : List ℕ) × AreStarts words.now ys) }
+{
+    check_part(starts_part(words, frame))
+}
+
+// The first of the places.
+fn first_start(words: &[u64], frame: PackedFrame) -> u64
+    requires words { length words.now < 2 ^ 57 }
+    requires frame { HasPackedFrame words.now }
+    requires numbers { StatesPackedFrame words.now frame }
+    requires stand { (ys : List ℕ) × AreStarts words.now ys }
+    ensures { (ys : List ℕ) → AreStarts words.now ys → result ≡ slice_index ys 0 }
+{
+    let starts = PartView::at(starts_part(words, frame));
+    starts.first()
+}
+
+// Whether zeros stand behind the directory up to the end of its last word.
+fn starts_filled(words: &[u64], frame: PackedFrame) -> bool
+    requires words { length words.now < 2 ^ 57 }
+    requires frame { HasPackedFrame words.now }
+    requires numbers { StatesPackedFrame words.now frame }
+    ensures { IsTrue result ↔ HasNoOne (bits_of words.now)
+        (64 * packed_directory words.now + payload
+        (starts_universe (packed_bits words.now) (packed_terms words.now))
+        (packed_terms words.now + 1)) (64 * (length words.now - 4)) }
+{
+    let taken = payload_bits(frame.bits + frame.terms + 1, frame.terms + 1);
+    let from = WORD_BITS * packed_directory_of(frame) + taken;
+    let to = WORD_BITS * (words.len() as u64 - WORDS_BEHIND);
+    match (Bits { words }).next_one(from, to) {
+        None => true,
+        Some(_) => false,
+    }
+}
+
+// Whether the directory is one.
+fn has_starts(words: &[u64], frame: PackedFrame) -> bool
+    requires words { length words.now < 2 ^ 57 }
+    requires frame { HasPackedFrame words.now }
+    requires numbers { StatesPackedFrame words.now frame }
+    ensures { IsTrue result ↔ HasStarts words.now }
+{
+    if !starts_stand(words, frame) {
+        return false;
+    }
+    if first_start(words, frame) != 0 {
+        return false;
+    }
+    starts_filled(words, frame)
+}
+
+// Number t + 1 of the directory, by number t.
+pub(crate) fn number_after(starts: &PartView, t: u64, number: u64) -> u64
+    requires held { (ys : List ℕ) × Holds starts.now ys }
+    requires within { t + 1 < count_of starts.now }
+    requires number { (ys : List ℕ) → Holds starts.now ys → number ≡ slice_index ys t }
+    ensures { (ys : List ℕ) → Holds starts.now ys → result ≡ slice_index ys (t + 1) }
+{
+    starts.after(t, number)
+}
+
+// Looks whether the bits of list t are those of some list, where number t of the directory is this,
+// and answers the next number.
+fn check_packed_list(
+    words: &[u64],
+    starts: &PartView,
+    frame: PackedFrame,
+    t: u32,
+    number: u64,
+) -> Result<u64, OpenFault>
+    requires words { length words.now < 2 ^ 57 }
+    requires frame { HasPackedFrame words.now }
+    requires numbers { StatesPackedFrame words.now frame }
+    requires starts { HasStarts words.now }
+    requires held { Holds starts.now (starts_stated words.now) }
+    requires count { count_of starts.now ≡ packed_terms words.now + 1 }
+    requires within { t < packed_terms words.now }
+    requires number { number ≡ slice_index (starts_stated words.now) t }
+    ensures ok { OnOk result (IsListStored words.now t) }
+    ensures next { IfOk result (λ next. next ≡ slice_index (starts_stated words.now) (t + 1)) }
+    ensures err { IfErr result (λ f. (¬ IsListStored words.now t)
+        × (f ≡ record { check = Check.K13; term = t; part = 0 })) }
+{
+    one_list_at_place();
+    let next = number_after(starts, t as u64, number);
+    let from = FIRST_LIST_BIT + number - t as u64;
+    let to = FIRST_LIST_BIT + next - 1 - t as u64;
+    if check_list(words, from, to, frame.documents as u32) {
+        Ok(next)
+    } else {
+        Err(OpenFault {
+            check: Check::K13,
+            term: t,
+            part: 0,
+        })
+    }
+}
+
+// Looks for the first list of a packed file that is none. It is linear in the words: where there
+// are list bits the directory has a bit for each list, and else it looks at none.
+fn check_packed_lists(words: &[u64], frame: PackedFrame) -> Result<(), OpenFault>
+    requires words { length words.now < 2 ^ 57 }
+    requires frame { HasPackedFrame words.now }
+    requires numbers { StatesPackedFrame words.now frame }
+    requires starts { HasStarts words.now }
+    ensures ok { OnOk result (AreListsStored words.now (packed_terms words.now)) }
+    ensures first { IfErr result (λ f. IsFirstPackedListFault words.now f) }
+{
+    one_list_at_place();
+    // All lists are without postings.
+    if frame.bits == 0 {
+        return Ok(());
+    }
+    let starts = PartView::at(starts_part(words, frame));
+    let mut number = 0;
+    for t in 0..frame.terms as u32 {
+        number = check_packed_list(words, &starts, frame, t, number)?;
+    }
+    Ok(())
+}
+
+// The check behind all lists that breaks.
+fn packed_closing_fault(words: &[u64], frame: PackedFrame) -> Option<OpenFault>
+    requires words { length words.now < 2 ^ 57 }
+    requires frame { HasPackedFrame words.now }
+    requires numbers { StatesPackedFrame words.now frame }
+    ensures some { IfSome result (λ f. IsPackedClosingFault words.now f) }
+    ensures none { result ≡ None → PassesPackedClosing words.now }
+{
+    let behind = FIRST_LIST_BIT + frame.bits;
+    let to = WORD_BITS * packed_sizes_of(frame);
+    if let Some(_) = (Bits { words }).next_one(behind, to) {
+        return Some(OpenFault {
+            check: Check::K9,
+            term: frame.terms as u32,
+            part: 0,
+        });
+    }
+    let is_odd = frame.documents % 2 == 1;
+    if is_odd && words[packed_directory_of(frame) as usize - 1] / HALF != 0 {
+        return Some(OpenFault {
+            check: Check::K11,
+            term: 0,
+            part: 0,
+        });
+    }
+    None
+}
+
+// Looks for the first check of a packed file that breaks.
+pub(crate) fn check_packed(words: &[u64]) -> Result<(), OpenFault>
+    requires words { length words.now < 2 ^ 57 }
+    ensures ok { OnOk result (PassesPacked words.now) }
+    ensures first { IfErr result (λ f. IsFirstBrokenPacked words.now f) }
+{
+    if let Some(check) = packed_frame_fault(words) {
+        return Err(OpenFault {
+            check,
+            term: 0,
+            part: 0,
+        });
+    }
+    let frame = packed_frame_of(words);
+    if !has_starts(words, frame) {
+        return Err(OpenFault {
+            check: Check::K12,
+            term: 0,
+            part: 0,
+        });
+    }
+    check_packed_lists(words, frame)?;
+    match packed_closing_fault(words, frame) {
+        Some(fault) => Err(fault),
+        None => Ok(()),
+    }
+}
