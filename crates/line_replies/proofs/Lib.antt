@@ -2,3 +2,4 @@ mod CursorLists
 mod Parsed
 mod Joining
 mod FirstJoined
+mod SideCursors

@@ -1,19 +1,25 @@
-ghost use Rattle.std.specs.Prelude.{◌≡◌};
+ghost use Rattle.std.specs.Prelude.{◌≡◌, ◌<◌, map, length, IfOk};
+ghost use Rattle.std.specs.List.{All};
 ghost use Rattle.block_max.specs.SideWords.{side_words, words_seen};
 ghost use Rattle.segments.specs.Laws.{IsInRange};
+ghost use Rattle.command_model.specs.Replies.{lists_of};
 ghost use Rattle.index_blocks.specs.BlockLists.{blocks_of_index};
 ghost use Rattle.index_blocks.specs.Seen.{index_seen};
 
 use crate::indexed::documents_are_below;
 use crate::lists::TermLists;
 use block_max::{Side, SideCursor, top_blockmax};
+use cursor_api::DocCursor;
 use index_blocks::IndexBlocks;
 use no_memory::NoMemory;
 use postings::PostingCursor;
+use scan_plans::top_exhaustive;
 use std::alloc::Global;
+use topk_pruning::pruning_can_save;
 
 /// The lists of the collection that an opened index stands for, with the greatest frequencies of
-/// their blocks; `top` is answered by block-max WAND.
+/// their blocks; `top` is answered by block-max WAND, and where pruning can save nothing by scoring
+/// every document, for which no blocks are needed.
 #[derive(Clone, Copy)]
 pub struct SideLists<'i, 'a> {
     blocks: &'i IndexBlocks<'i, 'a>,
@@ -34,8 +40,29 @@ impl<'i, 'a> SideLists<'i, 'a> {
     }
 }
 
+// A cursor at the start of each of these terms' lists, with the blocks of the side file.
+fn block_cursors<'i, 'a>(
+    alloc: Global,
+    lists: &SideLists<'i, 'a>,
+    terms: &[u32],
+) -> Result<Vec<SideCursor<'i, PostingCursor<'a>, IndexBlocks<'i, 'a>>>, NoMemory>
+    requires { All (λ t. t < length (index_seen lists.now.blocks.now).collection.lists) terms.now }
+    ensures lists { IfOk result (λ cursors. map
+        (⟦<SideCursor<'i, PostingCursor<'a>, IndexBlocks<'i, 'a>> as DocCursor>⟧.list) cursors.items
+        ≡ lists_of (index_seen lists.now.blocks.now).collection terms.now) }
+    ensures start { IfOk result (λ cursors. All
+        (λ c. ⟦<SideCursor<'i, PostingCursor<'a>, IndexBlocks<'i, 'a>> as DocCursor>⟧.place c ≡ 0)
+        cursors.items) }
+{
+    let mut cursors = Vec::with_capacity(alloc, terms.len())?;
+    for term in terms {
+        cursors.push_reserved(lists.blocks.cursor(lists.side, *term));
+    }
+    Ok(cursors)
+}
+
 impl<'i, 'a> TermLists for SideLists<'i, 'a> {
-    type Cursor = SideCursor<'i, PostingCursor<'a>, IndexBlocks<'i, 'a>>;
+    type Cursor = PostingCursor<'a>;
 
     ghost collection = { λ lists. (index_seen lists.blocks.now).collection };
 
@@ -47,12 +74,8 @@ impl<'i, 'a> TermLists for SideLists<'i, 'a> {
         self.blocks.index().terms()
     }
 
-    fn cursor(
-        &self,
-        _alloc: Global,
-        term: u32,
-    ) -> Result<SideCursor<'i, PostingCursor<'a>, IndexBlocks<'i, 'a>>, NoMemory> {
-        Ok(self.blocks.cursor(self.side, term))
+    fn cursor(&self, _alloc: Global, term: u32) -> Result<PostingCursor<'a>, NoMemory> {
+        Ok(self.blocks.index().cursor(term))
     }
 
     fn first_posting(
@@ -67,21 +90,27 @@ impl<'i, 'a> TermLists for SideLists<'i, 'a> {
     fn push_cursor(
         &self,
         _alloc: Global,
-        cursors: &mut Vec<SideCursor<'i, PostingCursor<'a>, IndexBlocks<'i, 'a>>>,
+        cursors: &mut Vec<PostingCursor<'a>>,
         term: u32,
     ) -> Result<(), NoMemory> {
-        cursors.push_reserved(self.blocks.cursor(self.side, term));
+        cursors.push_reserved(self.blocks.index().cursor(term));
         Ok(())
     }
 
     fn top(
         &self,
         alloc: Global,
-        cursors: &mut [SideCursor<'i, PostingCursor<'a>, IndexBlocks<'i, 'a>>],
+        terms: &[u32],
+        cursors: &mut [PostingCursor<'a>],
         weights: &[u32],
         k: u32,
     ) -> Result<Vec<(u32, u64)>, NoMemory> {
-        top_blockmax(alloc, cursors, weights, k, self.documents())
+        let documents = self.documents();
+        if !pruning_can_save(cursors, weights, k, documents) {
+            return top_exhaustive(alloc, cursors, weights, k, documents);
+        }
+        let mut in_blocks = block_cursors(alloc, self, terms)?;
+        top_blockmax(alloc, in_blocks.as_mut_slice(), weights, k, documents)
     }
 
     ghost in_range = { λ lists. lists.in_range };

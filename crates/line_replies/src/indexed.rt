@@ -66,6 +66,7 @@ impl<'i, 'a> TermLists for IndexLists<'i, 'a> {
     fn top(
         &self,
         alloc: Global,
+        _terms: &[u32],
         cursors: &mut [PostingCursor<'a>],
         weights: &[u32],
         k: u32,

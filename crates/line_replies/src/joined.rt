@@ -120,6 +120,7 @@ impl<'a> TermLists for JoinedLists<'a> {
     fn top(
         &self,
         alloc: Global,
+        _terms: &[u32],
         cursors: &mut [JoinedCursor<PostingCursor<'a>>],
         weights: &[u32],
         k: u32,

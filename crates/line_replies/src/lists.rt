@@ -3,6 +3,7 @@ ghost use Rattle.std.specs.List.{All};
 ghost use Rattle.collection_model.specs.Collection.{Collection, first_at_least, list_of};
 ghost use Rattle.scan_plans.specs.IsTop.{IsTop};
 ghost use Rattle.scan_plans.specs.TopQuery.{IsTopQuery};
+ghost use Rattle.command_model.specs.Replies.{lists_of};
 ghost use Rattle.segments.specs.Laws.{IsInRange};
 
 use cursor_api::DocCursor;
@@ -60,15 +61,19 @@ pub trait TermLists {
         ensures capacity { vec_capacity cursors.new ≡ vec_capacity cursors.old };
 
     /// The first k of the documents that are in any of the lists, by score falling and then document rising, each with its score. The
-    /// weights are those of the cursors' lists, in the same order; a score stays below 2^58.
+    /// terms and the weights are those of the cursors' lists, in the same order; a score stays below 2^58.
     fn top(
         &self,
         alloc: Global,
+        terms: &[u32],
         cursors: &mut [Self::Cursor],
         weights: &[u32],
         k: u32,
     ) -> Result<Vec<(u32, u64)>, NoMemory>
-        requires { IsTopQuery Self.Cursor.list Self.Cursor.place (collection self.now).documents
+        requires named { All (λ t. t < length (collection self.now).lists) terms.now }
+        requires lists { map Self.Cursor.list cursors.old ≡ lists_of (collection self.now)
+            terms.now }
+        requires query { IsTopQuery Self.Cursor.list Self.Cursor.place (collection self.now).documents
             cursors.old weights.now }
         ensures first { IfOk result (λ r. IsTop (collection self.now).documents
             (map Self.Cursor.list cursors.old) weights.now k r.items) }

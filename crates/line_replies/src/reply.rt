@@ -104,6 +104,6 @@ fn top_answer<L: TermLists>(
         (lists_of (L.collection lists.now) terms.now) weights.now k text.items) }
 {
     let mut cursors = cursors_of(alloc, lists, terms)?;
-    let top = lists.top(alloc, cursors.as_mut_slice(), weights, k)?;
+    let top = lists.top(alloc, terms, cursors.as_mut_slice(), weights, k)?;
     top_reply(alloc, top.as_slice())
 }
