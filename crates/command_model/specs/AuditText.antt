@@ -5,7 +5,7 @@ use Rattle.part_cost.specs.declared.kinds.Which.{Which}
 use Rattle.part_cost.specs.declared.kinds.Which.TheVariants.{Docs, Freqs}
 use Rattle.part_cost.specs.Formats.{numbers_of}
 use Rattle.part_cost.specs.Span.{cost_of_part}
-use Rattle.part_cost.specs.Partition.{partition_cost, IsCheapest, IsCheapestOfAll}
+use Rattle.part_cost.specs.StoredBits.{stored_bits, IsLeastStored, IsLeastStoredOfAll}
 use Rattle.index_file.specs.FileWords.{CutList}
 use Rattle.index_file.specs.IndexView.{IndexView, cut_lists}
 use Rattle.pef_report.specs.AuditLine.{audit_line, audit_end}
@@ -42,11 +42,11 @@ is_longer s = nat_lt longest_audited (length s.values)
 abbrev pub part_costs : FormatNumbers → CutSequence → ℕ → ℕ → ℕ
 part_costs format s = cost_of_part (part_charge format) s.values
 
--- The numbers of a line: what the partition in the file costs, the least cost of an allowed partition, and the least of any.
+-- The numbers of a line: the bits that the sequence takes as it stands in the file, the fewest that it may take there, and the fewest of any partition.
 pub record AreCostsOf (format : FormatNumbers) (s : CutSequence) (cost allowed any : ℕ) : Type 0 where
-  pub in_file : cost ≡ partition_cost (part_costs format s) s.ends
-  pub least_allowed : IsCheapest format.limit (part_costs format s) (length s.values) allowed
-  pub least_of_all : IsCheapestOfAll (part_costs format s) (length s.values) any
+  pub in_file : cost ≡ stored_bits format s.values s.ends
+  pub least_allowed : IsLeastStored format s.values allowed
+  pub least_of_all : IsLeastStoredOfAll format s.values any
 
 -- The text is the line of a sequence.
 abbrev pub IsAuditLine : FormatNumbers → CutSequence → List ℕ → Type 0

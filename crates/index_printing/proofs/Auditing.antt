@@ -18,7 +18,8 @@ use Rattle.part_cost.specs.declared.kinds.Which.TheVariants.{Docs, Freqs}
 use Rattle.part_cost.specs.Formats.{HasRoom, numbers_of}
 use Rattle.part_cost.specs.Laws.{SingleIsAllowed}
 use Rattle.part_cost.specs.Payload.{widest_low}
-use Rattle.part_cost.specs.Partition.{partition_cost}
+use Rattle.part_cost.specs.StoredBits.{stored_bits}
+use Rattle.part_cost.specs.StoredLaws.{LeastInPackedFiles}
 use Rattle.pef_io.specs.declared.fail.IoFail.{IoFail}
 use Rattle.pef_io.specs.declared.fail.IoFail.TheVariants as call
 use Rattle.pef_io.specs.Calls.{Rose}
@@ -31,6 +32,7 @@ use Rattle.command_model.specs.AuditText.{CutSequence, cut_sequence, sequences_f
 use Rattle.index_printing.specs.PrintLine.{PrintsLine}
 use Rattle.index_printing.specs.PrintAudit.{PrintsAudit, PrintsLines, IsAudited}
 use Rattle.index_printing.proofs.LeastCosts.{least-allowed, least-of-all}
+use Rattle.index_printing.proofs.FewestBits.{fewest-exist}
 use Rattle.index_printing.proofs.PrintedLine.{not-made}
 
 counted-all : {P : Type 0} (r : Result (Unit {0}) IoFail) → P → OnOk r P
@@ -99,15 +101,19 @@ pub one-line : (format : FormatNumbers) (s : CutSequence) (text : List ℕ) → 
 one-line format s text is = (text, [], is, refl, sym (append-nil text))
 
 -- A sequence of which each number is allowed alone has a line.
-abbrev pub HasCosts : FormatNumbers → CutSequence → Type 0
-HasCosts format s = (j : ℕ) → j < length s.values → part_costs format s j (j + 1) ≤ format.limit
+pub record HasCosts (format : FormatNumbers) (s : CutSequence) : Type 0 where
+  pub single : (j : ℕ) → j < length s.values → part_costs format s j (j + 1) ≤ format.limit
+  pub least : LeastInPackedFiles
 
 pub line-exists : (format : FormatNumbers) (s : CutSequence) → HasCosts format s → (text : List ℕ) × IsAuditLine format s text
-line-exists format s single =
-    let allowed = least-allowed format.limit (part_costs format s) (length s.values) single in
-    let any = least-of-all format.limit (part_costs format s) (length s.values) single in
-    let cost = partition_cost (part_costs format s) s.ends in
-    (audit_line s.term s.which cost allowed.0 any.0, (cost, allowed.0, any.0, record { in_file = refl; least_allowed = allowed.1; least_of_all = any.1 }, refl))
+line-exists format s has =
+    let allowed = least-allowed format.limit (part_costs format s) (length s.values) has.single in
+    let any = least-of-all format.limit (part_costs format s) (length s.values) has.single in
+    let fewest = fewest-exist format s.values allowed.0 any.0 allowed.1 any.1 has.least in
+    let bits = stored_bits format s.values s.ends in (
+      audit_line s.term s.which bits fewest.0 fewest.1,
+      (bits, fewest.0, fewest.1, record { in_file = refl; least_allowed = fewest.2.least_allowed; least_of_all = fewest.2.least_of_all }, refl),
+    )
 
 lines-exist : (format : FormatNumbers) (ss : List CutSequence) → All (HasCosts format) ss → (text : List ℕ) × AreAuditLines format ss text
 lines-exist format [] all = ([], refl)
@@ -139,10 +145,12 @@ fits format room rise n few t Docs c is =
     record { rising = r.docs_rise; below = All-weaker (λ d. d < n) (λ d. d < format.most_sum) (λ d l. omega (arith, l, few, room.documents)) (doc_sequence c.list) r.docs_below; count_is = r.docs_count }
 fits format room rise n few t Freqs c is = let r = rise format n c.list is in record { rising = r.sums_rise; below = r.sums_below; count_is = r.sums_count }
 
-has-costs : (format : FormatNumbers) → HasRoom format → SingleIsAllowed → (s : CutSequence) (count : ℕ) → IsFit format s.values count → HasCosts format s
-has-costs format room single s count fit =
-    single (part_charge format) format.limit room.single s.values fit.rising
-    (All-weaker (λ x. x < format.most_sum) (λ x. x < 2 ^ widest_low) (λ x l. omega (arith, l, room.sums)) s.values fit.below)
+has-costs : (format : FormatNumbers) → HasRoom format → SingleIsAllowed → LeastInPackedFiles → (s : CutSequence) (count : ℕ) → IsFit format s.values count → HasCosts format s
+has-costs format room single least s count fit = record {
+  single = single (part_charge format) format.limit room.single s.values fit.rising
+      (All-weaker (λ x. x < format.most_sum) (λ x. x < 2 ^ widest_low) (λ x l. omega (arith, l, room.sums)) s.values fit.below);
+  least = least;
+}
 
 pub sequence-fits : (i : IndexView) → HasRoom (numbers_of i.format) → SequencesRise → WellFormed (numbers_of i.format) i.collection → (t : ℕ) → t < length i.collection.lists → (which : Which)
     → IsFit (numbers_of i.format) (cut_sequence t which (cut_list_at i t)).values (length (list_of i.collection t))
@@ -150,22 +158,22 @@ sequence-fits i room rise good t within which =
     fits (numbers_of i.format) room rise i.collection.documents good.documents t which (cut_list_at i t)
     (All-get_or (IsPostingList (numbers_of i.format) i.collection.documents) i.collection.lists t [] within good.lists)
 
-pub sequence-has : (i : IndexView) → HasRoom (numbers_of i.format) → SequencesRise → SingleIsAllowed → WellFormed (numbers_of i.format) i.collection → (t : ℕ) → t < length i.collection.lists
+pub sequence-has : (i : IndexView) → HasRoom (numbers_of i.format) → SequencesRise → SingleIsAllowed → LeastInPackedFiles → WellFormed (numbers_of i.format) i.collection → (t : ℕ) → t < length i.collection.lists
     → (which : Which) → HasCosts (numbers_of i.format) (cut_sequence t which (cut_list_at i t))
-sequence-has i room rise single good t within which =
-    has-costs (numbers_of i.format) room single (cut_sequence t which (cut_list_at i t)) (length (list_of i.collection t)) (sequence-fits i room rise good t within which)
+sequence-has i room rise single least good t within which =
+    has-costs (numbers_of i.format) room single least (cut_sequence t which (cut_list_at i t)) (length (list_of i.collection t)) (sequence-fits i room rise good t within which)
 
-all-have : (format : FormatNumbers) → HasRoom format → SequencesRise → SingleIsAllowed → (n : ℕ) → n ≤ format.most_documents → (t : ℕ) (lists : List (List Posting)) (parts : List ListParts)
+all-have : (format : FormatNumbers) → HasRoom format → SequencesRise → SingleIsAllowed → LeastInPackedFiles → (n : ℕ) → n ≤ format.most_documents → (t : ℕ) (lists : List (List Posting)) (parts : List ListParts)
     → All (IsPostingList format n) lists → All (HasCosts format) (sequences_from t (with_parts lists parts))
-all-have format room rise single n few t [] parts are = All-nil (HasCosts format)
-all-have format room rise single n few t (list ∷ lists) [] are = All-nil (HasCosts format)
-all-have format room rise single n few t (list ∷ lists) (p ∷ parts) are =
+all-have format room rise single least n few t [] parts are = All-nil (HasCosts format)
+all-have format room rise single least n few t (list ∷ lists) [] are = All-nil (HasCosts format)
+all-have format room rise single least n few t (list ∷ lists) (p ∷ parts) are =
     let c : CutList = record { list = list; parts = p } in
     let is = All-head (IsPostingList format n) list lists are in
-    let rest = all-have format room rise single n few (t + 1) lists parts (All-tail (IsPostingList format n) list lists are) in
+    let rest = all-have format room rise single least n few (t + 1) lists parts (All-tail (IsPostingList format n) list lists are) in
     let more = sequences_from (t + 1) (with_parts lists parts) in
-    All-cons (HasCosts format) (cut_sequence t Docs c) (cut_sequence t Freqs c ∷ more) (has-costs format room single (cut_sequence t Docs c) (length list) (fits format room rise n few t Docs c is))
-    (All-cons (HasCosts format) (cut_sequence t Freqs c) more (has-costs format room single (cut_sequence t Freqs c) (length list) (fits format room rise n few t Freqs c is)) rest)
+    All-cons (HasCosts format) (cut_sequence t Docs c) (cut_sequence t Freqs c ∷ more) (has-costs format room single least (cut_sequence t Docs c) (length list) (fits format room rise n few t Docs c is))
+    (All-cons (HasCosts format) (cut_sequence t Freqs c) more (has-costs format room single least (cut_sequence t Freqs c) (length list) (fits format room rise n few t Freqs c is)) rest)
 
 -- both sequences of a list have as many numbers as the list
 pub values-count : (t : ℕ) (which : Which) (c : CutList) → length (cut_sequence t which c).values ≡ length c.list
@@ -186,8 +194,8 @@ list-is i good t within docs freqs same is = record {
   freqs_are = sym (ap freqs_of is) ∙ freqs-of_postings docs freqs same;
 }
 
-pub index-has : (i : IndexView) → HasRoom (numbers_of i.format) → SequencesRise → SingleIsAllowed → WellFormed (numbers_of i.format) i.collection → All (HasCosts (numbers_of i.format)) (sequences_in i)
-index-has i room rise single good = all-have (numbers_of i.format) room rise single i.collection.documents good.documents 0 i.collection.lists i.parts good.lists
+pub index-has : (i : IndexView) → HasRoom (numbers_of i.format) → SequencesRise → SingleIsAllowed → LeastInPackedFiles → WellFormed (numbers_of i.format) i.collection → All (HasCosts (numbers_of i.format)) (sequences_in i)
+index-has i room rise single least good = all-have (numbers_of i.format) room rise single least i.collection.documents good.documents 0 i.collection.lists i.parts good.lists
 
 -- ---- which have a line
 

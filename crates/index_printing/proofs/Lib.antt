@@ -1,5 +1,6 @@
 mod PrintedLine
 mod LeastCosts
+mod FewestBits
 mod Auditing
 mod PartCosts
 mod AskedLines

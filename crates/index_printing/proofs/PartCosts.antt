@@ -1,24 +1,31 @@
 -- What the partitions of an index cost: the charge of each part and the payload of all, no more bits than its words have.
-use Rattle.std.proofs.Common.{◌≡◌, refl, sym, ap, ◌∙◌, subst, ℕ, ◌+◌, ◌*◌, ◌/◌, ◌≤◌, ◌<◌, cond, List, [], ◌∷◌, ◌++◌, length, length-append, arith}
+use Rattle.std.proofs.Common.{◌≡◌, refl, sym, ap, ◌∙◌, subst, ℕ, ◌+◌, ◌*◌, ◌/◌, ◌^◌, ◌≤◌, ◌<◌, cond, List, [], ◌∷◌, ◌++◌, length, length-append, arith}
 use Rattle.std.specs.Prelude.{sum_by, count_by, flat_map}
 use Rattle.std.specs.List.{All}
 use Rattle.std.proofs.lemmas.List.Elements.{All-weaker, All-head, All-tail}
 use Rattle.std.proofs.lemmas.List.Sums.{sum_by-cons}
 use Rattle.std.proofs.Math.Nat.{mul-le-mul_right}
-use Rattle.collection_model.specs.FormatNumbers.{FormatNumbers, entry_words, part_charge}
+use Rattle.collection_model.specs.FormatNumbers.{FormatNumbers, format_three, entry_words, part_charge}
 use Rattle.collection_model.specs.Collection.{Posting, Collection, WellFormed, IsPostingList}
 use Rattle.collection_model.specs.Sequences.{doc_sequence, freq_sequence}
 use Rattle.part_cost.specs.declared.kinds.Kind.{Kind}
 use Rattle.part_cost.specs.declared.kinds.Kind.TheVariants.{Ones, Bitmap, Ef}
+use Rattle.part_codec.specs.Laws.{TakesItsPayload}
+use Rattle.part_cost.specs.declared.formats.Format.{Format}
+use Rattle.part_cost.specs.declared.formats.Format.TheVariants.{One, Two, Three}
 use Rattle.part_cost.specs.Formats.{HasRoom, numbers_of}
 use Rattle.part_cost.specs.Span.{cost_of_part}
 use Rattle.part_cost.specs.Partition.{IsPartition, partition_cost}
 use Rattle.two_level.specs.Laws.{TakesItsCost}
 use Rattle.part_cost.proofs.Partitions.{charges}
 use Rattle.postings.specs.Laws.{SequencesRise}
-use Rattle.index_file.specs.FileWords.{CutList, ListParts, ArePartitions, with_parts, doc_words, freq_words, lists_words}
-use Rattle.index_file.specs.IndexView.{IndexView, cut_lists, same_kind, kinds_from, kinds_of_list, payload_of_list, parts_of_kind, payload_bits, word_count}
+use Rattle.index_file.specs.FileWords.{CutList, ListParts, ArePartitions, with_parts, doc_words, freq_words, lists_words, file_words}
+use Rattle.index_file.specs.IndexView.{IndexView, cut_lists, same_kind, kinds_from, kinds_of_list, payload_of_list, parts_of_kind, payload_bits}
+use Rattle.index_file.specs.PlainWords.{plain_words}
+use Rattle.index_file.specs.PackedWords.{first_list_bit, bits_of_list, bits_of_lists, packed_words}
 use Rattle.index_file.proofs.Lengths.{file-length, some-entry}
+use Rattle.index_file.proofs.FittingFiles.{bits-within}
+use Rattle.index_file.proofs.PackedCosts.{list-at_most as list-bits}
 use Rattle.command_model.specs.GeneratedText.{cost_of_list, cost_of_lists}
 
 -- ---- the parts
@@ -124,14 +131,47 @@ lists-at_most format room takes rise n few (list ∷ lists) (p ∷ parts) are cu
       lists-at_most format room takes rise n few lists parts (All-tail (IsPostingList format n) list lists are) cut.2,
     )
 
--- partitions cost no more than the bits of the file
-pub costs-at_most : (i : IndexView) → HasRoom (numbers_of i.format) → TakesItsCost (numbers_of i.format) → SequencesRise → WellFormed (numbers_of i.format) i.collection
-    → ArePartitions i.collection.lists i.parts → cost_of_lists (numbers_of i.format) i.collection i.parts ≤ 64 * word_count i
-costs-at_most i room takes rise good cut =
-    let format : FormatNumbers = numbers_of i.format in
-    let c : Collection = i.collection in
+-- partitions of a packed file, by the bits of its lists
+packed-at_most : TakesItsPayload → TakesItsCost format_three → SequencesRise → (n at : ℕ) → n ≤ format_three.most_documents → (lists : List (List Posting)) (parts : List ListParts)
+    → All (IsPostingList format_three n) lists → ArePartitions lists parts → sum_by (cost_of_list format_three) (with_parts lists parts) ≤ 256 * length (bits_of_lists n at (with_parts lists parts))
+packed-at_most takes cost rise n at few [] parts are cut = omega arith
+packed-at_most takes cost rise n at few (list ∷ lists) [] are cut = absurd cut
+packed-at_most takes cost rise n at few (list ∷ lists) (p ∷ parts) are cut =
+    let c : CutList = record { list = list; parts = p } in
+    let cs : List CutList = with_parts lists parts in
+    let l : List ℕ = bits_of_list n at c in
+    let one = list-bits takes cost rise (cost_of_part 128 (doc_sequence list)) (cost_of_part 128 (freq_sequence list)) n (first_list_bit + at) list p (λ i j. omega arith) (λ i j. omega arith) few
+    (record { well_formed = All-head (IsPostingList format_three n) list lists are; docs = cut.0; freqs = cut.1 }) in
     omega (
       arith,
-      file-length format c.documents (cut_lists i) c.sizes,
-      lists-at_most format room takes rise c.documents good.documents c.lists i.parts good.lists cut,
+      sum_by-cons (cost_of_list format_three) c cs,
+      one,
+      packed-at_most takes cost rise n (at + length l) few lists parts (All-tail (IsPostingList format_three n) list lists are) cut.2,
+      length-append l (bits_of_lists n (at + length l) cs),
     )
+
+plain-cost : (format : FormatNumbers) → HasRoom format → TakesItsCost format → SequencesRise → (c : Collection) (parts : List ListParts) → WellFormed format c → ArePartitions c.lists parts
+    → cost_of_lists format c parts ≤ 2 ^ 14 * length (plain_words format c.documents (with_parts c.lists parts) c.sizes)
+plain-cost format room takes rise c parts good cut =
+    omega (
+      arith,
+      file-length format c.documents (with_parts c.lists parts) c.sizes,
+      lists-at_most format room takes rise c.documents good.documents c.lists parts good.lists cut,
+    )
+
+packed-cost : TakesItsPayload → TakesItsCost format_three → SequencesRise → (c : Collection) (parts : List ListParts) → WellFormed format_three c → ArePartitions c.lists parts
+    → cost_of_lists format_three c parts ≤ 2 ^ 14 * length (packed_words c.documents (with_parts c.lists parts) c.sizes)
+packed-cost takes cost rise c parts good cut =
+    let cs : List CutList = with_parts c.lists parts in
+    omega (
+      arith,
+      packed-at_most takes cost rise c.documents 0 good.documents c.lists parts good.lists cut,
+      bits-within c.documents cs c.sizes,
+    )
+
+-- partitions cost no more than 2 ^ 14 for each word of the file
+pub costs-at_most : TakesItsPayload → (f : Format) → HasRoom (numbers_of f) → TakesItsCost (numbers_of f) → SequencesRise → (c : Collection) (parts : List ListParts) → WellFormed (numbers_of f) c
+    → ArePartitions c.lists parts → cost_of_lists (numbers_of f) c parts ≤ 2 ^ 14 * length (file_words (numbers_of f) c parts)
+costs-at_most takes One room cost rise c parts good cut = plain-cost (numbers_of One) room cost rise c parts good cut
+costs-at_most takes Two room cost rise c parts good cut = plain-cost (numbers_of Two) room cost rise c parts good cut
+costs-at_most takes Three room cost rise c parts good cut = packed-cost takes cost rise c parts good cut

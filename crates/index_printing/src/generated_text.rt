@@ -1,4 +1,4 @@
-ghost use Rattle.std.specs.Prelude.{◌≡◌, ◌≤◌, ◌*◌, ◌++◌, ℕ, List, length, replicate, string_bytes, IfOk, OnOk};
+ghost use Rattle.std.specs.Prelude.{◌≡◌, ◌≤◌, ◌*◌, ◌^◌, ◌++◌, ℕ, List, length, replicate, string_bytes, IfOk, OnOk};
 ghost use Rattle.part_cost.specs.Formats.{numbers_of};
 ghost use Rattle.index_file.specs.Builder.{most_words};
 ghost use Rattle.index_file.specs.IndexView.{word_count};
@@ -9,6 +9,7 @@ ghost use Rattle.index_printing.specs.PrintText.{MakesAndPrints};
 use index_file::Index;
 use line_replies::{IndexLists, TermLists, reply_to};
 use no_memory::NoMemory;
+use part_codec::part_takes_its_payload;
 use part_cost::{Kind, formats_have_room};
 use pef_io::{IoFail, Sink, write_all_own};
 use postings::sequences_of_a_list_rise;
@@ -73,11 +74,12 @@ fn cost_of_lists(index: &Index<'_>) -> u64
     index.payload_bits() + index.format().charge() * parts
 }
 
-// All partitions cost no more bits than the words of the file have.
+// All partitions cost no more than 2^14 for each word of the file.
 fn lists_cost_their_words(index: &Index<'_>)
     ensures { cost_of_lists (numbers_of index.now.format) index.now.collection index.now.parts
-        ≤ 64 * word_count index.now }
+        ≤ 2 ^ 14 * word_count index.now }
 {
+    part_takes_its_payload();
     formats_have_room();
     sequences_of_a_list_rise();
     sequence_takes_its_cost();

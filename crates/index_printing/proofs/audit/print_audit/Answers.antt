@@ -1,4 +1,5 @@
 use Rattle.std.proofs.Common.{◌≡◌, sym, subst, rules, arith, ℕ, List, Result, Err, refl, string_bytes}
+use Rattle.std.proofs.lemmas.Result.{err_from_is_err_and}
 use Rattle.pef_io.specs.declared.fail.IoFail.{IoFail}
 use Rattle.pef_io.specs.declared.fail.IoFail.TheVariants.{NoMemory}
 use Rattle.pef_io.specs.Helpers.{WritesAll}
@@ -7,6 +8,19 @@ use Rattle.index_printing.specs.PrintAudit.{PrintsAudit}
 use Rattle.index_printing.proofs.Auditing.{audit-ends}
 use Rattle.index_printing.proofs.PrintedLine.{not-made, printed-or-not}
 use Rattle.index_printing.proofs.audit.print_audit.Goals as goal
+
+pub returns-in_err-more : goal.returns-in_err-more
+returns-in_err-more g c =
+    let p = err_from_is_err_and c.from_residual.result c.from_residual.ensures.1 in
+    rw (p.1, p.2) (c.in_err-more.ensures.stops (g.O.Sink.state c.args.out.now) c.args.steps.now c.loop-term.tally.shown c.loop-term.tally.longer c.loop-term.invariant)
+
+pub overflow_add-tally : goal.overflow_add-tally
+overflow_add-tally g c =
+    omega (arith, (c.in_ok-more.ensures.goes_on (g.O.Sink.state c.args.out.now) c.args.steps.now c.loop-term.tally.shown c.loop-term.tally.longer c.loop-term.invariant).few, c.loop-term-test.true)
+
+pub overflow_add-tally-in-loop-term : goal.overflow_add-tally-in-loop-term
+overflow_add-tally-in-loop-term g c =
+    omega (arith, (c.in_ok-more.ensures.goes_on (g.O.Sink.state c.args.out.now) c.args.steps.now c.loop-term.tally.shown c.loop-term.tally.longer c.loop-term.invariant).few, c.loop-term-test.true)
 
 pub returns-in_err-end : goal.returns-in_err-end
 returns-in_err-end g c =

@@ -14,7 +14,7 @@ pub returns-in_err-docs : goal.returns-in_err-docs
 returns-in_err-docs g c =
     let i = c.args.index.now in
     let cut = cut_list_at i c.args.term in
-    let has = sequence-has i (c.formats_have_room.ensures i.format) c.sequences_of_a_list_rise.ensures c.single_is_allowed.ensures.allowed c.stands_for_a_collection.ensures.well_formed c.args.term c.requires.within in
+    let has = sequence-has i (c.formats_have_room.ensures i.format) c.sequences_of_a_list_rise.ensures c.single_is_allowed.ensures.allowed c.least_stored.ensures c.stands_for_a_collection.ensures.well_formed c.args.term c.requires.within in
     let is : c.from_residual.result ≡ Err NoMemory = search rules in
     let P : Result (Unit {0}) IoFail → Type 0 = λ r. PrintsLines (numbers_of i.format) (cut_sequence c.args.term Docs cut ∷ cut_sequence c.args.term Freqs cut ∷ [])
     (g.O.Sink.state c.args.out.now) (g.O.Sink.state c.args.out.now) c.args.steps.now c.args.steps.now r in
@@ -24,7 +24,7 @@ pub returns-in_err-print_line : goal.returns-in_err-print_line
 returns-in_err-print_line g c =
     let i = c.args.index.now in
     let cut = cut_list_at i c.args.term in
-    let has = sequence-has i (c.formats_have_room.ensures i.format) c.sequences_of_a_list_rise.ensures c.single_is_allowed.ensures.allowed c.stands_for_a_collection.ensures.well_formed c.args.term c.requires.within in
+    let has = sequence-has i (c.formats_have_room.ensures i.format) c.sequences_of_a_list_rise.ensures c.single_is_allowed.ensures.allowed c.least_stored.ensures c.stands_for_a_collection.ensures.well_formed c.args.term c.requires.within in
     let p = err_from_is_err_and c.from_residual-in_err-print_line.result c.from_residual-in_err-print_line.ensures.1 in
     rw (p.1, p.2) (first-refused (numbers_of i.format) (cut_sequence c.args.term Docs cut) (cut_sequence c.args.term Freqs cut) _ _ _ _ _ (has Freqs) c.in_err-print_line.ensures)
 
