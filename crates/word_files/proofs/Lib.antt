@@ -1,2 +1,2 @@
 mod LoadedWords
-mod WrittenFile
+pub mod WrittenFile

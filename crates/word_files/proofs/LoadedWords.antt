@@ -1,7 +1,7 @@
 -- How the words of a file are read piece by piece, and what loading them gives.
 use Rattle.std.proofs.Common.{◌≡◌, ◌≢◌, refl, sym, ap, ◌∙◌, subst, ℕ, ◌+◌, ◌*◌, ◌%◌, ◌^◌, ◌<◌, ◌≤◌, List, [], ◌∷◌, ◌++◌, take, length, inl, inr, IsTrue, Result, Ok, Err, arith}
 use Rattle.std.specs.Prelude.{◌⊎◌, IsErrOf, slice_index}
-use Rattle.std.specs.List.{All}
+use Rattle.std.specs.List.{All, Contains}
 use Rattle.std.proofs.lemmas.Bool.{cases_lt}
 use Rattle.std.proofs.lemmas.List.{append_assoc, append-nil, length-append, length-take}
 use Rattle.std.proofs.lemmas.List.Elements.{All-append}
@@ -245,9 +245,9 @@ first-of-prefix [] rest some = absurd (omega (arith, some))
 first-of-prefix (x ∷ prefix) rest some = refl
 
 -- words whose rest was passed over
-pub prefix-kept : (opening : ℕ) (slot : Slot) (old new : DepotState) (prefix : List ℕ) → ReadsBehind slot prefix old new (Ok tt) → All (λ w. w < 2 ^ 64) prefix
-    → 6 ≤ length prefix → slice_index prefix 0 ≢ opening → ReadsKept opening slot old new (Ok prefix)
-prefix-kept opening slot old new prefix (rest, fit, reads) first many other = (
+pub prefix-kept : (openings : List ℕ) (slot : Slot) (old new : DepotState) (prefix : List ℕ) → ReadsBehind slot prefix old new (Ok tt) → All (λ w. w < 2 ^ 64) prefix
+    → 6 ≤ length prefix → ¬ Contains openings (slice_index prefix 0) → ReadsKept openings slot old new (Ok prefix)
+prefix-kept openings slot old new prefix (rest, fit, reads) first many other = (
   prefix ++ rest,
   inr (record {
     many = many;
@@ -346,7 +346,7 @@ loading-refused slot name old mid new e s r = record {
     refused NoMemory r t many = inr (inr refl)
 
 -- its words are read, and kept or not
-pub kept-loaded : (opening : ℕ) (slot : Slot) (name : List ℕ) (old mid new : DepotState) (r : Result (List ℕ) LoadWordsError) → Starts old mid slot name (Ok tt)
-    → ReadsKept opening slot mid new r → LoadsKept opening slot name old new r
-kept-loaded opening slot name old mid new (Ok words) s (all, kept, fit, reads) = (all, kept, words-loaded slot name old mid new all s reads fit)
-kept-loaded opening slot name old mid new (Err e) s reads = loading-refused slot name old mid new e s reads
+pub kept-loaded : (openings : List ℕ) (slot : Slot) (name : List ℕ) (old mid new : DepotState) (r : Result (List ℕ) LoadWordsError) → Starts old mid slot name (Ok tt)
+    → ReadsKept openings slot mid new r → LoadsKept openings slot name old new r
+kept-loaded openings slot name old mid new (Ok words) s (all, kept, fit, reads) = (all, kept, words-loaded slot name old mid new all s reads fit)
+kept-loaded openings slot name old mid new (Err e) s reads = loading-refused slot name old mid new e s reads

@@ -38,7 +38,7 @@ pub record LoadsWords (slot : Slot) (name : List ℕ) (old new : DepotState) (re
   pub started_once : StartedOnce (λ s. name) (λ s. s ≡ slot) old new
   pub refusals_rise_only_there : (result ≡ Err NoMemory) ⊎ (new.refusals ≡ old.refusals)
 
--- What loading a file gives of which all words are kept only where it begins with this word.
-abbrev pub LoadsKept : ℕ → Slot → List ℕ → DepotState → DepotState → Result (List ℕ) LoadWordsError → Type 0
-LoadsKept opening slot name old new (Ok words) = (all : List ℕ) × AreKept opening words all × LoadsWords slot name old new (Ok all)
-LoadsKept opening slot name old new (Err e) = LoadsWords slot name old new (Err e)
+-- What loading a file gives of which all words are kept only where it begins with one of these words.
+abbrev pub LoadsKept : List ℕ → Slot → List ℕ → DepotState → DepotState → Result (List ℕ) LoadWordsError → Type 0
+LoadsKept openings slot name old new (Ok words) = (all : List ℕ) × AreKept openings words all × LoadsWords slot name old new (Ok all)
+LoadsKept openings slot name old new (Err e) = LoadsWords slot name old new (Err e)

@@ -1,5 +1,5 @@
 use Rattle.std.specs.Prelude.{◌≡◌, ◌≢◌, ℕ, ◌<◌, ◌≤◌, ◌%◌, ◌^◌, ◌⊎◌, ◌++◌, IsTrue, List, length, slice_index, Result, Ok, Err, IfOk}
-use Rattle.std.specs.List.{All}
+use Rattle.std.specs.List.{All, Contains}
 use Rattle.collection_model.specs.Bytes.{word_bytes}
 use Rattle.pef_io.specs.declared.fail.IoFail.{IoFail}
 use Rattle.pef_io.specs.declared.fail.IoFail.TheVariants as call
@@ -35,21 +35,21 @@ pub record ReadsWords (slot : Slot) (old new : DepotState) (result : Result (Lis
   pub starts : SameStarts old new
   pub refusals_rise_only_there : (result ≡ Err NoMemory) ⊎ (new.refusals ≡ old.refusals)
 
--- Some words of a file that has no fewer, and begins with another word: enough that this is the first check that breaks.
-pub record AreOfOther (opening : ℕ) (words all : List ℕ) : Type 0 where
+-- Some words of a file that has no fewer, and begins with none of these words: enough that this is the first check that breaks.
+pub record AreOfOther (openings words all : List ℕ) : Type 0 where
   pub many : 6 ≤ length words
   pub no_more : length words ≤ length all
   pub same_first : slice_index all 0 ≡ slice_index words 0
-  pub other : slice_index words 0 ≢ opening
+  pub other : ¬ Contains openings (slice_index words 0)
 
--- The words that are kept of those of a file: all, or some where it begins with another word.
-abbrev pub AreKept : ℕ → List ℕ → List ℕ → Type 0
-AreKept opening words all = (words ≡ all) ⊎ AreOfOther opening words all
+-- The words that are kept of those of a file: all, or some where it begins with none of these words.
+abbrev pub AreKept : List ℕ → List ℕ → List ℕ → Type 0
+AreKept openings words all = (words ≡ all) ⊎ AreOfOther openings words all
 
--- What reading the words of all bytes that a started slot has left gives, where all are kept only if they begin with this word.
-abbrev pub ReadsKept : ℕ → Slot → DepotState → DepotState → Result (List ℕ) LoadWordsError → Type 0
-ReadsKept opening slot old new (Ok words) = (all : List ℕ) × AreKept opening words all × All (λ w. w < 2 ^ 64) all × ReadsWords slot old new (Ok all)
-ReadsKept opening slot old new (Err e) = ReadsWords slot old new (Err e)
+-- What reading the words of all bytes that a started slot has left gives, where all are kept only if they begin with one of these words.
+abbrev pub ReadsKept : List ℕ → Slot → DepotState → DepotState → Result (List ℕ) LoadWordsError → Type 0
+ReadsKept openings slot old new (Ok words) = (all : List ℕ) × AreKept openings words all × All (λ w. w < 2 ^ 64) all × ReadsWords slot old new (Ok all)
+ReadsKept openings slot old new (Err e) = ReadsWords slot old new (Err e)
 
 -- The bytes of these words were read from a slot, and no call failed.
 pub record HasWords (slot : Slot) (old new : DepotState) (words : List ℕ) : Type 0 where

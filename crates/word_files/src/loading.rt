@@ -1,5 +1,5 @@
-ghost use Rattle.std.specs.Prelude.{◌≡◌, ◌≢◌, ◌+◌, ◌/◌, ◌%◌, ◌^◌, ◌<◌, ◌≤◌, ◌++◌, max, length, vec_len, vec_capacity, IsTrue, IfOk, IfErr, OnOk};
-ghost use Rattle.std.specs.List.{All};
+ghost use Rattle.std.specs.Prelude.{◌≡◌, ◌≢◌, ◌+◌, ◌/◌, ◌%◌, ◌^◌, ◌<◌, ◌≤◌, ◌++◌, ◌↔◌, max, length, vec_len, vec_capacity, IsTrue, IfOk, IfErr, OnOk};
+ghost use Rattle.std.specs.List.{All, Contains};
 ghost use Rattle.collection_model.specs.Bytes.{word_bytes};
 ghost use Rattle.index_file.specs.declared.bytes.WordsError.TheVariants.{Ragged, NoMemory};
 ghost use Rattle.word_files.specs.LoadWords.{LoadsKept, words_loaded};
@@ -55,21 +55,21 @@ impl From<WordsError> for LoadWordsError {
 }
 
 /// The words of the file under the name, at most 2^37, which is read from the slot. What they stand for is not checked here, but of a
-/// file that begins with another word than `opening` no more are kept than those of its first piece: the rest is read to its end, so
+/// file that begins with none of the words `openings` no more are kept than those of its first piece: the rest is read to its end, so
 /// that it is refused as any other where it is ragged or too large. Room is taken for the words that are kept and a quarter more, for a
 /// piece of the file, and, where the rest is not kept, for the words of a piece.
 pub fn load_words<D: Depot>(
     alloc: Global,
     slot: Slot,
-    opening: u64,
+    openings: &[u64],
     name: &str,
     depot: &mut D,
 ) -> Result<Vec<u64>, LoadWordsError>
-    ensures { LoadsKept opening slot name.now (D.state depot.old) (D.state depot.new)
+    ensures { LoadsKept openings.now slot name.now (D.state depot.old) (D.state depot.new)
         (words_loaded result) }
 {
     depot.start(slot, name)?;
-    read_file(alloc, slot, opening, depot)
+    read_file(alloc, slot, openings, depot)
 }
 
 // Words are numbers of 64 bits.
@@ -77,16 +77,23 @@ fn words_fit(words: &[u64])
     ensures { All (λ w. w < 2 ^ 64) words.now }
 {}
 
-// The words of all bytes that a started slot has left, at most 2^40, piece by piece; of those that begin with another word than
-// `opening`, the words of the first piece.
+// Whether a file of which all words are kept begins with this one.
+fn is_opening(openings: &[u64], word: u64) -> bool
+    ensures { IsTrue result ↔ Contains openings.now word }
+{
+    openings.contains(&word)
+}
+
+// The words of all bytes that a started slot has left, at most 2^40, piece by piece; of those that begin with none of the words
+// `openings`, the words of the first piece.
 fn read_file<D: Depot>(
     alloc: Global,
     slot: Slot,
-    opening: u64,
+    openings: &[u64],
     depot: &mut D,
 ) -> Result<Vec<u64>, LoadWordsError>
     requires { IsTrue ((D.state depot.old).started slot) }
-    ensures { ReadsKept opening slot (D.state depot.old) (D.state depot.new) (words_loaded result) }
+    ensures { ReadsKept openings.now slot (D.state depot.old) (D.state depot.new) (words_loaded result) }
 {
     let mut piece = room_for_a_piece(alloc)?;
     let mut words = Vec::new(alloc);
@@ -100,7 +107,7 @@ fn read_file<D: Depot>(
         if count < PIECE_BYTES {
             return Ok(words);
         }
-        if words[0] != opening {
+        if !is_opening(openings, words[0]) {
             pass_rest(alloc, slot, words.len() as u64, piece.as_mut_slice(), depot)?;
             return Ok(words);
         }

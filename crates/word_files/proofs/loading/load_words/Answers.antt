@@ -8,4 +8,4 @@ returns-in_err-start g c =
     rw (p.1, p.2) (start-refused c.args.slot c.args.name.now _ _ _ c.in_err-start.ensures)
 
 pub returns : goal.returns
-returns g c = kept-loaded c.args.opening c.args.slot c.args.name.now _ _ _ _ c.in_ok-start.ensures c.read_file.ensures
+returns g c = kept-loaded c.args.openings.now c.args.slot c.args.name.now _ _ _ _ c.in_ok-start.ensures c.read_file.ensures

@@ -1,5 +1,5 @@
-use Rattle.std.proofs.Common.{◌≡◌, sym, ◌∙◌, ap, subst, refl, inl, ℕ, ◌+◌, ◌*◌, ◌%◌, ◌^◌, ◌<◌, ◌≤◌, ◌++◌, List, [], ◌∷◌, get_or, slice_index, take, drop, length, arith}
-use Rattle.std.specs.List.{All}
+use Rattle.std.proofs.Common.{◌≡◌, sym, ◌∙◌, ap, subst, refl, inl, ℕ, ◌+◌, ◌*◌, ◌%◌, ◌^◌, ◌<◌, ◌≤◌, ◌++◌, Bool, true, false, List, [], ◌∷◌, get_or, slice_index, take, drop, length, arith}
+use Rattle.std.specs.List.{All, Contains}
 use Rattle.std.proofs.lemmas.List.{length-append, length-take, take_at}
 use Rattle.std.proofs.lemmas.Result.{err_from_is_err_and}
 use Rattle.collection_model.specs.Bytes.{word_bytes}
@@ -9,7 +9,7 @@ use Rattle.word_files.specs.ReadWords.{HasWords}
 use Rattle.word_files.proofs.LoadedWords.{more-words, all-words, piece-too_large, words-refused, prefix-kept}
 use Rattle.word_files.proofs.loading.read_file.Given as given
 use Rattle.word_files.proofs.loading.read_file.Goals as goal
-use Rattle.word_files.proofs.loading.read_file.Goals.{After-deref, After-words_fit, After-len-then-index-opening}
+use Rattle.word_files.proofs.loading.read_file.Goals.{After-deref, After-words_fit, After-len-then-not-is_opening}
 
 -- so many words more than there were, of a piece of the file
 grown : (words more piece : List ℕ) (count : ℕ) → count ≤ length piece → word_bytes more ≡ word_bytes words ++ take count piece → 8 * length more ≡ 8 * length words + count
@@ -32,6 +32,9 @@ same-first : (words : List ℕ) (word : ℕ) → 0 < length words → word ≡ g
 same-first [] word some e = absurd (omega (arith, some))
 same-first (x ∷ words) word some e = e
 
+never : (b : Bool) → b ≡ true → b ≡ false → ⊥
+never b is isnt = let e : ◌≡◌ {A = Bool} true false = sym is ∙ isnt in cc
+
 -- the words that were read, with those of the piece
 added : (g : given.Over) (c : After-words_fit g) → word_bytes c.add_words.new.words.items ≡ word_bytes c.loop-words.words.items ++ take c.in_ok-count.count c.fill_piece.new.piece
 added g c = c.in_ok-add_words.ensures.added ∙ ap (λ xs. word_bytes c.loop-words.words.items ++ take c.in_ok-count.count xs) (lent-is g (goal.at.After-words_fit g c).After-deref)
@@ -48,8 +51,8 @@ have-words g c = more-words c.args.slot (g.D.Depot.state c.args.depot.now) (g.D.
 fit-words : (g : given.Over) (c : After-words_fit g) → All (λ w. w < 2 ^ 64) c.add_words.new.words.items
 fit-words g c = let P : List ℕ → Type 0 = λ ws. All (λ w. w < 2 ^ 64) ws in subst P c.deref-in-loop-words.ensures.value c.words_fit.ensures
 
-count-is : (g : given.Over) (c : After-len-then-index-opening g) → length c.add_words.new.words.items ≡ c.len-then-index-opening.result
-count-is g c = omega (arith, c.len-then-index-opening.ensures, c.add_words.new.words.ok.0)
+count-is : (g : given.Over) (c : After-len-then-not-is_opening g) → length c.add_words.new.words.items ≡ c.len-then-not-is_opening.result
+count-is g c = omega (arith, c.len-then-not-is_opening.ensures, c.add_words.new.words.ok.0)
 
 pub returns-then-len-count-gt-LONGEST_FILE : goal.returns-then-len-count-gt-LONGEST_FILE
 returns-then-len-count-gt-LONGEST_FILE g c =
@@ -77,19 +80,21 @@ returns-then-count-lt-PIECE_BYTES g c = (
 )
 
 pub pass_rest-requires-clause-few : goal.pass_rest-requires-clause-few
-pass_rest-requires-clause-few g c = omega (arith, more-are g (goal.at.pass_rest-requires-clause-few g c).After-words_fit, c.if-len-count-gt-LONGEST_FILE.false, c.len.ensures, c.loop-words.words.ok.0, c.len-then-index-opening.ensures, c.add_words.new.words.ok.0)
+pass_rest-requires-clause-few g c = omega (arith, more-are g (goal.at.pass_rest-requires-clause-few g c).After-words_fit, c.if-len-count-gt-LONGEST_FILE.false, c.len.ensures, c.loop-words.words.ok.0, c.len-then-not-is_opening.ensures, c.add_words.new.words.ok.0)
 
 pub returns-in_err-pass_rest : goal.returns-in_err-pass_rest
 returns-in_err-pass_rest g c =
     let q = err_from_is_err_and c.from_residual-in_err-pass_rest.result c.from_residual-in_err-pass_rest.ensures.1 in
-    rw (q.1, q.2) (c.in_err-pass_rest.ensures (g.D.Depot.state c.args.depot.now) c.add_words.new.words.items (count-is g (goal.at.returns-in_err-pass_rest g c).After-len-then-index-opening) (have-words g (goal.at.returns-in_err-pass_rest g c).After-words_fit))
+    rw (q.1, q.2) (c.in_err-pass_rest.ensures (g.D.Depot.state c.args.depot.now) c.add_words.new.words.items (count-is g (goal.at.returns-in_err-pass_rest g c).After-len-then-not-is_opening) (have-words g (goal.at.returns-in_err-pass_rest g c).After-words_fit))
 
-pub returns-then-index-opening : goal.returns-then-index-opening
-returns-then-index-opening g c =
-    let many : 6 ≤ length c.add_words.new.words.items = omega (arith, more-are g (goal.at.returns-then-index-opening g c).After-words_fit, c.if-count-lt-PIECE_BYTES.false) in
-    prefix-kept c.args.opening c.args.slot (g.D.Depot.state c.args.depot.now) (g.D.Depot.state c.pass_rest.new.depot) c.add_words.new.words.items
-    (c.in_ok-pass_rest.ensures (g.D.Depot.state c.args.depot.now) c.add_words.new.words.items (count-is g (goal.at.returns-then-index-opening g c).After-len-then-index-opening) (have-words g (goal.at.returns-then-index-opening g c).After-words_fit))
-    (fit-words g (goal.at.returns-then-index-opening g c).After-words_fit) many (λ is. c.if-index-opening.true (same-first c.add_words.new.words.items c.index.result.now (omega (arith, many)) c.index.ensures ∙ is))
+pub returns-then-not-is_opening : goal.returns-then-not-is_opening
+returns-then-not-is_opening g c =
+    let many : 6 ≤ length c.add_words.new.words.items = omega (arith, more-are g (goal.at.returns-then-not-is_opening g c).After-words_fit, c.if-count-lt-PIECE_BYTES.false) in
+    let contains : ℕ → Type 0 = λ w. Contains c.args.openings.now w in
+    prefix-kept c.args.openings.now c.args.slot (g.D.Depot.state c.args.depot.now) (g.D.Depot.state c.pass_rest.new.depot) c.add_words.new.words.items
+    (c.in_ok-pass_rest.ensures (g.D.Depot.state c.args.depot.now) c.add_words.new.words.items (count-is g (goal.at.returns-then-not-is_opening g c).After-len-then-not-is_opening) (have-words g (goal.at.returns-then-not-is_opening g c).After-words_fit))
+    (fit-words g (goal.at.returns-then-not-is_opening g c).After-words_fit) many
+    (λ has. never c.is_opening.result (c.is_opening.ensures.1 (subst contains (sym (same-first c.add_words.new.words.items c.index.result.now (omega (arith, many)) c.index.ensures)) has)) c.if-not-is_opening.true)
 
 pub loop-words-smaller : goal.loop-words-smaller
 loop-words-smaller g c = omega (arith, more-are g (goal.at.loop-words-smaller g c).After-words_fit, c.if-len-count-gt-LONGEST_FILE.false, c.len.ensures, c.loop-words.words.ok.0, c.if-count-lt-PIECE_BYTES.false)
