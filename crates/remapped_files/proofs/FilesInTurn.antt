@@ -1,8 +1,9 @@
 -- Files that are written one after the other: what is kept from file to file, and how the writing ends.
-use Rattle.std.proofs.Common.{◌≡◌, ◌≢◌, refl, sym, ap, ◌∙◌, subst, inl, inr, ℕ, ◌+◌, ◌<◌, ◌≤◌, List, [], length, Some, IsTrue, Result, Ok, Err, arith}
-use Rattle.std.specs.Prelude.{false}
+use Rattle.std.proofs.Common.{◌≡◌, ◌≢◌, refl, sym, ap, ◌∙◌, subst, inl, inr, ℕ, zero, suc, ◌+◌, ◌<◌, ◌≤◌, List, [], length, get_or, Some, IsTrue, Result, Ok, Err, arith}
+use Rattle.std.specs.Prelude.{false, codes}
 use Rattle.std.specs.List.{All}
 use Rattle.std.proofs.lemmas.Bool.{cases_lt}
+use Rattle.std.proofs.lemmas.List.{append_cancel_left}
 use Rattle.std.proofs.lemmas.List.Elements.{All-get_or, All-from_get_or}
 use Rattle.pef_io.specs.declared.fail.IoFail.{IoFail}
 use Rattle.pef_io.specs.declared.fail.IoFail.TheVariants.{Failed, NoMemory}
@@ -12,6 +13,8 @@ use Rattle.pef_io.specs.DepotState.{DepotState, SameWriting}
 use Rattle.collection_reader.specs.ReadCollection.{IsCollectionSlot}
 use Rattle.collection_reader.specs.Starting.{turn}
 use Rattle.command_model.specs.Written.{IsUnwritten, IsBeingWritten}
+use Rattle.collection_model.specs.Spelling.{Files}
+use Rattle.command_model.specs.FoundMap.{files_under}
 use Rattle.command_model.specs.FilesWritten.{NamedFile, nth_file, AreApart, SameOthers, AreWritten, IsNotBegun, StopsAtFile, FileLeftByFault, OnlyCreates}
 use Rattle.remapped_files.specs.declared.image.FileFail.{FileFail}
 use Rattle.word_files.specs.WriteFile.{WritesBytes}
@@ -154,6 +157,15 @@ all-written files a b some so_far = record {
   others = so_far.others;
   none_created = so_far.later some;
 }
+
+-- ---- the files of a collection
+
+-- no two of the files of a collection have one name
+pub apart-under : (to : List ℕ) (files : Files) → AreApart (files_under to files)
+apart-under to files zero (suc zero) lt within same = let e = ap (λ (l : List ℕ). get_or l 1 0) (append_cancel_left to (codes ".docs") (codes ".freqs") same) in omega (arith, e)
+apart-under to files zero (suc (suc zero)) lt within same = let e = ap (λ (l : List ℕ). get_or l 1 0) (append_cancel_left to (codes ".docs") (codes ".sizes") same) in omega (arith, e)
+apart-under to files (suc zero) (suc (suc zero)) lt within same = let e = ap (λ (l : List ℕ). get_or l 1 0) (append_cancel_left to (codes ".freqs") (codes ".sizes") same) in omega (arith, e)
+apart-under to files i j lt within same = absurd (omega arith)
 
 -- ---- the answer
 

@@ -1,2 +1,2 @@
 mod ImageMade
-mod FilesInTurn
+pub mod FilesInTurn

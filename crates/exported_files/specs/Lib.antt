@@ -1,0 +1,3 @@
+-- contracts of the public calls
+pub mod Given
+pub mod NamedFiles

@@ -1,0 +1,102 @@
+ghost use Rattle.std.specs.Prelude.{◌≡◌, IsTrue};
+ghost use Rattle.collection_model.specs.Bytes.{number_sequence};
+ghost use Rattle.collection_model.specs.Collection.{docs_of, freqs_of};
+ghost use Rattle.collection_model.specs.Spelling.{spelled};
+ghost use Rattle.exported_files.specs.Given.{Gives};
+
+use crate::piece::PieceWriter;
+use cursor_api::DocCursor;
+use index_file::Index;
+use pef_io::{Depot, IoFail};
+
+// Gives the file of documents of the collection of an index: the number of documents, and then the documents of each list.
+pub(crate) fn give_docs<D: Depot>(
+    index: &Index<'_>,
+    writer: &mut PieceWriter,
+    depot: &mut D,
+) -> Result<(), IoFail>
+    requires { IsTrue (D.state depot.old).created }
+    ensures { Gives (spelled index.now.collection).docs writer.old writer.new
+        (D.state depot.old) (D.state depot.new) result }
+{
+    writer.give(1, depot)?;
+    writer.give(index.documents(), depot)?;
+    for term in 0..index.terms() {
+        let mut cursor = index.cursor(term);
+        give_docs_of(&mut cursor, writer, depot)?;
+    }
+    Ok(())
+}
+
+// Gives its file of frequencies: those of each list.
+pub(crate) fn give_freqs<D: Depot>(
+    index: &Index<'_>,
+    writer: &mut PieceWriter,
+    depot: &mut D,
+) -> Result<(), IoFail>
+    requires { IsTrue (D.state depot.old).created }
+    ensures { Gives (spelled index.now.collection).freqs writer.old writer.new
+        (D.state depot.old) (D.state depot.new) result }
+{
+    for term in 0..index.terms() {
+        let mut cursor = index.cursor(term);
+        give_freqs_of(&mut cursor, writer, depot)?;
+    }
+    Ok(())
+}
+
+// Gives its file of sizes.
+pub(crate) fn give_sizes<D: Depot>(
+    index: &Index<'_>,
+    writer: &mut PieceWriter,
+    depot: &mut D,
+) -> Result<(), IoFail>
+    requires { IsTrue (D.state depot.old).created }
+    ensures { Gives (spelled index.now.collection).sizes writer.old writer.new
+        (D.state depot.old) (D.state depot.new) result }
+{
+    index.stands_for_a_collection();
+    writer.give(index.documents(), depot)?;
+    for document in 0..index.documents() {
+        writer.give(index.size_of(document), depot)?;
+    }
+    Ok(())
+}
+
+// Gives the documents of a cursor that stands at the start of its list: how many they are, and then each.
+fn give_docs_of<C: DocCursor, D: Depot>(
+    cursor: &mut C,
+    writer: &mut PieceWriter,
+    depot: &mut D,
+) -> Result<(), IoFail>
+    requires start { C.place cursor.old ≡ 0 }
+    requires created { IsTrue (D.state depot.old).created }
+    ensures { Gives (number_sequence (docs_of (C.list cursor.old))) writer.old writer.new
+        (D.state depot.old) (D.state depot.new) result }
+{
+    writer.give(cursor.len(), depot)?;
+    while let Some(doc) = cursor.doc() {
+        writer.give(doc, depot)?;
+        cursor.advance();
+    }
+    Ok(())
+}
+
+// Gives its frequencies.
+fn give_freqs_of<C: DocCursor, D: Depot>(
+    cursor: &mut C,
+    writer: &mut PieceWriter,
+    depot: &mut D,
+) -> Result<(), IoFail>
+    requires start { C.place cursor.old ≡ 0 }
+    requires created { IsTrue (D.state depot.old).created }
+    ensures { Gives (number_sequence (freqs_of (C.list cursor.old))) writer.old writer.new
+        (D.state depot.old) (D.state depot.new) result }
+{
+    writer.give(cursor.len(), depot)?;
+    while cursor.doc().is_some() {
+        writer.give(cursor.freq(), depot)?;
+        cursor.advance();
+    }
+    Ok(())
+}
