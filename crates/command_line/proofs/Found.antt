@@ -11,9 +11,9 @@ use Rattle.command_line.specs.Command.{by_row, command_with, is_text, texts, tex
 use Rattle.command_line.specs.Private.CommandLine.{app_with, subcommand_with}
 use Rattle.command_line.specs.Table.{Row, seen, table}
 
-module _ (rows : List words.Row) (k : ℕ) (none : words.Row) (all : map seen rows ≡ table) (within : k < 11) where
+module _ (rows : List words.Row) (k : ℕ) (none : words.Row) (all : map seen rows ≡ table) (within : k < 14) where
   inside : k < length rows
-  inside = let many : length (map seen rows) ≡ 11 = ap length all in omega (arith, within, many, length-map rows seen)
+  inside = let many : length (map seen rows) ≡ 14 = ap length all in omega (arith, within, many, length-map rows seen)
 
   -- what is found from a row on
   pub found_from : (verb : List ℕ) (b : Bool) → bytes_eq (get_or rows k none).name.now verb ≡ b
@@ -32,11 +32,11 @@ module _ (rows : List words.Row) (k : ℕ) (none : words.Row) (all : map seen ro
       ∙ fold-append (λ app row. with_subcommand app (subcommand_with row)) (new_app (codes "pefidx")) (map seen (take k rows)) (seen (get_or rows k none) ∷ [])
 
 -- no row is left behind the last
-pub none_left : (rows : List words.Row) (k : ℕ) → map seen rows ≡ table → 11 ≤ k → drop k (map seen rows) ≡ []
-none_left rows k all past = let many : length (map seen rows) ≡ 11 = ap length all in drop_all k (map seen rows) (omega (arith, past, many))
+pub none_left : (rows : List words.Row) (k : ℕ) → map seen rows ≡ table → 14 ≤ k → drop k (map seen rows) ≡ []
+none_left rows k all past = let many : length (map seen rows) ≡ 14 = ap length all in drop_all k (map seen rows) (omega (arith, past, many))
 
-pub all_taken : (rows : List words.Row) (k : ℕ) → map seen rows ≡ table → 11 ≤ k → map seen (take k rows) ≡ table
-all_taken rows k all past = let many : length (map seen rows) ≡ 11 = ap length all in ap (map seen) (take_all k rows (omega (arith, past, many, length-map rows seen))) ∙ all
+pub all_taken : (rows : List words.Row) (k : ℕ) → map seen rows ≡ table → 14 ≤ k → map seen (take k rows) ≡ table
+all_taken rows k all past = let many : length (map seen rows) ≡ 14 = ap length all in ap (map seen) (take_all k rows (omega (arith, past, many, length-map rows seen))) ∙ all
 
 -- how many words are texts, as their bytes
 pub counted_texts : (words : List (String Global)) → prefix_len (λ word. is_text (string_bytes word)) words ≡ texts_before (texts words)

@@ -7,5 +7,4 @@ mod PlainWalk
 mod Level
 mod Program
 mod WordsRead
-mod PlainFormats
 mod Rows

@@ -7,6 +7,7 @@ use Rattle.clap.specs.Words.{kind_of}
 use Rattle.clap.specs.declared.error.Error.{Error}
 use Rattle.clap.specs.declared.error.kind.ErrorKind.TheVariants.{OutOfMemory}
 use Rattle.command_line.specs.declared.error.WordsError.{WordsError}
+use Rattle.command_line.specs.declared.error.WordsError.TheVariants.{Usage}
 use Rattle.command_line.specs.WordsErrors.{error_of_words}
 use Rattle.command_line.specs.Private.CommandLine.{error_of_kind, error_of_matching}
 use Rattle.command_line.specs.Command.{Command, command_of, texts}
@@ -32,7 +33,11 @@ no_verb [] few = refl
 no_verb (name ∷ []) few = refl
 no_verb (name ∷ verb ∷ words) few = absurd (omega (arith, few))
 
--- why words that are a command gave none
+-- why words gave none: that are no command, and that are one
+pub no_words : (command : Option Command) → is_some command ≡ false → Usage ≡ error_of_words command
+no_words None none = refl
+no_words (Some command) none = cc
+
 pub refused_words : (command : Option Command) (e : Error) (error : WordsError) → is_some command ≡ true → kind_of e ≡ OutOfMemory → error ≡ error_of_matching e → error ≡ error_of_words command
 refused_words None e error some kind is = cc
 refused_words (Some command) e error some kind is = is ∙ ap error_of_kind kind

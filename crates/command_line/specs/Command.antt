@@ -2,7 +2,7 @@ use Rattle.std.specs.Prelude.{ℕ, nat_le, Bool, false, not, ◌&&◌, ◌||◌,
 use Rattle.std.specs.List.{prefix_len}
 use Rattle.std.specs.declared.alloc.Global.{Global}
 use Rattle.part_cost.specs.declared.formats.Format.{Format}
-use Rattle.part_cost.specs.declared.formats.Format.TheVariants.{One, Two}
+use Rattle.part_cost.specs.declared.formats.Format.TheVariants.{One, Two, Three}
 use Rattle.query_text.specs.Numbers.{number_of}
 use Rattle.topk_pruning.specs.declared.plan.Plan.{Plan}
 use Rattle.topk_pruning.specs.declared.plan.Plan.TheVariants.{Exhaustive, Wand, MaxScore}
@@ -10,6 +10,8 @@ use Rattle.command_line.specs.Table.{Row, row_of, name_of, default_of}
 use Rattle.command_line.specs.declared.table.Choice.{Choice}
 use Rattle.command_line.specs.declared.table.Verb.{Verb}
 use Rattle.command_line.specs.declared.table.Verb.TheVariants as verbs
+use Rattle.command_line.specs.declared.words.FileKind.{FileKind}
+use Rattle.command_line.specs.declared.words.FileKind.TheVariants.{Plain, Packed}
 
 -- what the words of the command line ask for
 pub data Command : Type 0 where
@@ -18,12 +20,13 @@ pub data Command : Type 0 where
   Answer : (base : List ℕ) (plan : Plan) → Command
   Inspect : (index : List ℕ) → Command
   Generate : (seed n t : ℕ) → Command
-  Migrate : (from to : List ℕ) → Command
+  Migrate : (from to : List ℕ) (kind : FileKind) → Command
   Audit : (index : List ℕ) → Command
   Blocks : (index side : List ℕ) → Command
   BlockQuery : (index side : List ℕ) → Command
   Remap : (base map to : List ℕ) → Command
   Segments : (indexes : List (List ℕ)) (plan : Plan) → Command
+  Export : (index base : List ℕ) → Command
 
 -- words as their bytes
 abbrev pub texts : List (String Global) → List (List ℕ)
@@ -84,6 +87,10 @@ abbrev pub built_in : Option Format → List ℕ × List ℕ → Option Command
 built_in None names = None
 built_in (Some format) names = unless (is_file_of names.0 names.1) (Build names.0 names.1 format)
 
+-- a base and an index that is none of its files, which is to be a packed file
+abbrev pub pack_command : List (List ℕ) → Option Command
+pack_command texts = option_and_then (built_in (Some Three)) (two_of texts)
+
 -- a seed, a number of documents and a number of lists, where each is a number
 abbrev pub generate_of : Option ℕ → Option ℕ → Option ℕ → Option Command
 generate_of (Some seed) (Some n) (Some t) = Some (Generate seed n t)
@@ -93,9 +100,9 @@ generate_of seed n t = None
 abbrev pub generate_command : List (List ℕ) → Option Command
 generate_command texts = option_and_then (λ three. generate_of (number_of three.0) (number_of three.1) (number_of three.2)) (three_of texts)
 
--- two texts, of which the second is not the first
-abbrev pub migrate_command : List (List ℕ) → Option Command
-migrate_command texts = option_and_then (λ names. unless (bytes_eq names.0 names.1) (Migrate names.0 names.1)) (two_of texts)
+-- an index and another name, for a new one of a kind
+abbrev pub migrate_command : FileKind → List (List ℕ) → Option Command
+migrate_command kind texts = option_and_then (λ names. unless (bytes_eq names.0 names.1) (Migrate names.0 names.1 kind)) (two_of texts)
 
 -- two texts, of which the second is not the first
 abbrev pub blocks_command : List (List ℕ) → Option Command
@@ -109,6 +116,10 @@ bquery_command texts = option_map (λ names. BlockQuery names.0 names.1) (two_of
 abbrev pub remap_command : List (List ℕ) → Option Command
 remap_command texts = option_and_then (λ names. unless (takes_place names.0 names.1 names.2) (Remap names.0 names.1 names.2)) (three_of texts)
 
+-- an index, and a base of which it is no file
+abbrev pub export_command : List (List ℕ) → Option Command
+export_command texts = option_and_then (λ names. unless (is_file_of names.1 names.0) (Export names.0 names.1)) (two_of texts)
+
 -- the command of a verb, of the texts behind it and of the value of its option; none where they do not go together
 abbrev pub command_with : Verb → List (List ℕ) → List ℕ → Option Command
 command_with verbs.Build texts value = option_and_then (built_in (format_of value)) (two_of texts)
@@ -116,12 +127,15 @@ command_with verbs.Query texts value = option_and_then (λ index. option_map (Qu
 command_with verbs.Answer texts value = option_and_then (λ base. option_map (Answer base) (plan_of value)) (one_of texts)
 command_with verbs.Inspect texts value = option_map Inspect (one_of texts)
 command_with verbs.Generate texts value = generate_command texts
-command_with verbs.Migrate texts value = migrate_command texts
+command_with verbs.Migrate texts value = migrate_command Plain texts
 command_with verbs.Audit texts value = option_map Audit (one_of texts)
 command_with verbs.Blocks texts value = blocks_command texts
 command_with verbs.BlockQuery texts value = bquery_command texts
 command_with verbs.Remap texts value = remap_command texts
 command_with verbs.Segments texts value = option_map (Segments texts) (plan_of value)
+command_with verbs.Pack texts value = pack_command texts
+command_with verbs.Repack texts value = migrate_command Packed texts
+command_with verbs.Export texts value = export_command texts
 
 -- how many words stand before the first that can be no text of a command
 abbrev pub texts_before : List (List ℕ) → ℕ

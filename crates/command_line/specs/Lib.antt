@@ -1,6 +1,5 @@
 pub mod Table
 pub mod Command
 pub mod Asked
-pub mod PlainFormats
 pub mod WordsErrors
 pub mod Private

@@ -38,7 +38,10 @@ table =
     texts (codes "blocks") verbs.Blocks 2 None ∷
     texts (codes "bquery") verbs.BlockQuery 2 None ∷
     texts (codes "remap") verbs.Remap 3 None ∷
-    record (texts (codes "segments") verbs.Segments 1 (Some choices.Plan)) { most = most_segments } ∷ []
+    record (texts (codes "segments") verbs.Segments 1 (Some choices.Plan)) { most = most_segments } ∷
+    texts (codes "pack") verbs.Pack 2 None ∷
+    texts (codes "repack") verbs.Repack 2 None ∷
+    texts (codes "export") verbs.Export 2 None ∷ []
 
 -- the words of the command with this verb
 abbrev pub row_of : List ℕ → Option Row

@@ -2,12 +2,10 @@
 #![tactic(auto)]
 
 mod error;
-mod laws;
 mod parsing;
 mod table;
 mod words;
 
 pub use error::WordsError;
-pub use laws::words_name_plain_formats;
 pub use parsing::parse_words;
-pub use words::Command;
+pub use words::{Command, FileKind};

@@ -19,6 +19,9 @@ pub(crate) enum Verb {
     BlockQuery,
     Remap,
     Segments,
+    Pack,
+    Repack,
+    Export,
 }
 
 // An option that may stand behind the texts of a command.
@@ -60,7 +63,7 @@ pub(crate) struct Row {
     pub(crate) choice: Option<Choice>,
 }
 
-const ROWS: [Row; 11] = [
+const ROWS: [Row; 14] = [
     Row {
         name: "build",
         verb: Verb::Build,
@@ -138,10 +141,31 @@ const ROWS: [Row; 11] = [
         most: MOST_SEGMENTS,
         choice: Some(Choice::Plan),
     },
+    Row {
+        name: "pack",
+        verb: Verb::Pack,
+        fewest: 2,
+        most: 2,
+        choice: None,
+    },
+    Row {
+        name: "repack",
+        verb: Verb::Repack,
+        fewest: 2,
+        most: 2,
+        choice: None,
+    },
+    Row {
+        name: "export",
+        verb: Verb::Export,
+        fewest: 2,
+        most: 2,
+        choice: None,
+    },
 ];
 
 // The words of each command.
-pub(crate) fn rows() -> [Row; 11]
+pub(crate) fn rows() -> [Row; 14]
     ensures { map seen result ≡ table }
 {
     ROWS

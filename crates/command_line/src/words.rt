@@ -2,7 +2,7 @@ ghost use Rattle.std.specs.Prelude.{◌≡◌, ◌≤◌, nat_le, length, ◌&&�
 ghost use Rattle.std.specs.List.{prefix_len};
 ghost use Rattle.query_text.specs.Numbers.{number_of};
 ghost use Rattle.command_line.specs.Asked.{asked};
-ghost use Rattle.command_line.specs.Command.{blocks_command, bquery_command, by_row, chosen_in, command_of, command_with, format_of, generate_command, is_file_of, is_text, migrate_command, one_of, plan_of, remap_command, takes_place, texts, texts_before, three_of, two_of, value_in};
+ghost use Rattle.command_line.specs.Command.{blocks_command, bquery_command, built_in, by_row, chosen_in, command_of, command_with, export_command, format_of, generate_command, is_file_of, is_text, migrate_command, one_of, pack_command, plan_of, remap_command, takes_place, texts, texts_before, three_of, two_of, value_in};
 ghost use Rattle.command_line.specs.Table.{name_of, seen};
 ghost use Rattle.command_line.specs.declared.table.Verb.TheVariants as verbs;
 
@@ -10,6 +10,13 @@ use crate::table::{Choice, Row, Verb, row_of};
 use part_cost::Format;
 use query_text::number;
 use topk_pruning::Plan;
+
+/// How a file has the lists of an index: each as words of its own, or packed as bits without gaps.
+#[derive(Clone, Copy, Debug, PartialEq, Eq)]
+pub enum FileKind {
+    Plain,
+    Packed,
+}
 
 /// What the words of the command line ask for.
 #[derive(Clone, Copy, Debug, PartialEq, Eq)]
@@ -38,6 +45,7 @@ pub enum Command<'a> {
     Migrate {
         from: &'a str,
         to: &'a str,
+        kind: FileKind,
     },
     Audit {
         index: &'a str,
@@ -59,6 +67,10 @@ pub enum Command<'a> {
         /// From 1 to 64.
         indexes: &'a [String],
         plan: Plan,
+    },
+    Export {
+        index: &'a str,
+        base: &'a str,
     },
 }
 
@@ -159,7 +171,7 @@ pub(crate) fn command_with<'a>(verb: Verb, words: &'a [String], value: &str) -> 
         }),
         Verb::Inspect => Some(Command::Inspect { index: one(words)? }),
         Verb::Generate => generate(words),
-        Verb::Migrate => migrate(words),
+        Verb::Migrate => migrate(words, FileKind::Plain),
         Verb::Audit => Some(Command::Audit { index: one(words)? }),
         Verb::Blocks => blocks(words),
         Verb::BlockQuery => block_query(words),
@@ -168,6 +180,9 @@ pub(crate) fn command_with<'a>(verb: Verb, words: &'a [String], value: &str) -> 
             indexes: words,
             plan: parse_plan(value)?,
         }),
+        Verb::Pack => pack(words),
+        Verb::Repack => migrate(words, FileKind::Packed),
+        Verb::Export => export(words),
     }
 }
 
@@ -177,6 +192,21 @@ fn build<'a>(words: &'a [String], value: &str) -> Option<Command<'a>>
 {
     let (base, index) = two(words)?;
     let format = parse_format(value)?;
+    built_in(base, index, format)
+}
+
+// A base and an index that is none of its files, which is to be a packed file.
+fn pack<'a>(words: &'a [String]) -> Option<Command<'a>>
+    ensures { option_map asked result ≡ pack_command (texts words.now) }
+{
+    let (base, index) = two(words)?;
+    built_in(base, index, Format::Three)
+}
+
+// A base and an index in a format, unless the index is one of its files.
+fn built_in<'a>(base: &'a str, index: &'a str, format: Format) -> Option<Command<'a>>
+    ensures { option_map asked result ≡ built_in (Some format) (base.now, index.now) }
+{
     (!is_file_of(base, index)).then_some(Command::Build {
         base,
         index,
@@ -199,12 +229,12 @@ fn generate<'a>(words: &'a [String]) -> Option<Command<'a>>
     })
 }
 
-// An index, and another name.
-fn migrate<'a>(words: &'a [String]) -> Option<Command<'a>>
-    ensures { option_map asked result ≡ migrate_command (texts words.now) }
+// An index and another name, for a new one of a kind.
+fn migrate<'a>(words: &'a [String], kind: FileKind) -> Option<Command<'a>>
+    ensures { option_map asked result ≡ migrate_command kind (texts words.now) }
 {
     let (from, to) = two(words)?;
-    (from != to).then_some(Command::Migrate { from, to })
+    (from != to).then_some(Command::Migrate { from, to, kind })
 }
 
 // An index, and another name.
@@ -229,6 +259,14 @@ fn remap<'a>(words: &'a [String]) -> Option<Command<'a>>
 {
     let (base, map, to) = three(words)?;
     (!takes_place(base, map, to)).then_some(Command::Remap { base, map, to })
+}
+
+// An index, and a base of which it is no file.
+fn export<'a>(words: &'a [String]) -> Option<Command<'a>>
+    ensures { option_map asked result ≡ export_command (texts words.now) }
+{
+    let (index, base) = two(words)?;
+    (!is_file_of(base, index)).then_some(Command::Export { index, base })
 }
 
 // The text of one word.

@@ -5,8 +5,11 @@ use Rattle.command_line.specs.declared.words.Command.{Command}
 use Rattle.command_line.specs.declared.error.WordsError.{WordsError}
 use Rattle.command_line.specs.Command.{command_of, texts}
 use Rattle.command_line.specs.WordsErrors.{error_of_words}
-use Rattle.command_line.proofs.Plain.{refused_words}
+use Rattle.command_line.proofs.Plain.{no_words, refused_words}
 use Rattle.command_line.proofs.parsing.parse_words.Goals as goal
+
+pub returns-then-not-is_command-clause-error : goal.returns-then-not-is_command-clause-error
+returns-then-not-is_command-clause-error c = no_words (command_of (texts c.args.words.now)) (sym c.is_command.ensures ∙ c.if-not-is_command.true)
 
 pub returns-in_err-matches-clause-error : goal.returns-in_err-matches-clause-error
 returns-in_err-matches-clause-error c =
