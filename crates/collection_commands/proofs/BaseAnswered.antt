@@ -44,7 +44,7 @@ module _ (base : List ℕ) (d d' : DepotState) (s s' : ℕ) (built : Result (Vec
       → Spells (numbers_of answer_format) lent (cut_of answer_format base d d' s s' lent made).0 (cut_of answer_format base d d' s s' lent made).1
   lent_spells lent made =
       let cut = cut_of answer_format base d d' s s' lent made in
-      record { plain = refl; well_formed = cut.2.cut.collection.well_formed; partitions = cut.2.cut.near.partitions; spelled = cut.3 }
+      record { well_formed = cut.2.cut.collection.well_formed; partitions = cut.2.cut.near.partitions; fits = tt; spelled = cut.3 }
 
   -- they are an index
   pub lent_are_index : (words : Vec ℕ Global) (lent : List ℕ) → built ≡ Ok words → lent ≡ words.items → IsIndex lent

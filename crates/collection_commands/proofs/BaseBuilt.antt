@@ -3,7 +3,6 @@ use Rattle.std.proofs.Common.{◌≡◌, ℕ, ◌<◌, ◌^◌, refl, sym, subst
 use Rattle.std.specs.Prelude.{Result, Ok, Err, Vec}
 use Rattle.std.specs.List.{All}
 use Rattle.std.specs.declared.alloc.Global.{Global}
-use Rattle.collection_model.specs.FormatNumbers.{Plain}
 use Rattle.collection_model.specs.Bytes.{word_bytes}
 use Rattle.collection_model.specs.Collection.{Collection}
 use Rattle.part_cost.specs.declared.formats.Format.{Format}
@@ -64,9 +63,9 @@ module _ (laws : FaultLaws) (format : Format) (base index : List ℕ) (d d1 : De
       (inl (record { files = none.reads.files; writing = none.reads.writing })) (λ many. (refl, many)) error none))
 
   -- they were built, and written or not
-  pub build_ended : (numbers_of format).kind ≡ Plain → (d2 : DepotState) (words : Vec ℕ Global) (lent : List ℕ) (written : Written) (r : Result (Unit {0}) Stop) → built ≡ Ok words
+  pub build_ended : (d2 : DepotState) (words : Vec ℕ Global) (lent : List ℕ) (written : Written) (r : Result (Unit {0}) Stop) → built ≡ Ok words
       → lent ≡ words.items → All (λ x. x < 2 ^ 64) words.items → WritesWords lent index d1 d2 written → outcome_of r ≡ written_outcome Index written → Left d2 (outcome_of r)
-  build_ended plain d2 words lent written r was lends fit v is =
+  build_ended d2 words lent written r was lends fit v is =
       let made : BuildsWords format base d d1 s s' (Ok words.items) = subst (λ x. BuildsWords format base d d1 s s' (words_built x)) was w in
       let cut = cut_of format base d d1 s s' words.items made in
       let found : Is cut.0 = cut.2.cut.collection in
@@ -81,7 +80,7 @@ module _ (laws : FaultLaws) (format : Format) (base index : List ℕ) (d d1 : De
           (
             format,
             cut.1,
-            found_written format Is old (new d2) words.items cut.0 cut.1 cut.2 cut.3 fit plain found.well_formed index d2
+            found_written format Is old (new d2) words.items cut.0 cut.1 cut.2 cut.3 fit found.well_formed index d2
                 (stands_written Index (word_bytes words.items) index d1 d2 written wrote done),
           ),
         );

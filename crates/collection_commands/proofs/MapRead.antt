@@ -28,7 +28,7 @@ use Rattle.command_ends.specs.Starts.{StartsOnly}
 use Rattle.command_ends.specs.Steps.Stops.{outcome_of_stop, stop_of_image}
 use Rattle.command_ends.proofs.Counted.{Of, not_true, second}
 use Rattle.command_ends.proofs.SourceRead as source
-use Rattle.command_ends.proofs.SourceRead.{IsRead, IsStill, IsUnread, was_read}
+use Rattle.command_ends.proofs.SourceRead.{IsRead, IsUnread, was_read}
 use Rattle.collection_commands.proofs.BuildRefused.{FaultLaws, collection_laws}
 
 -- the laws of collections and of maps
@@ -166,7 +166,7 @@ module _ (base map to : List ℕ) (d d1 : DepotState) (files : List NamedFile) (
   not_refused : (error : ImageError) → ◌≡◌ {A = Result (List NamedFile) ImageError} (Ok files) (Err error) → ⊥
   not_refused error h = cc
 
-  pub starts_made : (outcome : Outcome) → StartsOnly (names_with_map base map) IsCollectionOrMap outcome d d1
+  starts_made : (outcome : Outcome) → StartsOnly (names_with_map base map) IsCollectionOrMap outcome d d1
   starts_made outcome = record {
     none_twice = w.none_twice;
     no_others = λ slot other. w.reads.other_starts slot other;

@@ -1,6 +1,3 @@
-ghost use Rattle.std.specs.Prelude.{◌≡◌};
-ghost use Rattle.collection_model.specs.FormatNumbers.{Plain};
-ghost use Rattle.part_cost.specs.Formats.{numbers_of};
 ghost use Rattle.pef_io.specs.SourceState.{SourceState};
 ghost use Rattle.pef_io.specs.SinkState.{SinkState};
 ghost use Rattle.command_ends.specs.Outside.{outside};
@@ -21,8 +18,7 @@ use std::sync::ledger::Ledger;
 use step_count::Steps;
 use word_files::write_words;
 
-/// Builds the index of the collection under the base, in a format of plain files, and writes it as
-/// the file of this name.
+/// Builds the index of the collection under the base, in a format, and writes it as the file of this name.
 pub fn build<D: Depot, L: Ledger>(
     alloc: Global,
     base: &str,
@@ -31,7 +27,6 @@ pub fn build<D: Depot, L: Ledger>(
     format: Format,
     steps: &mut Steps<L>,
 ) -> Result<(), Stop>
-    requires plain { (numbers_of format).kind ≡ Plain }
     ensures { (i : SourceState) (o e e' : SinkState)
         → Leaves (Builds format base.now index.now) (StartsOnly (names_under base.now) IsCollectionSlot)
         (outside (D.state depot.old) i o e steps.old) (outside (D.state depot.new) i o e' steps.new)

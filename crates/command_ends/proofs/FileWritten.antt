@@ -8,7 +8,7 @@ use Rattle.pef_io.specs.declared.fail.Slot.TheVariants.{Index}
 use Rattle.pef_io.specs.Calls.{Rose}
 use Rattle.pef_io.specs.SourceState.{SourceState}
 use Rattle.pef_io.specs.SinkState.{SinkState}
-use Rattle.pef_io.specs.DepotState.{DepotState, OnlyReads}
+use Rattle.pef_io.specs.DepotState.{DepotState, OnlyReads, SameStarts}
 use Rattle.command_model.specs.Written.{IsWritten, IsUnwritten, IsWrittenInPart, IsBeingWritten, IsLeftByFault}
 use Rattle.word_files.specs.WriteFile.{WritesBytes}
 use Rattle.command_ends.specs.Outside.{Outside, NoCallFailed, outside, OfFile, OfWriting, OfInput, OfOut}
@@ -56,18 +56,15 @@ was_written slot (Ok u) = refl
 was_written slot (Err call.Failed) = refl
 was_written slot (Err call.NoMemory) = refl
 
--- a writing starts nothing
-then_written : (source : Source) (bytes name : List ℕ) (d d1 d2 : DepotState) (r : Written) (outcome : Outcome) → Starts source outcome d d1 → WritesBytes bytes name d1 d2 r
-    → (r ≡ Err call.NoMemory → outcome ≡ NoMemory) → Starts source outcome d d2
-then_written (IndexesAt names) bytes name d d1 d2 r outcome s v refused = record {
-  in_turn = (s.in_turn.0, s.in_turn.1, s.in_turn.2, subst (StartedUnder (take s.in_turn.0 names) (d.starts Index)) (sym (v.writes.starts Index)) s.in_turn.3);
-  no_others = λ slot other. v.writes.starts slot ∙ s.no_others slot other;
-  refusals = elim v.refusals_rise_only_there [
-    | inl is ↦ inl (refused is)
-    | inr same ↦ elim s.refusals [ inl is ↦ inl is | inr before ↦ inr (same ∙ before) ]
-  ];
+-- a writing starts nothing, and is refused memory only where that is the outcome
+pub then_written : (source : Source) (d d1 d2 : DepotState) (outcome : Outcome) → Starts source outcome d d1 → SameStarts d1 d2
+    → (outcome ≡ NoMemory) ⊎ (d2.refusals ≡ d1.refusals) → Starts source outcome d d2
+then_written (IndexesAt names) d d1 d2 outcome s same wanted = record {
+  in_turn = (s.in_turn.0, s.in_turn.1, s.in_turn.2, subst (StartedUnder (take s.in_turn.0 names) (d.starts Index)) (sym (same Index)) s.in_turn.3);
+  no_others = λ slot other. same slot ∙ s.no_others slot other;
+  refusals = elim wanted [ inl is ↦ inl is | inr stays ↦ elim s.refusals [ inl is ↦ inl is | inr before ↦ inr (stays ∙ before) ] ];
 }
-then_written source bytes name d d1 d2 r outcome s v refused = written_starts (names_of source) (StartedIn source outcome) bytes name d d1 d2 r outcome s v refused
+then_written source d d1 d2 outcome s same wanted = written_starts (names_of source) (StartedIn source outcome) d d1 d2 outcome s same wanted
 
 -- Bytes of which OnBytes tells were made of a source over depot `d`, which is `d1` then, and written as the file of a slot or not, which leaves `d2`.
 module _ (source : Source) (laws : Laws source) (Makes : Outside → Outside → Outcome → Type 0) (slot : Slot) (d d1 d2 : DepotState) (read : IsRead source d d1)
@@ -185,7 +182,8 @@ module _ (source : Source) (laws : Laws source) (Makes : Outside → Outside →
       depot = only_accepted r v;
     };
     faults = faults_end r v;
-    starts = then_written source bytes name d d1 d2 r (written_outcome slot r) (read.starts (written_outcome slot r) (was_written slot r)) v (ap (written_outcome slot));
+    starts = then_written source d d1 d2 (written_outcome slot r) (read.starts (written_outcome slot r) (was_written slot r)) v.writes.starts
+        (elim v.refusals_rise_only_there [ inl is ↦ inl (ap (written_outcome slot) is) | inr same ↦ inr same ]);
     depot_tells = v.writes.tells ∙ reads.tells;
     input_tells = refl;
     out_tells = refl;

@@ -12,6 +12,7 @@ use Rattle.index_file.specs.FirstBroken.{IsFirstBroken}
 use Rattle.index_file.specs.IndexView.{IndexView}
 use Rattle.index_file.specs.Builder.{most_words}
 use Rattle.index_file.specs.Laws.{WordsAreRead}
+use Rattle.index_file.proofs.FittingFiles.{fits-file}
 use Rattle.command_model.specs.Found.{AreOfWords, most_bytes}
 use Rattle.word_files.specs.declared.loading.LoadWordsError.{LoadWordsError}
 use Rattle.word_files.specs.LoadWords.{LoadsWords}
@@ -62,9 +63,9 @@ index_words read name d words c t of (format, parts, found) =
         c,
         parts,
         record {
-          plain = found.plain;
           well_formed = found.well_formed;
           partitions = found.partitions;
+          fits = fits-file (numbers_of format) c parts found.within;
           spelled = read words (file_words (numbers_of format) c parts) of.fit its.fit (sym of.bytes_are ∙ its.bytes_are);
         },
       ),
@@ -97,7 +98,6 @@ module _ (name : List ℕ) (d d' : DepotState) (words : List ℕ) (w : LoadsWord
       let P : List ℕ → Type 0 = λ ws. length ws ≤ most_words in
       let Q : List ℕ → Type 0 = λ ws. AreOfWords (bytes_under d name) ws in
       record {
-        plain = spells.plain;
         well_formed = spells.well_formed;
         partitions = spells.partitions;
         within = subst P spells.spelled w.within;

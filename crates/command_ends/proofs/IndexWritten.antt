@@ -2,7 +2,6 @@
 use Rattle.std.proofs.Common.{◌≡◌, ℕ, ◌<◌, ◌^◌, ap, subst, List, []}
 use Rattle.std.specs.Prelude.{Some, IsTrue, Ok, Err, unwrap_or}
 use Rattle.std.specs.List.{All}
-use Rattle.collection_model.specs.FormatNumbers.{Plain}
 use Rattle.collection_model.specs.Bytes.{word_bytes}
 use Rattle.collection_model.specs.Collection.{Collection, WellFormed}
 use Rattle.part_cost.specs.declared.formats.Format.{Format}
@@ -39,12 +38,11 @@ module _ (format : Format) (Is : Collection → Type 0) (old new : Outside) (wor
   on_built P p = let Q : List ℕ → Type 0 = λ ws. P (word_bytes ws) in (c, parts, built, subst Q are p)
 
   -- where they were written, of 64 bits each, they stand under the name as an index
-  pub found_written : All (λ x. x < 2 ^ 64) words → (numbers_of format).kind ≡ Plain → WellFormed (numbers_of format) c → (index : List ℕ) (d : DepotState)
+  pub found_written : All (λ x. x < 2 ^ 64) words → WellFormed (numbers_of format) c → (index : List ℕ) (d : DepotState)
       → (IsTrue d.tells → d.file index ≡ Some (word_bytes words)) → FindsIndex (numbers_of format) index d c parts
-  found_written fit plain good index d written =
+  found_written fit good index d written =
       let P : List ℕ → Type 0 = λ ws. AreOfWords (bytes_under d index) ws in
       record {
-        plain = plain;
         well_formed = good;
         partitions = built.cut.near.partitions;
         within = built.within;

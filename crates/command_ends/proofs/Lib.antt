@@ -5,6 +5,7 @@ pub mod WordsLoaded
 pub mod TextAnswered
 pub mod TextPrinted
 pub mod FileWritten
+pub mod FilesWritten
 pub mod IndexWritten
 pub mod IndexLoaded
 pub mod SourceRead

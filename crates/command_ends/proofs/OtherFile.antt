@@ -1,16 +1,21 @@
--- A file that begins with another word than an index: which check it breaks, whatever stands behind that word.
-use Rattle.std.proofs.Common.{◌≡◌, ◌≢◌, ℕ, ◌+◌, ◌-◌, ◌≤◌, Bool, true, false, List, length, slice_index, refl, sym, ap, ◌∙◌, subst, inl, inr, arith, Ok}
+-- A file that begins with another word than those of an index: which check it breaks, whatever stands behind that word.
+use Rattle.std.proofs.Common.{◌≡◌, ◌≢◌, ℕ, ◌+◌, ◌-◌, ◌≤◌, Bool, true, false, List, [], ◌∷◌, length, slice_index, refl, sym, ap, ◌∙◌, subst, inl, inr, arith, Ok}
 use Rattle.std.proofs.lemmas.Bool.{le-ltb, ne_eqb}
 use Rattle.std.specs.Prelude.{Option, Some, None, not, ◌==◌, nat_lt, if◌then◌else◌, MatchOption, MatchBool}
-use Rattle.collection_model.specs.FormatNumbers.{FormatNumbers}
+use Rattle.std.specs.List.{Contains}
+use Rattle.collection_model.specs.FormatNumbers.{FormatNumbers, FileKind, Plain, format_two}
+use Rattle.part_cost.specs.declared.formats.Format.TheVariants.{One, Two, Three}
 use Rattle.part_cost.specs.Formats.{numbers_of}
 use Rattle.pef_io.specs.declared.fail.Slot.TheVariants.{Index}
 use Rattle.pef_io.specs.DepotState.{DepotState}
 use Rattle.sequence_words.specs.declared.check.Check.{Check}
 use Rattle.sequence_words.specs.declared.check.Check.TheVariants.{K1, K2, K3, K4, K5}
 use Rattle.index_file.specs.declared.fault.OpenFault.{OpenFault}
-use Rattle.index_file.specs.FileWords.{CutList, opening_magic, end_magic, format_read, lists_words, IsIndex}
-use Rattle.index_file.specs.FirstBroken.{stated_documents, stated_terms, stated_sizes, numbers_break, frame_broken, IsLongestFilePrefix, IsTermFault, IsClosingFault, IsFirstBroken}
+use Rattle.index_file.specs.CutLists.{CutList}
+use Rattle.index_file.specs.PlainWords.{opening_magic, end_magic, lists_words}
+use Rattle.index_file.specs.PackedWords.{packed_magic}
+use Rattle.index_file.specs.FileWords.{format_read, IsIndex}
+use Rattle.index_file.specs.FirstBroken.{stated_documents, stated_terms, stated_sizes, numbers_break, frame_broken, IsLongestFilePrefix, IsTermFault, IsClosingFault, IsFirstBrokenOf, IsFirstBroken}
 use Rattle.word_files.specs.LoadWords.{LoadsKept, LoadsWords}
 use Rattle.command_ends.specs.Steps.LoadedIndex.{IsLoaded, IsNoIndex}
 
@@ -42,40 +47,65 @@ Behind words fault =
     (IsTermFault format words (length cs) (2 + length (lists_words format cs)) fault)
     (IsClosingFault words (2 + length (lists_words format cs)) fault)
 
-second-only : (words : List ℕ) (fault : OpenFault) → 6 ≤ length words → slice_index words 0 ≢ opening_magic → IsFirstBroken words fault
-    → fault ≡ record { check = K2; term = 0; part = 0 }
+-- the words with which an index begins
+abbrev pub openings : List ℕ
+openings = opening_magic ∷ packed_magic ∷ []
+
+-- Words begin with none of them.
+record BeginsOther (words : List ℕ) : Type 0 where
+  plain : slice_index words 0 ≢ opening_magic
+  packed : slice_index words 0 ≢ packed_magic
+
+begins-other : (words : List ℕ) → ¬ Contains openings (slice_index words 0) → BeginsOther words
+begins-other words other = record {
+  plain = λ is. other (subst (λ w. Contains openings w) (sym is) (0, omega arith, refl));
+  packed = λ is. other (subst (λ w. Contains openings w) (sym is) (1, omega arith, refl));
+}
+
+-- what is not read as a packed file is read as a plain one
+plain-of : (packed two : Bool) → packed ≡ false → (numbers_of (if packed then Three else if two then Two else One)).kind ≡ Plain
+plain-of true two e = absurd (cc)
+plain-of false true e = refl
+plain-of false false e = refl
+
+read-plain : (words : List ℕ) → slice_index words 0 ≢ packed_magic → (numbers_of (format_read words)).kind ≡ Plain
+read-plain words other = plain-of (slice_index words 0 == packed_magic) (slice_index words 1 == format_two.version) (ne_eqb (slice_index words 0) packed_magic other)
+
+second-only : (words : List ℕ) (fault : OpenFault) → 6 ≤ length words → BeginsOther words → IsFirstBroken words fault → fault ≡ record { check = K2; term = 0; part = 0 }
 second-only words fault many other first =
     let At : Option Check → Type 0 = λ o. MatchOption o (Behind words fault) (λ check. fault ≡ record { check = check; term = 0; part = 0 }) in
-    subst At (frame-of-other (numbers_of (format_read words)) words many other) first
+    let Of : FileKind → Type 0 = λ kind. IsFirstBrokenOf kind (numbers_of (format_read words)) words fault in
+    subst At (frame-of-other (numbers_of (format_read words)) words many other.plain) (subst Of (read-plain words other.packed) first)
 
-second-breaks : (words : List ℕ) (fault : OpenFault) → 6 ≤ length words → slice_index words 0 ≢ opening_magic → fault ≡ record { check = K2; term = 0; part = 0 }
-    → IsFirstBroken words fault
+second-breaks : (words : List ℕ) (fault : OpenFault) → 6 ≤ length words → BeginsOther words → fault ≡ record { check = K2; term = 0; part = 0 } → IsFirstBroken words fault
 second-breaks words fault many other is =
     let At : Option Check → Type 0 = λ o. MatchOption o (Behind words fault) (λ check. fault ≡ record { check = check; term = 0; part = 0 }) in
-    subst At (sym (frame-of-other (numbers_of (format_read words)) words many other)) is
+    let Of : FileKind → Type 0 = λ kind. IsFirstBrokenOf kind (numbers_of (format_read words)) words fault in
+    subst Of (sym (read-plain words other.packed)) (subst At (sym (frame-of-other (numbers_of (format_read words)) words many other.plain)) is)
 
--- an index begins with its opening word
-opens : (words : List ℕ) → IsIndex words → slice_index words 0 ≡ opening_magic
-opens words (format, (c, parts, spells)) = ap (λ ws. slice_index ws 0) spells.spelled
+-- an index begins with one of them
+opens : (words : List ℕ) → BeginsOther words → ¬ IsIndex words
+opens words other (One, (c, parts, spells)) = other.plain (ap (λ ws. slice_index ws 0) spells.spelled)
+opens words other (Two, (c, parts, spells)) = other.plain (ap (λ ws. slice_index ws 0) spells.spelled)
+opens words other (Three, (c, parts, spells)) = other.packed (ap (λ ws. slice_index ws 0) spells.spelled)
 
 -- words that are an index are all that were loaded
-pub kept_is_loaded : (opening : ℕ) (name : List ℕ) (d d' : DepotState) (words : List ℕ) → opening ≡ opening_magic → LoadsKept opening Index name d d' (Ok words)
-    → IsIndex words → IsLoaded name d d' words
-kept_is_loaded opening name d d' words e (all, inl same, loads) index =
+pub kept_is_loaded : (name : List ℕ) (d d' : DepotState) (words : List ℕ) → LoadsKept openings Index name d d' (Ok words) → IsIndex words → IsLoaded name d d' words
+kept_is_loaded name d d' words (all, inl same, loads) index =
     record { loads = subst (λ ws. LoadsWords Index name d d' (Ok ws)) (sym same) loads; index = index }
-kept_is_loaded opening name d d' words e (all, inr o, loads) index = absurd (o.other (opens words index ∙ sym e))
+kept_is_loaded name d d' words (all, inr o, loads) index = absurd (opens words (begins-other words o.other) index)
 
 -- words that are no index are loaded where some of them are
-pub kept_is_none : (opening : ℕ) (name : List ℕ) (d d' : DepotState) (words : List ℕ) (fault : OpenFault) → opening ≡ opening_magic
-    → LoadsKept opening Index name d d' (Ok words) → ¬ IsIndex words → IsFirstBroken words fault → IsNoIndex name d d' fault
-kept_is_none opening name d d' words fault e (all, inl same, loads) no_index first =
+pub kept_is_none : (name : List ℕ) (d d' : DepotState) (words : List ℕ) (fault : OpenFault) → LoadsKept openings Index name d d' (Ok words)
+    → ¬ IsIndex words → IsFirstBroken words fault → IsNoIndex name d d' fault
+kept_is_none name d d' words fault (all, inl same, loads) no_index first =
     record { words = words; loads = subst (λ ws. LoadsWords Index name d d' (Ok ws)) (sym same) loads; no_index = no_index; first = first }
-kept_is_none opening name d d' words fault e (all, inr o, loads) no_index first =
-    let here : slice_index words 0 ≢ opening_magic = λ is. o.other (is ∙ sym e) in
-    let there : slice_index all 0 ≢ opening_magic = λ is. here (sym o.same_first ∙ is) in
+kept_is_none name d d' words fault (all, inr o, loads) no_index first =
+    let here : BeginsOther words = begins-other words o.other in
+    let there : BeginsOther all = record { plain = λ is. here.plain (sym o.same_first ∙ is); packed = λ is. here.packed (sym o.same_first ∙ is) } in
     record {
       words = all;
       loads = loads;
-      no_index = λ index. there (opens all index);
+      no_index = opens all there;
       first = second-breaks all fault (omega (arith, o.many, o.no_more)) there (second-only words fault o.many here first);
     }

@@ -1,9 +1,7 @@
 -- What a run starts, and what memory its depot is refused.
-use Rattle.std.proofs.Common.{◌≡◌, ◌<◌, ℕ, refl, sym, ◌∙◌, List, inl, inr}
+use Rattle.std.proofs.Common.{◌≡◌, ℕ, refl, ◌∙◌, List, inl, inr}
 use Rattle.std.specs.Prelude.{◌⊎◌, Result, Err}
 use Rattle.pef_io.specs.declared.fail.Slot.{Slot}
-use Rattle.pef_io.specs.declared.fail.IoFail.{IoFail}
-use Rattle.pef_io.specs.declared.fail.IoFail.TheVariants as call
 use Rattle.pef_io.specs.DepotState.{DepotState, SameStarts, WasStartedAs}
 use Rattle.pef_io.proofs.OnlyReads.{NoneStartedTwice-then, StartedOnce-then, was-started-then}
 use Rattle.collection_reader.specs.Starting.{StartedInTurn, names_under}
@@ -15,7 +13,6 @@ use Rattle.word_files.specs.declared.loading.LoadWordsError.{LoadWordsError}
 use Rattle.word_files.specs.declared.loading.LoadWordsError.TheVariants as loading
 use Rattle.index_building.specs.WordsOfFiles.{BuildsWords}
 use Rattle.word_files.specs.LoadWords.{LoadsWords}
-use Rattle.word_files.specs.WriteFile.{WritesBytes}
 use Rattle.command_ends.specs.Outcome.{Outcome, FileFault, NoMemory}
 use Rattle.command_ends.specs.Starts.{StartsOnly}
 use Rattle.command_ends.proofs.Counted.{by_slot}
@@ -59,16 +56,13 @@ loaded_starts it name d d' r outcome w refused = record {
   refusals = elim w.refusals_rise_only_there [ inl is ↦ inl (refused is) | inr same ↦ inr same ];
 }
 
--- bytes that are then written, or not, where the outcome is the same want of memory
-pub written_starts : (names : Slot → List ℕ) (slots : Slot → Type 0) (bytes name : List ℕ) (d d1 d2 : DepotState) (r : Result (Unit {0}) IoFail) (outcome : Outcome)
-    → StartsOnly names slots outcome d d1 → WritesBytes bytes name d1 d2 r → (r ≡ Err call.NoMemory → outcome ≡ NoMemory) → StartsOnly names slots outcome d d2
-written_starts names slots bytes name d d1 d2 r outcome read v refused = record {
-  none_twice = NoneStartedTwice-then names d d1 d2 read.none_twice v.writes.starts;
-  no_others = λ slot other. v.writes.starts slot ∙ read.no_others slot other;
-  once = λ files memory. StartedOnce-then names slots d d1 d2 (read.once files memory) v.writes.starts;
-  in_turn = in_turn-then names slots d d1 d2 read.in_turn v.writes.starts;
-  refusals = elim v.refusals_rise_only_there [
-    | inl is ↦ inl (refused is)
-    | inr same ↦ elim read.refusals [ inl is ↦ inl is | inr before ↦ inr (same ∙ before) ]
-  ];
+-- what then starts nothing, and is refused memory only where that is the outcome
+pub written_starts : (names : Slot → List ℕ) (slots : Slot → Type 0) (d d1 d2 : DepotState) (outcome : Outcome) → StartsOnly names slots outcome d d1 → SameStarts d1 d2
+    → (outcome ≡ NoMemory) ⊎ (d2.refusals ≡ d1.refusals) → StartsOnly names slots outcome d d2
+written_starts names slots d d1 d2 outcome read same wanted = record {
+  none_twice = NoneStartedTwice-then names d d1 d2 read.none_twice same;
+  no_others = λ slot other. same slot ∙ read.no_others slot other;
+  once = λ files memory. StartedOnce-then names slots d d1 d2 (read.once files memory) same;
+  in_turn = in_turn-then names slots d d1 d2 read.in_turn same;
+  refusals = elim wanted [ inl is ↦ inl is | inr stays ↦ elim read.refusals [ inl is ↦ inl is | inr before ↦ inr (stays ∙ before) ] ];
 }

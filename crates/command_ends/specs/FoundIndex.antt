@@ -1,5 +1,5 @@
 use Rattle.std.specs.Prelude.{◌≡◌, ℕ, ◌≤◌, ◌%◌, ◌==◌, not, IsTrue, List, length, MatchBool}
-use Rattle.collection_model.specs.FormatNumbers.{FormatNumbers, Plain}
+use Rattle.collection_model.specs.FormatNumbers.{FormatNumbers}
 use Rattle.collection_model.specs.Collection.{Collection, WellFormed}
 use Rattle.part_cost.specs.declared.formats.Format.{Format}
 use Rattle.part_cost.specs.Formats.{numbers_of}
@@ -14,7 +14,6 @@ use Rattle.command_model.specs.Found.{AreOfWords, most_bytes}
 -- An index in this format, of this collection in these parts, which is not too large, stands under the name, as far as the depot tells.
 pub record FindsIndex (format : FormatNumbers) (name : List ℕ) (depot : DepotState)
     (c : Collection) (parts : List ListParts) : Type 0 where
-  pub plain : format.kind ≡ Plain
   pub well_formed : WellFormed format c
   pub partitions : ArePartitions c.lists parts
   pub within : length (file_words format c parts) ≤ most_words

@@ -14,6 +14,7 @@ pub mod WordsThen
 pub mod AnsweredText
 pub mod PrintedText
 pub mod WrittenFile
+pub mod WrittenFiles
 pub mod WrittenIndex
 pub mod Steps
 pub mod Private

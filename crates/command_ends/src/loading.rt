@@ -7,8 +7,8 @@ use pef_io::{Depot, Slot};
 use std::alloc::Global;
 use word_files::load_words;
 
-// The word with which an index begins, the bytes `PEFINDEX`.
-const OPENING: u64 = 6_360_565_151_758_173_520;
+// The words with which an index begins: the bytes `PEFINDEX` of a plain file, and `PEFPACKD` of a packed one.
+const OPENINGS: &[u64] = &[6_360_565_151_758_173_520, 4_921_100_965_631_116_624];
 
 /// The words of the file under the name, which are an index. Of a file that begins with another word only a piece is kept.
 pub fn load_index<D: Depot>(alloc: Global, name: &str, depot: &mut D) -> Result<Vec<u64>, Stop>
@@ -17,7 +17,7 @@ pub fn load_index<D: Depot>(alloc: Global, name: &str, depot: &mut D) -> Result<
     ensures refused { IfErr result (λ stop.
         IsUnloaded name.now (D.state depot.old) (D.state depot.new) stop) }
 {
-    let words = load_words(alloc, Slot::Index, OPENING, name, depot).map_err(stop_of_index)?;
+    let words = load_words(alloc, Slot::Index, OPENINGS, name, depot).map_err(stop_of_index)?;
     Index::view(&words)?;
     Ok(words)
 }

@@ -1,10 +1,12 @@
 -- What `migrate` leaves.
-use Rattle.std.proofs.Common.{◌≡◌, ℕ, ◌≤◌, ◌<◌, ◌^◌, refl, sym, ◌∙◌, ap, subst, List, length, inl, inr}
+use Rattle.std.proofs.Common.{◌≡◌, ℕ, ◌≤◌, ◌<◌, ◌^◌, lit≤, refl, sym, ◌∙◌, ap, subst, List, length, inl, inr}
 use Rattle.std.specs.Prelude.{Result, Err, Vec}
 use Rattle.std.specs.List.{All}
 use Rattle.std.specs.declared.alloc.Global.{Global}
 use Rattle.collection_model.specs.Bytes.{word_bytes}
 use Rattle.collection_model.specs.Collection.{Collection}
+use Rattle.part_cost.specs.declared.formats.Format.{Format}
+use Rattle.part_cost.specs.declared.formats.Format.TheVariants.{One, Two, Three}
 use Rattle.part_cost.specs.Formats.{numbers_of}
 use Rattle.pef_io.specs.SourceState.{SourceState}
 use Rattle.pef_io.specs.SinkState.{SinkState}
@@ -16,8 +18,10 @@ use Rattle.index_file.specs.IndexView.{IndexView}
 use Rattle.index_file.specs.Laws.{WordsAreRead, OneBrokenCheck}
 use Rattle.index_file.specs.declared.builder.FinishError.{FinishError}
 use Rattle.index_file.specs.declared.builder.FinishError.TheVariants as making
-use Rattle.index_building.specs.WordsOfCollection.{AreWordsOf, WouldBeTooMany}
+use Rattle.index_building.specs.WordsOfCollection.{AreWordsOf, HoldsAllOf, WouldBeTooMany}
 use Rattle.word_files.specs.WriteFile.{WritesWords}
+use Rattle.command_line.specs.declared.words.FileKind.{FileKind}
+use Rattle.command_line.specs.declared.words.FileKind.TheVariants.{Plain, Packed}
 use Rattle.command_ends.specs.declared.stop.Stop.{Stop}
 use Rattle.command_ends.specs.Outside.{Outside, outside}
 use Rattle.command_ends.specs.Outcome.{Outcome, Done, NoMemory, TooLarge}
@@ -37,7 +41,21 @@ use Rattle.command_ends.proofs.SourceRead.{IsUnread, no_memory, not_done, promis
 use Rattle.command_ends.proofs.WordsLoaded.{starts}
 use Rattle.index_commands.specs.Migrate.{MakesMigrated, Migrates, migrate_format}
 
-module _ (read : WordsAreRead) (check : OneBrokenCheck) (from to : List ℕ) (d d1 : DepotState) (i : SourceState) (o e e' : SinkState) (s s' : ℕ) where
+-- a new file may hold the collection of any index
+pub new_holds : (kind : FileKind) (format : Format) → HoldsAllOf (numbers_of format) (numbers_of (migrate_format kind))
+new_holds Plain One = record { documents = lit≤ tt; sums = lit≤ tt }
+new_holds Plain Two = record { documents = lit≤ tt; sums = lit≤ tt }
+new_holds Plain Three = record { documents = lit≤ tt; sums = lit≤ tt }
+new_holds Packed One = record { documents = lit≤ tt; sums = lit≤ tt }
+new_holds Packed Two = record { documents = lit≤ tt; sums = lit≤ tt }
+new_holds Packed Three = record { documents = lit≤ tt; sums = lit≤ tt }
+
+-- what is left in a format that is another's
+pub in_format : (one other : Format) → one ≡ other → (from to : List ℕ) (old new : Outside) (outcome : Outcome)
+    → Leaves (Migrates one from to) (Starts (IndexAt from)) old new outcome → Leaves (Migrates other from to) (Starts (IndexAt from)) old new outcome
+in_format one other is from to old new outcome = subst (λ f. Leaves (Migrates f from to) (Starts (IndexAt from)) old new outcome) is
+
+module _ (read : WordsAreRead) (check : OneBrokenCheck) (format : Format) (from to : List ℕ) (d d1 : DepotState) (i : SourceState) (o e e' : SinkState) (s s' : ℕ) where
   abbrev old : Outside
   old = outside d i o e s
 
@@ -45,7 +63,7 @@ module _ (read : WordsAreRead) (check : OneBrokenCheck) (from to : List ℕ) (d 
   new d2 s' = outside d2 i o e' s'
 
   abbrev Left : DepotState → ℕ → Outcome → Type 0
-  Left d2 s' outcome = Leaves (Migrates from to) (Starts (IndexAt from)) old (new d2 s') outcome
+  Left d2 s' outcome = Leaves (Migrates format from to) (Starts (IndexAt from)) old (new d2 s') outcome
 
   abbrev Is : Collection → Type 0
   Is = FindsIndexOf from d
@@ -59,7 +77,7 @@ module _ (read : WordsAreRead) (check : OneBrokenCheck) (from to : List ℕ) (d 
         unaccepted = λ denied. refl;
         refused = λ h. inl refl;
       })
-      (unread (IndexAt from) (File Index) (MakesMigrated from to) old (new d1 s) (index_laws read check from) outcome
+      (unread (IndexAt from) (File Index) (MakesMigrated format from to) old (new d1 s) (index_laws read check from) outcome
       (inl (record { files = w.1.reads.files; writing = w.1.reads.writing })) w)
 
   -- it was read
@@ -68,10 +86,10 @@ module _ (read : WordsAreRead) (check : OneBrokenCheck) (from to : List ℕ) (d 
     found = (index.format, index.parts, found_lent from d d1 words lent index w lends spells)
 
     -- no words were made of it
-    not_made : (error : FinishError) → ((n : ℕ) → error ≡ making.TooLarge n → WouldBeTooMany migrate_format index.collection s s' n) → Left d1 s' (unmade_words error)
+    not_made : (error : FinishError) → ((n : ℕ) → error ≡ making.TooLarge n → WouldBeTooMany format index.collection s s' n) → Left d1 s' (unmade_words error)
     not_made (making.TooLarge n) too_large =
         let are = too_large n refl in
-        let it : AreTooMany migrate_format Is s s' = (
+        let it : AreTooMany format Is s s' = (
           index.collection,
           are.parts,
           record { collection = found; near = are.cut.near; counted = are.cut.counted },
@@ -84,7 +102,7 @@ module _ (read : WordsAreRead) (check : OneBrokenCheck) (from to : List ℕ) (d 
           unaccepted = λ denied. absurd (denied (index.collection, found));
           refused = λ h. inr it;
         })
-        (too_many (IndexAt from) (File Index) (MakesMigrated from to) old (new d1 s') (index_laws read check from) refl (index.collection, found)
+        (too_many (IndexAt from) (File Index) (MakesMigrated format from to) old (new d1 s') (index_laws read check from) refl (index.collection, found)
         (still_read (IndexAt from) d d1 (index_read from d d1 words w) i o e e' s s' (TooLarge Index) refl (starts Index from d d1 words w.loads (TooLarge Index)))
         (refl, it))
     not_made making.NoMemory too_large =
@@ -94,22 +112,22 @@ module _ (read : WordsAreRead) (check : OneBrokenCheck) (from to : List ℕ) (d 
           unaccepted = λ denied. absurd (denied (index.collection, found));
           refused = λ h. absurd (not_true h);
         })
-        (no_memory (IndexAt from) (File Index) (MakesMigrated from to) old (new d1 s')
+        (no_memory (IndexAt from) (File Index) (MakesMigrated format from to) old (new d1 s')
         (still_read (IndexAt from) d d1 (index_read from d d1 words w) i o e e' s s' NoMemory refl (starts Index from d d1 words w.loads NoMemory))
         (inl (record { files = w.loads.reads.files; writing = w.loads.reads.writing })))
 
     pub migrate_unmade : (made : Result (Vec ℕ Global) FinishError) (error : FinishError) (r : Result (Unit {0}) Stop)
-        → ((n : ℕ) → made ≡ Err (making.TooLarge n) → WouldBeTooMany migrate_format index.collection s s' n) → made ≡ Err error → r ≡ Err (stop_of_making error)
+        → ((n : ℕ) → made ≡ Err (making.TooLarge n) → WouldBeTooMany format index.collection s s' n) → made ≡ Err error → r ≡ Err (stop_of_making error)
         → Left d1 s' (outcome_of r)
     migrate_unmade made error r too_large unmade is = subst (λ x. Left d1 s' (outcome_of x)) (sym is) (not_made error (λ n h. too_large n (unmade ∙ ap Err h)))
 
     -- they were made, and written or not
     pub migrate_ended : (d2 : DepotState) (made lent_made : List ℕ) (written : Written) (r : Result (Unit {0}) Stop)
-        → AreWordsOf migrate_format index.collection s s' made → lent_made ≡ made → All (λ x. x < 2 ^ 64) made
+        → AreWordsOf format index.collection s s' made → lent_made ≡ made → All (λ x. x < 2 ^ 64) made
         → WritesWords lent_made to d1 d2 written → outcome_of r ≡ written_outcome Index written → Left d2 s' (outcome_of r)
     migrate_ended d2 made lent_made written r are made_lends fit v is =
         let c = index.collection in
-        let built : AreBuilt migrate_format Is s s' c are.parts = record {
+        let built : AreBuilt format Is s s' c are.parts = record {
           cut = record { collection = found; near = are.cut.near; counted = are.cut.counted };
           within = subst (λ ws. length ws ≤ most_words) are.spelled.spelled are.within;
         } in
@@ -123,13 +141,13 @@ module _ (read : WordsAreRead) (check : OneBrokenCheck) (from to : List ℕ) (d 
             found,
             (
               are.parts,
-              found_written migrate_format Is old (new d2 s') made c are.parts built are.spelled.spelled fit are.spelled.plain are.spelled.well_formed to d2
+              found_written format Is old (new d2 s') made c are.parts built are.spelled.spelled fit are.spelled.well_formed to d2
                   (stands_written Index (word_bytes made) to d1 d2 written wrote done),
             ),
           );
           unaccepted = λ denied. absurd (denied (c, found));
           refused = λ h. absurd (not_refusal Index written h);
         })
-        (file_written (IndexAt from) (index_laws read check from) (MakesMigrated from to) Index d d1 d2 (index_read from d d1 words w) i o e e' s s' to (word_bytes made)
-        (OnBuiltBytes migrate_format Is old (new d2 s')) (on_built migrate_format Is old (new d2 s') made c are.parts built are.spelled.spelled) written wrote
-        (behind_building migrate_format Is old (new d2 s') (WritesIndex migrate_format Is to old (new d2 s')) written)))
+        (file_written (IndexAt from) (index_laws read check from) (MakesMigrated format from to) Index d d1 d2 (index_read from d d1 words w) i o e e' s s' to (word_bytes made)
+        (OnBuiltBytes format Is old (new d2 s')) (on_built format Is old (new d2 s') made c are.parts built are.spelled.spelled) written wrote
+        (behind_building format Is old (new d2 s') (WritesIndex format Is to old (new d2 s')) written)))

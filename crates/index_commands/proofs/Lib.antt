@@ -2,3 +2,4 @@ mod IndexAnswered
 mod SummaryPrinted
 mod AuditPrinted
 mod IndexMigrated
+mod CollectionExported

@@ -2,3 +2,4 @@ pub mod Query
 pub mod Inspect
 pub mod Migrate
 pub mod Audit
+pub mod Export

@@ -1,40 +1,62 @@
+ghost use Rattle.std.specs.Prelude.{◌≡◌};
 ghost use Rattle.pef_io.specs.SourceState.{SourceState};
 ghost use Rattle.pef_io.specs.SinkState.{SinkState};
 ghost use Rattle.command_ends.specs.Outside.{outside};
 ghost use Rattle.command_ends.specs.Steps.Leaves.{Leaves};
 ghost use Rattle.command_ends.specs.Steps.Stops.{outcome_of};
 ghost use Rattle.command_ends.specs.Starts.{StartsOnly};
-ghost use Rattle.index_commands.specs.Migrate.{Migrates};
+ghost use Rattle.index_commands.specs.Migrate.{Migrates, migrate_format};
 ghost use Rattle.command_model.specs.Found.{IsIndexSlot};
 
 use command_ends::{Stop, after_writing, load_index, words_fit};
+use command_line::FileKind;
 use index_building::migrated_words;
 use index_file::{Index, one_broken_check, words_and_bytes_undo_each_other};
+use part_cost::Format;
 use pef_io::{Depot, Slot};
 use std::alloc::Global;
 use std::sync::ledger::Ledger;
 use step_count::Steps;
 use word_files::write_words;
 
-/// Reads the index under a name, and writes that of its collection, in the second format and cut anew, as the file of another name.
+/// An index by its name, and the name and the kind of the file that is to be written of it.
+#[derive(Clone, Copy)]
+pub struct Rewrite<'a> {
+    pub from: &'a str,
+    pub to: &'a str,
+    pub kind: FileKind,
+}
+
+/// Reads an index, and writes that of its collection, cut anew, as the file of another name: a plain one in the second format, or a
+/// packed one.
 pub fn migrate<D: Depot, L: Ledger>(
     alloc: Global,
-    from: &str,
-    to: &str,
+    files: Rewrite<'_>,
     depot: &mut D,
     steps: &mut Steps<L>,
 ) -> Result<(), Stop>
     ensures { (i : SourceState) (o e e' : SinkState)
-        → Leaves (Migrates from.now to.now) (StartsOnly (λ slot. from.now) IsIndexSlot)
+        → Leaves (Migrates (migrate_format files.entry.kind) files.entry.from.now files.entry.to.now)
+        (StartsOnly (λ slot. files.entry.from.now) IsIndexSlot)
         (outside (D.state depot.old) i o e steps.old) (outside (D.state depot.new) i o e' steps.new)
         (outcome_of result) }
 {
     one_broken_check();
     words_and_bytes_undo_each_other();
-    let words = load_index(alloc, from, depot)?;
+    let words = load_index(alloc, files.from, depot)?;
     let index = Index::known(&words);
-    let migrated = migrated_words(alloc, &index, steps)?;
+    let migrated = migrated_words(alloc, &index, migrate_format(files.kind), steps)?;
     words_fit(&migrated);
-    let written = write_words(alloc, &migrated, to, depot);
+    let written = write_words(alloc, &migrated, files.to, depot);
     after_writing(Slot::Index, written)
+}
+
+// The format of a new file of a kind.
+fn migrate_format(kind: FileKind) -> Format
+    ensures { result ≡ migrate_format kind }
+{
+    match kind {
+        FileKind::Plain => Format::Two,
+        FileKind::Packed => Format::Three,
+    }
 }

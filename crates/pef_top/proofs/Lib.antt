@@ -3,3 +3,4 @@ mod Without
 mod Stopped
 mod Tabled
 mod Headline
+mod WayBack

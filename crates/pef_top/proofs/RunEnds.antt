@@ -1,6 +1,6 @@
 -- What a run leaves, from what its command left and what was reported.
 use Rattle.std.proofs.Common.{inr, ◌≡◌, refl, sym, ◌∙◌, ap, subst, ℕ}
-use Rattle.std.specs.Prelude.{◌≢◌, not, IsTrue, List, [], Result, Ok, Err, IsOk, Option, None}
+use Rattle.std.specs.Prelude.{◌≢◌, not, IsTrue, [], Result, Ok, Err, IsOk, Option, None}
 use Rattle.pef_io.specs.SourceState.{SourceState}
 use Rattle.pef_io.specs.SinkState.{SinkState}
 use Rattle.pef_io.specs.DepotState.{DepotState}

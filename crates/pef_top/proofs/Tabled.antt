@@ -8,9 +8,11 @@ use Rattle.part_cost.specs.Formats.{numbers_of}
 use Rattle.pef_io.specs.declared.fail.Slot.TheVariants.{Docs, Index, Side}
 use Rattle.pef_io.specs.DepotState.{DepotState}
 use Rattle.collection_reader.specs.ReadCollection.{IsCollectionSlot}
-use Rattle.command_line.specs.Command.{Command, Build, Query, Answer, Inspect, Generate, Migrate, Audit, Blocks, BlockQuery, Remap, Segments}
+use Rattle.command_line.specs.Command.{Command, Build, Query, Answer, Inspect, Generate, Migrate, Audit, Blocks, BlockQuery, Remap, Segments, Export}
 use Rattle.command_model.specs.AuditText.{IsAuditText}
+use Rattle.command_model.specs.FilesWritten.{NamedFile}
 use Rattle.command_model.specs.Found.{FindsCollection}
+use Rattle.command_model.specs.FoundMap.{OnImageFiles}
 use Rattle.command_ends.specs.Outside.{Outside}
 use Rattle.command_ends.specs.Outcome.{Outcome, Done, BrokenCollection, BrokenIndex, BrokenSide, BrokenMap, FileFault, InputFault, WriteFault, OutFault, NoMemory, TooLarge, InputTooLarge, BrokenSegment, UnfitSegment}
 use Rattle.command_ends.specs.FoundIndex.{FindsIndexOf}
@@ -20,14 +22,15 @@ use Rattle.command_ends.specs.AnsweredText.{AnswersInput}
 use Rattle.command_ends.specs.PrintedText.{PrintsText}
 use Rattle.command_ends.specs.WordsThen.{BuildsWordsThen}
 use Rattle.command_ends.specs.WrittenFile.{WritesFile}
+use Rattle.command_ends.specs.WrittenFiles.{WritesFiles}
 use Rattle.command_ends.specs.WrittenIndex.{OnBuiltBytes, WritesIndex}
 use Rattle.command_ends.specs.Sources.{Source, Nothing, CollectionAt, IndexAt, SideAt, MapAt, IndexesAt, EndsAt}
 use Rattle.command_ends.specs.Products.{Product, File, Files, Replies, Text, builds_words}
 use Rattle.collection_commands.specs.Answer.{IsAnswerable, IsBuiltFrom, answer_format}
 use Rattle.collection_commands.specs.Generate.{MakesGeneration}
-use Rattle.collection_commands.specs.Remap.{WritesImage}
 use Rattle.index_commands.specs.Inspect.{IsInspection}
 use Rattle.index_commands.specs.Audit.{PrintsFoundAudit}
+use Rattle.index_commands.specs.Export.{OnFilesOf}
 use Rattle.index_commands.specs.Migrate.{migrate_format}
 use Rattle.side_commands.specs.Blocks.{OnSideBytes}
 use Rattle.pef_top.specs.Commands.{Performs}
@@ -79,11 +82,12 @@ writes source slot name OnBytes old new (WriteFault written) h = h.0
 writes source slot name OnBytes old new NoMemory h = tt
 writes source slot name OnBytes old new outcome h = absurd h
 
-moves : (base map to : List ℕ) (old new : Outside) (outcome : Outcome) → WritesImage base map to old new outcome → MayMake (MapAt base map) Files outcome
-moves base map to old new Done h = tt
-moves base map to old new (WriteFault slot) h = h.0
-moves base map to old new NoMemory h = tt
-moves base map to old new outcome h = absurd h
+moves : (source : Source) (OnFiles : (List NamedFile → Type 0) → Type 0) (old new : Outside) (outcome : Outcome)
+    → WritesFiles OnFiles old new outcome → MayMake source Files outcome
+moves source OnFiles old new Done h = tt
+moves source OnFiles old new (WriteFault slot) h = h.0
+moves source OnFiles old new NoMemory h = tt
+moves source OnFiles old new outcome h = absurd h
 
 -- and where the words of an index are built for it
 builds : (source : Source) (product : Product) (format : Format) (Is : Collection → Type 0) (old new : Outside) (Then : Outcome → Type 0) (outcome : Outcome)
@@ -122,16 +126,18 @@ may_end (Answer base plan) old new outcome h =
     (builds from Replies answer_format (IsAnswerable base old.depot) old new (AnswersInput Is old new) outcome refl (answers from Is old new outcome)) h.ends
 may_end (Inspect index) old new outcome h = either (at_source (IndexAt index) old.depot outcome) (prints (IndexAt index) (IsInspection index old.depot) old new outcome) h.does.ends
 may_end (Generate seed n t) old new outcome h = either (at_source Nothing old.depot outcome) (generates seed n t old new outcome) h.ends
-may_end (Migrate from to) old new outcome h =
+may_end (Migrate from to kind) old new outcome h =
     let Is : Collection → Type 0 = FindsIndexOf from old.depot in
     either (at_source (IndexAt from) old.depot outcome)
-    (builds (IndexAt from) (File Index) migrate_format Is old new (WritesIndex migrate_format Is to old new) outcome refl
-    (writes (IndexAt from) Index to (OnBuiltBytes migrate_format Is old new) old new outcome)) h.does.ends
+    (builds (IndexAt from) (File Index) (migrate_format kind) Is old new (WritesIndex (migrate_format kind) Is to old new) outcome refl
+    (writes (IndexAt from) Index to (OnBuiltBytes (migrate_format kind) Is old new) old new outcome)) h.does.ends
 may_end (Audit index) old new outcome h = either (at_source (IndexAt index) old.depot outcome) (audits index old new outcome) h.does.ends
 may_end (Blocks index side) old new outcome h =
     either (at_source (IndexAt index) old.depot outcome) (writes (IndexAt index) Side side (OnSideBytes index old.depot) old new outcome) h.does.ends
 may_end (BlockQuery index side) old new outcome h =
     either (at_source (SideAt index side) old.depot outcome) (answers (SideAt index side) (FindsWithSide index side old.depot) old new outcome) h.does.ends
-may_end (Remap base map to) old new outcome h = either (at_source (MapAt base map) old.depot outcome) (moves base map to old new outcome) h.does.ends
+may_end (Remap base map to) old new outcome h = either (at_source (MapAt base map) old.depot outcome) (moves (MapAt base map) (OnImageFiles base map to old.depot) old new outcome) h.does.ends
 may_end (Segments indexes plan) old new outcome h =
     either (at_source (IndexesAt indexes) old.depot outcome) (answers (IndexesAt indexes) (FindsJoined indexes old.depot) old new outcome) h.does.ends
+may_end (Export index base) old new outcome h =
+    either (at_source (IndexAt index) old.depot outcome) (moves (IndexAt index) (OnFilesOf (FindsIndexOf index old.depot) base) old new outcome) h.does.ends

@@ -18,14 +18,15 @@ use Rattle.command_ends.specs.WrittenFile.{WritesFile}
 use Rattle.command_ends.specs.Sources.{Source, CollectionAt, IndexAt, IndexesAt, MapAt, Nothing, SideAt}
 use Rattle.command_ends.specs.Products.{Product, Does, File, Files, Replies, Text}
 use Rattle.command_ends.proofs.SourceRead.{uncalled}
-use Rattle.command_line.specs.Command.{Command, Build, Query, Answer, Inspect, Generate, Migrate, Audit, Blocks, BlockQuery, Remap, Segments}
+use Rattle.command_line.specs.Command.{Command, Build, Query, Answer, Inspect, Generate, Migrate, Audit, Blocks, BlockQuery, Remap, Segments, Export}
 use Rattle.collection_commands.specs.Answer.{MakesAnswers, answer_format}
 use Rattle.collection_commands.specs.Build.{MakesBuilt}
 use Rattle.collection_commands.specs.Generate.{MakesGeneration}
 use Rattle.collection_commands.specs.Remap.{WritesImage}
 use Rattle.index_commands.specs.Inspect.{IsInspection}
 use Rattle.index_commands.specs.Audit.{PrintsFoundAudit}
-use Rattle.index_commands.specs.Migrate.{MakesMigrated}
+use Rattle.index_commands.specs.Export.{WritesCollection}
+use Rattle.index_commands.specs.Migrate.{MakesMigrated, migrate_format}
 use Rattle.side_commands.specs.Blocks.{OnSideBytes}
 use Rattle.pef_top.specs.Commands.{Performs}
 
@@ -52,8 +53,8 @@ performs (Answer base plan) d i o e e' s =
     without (CollectionAt (numbers_of answer_format) base) Replies (MakesAnswers base) d i o e e' s (inl (record { input = refl; out = refl }))
 performs (Inspect index) d i o e e' s = record { does = without (IndexAt index) Text (PrintsText (IsInspection index d)) d i o e e' s (inl refl); costs = refl }
 performs (Generate seed n t) d i o e e' s = without Nothing Text (MakesGeneration seed n t) d i o e e' s (inl refl)
-performs (Migrate from to) d i o e e' s = record {
-  does = without (IndexAt from) (File Index) (MakesMigrated from to) d i o e e' s (inl (unwritten d));
+performs (Migrate from to kind) d i o e e' s = record {
+  does = without (IndexAt from) (File Index) (MakesMigrated (migrate_format kind) from to) d i o e e' s (inl (unwritten d));
   opens = λ h. cc;
   unaccepted = λ denied. refl;
   refused = λ h. inl refl;
@@ -78,5 +79,10 @@ performs (Remap base map to) d i o e e' s = record {
 }
 performs (Segments indexes plan) d i o e e' s = record {
   does = without (IndexesAt indexes) Replies (AnswersInput (FindsJoined indexes d)) d i o e e' s (inl (record { input = refl; out = refl }));
+  costs = refl;
+}
+performs (Export index base) d i o e e' s = record {
+  does = without (IndexAt index) Files (WritesCollection index base) d i o e e' s (inl (unwritten d));
+  opens = λ h. cc;
   costs = refl;
 }

@@ -2,7 +2,7 @@ use Rattle.std.specs.Prelude.{◌≡◌, Option, Some, None}
 use Rattle.pef_io.specs.SinkState.{SinkState}
 use Rattle.command_ends.specs.declared.status.Status.{Status}
 use Rattle.command_ends.specs.declared.status.Status.TheVariants as status
-use Rattle.command_line.specs.Command.{Command, Build, Query, Answer, Inspect, Generate, Migrate, Audit, Blocks, BlockQuery, Remap, Segments}
+use Rattle.command_line.specs.Command.{Command, Build, Query, Answer, Inspect, Generate, Migrate, Audit, Blocks, BlockQuery, Remap, Segments, Export}
 use Rattle.command_ends.specs.ErrLines.{usage_line}
 use Rattle.command_ends.specs.Outside.{Outside, GotText}
 use Rattle.command_ends.specs.Outcome.{Outcome, Usage}
@@ -11,8 +11,9 @@ use Rattle.index_commands.specs.Query.{Queries}
 use Rattle.collection_commands.specs.Answer.{Answers}
 use Rattle.index_commands.specs.Inspect.{Inspects}
 use Rattle.collection_commands.specs.Generate.{Generates}
-use Rattle.index_commands.specs.Migrate.{Migrates}
+use Rattle.index_commands.specs.Migrate.{Migrates, migrate_format}
 use Rattle.index_commands.specs.Audit.{Audits}
+use Rattle.index_commands.specs.Export.{Exports}
 use Rattle.side_commands.specs.Blocks.{WritesBlocks}
 use Rattle.side_commands.specs.BlockQuery.{QueriesBlocks}
 use Rattle.collection_commands.specs.Remap.{Remaps}
@@ -36,9 +37,10 @@ Performs (Some (Query index plan)) old new outcome = Queries index old new outco
 Performs (Some (Answer base plan)) old new outcome = Answers base old new outcome
 Performs (Some (Inspect index)) old new outcome = Inspects index old new outcome
 Performs (Some (Generate seed n t)) old new outcome = Generates seed n t old new outcome
-Performs (Some (Migrate from to)) old new outcome = Migrates from to old new outcome
+Performs (Some (Migrate from to kind)) old new outcome = Migrates (migrate_format kind) from to old new outcome
 Performs (Some (Audit index)) old new outcome = Audits index old new outcome
 Performs (Some (Blocks index side)) old new outcome = WritesBlocks index side old new outcome
 Performs (Some (BlockQuery index side)) old new outcome = QueriesBlocks index side old new outcome
 Performs (Some (Remap base map to)) old new outcome = Remaps base map to old new outcome
 Performs (Some (Segments indexes plan)) old new outcome = AnswersSegments indexes old new outcome
+Performs (Some (Export index base)) old new outcome = Exports index base old new outcome

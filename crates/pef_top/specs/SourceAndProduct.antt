@@ -1,6 +1,6 @@
 use Rattle.part_cost.specs.Formats.{numbers_of}
 use Rattle.pef_io.specs.declared.fail.Slot.TheVariants.{Index, Side}
-use Rattle.command_line.specs.Command.{Command, Build, Query, Answer, Inspect, Generate, Migrate, Audit, Blocks, BlockQuery, Remap, Segments}
+use Rattle.command_line.specs.Command.{Command, Build, Query, Answer, Inspect, Generate, Migrate, Audit, Blocks, BlockQuery, Remap, Segments, Export}
 use Rattle.command_ends.specs.Sources.{Source, Nothing, CollectionAt, IndexAt, SideAt, MapAt, IndexesAt}
 use Rattle.command_ends.specs.Products.{Product, Replies, Text, File, Files}
 use Rattle.collection_commands.specs.Answer.{answer_format}
@@ -12,12 +12,13 @@ source_of (Query index plan) = IndexAt index
 source_of (Answer base plan) = CollectionAt (numbers_of answer_format) base
 source_of (Inspect index) = IndexAt index
 source_of (Generate seed n t) = Nothing
-source_of (Migrate from to) = IndexAt from
+source_of (Migrate from to kind) = IndexAt from
 source_of (Audit index) = IndexAt index
 source_of (Blocks index side) = IndexAt index
 source_of (BlockQuery index side) = SideAt index side
 source_of (Remap base map to) = MapAt base map
 source_of (Segments indexes plan) = IndexesAt indexes
+source_of (Export index base) = IndexAt index
 
 -- what it makes
 abbrev pub product_of : Command → Product
@@ -26,9 +27,10 @@ product_of (Query index plan) = Replies
 product_of (Answer base plan) = Replies
 product_of (Inspect index) = Text
 product_of (Generate seed n t) = Text
-product_of (Migrate from to) = File Index
+product_of (Migrate from to kind) = File Index
 product_of (Audit index) = Text
 product_of (Blocks index side) = File Side
 product_of (BlockQuery index side) = Replies
 product_of (Remap base map to) = Files
 product_of (Segments indexes plan) = Replies
+product_of (Export index base) = Files

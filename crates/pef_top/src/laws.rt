@@ -1,5 +1,5 @@
 ghost use Rattle.pef_top.specs.MayEnd.{EndsByTheTable};
-ghost use Rattle.pef_top.specs.Laws.{BuiltFilesAnswer, MigratedFilesAnswer};
+ghost use Rattle.pef_top.specs.Laws.{BuiltFilesAnswer, BuiltFilesComeBack, MigratedFilesAnswer, MigratedFilesComeBack};
 
 use index_file::{one_index, words_and_bytes_undo_each_other};
 
@@ -11,9 +11,26 @@ pub fn built_files_answer()
     words_and_bytes_undo_each_other();
 }
 
-/// Where `migrate` is done and then `query` of what it left, the replies are those of the collection of which it found an index.
+/// Where `migrate`, or `repack`, is done and then `query` of what it left, the replies are those of the collection of which it found an index.
 pub fn migrated_files_answer()
     ensures { MigratedFilesAnswer }
+{
+    one_index();
+    words_and_bytes_undo_each_other();
+}
+
+/// Where `build`, or `pack`, is done over the files of a collection and then `export` of what it left, the three files are those of the
+/// collection, byte for byte.
+pub fn built_files_come_back()
+    ensures { BuiltFilesComeBack }
+{
+    one_index();
+    words_and_bytes_undo_each_other();
+}
+
+/// Where `migrate`, or `repack`, is done and then `export` of what it left, the three files are those that `export` leaves of the old index.
+pub fn migrated_files_come_back()
+    ensures { MigratedFilesComeBack }
 {
     one_index();
     words_and_bytes_undo_each_other();

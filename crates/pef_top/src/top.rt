@@ -12,8 +12,8 @@ ghost use Rattle.command_ends.specs.Steps.Stops.{outcome_of};
 
 use collection_commands::{answer, build, generate, reorder};
 use command_ends::{Status, Stop, write_line};
-use command_line::{Command, parse_words, words_name_plain_formats};
-use index_commands::{audit, inspect, migrate, query};
+use command_line::{Command, parse_words};
+use index_commands::{Rewrite, audit, export, inspect, migrate, query};
 use pef_io::{Depot, Sink, Source};
 use segment_commands::answer_segments;
 use side_commands::{query_blocks, write_blocks};
@@ -36,7 +36,9 @@ use step_count::Steps;
 /// as the file SIDE. `bquery INDEX SIDE` checks the file INDEX whole, and the file SIDE as its side file, and answers the lines of the input as
 /// `query` does, `top` by block-max WAND. `remap BASE MAP NEW` reads a collection and, from the file MAP, an order of its
 /// documents, and writes the files NEW.docs, NEW.freqs and NEW.sizes of its image. `segments INDEX.. [--plan PLAN]` checks each of 1 to
-/// 64 files whole, and answers the lines from the collection to which their indexes are joined. Every status but `Done` has its line on err, which takes no memory; an err that
+/// 64 files whole, and answers the lines from the collection to which their indexes are joined. `pack BASE NEW` is `build` with a packed
+/// file in place of a plain one, and `repack OLD NEW` is `migrate` so. `export INDEX BASE` checks the file INDEX whole and writes the files
+/// BASE.docs, BASE.freqs and BASE.sizes of its collection. Every status but `Done` has its line on err, which takes no memory; an err that
 /// fails changes no status.
 pub fn run<D: Depot, I: Source, O: Sink, E: Sink, L: Ledger>(
     alloc: Global,
@@ -120,7 +122,6 @@ fn perform<D: Depot, I: Source, O: Sink, L: Ledger>(
         LeavesUncalled command (Accepts command (D.state depot.old)) (outcome_of result)
         (objects depot.old input.old out.old) (objects depot.new input.new out.new) }
 {
-    words_name_plain_formats();
     let command = parse_words(alloc, words)?;
     match command {
         Command::Build {
@@ -136,7 +137,9 @@ fn perform<D: Depot, I: Source, O: Sink, L: Ledger>(
             documents,
             terms,
         } => generate(alloc, seed, documents, terms, out, steps),
-        Command::Migrate { from, to } => migrate(alloc, from, to, depot, steps),
+        Command::Migrate { from, to, kind } => {
+            migrate(alloc, Rewrite { from, to, kind }, depot, steps)
+        },
         Command::Audit { index } => audit(alloc, index, depot, out, steps),
         Command::Blocks { index, side } => write_blocks(alloc, index, side, depot),
         Command::BlockQuery { index, side } => query_blocks(alloc, index, side, depot, input, out),
@@ -144,6 +147,7 @@ fn perform<D: Depot, I: Source, O: Sink, L: Ledger>(
         Command::Segments { indexes, plan } => {
             answer_segments(alloc, indexes, plan, depot, input, out)
         }
+        Command::Export { index, base } => export(alloc, index, base, depot),
     }
 }
 

@@ -13,6 +13,7 @@ use Rattle.pef_io.specs.DepotState.{DepotState, bytes_under}
 use Rattle.index_file.specs.declared.fault.OpenFault.{OpenFault}
 use Rattle.index_file.specs.FileWords.{file_words}
 use Rattle.index_file.specs.Laws.{WordsAreRead, OneBrokenCheck, OneIndex}
+use Rattle.index_file.proofs.FittingFiles.{fits-file}
 use Rattle.segments.specs.declared.pushed.SegRule.{SegRule}
 use Rattle.segments.specs.declared.pushed.SegRule.TheVariants.{G1, G2}
 use Rattle.segments.specs.Joined.{FitTogether, terms_in}
@@ -108,7 +109,8 @@ module _ (read : WordsAreRead) (one : OneBrokenCheck) (one_index : OneIndex) (de
       let b = h.bytes t in
       let same : file_words (numbers_of v) c e ≡ file_words (numbers_of w) d g = read (file_words (numbers_of v) c e) (file_words (numbers_of w) d g) a.fit b.fit (sym a.bytes_are ∙ b.bytes_are) in
       (one_index v w (file_words (numbers_of v) c e) c d e g
-      (record { plain = f.plain; well_formed = f.well_formed; partitions = f.partitions; spelled = refl }) (record { plain = h.plain; well_formed = h.well_formed; partitions = h.partitions; spelled = same })).1
+      (record { well_formed = f.well_formed; partitions = f.partitions; fits = fits-file (numbers_of v) c e f.within; spelled = refl })
+      (record { well_formed = h.well_formed; partitions = h.partitions; fits = fits-file (numbers_of w) d g h.within; spelled = same })).1
 
   -- such a segment, where those before it have these collections
   abbrev RefusedAs : List Collection → List ℕ → Way → Type 0

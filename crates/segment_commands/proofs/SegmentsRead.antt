@@ -100,7 +100,6 @@ found_before old mid name c reads (format, parts, found) = (
   format,
   parts,
   record {
-    plain = found.plain;
     well_formed = found.well_formed;
     partitions = found.partitions;
     within = found.within;

@@ -1,7 +1,8 @@
 -- A file that begins with another word than a side file: which check it breaks, whatever stands behind that word.
-use Rattle.std.proofs.Common.{◌≡◌, ◌≢◌, ℕ, ◌+◌, ◌-◌, ◌≤◌, Bool, false, List, length, slice_index, sym, ap, ◌∙◌, subst, inl, inr, arith, Ok}
+use Rattle.std.proofs.Common.{◌≡◌, ◌≢◌, ℕ, ◌+◌, ◌-◌, ◌≤◌, Bool, false, List, [], ◌∷◌, length, refl, slice_index, sym, ap, ◌∙◌, subst, inl, inr, arith, Ok}
 use Rattle.std.proofs.lemmas.Bool.{le-ltb, ne_eqb}
 use Rattle.std.specs.Prelude.{not, ◌==◌, ◌&&◌, nat_lt, MatchBool}
+use Rattle.std.specs.List.{Contains}
 use Rattle.pef_io.specs.declared.fail.Slot.TheVariants.{Side}
 use Rattle.pef_io.specs.DepotState.{DepotState}
 use Rattle.block_max.specs.declared.fault.SideCheck.TheVariants.{S1, S2, S3, S4, S5, S6}
@@ -46,23 +47,28 @@ second-breaks cs words f many other is =
 opens : (cs : List BlockList) (words : List ℕ) → words ≡ side_words cs → slice_index words 0 ≡ side_opening
 opens cs words side = ap (λ ws. slice_index ws 0) side
 
+-- words that do not begin with one of these do not begin with that word
+other-first : (words : List ℕ) → ¬ Contains (side_opening ∷ []) (slice_index words 0) → slice_index words 0 ≢ side_opening
+other-first words other is = other (subst (λ w. Contains (side_opening ∷ []) w) (sym is) (0, omega arith, refl))
+
 -- words that are the side words are all that were loaded
-pub kept_is_loaded : (cs : List BlockList) (name : List ℕ) (d d' : DepotState) (words : List ℕ) → LoadsKept side_opening Side name d d' (Ok words)
+pub kept_is_loaded : (cs : List BlockList) (name : List ℕ) (d d' : DepotState) (words : List ℕ) → LoadsKept (side_opening ∷ []) Side name d d' (Ok words)
     → words ≡ side_words cs → IsLoadedSide cs name d d' words
 kept_is_loaded cs name d d' words (all, inl same, loads) side =
     record { loads = subst (λ ws. LoadsWords Side name d d' (Ok ws)) (sym same) loads; side = side }
-kept_is_loaded cs name d d' words (all, inr o, loads) side = absurd (o.other (opens cs words side))
+kept_is_loaded cs name d d' words (all, inr o, loads) side = absurd (other-first words o.other (opens cs words side))
 
 -- words that are not are loaded where some of them are
-pub kept_is_none : (cs : List BlockList) (name : List ℕ) (d d' : DepotState) (words : List ℕ) (fault : SideFault) → LoadsKept side_opening Side name d d' (Ok words)
+pub kept_is_none : (cs : List BlockList) (name : List ℕ) (d d' : DepotState) (words : List ℕ) (fault : SideFault) → LoadsKept (side_opening ∷ []) Side name d d' (Ok words)
     → words ≢ side_words cs → IsFirstSideFault cs words fault → IsNoSide cs name d d' fault
 kept_is_none cs name d d' words fault (all, inl same, loads) no_side first =
     record { words = words; loads = subst (λ ws. LoadsWords Side name d d' (Ok ws)) (sym same) loads; no_side = no_side; first = first }
 kept_is_none cs name d d' words fault (all, inr o, loads) no_side first =
-    let there : slice_index all 0 ≢ side_opening = λ is. o.other (sym o.same_first ∙ is) in
+    let here : slice_index words 0 ≢ side_opening = other-first words o.other in
+    let there : slice_index all 0 ≢ side_opening = λ is. here (sym o.same_first ∙ is) in
     record {
       words = all;
       loads = loads;
       no_side = λ side. there (opens cs all side);
-      first = second-breaks cs all fault (omega (arith, o.many, o.no_more)) there (second-only cs words fault (omega (arith, o.many)) o.other first);
+      first = second-breaks cs all fault (omega (arith, o.many, o.no_more)) there (second-only cs words fault (omega (arith, o.many)) here first);
     }

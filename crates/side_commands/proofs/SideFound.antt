@@ -7,13 +7,14 @@ use Rattle.part_cost.specs.Formats.{numbers_of}
 use Rattle.pef_io.specs.DepotState.{DepotState, bytes_under}
 use Rattle.index_file.specs.FileWords.{ListParts, file_words}
 use Rattle.index_file.specs.Laws.{WordsAreRead, OneBrokenCheck, OneIndex}
+use Rattle.index_file.proofs.FittingFiles.{fits-file}
 use Rattle.block_max.specs.declared.fault.SideFault.{SideFault}
 use Rattle.block_max.specs.Blocks.{BlockList}
 use Rattle.block_max.specs.Laws.{OneSideFault}
 use Rattle.block_max.specs.SideFaults.{IsFirstSideFault}
 use Rattle.block_max.specs.SideWords.{side_words}
 use Rattle.index_blocks.specs.BlockLists.{block_lists}
-use Rattle.index_blocks.specs.Laws.{SideFilesAreShort}
+use Rattle.index_blocks.specs.Laws.{SideFilesFit}
 use Rattle.command_model.specs.Found.{AreOfWords}
 use Rattle.command_ends.specs.Outcome.{Outcome, BrokenIndex, BrokenSide, TooLarge}
 use Rattle.command_ends.specs.FoundIndex.{FindsIndex}
@@ -32,9 +33,9 @@ pub record Laws : Type 0 where
   pub check : OneBrokenCheck
   pub index : OneIndex
   pub fault : OneSideFault
-  pub short : SideFilesAreShort
+  pub short : SideFilesFit
 
-pub laws_of : WordsAreRead → OneBrokenCheck → OneIndex → OneSideFault → SideFilesAreShort → Laws
+pub laws_of : WordsAreRead → OneBrokenCheck → OneIndex → OneSideFault → SideFilesFit → Laws
 laws_of read check index fault short = record { read = read; check = check; index = index; fault = fault; short = short }
 
 -- the first check of bytes that are no whole words, and of those of words
@@ -69,8 +70,8 @@ module _ (laws : Laws) where
       let words : List ℕ = file_words (numbers_of v) c p in
       let same : words ≡ file_words (numbers_of w) e q = laws.read words (file_words (numbers_of w) e q) x.fit y.fit (sym x.bytes_are ∙ y.bytes_are) in
       let one = laws.index v w words c e p q
-      (record { plain = f.plain; well_formed = f.well_formed; partitions = f.partitions; spelled = refl })
-      (record { plain = g.plain; well_formed = g.well_formed; partitions = g.partitions; spelled = same }) in
+      (record { well_formed = f.well_formed; partitions = f.partitions; fits = fits-file (numbers_of v) c p f.within; spelled = refl })
+      (record { well_formed = g.well_formed; partitions = g.partitions; fits = fits-file (numbers_of w) e q g.within; spelled = same }) in
       ap (λ (a : Collection). block_lists a.lists p) one.1 ∙ ap (λ (ps : List ListParts). block_lists e.lists ps) one.2
 
   module _ (index side : List ℕ) where
@@ -122,7 +123,7 @@ module _ (laws : Laws) where
         (same_lists index d t h.format v h.collection c h.parts p h.found f) h.first)
     none d (t, (c, (v, p, f, s))) (TooLarge slot) (inl x) = denied d t (c, (v, p, f)) (TooLarge slot) x
     none d (t, (c, (v, p, f, s))) (TooLarge slot) (inr x) =
-        not_both_lengths _ _ (short (bytes_under d side) (side_of c p) (s t) (omega (arith, laws.short (numbers_of v) c p, f.within))) (x.2 t)
+        not_both_lengths _ _ (short (bytes_under d side) (side_of c p) (s t) (omega (arith, laws.short (numbers_of v) c p f.well_formed f.partitions f.within))) (x.2 t)
     none d stands a x = x
 
     pub side_laws : source.Laws (SideAt index side)

@@ -12,7 +12,7 @@ ghost use Rattle.side_commands.specs.BlockQuery.{QueriesBlocks};
 use crate::side_loading::load_side;
 use block_max::{Side, one_side_fault};
 use command_ends::{LONGEST_TEXT, Stop, load_index};
-use index_blocks::{IndexBlocks, block_starts, side_files_are_short};
+use index_blocks::{IndexBlocks, block_starts, side_files_fit};
 use index_file::{Index, one_broken_check, one_index, words_and_bytes_undo_each_other};
 use pef_io::{Depot, Sink, Source};
 use std::alloc::Global;
@@ -42,7 +42,7 @@ pub fn query_blocks<D: Depot, I: Source, O: Sink>(
     words_and_bytes_undo_each_other();
     one_index();
     one_side_fault();
-    side_files_are_short();
+    side_files_fit();
     let words = load_index(alloc, index, depot)?;
     let index = Index::known(&words);
     let starts = block_starts(alloc, &index)?;

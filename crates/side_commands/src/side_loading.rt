@@ -23,7 +23,7 @@ pub(crate) fn load_side<D: Depot, S: BlockSource>(
     ensures refused { IfErr result (λ stop. IsUnloadedSide (S.lists source.now) name.now
         (D.state depot.old) (D.state depot.new) stop) }
 {
-    let words = load_words(alloc, Slot::Side, OPENING, name, depot).map_err(stop_of_side)?;
+    let words = load_words(alloc, Slot::Side, &[OPENING], name, depot).map_err(stop_of_side)?;
     Side::view(&words, source)?;
     Ok(words)
 }

@@ -2,7 +2,8 @@ use Rattle.std.proofs.Common.{arith, sym, ◌∙◌, ap, Ok, Err}
 use Rattle.command_model.specs.FoundMap.{remap_numbers}
 use Rattle.std.proofs.lemmas.Result.{err_from_is_err_and}
 use Rattle.command_ends.specs.Steps.Stops.{outcome_of}
-use Rattle.collection_commands.proofs.ImageMoved.{moved, files_apart, move_refused, move_ended}
+use Rattle.command_ends.proofs.FilesWritten.{files_outcome}
+use Rattle.collection_commands.proofs.ImageMoved.{files_apart, move_refused, move_ended}
 use Rattle.collection_commands.proofs.MapRead.{Laws}
 use Rattle.collection_commands.proofs.reordering.reorder.Goals as goal
 
@@ -30,7 +31,7 @@ returns-in_err-write_image g c = λ i o e e' costs.
     } in
     move_ended laws c.image_is_well_formed.ensures c.args.base.now c.args.map.now c.args.to.now _ _ _ i o e e' costs c.image_files.result c.in_ok-files.files c.write_image.result
     c.from_residual-in_err-write_image.result c.image_files.ensures c.in_ok-files.was c.write_image.ensures
-    (ap outcome_of (p.1 ∙ ap Err p.2) ∙ sym (ap moved c.in_err-write_image.was))
+    (ap outcome_of (p.1 ∙ ap Err p.2) ∙ sym (ap files_outcome c.in_err-write_image.was))
 
 pub returns : goal.returns
 returns g c = λ i o e e' costs.
@@ -40,4 +41,4 @@ returns g c = λ i o e e' costs.
       maps = c.maps_have_one_first_fault.ensures;
     } in
     move_ended laws c.image_is_well_formed.ensures c.args.base.now c.args.map.now c.args.to.now _ _ _ i o e e' costs c.image_files.result c.in_ok-files.files c.write_image.result
-    (Ok tt) c.image_files.ensures c.in_ok-files.was c.write_image.ensures (sym (ap moved c.in_ok-write_image.was))
+    (Ok tt) c.image_files.ensures c.in_ok-files.was c.write_image.ensures (sym (ap files_outcome c.in_ok-write_image.was))

@@ -32,10 +32,6 @@ returns-in_err-command-clause-leaves g c = λ e e'.
     subst P (sym is) (stopped command c.in_err-command.field-0.0 (g.D.Depot.state c.args.depot.now) (g.I.Source.state c.args.input.now) (g.O.Sink.state c.args.out.now)
     e e' c.args.steps.now c.in_err-command.ensures.error)
 
-pub build-requires : goal.build-requires
-build-requires g c =
-    record { plain = c.words_name_plain_formats.ensures (texts c.args.words.now) _ _ _ (sym (sym (ap (λ x. Some (asked x)) c.in-Build.is) ∙ c.in_ok-command.ensures.command)) }
-
 pub returns-in-Build-clause-leaves : goal.returns-in-Build-clause-leaves
 returns-in-Build-clause-leaves g c = λ e e'. left (texts c.args.words.now) _ _ c.in-Build.is c.in_ok-command.ensures.command _ _ _ (c.build.ensures (g.I.Source.state c.args.input.now) (g.O.Sink.state c.args.out.now) e e')
 
@@ -68,6 +64,9 @@ returns-in-Remap-clause-leaves g c = λ e e'. left (texts c.args.words.now) _ _ 
 
 pub returns-in-Segments-clause-leaves : goal.returns-in-Segments-clause-leaves
 returns-in-Segments-clause-leaves g c = λ e e'. left (texts c.args.words.now) _ _ c.in-Segments.is c.in_ok-command.ensures.command _ _ _ (c.answer_segments.ensures.leaves e e' c.args.steps.now)
+
+pub returns-in-Export-clause-leaves : goal.returns-in-Export-clause-leaves
+returns-in-Export-clause-leaves g c = λ e e'. left (texts c.args.words.now) _ _ c.in-Export.is c.in_ok-command.ensures.command _ _ _ (c.export.ensures (g.I.Source.state c.args.input.now) (g.O.Sink.state c.args.out.now) e e' c.args.steps.now)
 
 -- Neither the input nor out was called.
 silent : {D I O : Type 0} (depot depot' : D) (input input' : I) (out out' : O) → (input' ≡ input) × (out' ≡ out)

@@ -1,0 +1,24 @@
+use Rattle.std.specs.Prelude.{◌⊎◌, List}
+use Rattle.pef_io.specs.declared.fail.Slot.{Slot}
+use Rattle.pef_io.specs.Calls.{Rose}
+use Rattle.collection_reader.specs.ReadCollection.{IsCollectionSlot}
+use Rattle.collection_reader.specs.Starting.{turn}
+use Rattle.command_model.specs.Written.{IsUnwritten}
+use Rattle.command_model.specs.FilesWritten.{NamedFile, AreWritten, StopsAtFile, FileLeftByFault}
+use Rattle.command_ends.specs.Outside.{Outside}
+use Rattle.command_ends.specs.Outcome.{Outcome, Done, WriteFault, NoMemory}
+
+-- A run writes the three files of a collection, of which OnFiles tells, one after the other, and ends so. A failed write names its
+-- file. Want of memory may come before the first is begun, and behind that only of the depot.
+abbrev pub WritesFiles : ((List NamedFile → Type 0) → Type 0) → Outside → Outside → Outcome → Type 0
+WritesFiles OnFiles old new Done = OnFiles (λ files. AreWritten files old.depot new.depot)
+WritesFiles OnFiles old new (WriteFault slot) = IsCollectionSlot slot
+    × OnFiles (λ files.
+    StopsAtFile files (turn slot) old.depot new.depot
+    × FileLeftByFault files (turn slot) old.depot new.depot)
+WritesFiles OnFiles old new NoMemory =
+    IsUnwritten old.depot new.depot
+    ⊎ (Rose old.depot.refusals new.depot.refusals
+    × OnFiles (λ files.
+    (slot : Slot) × IsCollectionSlot slot × StopsAtFile files (turn slot) old.depot new.depot))
+WritesFiles OnFiles old new outcome = ⊥
