@@ -1,4 +1,4 @@
-/* Builds the index of two lists, checks it, asks it, and shows how other words are refused. */
+/* Builds the index of two lists as a plain file and as a packed one, checks it, asks it, and shows how other words are refused. */
 #include <stdio.h>
 #include <stdlib.h>
 
@@ -19,10 +19,10 @@ static int ended(const char *call, uint32_t status, uint32_t wanted)
     return 1;
 }
 
-static int built(uint64_t *words, size_t room, size_t *count)
+static int built(uint32_t format, uint64_t *words, size_t room, size_t *count)
 {
     pefidx_bad_posting bad;
-    return ended("pefidx_build", pefidx_build(lengths, 2, docs, 3, freqs, 3, sizes, 3, words, room, count, &bad), PEFIDX_DONE);
+    return ended("pefidx_build", pefidx_build(format, lengths, 2, docs, 3, freqs, 3, sizes, 3, words, room, count, &bad), PEFIDX_DONE);
 }
 
 static int asked(const uint64_t *words, size_t count)
@@ -91,7 +91,8 @@ static int refused(uint64_t *words, size_t count)
     return wrong;
 }
 
-int main(void)
+/* Builds the index in a format, and asks it. */
+static int tried(uint32_t format)
 {
     size_t room = 64, count;
     pefidx_fault fault;
@@ -100,7 +101,7 @@ int main(void)
     if (!words) {
         return 1;
     }
-    wrong = built(words, room, &count);
+    wrong = built(format, words, room, &count);
     if (!wrong) {
         /* The rest of the room is given back, so that a look behind the words is seen. */
         uint64_t *fitted = realloc(words, count * sizeof *words);
@@ -109,4 +110,9 @@ int main(void)
     }
     free(words);
     return wrong;
+}
+
+int main(void)
+{
+    return tried(PEFIDX_FORMAT_TWO) || tried(PEFIDX_PACKED);
 }

@@ -48,12 +48,14 @@ enum {
     PEFIDX_NO_MEMORY = 9,
     /* To check: 2^57 words or more. To build: there would be more than 2^37 words, and the count is how many. */
     PEFIDX_TOO_LARGE = 10,
-    /* To build: 2^32 lists or more, or 2^32 documents or more. */
+    /* To build: 2^32 lists or more, or 2^32 documents or more, in the first format 2^28 documents or more. */
     PEFIDX_TOO_MANY = 11,
     /* To build: the lengths do not add up to the number of documents in the lists, or there is not one frequency for each. */
     PEFIDX_NOT_WHOLE = 12,
     /* To build: a posting cannot stand in its list, and is told. */
-    PEFIDX_BAD_POSTING = 13
+    PEFIDX_BAD_POSTING = 13,
+    /* To build: the number is no format's. */
+    PEFIDX_NO_FORMAT = 14
 };
 
 /* The most terms that are asked together. */
@@ -67,7 +69,14 @@ enum {
     PEFIDX_MAXSCORE = 2
 };
 
-/* The first check that breaks: its number, 1 to 11 for K1 to K11; the term, counted from 0; and the part of its list, those of its
+/* The formats of pefidx_build. The third is that of the packed file, which is the smallest; every call reads all three. */
+enum {
+    PEFIDX_FORMAT_ONE = 1,
+    PEFIDX_FORMAT_TWO = 2,
+    PEFIDX_PACKED = 3
+};
+
+/* The first check that breaks: its number, 1 to 13 for K1 to K13; the term, counted from 0; and the part of its list, those of its
  * documents first. The term is the number of terms where all lists are right, and both are 0 where no list is concerned. */
 typedef struct pefidx_fault {
     uint32_t check;
@@ -93,7 +102,7 @@ typedef struct pefidx_bad_posting {
     uint64_t place;
 } pefidx_bad_posting;
 
-/* Checks every word, and tells whether the words are an index, of either format. It takes no memory, and its time depends on the number
+/* Checks every word, and tells whether the words are an index, plain or packed. It takes no memory, and its time depends on the number
  * of words alone. Any words may be given.
  *
  * PEFIDX_DONE: they are one, and may be given to the calls below.
@@ -154,22 +163,24 @@ uint32_t pefidx_top(const uint64_t *words, size_t count, uint32_t plan, const ui
  * PEFIDX_NO_PLAN: exactly then. PEFIDX_NO_MEMORY: memory is taken for what is asked, and for the reply. */
 uint32_t pefidx_reply(const uint64_t *words, size_t count, uint32_t plan, const char *line, size_t length, char *text, size_t room, size_t *written);
 
-/* The words of the index file, in the second format, of some lists. lengths[t] is how many postings list t has; the documents of all lists
- * stand one after the other in docs, and their frequencies in freqs. There is a document for each size. In a list documents rise, each is
- * below the number of documents, and each frequency is at least 1; the frequencies of a list add up to at most 2^48.
+/* The words of the index file, in a format, of some lists: a packed file in the third. lengths[t] is how many postings list t has; the
+ * documents of all lists stand one after the other in docs, and their frequencies in freqs. There is a document for each size. In a list
+ * documents rise, each is below the number of documents, and each frequency is at least 1; the frequencies of a list add up to at most 2^48,
+ * in the first format to at most 2^36.
  *
  * PEFIDX_DONE: the words stand in `words`, and *count is how many they are. They are an index of just these lists and sizes, and every
- *   sequence of it is cut into parts that cost at most 103/100 of the cheapest allowed cut.
+ *   sequence of it is cut so that its bits in the file are at most 103/100 of those that it takes in any cut that may stand there.
  * PEFIDX_ROOM: *count is how many they are, which is more than room; the first `room` of them stand in `words`. It is then to be called
  *   again with that room, and does its work again. With room for 6 words, which an index of nothing has, and as many as there are postings,
  *   plus 16 for each list and 1 for each document, this has not been seen to happen.
- * PEFIDX_TOO_MANY, PEFIDX_NOT_WHOLE: exactly then, and in this order.
+ * PEFIDX_NO_FORMAT, PEFIDX_TOO_MANY, PEFIDX_NOT_WHOLE: exactly then, and in this order.
  * PEFIDX_BAD_POSTING: exactly where, but for these, a list is no posting list; *bad is the first posting that cannot stand in its list.
  *   It comes before memory is taken, so PEFIDX_NO_MEMORY and PEFIDX_TOO_LARGE are told of posting lists alone.
  * PEFIDX_TOO_LARGE: the words would be more than 2^37; *count is how many.
  * PEFIDX_NO_MEMORY: memory is taken for the words, and for a list while it is cut. */
-uint32_t pefidx_build(const uint32_t *lengths, size_t lengths_count, const uint32_t *docs, size_t docs_count, const uint32_t *freqs,
-    size_t freqs_count, const uint32_t *sizes, size_t sizes_count, uint64_t *words, size_t room, size_t *count, pefidx_bad_posting *bad);
+uint32_t pefidx_build(uint32_t format, const uint32_t *lengths, size_t lengths_count, const uint32_t *docs, size_t docs_count,
+    const uint32_t *freqs, size_t freqs_count, const uint32_t *sizes, size_t sizes_count, uint64_t *words, size_t room, size_t *count,
+    pefidx_bad_posting *bad);
 
 #ifdef __cplusplus
 }

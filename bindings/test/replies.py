@@ -5,8 +5,8 @@
 
 Query lines are drawn, and answered by `PROGRAM query INDEX --plan PLAN` and by the package from four threads at once, under each plan: every
 reply is to be the same, and so is that of `search` to each line, also to lines that break a rule. Then lists are walked, the index is built
-anew from them and is to be the same file where it is of the second format, and files with a changed byte are to be refused as the program
-refuses them. PROGRAM may have arguments of its own, in one word.
+anew from them and is to be the same file, in the other formats it is to have the same lists, and files with a changed byte are to be refused
+as the program refuses them. PROGRAM may have arguments of its own, in one word.
 """
 import array
 import itertools
@@ -172,21 +172,24 @@ def arrays(index):
 
 
 def same_file(path, lists, sizes, folder):
+    """Built anew in its format it is the same file, and in each other one a file of the same lists."""
     again = os.path.join(folder, "again.pefindex")
-    pefidx.build(lists, again, sizes)
-    with open(path, "rb") as old, open(again, "rb") as new:
-        old_bytes, new_bytes = old.read(), new.read()
-    if old_bytes[8] == 2:
-        assert old_bytes == new_bytes, "built anew it is the same file"
-        with pefidx.Index(path) as index:
-            pefidx.build(index, again, sizes if numpy is None else numpy.array(sizes, numpy.uint32))
-        with open(again, "rb") as new:
-            assert old_bytes == new.read(), "built anew from the index it is the same file"
-        print("built anew from its lists it is the same file")
-    else:
+    with open(path, "rb") as file:
+        old = file.read()
+    own = old[8]
+    with pefidx.Index(path) as index:
+        for given, counts in (lists, sizes), (index, sizes if numpy is None else numpy.array(sizes, numpy.uint32)):
+            pefidx.build(given, again, counts, own)
+            with open(again, "rb") as new:
+                assert old == new.read(), "built anew it is the same file"
+    lengths = {own: len(old)}
+    for other in {1, 2, pefidx.PACKED} - {own}:
+        pefidx.build(lists, again, sizes, format=other)
+        lengths[other] = os.path.getsize(again)
         with pefidx.Index(again) as index:
-            assert walked(index)[1] == sizes
-        print("built anew it is an index of the second format")
+            others, counts = walked(index)
+            assert all(list(a) == list(b) for of, to in zip(others, lists) for a, b in zip(of, to)) and counts == sizes, other
+    print("built anew it is the same file, and the same lists in each format:", *(f"{lengths[each]:,} bytes in {each}" for each in sorted(lengths)))
 
 
 def refused_alike(program, path, folder, seed):
@@ -290,6 +293,14 @@ def bad_lists(folder):
     build = lambda *words: pefidx.build(words[0], os.path.join(folder, "none.pefindex"), *words[1:])
     for lists, *sizes in ([([4_294_967_295], [1])],), ([([0], [1])], [2**32]), ([([0], [1])], [-1]), ([([0], [2**31]), ([0], [2**31])],):
         refuses(OverflowError, lambda: build(lists, *sizes))
+    for format in 0, 4, -1, 2**32 + 1:
+        refuses(ValueError, lambda: build([([0], [1])], None, format))
+    for format in 2.0, "2", None:
+        refuses(TypeError, lambda: build([([0], [1])], None, format))
+    # The first format takes fewer documents, and less in a list.
+    refuses(OverflowError, lambda: build([([2**28 - 1], [1])], None, 1))
+    much = [(range(17), [2**32 - 1] * 17)]
+    refuses(pefidx.BadPosting, lambda: build(much, None, 1))
     for lists in [([0], [])], [([0], [1, 1])], [([0],)]:
         refuses(ValueError, lambda: build(lists))
     for lists in [([0.0], [1])], [(["0"], [1])], [0]:
@@ -298,12 +309,13 @@ def bad_lists(folder):
 
 
 def nothing_built(folder):
-    """The index of nothing: no list, and no document. It has 6 words."""
+    """The index of nothing, in each format: no list, and no document. It has 6 words."""
     path = os.path.join(folder, "nothing.pefindex")
-    pefidx.build([], path)
-    assert os.path.getsize(path) == 48
-    with pefidx.Index(path) as index:
-        assert (index.documents, index.terms, len(index.or_([]))) == (0, 0, 0)
+    for format in 1, 2, pefidx.PACKED:
+        pefidx.build([], path, format=format)
+        assert os.path.getsize(path) == 48
+        with pefidx.Index(path) as index:
+            assert (index.documents, index.terms, len(index.or_([]))) == (0, 0, 0)
 
 
 def main():

@@ -35,7 +35,7 @@ module _ (list : List Posting) (sizes : List ℕ) where
       let within : new.documents ≤ (numbers_of new.format).most_documents =
       subst (λ f. new.documents ≤ (numbers_of f).most_documents) (sym is) (omega (arith, count, few)) in
       let plain : (numbers_of new.format).kind ≡ Plain = subst (λ f. (numbers_of f).kind ≡ Plain) (sym is) refl in
-      let file = files.spelled new cs sizes plain it.1 within (omega arith) (sym count) fit in (
+      let file = files.spelled new cs sizes it.1 (files.plain_fits (numbers_of new.format).kind new.documents cs plain) within (omega arith) (sym count) fit in (
         it.0,
         subst (λ ws. Spells format_two ws (one_list list sizes) (it.0 ∷ [])) (sym (words cs it.1)) (spelled new.format new.documents _ it.0 is count file),
       )

@@ -21,7 +21,8 @@ pub fn best_of_two(
     requires one { one < length index.now.collection.lists }
     requires other { other < length index.now.collection.lists }
     ensures { let c = index.now.collection in
-        IfOk result (λ best. IsTop c.documents (list_of c one ∷ list_of c other ∷ []) (1 ∷ 1 ∷ []) 10 best.items) }
+        IfOk result (λ best. IsTop c.documents (list_of c one ∷ list_of c other ∷ [])
+        (1 ∷ 1 ∷ []) 10 best.items) }
 {
     index.stands_for_a_collection();
     let mut cursors = [index.cursor(one), index.cursor(other)];

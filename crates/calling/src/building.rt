@@ -26,7 +26,8 @@ pub fn index_of_list<L: Ledger>(
     requires few { length sizes.now < 2 ^ 32 }
     requires list { IsPostingList format_two (length sizes.now) (postings_of docs.now freqs.now) }
     ensures words { IfOk result (λ words. (parts : ListParts)
-        × Spells format_two words.items (one_list (postings_of docs.now freqs.now) sizes.now) (parts ∷ [])) }
+        × Spells format_two words.items
+        (one_list (postings_of docs.now freqs.now) sizes.now) (parts ∷ [])) }
     ensures too_large { (n : ℕ) → result ≡ Err (FinishError.TooLarge n)
         → WouldBeTooMany (postings_of docs.now freqs.now) sizes.now n }
     // At most three counted costs a window for each number and one more, in each of the two sequences.

@@ -42,10 +42,6 @@ get_or-any [] k a b within = absurd (omega (arith, within))
 get_or-any (x ∷ xs) zero a b within = refl
 get_or-any (x ∷ xs) (suc k) a b within = get_or-any xs k a b (omega (arith, within))
 
--- numbers that fit
-pub all-fit : (xs : List ℕ) → ((k : ℕ) → get_or xs k 0 < 2 ^ 32) → All (λ x. x < 2 ^ 32) xs
-all-fit xs fit = λ k d lt. omega (arith, get_or-any xs k d 0 lt, fit k)
-
 pub sum-fits : (xs : List ℕ) (i total x : ℕ) → i < length xs → length xs < 2 ^ 32 → ((k : ℕ) → get_or xs k 0 < 2 ^ 32) → total ≡ sum (take i xs) → x ≡ get_or xs i 0 → total + x < 2 ^ 64
 sum-fits xs i total x within few fit so is =
     let each : All (λ x. x ≤ 4294967295) xs = λ k d lt. omega (arith, get_or-any xs k d 0 lt, fit k) in

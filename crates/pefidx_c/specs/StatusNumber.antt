@@ -1,6 +1,6 @@
 use Rattle.std.specs.Prelude.{ℕ}
 use Rattle.pefidx_c.specs.declared.status.Status.{Status}
-use Rattle.pefidx_c.specs.declared.status.Status.TheVariants.{Done, End, Room, NoIndex, NoTerm, NoDocument, TooManyTerms, BadWeights, NoPlan, NoMemory, TooLarge, TooMany, NotWhole, BadPosting}
+use Rattle.pefidx_c.specs.declared.status.Status.TheVariants.{Done, End, Room, NoIndex, NoTerm, NoDocument, TooManyTerms, BadWeights, NoPlan, NoMemory, TooLarge, TooMany, NotWhole, BadPosting, NoFormat}
 
 -- the number that stands for how a call ended
 abbrev pub number_of : Status → ℕ
@@ -18,3 +18,4 @@ number_of TooLarge = 10
 number_of TooMany = 11
 number_of NotWhole = 12
 number_of BadPosting = 13
+number_of NoFormat = 14

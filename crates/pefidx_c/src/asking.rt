@@ -116,12 +116,15 @@ pub extern "C" fn pefidx_postings(
     requires few { length words.now < 2 ^ 57 }
     requires index { IsIndex words.now }
     ensures no_term { length (collection_in words.now).lists ≤ term
-        → (result ≡ number_of Status.NoTerm) × (postings.new ≡ postings.old) × (count.new ≡ count.old) }
+        → (result ≡ number_of Status.NoTerm) × (postings.new ≡ postings.old)
+        × (count.new ≡ count.old) }
     ensures done { term < length (collection_in words.now).lists → result ≡ number_of Status.Done }
     ensures count { term < length (collection_in words.now).lists
-        → count.new ≡ min (length postings.old) (length (drop place (list_of (collection_in words.now) term))) }
+        → count.new ≡ min (length postings.old)
+        (length (drop place (list_of (collection_in words.now) term))) }
     ensures postings { term < length (collection_in words.now).lists
-        → map posting_of postings.new ≡ put_in (map posting_of postings.old) (drop place (list_of (collection_in words.now) term)) }
+        → map posting_of postings.new ≡ put_in (map posting_of postings.old)
+        (drop place (list_of (collection_in words.now) term)) }
 {
     let index = Index::known(words);
     if term >= index.terms() {

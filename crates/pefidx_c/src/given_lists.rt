@@ -1,15 +1,32 @@
 // The lists of a collection that is given as arrays.
 ghost use Rattle.std.specs.Prelude.{◌≡◌, ◌+◌, ◌≤◌, ◌<◌, ◌^◌, length, take, drop, sum, IfSome, IfNone};
 ghost use Rattle.std.specs.List.{All};
-ghost use Rattle.collection_model.specs.FormatNumbers.{format_two};
 ghost use Rattle.collection_model.specs.Collection.{postings_of, IsPostingList};
-ghost use Rattle.pefidx_c.specs.GivenLists.{lists_given, build_refusal, IsFirstBad};
+ghost use Rattle.part_cost.specs.Formats.{numbers_of};
+ghost use Rattle.pefidx_c.specs.GivenLists.{format_of, lists_given, build_refusal, IsFirstBad};
 
 use crate::status::Status;
-use part_cost::Format;
+use part_cost::{Format, formats_have_room};
 
-// The most lists, and the most documents.
-const MOST: usize = 4_294_967_295;
+// The most lists.
+const MOST_LISTS: usize = 4_294_967_295;
+
+// The number of the first format, and of the second; the other is the third, of number 3.
+const FIRST: u32 = 1;
+
+const SECOND: u32 = 2;
+
+const LAST_FORMAT: u32 = 3;
+
+// The lists of a collection: how many postings each has, the documents of all lists one after the other, their frequencies, and a size
+// for each document.
+#[derive(Clone, Copy)]
+pub(crate) struct GivenLists<'a> {
+    pub(crate) lengths: &'a [u32],
+    pub(crate) docs: &'a [u32],
+    pub(crate) freqs: &'a [u32],
+    pub(crate) sizes: &'a [u32],
+}
 
 /// A posting that cannot stand in its list: the term, and how many postings stand before it.
 #[repr(C)]
@@ -19,19 +36,32 @@ pub struct BadPosting {
     pub place: u64,
 }
 
-// How what is to be built is refused before a posting is looked at.
-pub(crate) fn build_refusal(
-    lengths: &[u32],
-    docs: &[u32],
-    freqs: &[u32],
-    sizes: &[u32],
-) -> Option<Status>
-    ensures { result ≡ build_refusal lengths.now docs.now freqs.now sizes.now }
+// The format of a number.
+pub(crate) fn format_of(number: u32) -> Format
+    ensures { result ≡ format_of number }
 {
-    if lengths.len() > MOST || sizes.len() > MOST {
+    if number == FIRST {
+        Format::One
+    } else if number == SECOND {
+        Format::Two
+    } else {
+        Format::Three
+    }
+}
+
+// How what is to be built in the format of a number is refused before a posting is looked at.
+pub(crate) fn build_refusal(format: u32, given: GivenLists<'_>) -> Option<Status>
+    ensures { result ≡ build_refusal format given.entry.lengths.now given.entry.docs.now
+        given.entry.freqs.now given.entry.sizes.now }
+{
+    if format == 0 || format > LAST_FORMAT {
+        return Some(Status::NoFormat);
+    }
+    let most_documents = format_of(format).most_documents();
+    if given.lengths.len() > MOST_LISTS || given.sizes.len() > most_documents as usize {
         return Some(Status::TooMany);
     }
-    if !(total(lengths) == docs.len() as u64 && docs.len() == freqs.len()) {
+    if !(total(given.lengths) == given.docs.len() as u64 && given.docs.len() == given.freqs.len()) {
         return Some(Status::NotWhole);
     }
     None
@@ -49,27 +79,27 @@ fn total(lengths: &[u32]) -> u64
     total
 }
 
-// The first posting that cannot stand in its list, of lists that stand one after the other.
-pub(crate) fn first_bad(
-    lengths: &[u32],
-    docs: &[u32],
-    freqs: &[u32],
-    documents: u32,
-) -> Option<BadPosting>
-    requires few { length lengths.now < 2 ^ 32 }
-    requires whole { sum lengths.now ≡ length docs.now }
-    requires same_length { length docs.now ≡ length freqs.now }
-    ensures none { IfNone result (All (IsPostingList format_two documents)
-        (lists_given lengths.now docs.now freqs.now)) }
-    ensures bad { IfSome result (λ bad. IsFirstBad documents
-        (lists_given lengths.now docs.now freqs.now) bad.term bad.place) }
+// The first posting that cannot stand in its list.
+pub(crate) fn first_bad(format: Format, given: GivenLists<'_>) -> Option<BadPosting>
+    requires few { length given.lengths.now < 2 ^ 32 }
+    requires documents { length given.sizes.now < 2 ^ 32 }
+    requires whole { sum given.lengths.now ≡ length given.docs.now }
+    requires same_length { length given.docs.now ≡ length given.freqs.now }
+    ensures none { IfNone result (All
+        (IsPostingList (numbers_of format) (length given.entry.sizes.now))
+        (lists_given given.entry.lengths.now given.entry.docs.now given.entry.freqs.now)) }
+    ensures bad { IfSome result (λ bad. IsFirstBad (numbers_of format)
+        (length given.entry.sizes.now)
+        (lists_given given.entry.lengths.now given.entry.docs.now given.entry.freqs.now)
+        bad.term bad.place) }
 {
+    let documents = given.sizes.len() as u32;
     let mut from = 0;
-    for term in 0..lengths.len() {
-        let length = lengths[term] as usize;
-        let list = part(docs, from, length);
-        let counts = part(freqs, from, length);
-        let good = good_prefix(list, counts, documents);
+    for term in 0..given.lengths.len() {
+        let length = given.lengths[term] as usize;
+        let list = part(given.docs, from, length);
+        let counts = part(given.freqs, from, length);
+        let good = good_prefix(format, list, counts, documents);
         if good < length {
             return Some(BadPosting {
                 term: term as u32,
@@ -89,15 +119,16 @@ pub(crate) fn part(numbers: &[u32], from: usize, count: usize) -> &[u32]
     &numbers[from..from + count]
 }
 
-// How many postings the longest prefix has that is a posting list.
-fn good_prefix(docs: &[u32], freqs: &[u32], documents: u32) -> usize
+// How many postings the longest prefix has that is a posting list in a format.
+fn good_prefix(format: Format, docs: &[u32], freqs: &[u32], documents: u32) -> usize
     requires same_length { length docs.now ≡ length freqs.now }
     ensures within { result ≤ length docs.now }
-    ensures good { IsPostingList format_two documents
+    ensures good { IsPostingList (numbers_of format) documents
         (take result (postings_of docs.now freqs.now)) }
-    ensures bad { result < length docs.now → ¬ IsPostingList format_two documents
+    ensures bad { result < length docs.now → ¬ IsPostingList (numbers_of format) documents
         (take (result + 1) (postings_of docs.now freqs.now)) }
 {
+    formats_have_room();
     // The least document that may come next, and the sum of the frequencies before it.
     let mut least: u64 = 0;
     let mut sum: u64 = 0;
@@ -107,7 +138,7 @@ fn good_prefix(docs: &[u32], freqs: &[u32], documents: u32) -> usize
         if u64::from(doc) < least
             || doc >= documents
             || freq == 0
-            || sum + u64::from(freq) > Format::Two.most_sum()
+            || sum + u64::from(freq) > format.most_sum()
         {
             return place;
         }

@@ -33,7 +33,8 @@ pub extern "C" fn pefidx_and(
     ensures given { let c = collection_in words.now in let matches = in_all c.documents
         (lists_of c terms.now) in
         refusal c terms.now ≡ None → result ≢ number_of Status.NoMemory
-        → (result ≡ number_of (given_in (length docs.old) (length matches))) × (docs.new ≡ put_in docs.old matches) × (count.new ≡ length matches) }
+        → (result ≡ number_of (given_in (length docs.old) (length matches)))
+        × (docs.new ≡ put_in docs.old matches) × (count.new ≡ length matches) }
 {
     let index = Index::known(words);
     if let Some(refused) = refusal(&index, terms) {
@@ -64,7 +65,8 @@ pub extern "C" fn pefidx_or(
     ensures given { let c = collection_in words.now in let matches = in_any c.documents
         (lists_of c terms.now) in
         refusal c terms.now ≡ None → result ≢ number_of Status.NoMemory
-        → (result ≡ number_of (given_in (length docs.old) (length matches))) × (docs.new ≡ put_in docs.old matches) × (count.new ≡ length matches) }
+        → (result ≡ number_of (given_in (length docs.old) (length matches)))
+        × (docs.new ≡ put_in docs.old matches) × (count.new ≡ length matches) }
 {
     let index = Index::known(words);
     if let Some(refused) = refusal(&index, terms) {

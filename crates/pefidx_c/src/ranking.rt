@@ -23,6 +23,13 @@ pub struct Scored {
     pub score: u64,
 }
 
+// Terms that are asked, and as many weights.
+#[derive(Clone, Copy)]
+struct WeightedTerms<'a> {
+    terms: &'a [u32],
+    weights: &'a [u32],
+}
+
 // The number of the plan that scores every document, and of WAND; the other is MaxScore, of number 2.
 const EXHAUSTIVE: u32 = 0;
 
@@ -54,29 +61,32 @@ pub extern "C" fn pefidx_top(
     ensures given { let c = collection_in words.now in
         top_refusal c plan terms.now weights.now ≡ None → result ≢ number_of Status.NoMemory
         → (r : List (ℕ × ℕ)) × IsTop c.documents (lists_of c terms.now) weights.now k r
-        × (result ≡ number_of (given_in (length best.old) (length r))) × (map pair_of best.new ≡ put_in (map pair_of best.old) r) × (count.new ≡ length r) }
+        × (result ≡ number_of (given_in (length best.old) (length r)))
+        × (map pair_of best.new ≡ put_in (map pair_of best.old) r) × (count.new ≡ length r) }
 {
     let index = Index::known(words);
-    if let Some(refused) = top_refusal(&index, plan, terms, weights) {
+    let asked = WeightedTerms { terms, weights };
+    if let Some(refused) = top_refusal(&index, plan, asked) {
         return refused.number();
     }
-    match best_by(alloc, &index, plan, terms, weights, k) {
+    match best_by(alloc, &index, plan, asked, k) {
         Ok(found) => give_best(found.as_slice(), best, count),
         Err(_) => Status::NoMemory.number(),
     }
 }
 
 // How the question for the best documents is refused.
-fn top_refusal(index: &Index<'_>, plan: u32, terms: &[u32], weights: &[u32]) -> Option<Status>
-    ensures { result ≡ top_refusal index.now.collection plan terms.now weights.now }
+fn top_refusal(index: &Index<'_>, plan: u32, asked: WeightedTerms<'_>) -> Option<Status>
+    ensures { result ≡ top_refusal index.now.collection plan asked.entry.terms.now
+        asked.entry.weights.now }
 {
     if plan > LAST_PLAN {
         return Some(Status::NoPlan);
     }
-    if let Some(refused) = refusal(index, terms) {
+    if let Some(refused) = refusal(index, asked.terms) {
         return Some(refused);
     }
-    if !are_weights(terms.len(), weights) {
+    if !are_weights(asked.terms.len(), asked.weights) {
         return Some(Status::BadWeights);
     }
     None
@@ -120,18 +130,17 @@ fn best_by(
     alloc: Global,
     index: &Index<'_>,
     plan: u32,
-    terms: &[u32],
-    weights: &[u32],
+    asked: WeightedTerms<'_>,
     k: u32,
 ) -> Result<Vec<(u32, u64)>, NoMemory>
-    requires { top_refusal index.now.collection plan terms.now weights.now ≡ None }
+    requires { top_refusal index.now.collection plan asked.terms.now asked.weights.now ≡ None }
     ensures { IfOk result (λ r. IsTop index.now.collection.documents
-        (lists_of index.now.collection terms.now) weights.now k r.items) }
+        (lists_of index.now.collection asked.entry.terms.now) asked.entry.weights.now k r.items) }
 {
-    let mut list_cursors = cursors_of(alloc, index, terms)?;
+    let mut list_cursors = cursors_of(alloc, index, asked.terms)?;
     let cursors = list_cursors.as_mut_slice();
     let n = index.documents();
-    plan_top(alloc, plan_of(plan), cursors, weights, k, n)
+    plan_top(alloc, plan_of(plan), cursors, asked.weights, k, n)
 }
 
 // The plan of a number.

@@ -26,12 +26,14 @@ pub(crate) enum Status {
     NoMemory,
     /// The words are 2^57 or more, or those of the index would be more than 2^37.
     TooLarge,
-    /// 2^32 lists or documents, or more.
+    /// More lists or documents than the format takes: 2^32 or more, in the first format 2^28 documents or more.
     TooMany,
     /// The lengths of the lists are not those of the documents and the frequencies.
     NotWhole,
     /// A list is no posting list: its first posting that cannot stand there is told.
     BadPosting,
+    /// No format has this number.
+    NoFormat,
 }
 
 impl Status {
@@ -54,6 +56,7 @@ impl Status {
             Status::TooMany => 11,
             Status::NotWhole => 12,
             Status::BadPosting => 13,
+            Status::NoFormat => 14,
         }
     }
 }

@@ -1,4 +1,5 @@
-// Two lists over three documents, built, checked, and asked by calls and by lines; what is asked and cannot be; and lists that are none.
+// Two lists over three documents, built in each format, checked, and asked by calls and by lines; what is asked and cannot be; and lists that are
+// none.
 ghost use Rattle.std.specs.Prelude.{◌≤◌, take};
 ghost use Rattle.index_file.specs.FileWords.{IsIndex};
 
@@ -15,8 +16,9 @@ use crate::replying::pefidx_reply;
 use std::alloc::Global;
 use std::process::Abort;
 
-// The words of two lists, document 0 twice and document 2 once, and document 2 four times, with the sizes 2, 0 and 5: how many they are.
-fn built(rt: &impl Abort, alloc: Global, room: &mut [u64; 64]) -> usize
+// The words in a format of two lists, document 0 twice and document 2 once, and document 2 four times, with the sizes 2, 0 and 5: how many they
+// are.
+fn built(rt: &impl Abort, alloc: Global, format: u32, room: &mut [u64; 64]) -> usize
     ensures within { result ≤ 64 }
     ensures index { IsIndex (take result room.new) }
 {
@@ -24,6 +26,7 @@ fn built(rt: &impl Abort, alloc: Global, room: &mut [u64; 64]) -> usize
     let mut bad = BadPosting { term: 9, place: 9 };
     let status = pefidx_build(
         alloc,
+        format,
         &[2, 1],
         &[0, 2, 2],
         &[2, 1, 4],
@@ -50,24 +53,33 @@ fn no_fault() -> Fault {
 
 #[test]
 fn an_index_is_built_and_checked(rt: HostRuntime) {
+    for format in 1..4 {
+        let mut room = [0u64; 64];
+        let count = built(&rt, rt.alloc(), format, &mut room);
+        let words = &room[..count];
+        assert_eq!(&rt; pefidx_documents(words), 3);
+        assert_eq!(&rt; pefidx_terms(words), 2);
+        let mut size = 0;
+        assert_eq!(&rt; pefidx_size_of(words, 2, &mut size), 0);
+        assert_eq!(&rt; size, 5);
+        let mut fault = no_fault();
+        assert!(&rt; words.len() >= 5);
+        assert_eq!(&rt; pefidx_check(&words[..5], &mut fault), 3);
+        assert_eq!(&rt; (fault.check, fault.term, fault.part), (1, 0, 0));
+    }
+}
+
+#[test]
+fn a_packed_file_is_small(rt: HostRuntime) {
     let mut room = [0u64; 64];
-    let count = built(&rt, rt.alloc(), &mut room);
-    let words = &room[..count];
-    assert_eq!(&rt; pefidx_documents(words), 3);
-    assert_eq!(&rt; pefidx_terms(words), 2);
-    let mut size = 0;
-    assert_eq!(&rt; pefidx_size_of(words, 2, &mut size), 0);
-    assert_eq!(&rt; size, 5);
-    let mut fault = no_fault();
-    assert!(&rt; words.len() >= 5);
-    assert_eq!(&rt; pefidx_check(&words[..5], &mut fault), 3);
-    assert_eq!(&rt; (fault.check, fault.term, fault.part), (1, 0, 0));
+    // The two lists take 26 bits, and the three places of the directory one word.
+    assert_eq!(&rt; built(&rt, rt.alloc(), 3, &mut room), 10);
 }
 
 #[test]
 fn postings_are_asked(rt: HostRuntime) {
     let mut room = [0u64; 64];
-    let count = built(&rt, rt.alloc(), &mut room);
+    let count = built(&rt, rt.alloc(), 3, &mut room);
     let words = &room[..count];
     let mut found = Posting { doc: 0, freq: 0 };
     for (term, doc, status) in [(0, 1, 0), (1, 3, 1), (2, 0, 4)] {
@@ -88,7 +100,7 @@ fn postings_are_asked(rt: HostRuntime) {
 #[test]
 fn documents_are_matched(rt: HostRuntime) {
     let mut room = [0u64; 64];
-    let count = built(&rt, rt.alloc(), &mut room);
+    let count = built(&rt, rt.alloc(), 1, &mut room);
     let words = &room[..count];
     let mut docs = [7; 3];
     let mut matches = 0;
@@ -107,7 +119,7 @@ fn documents_are_matched(rt: HostRuntime) {
 #[test]
 fn the_best_are_found_by_each_plan(rt: HostRuntime) {
     let mut room = [0u64; 64];
-    let count = built(&rt, rt.alloc(), &mut room);
+    let count = built(&rt, rt.alloc(), 3, &mut room);
     let words = &room[..count];
     let mut best = [Scored { doc: 7, score: 7 }; 2];
     let mut matches = 0;
@@ -131,7 +143,7 @@ fn the_best_are_found_by_each_plan(rt: HostRuntime) {
 #[test]
 fn lines_are_answered(rt: HostRuntime) {
     let mut room = [0u64; 64];
-    let count = built(&rt, rt.alloc(), &mut room);
+    let count = built(&rt, rt.alloc(), 2, &mut room);
     let words = &room[..count];
     for (plan, line, status, length, reply) in [
         (0, "next 0 1", 0, 4, "2 1\n...."),
@@ -166,6 +178,7 @@ fn a_bad_posting_is_told(rt: HostRuntime) {
         let mut bad = BadPosting { term: 9, place: 9 };
         let status = pefidx_build(
             alloc,
+            2,
             &[0, 3],
             &docs,
             &freqs,
@@ -175,5 +188,26 @@ fn a_bad_posting_is_told(rt: HostRuntime) {
             &mut bad,
         );
         assert_eq!(&rt; (status, bad.term, bad.place), (13, 1, place));
+    }
+}
+
+#[test]
+fn a_format_has_its_limits(rt: HostRuntime) {
+    let docs = [0, 1, 2, 3, 4, 5, 6, 7, 8, 9, 10, 11, 12, 13, 14, 15, 16];
+    for (format, status, place) in [(0, 14, 9), (1, 13, 16), (2, 2, 9), (3, 2, 9), (4, 14, 9)] {
+        let mut count = 7;
+        let mut bad = BadPosting { term: 9, place: 9 };
+        let ended = pefidx_build(
+            rt.alloc(),
+            format,
+            &[17],
+            &docs,
+            &[4_294_967_295; 17],
+            &[0; 17],
+            &mut [],
+            &mut count,
+            &mut bad,
+        );
+        assert_eq!(&rt; (ended, bad.place), (status, place));
     }
 }

@@ -2,7 +2,7 @@
 
     import pefidx
 
-    pefidx.build([([0, 2], [2, 1]), ([2], [4])], "NAME.pefindex")
+    pefidx.build([([0, 2], [2, 1]), ([2], [4])], "NAME.pefindex", format=pefidx.PACKED)
     with pefidx.Index("NAME.pefindex") as index:
         index.documents, index.terms              # 3, 2
         index.next(0, 1)                          # (2, 1): a document and its frequency, or None
@@ -17,10 +17,10 @@ Terms and documents are numbered from 0. Every number may be of any type that is
 IndexError. The module calls a shared library by ctypes: the one beside it, or the one that the environment names as PEFIDX_LIBRARY.
 """
 
-from ._building import build
+from ._building import PACKED, build
 from ._errors import BadPosting, BrokenIndex, Error
 from ._index import PLANS, Index, Postings
 
-__all__ = ["BadPosting", "BrokenIndex", "Error", "Index", "PLANS", "Postings", "build"]
+__all__ = ["BadPosting", "BrokenIndex", "Error", "Index", "PACKED", "PLANS", "Postings", "build"]
 #: the version of the package, and of the library that c/Makefile installs
 __version__ = "0.1.0"

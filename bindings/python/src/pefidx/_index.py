@@ -24,7 +24,7 @@ class Postings(NamedTuple):
 
 
 class Index:
-    """The index in a file of `pefidx` or of `build`, of either format.
+    """The index in a file of `pefidx` or of `build`, plain or packed.
 
     Opening maps the file and checks it, in one pass over all its words and without a copy; processes that open one file share its memory.
     The file must stay as it is while it is open. `pefidx` and `build` replace files whole, so an index that is open stays as it was.

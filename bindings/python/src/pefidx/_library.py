@@ -8,7 +8,7 @@ import os
 import sys
 from typing import Any, NoReturn
 
-DONE, END, ROOM, NO_INDEX, NO_TERM, NO_DOCUMENT, TOO_MANY_TERMS, BAD_WEIGHTS, NO_PLAN, NO_MEMORY, TOO_LARGE, TOO_MANY, NOT_WHOLE, BAD_POSTING = range(14)
+DONE, END, ROOM, NO_INDEX, NO_TERM, NO_DOCUMENT, TOO_MANY_TERMS, BAD_WEIGHTS, NO_PLAN, NO_MEMORY, TOO_LARGE, TOO_MANY, NOT_WHOLE, BAD_POSTING, NO_FORMAT = range(15)
 
 #: the greatest number of 32 bits
 MOST = 2**32 - 1
@@ -21,8 +21,9 @@ _CAUSES: dict[int, tuple[type[Exception], str]] = {
     NO_PLAN: (ValueError, "no such plan"),
     NO_MEMORY: (MemoryError, "memory was refused"),
     TOO_LARGE: (OverflowError, "the index would be too large"),
-    TOO_MANY: (OverflowError, "2^32 lists or documents, or more"),
+    TOO_MANY: (OverflowError, "more lists or documents than the format takes"),
     NOT_WHOLE: (ValueError, "not one frequency for each document"),
+    NO_FORMAT: (ValueError, "no such format"),
 }
 
 
@@ -72,7 +73,7 @@ def _loaded() -> ctypes.CDLL:
     for name, rest in calls.items():
         call = getattr(loaded, f"pefidx_{name}")
         call.argtypes, call.restype = [*words, *rest], number
-    loaded.pefidx_build.argtypes = [*items, *items, *items, *items, *items, ctypes.POINTER(size), ctypes.POINTER(BadPlace)]
+    loaded.pefidx_build.argtypes = [number, *items, *items, *items, *items, *items, ctypes.POINTER(size), ctypes.POINTER(BadPlace)]
     loaded.pefidx_build.restype = number
     return loaded
 

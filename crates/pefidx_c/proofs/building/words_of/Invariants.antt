@@ -6,6 +6,7 @@ use Rattle.pefidx_c.proofs.building.words_of.Given as goal
 
 abbrev pub invariant-loop-term : goal.invariant-loop-term
 invariant-loop-term g l = record {
-  from : l.from ≡ sum (take l.term l.lengths);
-  lists : IsAdding (collection_given l.lengths l.docs l.freqs l.sizes) (lists_given (drop l.term l.lengths) (drop l.from l.docs) (drop l.from l.freqs)) l.builder;
+  from : l.from ≡ sum (take l.term l.given.lengths.now);
+  lists : IsAdding l.fn.builder.format (collection_given l.given.lengths.now l.given.docs.now l.given.freqs.now l.given.sizes.now)
+      (lists_given (drop l.term l.given.lengths.now) (drop l.from l.given.docs.now) (drop l.from l.given.freqs.now)) l.builder;
 }
