@@ -3,12 +3,13 @@ use crate::hostile_words::query;
 use pef_io::Op;
 use pef_top::Status;
 use run_tables::{
-    AUDIT, BLOCKS, BQUERY, MIGRATE, ONE_LIST_WORDS, QUERY, bytes_of, only_index, steady_run,
+    AUDIT, BLOCKS, BQUERY, EXPORT, MIGRATE, ONE_LIST_PACKED, ONE_LIST_WORDS, QUERY, REPACK,
+    bytes_of, only_index, steady_run,
 };
 use std::alloc::Global;
 
 // The words of runs that read the index `y`.
-const COMMANDS: [&[&str]; 5] = [&QUERY, &MIGRATE, &AUDIT, &BLOCKS, &BQUERY];
+const COMMANDS: [&[&str]; 7] = [&QUERY, &MIGRATE, &REPACK, &EXPORT, &AUDIT, &BLOCKS, &BQUERY];
 
 // The words of a run that answers from the index `y` as the only segment.
 const ONE_SEGMENT: [&str; 3] = ["pefidx", "segments", "y"];
@@ -52,36 +53,62 @@ const EDITS: [(usize, u64, &str); 17] = [
     (9, 4294967303, "K11 term 0 part 0"),
 ];
 
-// Whether each command refuses the one list with this word at this place.
-fn is_edit_refused(alloc: Global, at: usize, word: u64, check: &str) -> Option<bool> {
-    let mut words = ONE_LIST_WORDS;
+// Such changes of its packed file.
+const EDITS_OF_PACKED: [(usize, u64, &str); 8] = [
+    (0, 0, "K2 term 0 part 0"),
+    (1, 2, "K3 term 0 part 0"),
+    (9, 0, "K4 term 0 part 0"),
+    (8, 65, "K5 term 0 part 0"),
+    (5, 530, "K12 term 0 part 0"),
+    (2, 17443939, "K13 term 0 part 0"),
+    (2, 50998370, "K9 term 1 part 0"),
+    (4, 4294967303, "K11 term 0 part 0"),
+];
+
+// Whether each command refuses these words with this word at a place.
+fn is_edit_refused(
+    alloc: Global,
+    words: &[u64],
+    at: usize,
+    word: u64,
+    check: &str,
+) -> Option<bool> {
+    let mut words = Vec::from_slice(alloc, words).ok()?;
     *words.get_mut(at)? = word;
     are_refused(alloc, &bytes_of(alloc, &words)?, check)
 }
 
 #[test]
 fn edits_of_a_file_are_refused_by_name(rt: HostRuntime) {
-    for (at, word, check) in EDITS {
-        let right = is_edit_refused(rt.alloc(), at, word, check);
-        assert_eq!(rt; right, Some(true), "{at} {word}");
+    for (words, edits) in [
+        (ONE_LIST_WORDS.as_slice(), EDITS.as_slice()),
+        (&ONE_LIST_PACKED, &EDITS_OF_PACKED),
+    ] {
+        for (at, word, check) in edits {
+            let right = is_edit_refused(rt.alloc(), words, *at, *word, check);
+            assert_eq!(rt; right, Some(true), "{at} {word}");
+        }
     }
 }
 
-// Whether each command refuses so many bytes of the one list.
-fn is_cut_refused(alloc: Global, length: usize, check: &str) -> Option<bool> {
-    let bytes = bytes_of(alloc, &ONE_LIST_WORDS)?;
+// Whether each command refuses so many bytes of these words.
+fn is_cut_refused(alloc: Global, words: &[u64], length: usize, check: &str) -> Option<bool> {
+    let bytes = bytes_of(alloc, words)?;
     are_refused(alloc, bytes.get(..length)?, check)
 }
 
 #[test]
 fn files_of_other_lengths_are_no_index(rt: HostRuntime) {
-    for (length, check) in [
-        (0, "K1 term 0 part 0"),
-        (50, "K1 term 0 part 0"),
-        (40, "K1 term 0 part 0"),
-        (136, "K4 term 0 part 0"),
+    for (words, length, check) in [
+        (ONE_LIST_WORDS.as_slice(), 0, "K1 term 0 part 0"),
+        (&ONE_LIST_WORDS, 50, "K1 term 0 part 0"),
+        (&ONE_LIST_WORDS, 40, "K1 term 0 part 0"),
+        (&ONE_LIST_WORDS, 136, "K4 term 0 part 0"),
+        (&ONE_LIST_PACKED, 40, "K1 term 0 part 0"),
+        (&ONE_LIST_PACKED, 71, "K1 term 0 part 0"),
+        (&ONE_LIST_PACKED, 72, "K4 term 0 part 0"),
     ] {
-        let right = is_cut_refused(rt.alloc(), length, check);
+        let right = is_cut_refused(rt.alloc(), words, length, check);
         assert_eq!(rt; right, Some(true), "{length}");
     }
 }

@@ -2,7 +2,8 @@
 use pef_io::Op;
 use pef_top::Status;
 use run_tables::{
-    ONE_LIST_WORDS, ONE_LIST_WORDS_OF_TWO, Outcome, QUERY, bytes_of, only_index, steady_run,
+    CLOSING, ONE_LIST_PACKED, ONE_LIST_WORDS, ONE_LIST_WORDS_OF_TWO, OPENING, Outcome, QUERY,
+    bytes_of, only_index, steady_run,
 };
 use std::alloc::Global;
 
@@ -101,6 +102,33 @@ const EDITS_OF_TWO: [Refused; 45] = [
     (Change::Move(9, 0, 10), "K7 term 0 part 2"),
 ];
 
+// Such changes in a packed file. A list's bits speak of that list alone, so whatever is wrong in them is one check; the bit behind the
+// lists is another.
+const EDITS_OF_PACKED: [Refused; 22] = [
+    (Change::Put(0, 0), "K2 term 0 part 0"),
+    (Change::Put(0, OPENING), "K3 term 0 part 0"),
+    (Change::Put(1, 2), "K3 term 0 part 0"),
+    (Change::Put(9, CLOSING), "K4 term 0 part 0"),
+    (Change::Put(6, 4294967296), "K5 term 0 part 0"),
+    (Change::Put(7, 4294967296), "K5 term 0 part 0"),
+    (Change::Put(8, 8796093022209), "K5 term 0 part 0"),
+    (Change::Put(8, 65), "K5 term 0 part 0"),
+    (Change::Put(8, 26), "K12 term 0 part 0"),
+    (Change::Put(7, 2), "K12 term 0 part 0"),
+    (Change::Put(5, 530), "K12 term 0 part 0"),
+    (Change::Put(5, 2577), "K12 term 0 part 0"),
+    (Change::Put(2, 17443939), "K13 term 0 part 0"),
+    (Change::Put(2, 17443942), "K13 term 0 part 0"),
+    (Change::Put(2, 17444002), "K13 term 0 part 0"),
+    (Change::Put(2, 17444194), "K13 term 0 part 0"),
+    (Change::Put(2, 17444450), "K13 term 0 part 0"),
+    (Change::Put(2, 17448034), "K13 term 0 part 0"),
+    (Change::Put(2, 17706082), "K13 term 0 part 0"),
+    (Change::Put(2, 666722), "K13 term 0 part 0"),
+    (Change::Put(2, 50998370), "K9 term 1 part 0"),
+    (Change::Put(4, 4294967303), "K11 term 0 part 0"),
+];
+
 // Runs `query` over the file of these words and this text.
 pub(crate) fn query(alloc: Global, words: &[u64], text: &[u8]) -> Option<Outcome> {
     let bytes = bytes_of(alloc, words)?;
@@ -176,6 +204,10 @@ fn hostile_words_are_refused_by_name(rt: HostRuntime) {
     assert_eq!(rt; first_wrong(rt.alloc(), &ONE_LIST_WORDS, &EDITS), None);
     assert_eq!(rt;
         first_wrong(rt.alloc(), &ONE_LIST_WORDS_OF_TWO, &EDITS_OF_TWO),
+        None
+    );
+    assert_eq!(rt;
+        first_wrong(rt.alloc(), &ONE_LIST_PACKED, &EDITS_OF_PACKED),
         None
     );
 }

@@ -3,7 +3,7 @@ use crate::failures::{Files, Runs, ends_so, no_fails, run_failing};
 use crate::in_turn::first_wrong;
 use pef_io::{Op, Slot};
 use pef_top::Status;
-use run_tables::{BQUERY, ONE_LIST_WORDS, index_and_side};
+use run_tables::{BQUERY, ONE_LIST_PACKED, ONE_LIST_WORDS, index_and_side};
 use std::alloc::Global;
 
 // The words of the side file of the one list.
@@ -22,15 +22,47 @@ const REPLIES: &[u8] = b"2 5\n1 2:5\n";
 
 #[test]
 fn reads_of_an_index_and_its_side_file_fail_in_turn(rt: HostRuntime) {
-    for (op, line, least) in [
-        (Op::Start(Slot::Index), "read fault: index\n", 1),
-        (Op::Read(Slot::Index), "read fault: index\n", 18),
-        (Op::Start(Slot::Side), "read fault: side\n", 1),
-        (Op::Read(Slot::Side), "read fault: side\n", 5),
+    for (index, op, line, least) in [
+        (
+            ONE_LIST_WORDS.as_slice(),
+            Op::Start(Slot::Index),
+            "read fault: index\n",
+            1,
+        ),
+        (
+            &ONE_LIST_WORDS,
+            Op::Read(Slot::Index),
+            "read fault: index\n",
+            18,
+        ),
+        (
+            &ONE_LIST_WORDS,
+            Op::Start(Slot::Side),
+            "read fault: side\n",
+            1,
+        ),
+        (
+            &ONE_LIST_WORDS,
+            Op::Read(Slot::Side),
+            "read fault: side\n",
+            5,
+        ),
+        (
+            &ONE_LIST_PACKED,
+            Op::Read(Slot::Index),
+            "read fault: index\n",
+            10,
+        ),
+        (
+            &ONE_LIST_PACKED,
+            Op::Read(Slot::Side),
+            "read fault: side\n",
+            5,
+        ),
     ] {
         let runs = Runs {
             words: &BQUERY,
-            files: Files::IndexAndSide(&ONE_LIST_WORDS, &SIDE_WORDS),
+            files: Files::IndexAndSide(index, &SIDE_WORDS),
             text: TEXT,
             most: 8,
             op,

@@ -2,7 +2,7 @@
 use crate::in_turn::{Turn, Turns, first_wrong};
 use pef_io::{MemSink, Op, Slot, SteadyDepot, SteadySink, SteadySource};
 use pef_top::Status;
-use run_tables::{ANSWER, BUILD, BUILD_ONE, THREE_LISTS, cut_files, run_words};
+use run_tables::{ANSWER, BUILD, BUILD_ONE, PACK, THREE_LISTS, cut_files, run_words};
 use std::alloc::Global;
 
 // The fault of the collection whose file of this slot is cut to so many bytes.
@@ -66,7 +66,7 @@ impl Turns for Cut {
 }
 
 // The words of runs, and a file of the collection with its length in bytes.
-const CASES: [(&[&str], Slot, usize); 9] = [
+const CASES: [(&[&str], Slot, usize); 12] = [
     (&ANSWER, Slot::Docs, 28),
     (&ANSWER, Slot::Freqs, 20),
     (&ANSWER, Slot::Sizes, 12),
@@ -76,6 +76,9 @@ const CASES: [(&[&str], Slot, usize); 9] = [
     (&BUILD_ONE, Slot::Docs, 28),
     (&BUILD_ONE, Slot::Freqs, 20),
     (&BUILD_ONE, Slot::Sizes, 12),
+    (&PACK, Slot::Docs, 28),
+    (&PACK, Slot::Freqs, 20),
+    (&PACK, Slot::Sizes, 12),
 ];
 
 #[test]

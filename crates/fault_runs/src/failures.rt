@@ -5,9 +5,9 @@ use crate::in_turn::{Turn, Turns, first_wrong};
 use pef_io::{MemDepot, MemSink, MemSource, Op, Slot};
 use pef_top::Status;
 use run_tables::{
-    ANSWER, BUILD, BUILD_ONE, FileList, MIGRATE, ONE_LIST, OPS, QUERY, REMAP, THREE_LISTS,
-    THREE_LISTS_WORDS, THREE_LISTS_WORDS_OF_TWO, bytes_of, files_of, index_and_side, only_index,
-    run_words,
+    ANSWER, BUILD, BUILD_ONE, EXPORT, FileList, MIGRATE, ONE_LIST, OPS, PACK, QUERY, REMAP, REPACK,
+    THREE_LISTS, THREE_LISTS_PACKED, THREE_LISTS_WORDS, THREE_LISTS_WORDS_OF_TWO, bytes_of,
+    files_of, index_and_side, only_index, run_words,
 };
 use std::alloc::Global;
 
@@ -253,10 +253,11 @@ const STREAMS: [(u64, u64, (Status, &str), &str); 16] = [
 ];
 
 // The words of runs over the three lists, and those of the file `y`.
-const OVER: [(&[&str], &[u64]); 3] = [
+const OVER: [(&[&str], &[u64]); 4] = [
     (&ANSWER, &[]),
     (&QUERY, &THREE_LISTS_WORDS),
     (&QUERY, &THREE_LISTS_WORDS_OF_TWO),
+    (&QUERY, &THREE_LISTS_PACKED),
 ];
 
 // Whether a run of these words over files ends so, where four bytes move at a time, and this read of the input and this write on out
@@ -365,7 +366,7 @@ fn misses(alloc: Global, words: &[&str], missing: usize, line: &str) -> Option<b
 }
 
 // The words of a run over the one list, which of its files is missing, and the line with which the run ends.
-const MISSING: [(&[&str], usize, &str); 9] = [
+const MISSING: [(&[&str], usize, &str); 12] = [
     (&ANSWER, 0, "read fault: docs\n"),
     (&ANSWER, 1, "read fault: freqs\n"),
     (&ANSWER, 2, "read fault: sizes\n"),
@@ -375,6 +376,9 @@ const MISSING: [(&[&str], usize, &str); 9] = [
     (&BUILD_ONE, 0, "read fault: docs\n"),
     (&BUILD_ONE, 1, "read fault: freqs\n"),
     (&BUILD_ONE, 2, "read fault: sizes\n"),
+    (&PACK, 0, "read fault: docs\n"),
+    (&PACK, 1, "read fault: freqs\n"),
+    (&PACK, 2, "read fault: sizes\n"),
 ];
 
 #[test]
@@ -386,9 +390,11 @@ fn a_missing_file_is_a_read_fault(rt: HostRuntime) {
 }
 
 // The words of runs that need a file that is not there, and the lines with which they end.
-const ABSENT: [(&[&str], Files, &str); 3] = [
+const ABSENT: [(&[&str], Files, &str); 5] = [
     (&QUERY, Files::ThreeLists, "read fault: index\n"),
     (&MIGRATE, Files::ThreeLists, "read fault: index\n"),
+    (&REPACK, Files::ThreeLists, "read fault: index\n"),
+    (&EXPORT, Files::ThreeLists, "read fault: index\n"),
     (&REMAP, Files::ThreeLists, "read fault: map\n"),
 ];
 

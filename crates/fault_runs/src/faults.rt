@@ -4,7 +4,7 @@ use part_cost::Format;
 use pef_io::{Op, Slot};
 use pef_top::{BuildError, Status};
 use run_tables::{
-    ANSWER, BUILD, BUILD_ONE, FileList, Numbers, built, cut_files, files_of, full_list,
+    ANSWER, BUILD, BUILD_ONE, FileList, Numbers, PACK, built, cut_files, files_of, full_list,
     run_to_replies, steady_run,
 };
 use std::alloc::Global;
@@ -136,7 +136,7 @@ fn is_named_by_build(alloc: Global, files: FileList, line: &str) -> Option<bool>
 
 // Whether a broken collection has the line of its fault in each run and where words are built.
 fn are_named(alloc: Global, numbers: Numbers<'_>, cut: (Slot, usize), line: &str) -> Option<bool> {
-    for words in [ANSWER.as_slice(), &BUILD, &BUILD_ONE] {
+    for words in [ANSWER.as_slice(), &BUILD, &BUILD_ONE, &PACK] {
         let files = cut_files(alloc, numbers, cut.0, cut.1)?;
         if !is_named(alloc, words, files, line)? {
             return Some(false);
@@ -174,13 +174,15 @@ fn end_so(
 
 // More documents than a format has room for, or than there are sizes for: the numbers of documents and of sizes, the words of a
 // run, and its line.
-const MANY: [([&[u32]; 2], &[&str], &str); 6] = [
+const MANY: [([&[u32]; 2], &[&str], &str); 8] = [
     ([&[1, 268_435_456], &[]], &ANSWER, NO_SIZES),
     ([&[1, 268_435_456], &[]], &BUILD, NO_SIZES),
     ([&[1, 268_435_456], &[]], &BUILD_ONE, MANY_DOCUMENTS),
+    ([&[1, 268_435_456], &[]], &PACK, NO_SIZES),
     ([&[1, u32::MAX], &[u32::MAX]], &ANSWER, NO_SIZES),
     ([&[1, u32::MAX], &[u32::MAX]], &BUILD, NO_SIZES),
     ([&[1, u32::MAX], &[u32::MAX]], &BUILD_ONE, MANY_DOCUMENTS),
+    ([&[1, u32::MAX], &[u32::MAX]], &PACK, NO_SIZES),
 ];
 
 const NO_SIZES: &str = "collection C1 sizes term 0 place 0\n";
@@ -189,7 +191,7 @@ const MANY_DOCUMENTS: &str = "collection C3 docs term 0 place 0\n";
 
 // Full lists whose sums are 2^36, 2^48, and one more than each: the last document and how often it is there, the words of a run, its
 // line and its replies.
-const SUMS: [(u32, u32, &[&str], &str, &str); 8] = [
+const SUMS: [(u32, u32, &[&str], &str, &str); 10] = [
     (16, 16, &BUILD_ONE, "", "16 16\nend\n"),
     (16, 17, &ANSWER, "", "16 17\nend\n"),
     (16, 17, &BUILD, "", "16 17\nend\n"),
@@ -198,6 +200,8 @@ const SUMS: [(u32, u32, &[&str], &str, &str); 8] = [
     (65_536, 65_536, &BUILD_ONE, LARGE_SUM_OF_ONE, ""),
     (65_536, 65_537, &ANSWER, LARGE_SUM_OF_TWO, ""),
     (65_536, 65_537, &BUILD, LARGE_SUM_OF_TWO, ""),
+    (65_536, 65_536, &PACK, "", "16 4294967295\n65536 65536\n"),
+    (65_536, 65_537, &PACK, LARGE_SUM_OF_TWO, ""),
 ];
 
 const LARGE_SUM_OF_ONE: &str = "collection C8 freqs term 0 place 16\n";

@@ -4,8 +4,9 @@ use crate::in_turn::first_wrong;
 use pef_io::{Op, Slot};
 use pef_top::Status;
 use run_tables::{
-    AUDIT, BUILD, BUILD_ONE, INSPECT, OPS, QUERY, THREE_LISTS_AUDIT, THREE_LISTS_AUDIT_OF_TWO,
-    THREE_LISTS_LINE, THREE_LISTS_LINE_OF_TWO, THREE_LISTS_WORDS, THREE_LISTS_WORDS_OF_TWO,
+    AUDIT, BUILD, BUILD_ONE, INSPECT, OPS, PACK, QUERY, THREE_LISTS_AUDIT,
+    THREE_LISTS_AUDIT_OF_TWO, THREE_LISTS_AUDIT_PACKED, THREE_LISTS_LINE, THREE_LISTS_LINE_OF_TWO,
+    THREE_LISTS_LINE_PACKED, THREE_LISTS_PACKED, THREE_LISTS_WORDS, THREE_LISTS_WORDS_OF_TWO,
 };
 use std::alloc::Global;
 
@@ -53,14 +54,14 @@ fn wrong_build(
 
 #[test]
 fn calls_of_a_build_fail_in_turn(rt: HostRuntime) {
-    assert_eq!(rt;
-        wrong_build(rt.alloc(), &BUILD_ONE, &THREE_LISTS_WORDS),
-        None
-    );
-    assert_eq!(rt;
-        wrong_build(rt.alloc(), &BUILD, &THREE_LISTS_WORDS_OF_TWO),
-        None
-    );
+    for (words, index) in [
+        (BUILD_ONE.as_slice(), THREE_LISTS_WORDS.as_slice()),
+        (&BUILD, &THREE_LISTS_WORDS_OF_TWO),
+        (&PACK, &THREE_LISTS_PACKED),
+    ] {
+        let wrong = wrong_build(rt.alloc(), words, index);
+        assert_eq!(rt; wrong, None, "{words:?}");
+    }
 }
 
 // How often a call of this kind is made at least by a run over an index of so many words.
@@ -103,13 +104,17 @@ fn wrong_reading(
 fn calls_on_an_index_fail_in_turn(rt: HostRuntime) {
     let one = THREE_LISTS_WORDS.as_slice();
     let two = THREE_LISTS_WORDS_OF_TWO.as_slice();
+    let packed = THREE_LISTS_PACKED.as_slice();
     for (words, index, text) in [
         (QUERY.as_slice(), one, REPLIES),
         (&QUERY, two, REPLIES),
+        (&QUERY, packed, REPLIES),
         (&INSPECT, one, THREE_LISTS_LINE.as_bytes()),
         (&INSPECT, two, THREE_LISTS_LINE_OF_TWO.as_bytes()),
+        (&INSPECT, packed, THREE_LISTS_LINE_PACKED.as_bytes()),
         (&AUDIT, one, THREE_LISTS_AUDIT.as_bytes()),
         (&AUDIT, two, THREE_LISTS_AUDIT_OF_TWO.as_bytes()),
+        (&AUDIT, packed, THREE_LISTS_AUDIT_PACKED.as_bytes()),
     ] {
         assert_eq!(rt;
             wrong_reading(rt.alloc(), words, index, text),

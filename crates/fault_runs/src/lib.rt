@@ -7,6 +7,8 @@ mod block_query_failures;
 #[cfg(test)]
 mod cuts;
 #[cfg(test)]
+mod export_failures;
+#[cfg(test)]
 mod failures;
 #[cfg(test)]
 mod faults;
@@ -14,6 +16,8 @@ mod faults;
 mod in_turn;
 #[cfg(test)]
 mod index_failures;
+#[cfg(test)]
+mod left;
 #[cfg(test)]
 mod maps;
 #[cfg(test)]

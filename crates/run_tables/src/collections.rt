@@ -144,6 +144,17 @@ pub fn far_document(alloc: Global) -> Option<ManyNumbers> {
     })
 }
 
+/// Documents of size 0 up to `far` and one list: those below `count` once each, and `far`, which is there `last` times.
+pub fn run_and_far(alloc: Global, count: u32, far: u32, last: u32) -> Option<ManyNumbers> {
+    let documents = far.checked_add(1)?;
+    let postings = count.checked_add(1)?;
+    Some(ManyNumbers {
+        docs: counted(alloc, &[1, documents, postings], count, &[far])?,
+        freqs: repeated(alloc, &[postings], 1, count, &[last])?,
+        sizes: repeated(alloc, &[documents], 0, documents, &[])?,
+    })
+}
+
 /// Documents of size 1 below 5,000 and two lists of a thousand: the multiples of five, once each but 15 nine times and 4,995 five
 /// times; the multiples of three below 3,000, once each but 3 seven times.
 pub fn two_long_lists(alloc: Global) -> Option<ManyNumbers> {

@@ -8,6 +8,12 @@ pub const OPENING: u64 = 6_360_565_151_758_173_520;
 /// The word at the end of a file, the bytes `XEDNIFEP`.
 pub const CLOSING: u64 = 5_784_106_577_086_924_120;
 
+/// The word at the beginning of a packed file, the bytes `PEFPACKD`.
+pub const PACKED_OPENING: u64 = 4_921_100_965_631_116_624;
+
+/// The word at its end, the bytes `DKCAPFEP`.
+pub const PACKED_CLOSING: u64 = 5_784_106_606_933_527_364;
+
 /// The words of no list over no document, in the second format.
 pub const NO_LIST_WORDS: [u64; 6] = [OPENING, 2, 0, 0, 2, CLOSING];
 
@@ -149,6 +155,66 @@ pub const DOCUMENTS_IN_TWO_PARTS: [u64; 20] = [
     1,
     10,
     CLOSING,
+];
+
+/// The words of the one list in a packed file.
+pub const ONE_LIST_PACKED: [u64; 10] = [
+    PACKED_OPENING,
+    3,
+    17443938,
+    4,
+    7,
+    529,
+    3,
+    1,
+    25,
+    PACKED_CLOSING,
+];
+
+/// The words of the three lists in a packed file.
+pub const THREE_LISTS_PACKED: [u64; 9] = [
+    PACKED_OPENING,
+    3,
+    235,
+    4294967297,
+    2097,
+    2,
+    3,
+    8,
+    PACKED_CLOSING,
+];
+
+/// The words of the one list in a packed file, its documents in two parts of one document.
+pub const DOCUMENTS_IN_TWO_PARTS_PACKED: [u64; 16] = [
+    PACKED_OPENING,
+    3,
+    1378,
+    281474976710656,
+    0,
+    562949953421314,
+    0,
+    2,
+    1064,
+    4,
+    7,
+    49169,
+    3,
+    1,
+    395,
+    PACKED_CLOSING,
+];
+
+/// The words of ten lists of one document of size 0, each once, in a packed file: 20 bits, and a directory of 31.
+pub const TEN_LISTS_PACKED: [u64; 9] = [
+    PACKED_OPENING,
+    3,
+    1048575,
+    0,
+    1227133513,
+    1,
+    10,
+    20,
+    PACKED_CLOSING,
 ];
 
 /// The bytes of these words.

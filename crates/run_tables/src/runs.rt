@@ -15,11 +15,20 @@ pub const BUILD: [&str; 4] = ["pefidx", "build", "x", "y"];
 /// The words of a run that builds it in the first format.
 pub const BUILD_ONE: [&str; 6] = ["pefidx", "build", "x", "y", "--format", "1"];
 
+/// The words of a run that builds it as a packed file.
+pub const PACK: [&str; 4] = ["pefidx", "pack", "x", "y"];
+
 /// The words of a run that answers from the index `y`.
 pub const QUERY: [&str; 3] = ["pefidx", "query", "y"];
 
 /// The words of a run that migrates the index `y` to the index `z`.
 pub const MIGRATE: [&str; 4] = ["pefidx", "migrate", "y", "z"];
+
+/// The words of a run that writes the index `y` anew as the packed file `z`.
+pub const REPACK: [&str; 4] = ["pefidx", "repack", "y", "z"];
+
+/// The words of a run that writes the index `y` as the collection `w`.
+pub const EXPORT: [&str; 4] = ["pefidx", "export", "y", "w"];
 
 /// The words of a run that writes the side file `z` of the index `y`.
 pub const BLOCKS: [&str; 4] = ["pefidx", "blocks", "y", "z"];

@@ -10,8 +10,8 @@ use word_files::{LoadWordsError, load_words, write_file, write_words};
 // The words of the file with no list over no document, in the second format.
 const NO_LISTS: &[u64] = &[6360565151758173520, 2, 0, 0, 2, 5784106577086924120];
 
-// The word with which the files begin of which all words are kept.
-const OPENING: u64 = 6360565151758173520;
+// The words with which the files begin of which all words are kept.
+const OPENINGS: &[u64] = &[6360565151758173520, 4921100965631116624];
 
 // A depot with this file, of which each call moves at most `most` bytes, and where these calls fail.
 fn depot_of(alloc: Global, bytes: &[u8], most: usize, fails: &[(Op, u64)]) -> Result<MemDepot, Fail>
@@ -32,7 +32,7 @@ fn loaded(
     fails: &[(Op, u64)],
 ) -> Result<Result<Vec<u64>, LoadWordsError>, Fail> {
     let mut depot = depot_of(alloc, bytes, 4, fails)?;
-    Ok(load_words(alloc, Slot::Side, OPENING, "x", &mut depot))
+    Ok(load_words(alloc, Slot::Side, OPENINGS, "x", &mut depot))
 }
 
 #[test]
@@ -62,7 +62,7 @@ fn files_are_loaded(rt: HostRuntime) -> Result<(), Fail> {
 #[test]
 fn missing_file_is_not_loaded(rt: HostRuntime) -> Result<(), Fail> {
     let mut depot = depot_of(rt.alloc(), b"PEFINDEX", 4, &[])?;
-    let refused = load_words(rt.alloc(), Slot::Index, OPENING, "y", &mut depot).err();
+    let refused = load_words(rt.alloc(), Slot::Index, OPENINGS, "y", &mut depot).err();
     assert_eq!(rt; refused, Some(LoadWordsError::Read));
     assert_eq!(rt; depot.calls(Op::Read(Slot::Index)), 0);
     Ok(())
@@ -93,7 +93,7 @@ fn words_are_written_and_loaded(rt: HostRuntime) -> Result<(), Fail> {
         assert_eq!(rt; depot.file("y"), Some(bytes.as_slice()), "{count}");
         assert_eq!(rt; depot.file("x"), Some(b"other".as_slice()), "{count}");
         assert_eq!(rt; depot.calls(Op::Finish), 2, "{count}");
-        let found = load_words(alloc, Slot::Index, OPENING, "y", &mut depot).expect(&rt, "words");
+        let found = load_words(alloc, Slot::Index, OPENINGS, "y", &mut depot).expect(&rt, "words");
         assert_eq!(rt; found.as_slice(), words.as_slice(), "{count}");
     }
     Ok(())
@@ -104,7 +104,7 @@ fn kept(alloc: Global, first: u64, length: usize) -> Result<Result<usize, LoadWo
     let mut bytes = Vec::from_slice(alloc, &first.to_le_bytes())?;
     bytes.resize(length, 7)?;
     let mut depot = depot_of(alloc, &bytes, 3000, &[])?;
-    let words = match load_words(alloc, Slot::Index, OPENING, "x", &mut depot) {
+    let words = match load_words(alloc, Slot::Index, OPENINGS, "x", &mut depot) {
         Ok(words) => words,
         Err(e) => return Ok(Err(e)),
     };
@@ -121,12 +121,14 @@ fn of_another_file_a_piece_is_kept(rt: HostRuntime) -> Result<(), Fail> {
         (131_072, 16_384, 8192),
         (200_000, 25_000, 8192),
     ] {
-        assert_eq!(rt; kept(alloc, OPENING, length)?, Ok(words), "{length}");
+        for &opening in OPENINGS {
+            assert_eq!(rt; kept(alloc, opening, length)?, Ok(words), "{length}");
+        }
         assert_eq!(rt; kept(alloc, 7, length)?, Ok(others), "{length}");
         for more in 1..8 {
             let ragged = Err(LoadWordsError::Ragged);
             assert_eq!(rt;
-                kept(alloc, OPENING, length + more)?,
+                kept(alloc, OPENINGS[0], length + more)?,
                 ragged,
                 "{length} {more}"
             );

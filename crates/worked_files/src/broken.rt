@@ -1,7 +1,9 @@
 // The check that breaks first, of words that are changed, cut or longer.
 ghost use Rattle.std.specs.Prelude.{◌<◌, ◌^◌, length};
 
-use crate::words::{END, ONE_LIST, ONE_LIST_OF_TWO, OPENING};
+use crate::words::{
+    END, ONE_LIST, ONE_LIST_OF_TWO, ONE_PACKED_LIST, OPENING, PACKED_END, PACKED_OPENING,
+};
 use index_file::Index;
 use std::alloc::Global;
 use std::process::Abort;
@@ -138,6 +140,66 @@ fn names_the_first_broken_check_of_two(rt: HostRuntime) {
     }
 }
 
+// The words of the same list in a packed file, each changed alone.
+#[test]
+fn names_the_first_broken_check_of_packed(rt: HostRuntime) {
+    for (at, word, check, term) in [
+        (0, 0, Check::K2, 0),
+        (0, OPENING, Check::K3, 0),
+        (1, 2, Check::K3, 0),
+        (9, END, Check::K4, 0),
+        (6, 4_294_967_296, Check::K5, 0),
+        (7, 4_294_967_296, Check::K5, 0),
+        // One bit more than a packed file may have.
+        (8, 8_796_093_022_209, Check::K5, 0),
+        (8, 65, Check::K5, 0),
+        // The last place is not that of the end.
+        (8, 26, Check::K12, 0),
+        (7, 2, Check::K12, 0),
+        // The first place is 8, and a bit behind the directory.
+        (5, 530, Check::K12, 0),
+        (5, 2577, Check::K12, 0),
+        // One posting, three, and the greatest frequency 6.
+        (2, 17_443_939, Check::K13, 0),
+        (2, 17_443_942, Check::K13, 0),
+        (2, 17_444_002, Check::K13, 0),
+        // Documents in several parts, with the last value 3, and three of them.
+        (2, 17_444_194, Check::K13, 0),
+        (2, 17_444_450, Check::K13, 0),
+        (2, 17_448_034, Check::K13, 0),
+        // Frequencies of sum 14, and without their last bit.
+        (2, 17_706_082, Check::K13, 0),
+        (2, 666_722, Check::K13, 0),
+        (2, 50_998_370, Check::K9, 1),
+        (4, 4_294_967_303, Check::K11, 0),
+    ] {
+        let found = broken_by(&rt, rt.alloc(), ONE_PACKED_LIST, at, word);
+        assert_eq!(rt; found, Some((check, term, 0)), "{word} at {at}");
+    }
+}
+
+// One part may not be spelled as several.
+#[test]
+fn one_packed_part_is_no_several(rt: HostRuntime) {
+    let several = [
+        PACKED_OPENING,
+        3,
+        866,
+        562_949_953_421_314,
+        0,
+        5,
+        1064,
+        4,
+        7,
+        49_185,
+        3,
+        1,
+        267,
+        PACKED_END,
+    ];
+    assert_eq!(rt; broken(&several), Some((Check::K13, 0, 0)));
+}
+
 // Words that are cut, and a word that no list has.
 #[test]
 fn cut_and_longer_words_break_a_check(rt: HostRuntime) {
@@ -145,6 +207,8 @@ fn cut_and_longer_words_break_a_check(rt: HostRuntime) {
     assert_eq!(rt; broken(&ONE_LIST[..5]), Some((Check::K1, 0, 0)));
     assert_eq!(rt; broken(&ONE_LIST[..17]), Some((Check::K4, 0, 0)));
     assert_eq!(rt; broken(&ONE_LIST_OF_TWO[..19]), Some((Check::K4, 0, 0)));
+    assert_eq!(rt; broken(&ONE_PACKED_LIST[..5]), Some((Check::K1, 0, 0)));
+    assert_eq!(rt; broken(&ONE_PACKED_LIST[..9]), Some((Check::K4, 0, 0)));
     let longer = [
         OPENING,
         1,

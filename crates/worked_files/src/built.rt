@@ -6,7 +6,9 @@ ghost use Rattle.cost_windows.specs.WindowBounds.{window_bounds};
 ghost use Rattle.index_file.specs.Builder.{most_words};
 
 use crate::opened::next_posting;
-use crate::words::{END, ONE_LIST, ONE_LIST_OF_TWO, OPENING};
+use crate::words::{
+    END, ONE_LIST, ONE_LIST_OF_TWO, ONE_PACKED_LIST, OPENING, PACKED_END, PACKED_OPENING,
+};
 use index_file::{Builder, Index};
 use part_cost::{Format, Kind};
 use std::alloc::Global;
@@ -43,7 +45,11 @@ fn one_list<L: Ledger>(rt: &impl Abort, alloc: Global, format: Format, blank: Bl
 
 #[test]
 fn builds_one_list(rt: HostRuntime) {
-    for (format, want) in [(Format::One, ONE_LIST), (Format::Two, ONE_LIST_OF_TWO)] {
+    for (format, want) in [
+        (Format::One, ONE_LIST),
+        (Format::Two, ONE_LIST_OF_TWO),
+        (Format::Three, ONE_PACKED_LIST),
+    ] {
         let words = one_list::<Brand>(&rt, rt.alloc(), format, Blank::new(1));
         assert_eq!(rt; words.as_slice(), want);
     }
@@ -51,13 +57,14 @@ fn builds_one_list(rt: HostRuntime) {
 
 #[test]
 fn builds_nothing(rt: HostRuntime) {
-    for (format, version) in [(Format::One, 1), (Format::Two, 2)] {
+    for (format, want) in [
+        (Format::One, [OPENING, 1, 0, 0, 2, END]),
+        (Format::Two, [OPENING, 2, 0, 0, 2, END]),
+        (Format::Three, [PACKED_OPENING, 3, 0, 0, 0, PACKED_END]),
+    ] {
         let builder = Builder::new(rt.alloc(), 0, format).expect(&rt, "memory");
         let words = builder.finish(&[]).expect(&rt, "words");
-        assert_eq!(rt;
-            words.as_slice(),
-            [OPENING, version, 0, 0, 2, END].as_slice()
-        );
+        assert_eq!(rt; words.as_slice(), want.as_slice());
     }
 }
 
@@ -117,10 +124,11 @@ fn has_every_document(words: &[u64], count: u32) -> bool
     next_posting(&mut cursor).is_none()
 }
 
-// A thousand documents: the entries of the second format make two words more.
+// A thousand documents: the entries of the second format make two words more. In a packed file the list takes 32 bits, and it and
+// the directory a word each.
 #[test]
 fn reads_a_thousand_documents(rt: HostRuntime) {
-    for (format, count) in [(Format::One, 514), (Format::Two, 516)] {
+    for (format, count) in [(Format::One, 514), (Format::Two, 516), (Format::Three, 508)] {
         let words = every_document::<Brand>(&rt, rt.alloc(), format, 1000, Blank::new(1));
         assert_eq!(rt; words.len(), count);
         assert!(rt; has_every_document(&words, 1000));

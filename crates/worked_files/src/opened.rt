@@ -1,5 +1,8 @@
 // Indexes that are opened: what they tell, and their postings.
-use crate::words::{IN_TWO_PARTS, ONE_LIST, ONE_LIST_OF_TWO, ONE_WIDE_GAP, THREE_LISTS};
+use crate::words::{
+    IN_TWO_PARTS, ONE_LIST, ONE_LIST_OF_TWO, ONE_PACKED_LIST, ONE_WIDE_GAP, PACKED_END,
+    PACKED_OPENING, THREE_LISTS, THREE_PACKED_LISTS,
+};
 use cursor_api::DocCursor;
 use index_file::Index;
 use part_cost::{Format, Kind};
@@ -13,12 +16,13 @@ pub(crate) fn next_posting<C: DocCursor>(cursor: &mut C) -> Option<(u32, u32)> {
     Some((doc, freq))
 }
 
-// An index is opened and read, in both formats.
+// An index is opened and read, in both formats and as a packed file.
 #[test]
 fn opens_one_list(rt: HostRuntime) {
     for (words, format, count) in [
         (ONE_LIST, Format::One, 18),
         (ONE_LIST_OF_TWO, Format::Two, 20),
+        (ONE_PACKED_LIST, Format::Three, 10),
     ] {
         assert!(rt; words.len() <= 20);
         let index = Index::view(words).expect(&rt, "an index");
@@ -48,10 +52,14 @@ fn opens_one_list(rt: HostRuntime) {
 // Documents 1 and 2 instead of 0 and 2 are an index too.
 #[test]
 fn opens_other_documents(rt: HostRuntime) -> Result<(), Fail> {
-    for (file, payload) in [(ONE_LIST, 4), (ONE_LIST_OF_TWO, 5)] {
+    for (file, payload, word) in [
+        (ONE_LIST, 4, 6),
+        (ONE_LIST_OF_TWO, 5, 6),
+        (ONE_PACKED_LIST, 2, 17_445_986),
+    ] {
         let mut words = file.to_vec(rt.alloc())?;
         assert!(rt; words.len() <= 20 && payload < words.len());
-        words[payload] = 6;
+        words[payload] = word;
         let index = Index::view(&words).expect(&rt, "an index");
         assert!(rt; index.terms() == 1);
         let mut cursor = index.cursor(0);
@@ -67,6 +75,7 @@ fn measures_parts(rt: HostRuntime) {
     for (words, ones, bitmaps, efs, bits) in [
         (IN_TWO_PARTS, 1, 2, 0, 8),
         (THREE_LISTS, 2, 2, 0, 5),
+        (THREE_PACKED_LISTS, 2, 2, 0, 5),
         (ONE_WIDE_GAP, 1, 0, 1, 8),
     ] {
         assert!(rt; words.len() <= 29);
@@ -76,4 +85,17 @@ fn measures_parts(rt: HostRuntime) {
         }
         assert_eq!(rt; index.payload_bits(), bits);
     }
+}
+
+// Six words may be a packed file of as many empty lists as there may be. Nothing walks over them.
+#[test]
+fn opens_empty_lists(rt: HostRuntime) {
+    let words = [PACKED_OPENING, 3, 0, 4_294_967_295, 0, PACKED_END];
+    let index = Index::view(&words).expect(&rt, "an index");
+    assert_eq!(rt; (index.documents(), index.terms()), (0, u32::MAX));
+    assert_eq!(rt; (index.postings(), index.size_total()), (0, 0));
+    assert_eq!(rt;
+        (index.payload_bits(), index.parts_of_kind(Kind::Ones)),
+        (0, 0)
+    );
 }

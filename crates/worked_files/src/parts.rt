@@ -1,7 +1,7 @@
 // The parts of the documents of a list as its blocks.
 ghost use Rattle.std.specs.Prelude.{◌<◌, ◌^◌, length};
 
-use crate::words::{IN_TWO_PARTS, ONE_LIST, ONE_LIST_OF_TWO};
+use crate::words::{IN_TWO_PARTS, ONE_LIST, ONE_LIST_OF_TWO, ONE_PACKED_LIST};
 use block_max::BlockSource;
 use index_blocks::{IndexBlocks, block_starts, index_side_words};
 use index_file::Index;
@@ -26,12 +26,14 @@ fn has_blocks(rt: &impl Abort, words: &[u64], costs: (u64, u64), blocks: &[(u32,
     }
 }
 
-// A part costs 128 bits in the first format and 192 in the second, and its payload; the frequencies 1 and 5 stand in one part.
+// A part costs 128 bits in the first format and 192 in the second, and its payload; one part in a packed file its payload alone. The
+// frequencies 1 and 5 stand in one part.
 #[test]
 fn parts_are_blocks(rt: HostRuntime) {
     has_blocks(&rt, ONE_LIST, (131, 134), &[(2, 5)]);
     has_blocks(&rt, ONE_LIST_OF_TWO, (195, 198), &[(2, 5)]);
     has_blocks(&rt, IN_TWO_PARTS, (258, 134), &[(0, 1), (2, 5)]);
+    has_blocks(&rt, ONE_PACKED_LIST, (3, 6), &[(2, 5)]);
 }
 
 // The list is one block, whose last document is 2 and whose greatest frequency is 5.
@@ -66,7 +68,7 @@ fn is_one_block(rt: &impl Abort, alloc: Global, words: &[u64])
 
 #[test]
 fn the_blocks_of_one_list(rt: HostRuntime) {
-    for words in [ONE_LIST, ONE_LIST_OF_TWO] {
+    for words in [ONE_LIST, ONE_LIST_OF_TWO, ONE_PACKED_LIST] {
         assert!(rt; words.len() <= 20);
         is_one_block(&rt, rt.alloc(), words);
     }

@@ -5,6 +5,11 @@ pub(crate) const OPENING: u64 = 0x5845_444e_4946_4550;
 
 pub(crate) const END: u64 = 0x5045_4649_4e44_4558;
 
+// Those whose bytes are PEFPACKD and DKCAPFEP, of packed files.
+pub(crate) const PACKED_OPENING: u64 = 0x444b_4341_5046_4550;
+
+pub(crate) const PACKED_END: u64 = 0x5045_4650_4143_4b44;
+
 // Three documents of sizes 4, 0 and 7 with the list of 0 once and 2 five times.
 pub(crate) const ONE_LIST: &[u64] = &[
     OPENING,
@@ -128,4 +133,33 @@ pub(crate) const ONE_WIDE_GAP: &[u64] = &[
     1,
     7,
     END,
+];
+
+// The collection of one list as a packed file. The list takes 25 bits: 010 for two postings and 00110 for the greatest frequency 5;
+// 0 01 101 for the documents, one part with the last value 2; and 0 0010 100001 for the frequencies, with 4 behind the least last
+// value. The directory is 0 and 26 in 11 bits.
+pub(crate) const ONE_PACKED_LIST: &[u64] = &[
+    PACKED_OPENING,
+    3,
+    17_443_938,
+    4,
+    7,
+    529,
+    3,
+    1,
+    25,
+    PACKED_END,
+];
+
+// The collection of three lists so. Lists of one posting take 3 and 5 bits, and the empty one none.
+pub(crate) const THREE_PACKED_LISTS: &[u64] = &[
+    PACKED_OPENING,
+    3,
+    235,
+    4_294_967_297,
+    2097,
+    2,
+    3,
+    8,
+    PACKED_END,
 ];

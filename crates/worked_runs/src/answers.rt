@@ -3,16 +3,16 @@ use crate::rows::{Lines, Way, first_wrong, is_answered};
 use pef_io::SteadyDepot;
 use pef_top::Status;
 use run_tables::{
-    ANSWER, BUILD, BUILD_ONE, NINE_LISTS, NO_LIST, Numbers, ONE_LIST, OPS, QUERY, THREE_LISTS,
-    TWO_LISTS, files_of, steady_run,
+    ANSWER, BUILD, BUILD_ONE, NINE_LISTS, NO_LIST, Numbers, ONE_LIST, OPS, PACK, QUERY,
+    THREE_LISTS, TWO_LISTS, files_of, steady_run,
 };
 use std::alloc::Global;
 
 pub(crate) const USAGE: &str =
-    "usage: pefidx build BASE INDEX [--format FORMAT] | query INDEX [--plan PLAN] | answer BASE [--plan PLAN] | inspect INDEX | generate SEED N T | migrate OLD NEW | audit INDEX | blocks INDEX SIDE | bquery INDEX SIDE | remap BASE MAP NEW | segments INDEX.. [--plan PLAN]\n";
+    "usage: pefidx build BASE INDEX [--format FORMAT] | query INDEX [--plan PLAN] | answer BASE [--plan PLAN] | inspect INDEX | generate SEED N T | migrate OLD NEW | audit INDEX | blocks INDEX SIDE | bquery INDEX SIDE | remap BASE MAP NEW | segments INDEX.. [--plan PLAN] | pack BASE NEW | repack OLD NEW | export INDEX BASE\n";
 
 // Words that are no command.
-const NO_COMMANDS: [&[&str]; 49] = [
+const NO_COMMANDS: [&[&str]; 66] = [
     &[],
     &["pefidx"],
     &["pefidx", "answer"],
@@ -64,6 +64,23 @@ const NO_COMMANDS: [&[&str]; 49] = [
     &["pefidx", "segments", "y", "help"],
     &["pefidx", "segments", "y", "", "z"],
     &["pefidx", "segments", "y", "--plan", "wand", "z"],
+    &["pefidx", "pack", "x"],
+    &["pefidx", "pack", "x", "x.docs"],
+    &["pefidx", "pack", "x", "x.freqs"],
+    &["pefidx", "pack", "x", "x.sizes"],
+    &["pefidx", "pack", "x", "y", "z"],
+    &["pefidx", "pack", "x", "y", "--format", "2"],
+    &["pefidx", "repack", "y"],
+    &["pefidx", "repack", "y", "y"],
+    &["pefidx", "repack", "y", "z", "w"],
+    &["pefidx", "repack", "y", "z", "--format", "1"],
+    &["pefidx", "export", "y"],
+    &["pefidx", "export", "y", "w", "v"],
+    &["pefidx", "export", "y", "help"],
+    &["pefidx", "export", "-y", "w"],
+    &["pefidx", "export", "x.docs", "x"],
+    &["pefidx", "export", "x.freqs", "x"],
+    &["pefidx", "export", "x.sizes", "x"],
 ];
 
 // Collections, lines over them, and the replies.
@@ -148,7 +165,12 @@ const TERMS: [Lines; 8] = [
 ];
 
 // The ways to answer a collection: at once, and from an index in each format.
-const WAYS: [Way; 3] = [&[&ANSWER], &[&BUILD, &QUERY], &[&BUILD_ONE, &QUERY]];
+const WAYS: [Way; 4] = [
+    &[&ANSWER],
+    &[&BUILD, &QUERY],
+    &[&BUILD_ONE, &QUERY],
+    &[&PACK, &QUERY],
+];
 
 #[test]
 fn lines_are_answered(rt: HostRuntime) {

@@ -2,14 +2,15 @@
 use crate::inspections::{Printed, first_wrong};
 use crate::rows::is_answered;
 use run_tables::{
-    AUDIT, BUILD, BUILD_ONE, DOCUMENTS_IN_TWO_PARTS, NO_LIST, ONE_LIST_WORDS,
-    ONE_LIST_WORDS_OF_TWO, THREE_LISTS_AUDIT, THREE_LISTS_AUDIT_OF_TWO, THREE_LISTS_WORDS,
+    AUDIT, BUILD, BUILD_ONE, DOCUMENTS_IN_TWO_PARTS, DOCUMENTS_IN_TWO_PARTS_PACKED, NO_LIST,
+    ONE_LIST_PACKED, ONE_LIST_WORDS, ONE_LIST_WORDS_OF_TWO, PACK, THREE_LISTS_AUDIT,
+    THREE_LISTS_AUDIT_OF_TWO, THREE_LISTS_AUDIT_PACKED, THREE_LISTS_PACKED, THREE_LISTS_WORDS,
     THREE_LISTS_WORDS_OF_TWO, files_of, full_list,
 };
 use std::alloc::Global;
 
-// The words of indexes, their audits, and in how many pieces these are printed.
-const AUDITS: [Printed; 5] = [
+// The words of indexes, their audits, and in how many pieces these are printed. In a packed file one part costs its payload alone.
+const AUDITS: [Printed; 8] = [
     (
         &ONE_LIST_WORDS,
         "0 docs 131 131 131\n0 freqs 134 134 134\nsequences 2 longer 0\n",
@@ -27,6 +28,17 @@ const AUDITS: [Printed; 5] = [
     ),
     (&THREE_LISTS_WORDS, THREE_LISTS_AUDIT, 5),
     (&THREE_LISTS_WORDS_OF_TWO, THREE_LISTS_AUDIT_OF_TWO, 5),
+    (
+        &ONE_LIST_PACKED,
+        "0 docs 3 3 3\n0 freqs 6 6 6\nsequences 2 longer 0\n",
+        3,
+    ),
+    (
+        &DOCUMENTS_IN_TWO_PARTS_PACKED,
+        "0 docs 258 3 3\n0 freqs 6 6 6\nsequences 2 longer 0\n",
+        3,
+    ),
+    (&THREE_LISTS_PACKED, THREE_LISTS_AUDIT_PACKED, 5),
 ];
 
 #[test]
@@ -50,7 +62,13 @@ fn long_sequences_have_no_line(rt: HostRuntime) {
             255,
             "0 docs 192 192 192\n0 freqs 192 192 192\nsequences 2 longer 0\n",
         ),
+        (
+            [&PACK, &AUDIT],
+            255,
+            "0 docs 0 0 0\n0 freqs 0 0 0\nsequences 2 longer 0\n",
+        ),
         ([&BUILD, &AUDIT], 256, "sequences 0 longer 2\n"),
+        ([&PACK, &AUDIT], 256, "sequences 0 longer 2\n"),
         ([&BUILD_ONE, &AUDIT], 999, "sequences 0 longer 2\n"),
     ] {
         assert_eq!(rt;

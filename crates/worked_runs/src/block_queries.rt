@@ -1,8 +1,12 @@
 // Replies from an index and its side file.
 use crate::rows::is_answered;
+use crate::side_files::SIDE_OF_TEN;
 use pef_io::Slot;
 use pef_top::Status;
-use run_tables::{BQUERY, ONE_LIST_WORDS, ONE_LIST_WORDS_OF_TWO, index_and_side, steady_run};
+use run_tables::{
+    BQUERY, DOCUMENTS_IN_TWO_PARTS_PACKED, ONE_LIST_PACKED, ONE_LIST_WORDS, ONE_LIST_WORDS_OF_TWO,
+    TEN_LISTS_PACKED, index_and_side, steady_run,
+};
 use std::alloc::Global;
 
 // The first and the last word of a side file, the bytes `PEFBLOCK` and `KCOLBFEP`.
@@ -11,23 +15,56 @@ const FIRST: u64 = 5_423_265_565_232_219_472;
 const LAST: u64 = 5_784_106_546_989_318_987;
 
 // Five lines over the one list, and their replies.
-const TEXT: &[u8] = b"next 0 1\nnext 0 3\nand 0\nor 0 0\ntop 1 0";
+const TEXT: &str = "next 0 1\nnext 0 3\nand 0\nor 0 0\ntop 1 0";
 
-const REPLIES: &[u8] = b"2 5\nend\n2 0 2\n2 0 2\n1 2:5\n";
+const REPLIES: &str = "2 5\nend\n2 0 2\n2 0 2\n1 2:5\n";
 
-// Whether the lines are answered from an index of the one list.
-fn are_answered(alloc: Global, index: &[u64]) -> Option<bool> {
-    let files = index_and_side(alloc, index, &[FIRST, 1, 5, 1, LAST])?;
-    is_answered(alloc, &[&BQUERY], files, TEXT, REPLIES)
+// The side file of the one list.
+const SIDE_OF_ONE: &[u64] = &[FIRST, 1, 5, 1, LAST];
+
+// The words of indexes and of their side files, a text and its replies.
+const ANSWERED: [(&[u64], &[u64], &str, &str); 5] = [
+    (&ONE_LIST_WORDS, SIDE_OF_ONE, TEXT, REPLIES),
+    (&ONE_LIST_WORDS_OF_TWO, SIDE_OF_ONE, TEXT, REPLIES),
+    (&ONE_LIST_PACKED, SIDE_OF_ONE, TEXT, REPLIES),
+    (
+        &DOCUMENTS_IN_TWO_PARTS_PACKED,
+        &[FIRST, 1, 1, 5, 2, LAST],
+        TEXT,
+        REPLIES,
+    ),
+    (
+        &TEN_LISTS_PACKED,
+        SIDE_OF_TEN,
+        "top 2 0 3 9\nand 0 1 2 3 4 5 6 7 8 9\nnext 10 0",
+        "1 0:3\n1 0\nbad term\n",
+    ),
+];
+
+// Whether a text is answered from an index and its side file.
+fn are_answered(
+    alloc: Global,
+    index: &[u64],
+    side: &[u64],
+    text: &str,
+    replies: &str,
+) -> Option<bool> {
+    let files = index_and_side(alloc, index, side)?;
+    is_answered(
+        alloc,
+        &[&BQUERY],
+        files,
+        text.as_bytes(),
+        replies.as_bytes(),
+    )
 }
 
 #[test]
 fn lines_are_answered_by_blocks(rt: HostRuntime) {
-    assert_eq!(rt; are_answered(rt.alloc(), &ONE_LIST_WORDS), Some(true));
-    assert_eq!(rt;
-        are_answered(rt.alloc(), &ONE_LIST_WORDS_OF_TWO),
-        Some(true)
-    );
+    for (index, side, text, replies) in ANSWERED {
+        let right = are_answered(rt.alloc(), index, side, text, replies);
+        assert_eq!(rt; right, Some(true), "{index:?}");
+    }
 }
 
 // The words of a run that takes the index for its side file.
@@ -118,7 +155,12 @@ fn is_refused(
     status: Status,
     line: &str,
 ) -> Option<bool> {
-    let run = steady_run(alloc, words, index_and_side(alloc, index, side)?, TEXT)?;
+    let run = steady_run(
+        alloc,
+        words,
+        index_and_side(alloc, index, side)?,
+        TEXT.as_bytes(),
+    )?;
     let names = words.get(2..)?;
     let sides = if status == Status::Side { 1 } else { 0 };
     let started = run.started(Slot::Index, names.get(..1)?)

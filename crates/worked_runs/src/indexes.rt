@@ -5,14 +5,20 @@ use part_cost::Format;
 use pef_io::Slot;
 use pef_top::{BuildError, Status};
 use run_tables::{
-    BUILD, BUILD_ONE, CLOSING, NO_LIST, Numbers, ONE_LIST, ONE_LIST_WORDS, ONE_LIST_WORDS_OF_TWO,
-    OPENING, QUERY, THREE_LISTS, THREE_LISTS_WORDS, THREE_LISTS_WORDS_OF_TWO, built, bytes_of,
-    far_document, files_of, full_list, run_over, steady_run,
+    BUILD, BUILD_ONE, CLOSING, NO_LIST, Numbers, ONE_LIST, ONE_LIST_PACKED, ONE_LIST_WORDS,
+    ONE_LIST_WORDS_OF_TWO, OPENING, PACK, PACKED_CLOSING, PACKED_OPENING, QUERY, THREE_LISTS,
+    THREE_LISTS_PACKED, THREE_LISTS_WORDS, THREE_LISTS_WORDS_OF_TWO, built, bytes_of, far_document,
+    files_of, full_list, run_over, steady_run,
 };
 use std::alloc::Global;
 
 // Words with so many zeros between them.
-fn around_zeros(alloc: Global, before: &[u64], zeros: usize, behind: &[u64]) -> Option<Vec<u64>> {
+pub(crate) fn around_zeros(
+    alloc: Global,
+    before: &[u64],
+    zeros: usize,
+    behind: &[u64],
+) -> Option<Vec<u64>> {
     let mut words = Vec::from_slice(alloc, before).ok()?;
     for _ in 0..zeros {
         words.push(0).ok()?;
@@ -26,23 +32,30 @@ fn build_of(format: Format) -> Option<&'static [&'static str]> {
     match format {
         Format::One => Some(&BUILD_ONE),
         Format::Two => Some(&BUILD),
-        Format::Three => None,
+        Format::Three => Some(&PACK),
     }
 }
 
 // Collections, formats and the words of their indexes.
-const WORDS: [(Numbers<'static>, Format, &[u64]); 6] = [
+const WORDS: [(Numbers<'static>, Format, &[u64]); 9] = [
     (NO_LIST, Format::One, &[OPENING, 1, 0, 0, 2, CLOSING]),
     (NO_LIST, Format::Two, &[OPENING, 2, 0, 0, 2, CLOSING]),
     (ONE_LIST, Format::One, &ONE_LIST_WORDS),
     (ONE_LIST, Format::Two, &ONE_LIST_WORDS_OF_TWO),
     (THREE_LISTS, Format::One, &THREE_LISTS_WORDS),
     (THREE_LISTS, Format::Two, &THREE_LISTS_WORDS_OF_TWO),
+    (
+        NO_LIST,
+        Format::Three,
+        &[PACKED_OPENING, 3, 0, 0, 0, PACKED_CLOSING],
+    ),
+    (ONE_LIST, Format::Three, &ONE_LIST_PACKED),
+    (THREE_LISTS, Format::Three, &THREE_LISTS_PACKED),
 ];
 
 // The words before and behind 500 zeros of the index of a thousand documents in one list, each once: both sequences are one part
 // without payload.
-const THOUSAND_WORDS: [(Format, &[u64], &[u64]); 2] = [
+const THOUSAND_WORDS: [(Format, &[u64], &[u64]); 3] = [
     (
         Format::One,
         &[OPENING, 1, 68719476736999, 0, 68719476736999, 0],
@@ -53,10 +66,20 @@ const THOUSAND_WORDS: [(Format, &[u64], &[u64]); 2] = [
         &[OPENING, 2, 999, 1000, 0, 999, 1000, 0],
         &[2, 5, 4294968296, 4294967297, 1000, 1, 8, CLOSING],
     ),
+    (
+        Format::Three,
+        &[PACKED_OPENING, 3, 2096079360],
+        &[545, 1000, 1, 32, PACKED_CLOSING],
+    ),
 ];
 
 // Whether the index of a collection has these words, by `build_words` and in the file that `build` leaves, which does not call err.
-fn has_words(alloc: Global, numbers: Numbers<'_>, format: Format, want: &[u64]) -> Option<bool> {
+pub(crate) fn has_words(
+    alloc: Global,
+    numbers: Numbers<'_>,
+    format: Format,
+    want: &[u64],
+) -> Option<bool> {
     let words = built(alloc, files_of(alloc, numbers)?, format)?.ok()?;
     let is_built = words.as_slice() == want;
     let bytes = bytes_of(alloc, want)?;

@@ -4,8 +4,9 @@ use crate::rows::run_in_turn;
 use pef_io::Slot;
 use pef_top::Status;
 use run_tables::{
-    BUILD, BUILD_ONE, FileList, NO_LIST_WORDS, Numbers, ONE_LIST_WORDS, ONE_LIST_WORDS_OF_TWO,
-    QUERY, documents_from, files_of, indexes_of, steady_run, two_long_lists,
+    BUILD, BUILD_ONE, FileList, NO_LIST_WORDS, Numbers, ONE_LIST_PACKED, ONE_LIST_WORDS,
+    ONE_LIST_WORDS_OF_TWO, PACK, QUERY, documents_from, files_of, indexes_of, steady_run,
+    two_long_lists,
 };
 use std::alloc::Global;
 
@@ -52,10 +53,24 @@ const TWICE_REPLIES: &str = "3 1\n4 0 2 3 5\n2 2:5 5:5\n4 0 2 3 5\nend\nbad term
 
 // The words of runs over index files, a text, how they end, with replies or refused, and how many of their files are started, each under its name. A file that is
 // no index, or cannot be joined to those before it, ends the run before the next is started.
-const JOINED: [(&[&str], Indexes, &str, Result<&str, (Status, &str)>, usize); 11] = [
+const JOINED: [(&[&str], Indexes, &str, Result<&str, (Status, &str)>, usize); 13] = [
     (BY_ALL, TWICE, TWICE_TEXT, Ok(TWICE_REPLIES), 2),
     (BY_WAND, TWICE, TWICE_TEXT, Ok(TWICE_REPLIES), 2),
     (BY_MAXSCORE, TWICE, TWICE_TEXT, Ok(TWICE_REPLIES), 2),
+    (
+        BOTH,
+        &[("y", &ONE_LIST_WORDS), ("z", &ONE_LIST_PACKED)],
+        TWICE_TEXT,
+        Ok(TWICE_REPLIES),
+        2,
+    ),
+    (
+        BY_MAXSCORE,
+        &[("y", &ONE_LIST_PACKED), ("z", &ONE_LIST_WORDS_OF_TWO)],
+        TWICE_TEXT,
+        Ok(TWICE_REPLIES),
+        2,
+    ),
     (
         &["pefidx", "segments", "y", "y"],
         &[("y", &ONE_LIST_WORDS)],
@@ -174,7 +189,7 @@ fn cut_indexes(alloc: Global, whole: Numbers<'_>) -> Option<FileList> {
     for (name, first, end, build) in [
         ("a", 0, 1_700, BUILD.as_slice()),
         ("b", 1_700, 1_700, BUILD_ONE.as_slice()),
-        ("c", 1_700, 3_001, BUILD_ONE.as_slice()),
+        ("c", 1_700, 3_001, PACK.as_slice()),
         ("d", 3_001, 5_000, BUILD.as_slice()),
     ] {
         let part = documents_from(alloc, whole, first, end)?;

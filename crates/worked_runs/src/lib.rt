@@ -9,6 +9,8 @@ mod audits;
 #[cfg(test)]
 mod block_queries;
 #[cfg(test)]
+mod exports;
+#[cfg(test)]
 mod generations;
 #[cfg(test)]
 mod indexes;
@@ -21,9 +23,13 @@ mod long_lists;
 #[cfg(test)]
 mod migrations;
 #[cfg(test)]
+mod packed_rows;
+#[cfg(test)]
 mod plans;
 #[cfg(test)]
 mod remaps;
+#[cfg(test)]
+mod repackings;
 #[cfg(test)]
 mod rows;
 #[cfg(test)]

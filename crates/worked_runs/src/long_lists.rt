@@ -1,6 +1,6 @@
 // Replies over lists of a thousand documents.
 use crate::rows::{Way, is_answered};
-use run_tables::{ANSWER, BUILD, BUILD_ONE, QUERY, files_of, two_long_lists};
+use run_tables::{ANSWER, BUILD, BUILD_ONE, PACK, QUERY, files_of, two_long_lists};
 use std::alloc::Global;
 
 // One line for each kind of reply, and two for places behind the last document of a list and at it.
@@ -51,7 +51,12 @@ fn are_asked(alloc: Global, way: Way) -> Option<bool> {
 
 #[test]
 fn long_lists_are_asked_by_all_verbs(rt: HostRuntime) {
-    let ways: [Way; 3] = [&[&ANSWER], &[&BUILD, &QUERY], &[&BUILD_ONE, &QUERY]];
+    let ways: [Way; 4] = [
+        &[&ANSWER],
+        &[&BUILD, &QUERY],
+        &[&BUILD_ONE, &QUERY],
+        &[&PACK, &QUERY],
+    ];
     for way in ways {
         assert_eq!(rt; are_asked(rt.alloc(), way), Some(true), "{way:?}");
     }

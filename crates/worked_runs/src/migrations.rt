@@ -3,8 +3,9 @@ use crate::rows::is_answered;
 use crate::side_files::makes;
 use pef_top::Status;
 use run_tables::{
-    CLOSING, DOCUMENTS_IN_TWO_PARTS, MIGRATE, ONE_LIST_WORDS, ONE_LIST_WORDS_OF_TWO, OPENING,
-    Outcome, QUERY, THREE_LISTS_WORDS, THREE_LISTS_WORDS_OF_TWO, bytes_of, only_index, steady_run,
+    CLOSING, DOCUMENTS_IN_TWO_PARTS, DOCUMENTS_IN_TWO_PARTS_PACKED, MIGRATE, ONE_LIST_PACKED,
+    ONE_LIST_WORDS, ONE_LIST_WORDS_OF_TWO, OPENING, Outcome, QUERY, THREE_LISTS_PACKED,
+    THREE_LISTS_WORDS, THREE_LISTS_WORDS_OF_TWO, bytes_of, only_index, steady_run,
 };
 use std::alloc::Global;
 
@@ -12,20 +13,20 @@ use std::alloc::Global;
 const QUERY_NEW: [&str; 3] = ["pefidx", "query", "z"];
 
 // Lines over the one list, and their replies.
-const ONE_LIST_TEXT: (&str, &str) = (
+pub(crate) const ONE_LIST_TEXT: (&str, &str) = (
     "next 0 1\nnext 0 3\nand 0\nor 0 0\ntop 1 0",
     "2 5\nend\n2 0 2\n2 0 2\n1 2:5\n",
 );
 
 // Lines over the three lists, and their replies.
-const THREE_LISTS_TEXT: (&str, &str) = (
+pub(crate) const THREE_LISTS_TEXT: (&str, &str) = (
     "next 1 0\nor 0 1 2\nand 0\nnext 0 0",
     "end\n2 0 1\n1 0\n0 1\n",
 );
 
 // The words of indexes and of the migrated ones, and lines and replies of both. The words in which the documents are needlessly cut
-// in two become the words of one part.
-const MIGRATED: [(&[u64], &[u64], (&str, &str)); 6] = [
+// in two become the words of one part, and packed files become plain ones.
+const MIGRATED: [(&[u64], &[u64], (&str, &str)); 9] = [
     (
         &[OPENING, 1, 0, 0, 2, CLOSING],
         &[OPENING, 2, 0, 0, 2, CLOSING],
@@ -52,6 +53,17 @@ const MIGRATED: [(&[u64], &[u64], (&str, &str)); 6] = [
         &THREE_LISTS_WORDS_OF_TWO,
         THREE_LISTS_TEXT,
     ),
+    (&ONE_LIST_PACKED, &ONE_LIST_WORDS_OF_TWO, ONE_LIST_TEXT),
+    (
+        &DOCUMENTS_IN_TWO_PARTS_PACKED,
+        &ONE_LIST_WORDS_OF_TWO,
+        ONE_LIST_TEXT,
+    ),
+    (
+        &THREE_LISTS_PACKED,
+        &THREE_LISTS_WORDS_OF_TWO,
+        THREE_LISTS_TEXT,
+    ),
 ];
 
 // Whether runs of these words over an index have these replies.
@@ -61,17 +73,23 @@ fn are_replies(alloc: Global, way: &[&[&str]], index: &[u64], lines: (&str, &str
     is_answered(alloc, way, files, lines.0.as_bytes(), lines.1.as_bytes())
 }
 
-// Whether an index is migrated to these words, and both have these replies.
-fn is_migrated(alloc: Global, old: &[u64], new: &[u64], lines: (&str, &str)) -> Option<bool> {
-    let made = makes(alloc, &MIGRATE, old, new)?;
+// Whether a run of these words over an index makes one of these words, and both have these replies.
+pub(crate) fn is_written_anew(
+    alloc: Global,
+    words: &[&str],
+    old: &[u64],
+    new: &[u64],
+    lines: (&str, &str),
+) -> Option<bool> {
+    let made = makes(alloc, words, old, new)?;
     let told_by_old = are_replies(alloc, &[&QUERY], old, lines)?;
-    Some(are_replies(alloc, &[&MIGRATE, &QUERY_NEW], old, lines)? && told_by_old && made)
+    Some(are_replies(alloc, &[words, &QUERY_NEW], old, lines)? && told_by_old && made)
 }
 
 #[test]
 fn migrated_indexes_have_their_words_and_replies(rt: HostRuntime) {
     for (old, new, lines) in MIGRATED {
-        let right = is_migrated(rt.alloc(), old, new, lines);
+        let right = is_written_anew(rt.alloc(), &MIGRATE, old, new, lines);
         assert_eq!(rt; right, Some(true), "{old:?}");
     }
 }

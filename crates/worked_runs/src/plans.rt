@@ -1,15 +1,18 @@
 // Replies by each plan, at once, from an index, and from an index with its side file.
 use crate::rows::{Lines, Way, first_wrong};
-use run_tables::{BLOCKS, BQUERY, BUILD, NINE_LISTS, ONE_LIST, TWO_LISTS};
+use run_tables::{BLOCKS, BQUERY, BUILD, NINE_LISTS, ONE_LIST, PACK, TWO_LISTS};
 
 // The ways to answer a collection by each plan.
-const WAYS: [Way; 6] = [
+const WAYS: [Way; 9] = [
     &[&["pefidx", "answer", "x", "--plan", "exhaustive"]],
     &[&["pefidx", "answer", "x", "--plan", "wand"]],
     &[&["pefidx", "answer", "x", "--plan", "maxscore"]],
     &[&BUILD, &["pefidx", "query", "y", "--plan", "exhaustive"]],
     &[&BUILD, &["pefidx", "query", "y", "--plan", "wand"]],
     &[&BUILD, &["pefidx", "query", "y", "--plan", "maxscore"]],
+    &[&PACK, &["pefidx", "query", "y", "--plan", "exhaustive"]],
+    &[&PACK, &["pefidx", "query", "y", "--plan", "wand"]],
+    &[&PACK, &["pefidx", "query", "y", "--plan", "maxscore"]],
 ];
 
 // Collections, lines over them, and the replies.
@@ -50,6 +53,6 @@ const LINES_OF_BLOCKS: [Lines; 3] = [
 #[test]
 fn replies_are_the_same_by_every_plan(rt: HostRuntime) {
     assert_eq!(rt; first_wrong(rt.alloc(), &WAYS, &LINES), None);
-    let by_blocks: [Way; 1] = [&[&BUILD, &BLOCKS, &BQUERY]];
+    let by_blocks: [Way; 2] = [&[&BUILD, &BLOCKS, &BQUERY], &[&PACK, &BLOCKS, &BQUERY]];
     assert_eq!(rt; first_wrong(rt.alloc(), &by_blocks, &LINES_OF_BLOCKS), None);
 }

@@ -32,8 +32,8 @@ const MOVES: [(Numbers<'static>, &[u32], Numbers<'static>, &str); 5] = [
     (NO_LIST, &[0], NO_LIST, "bad term\n"),
 ];
 
-// Whether the files of this name are those of the collection.
-fn has_files(
+// Whether the files of these names are those of the collection.
+pub(crate) fn has_files(
     alloc: Global,
     depot: &SteadyDepot,
     names: [&str; 3],

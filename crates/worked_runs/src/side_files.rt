@@ -1,7 +1,8 @@
 // The side files of indexes.
 use pef_top::Status;
 use run_tables::{
-    BLOCKS, CLOSING, DOCUMENTS_IN_TWO_PARTS, ONE_LIST_WORDS, ONE_LIST_WORDS_OF_TWO, OPENING,
+    BLOCKS, CLOSING, DOCUMENTS_IN_TWO_PARTS, DOCUMENTS_IN_TWO_PARTS_PACKED, ONE_LIST_PACKED,
+    ONE_LIST_WORDS, ONE_LIST_WORDS_OF_TWO, OPENING, TEN_LISTS_PACKED, THREE_LISTS_PACKED,
     THREE_LISTS_WORDS, THREE_LISTS_WORDS_OF_TWO, bytes_of, only_index, steady_run,
 };
 use std::alloc::Global;
@@ -15,8 +16,26 @@ const SIDE_OF_ONE: &[u64] = &[SIDE_OPENING, 1, 5, 1, SIDE_CLOSING];
 
 const SIDE_OF_THREE: &[u64] = &[SIDE_OPENING, 1, 1, 3, 2, SIDE_CLOSING];
 
+// The side file of ten lists of one posting, which is longer than their packed file.
+pub(crate) const SIDE_OF_TEN: &[u64] = &[
+    SIDE_OPENING,
+    1,
+    1,
+    1,
+    1,
+    1,
+    1,
+    1,
+    1,
+    1,
+    1,
+    1,
+    10,
+    SIDE_CLOSING,
+];
+
 // The words of indexes, and of their side files. A list in two parts has two blocks; an empty one has none.
-const SIDES: [(&[u64], &[u64]); 6] = [
+const SIDES: [(&[u64], &[u64]); 10] = [
     (
         &[OPENING, 1, 0, 0, 2, CLOSING],
         &[SIDE_OPENING, 1, 0, SIDE_CLOSING],
@@ -29,6 +48,13 @@ const SIDES: [(&[u64], &[u64]); 6] = [
     ),
     (&THREE_LISTS_WORDS, SIDE_OF_THREE),
     (&THREE_LISTS_WORDS_OF_TWO, SIDE_OF_THREE),
+    (&ONE_LIST_PACKED, SIDE_OF_ONE),
+    (&THREE_LISTS_PACKED, SIDE_OF_THREE),
+    (
+        &DOCUMENTS_IN_TWO_PARTS_PACKED,
+        &[SIDE_OPENING, 1, 1, 5, 2, SIDE_CLOSING],
+    ),
+    (&TEN_LISTS_PACKED, SIDE_OF_TEN),
 ];
 
 // Whether a run of these words over an index makes the file `z` of these words, and changes nothing else.

@@ -5,6 +5,7 @@ use Rattle.collection_model.specs.Collection.{Posting, postings_of}
 use Rattle.part_cost.specs.Formats.{numbers_of}
 use Rattle.index_file.specs.FileWords.{CutList}
 use Rattle.index_file.specs.Builder.{StandsFor, IsNearCut, AddsList}
+use Rattle.index_file.proofs.NearStored.{docs-partition, freqs-partition}
 use Rattle.worked_files.proofs.SomePart.{parts-some}
 use Rattle.worked_files.proofs.built.counted_list.Goals as goal
 
@@ -16,4 +17,4 @@ returns-clause-counted g c =
     let added = adds.2 [] stands in
     let cut : CutList = record { list = list; parts = added.0 } in
     let near : IsNearCut (numbers_of c.add_list.new.self.format) cut = All-head (IsNearCut (numbers_of c.add_list.new.self.format)) cut [] added.1.near in
-    omega (arith, added.2, parts-some 2 added.0.doc_ends near.docs.allowed.partition (omega arith), parts-some 2 added.0.freq_ends near.freqs.allowed.partition (omega arith))
+    omega (arith, added.2, parts-some 2 added.0.doc_ends (docs-partition (numbers_of c.add_list.new.self.format) cut near) (omega arith), parts-some 2 added.0.freq_ends (freqs-partition (numbers_of c.add_list.new.self.format) cut near) (omega arith))
