@@ -6,8 +6,8 @@ _pefidx() {
     local previous=${COMP_WORDS[COMP_CWORD - 1]} place=$((COMP_CWORD - 1))
     COMPREPLY=()
     if ((COMP_CWORD == 1)); then
-        mapfile -t COMPREPLY < <(compgen -W 'build query answer inspect audit migrate
-            blocks bquery segments remap generate' -- "$word")
+        mapfile -t COMPREPLY < <(compgen -W 'pack build query answer inspect audit repack
+            migrate export blocks bquery segments remap generate' -- "$word")
         return
     fi
     # Options and their values; place 1 is the word behind the verb.
@@ -30,9 +30,9 @@ _pefidx() {
             [[ $word == -* || ${COMP_WORDS[COMP_CWORD - 2]} == --plan ]] && return ;;
     esac
     case $verb:$place in
-        build:1 | answer:1 | remap:1) _pefidx_bases "$word" ;;
-        build:2 | query:1 | inspect:1 | audit:1 | migrate:[12] | blocks:[12] | \
-            bquery:[12] | remap:[23] | segments:*)
+        pack:1 | build:1 | answer:1 | remap:1) _pefidx_bases "$word" ;;
+        pack:2 | build:2 | query:1 | inspect:1 | audit:1 | repack:[12] | migrate:[12] | \
+            export:[12] | blocks:[12] | bquery:[12] | remap:[23] | segments:*)
             compopt -o filenames 2> /dev/null
             mapfile -t COMPREPLY < <(compgen -f -- "$word") ;;
     esac
