@@ -25,7 +25,11 @@ impl<'a> Model for Fields<'a> {
 
     ghost Value = { FieldRow };
 
-    ghost view = { λ f. record { bits = bits_of f.words.now; at = 64 * f.next - f.left; width = f.width } };
+    ghost view = { λ f. record {
+      bits = bits_of f.words.now;
+      at = 64 * f.next - f.left;
+      width = f.width;
+    } };
 
     ghost invariant = { λ f. IsTaken f.words.now f.width f.mask f.next f.rest f.left };
 }

@@ -29,9 +29,11 @@ impl Model for Windows {
 
     ghost Value = { model.Windows };
 
-    ghost view = { λ w. model.windows_by (window_bounds w.format) w.place w.positions.items w.costs.items };
+    ghost view = { λ w. model.windows_by (window_bounds w.format) w.place w.positions.items
+        w.costs.items };
 
-    ghost invariant = { λ w. model.AreWindows (model.windows_by (window_bounds w.format) w.place w.positions.items w.costs.items)
+    ghost invariant = { λ w. model.AreWindows
+        (model.windows_by (window_bounds w.format) w.place w.positions.items w.costs.items)
         × (length w.costs.items ≡ length w.positions.items) };
 }
 

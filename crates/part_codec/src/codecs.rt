@@ -194,11 +194,12 @@ impl<'a> PartCodec<'a> for PartView<'a> {
         }
     }
 
-    ghost relative = { λ v ys. elim v.form as (λ w. HoldsIn w ys → AreRelative (universe_in w) (count_in w) ys) [
-      | Ones o ↦ λ h. subst (AreRelative o.u o.u) (sym h) (relative-range o.u o.some)
-      | Bitmap b ↦ λ h. h.values
-      | Ef e ↦ λ h. h.values
-    ] };
+    ghost relative = { λ v ys. elim v.form as (λ w. HoldsIn w ys
+        → AreRelative (universe_in w) (count_in w) ys) [
+          | Ones o ↦ λ h. subst (AreRelative o.u o.u) (sym h) (relative-range o.u o.some)
+          | Bitmap b ↦ λ h. h.values
+          | Ef e ↦ λ h. h.values
+        ] };
 
     ghost one_list = { λ v xs ys. elim v.form as (λ w. HoldsIn w xs → HoldsIn w ys → xs ≡ ys) [
       | Ones o ↦ λ h k. h ∙ sym k

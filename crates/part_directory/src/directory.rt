@@ -33,11 +33,19 @@ pub struct Directory<'a> {
     pub alone: Option<Alone>,
     ghost lent: { length words.now < 2 ^ 57 },
     ghost few_words: { length (words_begun (numbers_of format) words.now m alone) < 2 ^ 57 },
-    ghost stated: { StatesParts (numbers_of format) (words_begun (numbers_of format) words.now m alone) parts (sequence_stated (numbers_of format) (words_begun (numbers_of format) words.now m alone) parts) },
-    ghost count: { m ≡ length (sequence_stated (numbers_of format) (words_begun (numbers_of format) words.now m alone) parts).values },
-    ghost few: { length (sequence_stated (numbers_of format) (words_begun (numbers_of format) words.now m alone) parts).values < 2 ^ 32 },
+    ghost stated: { StatesParts (numbers_of format)
+        (words_begun (numbers_of format) words.now m alone) parts
+        (sequence_stated (numbers_of format) (words_begun (numbers_of format) words.now m alone)
+        parts) },
+    ghost count: { m ≡ length
+        (sequence_stated (numbers_of format) (words_begun (numbers_of format) words.now m alone)
+        parts).values },
+    ghost few: { length (sequence_stated (numbers_of format)
+        (words_begun (numbers_of format) words.now m alone) parts).values < 2 ^ 32 },
     ghost few_parts: { parts ≤ m },
-    ghost rising: { IsStrictlyIncreasing (lasts_stated (numbers_of format) (words_begun (numbers_of format) words.now m alone) parts) },
+    ghost rising: { IsStrictlyIncreasing
+        (lasts_stated (numbers_of format) (words_begun (numbers_of format) words.now m alone)
+        parts) },
     ghost stands: { ForSome alone (λ a. StandsAlone (numbers_of format) words.now m parts a) },
 }
 
@@ -51,7 +59,8 @@ struct EntriesInWords<'d, 'a> {
 impl<'d, 'a> Lasts for EntriesInWords<'d, 'a> {
     ghost use Rattle.part_directory.specs.DirectorySequence.{words_of};
 
-    ghost lasts = { λ e. lasts_stated (numbers_of e.directory.now.format) (words_of e.directory.now) e.directory.now.parts };
+    ghost lasts = { λ e. lasts_stated (numbers_of e.directory.now.format)
+        (words_of e.directory.now) e.directory.now.parts };
 
     fn parts(&self) -> u32 {
         self.directory.parts

@@ -23,7 +23,12 @@ impl Model for MemSource {
 
     ghost Value = { SourceInMemory };
 
-    ghost view = { λ s. record { state = record s.source.state { faults = s.faults }; most = s.source.most; fails = s.fails.items; calls = s.source.calls } };
+    ghost view = { λ s. record {
+      state = record s.source.state { faults = s.faults };
+      most = s.source.most;
+      fails = s.fails.items;
+      calls = s.source.calls;
+    } };
 }
 
 impl MemSource {
@@ -84,7 +89,12 @@ impl Model for MemSink {
 
     ghost Value = { SinkInMemory };
 
-    ghost view = { λ s. record { state = record s.sink.state { faults = s.faults }; most = s.sink.most; fails = s.fails.items; calls = s.sink.calls } };
+    ghost view = { λ s. record {
+      state = record s.sink.state { faults = s.faults };
+      most = s.sink.most;
+      fails = s.fails.items;
+      calls = s.sink.calls;
+    } };
 }
 
 impl MemSink {

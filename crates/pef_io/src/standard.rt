@@ -240,7 +240,20 @@ fn open_file<R: Files>(rt: &R, known: &mut Started, name: &str) -> io::Result<R:
 impl<R: Files + AllocGlobal> Depot for StdDepot<R> {
     ghost use Rattle.pef_io.specs.Created.{file_of};
 
-    ghost state = { λ d. record { tells = false; file = λ _. None; left = λ _. []; name = []; started = λ slot. is_some (at_slot d.opened slot); created = is_some d.created; faults = λ slot. at_slot d.faults slot; writing_faults = d.writing_faults; create_faults = d.create_faults; finish_faults = d.finish_faults; starts = λ slot. record { count = at_slot d.starts slot; told = false; names = [] }; refusals = d.refusals } };
+    ghost state = { λ d. record {
+      tells = false;
+      file = λ _. None;
+      left = λ _. [];
+      name = [];
+      started = λ slot. is_some (at_slot d.opened slot);
+      created = is_some d.created;
+      faults = λ slot. at_slot d.faults slot;
+      writing_faults = d.writing_faults;
+      create_faults = d.create_faults;
+      finish_faults = d.finish_faults;
+      starts = λ slot. record { count = at_slot d.starts slot; told = false; names = [] };
+      refusals = d.refusals;
+    } };
 
     fn start(&mut self, slot: Slot, name: &str) -> Result<(), IoFail> {
         self.starts.raise(slot);

@@ -25,7 +25,12 @@ impl Model for SteadySource {
 
     ghost Value = { SourceInMemory };
 
-    ghost view = { λ s. record { state = record { tells = true; left = rest s.opened; faults = 0 }; most = s.most; fails = []; calls = s.calls } };
+    ghost view = { λ s. record {
+      state = record { tells = true; left = rest s.opened; faults = 0 };
+      most = s.most;
+      fails = [];
+      calls = s.calls;
+    } };
 
     ghost invariant = { λ s. 1 ≤ s.most };
 }
@@ -90,7 +95,17 @@ impl Model for SteadySink {
 
     ghost Value = { SinkInMemory };
 
-    ghost view = { λ s. record { state = record { tells = true; written = s.bytes.items; faults = 0; refusals = s.refusals }; most = s.most; fails = []; calls = s.calls } };
+    ghost view = { λ s. record {
+      state = record {
+        tells = true;
+        written = s.bytes.items;
+        faults = 0;
+        refusals = s.refusals;
+      };
+      most = s.most;
+      fails = [];
+      calls = s.calls;
+    } };
 
     ghost invariant = { λ s. 1 ≤ s.most };
 }

@@ -23,7 +23,11 @@ impl Model for Gen {
 
     ghost Value = { Generator };
 
-    ghost view = { λ g. record { documents = g.documents; state = g.state; lists = lists_drawn g.documents g.next g.state (g.terms - g.next) } };
+    ghost view = { λ g. record {
+      documents = g.documents;
+      state = g.state;
+      lists = lists_drawn g.documents g.next g.state (g.terms - g.next);
+    } };
 
     ghost invariant = { λ g. g.next ≤ g.terms };
 }
@@ -54,7 +58,9 @@ impl Gen {
             ≡ state_behind self.old.state (1 + length docs.new.items) }
         // Every format holds it in which eight occurrences in each document are not too many.
         ensures posting_list { result ≡ Ok true
-            → (format : FormatNumbers) → 8 * self.old.documents ≤ format.most_sum → IsPostingList format self.old.documents (postings_of docs.new.items freqs.new.items) }
+            → (format : FormatNumbers) → 8 * self.old.documents ≤ format.most_sum
+            → IsPostingList format self.old.documents
+            (postings_of docs.new.items freqs.new.items) }
         ensures ended { result ≡ Ok false → self.old.lists ≡ [] }
         ensures unchanged { result ≢ Ok true → self.new ≡ self.old }
         ensures no_list { result ≢ Ok true → (docs.new.items ≡ []) × (freqs.new.items ≡ []) }
@@ -76,7 +82,9 @@ impl Gen {
         ensures state { result ≡ Ok true → self.new.state
             ≡ state_behind self.old.state (1 + length docs.new.items) }
         ensures posting_list { result ≡ Ok true
-            → (format : FormatNumbers) → 8 * self.old.documents ≤ format.most_sum → IsPostingList format self.old.documents (postings_of docs.new.items freqs.new.items) }
+            → (format : FormatNumbers) → 8 * self.old.documents ≤ format.most_sum
+            → IsPostingList format self.old.documents
+            (postings_of docs.new.items freqs.new.items) }
         ensures ended { result ≡ Ok false → self.old.lists ≡ [] }
         ensures unchanged { result ≢ Ok true → self.new ≡ self.old }
     {

@@ -58,7 +58,8 @@ fn leading_number(text: &[u8]) -> Option<(u32, usize)>
 pub(crate) fn next_number(text: &[u8]) -> Option<(u32, &[u8])>
     ensures first { MatchOption result
         ((numbers_of (fields text.now) ≡ Some []) ⊎ (numbers_of (fields text.now) ≡ None))
-        (λ cut. numbers_of (fields text.now) ≡ field_before (Some cut.0) (numbers_of (fields cut.1.now))) }
+        (λ cut. numbers_of (fields text.now)
+        ≡ field_before (Some cut.0) (numbers_of (fields cut.1.now))) }
     ensures shorter { IfSome result (λ cut. length cut.1.now < length text.now) }
 {
     let text = &text[leading_spaces(text)..];

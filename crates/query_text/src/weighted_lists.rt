@@ -49,7 +49,8 @@ fn weighted(field: &[u8]) -> Option<(u32, u32)>
 fn next_weighted(text: &[u8]) -> Option<((u32, u32), &[u8])>
     ensures first { MatchOption result
         ((weighted_fields (fields text.now) ≡ Some []) ⊎ (weighted_fields (fields text.now) ≡ None))
-        (λ cut. weighted_fields (fields text.now) ≡ field_before (Some cut.0) (weighted_fields (fields cut.1.now))) }
+        (λ cut. weighted_fields (fields text.now)
+        ≡ field_before (Some cut.0) (weighted_fields (fields cut.1.now))) }
     ensures shorter { IfSome result (λ cut. length cut.1.now < length text.now) }
 {
     let (field, rest) = next_field(text)?;

@@ -25,7 +25,8 @@ impl Model for Weighted {
     ghost use Rattle.std.specs.Prelude.{◌≡◌, length};
     ghost use Rattle.query_text.specs.Weights.{AreWeights};
 
-    ghost invariant = { λ w. (length w.weights.items ≡ length w.terms) × AreWeights w.weights.items };
+    ghost invariant = { λ w. (length w.weights.items ≡ length w.terms)
+        × AreWeights w.weights.items };
 }
 
 impl Weighted {

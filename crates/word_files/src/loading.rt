@@ -93,7 +93,8 @@ fn read_file<D: Depot>(
     depot: &mut D,
 ) -> Result<Vec<u64>, LoadWordsError>
     requires { IsTrue ((D.state depot.old).started slot) }
-    ensures { ReadsKept openings.now slot (D.state depot.old) (D.state depot.new) (words_loaded result) }
+    ensures { ReadsKept openings.now slot (D.state depot.old) (D.state depot.new)
+        (words_loaded result) }
 {
     let mut piece = room_for_a_piece(alloc)?;
     let mut words = Vec::new(alloc);
