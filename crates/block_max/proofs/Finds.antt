@@ -69,7 +69,7 @@ lasts-le : (cs : List BlockList) (t j k : ℕ) → All IsBlockList cs → t < le
 lasts-le cs t j k all term le within =
     let c : BlockList = nth_list cs t in
     let bs : List Block = blocks_of c in
-    let are : AreBlocks c.list bs = side_blocks cs t c.list all term refl in
+    let are : AreBlocks c.list bs = side_blocks cs t c.list all refl in
     let n = blocks-length c.list 0 c.ends in
     let l = length-map bs (λ (b : Block). b.last) in
     elim (cases_lt j k) as (λ _. (nth_block cs t j).last ≤ (nth_block cs t k).last) [

@@ -1,9 +1,10 @@
 -- The blocks of a list that is cut are blocks of it.
-use Rattle.std.proofs.Common.{◌≡◌, refl, sym, ap, inl, inr, ◌∙◌, subst, ℕ, zero, suc, ◌+◌, ◌-◌, ◌<◌, ◌≤◌, Bool, true, false, cond, leb, List, [], ◌∷◌, map, take, drop, length, get_or, Some, IsSomeAnd, arith, length-drop, Contains}
+use Rattle.std.proofs.Common.{◌≡◌, refl, sym, ap, inl, inr, ◌∙◌, subst, ℕ, zero, suc, ◌+◌, ◌-◌, ◌<◌, ◌≤◌, Bool, true, false, cond, leb, List, [], ◌∷◌, map, take, drop, length, get_or, Option, Some, None, IsSomeAnd, arith, length-drop, Contains}
+use Rattle.std.specs.Option.{option_map_or}
 use Rattle.std.specs.List.{All}
 use Rattle.std.specs.List.Sorted.{IsStrictlyIncreasing}
 use Rattle.std.proofs.lemmas.Bool.{cases_lt, le-leb, lt-leb}
-use Rattle.std.proofs.lemmas.List.{length-map, length-take, get_or-take, get_or-drop, get_or-map, get_or_default}
+use Rattle.std.proofs.lemmas.List.{length-map, length-take, get_or-take, get_or-drop, get_or-map, get_or_default, get_or_past}
 use Rattle.std.proofs.lemmas.List.Elements.{All-cons, All-nil, Contains-get_or}
 use Rattle.std.proofs.lemmas.List.Kept.{AllPairs-from_increasing}
 use Rattle.collection_model.specs.Collection.{Posting, docs_of, freqs_of, greatest, greatest_freq}
@@ -133,6 +134,26 @@ cut-blocks c is = record {
       subst (λ (p : Posting). IsSomeAnd (block_from (blocks_of c) p.doc) (λ b. p.freq ≤ b.greatest)) (sym same) (covered-from c.list is.cursor_list.rising 0 c.ends is.partition k (omega arith) within);
 }
 
+-- the blocks of an empty list
+no-blocks : AreBlocks [] []
+no-blocks = record {
+  rising = λ i lt. absurd (omega (arith, lt));
+  lasts = All-nil (λ b. Contains (docs_of []) b.last);
+  covered = All-nil (λ p. IsSomeAnd (block_from [] p.doc) (λ b. p.freq ≤ b.greatest));
+}
+
+-- the blocks of list t of some lists, those of the empty list behind them
+nth-blocks : (cs : List BlockList) (t : ℕ) → All IsBlockList cs → AreBlocks (nth_list cs t).list (blocks_of (nth_list cs t))
+nth-blocks cs t all = elim (cases_lt t (length cs)) as (λ _. AreBlocks (nth_list cs t).list (blocks_of (nth_list cs t))) [
+  | inl lt ↦ cut-blocks (nth_list cs t) (all t (record { list = []; ends = [] }) lt)
+  | inr ge ↦ rw (get_or_past cs t (record { list = []; ends = [] }) ge) no-blocks
+]
+
 -- the blocks of list t of a source, of which a cursor has the list
-pub side_blocks : (cs : List BlockList) (t : ℕ) (list : List Posting) → All IsBlockList cs → t < length cs → list ≡ (nth_list cs t).list → AreBlocks list (blocks_of (nth_list cs t))
-side_blocks cs t list all within same = subst (λ (l : List Posting). AreBlocks l (blocks_of (nth_list cs t))) (sym same) (cut-blocks (nth_list cs t) (all t (record { list = []; ends = [] }) within))
+pub side_blocks : (cs : List BlockList) (t : ℕ) (list : List Posting) → All IsBlockList cs → list ≡ (nth_list cs t).list → AreBlocks list (blocks_of (nth_list cs t))
+side_blocks cs t list all same = subst (λ (l : List Posting). AreBlocks l (blocks_of (nth_list cs t))) (sym same) (nth-blocks cs t all)
+
+-- the lists of a source, and none where there is no source, are cut
+pub all-cut : {S : Type 0} (lists : S → List BlockList) → ((s : S) → All IsBlockList (lists s)) → (source : Option S) → All IsBlockList (option_map_or lists source [])
+all-cut lists cut None = All-nil IsBlockList
+all-cut lists cut (Some s) = cut s

@@ -1,12 +1,15 @@
-ghost use Rattle.std.specs.Prelude.{◌≡◌, ◌-◌, ◌<◌, ◌≤◌, nat_le, List, length, option_map};
+ghost use Rattle.std.specs.Prelude.{◌≡◌, ◌-◌, ◌<◌, ◌≤◌, nat_le, List, [], length, option_map};
+ghost use Rattle.std.specs.Option.{ForSome, option_map_or};
 ghost use Rattle.std.specs.List.{position_or_len};
 ghost use Rattle.block_max.specs.Blocks.{Block, AreBlocks, block_from, blocks_of, nth_block, nth_list};
-ghost use Rattle.block_max.specs.Cut.{side_blocks};
+ghost use Rattle.block_max.specs.Cut.{all-cut, side_blocks};
 ghost use Rattle.block_max.specs.SideWords.{side_words, words_seen};
 
 use crate::side::Side;
 use crate::source::BlockSource;
-use cursor_api::DocCursor;
+use cursor_api::{BlankCursor, DocCursor};
+use std::alloc::Global;
+use std::default::MadeWith;
 
 /// A cursor over a list that is cut into blocks.
 pub trait BlockCursor: DocCursor {
@@ -25,12 +28,14 @@ pub trait BlockCursor: DocCursor {
 #[derive(Drop)]
 pub struct SideCursor<'a, C: DocCursor, S: BlockSource> {
     cursor: C,
-    source: &'a S,
+    // None only where the list is empty.
+    source: Option<&'a S>,
     side: Side<'a>,
     term: u32,
-    ghost within: { term < length (S.lists source.now) },
-    ghost of_source: { C.list cursor ≡ (nth_list (S.lists source.now) term).list },
-    ghost of_side: { words_seen side ≡ side_words (S.lists source.now) },
+    ghost within: { ForSome source (λ s. term < length (S.lists s.now)) },
+    ghost of_source: { C.list cursor
+        ≡ (nth_list (option_map_or (λ s. S.lists s.now) source []) term).list },
+    ghost of_side: { ForSome source (λ s. words_seen side ≡ side_words (S.lists s.now)) },
 }
 
 impl<'a, C: DocCursor, S: BlockSource> SideCursor<'a, C, S> {
@@ -46,10 +51,42 @@ impl<'a, C: DocCursor, S: BlockSource> SideCursor<'a, C, S> {
     {
         SideCursor {
             cursor,
-            source,
+            source: Some(source),
             side,
             term: t,
         }
+    }
+}
+
+/// A blank: a cursor over an empty list, without a source.
+impl<'a, C: BlankCursor, S: BlockSource> MadeWith<Global> for SideCursor<'a, C, S> {
+    ghost is_made_with = { λ c. C.list c.cursor ≡ [] };
+
+    fn made_with(alloc: Global) -> SideCursor<'a, C, S> {
+        SideCursor {
+            cursor: C::made_with(alloc),
+            source: None,
+            side: Side::of_nothing(),
+            term: 0,
+        }
+    }
+}
+
+// The last document and the greatest frequency of the first block of list `t` whose last document is at least `doc`.
+fn block_in<S: BlockSource>(source: &S, side: Side<'_>, t: u32, doc: u32) -> Option<(u32, u32)>
+    requires within { t < length (S.lists source.now) }
+    requires of_side { words_seen side ≡ side_words (S.lists source.now) }
+    ensures { result ≡ option_map (λ b. (b.last, b.greatest))
+        (block_from (blocks_of (nth_list (S.lists source.now) t)) doc) }
+{
+    let blocks = source.blocks(t);
+    let block = blocks_below(source, t, blocks, doc);
+    if block < blocks {
+        let last = source.last(t, block);
+        let before = source.blocks_before(t);
+        Some((last, side.greatest(before, block)))
+    } else {
+        None
     }
 }
 
@@ -145,19 +182,16 @@ impl<'a, C: DocCursor, S: BlockSource> DocCursor for SideCursor<'a, C, S> {
 }
 
 impl<'a, C: DocCursor, S: BlockSource> BlockCursor for SideCursor<'a, C, S> {
-    ghost blocks = { λ c. blocks_of (nth_list (S.lists c.source.now) c.term) };
+    ghost blocks = { λ c. blocks_of (nth_list
+        (option_map_or (λ s. S.lists s.now) c.source []) c.term) };
 
     fn block_at(&self, doc: u32) -> Option<(u32, u32)> {
-        let blocks = self.source.blocks(self.term);
-        let block = blocks_below(self.source, self.term, blocks, doc);
-        if block < blocks {
-            let last = self.source.last(self.term, block);
-            let before = self.source.blocks_before(self.term);
-            Some((last, self.side.greatest(before, block)))
-        } else {
-            None
+        match self.source {
+            Some(source) => block_in(source, self.side, self.term, doc),
+            None => None,
         }
     }
 
-    ghost are_blocks = { λ c. side_blocks (S.lists c.source.now) c.term (C.list c.cursor) (S.cut c.source.now) c.within c.of_source };
+    ghost are_blocks = { λ c. side_blocks (option_map_or (λ s. S.lists s.now) c.source []) c.term
+        (C.list c.cursor) (all-cut (λ s. S.lists s.now) (λ s. S.cut s.now) c.source) c.of_source };
 }

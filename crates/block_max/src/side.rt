@@ -1,4 +1,4 @@
-ghost use Rattle.std.specs.Prelude.{◌≡◌, ◌≢◌, ℕ, ◌+◌, ◌^◌, ◌<◌, ◌≤◌, ◌++◌, List, map, length, slice_index, IfOk, IfErr, IfSome, IfNone, OnOk};
+ghost use Rattle.std.specs.Prelude.{◌≡◌, ◌≢◌, ℕ, ◌+◌, ◌^◌, ◌<◌, ◌≤◌, ◌++◌, List, [], map, length, slice_index, IfOk, IfErr, IfSome, IfNone, OnOk};
 ghost use Rattle.block_max.specs.Blocks.{BlockList, blocks_before, blocks_of, nth_list};
 ghost use Rattle.block_max.specs.SideWords.{block_freqs, side_words, words_seen};
 ghost use Rattle.block_max.specs.SideFaults.{HasFrame, IsFirstSideFault, IsFirstWrong, IsFirstWrongOf, AreRight, AllRight};
@@ -72,6 +72,13 @@ impl<'a> Side<'a> {
             }),
             None => Ok(Side { words }),
         }
+    }
+
+    // The side file of no words.
+    pub(crate) fn of_nothing() -> Side<'a>
+        ensures { words_seen result ≡ [] }
+    {
+        Side { words: &[] }
     }
 
     /// The side file that the words are, where it is known that `view` accepts them: nothing is looked at.

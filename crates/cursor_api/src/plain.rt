@@ -97,7 +97,8 @@ impl<'a> DocCursor for PlainCursor<'a> {
         self.docs.len() as u32
     }
 
-    ghost well_formed = { λ c. postings-stand_at c.docs.now c.freqs.now c.at c.same_length c.lent c.within };
+    ghost well_formed = { λ c. postings-stand_at c.docs.now c.freqs.now c.at c.same_length c.lent
+        c.within };
 }
 
 // How many of the first documents are below `d`: a reach that doubles until it passes them, and a search by halves inside it.

@@ -1,4 +1,4 @@
-ghost use Rattle.std.specs.Prelude.{◌≡◌, ℕ, ◌+◌, ◌≤◌, ◌<◌, List, length, slice_index};
+ghost use Rattle.std.specs.Prelude.{◌≡◌, ℕ, ◌+◌, ◌≤◌, ◌<◌, List, [], length, slice_index};
 ghost use Rattle.collection_model.specs.Collection.{greatest_freq};
 ghost use Rattle.collection_model.specs.NextBelow.{AreNextBelow};
 ghost use Rattle.collection_model.specs.Sequences.{steps_from, postings_in};
@@ -7,7 +7,10 @@ ghost use Rattle.cursor_api.specs.NextGeq.{IsCursorList, IsCursorAt};
 ghost use Rattle.postings.specs.Blocks.{AreSumsFrom};
 
 use crate::sums::Sums;
-use cursor_api::DocCursor;
+use cursor_api::{BlankCursor, DocCursor};
+use part_cost::Format;
+use std::alloc::Global;
+use std::default::MadeWith;
 use two_level::{SeqCursor, SeqView};
 
 /// A cursor over the two sequences of a list: its documents, and the sums of its frequencies. Only the documents are read while it
@@ -122,6 +125,19 @@ impl<'a> PostingCursor<'a> {
     }
 }
 
+/// A blank: a cursor over no words, whose list is empty.
+impl<'a> MadeWith<Global> for PostingCursor<'a> {
+    ghost is_made_with = { λ c. postings_in c.docs.sequence.values c.sums.sequence.values ≡ [] };
+
+    fn made_with(_alloc: Global) -> PostingCursor<'a> {
+        PostingCursor::new(
+            SeqView::without_values(Format::One),
+            SeqView::without_values(Format::One),
+            0,
+        )
+    }
+}
+
 impl<'a> DocCursor for PostingCursor<'a> {
     ghost list = { λ c. postings_in c.docs.sequence.values c.sums.sequence.values };
 
@@ -184,4 +200,8 @@ impl<'a> DocCursor for PostingCursor<'a> {
     }
 
     ghost well_formed = { λ c. c.cursor };
+}
+
+impl<'a> BlankCursor for PostingCursor<'a> {
+    ghost empty = { λ c is. is };
 }

@@ -28,8 +28,10 @@ pub fn write_postings(
     requires doc_parts { IsPartition (length docs.now) doc_ends.now }
     requires freq_parts { IsPartition (length freqs.now) freq_ends.now }
     ensures ok { OnOk result (to.new.items ≡ to.old.items
-        ++ sequence_words (numbers_of format) (doc_sequence (postings_of docs.now freqs.now)) doc_ends.now
-        ++ sequence_words (numbers_of format) (freq_sequence (postings_of docs.now freqs.now)) freq_ends.now) }
+        ++ sequence_words (numbers_of format) (doc_sequence (postings_of docs.now freqs.now))
+        doc_ends.now
+        ++ sequence_words (numbers_of format) (freq_sequence (postings_of docs.now freqs.now))
+        freq_ends.now) }
     ensures err { OnErr result (to.new.items ≡ to.old.items) }
 {
     let values = doc_values(alloc, docs)?;

@@ -1,4 +1,4 @@
-ghost use Rattle.std.specs.Prelude.{◌≡◌, length};
+ghost use Rattle.std.specs.Prelude.{◌≡◌, [], length};
 ghost use Rattle.std.specs.List.{All};
 ghost use Rattle.cursor_api.specs.NextGeq.{IsCursorList};
 ghost use Rattle.segments.specs.Joined.{joined_list, FollowInOrder};
@@ -9,7 +9,9 @@ use crate::part::part_doc;
 use crate::parts::{
     common_of, count_all, docs_from, greatest_of, postings_from, seek, seek_frequency, settled,
 };
-use cursor_api::DocCursor;
+use cursor_api::{BlankCursor, DocCursor};
+use std::alloc::Global;
+use std::default::MadeWith;
 
 /// A cursor over the lists of segments as one list: they stand one after the other, and the documents of each are counted on from the
 /// first document of its segment. No call takes memory.
@@ -42,10 +44,20 @@ impl<C: DocCursor> JoinedCursor<C> {
     }
 }
 
+/// A blank: a cursor over no parts, whose list is empty.
+impl<C: DocCursor> MadeWith<Global> for JoinedCursor<C> {
+    ghost is_made_with = { λ c. joined_list (parts_of C.list c.parts.items) ≡ [] };
+
+    fn made_with(alloc: Global) -> JoinedCursor<C> {
+        JoinedCursor::new(Vec::new(alloc))
+    }
+}
+
 impl<C: DocCursor> DocCursor for JoinedCursor<C> {
     ghost list = { λ c. joined_list (parts_of C.list c.parts.items) };
 
-    ghost place = { λ c. joined_place (parts_of C.list c.parts.items) (places_of C.place c.parts.items) c.at };
+    ghost place = { λ c. joined_place (parts_of C.list c.parts.items)
+        (places_of C.place c.parts.items) c.at };
 
     fn doc(&self) -> Option<u32> {
         part_doc(self.parts.get(self.at)?)
@@ -94,4 +106,8 @@ impl<C: DocCursor> DocCursor for JoinedCursor<C> {
     }
 
     ghost well_formed = { λ c. joined-cursor C.list C.place c.parts.items c.at c.listed c.stands };
+}
+
+impl<C: DocCursor> BlankCursor for JoinedCursor<C> {
+    ghost empty = { λ c is. is };
 }

@@ -27,10 +27,12 @@ impl<'a> Model for SeqCursor<'a> {
 
     ghost Value = { SequencePlace };
 
-    ghost view = { λ c. let v = sequence_of c.directory in record { sequence = v; place = place_at_least v.values c.counted c.value } };
+    ghost view = { λ c. let v = sequence_of c.directory
+        in record { sequence = v; place = place_at_least v.values c.counted c.value } };
 
     ghost invariant = { λ c. let d = c.directory in
-        LiesIn (numbers_of d.format) (words_of d) d.parts c.counted c.held c.known × StandsBehind c.held (sequence_of d).values c.counted c.value };
+        LiesIn (numbers_of d.format) (words_of d) d.parts c.counted c.held c.known
+        × StandsBehind c.held (sequence_of d).values c.counted c.value };
 }
 
 impl<'a> SeqCursor<'a> {

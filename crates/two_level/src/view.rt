@@ -211,6 +211,13 @@ impl<'a> SeqView<'a> {
         }
     }
 
+    /// A sequence without values, over no words.
+    pub fn without_values(format: Format) -> SeqView<'a>
+        ensures { result ≡ record { format = numbers_of format; values = []; ends = [] } }
+    {
+        SeqView::known(&[], 0, 0, format)
+    }
+
     /// The sequence of m values whose one part stands alone in lent words: its bits begin at a place
     /// that is counted in bits, no entry stands before them, and its last value is known from
     /// elsewhere. The bits of one value alone are not read, and need not be there.
