@@ -22,6 +22,14 @@ const WORDS_AT_ONCE: usize = 64;
 // How many documents lie between two tries to tell words, at least.
 const UNTRIED: u32 = 256;
 
+// Words of marks in which documents are told at once.
+#[derive(Drop)]
+struct ToldWords {
+    marks: [u64; WORDS_AT_ONCE],
+    // The first document from which words are tried again.
+    next_try: u32,
+}
+
 /// The documents that are in all the lists, rising; none where there is no list. It goes along the shortest list, whose documents
 /// the others are asked for by `next_geq`, or by whole words of marks, and leaves the cursors in the order of their lists' lengths.
 pub fn and_docs<C: DocCursor>(alloc: Global, cursors: &mut [C]) -> Result<Vec<u32>, NoMemory>
@@ -51,8 +59,10 @@ fn shared_docs<C: DocCursor>(
 {
     next_geq_is_first();
     let mut docs = Vec::with_capacity(alloc, FIRST_ROOM.min(shortest.len() as usize))?;
-    let mut marks = [u64::MAX; WORDS_AT_ONCE];
-    let mut next_try = 0;
+    let mut told = ToldWords {
+        marks: [u64::MAX; WORDS_AT_ONCE],
+        next_try: 0,
+    };
     while let Some(doc) = shortest.doc() {
         let Some(next) = catch_up(others, doc) else {
             return Ok(docs);
@@ -61,7 +71,7 @@ fn shared_docs<C: DocCursor>(
             shortest.next_geq(next);
             continue;
         }
-        let words = append_words(&mut docs, doc, shortest, others, &mut marks, &mut next_try)?;
+        let words = append_words(&mut docs, doc, shortest, others, &mut told)?;
         if words > 0 {
             shortest.next_geq(doc.saturating_add(64 * words as u32));
         } else {
@@ -79,28 +89,28 @@ fn append_words<C: DocCursor>(
     first: u32,
     shortest: &C,
     others: &[C],
-    marks: &mut [u64],
-    next_try: &mut u32,
+    told: &mut ToldWords,
 ) -> Result<usize, NoMemory>
-    requires small { length marks.old ≤ 1024 }
-    requires marked { AllAreMarked marks.old }
-    ensures within { IfOk result (λ words. words ≤ length marks.old) }
+    requires small { length told.old.marks ≤ 1024 }
+    requires marked { AllAreMarked told.old.marks }
+    ensures within { IfOk result (λ words. words ≤ length told.old.marks) }
     ensures docs { IfOk result (λ words. docs.old.items
         ≡ passing (λ d. in_each d (C.list shortest.now ∷ map C.list others.now)) first
         → docs.new.items ≡ passing (λ d. in_each d (C.list shortest.now ∷ map C.list others.now))
         (first + 64 * words)) }
-    ensures count { length marks.new ≡ length marks.old }
-    ensures marked { OnOk result (AllAreMarked marks.new) }
+    ensures count { length told.new.marks ≡ length told.old.marks }
+    ensures marked { OnOk result (AllAreMarked told.new.marks) }
 {
-    if first < *next_try {
+    if first < told.next_try {
         return Ok(0);
     }
-    *next_try = first.saturating_add(UNTRIED);
-    let told = shortest.keep_in_words(first, marks);
-    if told == 0 {
+    told.next_try = first.saturating_add(UNTRIED);
+    let marks = &mut told.marks;
+    let most = shortest.keep_in_words(first, marks);
+    if most == 0 {
         return Ok(0);
     }
-    let words = keep_in_all(others, first, told, marks);
+    let words = keep_in_all(others, first, most, marks);
     append_marked(docs, first, 64 * words, &mut marks[..words])?;
     mark_all(marks);
     Ok(words)

@@ -11,14 +11,14 @@ use Rattle.scan_plans.proofs.docs.append_words.Goals.{After-keep_in_all-words}
 kept : (g : given.Over) (c : After-keep_in_all-words g) → (k : ℕ) → k < 64 * c.keep_in_all-words.result
     → is_marked (take c.keep_in_all-words.result c.keep_in_all-words.new.marks) k ≡ in_each (c.args.first + k) (g.C.DocCursor.list c.args.shortest.now ∷ map g.C.DocCursor.list c.args.others.now)
 kept g c k inside =
-    let told = c.keep_in_words-told.ensures in
+    let told = c.keep_in_words-most.ensures in
     let all = c.keep_in_all-words.ensures in
-    told-in_all c.keep_in_all-words.result c.keep_in_all-words.new.marks c.keep_in_words-told.new.marks c.args.marks.now c.args.first (g.C.DocCursor.list c.args.shortest.now) (map g.C.DocCursor.list c.args.others.now) k inside
+    told-in_all c.keep_in_all-words.result c.keep_in_all-words.new.marks c.keep_in_words-most.new.marks c.args.told.now.marks c.args.first (g.C.DocCursor.list c.args.shortest.now) (map g.C.DocCursor.list c.args.others.now) k inside
     (c.requires.marked k (omega (arith, told.within, all.within))) (told.kept k (omega (arith, all.within))) (all.kept k inside)
 
 -- and they are so many
 long : (g : given.Over) (c : After-keep_in_all-words g) → length (take c.keep_in_all-words.result c.keep_in_all-words.new.marks) ≡ c.keep_in_all-words.result
-long g c = length-take-le c.keep_in_all-words.result c.keep_in_all-words.new.marks (omega (arith, c.keep_in_words-told.ensures.within, c.keep_in_words-told.ensures.count, c.keep_in_all-words.ensures.within, c.keep_in_all-words.ensures.count))
+long g c = length-take-le c.keep_in_all-words.result c.keep_in_all-words.new.marks (omega (arith, c.keep_in_words-most.ensures.within, c.keep_in_words-most.ensures.count, c.keep_in_all-words.ensures.within, c.keep_in_all-words.ensures.count))
 
 pub append_marked-requires-clause-fit : goal.append_marked-requires-clause-fit
 append_marked-requires-clause-fit g c k lt marked =

@@ -12,8 +12,8 @@ invariant-loop-doc g l = record {
   stand : StandsFrom low (g.C.DocCursor.list l.shortest) (g.C.DocCursor.place l.shortest);
   passed : All (λ c. HasPassed low (g.C.DocCursor.list c) (g.C.DocCursor.place c)) l.others;
   docs : l.docs.items ≡ filter (λ d. in_each d (g.C.DocCursor.list l.initial.shortest ∷ map g.C.DocCursor.list l.initial.others)) (range_with_len 0 low);
-  room : length l.marks ≡ 64;
-  marked : AllAreMarked l.marks;
+  room : length l.told.marks ≡ 64;
+  marked : AllAreMarked l.told.marks;
 }
 
 abbrev pub decreases-loop-doc : goal.decreases-loop-doc
