@@ -1,6 +1,8 @@
 pub mod GammaCodes
 pub mod GammaBack
 mod GammaReads
+mod WindowBits
+mod NearGammas
 mod SequenceWordsFit
 pub mod OneSequenceBits
 mod OneListBits
@@ -14,5 +16,6 @@ mod ListWritten
 mod LonePlaces
 pub mod PartedPlaces
 pub mod ListPlaces
-mod ListViews
+mod FlagAndField
+mod StatedList
 mod ShortLists

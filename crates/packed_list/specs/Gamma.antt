@@ -31,3 +31,8 @@ pub record IsGammaBefore (bits : List ℕ) (at end n : ℕ) : Type 0 where
   pub few : n < 2 ^ 32
   pub within : at + gamma_length n ≤ end
   pub stands : slice_range bits at (at + gamma_length n) ≡ gamma n
+
+-- The gamma codes of two such numbers stand there, one behind the other.
+pub record AreGammasBefore (bits : List ℕ) (at end n m : ℕ) : Type 0 where
+  pub first : IsGammaBefore bits at end n
+  pub second : IsGammaBefore bits (at + gamma_length n) end m

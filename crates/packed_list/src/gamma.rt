@@ -1,8 +1,9 @@
 ghost use Rattle.std.specs.Prelude.{◌≡◌, ℕ, ◌+◌, ◌*◌, ◌^◌, ◌<◌, ◌≤◌, ◌++◌, length, OnOk, OnErr, IfSome, IfNone};
-ghost use Rattle.bit_words.specs.Bits.{bits_of, AppendsBits};
-ghost use Rattle.packed_list.specs.Gamma.{gamma, gamma_length, IsGammaBefore};
+ghost use Rattle.bit_words.specs.Bits.{bits_of, field_bits, AppendsBits};
+ghost use Rattle.packed_list.specs.Gamma.{gamma, gamma_length, IsGammaBefore, AreGammasBefore};
 ghost use Rattle.packed_list.specs.GammaLaws.{GammaTakes, OneGamma, GammaReadsBack};
 
+use crate::window::window_from;
 use bit_words::{BitWriter, Bits};
 use no_memory::NoMemory;
 use part_cost::digits;
@@ -53,6 +54,86 @@ pub fn gamma_before(bits: Bits<'_>, at: u64, end: u64) -> Option<GammaRead>
         number: number as u32,
         behind: one + 1 + rest,
     })
+}
+
+// The number whose gamma code stands in the lowest 31 bits of a word, and how many it takes; None
+// exactly where none does.
+#[inline(always)]
+fn lowest_gamma(word: u64) -> Option<GammaRead>
+    ensures some { IfSome result (λ read. IsGammaBefore (field_bits 64 word) 0 31 read.number) }
+    ensures behind { IfSome result (λ read. read.behind ≡ gamma_length read.number) }
+    ensures none { IfNone result ((n : ℕ) → ¬ IsGammaBefore (field_bits 64 word) 0 31 n) }
+{
+    let zeros = word.trailing_zeros();
+    if 16 <= zeros {
+        return None;
+    }
+    let highest = 1 << zeros;
+    let number = highest + ((word >> (zeros + 1)) & (highest - 1));
+    Some(GammaRead {
+        number: number as u32,
+        behind: 2 * u64::from(zeros) + 1,
+    })
+}
+
+// Two numbers that were read, and the place behind their gamma codes.
+#[derive(Clone, Copy)]
+pub(crate) struct GammasRead {
+    pub(crate) first: u32,
+    pub(crate) second: u32,
+    pub(crate) behind: u64,
+}
+
+// The two numbers whose gamma codes stand one behind the other, where they are read off the next 64
+// bits.
+#[inline(always)]
+fn near_gammas(bits: Bits<'_>, at: u64, end: u64) -> Option<GammasRead>
+    requires ordered { at ≤ end }
+    requires range { end ≤ 64 * length bits.words.now }
+    requires stand { (n m : ℕ) × AreGammasBefore (bits_of bits.words.now) at end n m }
+    ensures numbers { IfSome result (λ read. AreGammasBefore (bits_of bits.entry.words.now) at end
+        read.first read.second) }
+    ensures behind { IfSome result (λ read. read.behind ≡ at + gamma_length read.first
+        + gamma_length read.second) }
+{
+    let window = window_from(bits, at);
+    let Some(first) = lowest_gamma(window) else {
+        return None;
+    };
+    let Some(second) = lowest_gamma(window >> first.behind) else {
+        return None;
+    };
+    Some(GammasRead {
+        first: first.number,
+        second: second.number,
+        behind: at + first.behind + second.behind,
+    })
+}
+
+// The two numbers whose gamma codes stand one behind the other.
+#[inline(always)]
+pub(crate) fn two_gammas(bits: Bits<'_>, at: u64, end: u64) -> GammasRead
+    requires ordered { at ≤ end }
+    requires range { end ≤ 64 * length bits.words.now }
+    requires stand { (n m : ℕ) × AreGammasBefore (bits_of bits.words.now) at end n m }
+    ensures numbers { AreGammasBefore (bits_of bits.entry.words.now) at end result.first
+        result.second }
+    ensures behind { result.behind ≡ at + gamma_length result.first + gamma_length result.second }
+{
+    if let Some(near) = near_gammas(bits, at, end) {
+        return near;
+    }
+    let Some(first) = gamma_before(bits, at, end) else {
+        unreachable!()
+    };
+    let Some(second) = gamma_before(bits, first.behind, end) else {
+        unreachable!()
+    };
+    GammasRead {
+        first: first.number,
+        second: second.number,
+        behind: second.behind,
+    }
 }
 
 /// The bits of a gamma code are so many, bits begin with one gamma code only, and it is read back

@@ -8,11 +8,12 @@ mod last_field;
 mod list_laws;
 mod sequence_laws;
 mod view;
+mod window;
 mod write;
 
 pub use check::check_list;
 pub use choice::is_one_part;
 pub use gamma::{GammaRead, gamma_before, gamma_codes, put_gamma};
 pub use list_laws::{lists_are_short, lists_state_back, one_packed_list};
-pub use view::{PackedList, view_list};
+pub use view::{ListViews, view_list};
 pub use write::{ListParts, write_list};

@@ -1,11 +1,11 @@
-ghost use Rattle.std.specs.Prelude.{◌≡◌, ℕ, ◌+◌, ◌*◌, ◌^◌, ◌<◌, ◌≤◌, List, length, slice_index, slice_range};
-ghost use Rattle.bit_words.specs.Bits.{bits_of};
+ghost use Rattle.std.specs.Prelude.{◌≡◌, ℕ, ◌+◌, ◌*◌, ◌^◌, ◌<◌, ◌≤◌, true, List, length, slice_index, slice_range};
+ghost use Rattle.bit_words.specs.Bits.{bits_of, field_at};
 ghost use Rattle.collection_model.specs.FormatNumbers.{format_three};
 ghost use Rattle.packed_list.specs.ListBits.{sequence_bits};
 ghost use Rattle.packed_list.specs.ListPlaces.{IsSequenceBefore, HoldsList};
 ghost use Rattle.packed_list.specs.ListStated.{list_at};
 
-use crate::gamma::gamma_before;
+use crate::gamma::two_gammas;
 use crate::last_field::{LastField, last_doc, last_sum};
 use crate::list_laws::lists_state_back;
 use crate::sequence_laws::sequence_words_fit;
@@ -15,9 +15,9 @@ use part_cost::{Format, digits, payload_bits};
 use postings::{sequences_give_their_list, sequences_of_a_list_rise};
 use two_level::SeqView;
 
-/// A list in packed bits, ready to be read: its two sequences, and its greatest frequency.
+/// A list, ready to be read: its two sequences, and its greatest frequency.
 #[derive(Drop)]
-pub struct PackedList<'a> {
+pub struct ListViews<'a> {
     pub docs: SeqView<'a>,
     pub freqs: SeqView<'a>,
     pub greatest: u32,
@@ -30,13 +30,19 @@ struct KnownSequence<'a> {
     behind: u64,
 }
 
-// The sequence of m values that stands as one part, behind a zero.
+// The sequence of m values that stands as one part, behind a zero, and the field of its last value.
 #[inline(always)]
-fn known_lone<'a>(words: &'a [u64], at: u64, m: u32, last: LastField) -> KnownSequence<'a>
+fn known_lone<'a>(
+    words: &'a [u64],
+    at: u64,
+    m: u32,
+    last: LastField,
+    field: u64,
+) -> KnownSequence<'a>
     requires words { length words.now < 2 ^ 57 }
     requires many { 2 ≤ m }
-    requires narrow { last.width ≤ 64 }
     requires flag { slice_index (bits_of words.now) at ≡ 0 }
+    requires read { field ≡ field_at (bits_of words.now) (at + 1) last.width }
     requires stands { (xs ends : List ℕ) × IsSequenceBefore last m format_three.most_sum
         (bits_of words.now) at (64 * length words.now) xs ends }
     ensures view { (xs ends : List ℕ) → IsSequenceBefore last m format_three.most_sum
@@ -48,7 +54,7 @@ fn known_lone<'a>(words: &'a [u64], at: u64, m: u32, last: LastField) -> KnownSe
 {
     part_takes_its_payload();
     let place = at + 1 + u64::from(last.width);
-    let end = (Bits { words }).get(at + 1, last.width) + last.less;
+    let end = field + last.less;
     KnownSequence {
         view: SeqView::standing_alone(words, place, end, m, Format::Three),
         behind: place + payload_bits(end + 1, u64::from(m)),
@@ -63,8 +69,16 @@ fn words_from<'a>(words: &'a [u64], start: u64) -> &'a [u64]
     &words[start as usize..]
 }
 
-// The sequence of m values that stands in several parts, behind a one.
-fn known_parted<'a>(words: &'a [u64], at: u64, m: u32, last: LastField) -> KnownSequence<'a>
+// The sequence of m values that stands in several parts, behind a one. The place behind it, which takes
+// two entries to find, is told where it is asked for.
+#[inline(always)]
+fn known_parted<'a>(
+    words: &'a [u64],
+    at: u64,
+    m: u32,
+    last: LastField,
+    with_behind: bool,
+) -> KnownSequence<'a>
     requires words { length words.now < 2 ^ 57 }
     requires many { 2 ≤ m }
     requires flag { slice_index (bits_of words.now) at ≡ 1 }
@@ -73,7 +87,8 @@ fn known_parted<'a>(words: &'a [u64], at: u64, m: u32, last: LastField) -> Known
     ensures view { (xs ends : List ℕ) → IsSequenceBefore last m format_three.most_sum
         (bits_of words.entry.now) at (64 * length words.entry.now) xs ends
         → result.view ≡ record { format = format_three; values = xs; ends = ends } }
-    ensures behind { (xs ends : List ℕ) → IsSequenceBefore last m format_three.most_sum
+    ensures behind { with_behind ≡ true → (xs ends : List ℕ)
+        → IsSequenceBefore last m format_three.most_sum
         (bits_of words.entry.now) at (64 * length words.entry.now) xs ends
         → result.behind ≡ at + length (sequence_bits last at xs ends) }
 {
@@ -83,13 +98,22 @@ fn known_parted<'a>(words: &'a [u64], at: u64, m: u32, last: LastField) -> Known
     let parts = (Bits { words }).get(at + 1, width) as u32;
     let start = (at + 1 + u64::from(width)).div_ceil(64);
     let view = SeqView::known(words_from(words, start), parts, m, Format::Three);
+    if !with_behind {
+        return KnownSequence { view, behind: 0 };
+    }
     let behind = 64 * (start + view.used());
     KnownSequence { view, behind }
 }
 
-// The sequence of m values that stands at a place.
+// The sequence of m values that stands at a place, and where it is asked for the place behind it.
 #[inline(always)]
-fn known_sequence<'a>(words: &'a [u64], at: u64, m: u32, last: LastField) -> KnownSequence<'a>
+fn known_sequence<'a>(
+    words: &'a [u64],
+    at: u64,
+    m: u32,
+    last: LastField,
+    with_behind: bool,
+) -> KnownSequence<'a>
     requires words { length words.now < 2 ^ 57 }
     requires many { 2 ≤ m }
     requires narrow { last.width ≤ 64 }
@@ -98,20 +122,24 @@ fn known_sequence<'a>(words: &'a [u64], at: u64, m: u32, last: LastField) -> Kno
     ensures view { (xs ends : List ℕ) → IsSequenceBefore last m format_three.most_sum
         (bits_of words.entry.now) at (64 * length words.entry.now) xs ends
         → result.view ≡ record { format = format_three; values = xs; ends = ends } }
-    ensures behind { (xs ends : List ℕ) → IsSequenceBefore last m format_three.most_sum
+    ensures behind { with_behind ≡ true → (xs ends : List ℕ)
+        → IsSequenceBefore last m format_three.most_sum
         (bits_of words.entry.now) at (64 * length words.entry.now) xs ends
         → result.behind ≡ at + length (sequence_bits last at xs ends) }
 {
-    if (Bits { words }).bit(at) {
-        known_parted(words, at, m, last)
+    part_takes_its_payload();
+    // The flag and the field behind it are read as one: the highest bits of a field of 64 are 0.
+    let head = (Bits { words }).get(at, (1 + last.width).min(64));
+    if head % 2 == 1 {
+        known_parted(words, at, m, last, with_behind)
     } else {
-        known_lone(words, at, m, last)
+        known_lone(words, at, m, last, head >> 1)
     }
 }
 
 /// The list with postings whose bits stand between two places of the words. Its parts are not
 /// looked at.
-pub fn view_list<'a>(words: &'a [u64], from: u64, to: u64, documents: u32) -> PackedList<'a>
+pub fn view_list<'a>(words: &'a [u64], from: u64, to: u64, documents: u32) -> ListViews<'a>
     requires words { length words.now < 2 ^ 57 }
     requires some { from < to }
     requires range { to ≤ 64 * length words.now }
@@ -124,28 +152,23 @@ pub fn view_list<'a>(words: &'a [u64], from: u64, to: u64, documents: u32) -> Pa
     sequences_of_a_list_rise();
     sequences_give_their_list();
     let bits = Bits { words };
-    let Some(count) = gamma_before(bits, from, to) else {
-        unreachable!()
-    };
-    let Some(most) = gamma_before(bits, count.behind, to) else {
-        unreachable!()
-    };
+    let head = two_gammas(bits, from, to);
     let field = last_doc(documents);
-    if count.number == 1 {
-        let doc = bits.get(most.behind, field.width);
-        let sum = u64::from(most.number) - 1;
-        return PackedList {
+    if head.first == 1 {
+        let doc = bits.get(head.behind, field.width);
+        let sum = u64::from(head.second) - 1;
+        return ListViews {
             docs: SeqView::standing_alone(words, from, doc, 1, Format::Three),
             freqs: SeqView::standing_alone(words, from, sum, 1, Format::Three),
-            greatest: most.number,
+            greatest: head.second,
         };
     }
-    let docs = known_sequence(words, most.behind, count.number, field);
-    let sums = last_sum(count.number, most.number);
-    let freqs = known_sequence(words, docs.behind, count.number, sums);
-    PackedList {
+    let docs = known_sequence(words, head.behind, head.first, field, true);
+    let sums = last_sum(head.first, head.second);
+    let freqs = known_sequence(words, docs.behind, head.first, sums, false);
+    ListViews {
         docs: docs.view,
         freqs: freqs.view,
-        greatest: most.number,
+        greatest: head.second,
     }
 }

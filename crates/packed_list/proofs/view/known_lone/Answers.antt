@@ -33,18 +33,15 @@ held words at m w got last xs f value width =
     subst (λ k. HoldsPart part_bits (bits_of words) (at + 1 + k) (got + last.less + 1) m xs) (sym width)
     (subst (λ u. HoldsPart part_bits (bits_of words) (at + 1 + last.width) u m xs) (let e : past xs (length xs) ≡ got + last.less + 1 = omega (arith, f.end_is, value) in e) f.held)
 
-pub get-requires-clause-range : goal.get-requires-clause-range
-get-requires-clause-range c = omega (arith, (stood (goal.at.get-requires-clause-range c).After-part_takes_its_payload).place)
-
 pub overflow_add-end : goal.overflow_add-end
 overflow_add-end c =
     let f = stood (goal.at.overflow_add-end c).After-part_takes_its_payload in
-    omega (arith, f.end_is, f.below, c.get.ensures)
+    omega (arith, f.end_is, f.below, c.requires.read)
 
 pub standing_alone-requires-clause-small : goal.standing_alone-requires-clause-small
 standing_alone-requires-clause-small c =
     let f = stood (goal.at.standing_alone-requires-clause-small c).After-part_takes_its_payload in
-    omega (arith, f.end_is, f.below, c.get.ensures)
+    omega (arith, f.end_is, f.below, c.requires.read)
 
 pub standing_alone-requires-clause-place : goal.standing_alone-requires-clause-place
 standing_alone-requires-clause-place c =
@@ -54,38 +51,38 @@ standing_alone-requires-clause-place c =
 pub standing_alone-requires-clause-part : goal.standing_alone-requires-clause-part
 standing_alone-requires-clause-part c = λ many. (
   c.requires.stands.0,
-  held c.args.words.now c.args.at c.args.m c.from.result c.get.result c.args.last c.requires.stands.0 (stood (goal.at.standing_alone-requires-clause-part c).After-part_takes_its_payload) c.get.ensures c.from.ensures,
+  held c.args.words.now c.args.at c.args.m c.from.result c.args.field c.args.last c.requires.stands.0 (stood (goal.at.standing_alone-requires-clause-part c).After-part_takes_its_payload) c.requires.read c.from.ensures,
 )
 
 pub overflow_add-end-2 : goal.overflow_add-end-2
 overflow_add-end-2 c =
     let f = stood (goal.at.overflow_add-end-2 c).After-part_takes_its_payload in
-    omega (arith, f.end_is, f.below, c.get.ensures)
+    omega (arith, f.end_is, f.below, c.requires.read)
 
 pub payload_bits-requires-clause-fit : goal.payload_bits-requires-clause-fit
 payload_bits-requires-clause-fit c =
     let f = stood (goal.at.payload_bits-requires-clause-fit c).After-part_takes_its_payload in
-    omega (arith, f.end_is, f.room, c.get.ensures, c.from-2.ensures)
+    omega (arith, f.end_is, f.room, c.requires.read, c.from-2.ensures)
 
 pub payload_bits-requires-clause-in_range : goal.payload_bits-requires-clause-in_range
 payload_bits-requires-clause-in_range c =
     let f = stood (goal.at.payload_bits-requires-clause-in_range c).After-part_takes_its_payload in
-    omega (arith, f.end_is, f.below, c.get.ensures)
+    omega (arith, f.end_is, f.below, c.requires.read)
 
 pub overflow_add-result : goal.overflow_add-result
 overflow_add-result c =
     let f = stood (goal.at.overflow_add-result c).After-part_takes_its_payload in
-    omega (arith, f.behind, taken c.args.words.now c.args.at c.args.m c.from-2.result c.get.result c.payload_bits.result c.args.last c.requires.stands.0 f c.get.ensures c.from-2.ensures c.payload_bits.ensures, c.from.ensures, c.requires.words)
+    omega (arith, f.behind, taken c.args.words.now c.args.at c.args.m c.from-2.result c.args.field c.payload_bits.result c.args.last c.requires.stands.0 f c.requires.read c.from-2.ensures c.payload_bits.ensures, c.from.ensures, c.requires.words)
 
 pub returns-clause-view : goal.returns-clause-view
 returns-clause-view c = λ xs ends h.
     let view : List ℕ → SequenceView = λ es. record { format = format_three; values = xs; ends = es } in
     let one = one-when-zero c.args.last c.args.m format_three.most_sum (bits_of c.args.words.now) c.args.at (64 * length c.args.words.now) xs ends (omega (arith, c.requires.many)) c.requires.flag h in
-    c.standing_alone.ensures.more xs c.requires.many (held c.args.words.now c.args.at c.args.m c.from.result c.get.result c.args.last xs (facts (goal.at.returns-clause-view c).After-part_takes_its_payload xs ends h) c.get.ensures c.from.ensures)
+    c.standing_alone.ensures.more xs c.requires.many (held c.args.words.now c.args.at c.args.m c.from.result c.args.field c.args.last xs (facts (goal.at.returns-clause-view c).After-part_takes_its_payload xs ends h) c.requires.read c.from.ensures)
     ∙ ap view (sym (one-end c.args.m ends h.stored.partition one))
 
 pub returns-clause-behind : goal.returns-clause-behind
 returns-clause-behind c = λ xs ends h.
-    let t = taken c.args.words.now c.args.at c.args.m c.from-2.result c.get.result c.payload_bits.result c.args.last xs (facts (goal.at.returns-clause-behind c).After-part_takes_its_payload xs ends h) c.get.ensures c.from-2.ensures c.payload_bits.ensures in
+    let t = taken c.args.words.now c.args.at c.args.m c.from-2.result c.args.field c.payload_bits.result c.args.last xs (facts (goal.at.returns-clause-behind c).After-part_takes_its_payload xs ends h) c.requires.read c.from-2.ensures c.payload_bits.ensures in
     let s = lone-size c.part_takes_its_payload.ensures.payload c.args.last c.args.m format_three.most_sum (bits_of c.args.words.now) c.args.at (64 * length c.args.words.now) xs ends (omega (arith, c.requires.many)) (omega arith) c.requires.flag h in
     omega (arith, t, s, c.from.ensures)

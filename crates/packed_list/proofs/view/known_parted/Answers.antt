@@ -123,5 +123,11 @@ pub returns-clause-view : goal.returns-clause-view
 returns-clause-view c = λ xs ends h. c.known-view.ensures.same (view-of xs ends) refl (began (goal.at.returns-clause-view c).After-words_from xs ends h)
 
 pub returns-clause-behind : goal.returns-clause-behind
-returns-clause-behind c = λ xs ends h.
+returns-clause-behind c = λ asked xs ends h.
     ap (λ k. 64 * (c.div_ceil-start.result + k)) (used-are (goal.at.returns-clause-behind c).After-used xs ends h) ∙ (seen (goal.at.returns-clause-behind c).After-div_ceil-start xs ends h).behind
+
+pub returns-then-not-with_behind-clause-view : goal.returns-then-not-with_behind-clause-view
+returns-then-not-with_behind-clause-view c = λ xs ends h. c.known-view.ensures.same (view-of xs ends) refl (began (goal.at.returns-then-not-with_behind-clause-view c).After-words_from xs ends h)
+
+pub returns-then-not-with_behind-clause-behind : goal.returns-then-not-with_behind-clause-behind
+returns-then-not-with_behind-clause-behind c = λ asked xs ends h. cc

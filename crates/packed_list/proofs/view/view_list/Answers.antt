@@ -13,9 +13,8 @@ use Rattle.packed_list.specs.Gamma.{gamma_length, IsGammaBefore}
 use Rattle.packed_list.specs.ListBits.{last_doc, last_sum, sequence_bits}
 use Rattle.packed_list.specs.ListPlaces.{IsSequenceBefore, IsTailBetween, HoldsList}
 use Rattle.packed_list.specs.Laws.{ListsStateBack}
-use Rattle.packed_list.proofs.GammaReads.{one-number}
 use Rattle.packed_list.proofs.ListPlaces.{facts-between, are-read, tail-behind, TailFacts, tail-facts, single-facts, before-as, not-empty}
-use Rattle.packed_list.proofs.ListViews.{single-read, StatesList, states-list, before-later, before-more}
+use Rattle.packed_list.proofs.StatedList.{single-read, StatesList, states-list, before-later, before-more}
 use Rattle.packed_list.proofs.view.view_list.Goals as goal
 use Rattle.packed_list.proofs.view.view_list.Goals.{After-last_doc-field, After-get-doc, After-last_sum-sums}
 
@@ -65,27 +64,17 @@ sums-stand n m g words last to behind field other list ends cuts within is also 
 one-of : (n m g : ℕ) (bits : List ℕ) (last to : ℕ) (list : List Posting) (ends cuts : List ℕ) → m ≡ 1 → IsTailBetween n m g bits last to list ends cuts → IsTailBetween n 1 g bits last to list ends cuts
 one-of n m g bits last to list ends cuts e h = subst (λ k. IsTailBetween n k g bits last to list ends cuts) e h
 
-pub unreachable-requires : goal.unreachable-requires
-unreachable-requires c =
+pub two_gammas-head-requires-clause-stand : goal.two_gammas-head-requires-clause-stand
+two_gammas-head-requires-clause-stand c =
     let f = facts-between c.args.documents c.args.words.now c.args.from c.args.to (omega (arith, c.ranges.documents.fits)) (λ e. omega (arith, e, c.requires.some)) (omega (arith, c.requires.some)) c.requires.range c.requires.list in
-    c.in_default.ensures.none (length c.requires.list.0) f.count
-
-pub unreachable-requires-in_default-gamma_before : goal.unreachable-requires-in_default-gamma_before
-unreachable-requires-in_default-gamma_before c =
-    let bits : List ℕ = bits_of c.args.words.now in
-    let f = facts-between c.args.documents c.args.words.now c.args.from c.args.to (omega (arith, c.ranges.documents.fits)) (λ e. omega (arith, e, c.requires.some)) (omega (arith, c.requires.some)) c.requires.range c.requires.list in
-    let fit : c.args.to ≤ length bits = omega (arith, c.requires.range, length-bits_of c.args.words.now) in
-    let m : ℕ = c.in-Some.count.number in
-    let same : m ≡ length c.requires.list.0 = one-number bits c.args.from c.args.to c.args.to m (length c.requires.list.0) fit fit c.in-Some.ensures.some f.count in
-    let place : c.args.from + gamma_length (length c.requires.list.0) ≡ c.in-Some.count.behind = omega (arith, c.in-Some.ensures.behind, ap gamma_length same) in
-    (c.in_default-gamma_before).ensures.none (greatest_freq c.requires.list.0) (subst (λ p. IsGammaBefore bits p c.args.to (greatest_freq c.requires.list.0)) place f.most)
+    (length c.requires.list.0, greatest_freq c.requires.list.0, record { first = f.count; second = f.most })
 
 -- what was read of the list
 read : (c : After-last_doc-field)
-    → Seen c.args.documents c.args.words.now c.args.from c.args.to c.in-Some.count.number c.in-Some.count.behind c.in-Some-gamma_before.most.number c.in-Some-gamma_before.most.behind c.requires.list
+    → Seen c.args.documents c.args.words.now c.args.from c.args.to c.two_gammas-head.result.first (c.args.from + gamma_length c.two_gammas-head.result.first) c.two_gammas-head.result.second c.two_gammas-head.result.behind c.requires.list
 read c =
-    seen c.args.documents c.args.words.now c.args.from c.args.to c.in-Some.count.number c.in-Some.count.behind c.in-Some-gamma_before.most.number c.in-Some-gamma_before.most.behind (omega (arith, c.ranges.documents.fits)) c.requires.some c.requires.range
-    c.in-Some.ensures.some c.in-Some.ensures.behind c.in-Some-gamma_before.ensures.some c.in-Some-gamma_before.ensures.behind c.requires.list
+    seen c.args.documents c.args.words.now c.args.from c.args.to c.two_gammas-head.result.first (c.args.from + gamma_length c.two_gammas-head.result.first) c.two_gammas-head.result.second c.two_gammas-head.result.behind (omega (arith, c.ranges.documents.fits)) c.requires.some c.requires.range
+    c.two_gammas-head.ensures.numbers.first refl c.two_gammas-head.ensures.numbers.second c.two_gammas-head.ensures.behind c.requires.list
 
 -- and what its words state
 said : (c : After-last_doc-field) → StatesList c.args.documents c.args.words.now c.args.from c.requires.list.0 c.requires.list.1 c.requires.list.2
@@ -97,74 +86,74 @@ width-is : (c : After-last_doc-field) → c.last_doc-field.result.width ≡ digi
 width-is c = ap (λ l. l.width) c.last_doc-field.ensures
 
 -- the document that was read of a single posting
-doc-is : (c : After-get-doc) → c.get-doc.result ≡ field_at (bits_of c.args.words.now) c.in-Some-gamma_before.most.behind (digits (c.args.documents - 1))
-doc-is c = c.get-doc.ensures ∙ ap (field_at (bits_of c.args.words.now) c.in-Some-gamma_before.most.behind) (width-is (goal.at.After-get-doc c).After-last_doc-field)
+doc-is : (c : After-get-doc) → c.get-doc.result ≡ field_at (bits_of c.args.words.now) c.two_gammas-head.result.behind (digits (c.args.documents - 1))
+doc-is c = c.get-doc.ensures ∙ ap (field_at (bits_of c.args.words.now) c.two_gammas-head.result.behind) (width-is (goal.at.After-get-doc c).After-last_doc-field)
 
 -- what stands behind the greatest frequency where there is one posting
-single : (c : After-last_doc-field) → c.in-Some.count.number ≡ 1
-    → IsTailBetween c.args.documents 1 c.in-Some-gamma_before.most.number (bits_of c.args.words.now) c.in-Some-gamma_before.most.behind c.args.to c.requires.list.0 c.requires.list.1 c.requires.list.2
+single : (c : After-last_doc-field) → c.two_gammas-head.result.first ≡ 1
+    → IsTailBetween c.args.documents 1 c.two_gammas-head.result.second (bits_of c.args.words.now) c.two_gammas-head.result.behind c.args.to c.requires.list.0 c.requires.list.1 c.requires.list.2
 single c one =
-    one-of c.args.documents c.in-Some.count.number c.in-Some-gamma_before.most.number (bits_of c.args.words.now) c.in-Some-gamma_before.most.behind c.args.to c.requires.list.0 c.requires.list.1 c.requires.list.2 one (read c).tail
+    one-of c.args.documents c.two_gammas-head.result.first c.two_gammas-head.result.second (bits_of c.args.words.now) c.two_gammas-head.result.behind c.args.to c.requires.list.0 c.requires.list.1 c.requires.list.2 one (read c).tail
 
 -- and where there are several
-several : (c : After-last_doc-field) → (c.in-Some.count.number ≡ 1 → ⊥)
-    → TailFacts c.args.documents c.in-Some.count.number c.in-Some-gamma_before.most.number (bits_of c.args.words.now) c.in-Some-gamma_before.most.behind c.args.to c.requires.list.0 c.requires.list.1 c.requires.list.2
+several : (c : After-last_doc-field) → (c.two_gammas-head.result.first ≡ 1 → ⊥)
+    → TailFacts c.args.documents c.two_gammas-head.result.first c.two_gammas-head.result.second (bits_of c.args.words.now) c.two_gammas-head.result.behind c.args.to c.requires.list.0 c.requires.list.1 c.requires.list.2
 several c more =
     let s = read c in
-    let many : 2 ≤ c.in-Some.count.number = omega (arith, s.some, more) in
-    tail-facts c.sequences_of_a_list_rise.ensures c.sequences_give_their_list.ensures c.args.documents c.in-Some.count.number c.in-Some-gamma_before.most.number (bits_of c.args.words.now) c.in-Some-gamma_before.most.behind c.args.to c.requires.list.0 c.requires.list.1 c.requires.list.2 (omega (arith, c.ranges.documents.fits)) many s.le s.fit s.tail
+    let many : 2 ≤ c.two_gammas-head.result.first = omega (arith, s.some, more) in
+    tail-facts c.sequences_of_a_list_rise.ensures c.sequences_give_their_list.ensures c.args.documents c.two_gammas-head.result.first c.two_gammas-head.result.second (bits_of c.args.words.now) c.two_gammas-head.result.behind c.args.to c.requires.list.0 c.requires.list.1 c.requires.list.2 (omega (arith, c.ranges.documents.fits)) many s.le s.fit s.tail
 
 -- then its documents stand there
-docs-there : (c : After-last_doc-field) → (c.in-Some.count.number ≡ 1 → ⊥)
-    → IsSequenceBefore c.last_doc-field.result c.in-Some.count.number format_three.most_sum (bits_of c.args.words.now) c.in-Some-gamma_before.most.behind (64 * length c.args.words.now) (doc_sequence c.requires.list.0) c.requires.list.1
+docs-there : (c : After-last_doc-field) → (c.two_gammas-head.result.first ≡ 1 → ⊥)
+    → IsSequenceBefore c.last_doc-field.result c.two_gammas-head.result.first format_three.most_sum (bits_of c.args.words.now) c.two_gammas-head.result.behind (64 * length c.args.words.now) (doc_sequence c.requires.list.0) c.requires.list.1
 docs-there c more =
-    docs-stand c.args.documents c.in-Some.count.number c.in-Some-gamma_before.most.number c.args.words.now c.in-Some-gamma_before.most.behind c.args.to c.last_doc-field.result c.requires.list.0 c.requires.list.1 c.requires.list.2 (omega (arith, c.ranges.documents.fits)) c.requires.range c.last_doc-field.ensures (several c more)
+    docs-stand c.args.documents c.two_gammas-head.result.first c.two_gammas-head.result.second c.args.words.now c.two_gammas-head.result.behind c.args.to c.last_doc-field.result c.requires.list.0 c.requires.list.1 c.requires.list.2 (omega (arith, c.ranges.documents.fits)) c.requires.range c.last_doc-field.ensures (several c more)
 
 -- and its sums behind them
 sums-there : (c : After-last_sum-sums)
-    → IsSequenceBefore c.last_sum-sums.result c.in-Some.count.number format_three.most_sum (bits_of c.args.words.now) c.known_sequence-docs.result.behind (64 * length c.args.words.now) (freq_sequence c.requires.list.0) c.requires.list.2
+    → IsSequenceBefore c.last_sum-sums.result c.two_gammas-head.result.first format_three.most_sum (bits_of c.args.words.now) c.known_sequence-docs.result.behind (64 * length c.args.words.now) (freq_sequence c.requires.list.0) c.requires.list.2
 sums-there c =
-    let place = c.known_sequence-docs.ensures.behind (doc_sequence c.requires.list.0) c.requires.list.1 (docs-there (goal.at.After-last_sum-sums c).After-last_doc-field c.if-count-eq1.false) in
-    sums-stand c.args.documents c.in-Some.count.number c.in-Some-gamma_before.most.number c.args.words.now c.in-Some-gamma_before.most.behind c.args.to c.known_sequence-docs.result.behind c.last_sum-sums.result c.last_doc-field.result c.requires.list.0 c.requires.list.1 c.requires.list.2 c.requires.range c.last_doc-field.ensures c.last_sum-sums.ensures place (several (goal.at.After-last_sum-sums c).After-last_doc-field c.if-count-eq1.false)
+    let place = c.known_sequence-docs.ensures.behind refl (doc_sequence c.requires.list.0) c.requires.list.1 (docs-there (goal.at.After-last_sum-sums c).After-last_doc-field c.if-head-eq1.false) in
+    sums-stand c.args.documents c.two_gammas-head.result.first c.two_gammas-head.result.second c.args.words.now c.two_gammas-head.result.behind c.args.to c.known_sequence-docs.result.behind c.last_sum-sums.result c.last_doc-field.result c.requires.list.0 c.requires.list.1 c.requires.list.2 c.requires.range c.last_doc-field.ensures c.last_sum-sums.ensures place (several (goal.at.After-last_sum-sums c).After-last_doc-field c.if-head-eq1.false)
 
 pub get-doc-requires-clause-range : goal.get-doc-requires-clause-range
 get-doc-requires-clause-range c =
     let s = read (goal.at.get-doc-requires-clause-range c).After-last_doc-field in
-    let f = single-facts c.args.documents c.in-Some-gamma_before.most.number (bits_of c.args.words.now) c.in-Some-gamma_before.most.behind c.args.to c.requires.list.0 c.requires.list.1 c.requires.list.2 (omega (arith, c.ranges.documents.fits)) s.le s.fit (single (goal.at.get-doc-requires-clause-range c).After-last_doc-field c.if-count-eq1.true) in
+    let f = single-facts c.args.documents c.two_gammas-head.result.second (bits_of c.args.words.now) c.two_gammas-head.result.behind c.args.to c.requires.list.0 c.requires.list.1 c.requires.list.2 (omega (arith, c.ranges.documents.fits)) s.le s.fit (single (goal.at.get-doc-requires-clause-range c).After-last_doc-field c.if-head-eq1.true) in
     omega (arith, f.size, width-is (goal.at.get-doc-requires-clause-range c).After-last_doc-field, s.le, c.requires.range)
 
 pub standing_alone-requires-clause-small : goal.standing_alone-requires-clause-small
 standing_alone-requires-clause-small c =
     let s = read (goal.at.standing_alone-requires-clause-small c).After-last_doc-field in
-    let f = single-facts c.args.documents c.in-Some-gamma_before.most.number (bits_of c.args.words.now) c.in-Some-gamma_before.most.behind c.args.to c.requires.list.0 c.requires.list.1 c.requires.list.2 (omega (arith, c.ranges.documents.fits)) s.le s.fit (single (goal.at.standing_alone-requires-clause-small c).After-last_doc-field c.if-count-eq1.true) in
+    let f = single-facts c.args.documents c.two_gammas-head.result.second (bits_of c.args.words.now) c.two_gammas-head.result.behind c.args.to c.requires.list.0 c.requires.list.1 c.requires.list.2 (omega (arith, c.ranges.documents.fits)) s.le s.fit (single (goal.at.standing_alone-requires-clause-small c).After-last_doc-field c.if-head-eq1.true) in
     omega (arith, f.inside, doc-is (goal.at.standing_alone-requires-clause-small c).After-get-doc, c.ranges.documents.fits)
 
-pub returns-then-count-eq1-clause-docs : goal.returns-then-count-eq1-clause-docs
-returns-then-count-eq1-clause-docs c =
-    let s = read (goal.at.returns-then-count-eq1-clause-docs c).After-last_doc-field in
-    let r = single-read c.args.documents c.in-Some-gamma_before.most.number (bits_of c.args.words.now) c.in-Some-gamma_before.most.behind c.args.to c.requires.list.0 c.requires.list.1 c.requires.list.2 (omega (arith, c.ranges.documents.fits)) s.le s.fit (single (goal.at.returns-then-count-eq1-clause-docs c).After-last_doc-field c.if-count-eq1.true) in
+pub returns-then-head-eq1-clause-docs : goal.returns-then-head-eq1-clause-docs
+returns-then-head-eq1-clause-docs c =
+    let s = read (goal.at.returns-then-head-eq1-clause-docs c).After-last_doc-field in
+    let r = single-read c.args.documents c.two_gammas-head.result.second (bits_of c.args.words.now) c.two_gammas-head.result.behind c.args.to c.requires.list.0 c.requires.list.1 c.requires.list.2 (omega (arith, c.ranges.documents.fits)) s.le s.fit (single (goal.at.returns-then-head-eq1-clause-docs c).After-last_doc-field c.if-head-eq1.true) in
     let view : List ℕ → List ℕ → SequenceView = λ xs es. record { format = format_three; values = xs; ends = es } in
-    c.standing_alone.ensures.one refl ∙ ap (λ d. view (d ∷ []) (1 ∷ [])) (doc-is (goal.at.returns-then-count-eq1-clause-docs c).After-get-doc) ∙ ap (λ xs. view xs (1 ∷ [])) (sym r.docs) ∙ ap (view (doc_sequence c.requires.list.0)) (sym r.doc_end) ∙ sym (said (goal.at.returns-then-count-eq1-clause-docs c).After-last_doc-field).docs
+    c.standing_alone.ensures.one refl ∙ ap (λ d. view (d ∷ []) (1 ∷ [])) (doc-is (goal.at.returns-then-head-eq1-clause-docs c).After-get-doc) ∙ ap (λ xs. view xs (1 ∷ [])) (sym r.docs) ∙ ap (view (doc_sequence c.requires.list.0)) (sym r.doc_end) ∙ sym (said (goal.at.returns-then-head-eq1-clause-docs c).After-last_doc-field).docs
 
-pub returns-then-count-eq1-clause-freqs : goal.returns-then-count-eq1-clause-freqs
-returns-then-count-eq1-clause-freqs c =
-    let s = read (goal.at.returns-then-count-eq1-clause-freqs c).After-last_doc-field in
-    let r = single-read c.args.documents c.in-Some-gamma_before.most.number (bits_of c.args.words.now) c.in-Some-gamma_before.most.behind c.args.to c.requires.list.0 c.requires.list.1 c.requires.list.2 (omega (arith, c.ranges.documents.fits)) s.le s.fit (single (goal.at.returns-then-count-eq1-clause-freqs c).After-last_doc-field c.if-count-eq1.true) in
+pub returns-then-head-eq1-clause-freqs : goal.returns-then-head-eq1-clause-freqs
+returns-then-head-eq1-clause-freqs c =
+    let s = read (goal.at.returns-then-head-eq1-clause-freqs c).After-last_doc-field in
+    let r = single-read c.args.documents c.two_gammas-head.result.second (bits_of c.args.words.now) c.two_gammas-head.result.behind c.args.to c.requires.list.0 c.requires.list.1 c.requires.list.2 (omega (arith, c.ranges.documents.fits)) s.le s.fit (single (goal.at.returns-then-head-eq1-clause-freqs c).After-last_doc-field c.if-head-eq1.true) in
     let view : List ℕ → List ℕ → SequenceView = λ xs es. record { format = format_three; values = xs; ends = es } in
-    let value : c.from-sum.result - 1 ≡ c.in-Some-gamma_before.most.number - 1 = omega (arith, c.from-sum.ensures) in
-    c.standing_alone-then-count-eq1.ensures.one refl ∙ ap (λ d. view (d ∷ []) (1 ∷ [])) value ∙ ap (λ xs. view xs (1 ∷ [])) (sym r.sums) ∙ ap (view (freq_sequence c.requires.list.0)) (sym r.sum_end) ∙ sym (said (goal.at.returns-then-count-eq1-clause-freqs c).After-last_doc-field).freqs
+    let value : c.from-sum.result - 1 ≡ c.two_gammas-head.result.second - 1 = omega (arith, c.from-sum.ensures) in
+    c.standing_alone-then-head-eq1.ensures.one refl ∙ ap (λ d. view (d ∷ []) (1 ∷ [])) value ∙ ap (λ xs. view xs (1 ∷ [])) (sym r.sums) ∙ ap (view (freq_sequence c.requires.list.0)) (sym r.sum_end) ∙ sym (said (goal.at.returns-then-head-eq1-clause-freqs c).After-last_doc-field).freqs
 
-pub returns-then-count-eq1-clause-greatest : goal.returns-then-count-eq1-clause-greatest
-returns-then-count-eq1-clause-greatest c = (read (goal.at.returns-then-count-eq1-clause-greatest c).After-last_doc-field).most ∙ sym (said (goal.at.returns-then-count-eq1-clause-greatest c).After-last_doc-field).most
+pub returns-then-head-eq1-clause-greatest : goal.returns-then-head-eq1-clause-greatest
+returns-then-head-eq1-clause-greatest c = (read (goal.at.returns-then-head-eq1-clause-greatest c).After-last_doc-field).most ∙ sym (said (goal.at.returns-then-head-eq1-clause-greatest c).After-last_doc-field).most
 
 pub known_sequence-docs-requires-clause-stands : goal.known_sequence-docs-requires-clause-stands
-known_sequence-docs-requires-clause-stands c = (doc_sequence c.requires.list.0, c.requires.list.1, docs-there (goal.at.known_sequence-docs-requires-clause-stands c).After-last_doc-field c.if-count-eq1.false)
+known_sequence-docs-requires-clause-stands c = (doc_sequence c.requires.list.0, c.requires.list.1, docs-there (goal.at.known_sequence-docs-requires-clause-stands c).After-last_doc-field c.if-head-eq1.false)
 
 pub known_sequence-freqs-requires-clause-stands : goal.known_sequence-freqs-requires-clause-stands
 known_sequence-freqs-requires-clause-stands c = (freq_sequence c.requires.list.0, c.requires.list.2, sums-there (goal.at.known_sequence-freqs-requires-clause-stands c).After-last_sum-sums)
 
 pub returns-clause-docs : goal.returns-clause-docs
-returns-clause-docs c = c.known_sequence-docs.ensures.view (doc_sequence c.requires.list.0) c.requires.list.1 (docs-there (goal.at.returns-clause-docs c).After-last_doc-field c.if-count-eq1.false) ∙ sym (said (goal.at.returns-clause-docs c).After-last_doc-field).docs
+returns-clause-docs c = c.known_sequence-docs.ensures.view (doc_sequence c.requires.list.0) c.requires.list.1 (docs-there (goal.at.returns-clause-docs c).After-last_doc-field c.if-head-eq1.false) ∙ sym (said (goal.at.returns-clause-docs c).After-last_doc-field).docs
 
 pub returns-clause-freqs : goal.returns-clause-freqs
 returns-clause-freqs c = c.known_sequence-freqs.ensures.view (freq_sequence c.requires.list.0) c.requires.list.2 (sums-there (goal.at.returns-clause-freqs c).After-last_sum-sums) ∙ sym (said (goal.at.returns-clause-freqs c).After-last_doc-field).freqs
