@@ -40,3 +40,4 @@ mod PackedChecks
 mod PackedLists
 mod AddedBoth
 mod PackedBuilt
+mod ListStarts

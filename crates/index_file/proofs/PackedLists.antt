@@ -1,10 +1,7 @@
 -- A list of a packed file, as it is viewed.
-use Rattle.std.proofs.Common.{◌≡◌, ℕ, ◌+◌, ◌*◌, ◌<◌, ◌≤◌, List, [], length, refl, arith}
+use Rattle.std.proofs.Common.{◌≡◌, ℕ, ◌+◌, ◌*◌, ◌<◌, ◌≤◌, List, length, refl, arith}
 use Rattle.std.proofs.lemmas.Bool.{eq-eqb, ne_eqb}
-use Rattle.std.proofs.lemmas.List.Elements.{All-nil}
-use Rattle.collection_model.specs.FormatNumbers.{format_three}
 use Rattle.packed_list.specs.ListStated.{list_at, no_list}
-use Rattle.two_level.specs.SequenceView.{SequenceView, BeginWith}
 use Rattle.index_file.specs.PackedWords.{first_list_bit}
 use Rattle.part_codec.specs.Laws.{ValuesStandAt}
 use Rattle.index_file.specs.PackedAt.{packed_documents, packed_terms, packed_bits, start_stated, PassesPacked}
@@ -18,29 +15,6 @@ empty-stated words t e = rw (eq-eqb (start_stated words t) (start_stated words (
 pub some-stated : (words : List ℕ) (t : ℕ) → (start_stated words t ≡ start_stated words (t + 1) → ⊥)
     → packed_list_stated words t ≡ list_at (packed_documents words) words (first_list_bit + start_stated words t)
 some-stated words t n = rw (ne_eqb (start_stated words t) (start_stated words (t + 1)) n) refl
-
--- any words begin with the sequence of no values
-abbrev pub none-view : SequenceView
-none-view = record { format = format_three; values = []; ends = [] }
-
-pub begins-none : (words : List ℕ) → BeginWith words 0 0 none-view
-begins-none words = (
-  0,
-  0,
-  omega arith,
-  record {
-    within = omega arith;
-    sequence = record {
-      rising = λ i lt. absurd (omega (arith, lt));
-      below = All-nil (λ x. x < 0);
-      count = refl;
-      few = omega arith;
-      partition = refl;
-      parts_count = refl;
-      spelled = refl;
-    };
-  },
-)
 
 -- where the bits of a list begin and end
 pub record LieBetween (words : List ℕ) (t : ℕ) : Type 0 where

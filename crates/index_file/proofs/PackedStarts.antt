@@ -12,7 +12,7 @@ use Rattle.index_file.specs.PackedWords.{first_list_bit}
 use Rattle.index_file.specs.PackedAt.{packed_documents, packed_terms, packed_bits, packed_directory, starts_universe, AreStarts, HasStarts, starts_stated, start_stated, IsListStored, HasPackedFrame, AreListsStored}
 
 -- rising numbers lie apart by as much as their places at least
-rises-by : (ys : List ℕ) → IsStrictlyIncreasing ys → (k j : ℕ) → k + j < length ys → slice_index ys k + j ≤ slice_index ys (k + j)
+pub rises-by : (ys : List ℕ) → IsStrictlyIncreasing ys → (k j : ℕ) → k + j < length ys → slice_index ys k + j ≤ slice_index ys (k + j)
 rises-by ys rising k zero lt =
     let e : slice_index ys k ≡ slice_index ys (k + 0) = ap (slice_index ys) (let f : k ≡ k + 0 = omega arith in f) in
     omega (arith, e)

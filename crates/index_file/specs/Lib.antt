@@ -5,6 +5,8 @@ pub mod PackedLaws
 pub mod FileWords
 pub mod PackedAt
 pub mod PackedView
+pub mod ListStarts
+pub mod DirectoryView
 pub mod PackedFaults
 pub mod FirstBroken
 pub mod ListAt

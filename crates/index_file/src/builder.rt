@@ -141,11 +141,13 @@ impl Builder {
         ensures within { IfOk result (λ words. length words.items ≤ most_words) }
         ensures too_large { (n : ℕ) → result ≡ Err (FinishError.TooLarge n) → most_words < n }
         ensures would_be { (n : ℕ) → result ≡ Err (FinishError.TooLarge n)
-            → (cs : List CutList) → StandsFor self cs → n ≡ length (words_of_file (numbers_of self.format) self.documents cs sizes.now) }
+            → (cs : List CutList) → StandsFor self cs
+            → n ≡ length (words_of_file (numbers_of self.format) self.documents cs sizes.now) }
         ensures refused { (cs : List CutList) → StandsFor self cs
             → most_words < length (words_of_file (numbers_of self.format) self.documents cs
             sizes.now)
-            → result ≡ Err (FinishError.TooLarge (length (words_of_file (numbers_of self.format) self.documents cs sizes.now))) }
+            → result ≡ Err (FinishError.TooLarge
+            (length (words_of_file (numbers_of self.format) self.documents cs sizes.now))) }
     {
         let count = self.count_words(sizes.len() as u64);
         if count > MOST_WORDS {

@@ -1,10 +1,12 @@
 ghost use Rattle.std.specs.Prelude.{◌≡◌, ◌<◌, ◌-◌, ◌^◌, List, length, sum, slice_index, take, drop, option_map, IfOk, IfErr};
 ghost use Rattle.collection_model.specs.Collection.{Collection, WellFormed, list_of, docs_of, first_at_least, greatest_freq};
+ghost use Rattle.part_cost.specs.declared.formats.Format.TheVariants.{Three};
 ghost use Rattle.part_cost.specs.Formats.{numbers_of};
 ghost use Rattle.part_cost.specs.Partition.{IsPartition};
 ghost use Rattle.two_level.specs.SequenceView.{start_of_part};
 ghost use Rattle.index_file.specs.FileWords.{ListParts, ArePartitions, Spells, IsIndexIn, IsIndex};
 ghost use Rattle.index_file.specs.FirstBroken.{stated_terms, IsFirstBroken};
+ghost use Rattle.index_file.specs.ListStarts.{AreNoneOr, list_starts, kept_starts};
 ghost use Rattle.index_file.specs.IndexView as of;
 
 use crate::checking::check_file;
@@ -13,8 +15,9 @@ use crate::frame::{format_of, frame_of};
 use crate::laws::file_laws;
 use crate::measures::{Measure, of_index};
 use crate::totals::{all_postings, all_sizes, size_at, sizes_from};
-use crate::views::{ListViews, list_views};
+use crate::views::list_views;
 use cursor_api::DocCursor;
+use packed_list::ListViews;
 use part_cost::{Format, Kind, Which};
 use postings::{PostingCursor, first_posting};
 use std::marker::Model;
@@ -24,6 +27,8 @@ use two_level::SeqView;
 #[derive(Drop)]
 pub struct Index<'a> {
     words: &'a [u64],
+    // Where the lists of a packed file begin, if it is kept.
+    starts: &'a [u64],
 }
 
 impl<'a> Model for Index<'a> {
@@ -31,13 +36,17 @@ impl<'a> Model for Index<'a> {
     ghost use Rattle.std.specs.List.{All};
     ghost use Rattle.part_cost.specs.Formats.{numbers_of};
     ghost use Rattle.index_file.specs.FileWords.{Spells};
+    ghost use Rattle.index_file.specs.ListStarts.{AreNoneOr, kept_starts};
     ghost use Rattle.index_file.specs.IndexView.{IndexView, index_stated};
 
     ghost Value = { IndexView };
 
     ghost view = { λ i. index_stated i.words.now };
 
-    ghost invariant = { λ i. Spells (numbers_of (index_stated i.words.now).format) i.words.now (index_stated i.words.now).collection (index_stated i.words.now).parts × (length i.words.now < 2 ^ 57) × All (λ w. w < 2 ^ 64) i.words.now };
+    ghost invariant = { λ i. Spells (numbers_of (index_stated i.words.now).format) i.words.now
+        (index_stated i.words.now).collection (index_stated i.words.now).parts
+        × (length i.words.now < 2 ^ 57) × All (λ w. w < 2 ^ 64) i.words.now
+        × AreNoneOr (kept_starts i.words.now) i.starts.now };
 }
 
 impl<'a> Index<'a> {
@@ -52,7 +61,10 @@ impl<'a> Index<'a> {
     {
         file_laws();
         check_file(words)?;
-        Ok(Index { words })
+        Ok(Index {
+            words,
+            starts: &words[..0],
+        })
     }
 
     /// The index that the words are, where it is known that `view` accepts them: nothing is checked.
@@ -64,7 +76,24 @@ impl<'a> Index<'a> {
         ensures stated { result ≡ of.index_stated words.entry.now }
     {
         file_laws();
-        Index { words }
+        Index {
+            words,
+            starts: &words[..0],
+        }
+    }
+
+    /// The index of `known`, which finds a list of a packed file by where the lists begin, if that is given as `list_starts` tells it,
+    /// and not by the directory.
+    pub fn with_starts(words: &'a [u64], starts: &'a [u64]) -> Index<'a>
+        requires words { length words.now < 2 ^ 57 }
+        requires index { IsIndex words.now }
+        requires starts { AreNoneOr (kept_starts words.now) starts.now }
+        ensures spells { Spells (numbers_of result.format) words.entry.now result.collection
+            result.parts }
+        ensures stated { result ≡ of.index_stated words.entry.now }
+    {
+        file_laws();
+        Index { words, starts }
     }
 
     /// What every index is: its collection is well formed in its format, and the sequences of its lists are cut into partitions.
@@ -175,7 +204,8 @@ impl<'a> Index<'a> {
         ensures last { result.0 ≡ slice_index (docs_of (list_of self.now.collection t))
             (slice_index (of.doc_ends_of self.now t) q - 1) }
         ensures greatest { let ends = of.doc_ends_of self.now t in
-            result.1 ≡ greatest_freq (take (slice_index ends q - start_of_part ends q) (drop (start_of_part ends q) (list_of self.now.collection t))) }
+            result.1 ≡ greatest_freq (take (slice_index ends q - start_of_part ends q)
+            (drop (start_of_part ends q) (list_of self.now.collection t))) }
     {
         self.stands_for_a_collection();
         let list = self.list(t);
@@ -204,7 +234,7 @@ impl<'a> Index<'a> {
             (of.cut_list_at self.now t) }
     {
         file_laws();
-        list_views(self.words, t, self.format())
+        list_views(self.words, self.starts, t, self.format())
     }
 
     /// A cursor at the start of list t.
@@ -215,7 +245,7 @@ impl<'a> Index<'a> {
         ensures start { ⟦<PostingCursor<'a> as DocCursor>⟧.place result ≡ 0 }
     {
         file_laws();
-        cursor_at(self.words, t, self.format())
+        cursor_at(self.words, self.starts, t, self.format())
     }
 
     /// The first posting of list t whose document is at least d, as document and frequency.
@@ -225,7 +255,7 @@ impl<'a> Index<'a> {
             (first_at_least (list_of self.now.collection t) d) }
     {
         file_laws();
-        posting_from(self.words, t, d, self.format())
+        posting_from(self.words, self.starts, t, d, self.format())
     }
 }
 
@@ -253,8 +283,9 @@ fn stored_cost(sequence: &SeqView, format: Format) -> u64
 }
 
 // A cursor at the start of list t of the words of an index.
-fn cursor_at<'a>(words: &'a [u64], t: u32, format: Format) -> PostingCursor<'a>
+fn cursor_at<'a>(words: &'a [u64], starts: &[u64], t: u32, format: Format) -> PostingCursor<'a>
     requires words { length words.now < 2 ^ 57 }
+    requires starts { format ≡ Three → AreNoneOr (list_starts words.now) starts.now }
     requires index { IsIndexIn (numbers_of format) words.now }
     requires within { t < stated_terms words.now }
     ensures list { (c : Collection) (parts : List ListParts)
@@ -263,13 +294,14 @@ fn cursor_at<'a>(words: &'a [u64], t: u32, format: Format) -> PostingCursor<'a>
     ensures start { ⟦<PostingCursor<'a> as DocCursor>⟧.place result ≡ 0 }
 {
     file_laws();
-    let list = list_views(words, t, format);
+    let list = list_views(words, starts, t, format);
     PostingCursor::new(list.docs, list.freqs, list.greatest)
 }
 
 // The first posting of list t of the words of an index whose document is at least d.
-fn posting_from(words: &[u64], t: u32, d: u32, format: Format) -> Option<(u32, u32)>
+fn posting_from(words: &[u64], starts: &[u64], t: u32, d: u32, format: Format) -> Option<(u32, u32)>
     requires words { length words.now < 2 ^ 57 }
+    requires starts { format ≡ Three → AreNoneOr (list_starts words.now) starts.now }
     requires index { IsIndexIn (numbers_of format) words.now }
     requires within { t < stated_terms words.now }
     ensures { (c : Collection) (parts : List ListParts)
@@ -277,6 +309,6 @@ fn posting_from(words: &[u64], t: u32, d: u32, format: Format) -> Option<(u32, u
         → result ≡ option_map (λ p. (p.doc, p.freq)) (first_at_least (list_of c t) d) }
 {
     file_laws();
-    let list = list_views(words, t, format);
+    let list = list_views(words, starts, t, format);
     first_posting(&list.docs, &list.freqs, d)
 }

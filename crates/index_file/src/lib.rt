@@ -18,6 +18,7 @@ mod packed_laws;
 mod packed_views;
 mod partitions;
 mod plain_builder;
+mod starts;
 mod totals;
 mod views;
 
@@ -30,3 +31,4 @@ pub use laws::{
     one_index, words_and_bytes_undo_each_other,
 };
 pub use packed_laws::one_packed_file;
+pub use starts::list_starts;

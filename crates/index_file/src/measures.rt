@@ -61,7 +61,7 @@ fn of_list(measure: Measure, words: &[u64], t: u32, format: Format) -> u64
 {
     file_laws();
     sequence_takes_its_cost();
-    let list = list_views(words, t, format);
+    let list = list_views(words, &words[..0], t, format);
     of_sequence(measure, &list.docs) + of_sequence(measure, &list.freqs)
 }
 

@@ -3,6 +3,7 @@ ghost use Rattle.bit_words.specs.Bits.{bits_of, HasNoOne};
 ghost use Rattle.part_cost.specs.Payload.{payload};
 ghost use Rattle.part_codec.specs.PartView.{Holds, count_of};
 ghost use Rattle.index_file.specs.PackedAt.{packed_terms, packed_bits, packed_directory, starts_universe, starts_stated, AreStarts, HasStarts, IsListStored, HasPackedFrame, AreListsStored, PassesPackedClosing, PassesPacked};
+ghost use Rattle.index_file.specs.DirectoryView.{IsDirectory};
 ghost use Rattle.index_file.specs.PackedFaults.{IsPackedClosingFault, IsFirstBrokenPacked, StatesPackedFrame, IsFirstPackedListFault};
 
 use crate::fault::OpenFault;
@@ -120,8 +121,7 @@ fn check_packed_list(
     requires frame { HasPackedFrame words.now }
     requires numbers { StatesPackedFrame words.now frame }
     requires starts { HasStarts words.now }
-    requires held { Holds starts.now (starts_stated words.now) }
-    requires count { count_of starts.now ≡ packed_terms words.now + 1 }
+    requires directory { IsDirectory words.now starts.now }
     requires within { t < packed_terms words.now }
     requires number { number ≡ slice_index (starts_stated words.now) t }
     ensures ok { OnOk result (IsListStored words.now t) }

@@ -1,13 +1,13 @@
-ghost use Rattle.std.specs.Prelude.{◌≡◌, ℕ, ◌+◌, ◌≤◌, ◌<◌, ◌^◌, List, [], length, slice_index};
-ghost use Rattle.collection_model.specs.FormatNumbers.{format_three};
+ghost use Rattle.std.specs.Prelude.{◌≡◌, ℕ, ◌+◌, ◌≤◌, ◌<◌, ◌^◌, List, length, slice_index};
 ghost use Rattle.part_codec.specs.PartView.{Holds, count_of};
 ghost use Rattle.index_file.specs.PackedAt.{packed_terms, start_stated, HasStarts, HasPackedFrame, PassesPacked};
+ghost use Rattle.index_file.specs.ListStarts.{AreNoneOr, list_starts};
 ghost use Rattle.index_file.specs.PackedFaults.{StatesPackedFrame};
 ghost use Rattle.index_file.specs.PackedView.{packed_list_stated};
 
 use crate::packed_checking::{FIRST_LIST_BIT, number_after, starts_part};
 use crate::packed_frame::{PackedFrame, packed_frame_of};
-use packed_list::{PackedList, view_list};
+use packed_list::{ListViews, view_list};
 use part_codec::{PartCodec, PartView, one_list_at_place};
 use part_cost::Format;
 use two_level::SeqView;
@@ -48,17 +48,33 @@ fn bits_of_list(words: &[u64], frame: PackedFrame, t: u64) -> BitRange
     }
 }
 
-// A sequence without values.
-fn no_values<'a>(words: &'a [u64]) -> SeqView<'a>
+// How many list bits stand before list t of a packed file, and before the next one: by where the lists
+// begin, and where that is not kept by the directory.
+fn range_of_list(words: &[u64], starts: &[u64], frame: PackedFrame, t: u64) -> BitRange
     requires words { length words.now < 2 ^ 57 }
-    ensures { result ≡ record { format = format_three; values = []; ends = [] } }
+    requires frame { HasPackedFrame words.now }
+    requires numbers { StatesPackedFrame words.now frame }
+    requires directory { HasStarts words.now }
+    requires starts { AreNoneOr (list_starts words.now) starts.now }
+    requires within { t < packed_terms words.now }
+    ensures from { result.from ≡ start_stated words.now t }
+    ensures to { result.to ≡ start_stated words.now (t + 1) }
 {
-    SeqView::known(words, 0, 0, Format::Three)
+    if starts.is_empty() {
+        bits_of_list(words, frame, t)
+    } else {
+        BitRange {
+            from: starts[t as usize],
+            to: starts[t as usize + 1],
+        }
+    }
 }
 
-// List t of the words of a packed file. It reads two numbers of the directory, and the list's head.
-pub(crate) fn packed_list_views<'a>(words: &'a [u64], t: u32) -> PackedList<'a>
+// List t of the words of a packed file. It reads the list's head, and where the lists' starts are not
+// kept two numbers of the directory.
+pub(crate) fn packed_list_views<'a>(words: &'a [u64], starts: &[u64], t: u32) -> ListViews<'a>
     requires words { length words.now < 2 ^ 57 }
+    requires starts { AreNoneOr (list_starts words.now) starts.now }
     requires passes { PassesPacked words.now }
     requires within { t < packed_terms words.now }
     ensures docs { result.docs ≡ (packed_list_stated words.entry.now t).docs }
@@ -67,11 +83,11 @@ pub(crate) fn packed_list_views<'a>(words: &'a [u64], t: u32) -> PackedList<'a>
 {
     one_list_at_place();
     let frame = packed_frame_of(words);
-    let range = bits_of_list(words, frame, t as u64);
+    let range = range_of_list(words, starts, frame, t as u64);
     if range.from == range.to {
-        return PackedList {
-            docs: no_values(words),
-            freqs: no_values(words),
+        return ListViews {
+            docs: SeqView::without_values(Format::Three),
+            freqs: SeqView::without_values(Format::Three),
             greatest: 0,
         };
     }

@@ -34,7 +34,12 @@ impl Model for PlainBuilder {
 
     ghost Value = { Built };
 
-    ghost view = { λ b. record { format = b.format; documents = b.documents; words = drop 2 b.words.items; directory = b.directory.items } };
+    ghost view = { λ b. record {
+      format = b.format;
+      documents = b.documents;
+      words = drop 2 b.words.items;
+      directory = b.directory.items;
+    } };
 
     ghost invariant = { λ b. IsKept b.format b.documents b.words.items b.directory.items };
 }

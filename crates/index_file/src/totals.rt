@@ -80,7 +80,7 @@ pub(crate) fn all_postings(words: &[u64], format: Format) -> u64
     file_laws();
     let mut total = 0;
     for t in 0..walked_terms(words, format) {
-        total += u64::from(list_views(words, t, format).docs.len());
+        total += u64::from(list_views(words, &words[..0], t, format).docs.len());
     }
     total
 }

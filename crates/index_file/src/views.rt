@@ -3,27 +3,28 @@ ghost use Rattle.part_cost.specs.Formats.{numbers_of};
 ghost use Rattle.two_level.specs.SequenceView.{SequenceView, BeginWith};
 ghost use Rattle.index_file.specs.FileWords.{IsPlainIn, IsIndexIn};
 ghost use Rattle.index_file.specs.FirstBroken.{stated_terms, stated_greatest};
+ghost use Rattle.part_cost.specs.declared.formats.Format.TheVariants.{Three};
+ghost use Rattle.index_file.specs.ListStarts.{AreNoneOr, list_starts};
 ghost use Rattle.index_file.specs.IndexView.{docs_stated, freqs_stated, list_of_kind};
 
 use crate::frame::frame_of;
 use crate::laws::{file_laws, sequence_laws};
 use crate::lists::list_entry;
 use crate::packed_views::packed_list_views;
-use packed_list::PackedList;
+use packed_list::ListViews;
 use part_cost::Format;
 use two_level::SeqView;
 
-// A list of an index, ready to be read: its two sequences, and its greatest frequency.
-#[derive(Drop)]
-pub(crate) struct ListViews<'a> {
-    pub(crate) docs: SeqView<'a>,
-    pub(crate) freqs: SeqView<'a>,
-    pub(crate) greatest: u32,
-}
-
-// List t of the words of an index in a format.
-pub(crate) fn list_views<'a>(words: &'a [u64], t: u32, format: Format) -> ListViews<'a>
+// List t of the words of an index in a format, by where the lists of a packed file begin, if that is
+// kept.
+pub(crate) fn list_views<'a>(
+    words: &'a [u64],
+    starts: &[u64],
+    t: u32,
+    format: Format,
+) -> ListViews<'a>
     requires words { length words.now < 2 ^ 57 }
+    requires starts { format ≡ Three → AreNoneOr (list_starts words.now) starts.now }
     requires index { IsIndexIn (numbers_of format) words.now }
     requires within { t < stated_terms words.now }
     ensures docs { result.docs ≡ (list_of_kind (numbers_of format).kind (numbers_of format)
@@ -37,20 +38,7 @@ pub(crate) fn list_views<'a>(words: &'a [u64], t: u32, format: Format) -> ListVi
     match format {
         Format::One => plain_list_views(words, t, Format::One),
         Format::Two => plain_list_views(words, t, Format::Two),
-        Format::Three => views_of(packed_list_views(words, t)),
-    }
-}
-
-// A list of a packed file, as one of a file of any kind.
-fn views_of<'a>(list: PackedList<'a>) -> ListViews<'a>
-    ensures docs { result.docs ≡ list.entry.docs }
-    ensures freqs { result.freqs ≡ list.entry.freqs }
-    ensures greatest { result.greatest ≡ list.entry.greatest }
-{
-    ListViews {
-        docs: list.docs,
-        freqs: list.freqs,
-        greatest: list.greatest,
+        Format::Three => packed_list_views(words, starts, t),
     }
 }
 

@@ -11,16 +11,16 @@ between : (c : After-number_after-next) → AreBetween c.args.words.now c.args.t
 between c =
     let a = c.args in
     are-between c.one_list_at_place.ensures.values a.words.now c.requires.frame c.requires.starts a.t a.number c.number_after-next.result c.requires.within c.requires.number
-    (c.number_after-next.ensures (starts_stated a.words.now) c.requires.held)
+    (c.number_after-next.ensures (starts_stated a.words.now) c.requires.directory.held)
 
 pub number_after-next-requires-clause-held : goal.number_after-next-requires-clause-held
-number_after-next-requires-clause-held c = (starts_stated c.args.words.now, c.requires.held)
+number_after-next-requires-clause-held c = (starts_stated c.args.words.now, c.requires.directory.held)
 
 pub number_after-next-requires-clause-within : goal.number_after-next-requires-clause-within
-number_after-next-requires-clause-within c = omega (arith, c.requires.count, c.requires.within)
+number_after-next-requires-clause-within c = omega (arith, c.requires.directory.count, c.requires.within)
 
 pub number_after-next-requires-clause-number : goal.number_after-next-requires-clause-number
-number_after-next-requires-clause-number c = number-held c.args.starts.now (starts_stated c.args.words.now) c.args.number c.args.t c.requires.held c.requires.number
+number_after-next-requires-clause-number c = number-held c.args.starts.now (starts_stated c.args.words.now) c.args.number c.args.t c.requires.directory.held c.requires.number
 
 pub overflow_add-from : goal.overflow_add-from
 overflow_add-from c =
@@ -66,7 +66,7 @@ returns-then-check_list-clause-ok c =
     (c.check_list.ensures.0 c.if-check_list.true)
 
 pub returns-then-check_list-clause-next : goal.returns-then-check_list-clause-next
-returns-then-check_list-clause-next c = c.number_after-next.ensures (starts_stated c.args.words.now) c.requires.held
+returns-then-check_list-clause-next c = c.number_after-next.ensures (starts_stated c.args.words.now) c.requires.directory.held
 
 pub returns-else-check_list-clause-err : goal.returns-else-check_list-clause-err
 returns-else-check_list-clause-err c =

@@ -17,16 +17,16 @@ overflow_cast-t-end c = omega (arith, c.requires.frame.terms, c.requires.numbers
 pub loop-t-init : goal.loop-t-init
 loop-t-init c = (sym (first-start c.one_list_at_place.ensures.values c.args.words.now c.requires.starts), λ r lt. absurd (omega (arith, lt)))
 
-pub check_packed_list-requires-clause-held : goal.check_packed_list-requires-clause-held
-check_packed_list-requires-clause-held c =
+pub check_packed_list-requires-clause-directory : goal.check_packed_list-requires-clause-directory
+check_packed_list-requires-clause-directory c =
     let words = c.args.words.now in
     let s = c.starts_part in
     let p = s.result in
-    (c.at-starts.ensures.part (starts_stated words)).1
-    (starts-from words p.bits.words.now p.place p.u p.m (starts_stated words) s.ensures.bits s.ensures.place s.ensures.u s.ensures.m (stands c.one_list_at_place.ensures.values words c.requires.starts))
-
-pub check_packed_list-requires-clause-count : goal.check_packed_list-requires-clause-count
-check_packed_list-requires-clause-count c = c.at-starts.ensures.m ∙ c.starts_part.ensures.m
+    record {
+      held = (c.at-starts.ensures.part (starts_stated words)).1
+          (starts-from words p.bits.words.now p.place p.u p.m (starts_stated words) s.ensures.bits s.ensures.place s.ensures.u s.ensures.m (stands c.one_list_at_place.ensures.values words c.requires.starts));
+      count = c.at-starts.ensures.m ∙ c.starts_part.ensures.m;
+    }
 
 pub check_packed_list-requires-clause-within : goal.check_packed_list-requires-clause-within
 check_packed_list-requires-clause-within c = omega (arith, c.loop-t-test.true, c.requires.numbers.terms)

@@ -1,4 +1,4 @@
-use Rattle.std.proofs.Common.{◌≡◌, ◌≤◌, ◌-◌, ◌+◌, ℕ, slice_index, ap, arith}
+use Rattle.std.proofs.Common.{◌≤◌, ◌-◌, ◌+◌, ℕ, slice_index, ap, arith}
 use Rattle.part_codec.specs.PartView.{Holds}
 use Rattle.index_file.specs.PackedAt.{packed_terms, starts_stated}
 use Rattle.index_file.proofs.PackedStarts.{stands, start-lies, starts-from}

@@ -13,12 +13,12 @@ packed_frame_of-frame-requires c = omega (arith, c.requires.passes.frame.some)
 pub overflow_add-range : goal.overflow_add-range
 overflow_add-range c =
     let b = lie-between c.one_list_at_place.ensures.values c.args.words.now c.requires.passes c.args.t c.requires.within in
-    omega (arith, b.ordered, b.few, c.bits_of_list-range.ensures.from, c.requires.passes.frame.bits)
+    omega (arith, b.ordered, b.few, c.range_of_list-range.ensures.from, c.requires.passes.frame.bits)
 
 pub overflow_add-range-2 : goal.overflow_add-range-2
 overflow_add-range-2 c =
     let b = lie-between c.one_list_at_place.ensures.values c.args.words.now c.requires.passes c.args.t c.requires.within in
-    omega (arith, b.few, c.bits_of_list-range.ensures.to, c.requires.passes.frame.bits)
+    omega (arith, b.few, c.range_of_list-range.ensures.to, c.requires.passes.frame.bits)
 
 pub overflow_cast-frame : goal.overflow_cast-frame
 overflow_cast-frame c = omega (arith, c.packed_frame_of-frame.ensures.documents, c.requires.passes.frame.documents)
@@ -26,40 +26,40 @@ overflow_cast-frame c = omega (arith, c.packed_frame_of-frame.ensures.documents,
 pub view_list-requires-clause-some : goal.view_list-requires-clause-some
 view_list-requires-clause-some c =
     let b = lie-between c.one_list_at_place.ensures.values c.args.words.now c.requires.passes c.args.t c.requires.within in
-    omega (arith, b.ordered, c.bits_of_list-range.ensures.from, c.bits_of_list-range.ensures.to, c.if-range.false)
+    omega (arith, b.ordered, c.range_of_list-range.ensures.from, c.range_of_list-range.ensures.to, c.if-range.false)
 
 pub view_list-requires-clause-range : goal.view_list-requires-clause-range
 view_list-requires-clause-range c =
     let b = lie-between c.one_list_at_place.ensures.values c.args.words.now c.requires.passes c.args.t c.requires.within in
-    omega (arith, b.within, c.bits_of_list-range.ensures.to)
+    omega (arith, b.within, c.range_of_list-range.ensures.to)
 
 pub view_list-requires-clause-list : goal.view_list-requires-clause-list
 view_list-requires-clause-list c =
-    held-at c.args.words.now c.args.t c.packed_frame_of-frame.result.documents (first_list_bit + c.bits_of_list-range.result.from) (first_list_bit + c.bits_of_list-range.result.to) c.packed_frame_of-frame.ensures.documents
-    (ap (λ k. first_list_bit + k) c.bits_of_list-range.ensures.from) (ap (λ k. first_list_bit + k) c.bits_of_list-range.ensures.to) (c.requires.passes.lists c.args.t c.requires.within)
+    held-at c.args.words.now c.args.t c.packed_frame_of-frame.result.documents (first_list_bit + c.range_of_list-range.result.from) (first_list_bit + c.range_of_list-range.result.to) c.packed_frame_of-frame.ensures.documents
+    (ap (λ k. first_list_bit + k) c.range_of_list-range.ensures.from) (ap (λ k. first_list_bit + k) c.range_of_list-range.ensures.to) (c.requires.passes.lists c.args.t c.requires.within)
 
 pub returns-then-range-clause-docs : goal.returns-then-range-clause-docs
 returns-then-range-clause-docs c =
-    let is = empty-stated c.args.words.now c.args.t (sym c.bits_of_list-range.ensures.from ∙ c.if-range.true ∙ c.bits_of_list-range.ensures.to) in
-    c.no_values.ensures ∙ ap (λ (s : ListStated). s.docs) (sym is)
+    let is = empty-stated c.args.words.now c.args.t (sym c.range_of_list-range.ensures.from ∙ c.if-range.true ∙ c.range_of_list-range.ensures.to) in
+    c.without_values.ensures ∙ ap (λ (s : ListStated). s.docs) (sym is)
 
 pub returns-then-range-clause-freqs : goal.returns-then-range-clause-freqs
 returns-then-range-clause-freqs c =
-    let is = empty-stated c.args.words.now c.args.t (sym c.bits_of_list-range.ensures.from ∙ c.if-range.true ∙ c.bits_of_list-range.ensures.to) in
-    c.no_values-then-range.ensures ∙ ap (λ (s : ListStated). s.freqs) (sym is)
+    let is = empty-stated c.args.words.now c.args.t (sym c.range_of_list-range.ensures.from ∙ c.if-range.true ∙ c.range_of_list-range.ensures.to) in
+    c.without_values-then-range.ensures ∙ ap (λ (s : ListStated). s.freqs) (sym is)
 
 pub returns-then-range-clause-greatest : goal.returns-then-range-clause-greatest
 returns-then-range-clause-greatest c =
-    let is = empty-stated c.args.words.now c.args.t (sym c.bits_of_list-range.ensures.from ∙ c.if-range.true ∙ c.bits_of_list-range.ensures.to) in
+    let is = empty-stated c.args.words.now c.args.t (sym c.range_of_list-range.ensures.from ∙ c.if-range.true ∙ c.range_of_list-range.ensures.to) in
     ap (λ (s : ListStated). s.most) (sym is)
 
 -- what is viewed is the list stated
 viewed : (c : goal.After-view_list)
-    → list_at c.packed_frame_of-frame.result.documents c.args.words.now (first_list_bit + c.bits_of_list-range.result.from) ≡ packed_list_stated c.args.words.now c.args.t
+    → list_at c.packed_frame_of-frame.result.documents c.args.words.now (first_list_bit + c.range_of_list-range.result.from) ≡ packed_list_stated c.args.words.now c.args.t
 viewed c =
-    ap (λ n. list_at n c.args.words.now (first_list_bit + c.bits_of_list-range.result.from)) c.packed_frame_of-frame.ensures.documents
-    ∙ ap (λ k. list_at (packed_documents c.args.words.now) c.args.words.now (first_list_bit + k)) c.bits_of_list-range.ensures.from
-    ∙ sym (some-stated c.args.words.now c.args.t (λ e. c.if-range.false (c.bits_of_list-range.ensures.from ∙ e ∙ sym c.bits_of_list-range.ensures.to)))
+    ap (λ n. list_at n c.args.words.now (first_list_bit + c.range_of_list-range.result.from)) c.packed_frame_of-frame.ensures.documents
+    ∙ ap (λ k. list_at (packed_documents c.args.words.now) c.args.words.now (first_list_bit + k)) c.range_of_list-range.ensures.from
+    ∙ sym (some-stated c.args.words.now c.args.t (λ e. c.if-range.false (c.range_of_list-range.ensures.from ∙ e ∙ sym c.range_of_list-range.ensures.to)))
 
 pub returns-clause-docs : goal.returns-clause-docs
 returns-clause-docs c = c.view_list.ensures.docs ∙ ap (λ (s : ListStated). s.docs) (viewed c)

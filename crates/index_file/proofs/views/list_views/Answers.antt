@@ -45,12 +45,12 @@ packed_list_views-requires-clause-passes c =
 
 pub returns-in-Three-clause-docs : goal.returns-in-Three-clause-docs
 returns-in-Three-clause-docs c =
-    c.views_of.ensures.docs ∙ c.packed_list_views.ensures.docs ∙ ap (λ v. (list_of_kind (numbers_of v).kind (numbers_of v) c.args.words.now c.args.t).docs) (sym c.in-Three.is)
+    c.packed_list_views.ensures.docs ∙ ap (λ v. (list_of_kind (numbers_of v).kind (numbers_of v) c.args.words.now c.args.t).docs) (sym c.in-Three.is)
 
 pub returns-in-Three-clause-freqs : goal.returns-in-Three-clause-freqs
 returns-in-Three-clause-freqs c =
-    c.views_of.ensures.freqs ∙ c.packed_list_views.ensures.freqs ∙ ap (λ v. (list_of_kind (numbers_of v).kind (numbers_of v) c.args.words.now c.args.t).freqs) (sym c.in-Three.is)
+    c.packed_list_views.ensures.freqs ∙ ap (λ v. (list_of_kind (numbers_of v).kind (numbers_of v) c.args.words.now c.args.t).freqs) (sym c.in-Three.is)
 
 pub returns-in-Three-clause-greatest : goal.returns-in-Three-clause-greatest
 returns-in-Three-clause-greatest c =
-    c.views_of.ensures.greatest ∙ c.packed_list_views.ensures.greatest ∙ ap (λ v. (list_of_kind (numbers_of v).kind (numbers_of v) c.args.words.now c.args.t).most) (sym c.in-Three.is)
+    c.packed_list_views.ensures.greatest ∙ ap (λ v. (list_of_kind (numbers_of v).kind (numbers_of v) c.args.words.now c.args.t).most) (sym c.in-Three.is)

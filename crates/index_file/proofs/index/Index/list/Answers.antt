@@ -3,6 +3,7 @@ use Rattle.part_cost.specs.Formats.{numbers_of}
 use Rattle.index_file.specs.FileWords.{ListParts, Spells}
 use Rattle.index_file.specs.IndexView.{list_of_kind}
 use Rattle.index_file.proofs.FileKinds.{spells-view, framed, list-read}
+use Rattle.index_file.proofs.ListStarts.{of-index}
 use Rattle.index_file.proofs.index.Index.list.Goals as goal
 
 pub list_views-requires-clause-index : goal.list_views-requires-clause-index
@@ -36,3 +37,6 @@ returns-clause-freqs c =
     let none : ListParts = record { doc_ends = []; freq_ends = [] } in
     let read = list-read c.file_laws.ensures now.format words c.self.invariant.2 now.collection now.parts none spells c.args.t c.requires.within in
     c.list_views.ensures.freqs ∙ ap (λ v. (list_of_kind (numbers_of v).kind (numbers_of v) words c.args.t).freqs) c.format.ensures ∙ read.freqs
+
+pub list_views-requires-clause-starts : goal.list_views-requires-clause-starts
+list_views-requires-clause-starts c is = of-index c.self.inside.words.now c.self.inside.starts.now c.args.self.now c.format.result c.self.invariant.3 c.self.view_is c.format.ensures is

@@ -1,4 +1,4 @@
-use Rattle.std.proofs.Common.{rules, arith}
+use Rattle.std.proofs.Common.{rules, arith, inl, refl}
 use Rattle.std.proofs.lemmas.Result.{IfErr-weaker}
 use Rattle.index_file.specs.FileWords.{IsIndex}
 use Rattle.index_file.specs.FirstBroken.{IsFirstBroken}
@@ -23,7 +23,7 @@ pub invariant_of-result : goal.invariant_of-result
 invariant_of-result c =
     let words = c.args.words.now in
     let narrow = narrow-words words (λ k. omega (arith, c.type_inv.words k)) in
-    (spells-stated c.file_laws.ensures words narrow c.in_ok-check_file.ensures.ok, c.requires.words, narrow)
+    (spells-stated c.file_laws.ensures words narrow c.in_ok-check_file.ensures.ok, c.requires.words, narrow, inl refl)
 
 pub returns-clause-ok : goal.returns-clause-ok
 returns-clause-ok c =
