@@ -8,5 +8,5 @@ mod starts;
 
 pub use laws::side_files_fit;
 pub use side::index_side_words;
-pub use source::IndexBlocks;
+pub use source::{IndexBlocks, IndexCursor};
 pub use starts::block_starts;

@@ -21,6 +21,9 @@ pub struct IndexBlocks<'i, 'a> {
     ghost counted: { starts.now ≡ block_starts (blocks_of_index index.now) },
 }
 
+/// A cursor over a list of an index, with the greatest frequencies of the list's blocks.
+pub type IndexCursor<'i, 'a> = SideCursor<'i, PostingCursor<'a>, IndexBlocks<'i, 'a>>;
+
 impl<'i, 'a> IndexBlocks<'i, 'a> {
     ghost use Rattle.index_blocks.specs.Seen.{index_seen};
 
@@ -44,17 +47,13 @@ impl<'i, 'a> IndexBlocks<'i, 'a> {
     }
 
     /// A cursor at the start of list t of the index, with the blocks of its side file.
-    pub fn cursor(
-        &'i self,
-        side: Side<'i>,
-        t: u32,
-    ) -> SideCursor<'i, PostingCursor<'a>, IndexBlocks<'i, 'a>>
+    pub fn cursor(&'i self, side: Side<'i>, t: u32) -> IndexCursor<'i, 'a>
         requires within { t < length (index_seen self.now).collection.lists }
         requires of_side { words_seen side ≡ side_words (blocks_of_index (index_seen self.now)) }
-        ensures list { ⟦<SideCursor<'i, PostingCursor<'a>, IndexBlocks<'i, 'a>> as DocCursor>⟧.list
-            result ≡ list_of (index_seen self.entry.now).collection t }
-        ensures start { ⟦<SideCursor<'i, PostingCursor<'a>, IndexBlocks<'i, 'a>> as DocCursor>⟧.place result ≡ 0 }
-        ensures blocks { ⟦<SideCursor<'i, PostingCursor<'a>, IndexBlocks<'i, 'a>> as BlockCursor>⟧.blocks result
+        ensures list { ⟦<IndexCursor<'i, 'a> as DocCursor>⟧.list result
+            ≡ list_of (index_seen self.entry.now).collection t }
+        ensures start { ⟦<IndexCursor<'i, 'a> as DocCursor>⟧.place result ≡ 0 }
+        ensures blocks { ⟦<IndexCursor<'i, 'a> as BlockCursor>⟧.blocks result
             ≡ blocks_of (nth_list (blocks_of_index (index_seen self.entry.now)) t) }
     {
         self.index.stands_for_a_collection();
