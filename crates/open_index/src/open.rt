@@ -1,0 +1,66 @@
+ghost use Rattle.std.specs.Prelude.{◌≡◌, ◌<◌, ◌^◌, length, IfErr, IfOk};
+ghost use Rattle.part_cost.specs.Formats.{numbers_of};
+ghost use Rattle.index_file.specs.FileWords.{IsIndex, Spells};
+ghost use Rattle.index_file.specs.FirstBroken.{IsFirstBroken};
+
+use index_file::{Index, OpenFault, list_starts};
+use no_memory::NoMemory;
+use std::alloc::Global;
+use std::marker::Model;
+
+/// The words of a file that were found to be an index.
+#[derive(Drop)]
+pub struct OpenIndex {
+    words: Vec<u64>,
+    // Where the lists of a packed file begin, if it is kept.
+    starts: Vec<u64>,
+}
+
+impl Model for OpenIndex {
+    ghost use Rattle.std.specs.Prelude.{◌<◌, ◌^◌, length};
+    ghost use Rattle.index_file.specs.FileWords.{IsIndex};
+    ghost use Rattle.index_file.specs.ListStarts.{AreNoneOr, kept_starts};
+    ghost use Rattle.index_file.specs.IndexView.{IndexView, index_stated};
+
+    ghost Value = { IndexView };
+
+    ghost view = { λ opened. index_stated opened.words.items };
+
+    ghost invariant = { λ opened. (length opened.words.items < 2 ^ 57)
+        × IsIndex opened.words.items
+        × AreNoneOr (kept_starts opened.words.items) opened.starts.items };
+}
+
+impl OpenIndex {
+    /// The index that the words are, or their first broken check.
+    pub fn open(words: Vec<u64>) -> Result<OpenIndex, OpenFault>
+        requires { length words.items < 2 ^ 57 }
+        ensures ok { IfOk result (λ index. Spells (numbers_of index.format) words.items
+            index.collection index.parts) }
+        ensures no_index { IfErr result (λ f. ¬ IsIndex words.items) }
+        ensures first { IfErr result (λ f. IsFirstBroken words.items f) }
+    {
+        Index::view(&words)?;
+        let starts = Vec::new(*words.allocator());
+        Ok(OpenIndex { words, starts })
+    }
+
+    /// The index, with a number in memory for each list of a packed file: where the list begins. By two of them a list is found, and not by
+    /// the directory. A file that states more than eight lists for each of its words gets none.
+    pub fn with_starts(self, alloc: Global) -> Result<OpenIndex, NoMemory>
+        ensures { IfOk result (λ index. index ≡ self) }
+    {
+        let starts = list_starts(alloc, &self.words)?;
+        Ok(OpenIndex {
+            words: self.words,
+            starts,
+        })
+    }
+
+    /// The index: nothing is checked.
+    pub fn index(&self) -> Index<'_>
+        ensures { result ≡ self.now }
+    {
+        Index::with_starts(&self.words, &self.starts)
+    }
+}
