@@ -7,7 +7,7 @@ ghost use Rattle.command_model.specs.Replies.{AreReplies, IsReply};
 ghost use Rattle.index_printing.specs.PrintText.{MakesAndPrints};
 
 use index_file::Index;
-use line_replies::{IndexLists, TermLists, reply_to};
+use line_replies::{IndexLists, LineCursors, TermLists, reply_to};
 use no_memory::NoMemory;
 use part_codec::part_takes_its_payload;
 use part_cost::{Kind, formats_have_room};
@@ -42,7 +42,13 @@ fn generated_text(alloc: Global, index: &Index<'_>) -> Result<Vec<u8>, NoMemory>
         let lists = IndexLists::new(index, Plan::Exhaustive);
         let next = next_line(alloc, index)?;
         let top = top_line(alloc, index)?;
-        push_reply(alloc, &lists, &next, &mut text)?;
+        push_reply(
+            alloc,
+            &lists,
+            &mut LineCursors::new(alloc),
+            &next,
+            &mut text,
+        )?;
         push_replies(alloc, index, &PLANS, &top, &mut text)?;
     }
     Ok(text)
@@ -105,17 +111,18 @@ fn top_line(alloc: Global, index: &Index<'_>) -> Result<String, AllocError>
     format!(in alloc; "top 10 0 {last}")
 }
 
-// Appends the reply to a line.
+// Appends the reply to a line. Its cursors take the place of those that are lent.
 fn push_reply<L: TermLists>(
     alloc: Global,
     lists: &L,
+    cursors: &mut LineCursors<L::Cursor>,
     line: &str,
     text: &mut Vec<u8>,
 ) -> Result<(), NoMemory>
     ensures { OnOk result ((reply : List ℕ) × IsReply (L.collection lists.now) line.now reply
         × (text.new.items ≡ text.old.items ++ reply)) }
 {
-    let reply = reply_to(alloc, lists, line.as_bytes())?;
+    let reply = reply_to(alloc, lists, cursors, line.as_bytes())?;
     Ok(text.extend_from_slice(&reply)?)
 }
 
@@ -131,8 +138,15 @@ fn push_replies(
         × AreReplies index.now.collection (replicate (length plans.now) line.now) replies
         × (text.new.items ≡ text.old.items ++ replies)) }
 {
+    let mut cursors = LineCursors::new(alloc);
     for plan in plans {
-        push_reply(alloc, &IndexLists::new(index, *plan), line, text)?;
+        push_reply(
+            alloc,
+            &IndexLists::new(index, *plan),
+            &mut cursors,
+            line,
+            text,
+        )?;
     }
     Ok(())
 }

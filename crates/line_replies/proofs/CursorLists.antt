@@ -11,12 +11,10 @@ use Rattle.scan_plans.specs.IsTop.{IsTop}
 use Rattle.scan_plans.specs.TopQuery.{IsTopQuery}
 use Rattle.scan_plans.proofs.AskedLists.{lists-below, is-query as lists-asked}
 use Rattle.segments.specs.Laws.{IsInRange}
-use Rattle.query_text.specs.declared.query.Query.{Query}
-use Rattle.query_text.specs.declared.query.Query.TheVariants.{Top}
 use Rattle.no_memory.specs.declared.NoMemory.{NoMemory}
 use Rattle.query_text.specs.Texts.{top_text}
 use Rattle.query_text.specs.Weights.{AreWeights}
-use Rattle.command_model.specs.Replies.{IsAnswer, IsTopText, lists_of}
+use Rattle.command_model.specs.Replies.{IsTopText, lists_of}
 
 -- the documents of the cursors over the lists of some terms are those of the collection
 pub cursors-below : {C : Type 0} (list_at : C → List Posting) (c : Collection) (terms : List ℕ) (made cursors : List C) →
@@ -41,12 +39,3 @@ pub top-text : (n : ℕ) (lists asked : List (List Posting)) (weights : List ℕ
     IfOk r (λ text. text.items ≡ top_text lent) → IfOk r (λ text. IsTopText n asked weights k text.items)
 top-text n lists asked weights k found lent (Err e) same top lend text = tt
 top-text n lists asked weights k found lent (Ok text) same top lend is = (found, subst (λ (ls : List (List Posting)). IsTop n ls weights k found) same top, is ∙ ap top_text lend)
-
--- it answers the line that asks for it
-pub top-answer : (c : Collection) (query : Query) (k : ℕ) (terms : List (ℕ × ℕ)) (ts ws : List ℕ) (r : Result (Vec ℕ Global) NoMemory) → query ≡ Top k terms → ts ≡ map (λ t. t.0) terms → ws ≡ map (λ t. t.1) terms →
-    IfOk r (λ text. IsTopText c.documents (lists_of c ts) ws k text.items) → IfOk r (λ text. IsAnswer c query text.items)
-top-answer c query k terms ts ws (Err e) is named weighted text = tt
-top-answer c query k terms ts ws (Ok text) is named weighted top =
-    let P : Query → Type 0 = λ q. IsAnswer c q text.items in
-    let of_weights = subst (λ (xs : List ℕ). IsTopText c.documents (lists_of c ts) xs k text.items) weighted top in
-    subst P (sym is) (subst (λ (xs : List ℕ). IsTopText c.documents (lists_of c xs) (map (λ t. t.1) terms) k text.items) named of_weights)

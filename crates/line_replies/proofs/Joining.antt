@@ -1,7 +1,6 @@
 -- Segments that are added one after the other, and what a cursor over their lists asks.
-use Rattle.std.proofs.Common.{◌≡◌, refl, sym, ◌∙◌, ap, subst, ℕ, suc, ◌+◌, ◌<◌, ◌≤◌, List, [], ◌∷◌, ◌++◌, length, get_or, take, map, Vec, arith}
-use Rattle.std.specs.declared.alloc.Global.{Global}
-use Rattle.std.specs.Prelude.{◌^◌, sum_by}
+use Rattle.std.proofs.Common.{◌≡◌, refl, sym, ◌∙◌, ap, subst, ℕ, suc, ◌+◌, ◌<◌, ◌≤◌, List, [], ◌∷◌, ◌++◌, length, get_or, take, arith}
+use Rattle.std.specs.Prelude.{sum_by}
 use Rattle.std.specs.List.{All}
 use Rattle.std.proofs.lemmas.List.{map-append, length-map, get_or-map, take_all}
 use Rattle.std.proofs.lemmas.List.Elements.{All-append, All-get_or, All-weaker, All-nil, All-cons}
@@ -9,12 +8,11 @@ use Rattle.std.proofs.lemmas.List.FromFn.{length-map-range_with_len}
 use Rattle.std.proofs.lemmas.List.Sums.{sum_by_push, sum_by_more, sum_by-take-le, sum_by-cons}
 use Rattle.std.proofs.Math.Seq.{take-suc}
 use Rattle.collection_model.specs.Collection.{Posting, Collection, list_of}
-use Rattle.index_file.specs.FileWords.{IsIndex}
-use Rattle.index_file.specs.IndexView.{IndexView, index_stated}
+use Rattle.index_file.specs.IndexView.{IndexView}
 use Rattle.segments.specs.Joined.{ListPart, parts_behind, documents_in, terms_in, joined, joined_list, FitTogether, FollowInOrder}
 use Rattle.segments.specs.JoinedCursor.{part_of, parts_of}
 use Rattle.segments.specs.Laws.{IsInRange, ListsFollow, ListsAreJoined}
-use Rattle.line_replies.specs.AnswerJoined.{CanBeJoined, collections_of}
+use Rattle.line_replies.specs.AnswerJoined.{collections_of}
 use Rattle.line_replies.specs.declared.joined.Segment.{Segment}
 use Rattle.line_replies.specs.JoinedSegments.{AreSegments, collections_in, lists_in}
 
@@ -30,26 +28,26 @@ parts-push n (x ∷ cs) c t =
     let e : n + x.documents + documents_in cs ≡ n + documents_in (x ∷ cs) = omega (arith, sum_by-cons (λ (d : Collection). d.documents) x cs) in
     ap (λ ps. part_of n (list_of x t) ∷ ps) (parts-push (n + x.documents) cs c t ∙ ap (λ m. parts_behind (n + x.documents) cs t ++ part_of m (list_of c t) ∷ []) e)
 
--- what holds of the segments that were made of the first k files
-pub record AreMade (segments : List Segment) (total k : ℕ) (files : List (List ℕ)) : Type 0 where
+-- what holds of the segments that were made of the first k indexes
+pub record AreMade (segments : List Segment) (total k : ℕ) (indexes : List IndexView) : Type 0 where
   pub firsts : (t : ℕ) → lists_in segments t ≡ parts_behind 0 (collections_in segments) t
   pub in_range : All IsInRange (collections_in segments)
   pub documents : total ≡ documents_in (collections_in segments)
-  pub collections : collections_in segments ≡ collections_of (take k files)
+  pub collections : collections_in segments ≡ collections_of (take k indexes)
 
-pub made-none : (files : List (List ℕ)) → AreMade [] 0 0 files
-made-none files = record {
+pub made-none : (indexes : List IndexView) → AreMade [] 0 0 indexes
+made-none indexes = record {
   firsts = λ t. refl;
   in_range = All-nil IsInRange;
   documents = refl;
   collections = refl;
 }
 
-pub made-more : (segments more : List Segment) (first documents k : ℕ) (index : IndexView) (segment : Segment) (files : List (List ℕ)) (file : List ℕ) →
-    AreMade segments first k files → k < length files → file ≡ get_or files k [] → index ≡ index_stated file → IsInRange index.collection → documents ≡ first + index.collection.documents
+pub made-more : (segments more : List Segment) (first documents k : ℕ) (index : IndexView) (segment : Segment) (indexes : List IndexView) →
+    AreMade segments first k indexes → k < length indexes → index ≡ get_or indexes k index → IsInRange index.collection → documents ≡ first + index.collection.documents
     → segment.first ≡ first → segment.index ≡ index
-    → more ≡ segments ++ segment ∷ [] → AreMade more documents (k + 1) files
-made-more segments more first documents k index segment files file made within is stated in_range total at of pushed =
+    → more ≡ segments ++ segment ∷ [] → AreMade more documents (k + 1) indexes
+made-more segments more first documents k index segment indexes made within is in_range total at of pushed =
     let cs : List Collection = collections_in segments in
     let c : Collection = segment.index.collection in
     let its : index ≡ segment.index = sym of in
@@ -64,56 +62,43 @@ made-more segments more first documents k index segment files file made within i
       in_range = subst (All IsInRange) (sym now) (All-append IsInRange cs (c ∷ []) made.in_range (All-cons IsInRange c [] (subst (λ i. IsInRange i.collection) its in_range) (All-nil IsInRange)));
       documents = total ∙ ap (λ i. first + i.collection.documents) its ∙ ap (λ m. m + c.documents) made.documents ∙ sym (documents-push cs c) ∙ ap documents_in (sym now);
       collections =
-          now ∙ ap (λ ds. ds ++ c ∷ []) made.collections ∙ ap (λ i. collections_of (take k files) ++ i.collection ∷ []) (of ∙ stated ∙ ap index_stated is)
-          ∙ sym (map-append (λ words. (index_stated words).collection) (take k files) (get_or files k [] ∷ []))
-          ∙ ap collections_of (sym (take-suc files k [] within)) ∙ ap (λ n. collections_of (take n files)) next;
+          now ∙ ap (λ ds. ds ++ c ∷ []) made.collections ∙ ap (λ (i : IndexView). collections_of (take k indexes) ++ i.collection ∷ []) (of ∙ is)
+          ∙ sym (map-append (λ (i : IndexView). i.collection) (take k indexes) (get_or indexes k index ∷ []))
+          ∙ ap collections_of (sym (take-suc indexes k index within)) ∙ ap (λ n. collections_of (take n indexes)) next;
     }
 
--- the documents of the first so many files and of the next are no more than those of all
-pub documents-fit : (files : List (List ℕ)) (segments : List Segment) (k n : ℕ) (file : List ℕ) (index : IndexView) → CanBeJoined files → k < length files → file ≡ get_or files k [] → index ≡ index_stated file
-    → AreMade segments n k files → n + index.collection.documents ≤ 4294967295
-documents-fit files segments k n file index joins within is stated made =
-    let f : List ℕ → ℕ = λ words. (index_stated words).collection.documents in
-    let all : documents_in (collections_of files) ≡ sum_by f files = documents-of files in
-    let some : documents_in (collections_of (take k files)) ≡ sum_by f (take k files) = documents-of (take k files) in
-    let this : index.collection.documents ≡ f (get_or files k []) = ap (λ i. i.collection.documents) (stated ∙ ap index_stated is) in
-    omega (arith, joins.fit.documents, all, some, this, made.documents, ap documents_in made.collections, sum_by_more f files k [] within, sum_by-take-le f files (k + 1))
+-- the index of an opened one
+pub index-at : (indexes : List IndexView) (k : ℕ) (opened index : IndexView) → opened ≡ get_or indexes k opened → index ≡ opened → index ≡ get_or indexes k index
+index-at indexes k opened index is same = subst (λ i. i ≡ get_or indexes k i) (sym same) is
+
+-- the documents of the first so many indexes and of the next are no more than those of all
+pub documents-fit : (indexes : List IndexView) (segments : List Segment) (k n : ℕ) (index : IndexView) → FitTogether (collections_of indexes) → k < length indexes → index ≡ get_or indexes k index
+    → AreMade segments n k indexes → n + index.collection.documents ≤ 4294967295
+documents-fit indexes segments k n index fit within is made =
+    let f : IndexView → ℕ = λ i. i.collection.documents in
+    let all : documents_in (collections_of indexes) ≡ sum_by f indexes = documents-of indexes in
+    let some : documents_in (collections_of (take k indexes)) ≡ sum_by f (take k indexes) = documents-of (take k indexes) in
+    let this : f index ≡ f (get_or indexes k index) = ap f is in
+    omega (arith, fit.documents, all, some, this, made.documents, ap documents_in made.collections, sum_by_more f indexes k index within, sum_by-take-le f indexes (k + 1))
   where
-    documents-of : (files : List (List ℕ)) → documents_in (collections_of files) ≡ sum_by (λ words. (index_stated words).collection.documents) files
+    documents-of : (indexes : List IndexView) → documents_in (collections_of indexes) ≡ sum_by (λ (i : IndexView). i.collection.documents) indexes
     documents-of [] = refl
-    documents-of (file ∷ files) =
-        sum_by-cons (λ (d : Collection). d.documents) (index_stated file).collection (collections_of files) ∙ ap (λ n. (index_stated file).collection.documents + n) (documents-of files)
-        ∙ sym (sum_by-cons (λ words. (index_stated words).collection.documents) file files)
+    documents-of (index ∷ indexes) =
+        sum_by-cons (λ (d : Collection). d.documents) index.collection (collections_of indexes) ∙ ap (λ n. index.collection.documents + n) (documents-of indexes)
+        ∙ sym (sum_by-cons (λ (i : IndexView). i.collection.documents) index indexes)
 
 -- all segments are made
-pub all-made : (files : List (List ℕ)) (segments : List Segment) (documents k : ℕ) → AreMade segments documents k files → length files ≤ k
-    → (documents ≡ documents_in (collections_in segments)) × (collections_in segments ≡ collections_of files)
-all-made files segments documents k made all = (made.documents, made.collections ∙ ap collections_of (take_all k files all))
+pub all-made : (indexes : List IndexView) (segments : List Segment) (documents k : ℕ) → AreMade segments documents k indexes → length indexes ≤ k
+    → (documents ≡ documents_in (collections_in segments)) × (collections_in segments ≡ collections_of indexes)
+all-made indexes segments documents k made all = (made.documents, made.collections ∙ ap collections_of (take_all k indexes all))
 
-pub are-segments : (files : List (List ℕ)) (segments : List Segment) (documents k : ℕ) → CanBeJoined files → AreMade segments documents k files → length files ≤ k → AreSegments segments
-are-segments files segments documents k joins made all = record {
+pub are-segments : (indexes : List IndexView) (segments : List Segment) (documents k : ℕ) → FitTogether (collections_of indexes) → AreMade segments documents k indexes → length indexes ≤ k
+    → AreSegments segments
+are-segments indexes segments documents k fit made all = record {
   firsts = made.firsts;
   in_range = made.in_range;
-  fit = subst FitTogether (sym (all-made files segments documents k made all).1) joins.fit;
+  fit = subst FitTogether (sym (all-made indexes segments documents k made all).1) fit;
 }
-
--- ---- the files
-
-pub file-at : (files : List (Vec ℕ Global)) (k : ℕ) (file : Vec ℕ Global) (lent : List ℕ) → k < length files → file ≡ get_or files k file → lent ≡ file.items → lent ≡ get_or (map (λ f. f.items) files) k []
-file-at files k file lent within is lends = lends ∙ ap (λ (f : Vec ℕ Global). f.items) is ∙ sym (get_or-map (λ (f : Vec ℕ Global). f.items) files k file [] within)
-
-pub file-within : (files : List (Vec ℕ Global)) (k : ℕ) → k < length files → k < length (map (λ f. f.items) files)
-file-within files k within = omega (arith, within, length-map files (λ (f : Vec ℕ Global). f.items))
-
-pub file-end : (files : List (Vec ℕ Global)) (k : ℕ) → length files ≤ k → length (map (λ f. f.items) files) ≤ k
-file-end files k past = omega (arith, past, length-map files (λ (f : Vec ℕ Global). f.items))
-
--- what is asked of a file
-pub file-few : (files : List (List ℕ)) (k : ℕ) (file : List ℕ) → CanBeJoined files → k < length files → file ≡ get_or files k [] → length file < 2 ^ 57
-file-few files k file joins within is = subst (λ words. length words < 2 ^ 57) (sym is) (All-get_or (λ words. length words < 2 ^ 57) files k [] within joins.few_words)
-
-pub file-index : (files : List (List ℕ)) (k : ℕ) (file : List ℕ) → CanBeJoined files → k < length files → file ≡ get_or files k [] → IsIndex file
-file-index files k file joins within is = subst IsIndex (sym is) (All-get_or IsIndex files k [] within joins.indexes)
 
 -- ---- the terms of segments
 

@@ -1,4 +1,4 @@
-ghost use Rattle.std.specs.Prelude.{◌≡◌, ◌<◌, map, length, IfOk};
+ghost use Rattle.std.specs.Prelude.{◌≡◌, ◌<◌, ◌≤◌, [], map, length, IsOk, OnOk};
 ghost use Rattle.std.specs.List.{All};
 ghost use Rattle.block_max.specs.SideWords.{side_words, words_seen};
 ghost use Rattle.segments.specs.Laws.{IsInRange};
@@ -7,7 +7,7 @@ ghost use Rattle.index_blocks.specs.BlockLists.{blocks_of_index};
 ghost use Rattle.index_blocks.specs.Seen.{index_seen};
 
 use crate::indexed::documents_are_below;
-use crate::lists::TermLists;
+use crate::lists::{LineCursors, TermLists};
 use block_max::{Side, SideCursor, top_blockmax};
 use cursor_api::DocCursor;
 use index_blocks::IndexBlocks;
@@ -40,25 +40,30 @@ impl<'i, 'a> SideLists<'i, 'a> {
     }
 }
 
-// A cursor at the start of each of these terms' lists, with the blocks of the side file.
-fn block_cursors<'i, 'a>(
-    alloc: Global,
+// Puts a cursor at the start of each of these terms' lists, with the blocks of the side file, into an
+// empty list. Where there is room for as many, no memory is taken.
+fn add_block_cursors<'i, 'a>(
     lists: &SideLists<'i, 'a>,
+    cursors: &mut LineCursors<SideCursor<'i, PostingCursor<'a>, IndexBlocks<'i, 'a>>>,
     terms: &[u32],
-) -> Result<Vec<SideCursor<'i, PostingCursor<'a>, IndexBlocks<'i, 'a>>>, NoMemory>
-    requires { All (λ t. t < length (index_seen lists.now.blocks.now).collection.lists) terms.now }
-    ensures lists { IfOk result (λ cursors. map
-        (⟦<SideCursor<'i, PostingCursor<'a>, IndexBlocks<'i, 'a>> as DocCursor>⟧.list) cursors.items
+) -> Result<(), NoMemory>
+    requires within { All (λ t. t < length (index_seen lists.now.blocks.now).collection.lists)
+        terms.now }
+    requires none { cursors.old.items ≡ [] }
+    ensures lists { OnOk result (map
+        (⟦<SideCursor<'i, PostingCursor<'a>, IndexBlocks<'i, 'a>> as DocCursor>⟧.list)
+        cursors.new.items
         ≡ lists_of (index_seen lists.now.blocks.now).collection terms.now) }
-    ensures start { IfOk result (λ cursors. All
+    ensures start { OnOk result (All
         (λ c. ⟦<SideCursor<'i, PostingCursor<'a>, IndexBlocks<'i, 'a>> as DocCursor>⟧.place c ≡ 0)
-        cursors.items) }
+        cursors.new.items) }
+    ensures room { length terms.now ≤ cursors.old.capacity → IsOk result }
 {
-    let mut cursors = Vec::with_capacity(alloc, terms.len())?;
+    cursors.reserve_exact(terms.len())?;
     for term in terms {
         cursors.push_reserved(lists.blocks.cursor(lists.side, *term));
     }
-    Ok(cursors)
+    Ok(())
 }
 
 impl<'i, 'a> TermLists for SideLists<'i, 'a> {
@@ -74,26 +79,17 @@ impl<'i, 'a> TermLists for SideLists<'i, 'a> {
         self.blocks.index().terms()
     }
 
-    fn cursor(&self, _alloc: Global, term: u32) -> Result<PostingCursor<'a>, NoMemory> {
-        Ok(self.blocks.index().cursor(term))
+    fn first_posting(&self, term: u32, doc: u32) -> Option<(u32, u32)> {
+        self.blocks.index().first_posting(term, doc)
     }
 
-    fn first_posting(
+    fn put_cursor(
         &self,
         _alloc: Global,
-        term: u32,
-        doc: u32,
-    ) -> Result<Option<(u32, u32)>, NoMemory> {
-        Ok(self.blocks.index().first_posting(term, doc))
-    }
-
-    fn push_cursor(
-        &self,
-        _alloc: Global,
-        cursors: &mut Vec<PostingCursor<'a>>,
+        cursor: &mut PostingCursor<'a>,
         term: u32,
     ) -> Result<(), NoMemory> {
-        cursors.push_reserved(self.blocks.index().cursor(term));
+        *cursor = self.blocks.index().cursor(term);
         Ok(())
     }
 
@@ -109,7 +105,8 @@ impl<'i, 'a> TermLists for SideLists<'i, 'a> {
         if !pruning_can_save(cursors, weights, k, documents) {
             return top_exhaustive(alloc, cursors, weights, k, documents);
         }
-        let mut in_blocks = block_cursors(alloc, self, terms)?;
+        let mut in_blocks = LineCursors::new(alloc);
+        add_block_cursors(self, &mut in_blocks, terms)?;
         top_blockmax(alloc, in_blocks.as_mut_slice(), weights, k, documents)
     }
 

@@ -40,26 +40,17 @@ impl<'i, 'a> TermLists for IndexLists<'i, 'a> {
         self.index.terms()
     }
 
-    fn cursor(&self, _alloc: Global, term: u32) -> Result<PostingCursor<'a>, NoMemory> {
-        Ok(self.index.cursor(term))
+    fn first_posting(&self, term: u32, doc: u32) -> Option<(u32, u32)> {
+        self.index.first_posting(term, doc)
     }
 
-    fn first_posting(
+    fn put_cursor(
         &self,
         _alloc: Global,
-        term: u32,
-        doc: u32,
-    ) -> Result<Option<(u32, u32)>, NoMemory> {
-        Ok(self.index.first_posting(term, doc))
-    }
-
-    fn push_cursor(
-        &self,
-        _alloc: Global,
-        cursors: &mut Vec<PostingCursor<'a>>,
+        cursor: &mut PostingCursor<'a>,
         term: u32,
     ) -> Result<(), NoMemory> {
-        cursors.push_reserved(self.index.cursor(term));
+        *cursor = self.index.cursor(term);
         Ok(())
     }
 

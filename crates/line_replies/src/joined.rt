@@ -1,16 +1,17 @@
-ghost use Rattle.std.specs.Prelude.{◌≡◌, ◌<◌, length, map, option_map, IfOk};
+ghost use Rattle.std.specs.Prelude.{◌≡◌, ◌<◌, length, option_map, IfOk};
 ghost use Rattle.std.specs.List.{All};
 ghost use Rattle.collection_model.specs.Collection.{first_at_least, list_of};
-ghost use Rattle.segments.specs.Joined.{documents_in, joined, joined_list, shifted, most_joined, EndsBelow, FollowInOrder};
+ghost use Rattle.segments.specs.Joined.{documents_in, joined, joined_list, shifted, most_joined, EndsBelow, FitTogether, FollowInOrder};
 ghost use Rattle.segments.specs.JoinedCursor.{part_of, parts_of};
 ghost use Rattle.segments.specs.Laws.{IsInRange};
-ghost use Rattle.line_replies.specs.AnswerJoined.{CanBeJoined, collections_of};
+ghost use Rattle.line_replies.specs.AnswerJoined.{collections_of};
 ghost use Rattle.line_replies.specs.JoinedSegments.{AreSegments, collections_in, lists_in};
 
 use crate::lists::TermLists;
 use cursor_api::DocCursor;
 use index_file::Index;
 use no_memory::NoMemory;
+use open_index::OpenIndex;
 use postings::PostingCursor;
 use segments::{JoinedCursor, joined_lists_follow};
 use std::alloc::Global;
@@ -54,18 +55,18 @@ pub struct JoinedLists<'a> {
 }
 
 impl<'a> JoinedLists<'a> {
-    /// The lists of the indexes of these words, in this order.
+    /// The lists of these indexes, in this order.
     pub fn new(
         alloc: Global,
-        files: &'a [Vec<u64>],
+        indexes: &'a [OpenIndex],
         plan: Plan,
     ) -> Result<JoinedLists<'a>, NoMemory>
-        requires { CanBeJoined (map (λ file. file.items) files.now) }
+        requires { FitTogether (collections_of indexes.now) }
         ensures { IfOk result (λ lists. ⟦<JoinedLists<'a> as TermLists>⟧.collection lists
-            ≡ joined (collections_of (map (λ file. file.items) files.entry.now))) }
+            ≡ joined (collections_of indexes.entry.now)) }
     {
         joined_lists_follow();
-        let (segments, documents) = segments_of(alloc, files)?;
+        let (segments, documents) = segments_of(alloc, indexes)?;
         Ok(JoinedLists {
             segments,
             documents,
@@ -87,33 +88,20 @@ impl<'a> TermLists for JoinedLists<'a> {
         terms_of(&self.segments)
     }
 
-    fn cursor(
-        &self,
-        alloc: Global,
-        term: u32,
-    ) -> Result<JoinedCursor<PostingCursor<'a>>, NoMemory> {
+    fn first_posting(&self, term: u32, doc: u32) -> Option<(u32, u32)> {
         joined_lists_follow();
-        let parts = parts_at(alloc, &self.segments, term)?;
-        Ok(JoinedCursor::new(parts))
+        first_in(&self.segments, term, doc)
     }
 
-    fn first_posting(
-        &self,
-        _alloc: Global,
-        term: u32,
-        doc: u32,
-    ) -> Result<Option<(u32, u32)>, NoMemory> {
-        joined_lists_follow();
-        Ok(first_in(&self.segments, term, doc))
-    }
-
-    fn push_cursor(
+    fn put_cursor(
         &self,
         alloc: Global,
-        cursors: &mut Vec<JoinedCursor<PostingCursor<'a>>>,
+        cursor: &mut JoinedCursor<PostingCursor<'a>>,
         term: u32,
     ) -> Result<(), NoMemory> {
-        cursors.push_reserved(self.cursor(alloc, term)?);
+        joined_lists_follow();
+        let parts = parts_at(alloc, &self.segments, term)?;
+        *cursor = JoinedCursor::new(parts);
         Ok(())
     }
 
@@ -141,21 +129,22 @@ fn terms_of(segments: &[Segment<'_>]) -> u32
     }
 }
 
-// The segment of each of these files, and how many documents all have.
+// The segment of each of these indexes, and how many documents all have.
 fn segments_of<'a>(
     alloc: Global,
-    files: &'a [Vec<u64>],
+    indexes: &'a [OpenIndex],
 ) -> Result<(Vec<Segment<'a>>, u32), NoMemory>
-    requires { CanBeJoined (map (λ file. file.items) files.now) }
+    requires { FitTogether (collections_of indexes.now) }
     ensures segments { IfOk result (λ r. AreSegments r.0.items) }
     ensures documents { IfOk result (λ r. r.1 ≡ documents_in (collections_in r.0.items)) }
     ensures collections { IfOk result (λ r. collections_in r.0.items
-        ≡ collections_of (map (λ file. file.items) files.entry.now)) }
+        ≡ collections_of indexes.entry.now) }
 {
-    let mut segments = Vec::with_capacity(alloc, files.len())?;
+    let mut segments = Vec::with_capacity(alloc, indexes.len())?;
     let mut documents = 0;
-    for file in files {
-        let index = Index::known(file);
+    for opened in indexes {
+        let index = opened.index();
+        index.stands_for_a_collection();
         let first = documents;
         documents += index.documents();
         segments.push(Segment { first, index })?;

@@ -12,5 +12,5 @@ mod term_cursors;
 pub use blockwise::SideLists;
 pub use indexed::IndexLists;
 pub use joined::JoinedLists;
-pub use lists::TermLists;
+pub use lists::{LineCursors, TermLists};
 pub use reply::reply_to;

@@ -9,7 +9,7 @@ use crate::ranking::{LAST_PLAN, plan_of};
 use crate::room::give;
 use crate::status::Status;
 use index_file::Index;
-use line_replies::{IndexLists, TermLists, reply_to};
+use line_replies::{IndexLists, LineCursors, TermLists, reply_to};
 use std::alloc::Global;
 
 /// The text of the reply to a query line, with its newline, as the program writes it; a line that breaks a rule has its reply too. The line
@@ -40,8 +40,8 @@ pub extern "C" fn pefidx_reply(
     }
     let index = Index::known(words);
     give_reply(
-        alloc,
         &IndexLists::new(&index, plan_of(plan)),
+        &mut LineCursors::new(alloc),
         line,
         text,
         count,
@@ -50,8 +50,8 @@ pub extern "C" fn pefidx_reply(
 
 // Gives the text of the reply to a line from any lists in a room, as much of it as it holds, with the count of all its bytes.
 fn give_reply<L: TermLists>(
-    alloc: Global,
     lists: &L,
+    cursors: &mut LineCursors<L::Cursor>,
     line: &[u8],
     text: &mut [u8],
     count: &mut usize,
@@ -63,7 +63,7 @@ fn give_reply<L: TermLists>(
         × (result ≡ number_of (given_in (length text.old) (length reply)))
         × (text.new ≡ put_in text.old reply) × (count.new ≡ length reply) }
 {
-    match reply_to(alloc, lists, line) {
+    match reply_to(*cursors.allocator(), lists, cursors, line) {
         Ok(reply) => give(&reply, text, count),
         Err(_) => Status::NoMemory.number(),
     }

@@ -4,5 +4,6 @@
 mod lines;
 mod text;
 
+pub use line_replies::SideLists;
 pub use text::{RunFault, answer_by_blocks, answer_joined, answer_text};
 pub use topk_pruning::Plan;

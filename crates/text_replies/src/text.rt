@@ -1,21 +1,19 @@
-ghost use Rattle.std.specs.Prelude.{◌≡◌, map};
-ghost use Rattle.block_max.specs.SideWords.{side_words, words_seen};
-ghost use Rattle.index_blocks.specs.BlockLists.{blocks_of_index};
+ghost use Rattle.std.specs.Prelude.{◌≡◌};
 ghost use Rattle.index_blocks.specs.Seen.{index_seen};
-ghost use Rattle.segments.specs.Joined.{joined};
-ghost use Rattle.line_replies.specs.AnswerJoined.{CanBeJoined, collections_of};
+ghost use Rattle.segments.specs.Joined.{joined, FitTogether};
+ghost use Rattle.line_replies.specs.AnswerJoined.{collections_of};
 ghost use Rattle.text_replies.specs.AnswerText.{AnswersText};
 ghost use Rattle.text_replies.specs.AnswersEnded.{AnswersEnded};
 ghost use Rattle.text_replies.specs.Faults.{input_fault, out_fault};
 
-use crate::lines::{answer_line, answer_piece};
-use block_max::Side;
-use index_blocks::IndexBlocks;
+use crate::lines::{Held, answer_line, answer_piece};
 use index_file::Index;
 use line_replies::{IndexLists, JoinedLists, SideLists, TermLists};
 use no_memory::NoMemory;
+use open_index::OpenIndex;
 use pef_io::{IoFail, Sink, Source};
 use std::alloc::Global;
+use std::mem;
 use topk_pruning::Plan;
 
 // The most bytes that are read at once.
@@ -48,50 +46,53 @@ pub fn answer_text<I: Source, O: Sink>(
     ensures { AnswersText index.now.collection limit (I.state input.old) (I.state input.new)
         (O.state out.old) (O.state out.new) result }
 {
-    answer_from(alloc, &IndexLists::new(index, plan), input, limit, out)
+    answer_from(
+        &IndexLists::new(index, plan),
+        &mut Held::new(alloc),
+        input,
+        limit,
+        out,
+    )
 }
 
-/// Answers the lines of the input from an opened index, given as its lists in blocks, and its side file, as `answer_text` does; `top` is
+/// Answers the lines of the input from an opened index and its side file, given as its lists in blocks, as `answer_text` does; `top` is
 /// answered by block-max WAND.
-pub fn answer_by_blocks<'i, I: Source, O: Sink>(
+pub fn answer_by_blocks<I: Source, O: Sink>(
     alloc: Global,
-    blocks: &'i IndexBlocks<'i, '_>,
-    side: Side<'i>,
+    lists: &SideLists<'_, '_>,
     input: &mut I,
     limit: u64,
     out: &mut O,
 ) -> Result<(), RunFault>
-    requires { words_seen side ≡ side_words (blocks_of_index (index_seen blocks.now)) }
-    ensures { AnswersText (index_seen blocks.now).collection limit (I.state input.old)
+    ensures { AnswersText (index_seen lists.now.blocks.now).collection limit (I.state input.old)
         (I.state input.new) (O.state out.old) (O.state out.new) result }
 {
-    answer_from(alloc, &SideLists::new(blocks, side), input, limit, out)
+    answer_from(lists, &mut Held::new(alloc), input, limit, out)
 }
 
-/// Answers the lines of the input from the collection to which these indexes are joined, in the order of the files, as `answer_text` does
-/// from one.
+/// Answers the lines of the input from the collection to which these indexes are joined, in this order, as `answer_text` does from one.
 pub fn answer_joined<I: Source, O: Sink>(
     alloc: Global,
-    files: &[Vec<u64>],
+    indexes: &[OpenIndex],
     plan: Plan,
     input: &mut I,
     limit: u64,
     out: &mut O,
 ) -> Result<(), RunFault>
-    requires { CanBeJoined (map (λ file. file.items) files.now) }
-    ensures { AnswersText (joined (collections_of (map (λ file. file.items) files.now))) limit
+    requires { FitTogether (collections_of indexes.now) }
+    ensures { AnswersText (joined (collections_of indexes.now)) limit
         (I.state input.old) (I.state input.new) (O.state out.old) (O.state out.new) result }
 {
-    match JoinedLists::new(alloc, files, plan) {
-        Ok(lists) => answer_from(alloc, &lists, input, limit, out),
+    match JoinedLists::new(alloc, indexes, plan) {
+        Ok(lists) => answer_from(&lists, &mut Held::new(alloc), input, limit, out),
         Err(NoMemory) => Err(RunFault::NoMemory),
     }
 }
 
-// Answers the lines of the input from any lists.
+// Answers the lines of the input from any lists. What was held is not looked at.
 fn answer_from<L: TermLists, I: Source, O: Sink>(
-    alloc: Global,
     lists: &L,
+    held: &mut Held<L::Cursor>,
     input: &mut I,
     limit: u64,
     out: &mut O,
@@ -99,17 +100,18 @@ fn answer_from<L: TermLists, I: Source, O: Sink>(
     ensures { AnswersText (L.collection lists.now) limit (I.state input.old) (I.state input.new)
         (O.state out.old) (O.state out.new) result }
 {
-    let last = answer_ended_lines(alloc, lists, input, limit, out)?;
+    let alloc = *held.line.allocator();
+    let last = answer_ended_lines(lists, held, input, limit, out)?;
     if last.is_empty() {
         return Ok(());
     }
-    answer_line(alloc, lists, last.as_slice(), out).map_err(out_fault)
+    answer_line(alloc, lists, &mut held.cursors, last.as_slice(), out).map_err(out_fault)
 }
 
 // Answers each line that a newline ends, and gives what is held of the line behind the last newline.
 fn answer_ended_lines<L: TermLists, I: Source, O: Sink>(
-    alloc: Global,
     lists: &L,
+    held: &mut Held<L::Cursor>,
     input: &mut I,
     limit: u64,
     out: &mut O,
@@ -117,16 +119,17 @@ fn answer_ended_lines<L: TermLists, I: Source, O: Sink>(
     ensures { AnswersEnded (L.collection lists.now) limit (I.state input.old) (I.state input.new)
         (O.state out.old) (O.state out.new) result }
 {
-    let mut held = Vec::new(alloc);
+    let alloc = *held.line.allocator();
+    held.line.clear();
     let mut piece = [0; PIECE];
     let mut rest = limit;
     'pieces: loop {
         let n = input.read(&mut piece).map_err(input_fault)?;
         if n == 0 {
-            return Ok(held);
+            return Ok(mem::replace(&mut held.line, Vec::new(alloc)));
         }
         let within = rest.min(n as u64) as usize;
-        answer_piece(alloc, lists, &mut held, &piece[..within], out).map_err(out_fault)?;
+        answer_piece(alloc, lists, held, &piece[..within], out).map_err(out_fault)?;
         if within < n {
             return Err(RunFault::TooLarge);
         }

@@ -1,44 +1,30 @@
-use Rattle.std.proofs.Common.{refl, ap, ◌+◌, map, arith}
+use Rattle.std.proofs.Common.{refl, ap, ◌+◌, arith}
 use Rattle.part_cost.specs.Formats.{numbers_of}
 use Rattle.line_replies.proofs.CursorLists.{well-in-range}
-use Rattle.line_replies.proofs.Joining.{file-at, file-within, file-few, file-index, documents-fit, made-more, are-segments, all-made, file-end}
+use Rattle.line_replies.proofs.Joining.{index-at, documents-fit, made-more, are-segments, all-made}
 use Rattle.line_replies.proofs.joined.segments_of.Goals as goal
-
-pub known-index-requires-clause-words : goal.known-index-requires-clause-words
-known-index-requires-clause-words c =
-    file-few (map (λ file. file.items) c.args.files.now) c.loop-file.file-index c.deref.result.now c.requires (file-within c.args.files.now c.loop-file.file-index c.loop-file-test.true)
-    (file-at c.args.files.now c.loop-file.file-index c.file-item.result c.deref.result.now c.loop-file-test.true c.file-item.is c.deref.ensures.value)
-
-pub known-index-requires-clause-index : goal.known-index-requires-clause-index
-known-index-requires-clause-index c =
-    file-index (map (λ file. file.items) c.args.files.now) c.loop-file.file-index c.deref.result.now c.requires (file-within c.args.files.now c.loop-file.file-index c.loop-file-test.true)
-    (file-at c.args.files.now c.loop-file.file-index c.file-item.result c.deref.result.now c.loop-file-test.true c.file-item.is c.deref.ensures.value)
 
 pub overflow_add-documents : goal.overflow_add-documents
 overflow_add-documents c =
     omega (
       arith,
       c.documents-documents.ensures,
-      documents-fit (map (λ file. file.items) c.args.files.now) c.loop-file.segments.items c.loop-file.file-index c.loop-file.documents c.deref.result.now c.known-index.result c.requires
-          (file-within c.args.files.now c.loop-file.file-index c.loop-file-test.true)
-          (file-at c.args.files.now c.loop-file.file-index c.file-item.result c.deref.result.now c.loop-file-test.true c.file-item.is c.deref.ensures.value)
-          c.known-index.ensures.stated c.loop-file.invariant,
+      documents-fit c.args.indexes.now c.loop-opened.segments.items c.loop-opened.opened-index c.loop-opened.documents c.index-index.result c.requires c.loop-opened-test.true
+          (index-at c.args.indexes.now c.loop-opened.opened-index c.opened-item.result c.index-index.result c.opened-item.is c.index-index.ensures) c.loop-opened.invariant,
     )
 
-pub loop-file-preserved : goal.loop-file-preserved
-loop-file-preserved c =
-    made-more c.loop-file.segments.items c.push.new.self.items c.loop-file.documents (c.loop-file.documents + c.documents-documents.result) c.loop-file.file-index c.known-index.result _
-    (map (λ file. file.items) c.args.files.now) c.deref.result.now c.loop-file.invariant (file-within c.args.files.now c.loop-file.file-index c.loop-file-test.true)
-    (file-at c.args.files.now c.loop-file.file-index c.file-item.result c.deref.result.now c.loop-file-test.true c.file-item.is c.deref.ensures.value)
-    c.known-index.ensures.stated (well-in-range (numbers_of c.known-index.result.format) c.known-index.result.collection c.known-index.ensures.spells.well_formed)
-    (ap (λ n. c.loop-file.documents + n) c.documents-documents.ensures) refl refl c.in_ok-push.ensures.items
+pub loop-opened-preserved : goal.loop-opened-preserved
+loop-opened-preserved c =
+    made-more c.loop-opened.segments.items c.push.new.self.items c.loop-opened.documents (c.loop-opened.documents + c.documents-documents.result) c.loop-opened.opened-index c.index-index.result _
+    c.args.indexes.now c.loop-opened.invariant c.loop-opened-test.true
+    (index-at c.args.indexes.now c.loop-opened.opened-index c.opened-item.result c.index-index.result c.opened-item.is c.index-index.ensures)
+    (well-in-range (numbers_of c.index-index.result.format) c.index-index.result.collection c.stands_for_a_collection.ensures.well_formed)
+    (ap (λ n. c.loop-opened.documents + n) c.documents-documents.ensures) refl refl c.in_ok-push.ensures.items
 
 pub returns-clause-segments : goal.returns-clause-segments
 returns-clause-segments c =
-    are-segments (map (λ file. file.items) c.args.files.now) c.loop-file.segments.items c.loop-file.documents c.loop-file.file-index c.requires c.loop-file.invariant
-    (file-end c.args.files.now c.loop-file.file-index (omega (arith, c.loop-file-test.false)))
+    are-segments c.args.indexes.now c.loop-opened.segments.items c.loop-opened.documents c.loop-opened.opened-index c.requires c.loop-opened.invariant (omega (arith, c.loop-opened-test.false))
 
 pub returns-clause-collections : goal.returns-clause-collections
 returns-clause-collections c =
-    (all-made (map (λ file. file.items) c.args.files.now) c.loop-file.segments.items c.loop-file.documents c.loop-file.file-index c.loop-file.invariant
-    (file-end c.args.files.now c.loop-file.file-index (omega (arith, c.loop-file-test.false)))).1
+    (all-made c.args.indexes.now c.loop-opened.segments.items c.loop-opened.documents c.loop-opened.opened-index c.loop-opened.invariant (omega (arith, c.loop-opened-test.false))).1

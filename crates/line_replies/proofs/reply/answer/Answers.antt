@@ -1,6 +1,8 @@
-use Rattle.line_replies.proofs.CursorLists.{top-answer}
+use Rattle.std.proofs.Common.{sym, subst}
+use Rattle.std.specs.Prelude.{IfOk}
+use Rattle.query_text.specs.declared.query.Query.{Query}
+use Rattle.command_model.specs.Replies.{IsAnswer}
 use Rattle.line_replies.proofs.reply.answer.Goals as goal
 
 pub returns-in-Top : goal.returns-in-Top
-returns-in-Top g c =
-    top-answer (g.L.TermLists.collection c.args.lists.now) c.args.query.now _ _ c.terms.result.now c.weights.result.now c.top_answer.result c.in-Top.is c.terms.ensures.value c.weights.ensures.value c.top_answer.ensures
+returns-in-Top g c = subst (λ (q : Query). IfOk c.top_answer.result (λ text. IsAnswer (g.L.TermLists.collection c.args.lists.now) q text.items)) (sym c.in-Top.is) c.top_answer.ensures

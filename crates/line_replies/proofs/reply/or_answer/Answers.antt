@@ -10,9 +10,9 @@ use Rattle.line_replies.proofs.reply.or_answer.Goals as goal
 pub returns : goal.returns
 returns g c =
     let asked : Collection = g.L.TermLists.collection c.args.lists.now in
-    let made = c.in_ok-cursors.ensures.lists in
+    let made = c.in_ok-set_cursors.ensures.lists in
     let lent = c.as_mut_slice.ensures.value in
-    let below = cursors-below g.L.Cursor.DocCursor.list asked c.args.terms.now c.in_ok-cursors.cursors.items c.as_mut_slice.result.now (g.met.L.TermLists.in_range c.args.lists.now) c.requires.named made lent in
+    let below = cursors-below g.L.Cursor.DocCursor.list asked c.args.terms.now c.set_cursors.new.cursors.items c.as_mut_slice.result.now (g.met.L.TermLists.in_range c.args.lists.now) c.requires.named made lent in
     let lists : map g.L.Cursor.DocCursor.list c.as_mut_slice.result.now ≡ lists_of asked c.args.terms.now = ap (map g.L.Cursor.DocCursor.list) lent ∙ made in
     let docs = c.as_slice.ensures.value ∙ c.in_ok-docs.ensures asked.documents below ∙ ap (λ (ls : List (List Posting)). in_any asked.documents ls) lists in
     subst (λ (ds : List ℕ). IfOk c.list_reply.result (λ text. text.items ≡ list_text ds)) docs c.list_reply.ensures

@@ -1,4 +1,4 @@
-use Rattle.std.proofs.Common.{◌≡◌, sym, ◌∙◌, ap, subst, ℕ, ◌+◌, ◌-◌, List, [], ◌∷◌, ◌++◌, append_assoc, length, take, drop, Err, Ok}
+use Rattle.std.proofs.Common.{◌≡◌, sym, ◌∙◌, ap, subst, ℕ, ◌+◌, ◌-◌, List, [], ◌∷◌, ◌++◌, append_assoc, length, take, drop, Err, Ok, rules}
 use Rattle.std.specs.Prelude.{Result}
 use Rattle.std.proofs.lemmas.List.{take_rest}
 use Rattle.std.proofs.lemmas.Result.{err_from_is_err_and}
@@ -37,7 +37,7 @@ whole c read piece done rest held now at start out fail e split h =
     subst P same (taken-stopped c ((read ++ done) ++ line) (drop (at + 1) rest) held now start out fail h)
 
 pub end_line-requires : goal.end_line-requires
-end_line-requires g c = none-before newline c.loop-at.rest.now c.in-Some.at (sym c.in-Some.ensures)
+end_line-requires g c = (search rules, none-before newline c.loop-at.rest.now c.in-Some.at (sym c.in-Some.ensures))
 
 pub returns-in_err-end_line : goal.returns-in_err-end_line
 returns-in_err-end_line g c =

@@ -22,7 +22,7 @@ returns-in_err-n g c =
     let a = mapped-err c.read.result c.map_err.result _ c.in_err-n.field-0.0 c.map_err.ensures.cases c.in_err-n.was in
     let P : Result ℕ IoFail → Type 0 = λ r. Reads (g.I.Source.state c.pieces.input) (g.I.Source.state c.read.new.self) c.pieces.piece c.read.new.buf r in
     stopped (g.L.TermLists.collection c.args.lists.now) c.args.limit _ _ _ _ _ c.from_residual.result (p.1 ∙ ap Err (p.2 ∙ a.2))
-    (read-failed (g.L.TermLists.collection c.args.lists.now) c.args.limit c.pieces.invariant.0 c.pieces.held.items c.pieces.piece c.read.new.buf
+    (read-failed (g.L.TermLists.collection c.args.lists.now) c.args.limit c.pieces.invariant.0 c.pieces.held.line.items c.pieces.piece c.read.new.buf
     (g.I.Source.state c.args.input.now) (g.I.Source.state c.pieces.input) (g.I.Source.state c.read.new.self) (g.O.Sink.state c.args.out.now) (g.O.Sink.state c.pieces.out) a.0
     c.pieces.invariant.1 (omega (arith, c.pieces.invariant.2)) c.pieces.invariant.3 (subst P a.1 c.read.ensures))
 
@@ -65,9 +65,9 @@ bytes-read g c = read-more c.pieces.invariant.0 c.pieces.piece c.read.new.buf c.
 
 -- the lines that ended within the limit are answered, as far as out took them
 lines-answered : (g : given.Over) (c : After-answer_piece g) (r : Result (Unit {0}) IoFail) → c.answer_piece.result ≡ r
-    → AnswersBytes (g.L.TermLists.collection c.args.lists.now) (c.pieces.invariant.0 ++ take c.min-within.result c.read.new.buf) c.answer_piece.new.held.items (g.O.Sink.state c.args.out.now) (g.O.Sink.state c.answer_piece.new.out) r
+    → AnswersBytes (g.L.TermLists.collection c.args.lists.now) (c.pieces.invariant.0 ++ take c.min-within.result c.read.new.buf) c.answer_piece.new.held.line.items (g.O.Sink.state c.args.out.now) (g.O.Sink.state c.answer_piece.new.out) r
 lines-answered g c r is =
-    let P : Result (Unit {0}) IoFail → Type 0 = λ r. AnswersBytes (g.L.TermLists.collection c.args.lists.now) (c.pieces.invariant.0 ++ take c.min-within.result c.read.new.buf) c.answer_piece.new.held.items
+    let P : Result (Unit {0}) IoFail → Type 0 = λ r. AnswersBytes (g.L.TermLists.collection c.args.lists.now) (c.pieces.invariant.0 ++ take c.min-within.result c.read.new.buf) c.answer_piece.new.held.line.items
     (g.O.Sink.state c.args.out.now) (g.O.Sink.state c.answer_piece.new.out) r in
     subst P is (c.answer_piece.ensures c.pieces.invariant.0 _ c.pieces.invariant.3)
 
@@ -77,7 +77,7 @@ returns-in_err-map_err g c =
     let p = err_from_is_err_and c.from_residual-in_err-map_err.result c.from_residual-in_err-map_err.ensures.1 in
     let a = mapped-err c.answer_piece.result c.map_err-in-pieces.result _ c.in_err-map_err.field-0.0 c.map_err-in-pieces.ensures.cases c.in_err-map_err.was in
     stopped (g.L.TermLists.collection c.args.lists.now) c.args.limit _ _ _ _ _ c.from_residual-in_err-map_err.result (p.1 ∙ ap Err (p.2 ∙ a.2))
-    (stopped-within (g.L.TermLists.collection c.args.lists.now) c.args.limit c.pieces.invariant.0 c.read.new.buf c.answer_piece.new.held.items c.min-within.result c.in_ok-n.n
+    (stopped-within (g.L.TermLists.collection c.args.lists.now) c.args.limit c.pieces.invariant.0 c.read.new.buf c.answer_piece.new.held.line.items c.min-within.result c.in_ok-n.n
     (g.I.Source.state c.args.input.now) (g.I.Source.state c.read.new.self) (g.O.Sink.state c.args.out.now) (g.O.Sink.state c.answer_piece.new.out) a.0
     (omega (arith, c.min-within.ensures)) (omega (arith, c.min-within.ensures, c.pieces.invariant.2)) (bytes-read g at) (lines-answered g at _ a.1))
 
@@ -87,7 +87,7 @@ returns-then-within-n g c =
     let o = mapped-ok c.answer_piece.result c.map_err-in-pieces.result _ tt c.map_err-in-pieces.ensures.cases c.in_ok-map_err.was in
     let reads = piece-read g at in
     stopped (g.L.TermLists.collection c.args.lists.now) c.args.limit _ _ _ _ TooLarge _ refl
-    (past-limit (g.L.TermLists.collection c.args.lists.now) c.args.limit c.pieces.rest c.pieces.invariant.0 c.read.new.buf c.answer_piece.new.held.items c.min-within.result c.in_ok-n.n
+    (past-limit (g.L.TermLists.collection c.args.lists.now) c.args.limit c.pieces.rest c.pieces.invariant.0 c.read.new.buf c.answer_piece.new.held.line.items c.min-within.result c.in_ok-n.n
     (g.I.Source.state c.args.input.now) (g.I.Source.state c.read.new.self) (g.O.Sink.state c.args.out.now) (g.O.Sink.state c.answer_piece.new.out)
     c.pieces.invariant.2 c.min-within.ensures c.if-within-n.true (omega (arith, reads.within, c.read.auto.buf)) (bytes-read g at) (lines-answered g at _ o))
 
@@ -96,6 +96,6 @@ pieces-preserved g c =
     let at = (goal.at.pieces-preserved g c).After-answer_piece in
     let o = mapped-ok c.answer_piece.result c.map_err-in-pieces.result _ tt c.map_err-in-pieces.ensures.cases c.in_ok-map_err.was in
     let reads = piece-read g at in
-    taken-whole (g.L.TermLists.collection c.args.lists.now) c.args.limit c.pieces.rest c.pieces.invariant.0 c.read.new.buf c.answer_piece.new.held.items c.min-within.result c.in_ok-n.n
+    taken-whole (g.L.TermLists.collection c.args.lists.now) c.args.limit c.pieces.rest c.pieces.invariant.0 c.read.new.buf c.answer_piece.new.held.line.items c.min-within.result c.in_ok-n.n
     (g.I.Source.state c.args.input.now) (g.I.Source.state c.read.new.self) (g.O.Sink.state c.args.out.now) (g.O.Sink.state c.answer_piece.new.out)
     c.pieces.invariant.2 c.min-within.ensures c.if-within-n.false (omega (arith, reads.within, c.read.auto.buf)) (bytes-read g at) (lines-answered g at _ o)

@@ -8,7 +8,7 @@ invariant-pieces g l =
     (bytes : List ℕ)
     × HasRead bytes (g.I.Source.state l.fn.input) (g.I.Source.state l.input)
     × (length bytes + l.rest ≡ l.limit)
-    × AnswersBytes (g.L.TermLists.collection l.lists) bytes l.held.items (g.O.Sink.state l.fn.out) (g.O.Sink.state l.out) (Ok tt)
+    × AnswersBytes (g.L.TermLists.collection l.lists) bytes l.held.line.items (g.O.Sink.state l.fn.out) (g.O.Sink.state l.out) (Ok tt)
 
 abbrev pub decreases-pieces : goal.decreases-pieces
 decreases-pieces g l = l.rest

@@ -7,7 +7,7 @@ use Rattle.segments.specs.JoinedCursor.{parts_of}
 use Rattle.line_replies.specs.declared.joined.Segment.{Segment}
 use Rattle.line_replies.specs.JoinedSegments.{AreSegments, collections_in}
 use Rattle.line_replies.proofs.Joining.{terms-within, parts-follow}
-use Rattle.line_replies.proofs.joined.JoinedListsTermLists.cursor.Goals as goal
+use Rattle.line_replies.proofs.joined.JoinedListsTermLists.put_cursor.Goals as goal
 
 abbrev list_at : PostingCursor → List Posting
 list_at c = postings_in c.docs.sequence.values c.sums.sequence.values
