@@ -20,14 +20,14 @@ use Rattle.command_ends.specs.AnsweredText.{AnswersInput, longest_text}
 use Rattle.command_ends.specs.Sources.{Source, CollectionAt, Starts}
 use Rattle.command_ends.specs.Products.{Replies}
 use Rattle.command_ends.specs.Steps.Leaves.{Leaves}
-use Rattle.command_ends.specs.Steps.Stops.{outcome_of, stop_of_building}
-use Rattle.command_ends.proofs.TextAnswered.{Answer, answers_input, text_outcome}
+use Rattle.command_ends.specs.Steps.Stops.{answered_outcome, outcome_of, stop_of_building}
+use Rattle.command_ends.proofs.TextAnswered.{Answer, answers_input}
 use Rattle.command_ends.proofs.TextMade.{text_answered}
-use Rattle.collection_commands.proofs.BuildRefused.{Cut, FaultLaws, built_read, collection_laws, cut_of, unbuilt_left}
+use Rattle.collection_commands.proofs.BuildRefused.{Cut, FaultLaws, built_read, cut_of, unbuilt_left}
 use Rattle.collection_commands.specs.Answer.{Answers, IsBuiltFrom, MakesAnswers, answer_format}
 
 -- what comes behind the building of words
-behind_building : (base : List ℕ) (old new : Outside) (r : Answer) → AnswersInput (IsBuiltFrom base old new) old new (text_outcome r) → MakesAnswers base old new (text_outcome r)
+behind_building : (base : List ℕ) (old new : Outside) (r : Answer) → AnswersInput (IsBuiltFrom base old new) old new (answered_outcome r) → MakesAnswers base old new (answered_outcome r)
 behind_building base old new (Ok u) then = then
 behind_building base old new (Err answering.Read) then = then
 behind_building base old new (Err answering.Write) then = then
@@ -75,7 +75,7 @@ module _ (base : List ℕ) (d d' : DepotState) (s s' : ℕ) (built : Result (Vec
 
     -- they were built, and the text was answered from them, or a part of it
     pub answer_ended : OneIndex → (words : Vec ℕ Global) (lent : List ℕ) (index : IndexView) (answer : Answer) (r : Result (Unit {0}) Stop) → built ≡ Ok words → lent ≡ words.items
-        → Spells (numbers_of index.format) lent index.collection index.parts → AnswersText index.collection longest_text i i' o o' answer → outcome_of r ≡ text_outcome answer
+        → Spells (numbers_of index.format) lent index.collection index.parts → AnswersText index.collection longest_text i i' o o' answer → outcome_of r ≡ answered_outcome answer
         → Left i' o' (outcome_of r)
     answer_ended one words lent index answer r was lends spells a is =
         let made = lent_built words lent was lends in
@@ -83,5 +83,5 @@ module _ (base : List ℕ) (d d' : DepotState) (s s' : ℕ) (built : Result (Vec
         let same : index.collection ≡ cut.0 = (one index.format answer_format lent index.collection cut.0 index.parts cut.1 spells (lent_spells lent made)).1 in
         let from_it : IsBuiltFrom base old (new i' o') index.collection = subst (IsBuiltFrom base old (new i' o')) (sym same) (cut.1, cut.2) in
         subst (Left i' o') (sym is)
-        (text_answered from (collection_laws laws answer_format base) (MakesAnswers base) d d' (built_read answer_format base d d' s s' lent made) i i' o o' e e' s s' index.collection answer a
+        (text_answered from (MakesAnswers base) d d' (built_read answer_format base d d' s s' lent made laws) i i' o o' e e' s s' index.collection answer a
         (behind_building base old (new i' o') answer (answers_input (IsBuiltFrom base old (new i' o')) index.collection from_it old (new i' o') answer a)))

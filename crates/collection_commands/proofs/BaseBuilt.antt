@@ -1,5 +1,5 @@
 -- What `build` leaves.
-use Rattle.std.proofs.Common.{◌≡◌, ℕ, ◌<◌, ◌^◌, refl, sym, subst, List, inl}
+use Rattle.std.proofs.Common.{◌≡◌, ℕ, ◌<◌, ◌^◌, refl, ap, subst, List, inl}
 use Rattle.std.specs.Prelude.{Result, Ok, Err, Vec}
 use Rattle.std.specs.List.{All}
 use Rattle.std.specs.declared.alloc.Global.{Global}
@@ -27,7 +27,7 @@ use Rattle.command_ends.specs.Steps.Stops.{outcome_of, written_outcome, stop_of_
 use Rattle.command_ends.proofs.FileWritten.{Written, file_written, stands_written}
 use Rattle.command_ends.proofs.IndexWritten.{behind_building, found_written, on_built}
 use Rattle.command_ends.proofs.SourceRead.{promised}
-use Rattle.collection_commands.proofs.BuildRefused.{FaultLaws, built_read, collection_laws, cut_of, unbuilt, unbuilt_left}
+use Rattle.collection_commands.proofs.BuildRefused.{FaultLaws, built_read, cut_of, unbuilt, unbuilt_left}
 use Rattle.collection_commands.specs.Build.{Builds, MakesBuilt}
 
 not_done : (e : BuildError) → unbuilt e ≡ Done → ⊥
@@ -57,10 +57,9 @@ module _ (laws : FaultLaws) (format : Format) (base index : List ℕ) (d d1 : De
   pub build_refused : (error : BuildError) (r : Result (Unit {0}) Stop) → built ≡ Err error → r ≡ Err (stop_of_building error) → Left d1 (outcome_of r)
   build_refused error r was is =
       let none : BuildsWords format base d d1 s s' (Err error) = subst (λ x. BuildsWords format base d d1 s s' (words_built x)) was w in
-      subst (λ x. Left d1 (outcome_of x)) (sym is)
-      (promised old (new d1) (unbuilt error) (λ does. record { does = does; opens = λ done. absurd (not_done error done) })
+      promised old (new d1) (unbuilt error) (outcome_of r) (ap outcome_of is) (λ does. record { does = does; opens = λ done. absurd (not_done error done) })
       (unbuilt_left laws format base (File Index) (MakesBuilt format base index) old (new d1) refl refl
-      (inl (record { files = none.reads.files; writing = none.reads.writing })) (λ many. (refl, many)) error none))
+      (inl (record { files = none.reads.files; writing = none.reads.writing })) (λ many. (refl, many)) error none)
 
   -- they were built, and written or not
   pub build_ended : (d2 : DepotState) (words : Vec ℕ Global) (lent : List ℕ) (written : Written) (r : Result (Unit {0}) Stop) → built ≡ Ok words
@@ -70,8 +69,7 @@ module _ (laws : FaultLaws) (format : Format) (base index : List ℕ) (d d1 : De
       let cut = cut_of format base d d1 s s' words.items made in
       let found : Is cut.0 = cut.2.cut.collection in
       let wrote : WritesWords words.items index d1 d2 written = subst (λ ws. WritesWords ws index d1 d2 written) lends v in
-      subst (Left d2) (sym is)
-      (promised old (new d2) (written_outcome Index written)
+      promised old (new d2) (written_outcome Index written) (outcome_of r) is
       (λ does. record {
         does = does;
         opens = λ done. (
@@ -85,6 +83,6 @@ module _ (laws : FaultLaws) (format : Format) (base index : List ℕ) (d d1 : De
           ),
         );
       })
-      (file_written from (collection_laws laws format base) (MakesBuilt format base index) Index d d1 d2 (built_read format base d d1 s s' words.items made) i o e e' s s' index
+      (file_written from (MakesBuilt format base index) Index d d1 d2 (built_read format base d d1 s s' words.items made laws) i o e e' s s' index
       (word_bytes words.items) (OnBuiltBytes format Is old (new d2)) (on_built format Is old (new d2) words.items cut.0 cut.1 cut.2 cut.3) written wrote
-      (behind_building format Is old (new d2) (WritesIndex format Is index old (new d2)) written)))
+      (behind_building format Is old (new d2) (WritesIndex format Is index old (new d2)) written))

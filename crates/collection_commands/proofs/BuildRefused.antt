@@ -1,6 +1,6 @@
 -- What a run leaves that builds the words of a collection: where they are not built, and what is known where they are.
 use Rattle.std.proofs.Common.{◌≡◌, ℕ, ◌≤◌, ◌<◌, ◌^◌, arith, refl, sym, ap, subst, List, length, inl, inr}
-use Rattle.std.specs.Prelude.{Some, None, IsTrue, Result, Ok, Err}
+use Rattle.std.specs.Prelude.{Some, None, ◌⊎◌, IsTrue, Result, Ok, Err}
 use Rattle.collection_model.specs.FormatNumbers.{FormatNumbers}
 use Rattle.collection_model.specs.Collection.{Collection}
 use Rattle.collection_model.specs.Spelling.{Files}
@@ -25,14 +25,15 @@ use Rattle.command_ends.specs.Outside.{Outside, OfFile}
 use Rattle.command_ends.specs.Outcome.{Outcome, BrokenCollection, NoMemory, TooLarge, fault_of}
 use Rattle.command_ends.specs.Ends.{EndsByFault}
 use Rattle.command_ends.specs.WordsThen.{AreBuilt, AreTooMany}
-use Rattle.command_ends.specs.Sources.{Source, CollectionAt, IsRefusedAs, Stands, Starts}
+use Rattle.command_ends.specs.Sources.{Source, CollectionAt, EndsAt, IsRefusedAs, Stands, Starts}
 use Rattle.command_ends.specs.Products.{Product, Does}
 use Rattle.command_ends.specs.Starts.{StartsOnly}
+use Rattle.command_ends.specs.Steps.AtSource.{IsRead, IsStill}
 use Rattle.command_ends.specs.Steps.Leaves.{Leaves}
 use Rattle.command_ends.specs.Steps.Stops.{outcome_of_stop, stop_of_building}
 use Rattle.command_ends.proofs.Started.{built_starts}
 use Rattle.command_ends.proofs.Counted.{second, Of}
-use Rattle.command_ends.proofs.SourceRead.{IsRead, IsStill, Laws, too_many, unread}
+use Rattle.command_ends.proofs.SourceRead.{Laws, ended_there, refuses_none, too_many, unread}
 
 -- ---- the source
 
@@ -106,33 +107,32 @@ module _ (laws : FaultLaws) (format : Format) (base : List ℕ) (product : Produ
     never_falls = w.reads.never_fall slot;
   }
 
-  still : (e : BuildError) → Built e → IsStill (this laws format base) old new (unbuilt e)
+  still : (e : BuildError) → Built e → IsStill (this laws format base) old.depot new.depot (unbuilt e)
   still e w = record {
     reads = w.reads;
     starts = built_starts format base old.depot new.depot old.costs new.costs (refused e) (unbuilt e) w
         (λ slot is. ap unbuilt (same_error e (building.Read slot) is)) (λ is. ap unbuilt (same_error e building.NoMemory is));
     files = slot_ends e w;
-    input = input;
-    out = out;
   }
 
   abbrev Left : Outcome → Type 0
   Left outcome = Leaves (Does (this laws format base) product Makes) (Starts (this laws format base)) old new outcome
 
-  -- where the words are too many that were to be built, or memory was refused before anything was made
+  -- the collection was not read
+  ended : (e : BuildError) → Built e → Makes old new NoMemory → EndsAt (this laws format base) old.depot (unbuilt e) ⊎ (unbuilt e ≡ NoMemory) → Left (unbuilt e)
+  ended e w none ends =
+      unread (this laws format base) product Makes old new input out (unbuilt e) none (ended_there (this laws format base) (collection_laws laws format base) old.depot new.depot (unbuilt e) ends (still e w))
+
+  -- or the words are too many that were to be built, or memory was refused before anything was made
   pub unbuilt_left : Makes old new NoMemory → (AreTooMany format Is old.costs new.costs → Makes old new (TooLarge Index)) → (e : BuildError) → Built e → Left (unbuilt e)
   unbuilt_left none large (building.TooLarge n) w =
       let found = w.too_large n refl in
       let it = found.1 in
-      too_many (this laws format base) product Makes old new (collection_laws laws format base) refl (it.0, it.2.collection) (still (building.TooLarge n) w)
-      (large (it.0, it.1, it.2, subst (λ k. most_words < k) it.3 found.0))
-  unbuilt_left none large (building.Broken fault) w =
-      unread (this laws format base) product Makes old new (collection_laws laws format base) (BrokenCollection fault) none (inl (λ t. w.first_fault t fault refl), still (building.Broken fault) w)
-  unbuilt_left none large (building.Read slot) w =
-      unread (this laws format base) product Makes old new (collection_laws laws format base) (unbuilt (building.Read slot)) none
-      (inl (w.read_only_where_it_rose slot refl).0, still (building.Read slot) w)
-  unbuilt_left none large building.NoMemory w =
-      unread (this laws format base) product Makes old new (collection_laws laws format base) NoMemory none (inr refl, still building.NoMemory w)
+      too_many (this laws format base) product Makes old new input out (refuses_none (this laws format base) (collection_laws laws format base) old.depot (it.0, it.2.collection) (TooLarge Index)) refl
+      (still (building.TooLarge n) w) (large (it.0, it.1, it.2, subst (λ k. most_words < k) it.3 found.0))
+  unbuilt_left none large (building.Broken fault) w = ended (building.Broken fault) w none (inl (λ t. w.first_fault t fault refl))
+  unbuilt_left none large (building.Read slot) w = ended (building.Read slot) w none (inl (w.read_only_where_it_rose slot refl).0)
+  unbuilt_left none large building.NoMemory w = ended building.NoMemory w none (inr refl)
 
 -- ---- words that are built
 module _ (format : Format) (base : List ℕ) (d d' : DepotState) (s s' : ℕ) (words : List ℕ) (w : BuildsWords format base d d' s s' (Ok words)) where
@@ -158,5 +158,11 @@ module _ (format : Format) (base : List ℕ) (d d' : DepotState) (s s' : ℕ) (w
   starts outcome = built_starts format base d d' s s' (Ok words) outcome w (λ slot is. absurd (not_refused (building.Read slot) is)) (λ is. absurd (not_refused building.NoMemory is))
 
   -- the collection was read
-  pub built_read : IsRead (CollectionAt (numbers_of format) base) d d'
-  built_read = record { accepted = (cut_of.0, cut_of.2.cut.collection); reads = w.reads; starts = λ outcome read. starts outcome; counts = same_counts }
+  pub built_read : FaultLaws → IsRead (CollectionAt (numbers_of format) base) d d'
+  built_read laws = record {
+    accepted = (cut_of.0, cut_of.2.cut.collection);
+    refuses = refuses_none (CollectionAt (numbers_of format) base) (collection_laws laws format base) d (cut_of.0, cut_of.2.cut.collection);
+    reads = w.reads;
+    starts = λ outcome read. starts outcome;
+    counts = same_counts;
+  }

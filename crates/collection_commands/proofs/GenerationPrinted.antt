@@ -1,6 +1,6 @@
 -- What `generate` leaves.
 use Rattle.std.proofs.Common.{◌≡◌, ℕ, ◌≤◌, ◌<◌, refl, sym, ◌∙◌, ap, subst, List, length, inl, inr}
-use Rattle.std.specs.Prelude.{Result, Ok, Err, Vec}
+use Rattle.std.specs.Prelude.{None, Result, Ok, Err, Vec}
 use Rattle.std.specs.declared.alloc.Global.{Global}
 use Rattle.collection_model.specs.Collection.{Collection}
 use Rattle.part_cost.specs.declared.formats.Format.{Format}
@@ -22,15 +22,16 @@ use Rattle.index_building.specs.WordsOfCollection.{AreWordsOf, WouldBeTooMany}
 use Rattle.index_printing.specs.PrintText.{MakesAndPrints}
 use Rattle.command_ends.specs.declared.stop.Stop.{Stop}
 use Rattle.command_ends.specs.Outside.{Outside, outside}
-use Rattle.command_ends.specs.Outcome.{Outcome, NoMemory, TooLarge}
+use Rattle.command_ends.specs.Outcome.{Outcome, NoMemory, TooLarge, fault_of}
 use Rattle.command_ends.specs.PrintedText.{PrintsText}
 use Rattle.collection_commands.specs.Generate.{Generates, IsGeneration, MakesGeneration, generate_format}
+use Rattle.command_ends.specs.Steps.AtSource.{IsStill}
 use Rattle.command_ends.specs.Steps.Leaves.{Leaves}
 use Rattle.command_ends.specs.Steps.Stops.{outcome_of, stop_of_making, printed_outcome}
 use Rattle.command_ends.specs.Sources.{Nothing, Starts}
 use Rattle.command_ends.specs.Products.{Text}
 use Rattle.command_ends.proofs.IndexWritten.{unmade_words}
-use Rattle.command_ends.proofs.SourceRead.{no_memory, nothing_laws, nothing_read, nothing_still, too_many}
+use Rattle.command_ends.proofs.SourceRead.{no_memory, nothing_read, nothing_refused, nothing_starts, still_read, too_many}
 use Rattle.command_ends.proofs.TextMade.{text_printed}
 use Rattle.command_ends.proofs.TextPrinted.{Printed, prints}
 
@@ -49,18 +50,21 @@ module _ (seed n t : ℕ) (d : DepotState) (i : SourceState) (o o' e e' : SinkSt
   abbrev Left : SinkState → Outcome → Type 0
   Left o' outcome = Leaves (Generates seed n t) (Starts Nothing) old (new o') outcome
 
+  still : (outcome : Outcome) → fault_of outcome ≡ None → IsStill Nothing d d outcome
+  still outcome none = still_read Nothing d d (nothing_read d) outcome none (nothing_starts outcome d)
+
   -- memory was refused, and out was not called
   no_text : o' ≡ o → Left o' NoMemory
-  no_text same = no_memory Nothing Text (MakesGeneration seed n t) old (new o') (nothing_still old (new o') NoMemory refl refl refl same) (inl same)
+  no_text same = no_memory Nothing Text (MakesGeneration seed n t) old (new o') refl same (still NoMemory refl) (inl same)
 
   -- the words were not made
   not_generated : (error : FinishError) → ((k : ℕ) → error ≡ making.TooLarge k → WouldBeTooMany generate_format c s s' k) → Left o (unmade_words error)
   not_generated (making.TooLarge k) too_large =
       let w = too_large k refl in
-      too_many Nothing Text (MakesGeneration seed n t) old (new o) nothing_laws refl tt (nothing_still old (new o) (TooLarge Index) refl refl refl refl)
+      too_many Nothing Text (MakesGeneration seed n t) old (new o) refl refl (nothing_refused d (TooLarge Index)) refl (still (TooLarge Index) refl)
       (refl, (c, w.parts, w.cut, subst (λ m. most_words < m) w.count w.too_many))
   not_generated making.NoMemory too_large =
-      no_memory Nothing Text (MakesGeneration seed n t) old (new o) (nothing_still old (new o) NoMemory refl refl refl refl) (inl refl)
+      no_memory Nothing Text (MakesGeneration seed n t) old (new o) refl refl (still NoMemory refl) (inl refl)
 
   -- they were made
   module _ (one : OneIndex) (words : List ℕ) (w : AreWordsOf generate_format c s s' words) (index : IndexView)
@@ -87,7 +91,7 @@ module _ (seed n t : ℕ) (d : DepotState) (i : SourceState) (o o' e e' : SinkSt
     is_printed : (r : Printed) → MakesAndPrints (Told index.format index.collection index.parts) o o' r → Left o' (printed_outcome r)
     is_printed r (inl none) = subst (λ x. Left o' (printed_outcome x)) (sym none.0) (no_text none.1)
     is_printed r (inr (text, told, p)) =
-        text_printed Nothing nothing_laws (MakesGeneration seed n t) d d (nothing_read d) i o o' e e' s s' text r p
+        text_printed Nothing (MakesGeneration seed n t) d d (nothing_read d) i o o' e e' s s' text r p
         (behind_building r (prints (IsGeneration c old (new o')) text (is_generation text told) old (new o') r p))
 
 -- ---- the words, as they are lent

@@ -19,12 +19,13 @@ use Rattle.command_ends.specs.declared.stop.Stop.{Stop}
 use Rattle.command_ends.specs.Outside.{Outside, outside}
 use Rattle.command_ends.specs.Sources.{MapAt, Starts}
 use Rattle.command_ends.specs.Products as product
+use Rattle.command_ends.specs.Steps.AtSource.{IsRead}
 use Rattle.command_ends.specs.Steps.Leaves.{Leaves}
-use Rattle.command_ends.specs.Steps.Stops.{outcome_of, stop_of_image}
-use Rattle.command_ends.proofs.FilesWritten.{Written, all_there, files_outcome, files_written, stand_under}
-use Rattle.command_ends.proofs.SourceRead.{IsRead, not_done, promised, unread}
+use Rattle.command_ends.specs.Steps.Stops.{files_outcome, outcome_of, stop_of_image}
+use Rattle.command_ends.proofs.FilesWritten.{Written, all_there, files_written, stand_under}
+use Rattle.command_ends.proofs.SourceRead.{promised, stops}
 use Rattle.collection_commands.specs.Remap.{WritesImage, Remaps}
-use Rattle.collection_commands.proofs.MapRead.{Laws, image_unmade, map_laws, map_read, unmade}
+use Rattle.collection_commands.proofs.MapRead.{Laws, image_unmade, map_read}
 
 -- ---- the files are made
 
@@ -37,7 +38,7 @@ module _ (laws : Laws) (well_formed : ImageIsWellFormed) (base map to : List ℕ
   new = outside d2 i o e' s
 
   read : IsRead (MapAt base map) d d1
-  read = map_read base map to d d1 files w
+  read = map_read base map to d d1 files w laws
 
   on_image : (P : List NamedFile → Type 0) → P files → OnImageFiles base map to d P
   on_image P p = (w.files.0, w.files.1, w.files.2, w.files.3, w.files.4, subst P w.files.5 p)
@@ -53,15 +54,16 @@ module _ (laws : Laws) (well_formed : ImageIsWellFormed) (base map to : List ℕ
         files = λ t. stand_under to (spelled image) d1 d2 (subst P w.files.5 h) (sym tells ∙ t);
       }
 
-  image_moved : (r : Written) → WritesFiles files d1 d2 r → Leaves (Remaps base map to) (Starts (MapAt base map)) old new (files_outcome r)
-  image_moved r v =
-      promised old new (files_outcome r)
+  image_moved : (written : Written) → WritesFiles files d1 d2 written → (r : Result (Unit {0}) Stop) → outcome_of r ≡ files_outcome written
+      → Leaves (Remaps base map to) (Starts (MapAt base map)) old new (outcome_of r)
+  image_moved written v r is =
+      promised old new (files_outcome written) (outcome_of r) is
       (λ does. record {
         does = does;
-        opens = λ done. (w.files.0, w.files.1, w.files.2, w.files.3, w.files.4, found_image (all_there files d1 d2 r v done) v.creates.tells);
+        opens = λ done. (w.files.0, w.files.1, w.files.2, w.files.3, w.files.4, found_image (all_there files d1 d2 written v done) v.creates.tells);
         costs = refl;
       })
-      (files_written (MapAt base map) (map_laws laws base map) (WritesImage base map to) d d1 d2 read i o e e' s s files (OnImageFiles base map to d) on_image r v (λ h. h))
+      (files_written (MapAt base map) (WritesImage base map to) d d1 d2 read i o e e' s s files (OnImageFiles base map to d) on_image written v (λ h. h))
 
 -- ---- the same of what `reorder` gives
 
@@ -75,14 +77,9 @@ pub move_refused : (laws : Laws) (base map to : List ℕ) (d d1 : DepotState) (i
     → MakesImage base map to d d1 (files_made made) → made ≡ Err error → r ≡ Err (stop_of_image error)
     → Leaves (Remaps base map to) (Starts (MapAt base map)) (outside d i o e s) (outside d1 i o e' s) (outcome_of r)
 move_refused laws base map to d d1 i o e e' s made error r w was is =
-    let old : Outside = outside d i o e s in
-    let new : Outside = outside d1 i o e' s in
     let all : MakesImage base map to d d1 (Err error) = subst (λ (x : Result ImageFiles ImageError). MakesImage base map to d d1 (files_made x)) was w in
-    let stops = image_unmade base map to d d1 i o e e' s error all in
-    subst (λ x. Leaves (Remaps base map to) (Starts (MapAt base map)) old new (outcome_of x)) (sym is)
-    (promised old new (unmade error) (λ does. record { does = does; opens = λ done. absurd (not_done (MapAt base map) old new (unmade error) stops done); costs = refl })
-    (unread (MapAt base map) product.Files (WritesImage base map to) old new (map_laws laws base map) (unmade error)
-    (inl (record { files = all.reads.files; writing = all.reads.writing })) stops))
+    stops (MapAt base map) product.Files (WritesImage base map to) (outside d i o e s) (outside d1 i o e' s) refl refl (stop_of_image error) r is (image_unmade base map to d d1 laws error all)
+    (inl (record { files = all.reads.files; writing = all.reads.writing })) (λ other does. record { does = does; opens = λ done. absurd (other done); costs = refl })
 
 -- or they were written, or not
 pub move_ended : Laws → ImageIsWellFormed → (base map to : List ℕ) (d d1 d2 : DepotState) (i : SourceState) (o e e' : SinkState) (s : ℕ) (made : Result ImageFiles ImageError) (files : ImageFiles)
@@ -91,5 +88,4 @@ pub move_ended : Laws → ImageIsWellFormed → (base map to : List ℕ) (d d1 d
     → Leaves (Remaps base map to) (Starts (MapAt base map)) (outside d i o e s) (outside d2 i o e' s) (outcome_of r)
 move_ended laws well_formed base map to d d1 d2 i o e e' s made files written r w was v is =
     let all : MakesImage base map to d d1 (Ok (files_of files)) = subst (λ (x : Result ImageFiles ImageError). MakesImage base map to d d1 (files_made x)) was w in
-    subst (λ x. Leaves (Remaps base map to) (Starts (MapAt base map)) (outside d i o e s) (outside d2 i o e' s) x) (sym is)
-    (image_moved laws well_formed base map to d d1 d2 i o e e' s (files_of files) all written v)
+    image_moved laws well_formed base map to d d1 d2 i o e e' s (files_of files) all written v r is

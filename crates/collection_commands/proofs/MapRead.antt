@@ -8,8 +8,6 @@ use Rattle.part_cost.specs.declared.formats.Format.TheVariants.{Two}
 use Rattle.pef_io.specs.declared.fail.Slot.{Slot}
 use Rattle.pef_io.specs.declared.fail.Slot.TheVariants.{Map}
 use Rattle.pef_io.specs.DepotState.{DepotState, bytes_under}
-use Rattle.pef_io.specs.SourceState.{SourceState}
-use Rattle.pef_io.specs.SinkState.{SinkState}
 use Rattle.collection_reader.specs.declared.fault.Fault.{Fault}
 use Rattle.collection_reader.specs.ReadCollection.{IsCollectionSlot}
 use Rattle.remap.specs.MapFaults.{IsMapFault}
@@ -20,15 +18,15 @@ use Rattle.command_model.specs.FilesWritten.{NamedFile}
 use Rattle.remapped_files.specs.declared.image.ImageError.{ImageError}
 use Rattle.remapped_files.specs.declared.image.ImageError.TheVariants as making
 use Rattle.remapped_files.specs.MakeImage.{MakesImage}
-use Rattle.command_ends.specs.Outside.{outside, OfFile}
+use Rattle.command_ends.specs.Outside.{OfFile}
 use Rattle.command_ends.specs.Outcome.{Outcome, BrokenCollection, BrokenMap, NoMemory, fault_of}
 use Rattle.command_ends.specs.Ends.{EndsByFault}
 use Rattle.command_ends.specs.Sources.{CollectionAt, EndsAt, IsRefusedAs, MapAt, Stands, Starts}
 use Rattle.command_ends.specs.Starts.{StartsOnly}
+use Rattle.command_ends.specs.Steps.AtSource.{IsRead, IsUnread, was_read}
 use Rattle.command_ends.specs.Steps.Stops.{outcome_of_stop, stop_of_image}
 use Rattle.command_ends.proofs.Counted.{Of, not_true, second}
 use Rattle.command_ends.proofs.SourceRead as source
-use Rattle.command_ends.proofs.SourceRead.{IsRead, IsUnread, was_read}
 use Rattle.collection_commands.proofs.BuildRefused.{FaultLaws, collection_laws}
 
 -- the laws of collections and of maps
@@ -141,24 +139,22 @@ module _ (base map to : List ℕ) (d d1 : DepotState) where
       never_falls = w.reads.never_fall slot;
     }
 
-  module _ (i : SourceState) (o e e' : SinkState) (s : ℕ) where
-    abbrev Unread : Outcome → Type 0
-    Unread outcome = IsUnread (MapAt base map) (outside d i o e s) (outside d1 i o e' s) outcome
+  module _ (laws : Laws) where
+    ended : (error : ImageError) → MakesImage base map to d d1 (Err error) → Starts (MapAt base map) (unmade error) d d1
+        → EndsAt (MapAt base map) d (unmade error) ⊎ (unmade error ≡ NoMemory) → IsUnread (MapAt base map) d d1 (unmade error)
+    ended error w started ends =
+        source.ended_there (MapAt base map) (map_laws laws base map) d d1 (unmade error) ends (record { reads = w.reads; starts = started; files = slot_ends error w })
 
-    unread : (error : ImageError) → MakesImage base map to d d1 (Err error) → Starts (MapAt base map) (unmade error) d d1
-        → EndsAt (MapAt base map) d (unmade error) ⊎ (unmade error ≡ NoMemory) → Unread (unmade error)
-    unread error w started ends = (ends, record { reads = w.reads; starts = started; files = slot_ends error w; input = refl; out = refl })
-
-    pub image_unmade : (error : ImageError) → MakesImage base map to d d1 (Err error) → Unread (unmade error)
-    image_unmade (making.Broken fault) w = unread (making.Broken fault) w (broken_starts fault w) (inl (λ t. w.first_fault t fault refl))
+    pub image_unmade : (error : ImageError) → MakesImage base map to d d1 (Err error) → IsUnread (MapAt base map) d d1 (unmade error)
+    image_unmade (making.Broken fault) w = ended (making.Broken fault) w (broken_starts fault w) (inl (λ t. w.first_fault t fault refl))
     image_unmade (making.BrokenMap fault) w =
-        unread (making.BrokenMap fault) w (all_starts (making.BrokenMap fault) w (λ f h. cc)) (inl (w.accepted_at_map fault refl, λ t. w.first_map_fault t fault refl))
+        ended (making.BrokenMap fault) w (all_starts (making.BrokenMap fault) w (λ f h. cc)) (inl (w.accepted_at_map fault refl, λ t. w.first_map_fault t fault refl))
     image_unmade (making.Read slot) w =
-        unread (making.Read slot) w (all_starts (making.Read slot) w (λ f h. cc)) (inl (elim (w.read_only_where_it_rose slot refl).0 [
+        ended (making.Read slot) w (all_starts (making.Read slot) w (λ f h. cc)) (inl (elim (w.read_only_where_it_rose slot refl).0 [
           | inl is ↦ inl is
           | inr is ↦ inr (is, w.accepted_at_read (ap (λ s. refused (making.Read s)) is))
         ]))
-    image_unmade making.NoMemory w = unread making.NoMemory w (all_starts making.NoMemory w (λ f h. cc)) (inr refl)
+    image_unmade making.NoMemory w = ended making.NoMemory w (all_starts making.NoMemory w (λ f h. cc)) (inr refl)
 
 -- ---- they are made
 
@@ -183,9 +179,10 @@ module _ (base map to : List ℕ) (d d1 : DepotState) (files : List NamedFile) (
   both_started (BrokenCollection fault) read = absurd (not_true read)
   both_started outcome read = starts_made outcome
 
-  pub map_read : IsRead (MapAt base map) d d1
-  map_read = record {
+  pub map_read : Laws → IsRead (MapAt base map) d d1
+  map_read laws = record {
     accepted = (w.files.0, (w.files.1, w.files.3));
+    refuses = source.refuses_none (MapAt base map) (map_laws laws base map) d (w.files.0, (w.files.1, w.files.3));
     reads = w.reads;
     starts = both_started;
     counts = λ slot. second (w.count_rises_only_there slot) (not_refused (making.Read slot));

@@ -11,7 +11,7 @@ ghost use Rattle.command_ends.specs.Starts.{StartsOnly};
 ghost use Rattle.collection_reader.specs.ReadCollection.{IsCollectionSlot};
 
 use collection_reader::{files_have_one_first_fault, spelled_files_have_no_fault};
-use command_ends::{LONGEST_TEXT, Stop};
+use command_ends::{LONGEST_TEXT, Stop, after_answering};
 use index_building::build_words;
 use index_file::{Index, one_index};
 use part_cost::Format;
@@ -46,6 +46,6 @@ pub fn answer<D: Depot, I: Source, O: Sink, L: Ledger>(
     one_index();
     let words = build_words(alloc, base, depot, Format::Two, steps)?;
     let index = Index::known(&words);
-    answer_text(alloc, &index, plan, input, LONGEST_TEXT, out)?;
-    Ok(())
+    let answered = answer_text(alloc, &index, plan, input, LONGEST_TEXT, out);
+    after_answering(answered)
 }

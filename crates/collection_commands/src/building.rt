@@ -18,24 +18,31 @@ use std::sync::ledger::Ledger;
 use step_count::Steps;
 use word_files::write_words;
 
-/// Builds the index of the collection under the base, in a format, and writes it as the file of this name.
+/// An index that is to be written: the name of its file, and its format.
+#[derive(Clone, Copy)]
+pub struct NewIndex<'a> {
+    pub name: &'a str,
+    pub format: Format,
+}
+
+/// Builds the index of the collection under the base, and writes it as a file.
 pub fn build<D: Depot, L: Ledger>(
     alloc: Global,
     base: &str,
-    index: &str,
+    index: NewIndex<'_>,
     depot: &mut D,
-    format: Format,
     steps: &mut Steps<L>,
 ) -> Result<(), Stop>
     ensures { (i : SourceState) (o e e' : SinkState)
-        → Leaves (Builds format base.now index.now) (StartsOnly (names_under base.now) IsCollectionSlot)
+        → Leaves (Builds index.entry.format base.now index.entry.name.now)
+        (StartsOnly (names_under base.now) IsCollectionSlot)
         (outside (D.state depot.old) i o e steps.old) (outside (D.state depot.new) i o e' steps.new)
         (outcome_of result) }
 {
     files_have_one_first_fault();
     spelled_files_have_no_fault();
-    let words = build_words(alloc, base, depot, format, steps)?;
+    let words = build_words(alloc, base, depot, index.format, steps)?;
     words_fit(&words);
-    let written = write_words(alloc, &words, index, depot);
+    let written = write_words(alloc, &words, index.name, depot);
     after_writing(Slot::Index, written)
 }

@@ -18,22 +18,34 @@ use std::alloc::Global;
 use std::sync::ledger::Ledger;
 use step_count::Steps;
 
-/// Builds the words of the generated collection of a seed, and prints what is told of it.
+/// A generated collection: its seed, and how many documents and terms it has.
+#[derive(Clone, Copy)]
+pub struct GeneratedCollection {
+    pub seed: u32,
+    pub documents: u32,
+    pub terms: u32,
+}
+
+/// Builds the words of a generated collection, and prints what is told of it.
 pub fn generate<O: Sink, L: Ledger>(
     alloc: Global,
-    seed: u32,
-    documents: u32,
-    terms: u32,
+    collection: GeneratedCollection,
     out: &mut O,
     steps: &mut Steps<L>,
 ) -> Result<(), Stop>
     ensures leaves { (d : DepotState) (i : SourceState) (e e' : SinkState)
-        → Leaves (Generates seed documents terms) (StartsOnly (λ slot. []) (λ slot. ⊥))
+        → Leaves (Generates collection.seed collection.documents collection.terms)
+        (StartsOnly (λ slot. []) (λ slot. ⊥))
         (outside d i (O.state out.old) e steps.old) (outside d i (O.state out.new) e' steps.new)
         (outcome_of result) }
     ensures refused { IsTrue (is_refusal (outcome_of result)) → out.new ≡ out.old }
 {
     one_index();
+    let GeneratedCollection {
+        seed,
+        documents,
+        terms,
+    } = collection;
     let words = generated_words(alloc, seed, documents, terms, steps)?;
     let index = Index::known(&words);
     after_printing(print_generated(alloc, &index, out))

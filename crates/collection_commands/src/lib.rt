@@ -7,6 +7,6 @@ mod generating;
 mod reordering;
 
 pub use answering::answer;
-pub use building::build;
-pub use generating::generate;
+pub use building::{NewIndex, build};
+pub use generating::{GeneratedCollection, generate};
 pub use reordering::reorder;

@@ -9,7 +9,7 @@ ghost use Rattle.collection_commands.specs.Remap.{Remaps};
 
 use collection_model::files_spell_one_collection;
 use collection_reader::{files_have_one_first_fault, spelled_files_have_no_fault};
-use command_ends::Stop;
+use command_ends::{Stop, after_writing_files};
 use pef_io::Depot;
 use remap::{image_is_well_formed, maps_have_one_first_fault};
 use remapped_files::{image_files, write_image};
@@ -34,6 +34,5 @@ pub fn reorder<D: Depot>(
     maps_have_one_first_fault();
     image_is_well_formed();
     let files = image_files(alloc, base, map, to, depot)?;
-    write_image(&files, depot)?;
-    Ok(())
+    after_writing_files(write_image(&files, depot))
 }

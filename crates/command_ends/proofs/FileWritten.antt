@@ -18,9 +18,10 @@ use Rattle.command_ends.specs.WrittenFile.{IsLeftInPart, WritesFile, EndsByWriti
 use Rattle.command_ends.specs.Sources.{Source, Accepts, IndexesAt, ReadsFrom, StartedIn, Starts, names_of}
 use Rattle.command_ends.specs.SegmentStarts.{StartedUnder}
 use Rattle.command_ends.specs.Products.{Does, File, builds_words}
+use Rattle.command_ends.specs.Steps.AtSource.{IsRead, was_read}
 use Rattle.command_ends.specs.Steps.Leaves.{Leaves}
 use Rattle.command_ends.specs.Steps.Stops.{written_outcome}
-use Rattle.command_ends.proofs.SourceRead.{IsRead, Laws, is_complete, refuses_none, was_read}
+use Rattle.command_ends.proofs.SourceRead.{is_complete}
 use Rattle.command_ends.proofs.Started.{written_starts}
 use Rattle.command_ends.proofs.Counted.{stays, rises, second, not_true, Of, all_end}
 
@@ -56,6 +57,10 @@ was_written slot (Ok u) = refl
 was_written slot (Err call.Failed) = refl
 was_written slot (Err call.NoMemory) = refl
 
+-- a run that only read wrote nothing
+pub only_read : {slots : Slot → Type 0} (d d' : DepotState) → OnlyReads slots d d' → IsUnwritten d d'
+only_read d d' reads = record { files = reads.files; writing = reads.writing }
+
 -- a writing starts nothing, and is refused memory only where that is the outcome
 pub then_written : (source : Source) (d d1 d2 : DepotState) (outcome : Outcome) → Starts source outcome d d1 → SameStarts d1 d2
     → (outcome ≡ NoMemory) ⊎ (d2.refusals ≡ d1.refusals) → Starts source outcome d d2
@@ -67,7 +72,7 @@ then_written (IndexesAt names) d d1 d2 outcome s same wanted = record {
 then_written source d d1 d2 outcome s same wanted = written_starts (names_of source) (StartedIn source outcome) d d1 d2 outcome s same wanted
 
 -- Bytes of which OnBytes tells were made of a source over depot `d`, which is `d1` then, and written as the file of a slot or not, which leaves `d2`.
-module _ (source : Source) (laws : Laws source) (Makes : Outside → Outside → Outcome → Type 0) (slot : Slot) (d d1 d2 : DepotState) (read : IsRead source d d1)
+module _ (source : Source) (Makes : Outside → Outside → Outcome → Type 0) (slot : Slot) (d d1 d2 : DepotState) (read : IsRead source d d1)
     (i : SourceState) (o e e' : SinkState) (s s' : ℕ) (name bytes : List ℕ) (OnBytes : (List ℕ → Type 0) → Type 0) (on : (P : List ℕ → Type 0) → P bytes → OnBytes P) where
   abbrev old : Outside
   old = outside d i o e s
@@ -177,7 +182,7 @@ module _ (source : Source) (laws : Laws source) (Makes : Outside → Outside →
   file_written r v makes = record {
     performs = record {
       ends = inr (makes (writes r v));
-      refuses = refuses_none source laws d read.accepted (written_outcome slot r);
+      refuses = read.refuses (written_outcome slot r);
       complete = λ stands none. is_complete (builds_words source (File slot)) (written_outcome slot r) (complete r v none);
       depot = only_accepted r v;
     };

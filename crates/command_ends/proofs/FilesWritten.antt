@@ -26,19 +26,15 @@ use Rattle.command_ends.specs.WrittenFiles.{WritesFiles}
 use Rattle.command_ends.specs.Sources.{Source, ReadsFrom, Starts}
 use Rattle.command_ends.specs.Products as product
 use Rattle.command_ends.specs.Products.{Does, builds_words}
+use Rattle.command_ends.specs.Steps.AtSource.{IsRead, was_read}
 use Rattle.command_ends.specs.Steps.Leaves.{Leaves}
-use Rattle.command_ends.specs.Steps.Stops.{outcome_of_stop, stop_of_file}
+use Rattle.command_ends.specs.Steps.Stops.{files_outcome}
 use Rattle.command_ends.proofs.Counted.{stays, rises, second, not_true, Of, all_end}
 use Rattle.command_ends.proofs.FileWritten.{then_written}
-use Rattle.command_ends.proofs.SourceRead.{IsRead, Laws, is_complete, refuses_none, was_read}
+use Rattle.command_ends.proofs.SourceRead.{is_complete}
 
 abbrev pub Written : Type 0
 Written = Result (Unit {0}) FileFail
-
--- how a run ends that wrote its files or stopped at one
-abbrev pub files_outcome : Written → Outcome
-files_outcome (Ok u) = Done
-files_outcome (Err f) = outcome_of_stop (stop_of_file f)
 
 fail_of : (e f : FileFail) → (let r : Written = Err e in r ≡ Err f) → e ≡ f
 fail_of e f h = cc
@@ -71,7 +67,7 @@ all_there files d1 d2 (Err f) v done = absurd (go f.fail done)
     go call.NoMemory h = let bad : NoMemory ≡ Done = h in cc
 
 -- Files of which OnFiles tells are those of a source over depot `d`, which is `d1` then, and were written or not, which leaves `d2`.
-module _ (source : Source) (laws : Laws source) (Makes : Outside → Outside → Outcome → Type 0) (d d1 d2 : DepotState) (read : IsRead source d d1)
+module _ (source : Source) (Makes : Outside → Outside → Outcome → Type 0) (d d1 d2 : DepotState) (read : IsRead source d d1)
     (i : SourceState) (o e e' : SinkState) (s s' : ℕ) (files : List NamedFile) (OnFiles : (List NamedFile → Type 0) → Type 0) (on : (P : List NamedFile → Type 0) → P files → OnFiles P) where
   abbrev old : Outside
   old = outside d i o e s
@@ -143,7 +139,7 @@ module _ (source : Source) (laws : Laws source) (Makes : Outside → Outside →
     left outcome m makes = record {
       performs = record {
         ends = inr (makes m.ends);
-        refuses = refuses_none source laws d read.accepted outcome;
+        refuses = read.refuses outcome;
         complete = λ stands none. is_complete (builds_words source product.Files) outcome (m.complete none);
         depot = record {
           refused = λ h. absurd (m.no_refusal h);

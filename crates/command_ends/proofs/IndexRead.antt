@@ -1,46 +1,85 @@
--- What a run leaves at an index: it is refused in one way only, and in none where it stands there.
-use Rattle.std.proofs.Common.{◌≡◌, ℕ, refl, sym, ◌∙◌, ap, subst, List, length, inl, inr}
-use Rattle.std.specs.Prelude.{◌%◌, ◌==◌, not, Bool, true, false, IsTrue, MatchBool, Result, Err}
+-- An index that a run loads, and what it leaves at it: it is refused in one way only, and in none where it stands there.
+use Rattle.std.proofs.Common.{◌≡◌, ℕ, zero, suc, ◌≤◌, refl, sym, ◌∙◌, ap, subst, List, length, inl, inr}
+use Rattle.std.specs.Prelude.{None, ◌≢◌, ◌⊎◌, ◌%◌, ◌==◌, not, Bool, true, false, IsTrue, MatchBool, Ok, Err}
+use Rattle.std.proofs.Math.Dec.{eqb-suc-zero}
 use Rattle.collection_model.specs.Collection.{Collection}
 use Rattle.part_cost.specs.Formats.{numbers_of}
 use Rattle.pef_io.specs.declared.fail.Slot.TheVariants.{Index}
 use Rattle.pef_io.specs.DepotState.{DepotState, bytes_under}
-use Rattle.pef_io.specs.SourceState.{SourceState}
-use Rattle.pef_io.specs.SinkState.{SinkState}
 use Rattle.index_file.specs.declared.fault.OpenFault.{OpenFault}
-use Rattle.index_file.specs.FileWords.{Spells, file_words}
+use Rattle.index_file.specs.FileWords.{IsIndex, Spells, file_words}
 use Rattle.index_file.specs.FirstBroken.{IsFirstBroken}
 use Rattle.index_file.specs.IndexView.{IndexView}
+use Rattle.index_file.specs.Builder.{most_words}
 use Rattle.index_file.specs.Laws.{WordsAreRead, OneBrokenCheck}
-use Rattle.command_model.specs.Found.{AreOfWords}
+use Rattle.index_file.proofs.FittingFiles.{fits-file}
+use Rattle.command_model.specs.Found.{AreOfWords, most_bytes}
 use Rattle.word_files.specs.declared.loading.LoadWordsError.{LoadWordsError}
 use Rattle.word_files.specs.declared.loading.LoadWordsError.TheVariants as loading
 use Rattle.word_files.specs.LoadWords.{LoadsWords}
-use Rattle.command_ends.specs.declared.stop.Stop.{Stop}
 use Rattle.command_ends.specs.declared.stop.Stop.TheVariants as stop
-use Rattle.command_ends.specs.Outside.{outside, OfFile}
-use Rattle.command_ends.specs.Outcome.{Outcome, BrokenIndex, TooLarge}
+use Rattle.command_ends.specs.Outside.{Count, OfFile}
+use Rattle.command_ends.specs.Outcome.{Outcome, BrokenIndex, NoMemory, TooLarge, fault_of}
 use Rattle.command_ends.specs.FoundIndex.{FindsIndex, FindsIndexOf, HasBroken, IsFirstBrokenOfFile}
-use Rattle.command_ends.specs.Sources.{IndexAt, IsRefusedAs, Stands}
+use Rattle.command_ends.specs.Sources.{EndsAt, IndexAt, IsRefusedAs, Stands}
+use Rattle.command_ends.specs.Steps.AtSource.{IsUnread}
 use Rattle.command_ends.specs.Steps.LoadedIndex.{IsLoaded, IsUnloaded}
-use Rattle.command_ends.specs.Steps.Stops.{outcome_of, outcome_of_stop, ragged_index}
-use Rattle.command_ends.proofs.Counted.{not_both_lengths, stays}
-use Rattle.command_ends.proofs.IndexLoaded.{breaks, found_parts, index_is_short, index_words, lent_index, loaded_is_found, no_fault, ragged_breaks, unloaded_index, words_broken}
-use Rattle.command_ends.proofs.SourceRead.{IsRead, IsStill, IsUnread, Laws}
-use Rattle.command_ends.proofs.WordsLoaded.{loaded_counts, slots_unloaded, starts, unloaded_starts}
+use Rattle.command_ends.specs.Steps.Stops.{outcome_of_stop, ragged_index, stop_of_index}
+use Rattle.command_ends.proofs.Counted.{not_both_lengths, stays, Of}
+use Rattle.command_ends.proofs.SourceRead.{Laws, ended_there, refuses_none}
+use Rattle.command_ends.proofs.WordsLoaded.{even, loaded_counts, short, slots_unloaded, starts, unloaded_starts}
+
+-- ---- bytes and words
+
+pub is_even : (n : ℕ) → n ≡ 0 → not (n == 0) ≡ false
+is_even n e = rw e refl
+
+pub is_ragged : (n : ℕ) → n ≢ 0 → not (n == 0) ≡ true
+is_ragged zero h = absurd (h refl)
+is_ragged (suc n) h = ap not (eqb-suc-zero n)
+
+-- the first check of bytes that are no whole words, and of those of words
+abbrev Checked : List ℕ → OpenFault → Bool → Type 0
+Checked bytes fault b = MatchBool b (fault ≡ ragged_index) ((ws : List ℕ) × AreOfWords bytes ws × IsFirstBroken ws fault)
+
+ragged_breaks : (bytes : List ℕ) → length bytes % 8 ≢ 0 → IsFirstBrokenOfFile bytes ragged_index
+ragged_breaks bytes h = subst (Checked bytes ragged_index) (sym (is_ragged (length bytes % 8) h)) refl
+
+words_break : (bytes words : List ℕ) (fault : OpenFault) → AreOfWords bytes words → IsFirstBroken words fault → IsFirstBrokenOfFile bytes fault
+words_break bytes words fault of first = subst (Checked bytes fault) (sym (is_even (length bytes % 8) (even bytes words of))) (words, of, first)
+
+words_broken : WordsAreRead → (bytes words : List ℕ) (fault : OpenFault) → AreOfWords bytes words → IsFirstBrokenOfFile bytes fault → IsFirstBroken words fault
+words_broken read bytes words fault of first =
+    let it : (ws : List ℕ) × AreOfWords bytes ws × IsFirstBroken ws fault = subst (Checked bytes fault) (is_even (length bytes % 8) (even bytes words of)) first in
+    subst (λ ws. IsFirstBroken ws fault) (read it.0 words it.1.fit of.fit (sym it.1.bytes_are ∙ of.bytes_are)) it.2
+
+-- the file of an index is not too large, and its words are an index
+pub index_is_short : (name : List ℕ) (d : DepotState) (c : Collection) → IsTrue d.tells → FindsIndexOf name d c → length (bytes_under d name) ≤ most_bytes
+index_is_short name d c t (format, parts, found) = short (bytes_under d name) (file_words (numbers_of format) c parts) (found.bytes t) found.within
+
+index_words : WordsAreRead → (name : List ℕ) (d : DepotState) (words : List ℕ) (c : Collection) → IsTrue d.tells → AreOfWords (bytes_under d name) words
+    → FindsIndexOf name d c → IsIndex words
+index_words read name d words c t of (format, parts, found) =
+    let its = found.bytes t in (
+      format,
+      (
+        c,
+        parts,
+        record {
+          well_formed = found.well_formed;
+          partitions = found.partitions;
+          fits = fits-file (numbers_of format) c parts found.within;
+          spelled = read words (file_words (numbers_of format) c parts) of.fit its.fit (sym of.bytes_are ∙ its.bytes_are);
+        },
+      ),
+    )
 
 -- ---- the first check that breaks
 
 pub one_first : WordsAreRead → OneBrokenCheck → (bytes : List ℕ) (f g : OpenFault) → IsFirstBrokenOfFile bytes f → IsFirstBrokenOfFile bytes g → f ≡ g
 one_first read one bytes f g = go (not (length bytes % 8 == 0))
   where
-    Words : OpenFault → Type 0
-    Words fault = (words : List ℕ) × AreOfWords bytes words × IsFirstBroken words fault
-
-    Is : Bool → OpenFault → Type 0
-    Is b fault = MatchBool b (fault ≡ ragged_index) (Words fault)
-
-    go : (b : Bool) → Is b f → Is b g → f ≡ g
+    go : (b : Bool) → Checked bytes f b → Checked bytes g b → f ≡ g
     go true x y = x ∙ sym y
     go false (v, a, x) (w, b, y) =
         let same : w ≡ v = read w v b.fit a.fit (sym b.bytes_are ∙ a.bytes_are) in
@@ -72,56 +111,74 @@ module _ (read : WordsAreRead) (check : OneBrokenCheck) (name : List ℕ) where
   pub index_laws : Laws (IndexAt name)
   index_laws = record { one = one; none = none }
 
--- it was read
-pub index_read : (name : List ℕ) (d d' : DepotState) (words : List ℕ) → IsLoaded name d d' words → IsRead (IndexAt name) d d'
-index_read name d d' words w = record {
-  accepted = loaded_is_found name d d' words w;
-  reads = w.loads.reads;
-  starts = λ outcome read. starts Index name d d' words w.loads outcome;
-  counts = loaded_counts Index name d d' words w.loads;
-}
+  module _ (d d' : DepotState) where
+    -- ---- its words are not loaded
 
--- or it was not
-module _ (read : WordsAreRead) (check : OneBrokenCheck) (name : List ℕ) (d d' : DepotState) (i : SourceState) (o e e' : SinkState) (n : ℕ) where
-  abbrev Unread : Outcome → Type 0
-  Unread outcome = IsUnread (IndexAt name) (outside d i o e n) (outside d' i o e' n) outcome
+    -- an index that is no whole words is no failed call
+    no_fault : (count : Count) → ¬ Of (fault_of (BrokenIndex ragged_index)) count
+    no_fault count h = let s : Of None count = h in cc
 
-  unloaded_still : (error : LoadWordsError) → LoadsWords Index name d d' (Err error) → IsStill (IndexAt name) (outside d i o e n) (outside d' i o e' n) (unloaded_index error)
-  unloaded_still error w = record {
-    reads = w.reads;
-    starts = unloaded_starts Index (stop.Index ragged_index) no_fault name d d' error w;
-    files = slots_unloaded Index (stop.Index ragged_index) no_fault name d d' error w;
-    input = refl;
-    out = refl;
-  }
+    not_loaded : (error : LoadWordsError) → LoadsWords Index name d d' (Err error) → EndsAt (IndexAt name) d (outcome_of_stop (stop_of_index error)) ⊎ (outcome_of_stop (stop_of_index error) ≡ NoMemory)
+        → IsUnloaded name d d' (stop_of_index error)
+    not_loaded error w ends = ended_there (IndexAt name) index_laws d d' (outcome_of_stop (stop_of_index error)) ends (record {
+      reads = w.reads;
+      starts = unloaded_starts Index (stop.Index ragged_index) no_fault name d d' error w;
+      files = slots_unloaded Index (stop.Index ragged_index) no_fault name d d' error w;
+    })
 
-  not_loaded : (error : LoadWordsError) → LoadsWords Index name d d' (Err error) → Unread (unloaded_index error)
-  not_loaded loading.Ragged w = (
-    inl (λ t. let r = w.ragged t refl in record { within = r.0; first = ragged_breaks (bytes_under d name) ragged_index r.1 refl }),
-    unloaded_still loading.Ragged w,
-  )
-  not_loaded loading.Read w = (inl refl, unloaded_still loading.Read w)
-  not_loaded loading.TooLarge w = (inl (refl, λ t. w.too_large t refl), unloaded_still loading.TooLarge w)
-  not_loaded loading.NoMemory w = (inr refl, unloaded_still loading.NoMemory w)
+    pub index_unloaded : (error : LoadWordsError) → LoadsWords Index name d d' (Err error) → IsUnloaded name d d' (stop_of_index error)
+    index_unloaded loading.Ragged w =
+        not_loaded loading.Ragged w (inl (λ t. let r = w.ragged t refl in record { within = r.0; first = ragged_breaks (bytes_under d name) r.1 }))
+    index_unloaded loading.Read w = not_loaded loading.Read w (inl refl)
+    index_unloaded loading.TooLarge w = not_loaded loading.TooLarge w (inl (refl, λ t. w.too_large t refl))
+    index_unloaded loading.NoMemory w = not_loaded loading.NoMemory w (inr refl)
 
-  pub index_unread : (it : Stop) → IsUnloaded name d d' it → Unread (outcome_of_stop it)
-  index_unread it (inl (error, w, is)) = subst (λ x. Unread (outcome_of_stop x)) (sym is) (not_loaded error w)
-  index_unread it (inr (fault, none, is)) = subst (λ x. Unread (outcome_of_stop x)) (sym is) (
-    inl (λ t. breaks name d d' none.words none.loads fault none.first t),
-    record {
-      reads = none.loads.reads;
-      starts = starts Index name d d' none.words none.loads (BrokenIndex fault);
-      files = λ slot. stays (OfFile slot) (BrokenIndex fault) _ _ (λ h. cc) (loaded_counts Index name d d' none.words none.loads slot);
-      input = refl;
-      out = refl;
-    },
-  )
+    -- ---- they are loaded
 
-  -- of what a command gives
-  pub index_refused : (it : Stop) → IsUnloaded name d d' it → (r : Result (Unit {0}) Stop) → r ≡ Err it → Unread (outcome_of r)
-  index_refused it h r is = subst (λ x. Unread (outcome_of x)) (sym is) (index_unread it h)
+    module _ (words : List ℕ) (w : LoadsWords Index name d d' (Ok words)) where
+      ended : (outcome : Outcome) → fault_of outcome ≡ None → EndsAt (IndexAt name) d outcome ⊎ (outcome ≡ NoMemory) → IsUnread (IndexAt name) d d' outcome
+      ended outcome none ends = ended_there (IndexAt name) index_laws d d' outcome ends (record {
+        reads = w.reads;
+        starts = starts Index name d d' words w outcome;
+        files = λ slot. stays (OfFile slot) outcome _ _ (λ h. let bad : Of None (OfFile slot) = sym none ∙ h in cc) (loaded_counts Index name d d' words w slot);
+      })
 
--- the index that words are which were loaded, as they are lent, stands under the name
-pub found_lent : (name : List ℕ) (d d' : DepotState) (words lent : List ℕ) (index : IndexView) → IsLoaded name d d' words → lent ≡ words
-    → Spells (numbers_of index.format) lent index.collection index.parts → FindsIndex (numbers_of index.format) name d index.collection index.parts
-found_lent name d d' words lent index w lends spells = found_parts name d d' lent (lent_index name d d' words lent w lends) index spells
+      -- and are no index
+      pub index_broken : (fault : OpenFault) → IsFirstBroken words fault → IsUnloaded name d d' (stop.Index fault)
+      index_broken fault first = ended (BrokenIndex fault) refl (inl (λ t. record {
+        within = short (bytes_under d name) words (w.words t) w.within;
+        first = words_break (bytes_under d name) words fault (w.words t) first;
+      }))
+
+      -- or memory was refused then
+      pub index_unkept : IsUnloaded name d d' stop.NoMemory
+      index_unkept = ended NoMemory refl (inr refl)
+
+      -- or are one, which stands under the name
+      pub index_loaded : (index : IndexView) → Spells (numbers_of index.format) words index.collection index.parts → IsLoaded name d d' index
+      index_loaded index spells = record {
+        found = found;
+        read = record {
+          accepted = (index.collection, (index.format, index.parts, found));
+          refuses = refuses_none (IndexAt name) index_laws d (index.collection, (index.format, index.parts, found));
+          reads = w.reads;
+          starts = λ outcome read. starts Index name d d' words w outcome;
+          counts = loaded_counts Index name d d' words w;
+        };
+        starts = starts Index name d d' words w;
+      }
+        where
+          found : FindsIndex (numbers_of index.format) name d index.collection index.parts
+          found = record {
+            well_formed = spells.well_formed;
+            partitions = spells.partitions;
+            within = subst (λ ws. length ws ≤ most_words) spells.spelled w.within;
+            bytes = λ t. subst (λ ws. AreOfWords (bytes_under d name) ws) spells.spelled (w.words t);
+          }
+
+pub spelled_index : (words : List ℕ) (index : IndexView) → Spells (numbers_of index.format) words index.collection index.parts → IsIndex words
+spelled_index words index spells = (index.format, (index.collection, index.parts, spells))
+
+-- the index of one that was loaded
+pub loaded_as : (name : List ℕ) (d d' : DepotState) (opened index : IndexView) → IsLoaded name d d' opened → index ≡ opened → IsLoaded name d d' index
+loaded_as name d d' opened index w is = subst (IsLoaded name d d') (sym is) w

@@ -7,7 +7,6 @@ pub mod TextPrinted
 pub mod FileWritten
 pub mod FilesWritten
 pub mod IndexWritten
-pub mod IndexLoaded
 pub mod SourceRead
 pub mod IndexRead
 pub mod TextMade

@@ -1,5 +1,5 @@
 -- A file that begins with another word than those of an index: which check it breaks, whatever stands behind that word.
-use Rattle.std.proofs.Common.{◌≡◌, ◌≢◌, ℕ, ◌+◌, ◌-◌, ◌≤◌, Bool, true, false, List, [], ◌∷◌, length, slice_index, refl, sym, ap, ◌∙◌, subst, inl, inr, arith, Ok}
+use Rattle.std.proofs.Common.{◌≡◌, ◌≢◌, ℕ, ◌+◌, ◌-◌, ◌≤◌, Bool, true, false, List, [], ◌∷◌, length, slice_index, refl, sym, ap, ◌∙◌, subst, inl, inr, arith, Result, Ok, Err}
 use Rattle.std.proofs.lemmas.Bool.{le-ltb, ne_eqb}
 use Rattle.std.specs.Prelude.{Option, Some, None, not, ◌==◌, nat_lt, if◌then◌else◌, MatchOption, MatchBool}
 use Rattle.std.specs.List.{Contains}
@@ -7,7 +7,7 @@ use Rattle.collection_model.specs.FormatNumbers.{FormatNumbers, FileKind, Plain,
 use Rattle.part_cost.specs.declared.formats.Format.TheVariants.{One, Two, Three}
 use Rattle.part_cost.specs.Formats.{numbers_of}
 use Rattle.pef_io.specs.declared.fail.Slot.TheVariants.{Index}
-use Rattle.pef_io.specs.DepotState.{DepotState}
+use Rattle.pef_io.specs.DepotState.{DepotState, StartedOnce}
 use Rattle.sequence_words.specs.declared.check.Check.{Check}
 use Rattle.sequence_words.specs.declared.check.Check.TheVariants.{K1, K2, K3, K4, K5}
 use Rattle.index_file.specs.declared.fault.OpenFault.{OpenFault}
@@ -16,8 +16,9 @@ use Rattle.index_file.specs.PlainWords.{opening_magic, end_magic, lists_words}
 use Rattle.index_file.specs.PackedWords.{packed_magic}
 use Rattle.index_file.specs.FileWords.{format_read, IsIndex}
 use Rattle.index_file.specs.FirstBroken.{stated_documents, stated_terms, stated_sizes, numbers_break, frame_broken, IsLongestFilePrefix, IsTermFault, IsClosingFault, IsFirstBrokenOf, IsFirstBroken}
+use Rattle.command_model.specs.Found.{IsIndexSlot}
+use Rattle.word_files.specs.declared.loading.LoadWordsError.{LoadWordsError}
 use Rattle.word_files.specs.LoadWords.{LoadsKept, LoadsWords}
-use Rattle.command_ends.specs.Steps.LoadedIndex.{IsLoaded, IsNoIndex}
 
 broken-later : (b : Bool) (k : Check) (o : Option Check) → b ≡ false → (if b then Some k else o) ≡ o
 broken-later true k o h = absurd (cc)
@@ -89,23 +90,21 @@ opens words other (One, (c, parts, spells)) = other.plain (ap (λ ws. slice_inde
 opens words other (Two, (c, parts, spells)) = other.plain (ap (λ ws. slice_index ws 0) spells.spelled)
 opens words other (Three, (c, parts, spells)) = other.packed (ap (λ ws. slice_index ws 0) spells.spelled)
 
+-- the file is started once, whatever comes of it
+pub kept_once : (name : List ℕ) (d d' : DepotState) (r : Result (List ℕ) LoadWordsError) → LoadsKept openings Index name d d' r → StartedOnce (λ slot. name) IsIndexSlot d d'
+kept_once name d d' (Ok words) (all, kept, loads) = loads.started_once
+kept_once name d d' (Err error) loads = loads.started_once
+
 -- words that are an index are all that were loaded
-pub kept_is_loaded : (name : List ℕ) (d d' : DepotState) (words : List ℕ) → LoadsKept openings Index name d d' (Ok words) → IsIndex words → IsLoaded name d d' words
-kept_is_loaded name d d' words (all, inl same, loads) index =
-    record { loads = subst (λ ws. LoadsWords Index name d d' (Ok ws)) (sym same) loads; index = index }
+pub kept_is_loaded : (name : List ℕ) (d d' : DepotState) (words : List ℕ) → LoadsKept openings Index name d d' (Ok words) → IsIndex words → LoadsWords Index name d d' (Ok words)
+kept_is_loaded name d d' words (all, inl same, loads) index = subst (λ ws. LoadsWords Index name d d' (Ok ws)) (sym same) loads
 kept_is_loaded name d d' words (all, inr o, loads) index = absurd (opens words (begins-other words o.other) index)
 
--- words that are no index are loaded where some of them are
-pub kept_is_none : (name : List ℕ) (d d' : DepotState) (words : List ℕ) (fault : OpenFault) → LoadsKept openings Index name d d' (Ok words)
-    → ¬ IsIndex words → IsFirstBroken words fault → IsNoIndex name d d' fault
-kept_is_none name d d' words fault (all, inl same, loads) no_index first =
-    record { words = words; loads = subst (λ ws. LoadsWords Index name d d' (Ok ws)) (sym same) loads; no_index = no_index; first = first }
-kept_is_none name d d' words fault (all, inr o, loads) no_index first =
+-- words that are no index are loaded where some of them are, and break the same check
+pub kept_is_none : (name : List ℕ) (d d' : DepotState) (words : List ℕ) (fault : OpenFault) → LoadsKept openings Index name d d' (Ok words) → IsFirstBroken words fault
+    → (all : List ℕ) × LoadsWords Index name d d' (Ok all) × IsFirstBroken all fault
+kept_is_none name d d' words fault (all, inl same, loads) first = (all, loads, subst (λ ws. IsFirstBroken ws fault) same first)
+kept_is_none name d d' words fault (all, inr o, loads) first =
     let here : BeginsOther words = begins-other words o.other in
     let there : BeginsOther all = record { plain = λ is. here.plain (sym o.same_first ∙ is); packed = λ is. here.packed (sym o.same_first ∙ is) } in
-    record {
-      words = all;
-      loads = loads;
-      no_index = opens all there;
-      first = second-breaks all fault (omega (arith, o.many, o.no_more)) there (second-only words fault o.many here first);
-    }
+    (all, loads, second-breaks all fault (omega (arith, o.many, o.no_more)) there (second-only words fault o.many here first))

@@ -1,6 +1,6 @@
 -- What a run leaves at its source: it is refused, or a call on one of its files failed, or it was read.
 use Rattle.std.proofs.Common.{◌≡◌, ℕ, arith, refl, sym, ◌∙◌, ap, subst, inl, inr}
-use Rattle.std.specs.Prelude.{◌≢◌, ◌⊎◌, true, false, Bool, IsTrue, Some, None}
+use Rattle.std.specs.Prelude.{◌≢◌, ◌⊎◌, true, false, Bool, IsTrue, Some, None, Result, Err}
 use Rattle.std.proofs.lemmas.List.{append-nil}
 use Rattle.collection_model.specs.Collection.{Collection}
 use Rattle.pef_io.specs.declared.fail.Slot.{Slot}
@@ -15,7 +15,10 @@ use Rattle.command_ends.specs.Ends.{EndsByFault, OrNoMemory}
 use Rattle.command_ends.specs.WrittenFile.{WritesOnlyAccepted}
 use Rattle.command_ends.specs.Sources.{Source, Nothing, IndexesAt, Accepts, ComesTo, EndsAt, Finds, IsRefusedAs, ReadsFrom, Refuses, Stands, StartedIn, Starts, names_of}
 use Rattle.command_ends.specs.Products.{Product, Replies, File, Files, Completes, Does, IsComplete, Touches, WritesTo, builds_words}
+use Rattle.command_ends.specs.declared.stop.Stop.{Stop}
+use Rattle.command_ends.specs.Steps.AtSource.{IsRead, IsStill, IsUnread}
 use Rattle.command_ends.specs.Steps.Leaves.{Leaves}
+use Rattle.command_ends.specs.Steps.Stops.{outcome_of, outcome_of_stop}
 use Rattle.command_ends.proofs.Counted.{stays, all_end, or_larger, Of}
 use Rattle.command_ends.proofs.Started as started
 
@@ -23,35 +26,6 @@ use Rattle.command_ends.proofs.Started as started
 pub record Laws (source : Source) : Type 0 where
   pub one : (d : DepotState) → IsTrue d.tells → (a b : Outcome) → IsRefusedAs source d a → IsRefusedAs source d b → a ≡ b
   pub none : (d : DepotState) → Stands source d → (a : Outcome) → ¬ IsRefusedAs source d a
-
--- whether a run that ends so was not refused what it reads
-abbrev pub was_read : Outcome → Bool
-was_read Done = true
-was_read InputFault = true
-was_read (WriteFault slot) = true
-was_read OutFault = true
-was_read NoMemory = true
-was_read InputTooLarge = true
-was_read outcome = false
-
--- A source was read and is accepted, and no call on its files failed.
-pub record IsRead (source : Source) (old mid : DepotState) : Type 0 where
-  pub accepted : Accepts source old
-  pub reads : OnlyReads (ReadsFrom source) old mid
-  pub starts : (outcome : Outcome) → IsTrue (was_read outcome) → Starts source outcome old mid
-  pub counts : (slot : Slot) → mid.faults slot ≡ old.faults slot
-
--- Nothing but the files of a source was called.
-pub record IsStill (source : Source) (old new : Outside) (outcome : Outcome) : Type 0 where
-  pub reads : OnlyReads (ReadsFrom source) old.depot new.depot
-  pub starts : Starts source outcome old.depot new.depot
-  pub files : (slot : Slot) → EndsByFault (OfFile slot) outcome (old.depot.faults slot) (new.depot.faults slot)
-  pub input : new.input ≡ old.input
-  pub out : new.out ≡ old.out
-
--- A run ended before its source was read, or memory was refused right behind that.
-abbrev pub IsUnread : Source → Outside → Outside → Outcome → Type 0
-IsUnread source old new outcome = (EndsAt source old.depot outcome ⊎ (outcome ≡ NoMemory)) × IsStill source old new outcome
 
 -- ---- a refusal is no failed call
 
@@ -105,9 +79,9 @@ refused_not_done : (source : Source) (d : DepotState) → ¬ IsRefusedAs source 
 refused_not_done Nothing d h = h
 refused_not_done source d h = h
 
-pub not_done : (source : Source) (old new : Outside) (outcome : Outcome) → IsUnread source old new outcome → outcome ≢ Done
-not_done source old new outcome (inl at, w) is = refused_not_done source old.depot (subst (EndsAt source old.depot) is at)
-not_done source old new outcome (inr memory, w) is = let bad : NoMemory ≡ Done = sym memory ∙ is in cc
+not_done : (source : Source) (d : DepotState) (outcome : Outcome) → EndsAt source d outcome ⊎ (outcome ≡ NoMemory) → outcome ≢ Done
+not_done source d outcome (inl at) is = refused_not_done source d (subst (EndsAt source d) is at)
+not_done source d outcome (inr memory) is = let bad : NoMemory ≡ Done = sym memory ∙ is in cc
 
 -- ---- what stands there
 
@@ -129,12 +103,43 @@ refuses_none source laws d is outcome = record {
   sound = λ stands. laws.none d stands outcome;
 }
 
+-- and where a run ended there, it is refused in this way only
+pub ended_there : (source : Source) (laws : Laws source) (old new : DepotState) (outcome : Outcome) → EndsAt source old outcome ⊎ (outcome ≡ NoMemory)
+    → IsStill source old new outcome → IsUnread source old new outcome
+ended_there source laws old new outcome ends w = record {
+  ends = ends;
+  refuses = record {
+    refused = λ t this h. elim ends [
+      | inl at ↦ elim (at_source source old outcome at) [
+        | inl file ↦ inr (inl file)
+        | inr refused ↦ inl (laws.one old t outcome this refused h)
+      ]
+      | inr memory ↦ inr (inr memory)
+    ];
+    sound = λ stands. laws.none old stands outcome;
+  };
+  still = w;
+}
+
 pub is_complete : (b : Bool) (outcome : Outcome) → OrNoMemory Done outcome → IsComplete b outcome
 is_complete true outcome is = or_larger Done outcome is
 is_complete false outcome is = is
 
--- One run.
-module _ (source : Source) (product : Product) (Makes : Outside → Outside → Outcome → Type 0) (old new : Outside) where
+-- What is promised of a run is more than what it leaves.
+pub promised : {P Q : Outside → Outside → Outcome → Type 0} {S : Outcome → DepotState → DepotState → Type 0} (old new : Outside) (outcome so : Outcome) → so ≡ outcome
+    → (P old new outcome → Q old new outcome) → Leaves P S old new outcome → Leaves Q S old new so
+promised {P} {Q} {S} old new outcome so is more w =
+    subst (Leaves Q S old new) (sym is) (record {
+      performs = more w.performs;
+      faults = w.faults;
+      starts = w.starts;
+      depot_tells = w.depot_tells;
+      input_tells = w.input_tells;
+      out_tells = w.out_tells;
+    })
+
+-- One run, which left the input and out as they were.
+module _ (source : Source) (product : Product) (Makes : Outside → Outside → Outcome → Type 0) (old new : Outside) (input : new.input ≡ old.input) (out : new.out ≡ old.out) where
   abbrev Left : Outcome → Type 0
   Left outcome = Leaves (Does source product Makes) (Starts source) old new outcome
 
@@ -154,28 +159,28 @@ module _ (source : Source) (product : Product) (Makes : Outside → Outside → 
   untouched Files outcome reads = only_read (WritesTo Files) outcome reads
   untouched product outcome reads = reads
 
-  left : (outcome : Outcome) → IsStill source old new outcome → IsOfFile outcome → EndsAt source old.depot outcome ⊎ Makes old new outcome
+  left : (outcome : Outcome) → IsStill source old.depot new.depot outcome → IsOfFile outcome → EndsAt source old.depot outcome ⊎ Makes old new outcome
       → Refuses source old.depot outcome → Completes source product old new outcome → Left outcome
   left outcome w file ends refuses complete = record {
     performs = record { ends = ends; refuses = refuses; complete = complete; depot = untouched product outcome w.reads };
     faults = all_end _ _ _ (record {
       slots = w.files;
       writing = stays OfWriting outcome _ _ (λ h. let bad : OfWriting ≡ OfFile _ = (file OfWriting h).1 in cc) w.reads.writing_count;
-      input = stays OfInput outcome _ _ (λ h. let bad : OfInput ≡ OfFile _ = (file OfInput h).1 in cc) (ap (λ s. s.faults) w.input);
-      out = stays OfOut outcome _ _ (λ h. let bad : OfOut ≡ OfFile _ = (file OfOut h).1 in cc) (ap (λ s. s.faults) w.out);
+      input = stays OfInput outcome _ _ (λ h. let bad : OfInput ≡ OfFile _ = (file OfInput h).1 in cc) (ap (λ s. s.faults) input);
+      out = stays OfOut outcome _ _ (λ h. let bad : OfOut ≡ OfFile _ = (file OfOut h).1 in cc) (ap (λ s. s.faults) out);
     });
     starts = w.starts;
     depot_tells = w.reads.tells;
-    input_tells = ap (λ s. s.tells) w.input;
-    out_tells = ap (λ s. s.tells) w.out;
+    input_tells = ap (λ s. s.tells) input;
+    out_tells = ap (λ s. s.tells) out;
   }
 
   -- it ended at the reading
-  module _ (laws : Laws source) (outcome : Outcome) (w : IsStill source old new outcome) (at : EndsAt source old.depot outcome) where
+  module _ (outcome : Outcome) (w : IsUnread source old.depot new.depot outcome) (at : EndsAt source old.depot outcome) where
     never : Stands source old.depot → NoCallFailed old new → ⊥
     never stands none = elim (at_source source old.depot outcome at) [
-      | inl file ↦ none (OfFile file.0) ((w.files file.0).only_where_it_rose (ap fault_of file.2))
-      | inr refused ↦ laws.none old.depot stands outcome refused
+      | inl file ↦ none (OfFile file.0) ((w.still.files file.0).only_where_it_rose (ap fault_of file.2))
+      | inr refused ↦ w.refuses.sound stands refused
     ]
 
     completes : (product : Product) → Completes source product old new outcome
@@ -185,77 +190,69 @@ module _ (source : Source) (product : Product) (Makes : Outside → Outside → 
     }
     completes product = λ stands none. absurd (never stands none)
 
-    refuses : Refuses source old.depot outcome
-    refuses = record {
-      refused = λ t this h. elim (at_source source old.depot outcome at) [
-        | inl file ↦ inr (inl file)
-        | inr refused ↦ inl (laws.one old.depot t outcome this refused h)
-      ];
-      sound = λ stands. laws.none old.depot stands outcome;
-    }
-
     stopped : Left outcome
-    stopped = left outcome w (of_file source old.depot outcome at) (inl at) refuses (completes product)
+    stopped = left outcome w.still (of_file source old.depot outcome at) (inl at) w.refuses (completes product)
 
   -- memory was refused
   memory_completes : (product : Product) → Completes source product old new NoMemory
   memory_completes Replies = record { complete = λ t c is none len. inr (inr refl); limited = λ t c is none len. inr (inr refl) }
   memory_completes product = λ stands none. is_complete (builds_words source product) NoMemory (inr refl)
 
-  pub no_memory : IsStill source old new NoMemory → Makes old new NoMemory → Left NoMemory
+  pub no_memory : IsStill source old.depot new.depot NoMemory → Makes old new NoMemory → Left NoMemory
   no_memory w makes =
       left NoMemory w (no_fault NoMemory refl) (inr makes) (record { refused = λ t this h. inr (inr refl); sound = λ stands. not_memory source old.depot })
       (memory_completes product)
 
   -- it ended so, or memory was refused before anything was made
-  pub unread : Laws source → (outcome : Outcome) → Makes old new NoMemory → IsUnread source old new outcome → Left outcome
-  unread laws outcome makes (inl at, w) = stopped laws outcome w at
-  unread laws outcome makes (inr memory, w) =
-      subst Left (sym memory) (no_memory (subst (IsStill source old new) memory w) makes)
+  pub unread : (outcome : Outcome) → Makes old new NoMemory → IsUnread source old.depot new.depot outcome → Left outcome
+  unread outcome makes w = elim w.ends [
+    | inl at ↦ stopped outcome w at
+    | inr memory ↦ subst Left (sym memory) (no_memory (subst (IsStill source old.depot new.depot) memory w.still) makes)
+  ]
+
+  -- of what a command gives that promises more
+  pub stops : {Promises : Outside → Outside → Outcome → Type 0} (it : Stop) (r : Result (Unit {0}) Stop) → r ≡ Err it → IsUnread source old.depot new.depot (outcome_of_stop it) → Makes old new NoMemory
+      → (outcome_of_stop it ≢ Done → Does source product Makes old new (outcome_of_stop it) → Promises old new (outcome_of_stop it))
+      → Leaves Promises (Starts source) old new (outcome_of r)
+  stops {Promises} it r is w makes more =
+      promised old new (outcome_of_stop it) (outcome_of r) (ap outcome_of is) (more (not_done source old.depot (outcome_of_stop it) w.ends)) (unread (outcome_of_stop it) makes w)
 
   -- the words that were to be built are too many
   large_completes : (product : Product) → builds_words source product ≡ true → Completes source product old new (TooLarge Index)
   large_completes Replies builds = record { complete = λ t c is none len. inr (inl refl); limited = λ t c is none len. inr (inl refl) }
   large_completes product builds = λ stands none. subst (λ b. IsComplete b (TooLarge Index)) (sym builds) (inr (inl refl))
 
-  pub too_many : Laws source → builds_words source product ≡ true → Accepts source old.depot → IsStill source old new (TooLarge Index)
-      → Makes old new (TooLarge Index) → Left (TooLarge Index)
-  too_many laws builds is w makes =
-      left (TooLarge Index) w (no_fault (TooLarge Index) refl) (inr makes) (refuses_none source laws old.depot is (TooLarge Index)) (large_completes product builds)
+  pub too_many : Refuses source old.depot (TooLarge Index) → builds_words source product ≡ true → IsStill source old.depot new.depot (TooLarge Index) → Makes old new (TooLarge Index) → Left (TooLarge Index)
+  too_many refuses builds w makes = left (TooLarge Index) w (no_fault (TooLarge Index) refl) (inr makes) refuses (large_completes product builds)
 
 -- ---- nothing is read
 
-pub nothing_laws : Laws Nothing
-nothing_laws = record { one = λ d t a b x y. absurd x; none = λ d stands a x. x }
+pub nothing_refused : (d : DepotState) (outcome : Outcome) → Refuses Nothing d outcome
+nothing_refused d outcome = record { refused = λ t this h. absurd h; sound = λ stands h. h }
 
-nothing_starts : (outcome : Outcome) (d : DepotState) → Starts Nothing outcome d d
+pub nothing_starts : (outcome : Outcome) (d : DepotState) → Starts Nothing outcome d d
 nothing_starts outcome d = started.uncalled (names_of Nothing) (λ slot. ⊥) outcome d (inr (λ slot is. is))
 
 pub nothing_read : (d : DepotState) → IsRead Nothing d d
-nothing_read d = record { accepted = tt; reads = OnlyReads-same d; starts = λ outcome read. nothing_starts outcome d; counts = λ slot. refl }
+nothing_read d = record { accepted = tt; refuses = nothing_refused d; reads = OnlyReads-same d; starts = λ outcome read. nothing_starts outcome d; counts = λ slot. refl }
 
--- and nothing is made, where the run ends by no failed call
-pub nothing_still : (old new : Outside) (outcome : Outcome) → fault_of outcome ≡ None → new.depot ≡ old.depot → new.input ≡ old.input → new.out ≡ old.out
-    → IsStill Nothing old new outcome
-nothing_still old new outcome none depot input out = record {
-  reads = subst (OnlyReads (λ slot. ⊥) old.depot) (sym depot) (OnlyReads-same old.depot);
-  starts = subst (Starts Nothing outcome old.depot) (sym depot) (nothing_starts outcome old.depot);
-  files = λ slot. stays (OfFile slot) outcome _ _ (λ h. let bad : Of None (OfFile slot) = sym none ∙ h in cc) (ap (λ d. d.faults slot) depot);
-  input = input;
-  out = out;
-}
+-- ---- a source was read, and the run ends by no failed call
 
--- ---- a source was read, and nothing is called behind that
-
-pub still_read : (source : Source) (d d' : DepotState) → IsRead source d d' → (i : SourceState) (o e e' : SinkState) (s s' : ℕ) (outcome : Outcome) → fault_of outcome ≡ None
-    → Starts source outcome d d' → IsStill source (outside d i o e s) (outside d' i o e' s') outcome
-still_read source d d' read i o e e' s s' outcome none starts = record {
+pub still_read : (source : Source) (d d' : DepotState) → IsRead source d d' → (outcome : Outcome) → fault_of outcome ≡ None → Starts source outcome d d' → IsStill source d d' outcome
+still_read source d d' read outcome none starts = record {
   reads = read.reads;
   starts = starts;
   files = λ slot. stays (OfFile slot) outcome _ _ (λ h. let bad : Of None (OfFile slot) = sym none ∙ h in cc) (read.counts slot);
-  input = refl;
-  out = refl;
 }
+
+-- and then memory was refused before anything was made
+pub read_no_memory : {Promises : Outside → Outside → Outcome → Type 0} (source : Source) (product : Product) (Makes : Outside → Outside → Outcome → Type 0) (d d' : DepotState) → IsRead source d d'
+    → (i : SourceState) (o e e' : SinkState) (s s' : ℕ) (so : Outcome) → so ≡ NoMemory → Makes (outside d i o e s) (outside d' i o e' s') NoMemory
+    → (Does source product Makes (outside d i o e s) (outside d' i o e' s') NoMemory → Promises (outside d i o e s) (outside d' i o e' s') NoMemory)
+    → Leaves Promises (Starts source) (outside d i o e s) (outside d' i o e' s') so
+read_no_memory source product Makes d d' read i o e e' s s' so is makes more =
+    promised (outside d i o e s) (outside d' i o e' s') NoMemory so is more
+    (no_memory source product Makes (outside d i o e s) (outside d' i o e' s') refl refl (still_read source d d' read NoMemory refl (read.starts NoMemory refl)) makes)
 
 -- ---- nothing is called
 
@@ -270,25 +267,6 @@ none_started source d = started.uncalled (names_of source) (StartedIn source NoM
 pub uncalled : (source : Source) (product : Product) (Makes : Outside → Outside → Outcome → Type 0) (d : DepotState) (i : SourceState) (o e e' : SinkState) (s : ℕ)
     → Makes (outside d i o e s) (outside d i o e' s) NoMemory
     → Leaves (Does source product Makes) (Starts source) (outside d i o e s) (outside d i o e' s) NoMemory
-uncalled source product Makes d i o e e' s makes = no_memory source product Makes (outside d i o e s) (outside d i o e' s) still makes
-  where
-    still : IsStill source (outside d i o e s) (outside d i o e' s) NoMemory
-    still = record {
-      reads = OnlyReads-same d;
-      starts = none_started source d;
-      files = λ slot. stays (OfFile slot) NoMemory _ _ (λ h. cc) refl;
-      input = refl;
-      out = refl;
-    }
-
--- what is promised of a run is more than what it leaves
-pub promised : {P Q : Outside → Outside → Outcome → Type 0} {S : Outcome → DepotState → DepotState → Type 0} (old new : Outside) (outcome : Outcome)
-    → (P old new outcome → Q old new outcome) → Leaves P S old new outcome → Leaves Q S old new outcome
-promised old new outcome more w = record {
-  performs = more w.performs;
-  faults = w.faults;
-  starts = w.starts;
-  depot_tells = w.depot_tells;
-  input_tells = w.input_tells;
-  out_tells = w.out_tells;
-}
+uncalled source product Makes d i o e e' s makes =
+    no_memory source product Makes (outside d i o e s) (outside d i o e' s) refl refl
+    (record { reads = OnlyReads-same d; starts = none_started source d; files = λ slot. stays (OfFile slot) NoMemory _ _ (λ h. cc) refl }) makes

@@ -1,6 +1,6 @@
 -- What a run leaves that prints a text.
-use Rattle.std.proofs.Common.{◌≡◌, ℕ, refl, List, inl, inr}
-use Rattle.std.specs.Prelude.{Some, None, IsTrue, Result, Ok, Err}
+use Rattle.std.proofs.Common.{◌≡◌, ℕ, refl, subst, List, inl, inr}
+use Rattle.std.specs.Prelude.{Some, None, IsTrue, Result, Ok, Err, OnOk}
 use Rattle.pef_io.specs.declared.fail.IoFail.{IoFail}
 use Rattle.pef_io.specs.declared.fail.IoFail.TheVariants as call
 use Rattle.pef_io.specs.declared.fail.Slot.{Slot}
@@ -9,7 +9,8 @@ use Rattle.command_ends.specs.Outside.{Outside, NoCallFailed, OfFile, OfWriting,
 use Rattle.command_ends.specs.Outcome.{Done, OutFault, NoMemory, is_refusal, fault_of}
 use Rattle.command_ends.specs.Ends.{EndsByFault, OrNoMemory}
 use Rattle.command_ends.specs.PrintedText.{PrintsText}
-use Rattle.command_ends.specs.Steps.Stops.{printed_outcome}
+use Rattle.command_ends.specs.declared.stop.Stop.{Stop}
+use Rattle.command_ends.specs.Steps.Stops.{outcome_of, printed_outcome}
 use Rattle.command_ends.proofs.Counted.{stays, rises, second, not_true, Of}
 
 abbrev pub Printed : Type 0
@@ -30,10 +31,20 @@ not_input (Ok u) h = let s : Of None OfInput = h in cc
 not_input (Err call.Failed) h = let s : Of (Some OfOut) OfInput = h in cc
 not_input (Err call.NoMemory) h = let s : Of None OfInput = h in cc
 
-pub no_print_refuses : (r : Printed) → IsTrue (is_refusal (printed_outcome r)) → ⊥
-no_print_refuses (Ok u) h = not_true h
-no_print_refuses (Err call.Failed) h = not_true h
-no_print_refuses (Err call.NoMemory) h = not_true h
+-- no printing is a refusal of what was read
+pub no_print_refuses : {P : Type 0} (r : Printed) → IsTrue (is_refusal (printed_outcome r)) → P
+no_print_refuses (Ok u) h = absurd (not_true h)
+no_print_refuses (Err call.Failed) h = absurd (not_true h)
+no_print_refuses (Err call.NoMemory) h = absurd (not_true h)
+
+pub prints_refuse_none : {P : Type 0} (printed : Printed) (r : Result (Unit {0}) Stop) → outcome_of r ≡ printed_outcome printed → IsTrue (is_refusal (outcome_of r)) → P
+prints_refuse_none printed r is h = no_print_refuses printed (subst (λ x. IsTrue (is_refusal x)) is h)
+
+-- what holds of a text that was printed holds where all is done
+pub where_done : {P : Type 0} (r : Printed) → OnOk r P → printed_outcome r ≡ Done → P
+where_done (Ok u) p is = p
+where_done (Err call.Failed) p is = let bad : OutFault ≡ Done = is in cc
+where_done (Err call.NoMemory) p is = let bad : NoMemory ≡ Done = is in cc
 
 -- what printing promises of a text is what the run promises of it
 pub prints : (Is : List ℕ → Type 0) (line : List ℕ) → Is line → (old new : Outside) (r : Printed) → PrintsLine line old.out new.out r → PrintsText Is old new (printed_outcome r)

@@ -23,3 +23,7 @@ told_ok (Err y) to P x h e = let p = err_from_is_err_and to h in absurd (not_bot
 pub told_err : {T E F : Type 0} (r : Result T E) (to : Result T F) (P : E → F → Type 0) (f : F) → Told P r to → to ≡ Err f → (e : E) × (r ≡ Err e) × P e f
 told_err (Ok y) to P f h e = absurd (not_both y f to h e)
 told_err (Err y) to P f h e = let p = err_from_is_err_and to h in (y, refl, subst (P y) (same_refusal p.0 f to p.1 e) p.2)
+
+-- the refusal that `?` hands on
+pub handed_on : {T E : Type 0} {e : E} (r : Result T E) → IsErrAnd r (λ f. f ≡ e) → r ≡ Err e
+handed_on r h = let p = err_from_is_err_and r h in p.1 ∙ ap Err p.2

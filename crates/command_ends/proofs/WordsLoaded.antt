@@ -1,7 +1,6 @@
 -- The words of a file that a run loads from a slot, or does not.
-use Rattle.std.proofs.Common.{◌≡◌, ℕ, ◌*◌, ◌≤◌, arith, refl, sym, ◌∙◌, ap, subst, List, length, inl, inr}
-use Rattle.std.specs.Prelude.{Some, None, ◌%◌, Result, Ok, Err, Vec}
-use Rattle.std.specs.declared.alloc.Global.{Global}
+use Rattle.std.proofs.Common.{◌≡◌, ℕ, ◌*◌, ◌≤◌, arith, refl, ◌∙◌, ap, List, length, inl, inr}
+use Rattle.std.specs.Prelude.{Some, None, ◌%◌, Result, Ok, Err}
 use Rattle.pef_io.specs.declared.fail.Slot.{Slot}
 use Rattle.pef_io.specs.DepotState.{DepotState}
 use Rattle.index_file.specs.Builder.{most_words}
@@ -9,7 +8,7 @@ use Rattle.command_model.specs.Found.{AreOfWords, most_bytes}
 use Rattle.command_model.proofs.WordBytes.{word_bytes-length}
 use Rattle.word_files.specs.declared.loading.LoadWordsError.{LoadWordsError}
 use Rattle.word_files.specs.declared.loading.LoadWordsError.TheVariants as loading
-use Rattle.word_files.specs.LoadWords.{LoadsWords, words_loaded}
+use Rattle.word_files.specs.LoadWords.{LoadsWords}
 use Rattle.command_ends.specs.declared.stop.Stop.{Stop}
 use Rattle.command_ends.specs.Outside.{Count, OfFile}
 use Rattle.command_ends.specs.Outcome.{Outcome, fault_of}
@@ -83,11 +82,3 @@ loaded_counts slot name d d' words w =
     by_slot slot (λ other. d'.faults other ≡ d.faults other)
     (second w.count_rises_only_there (λ h. let s : ◌≡◌ {A = Result (List ℕ) LoadWordsError} (Ok words) (Err loading.Read) = h in cc))
     (λ other ne. w.reads.other_counts other ne)
-
--- the words that were loaded, as they are lent
-pub lent_loaded : (slot : Slot) (name : List ℕ) (d d' : DepotState) (loaded : Result (Vec ℕ Global) LoadWordsError) (words : Vec ℕ Global) (lent : List ℕ)
-    → LoadsWords slot name d d' (words_loaded loaded) → loaded ≡ Ok words → lent ≡ words.items → LoadsWords slot name d d' (Ok lent)
-lent_loaded slot name d d' loaded words lent w was lends =
-    let W : Result (Vec ℕ Global) LoadWordsError → Type 0 = λ x. LoadsWords slot name d d' (words_loaded x) in
-    let V : List ℕ → Type 0 = λ ws. LoadsWords slot name d d' (Ok ws) in
-    subst V (sym lends) (subst W was w)

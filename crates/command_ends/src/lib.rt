@@ -11,4 +11,6 @@ pub use err_lines::write_line;
 pub use limits::{LONGEST_TEXT, words_fit};
 pub use loading::load_index;
 pub use status::Status;
-pub use stop::{Stop, after_printing, after_writing, stop_of_loading};
+pub use stop::{
+    Stop, after_answering, after_printing, after_writing, after_writing_files, stop_of_loading,
+};

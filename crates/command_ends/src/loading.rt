@@ -1,8 +1,11 @@
 ghost use Rattle.std.specs.Prelude.{IfErr, IfOk};
+ghost use Rattle.pef_io.specs.DepotState.{StartedOnce};
+ghost use Rattle.command_model.specs.Found.{IsIndexSlot};
 ghost use Rattle.command_ends.specs.Steps.LoadedIndex.{IsLoaded, IsUnloaded};
 
 use crate::stop::{Stop, stop_of_index};
-use index_file::Index;
+use index_file::{one_broken_check, words_and_bytes_undo_each_other};
+use open_index::OpenIndex;
 use pef_io::{Depot, Slot};
 use std::alloc::Global;
 use word_files::load_words;
@@ -10,14 +13,19 @@ use word_files::load_words;
 // The words with which an index begins: the bytes `PEFINDEX` of a plain file, and `PEFPACKD` of a packed one.
 const OPENINGS: &[u64] = &[6_360_565_151_758_173_520, 4_921_100_965_631_116_624];
 
-/// The words of the file under the name, which are an index. Of a file that begins with another word only a piece is kept.
-pub fn load_index<D: Depot>(alloc: Global, name: &str, depot: &mut D) -> Result<Vec<u64>, Stop>
-    ensures loaded { IfOk result (λ words.
-        IsLoaded name.now (D.state depot.old) (D.state depot.new) words.items) }
+/// The index that stands under the name, whose file is started once, whatever comes of it. Of a file that begins with another word only a piece is kept.
+pub fn load_index<D: Depot>(alloc: Global, name: &str, depot: &mut D) -> Result<OpenIndex, Stop>
+    ensures loaded { IfOk result (λ index.
+        IsLoaded name.now (D.state depot.old) (D.state depot.new) index) }
     ensures refused { IfErr result (λ stop.
         IsUnloaded name.now (D.state depot.old) (D.state depot.new) stop) }
+    ensures started { StartedOnce (λ slot. name.now) IsIndexSlot (D.state depot.old)
+        (D.state depot.new) }
 {
+    one_broken_check();
+    words_and_bytes_undo_each_other();
     let words = load_words(alloc, Slot::Index, OPENINGS, name, depot).map_err(stop_of_index)?;
-    Index::view(&words)?;
-    Ok(words)
+    let opened = OpenIndex::open(words)?;
+    let kept = opened.with_starts(alloc)?;
+    Ok(kept)
 }

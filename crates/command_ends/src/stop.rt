@@ -1,6 +1,6 @@
 ghost use Rattle.std.specs.Prelude.{◌≡◌};
 ghost use Rattle.command_ends.specs.Outcome.{status_of};
-ghost use Rattle.command_ends.specs.Steps.Stops.{at_segment, outcome_of, outcome_of_stop, printed_outcome, stop_of_index, stop_of_loading, stop_of_printing, stop_of_writing, written_outcome};
+ghost use Rattle.command_ends.specs.Steps.Stops.{answered_outcome, at_segment, files_outcome, outcome_of, outcome_of_stop, printed_outcome, stop_of_answering, stop_of_index, stop_of_loading, stop_of_printing, stop_of_writing, written_outcome};
 
 use crate::status::Status;
 use block_max::SideFault;
@@ -172,21 +172,6 @@ impl From<SideFault> for Stop {
     }
 }
 
-impl From<RunFault> for Stop {
-    ghost use Rattle.command_ends.specs.Steps.Stops.{stop_of_answering};
-
-    ghost from_gives = { λ e stop. stop ≡ stop_of_answering e };
-
-    fn from(e: RunFault) -> Stop {
-        match e {
-            RunFault::Read => Stop::Input,
-            RunFault::Write => Stop::Out,
-            RunFault::TooLarge => Stop::LongInput,
-            RunFault::NoMemory => Stop::NoMemory,
-        }
-    }
-}
-
 /// Where a run stops that could not load the words of the file of this slot: at `ragged` where they are no whole words.
 pub fn stop_of_loading(slot: Slot, ragged: Stop, error: LoadWordsError) -> Stop
     ensures { result ≡ stop_of_loading slot ragged error }
@@ -266,12 +251,34 @@ impl From<ImageError> for Stop {
     }
 }
 
-impl From<FileFail> for Stop {
-    ghost use Rattle.command_ends.specs.Steps.Stops.{stop_of_file};
+// Where a run stops that could not answer its text.
+fn stop_of_answering(fault: RunFault) -> Stop
+    ensures { result ≡ stop_of_answering fault }
+{
+    match fault {
+        RunFault::Read => Stop::Input,
+        RunFault::Write => Stop::Out,
+        RunFault::TooLarge => Stop::LongInput,
+        RunFault::NoMemory => Stop::NoMemory,
+    }
+}
 
-    ghost from_gives = { λ e stop. stop ≡ stop_of_file e };
+/// The ending of a run that answered a text, or stopped at that.
+pub fn after_answering(answered: Result<(), RunFault>) -> Result<(), Stop>
+    ensures { outcome_of result ≡ answered_outcome answered }
+{
+    match answered {
+        Ok(()) => Ok(()),
+        Err(fault) => Err(stop_of_answering(fault)),
+    }
+}
 
-    fn from(e: FileFail) -> Stop {
-        stop_of_writing(e.slot, e.fail)
+/// The ending of a run that wrote the three files of a collection, or stopped at one.
+pub fn after_writing_files(written: Result<(), FileFail>) -> Result<(), Stop>
+    ensures { outcome_of result ≡ files_outcome written }
+{
+    match written {
+        Ok(()) => Ok(()),
+        Err(e) => Err(stop_of_writing(e.slot, e.fail)),
     }
 }

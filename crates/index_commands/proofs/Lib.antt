@@ -1,5 +1,2 @@
-mod IndexAnswered
-mod SummaryPrinted
-mod AuditPrinted
 mod IndexMigrated
 mod CollectionExported

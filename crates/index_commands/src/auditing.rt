@@ -12,7 +12,6 @@ ghost use Rattle.index_commands.specs.Audit.{Audits};
 ghost use Rattle.command_model.specs.Found.{IsIndexSlot};
 
 use command_ends::{Stop, after_printing, load_index};
-use index_file::{Index, one_broken_check, words_and_bytes_undo_each_other};
 use index_printing::print_audit;
 use pef_io::{Depot, Sink};
 use std::alloc::Global;
@@ -35,9 +34,7 @@ pub fn audit<D: Depot, O: Sink, L: Ledger>(
     ensures unaccepted { ¬ ((c : Collection) × FindsIndexOf index.now (D.state depot.old) c)
         → out.new ≡ out.old }
 {
-    one_broken_check();
-    words_and_bytes_undo_each_other();
-    let words = load_index(alloc, index, depot)?;
-    let index = Index::known(&words);
+    let opened = load_index(alloc, index, depot)?;
+    let index = opened.index();
     after_printing(print_audit(alloc, &index, out, steps))
 }

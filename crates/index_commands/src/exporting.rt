@@ -8,9 +8,8 @@ ghost use Rattle.command_ends.specs.Starts.{StartsOnly};
 ghost use Rattle.index_commands.specs.Export.{Exports};
 ghost use Rattle.command_model.specs.Found.{IsIndexSlot};
 
-use command_ends::{Stop, load_index};
+use command_ends::{Stop, after_writing_files, load_index};
 use exported_files::{PieceWriter, names_under, write_collection};
-use index_file::{Index, one_broken_check, words_and_bytes_undo_each_other};
 use pef_io::Depot;
 use std::alloc::Global;
 
@@ -21,12 +20,10 @@ pub fn export<D: Depot>(alloc: Global, index: &str, base: &str, depot: &mut D) -
         (outside (D.state depot.old) i o e costs) (outside (D.state depot.new) i o e' costs)
         (outcome_of result) }
 {
-    one_broken_check();
-    words_and_bytes_undo_each_other();
-    let words = load_index(alloc, index, depot)?;
-    let index = Index::known(&words);
+    let opened = load_index(alloc, index, depot)?;
+    let index = opened.index();
     let names = names_under(alloc, base)?;
     let mut writer = PieceWriter::new(alloc)?;
-    write_collection(&index, &names, &mut writer, depot)?;
-    Ok(())
+    let written = write_collection(&index, &names, &mut writer, depot);
+    after_writing_files(written)
 }

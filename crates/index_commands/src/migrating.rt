@@ -11,7 +11,6 @@ ghost use Rattle.command_model.specs.Found.{IsIndexSlot};
 use command_ends::{Stop, after_writing, load_index, words_fit};
 use command_line::FileKind;
 use index_building::migrated_words;
-use index_file::{Index, one_broken_check, words_and_bytes_undo_each_other};
 use part_cost::Format;
 use pef_io::{Depot, Slot};
 use std::alloc::Global;
@@ -36,15 +35,14 @@ pub fn migrate<D: Depot, L: Ledger>(
     steps: &mut Steps<L>,
 ) -> Result<(), Stop>
     ensures { (i : SourceState) (o e e' : SinkState)
-        → Leaves (Migrates (migrate_format files.entry.kind) files.entry.from.now files.entry.to.now)
+        → Leaves (Migrates (migrate_format files.entry.kind) files.entry.from.now
+        files.entry.to.now)
         (StartsOnly (λ slot. files.entry.from.now) IsIndexSlot)
         (outside (D.state depot.old) i o e steps.old) (outside (D.state depot.new) i o e' steps.new)
         (outcome_of result) }
 {
-    one_broken_check();
-    words_and_bytes_undo_each_other();
-    let words = load_index(alloc, files.from, depot)?;
-    let index = Index::known(&words);
+    let opened = load_index(alloc, files.from, depot)?;
+    let index = opened.index();
     let migrated = migrated_words(alloc, &index, migrate_format(files.kind), steps)?;
     words_fit(&migrated);
     let written = write_words(alloc, &migrated, files.to, depot);

@@ -10,8 +10,7 @@ ghost use Rattle.command_ends.specs.Starts.{StartsOnly};
 ghost use Rattle.index_commands.specs.Query.{Queries};
 ghost use Rattle.command_model.specs.Found.{IsIndexSlot};
 
-use command_ends::{LONGEST_TEXT, Stop, load_index};
-use index_file::{Index, one_broken_check, words_and_bytes_undo_each_other};
+use command_ends::{LONGEST_TEXT, Stop, after_answering, load_index};
 use pef_io::{Depot, Sink, Source};
 use std::alloc::Global;
 use text_replies::{Plan, answer_text};
@@ -35,10 +34,8 @@ pub fn query<D: Depot, I: Source, O: Sink>(
     ensures unaccepted { ¬ ((c : Collection) × FindsIndexOf index.now (D.state depot.old) c)
         → (input.new ≡ input.old) × (out.new ≡ out.old) }
 {
-    one_broken_check();
-    words_and_bytes_undo_each_other();
-    let words = load_index(alloc, index, depot)?;
-    let index = Index::known(&words);
-    answer_text(alloc, &index, plan, input, LONGEST_TEXT, out)?;
-    Ok(())
+    let opened = load_index(alloc, index, depot)?;
+    let index = opened.index();
+    let answered = answer_text(alloc, &index, plan, input, LONGEST_TEXT, out);
+    after_answering(answered)
 }

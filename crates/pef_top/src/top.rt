@@ -10,7 +10,7 @@ ghost use Rattle.pef_top.specs.Private.Reports.{Reports};
 ghost use Rattle.command_ends.specs.Steps.Leaves.{Leaves};
 ghost use Rattle.command_ends.specs.Steps.Stops.{outcome_of};
 
-use collection_commands::{answer, build, generate, reorder};
+use collection_commands::{GeneratedCollection, NewIndex, answer, build, generate, reorder};
 use command_ends::{Status, Stop, write_line};
 use command_line::{Command, parse_words};
 use index_commands::{Rewrite, audit, export, inspect, migrate, query};
@@ -128,7 +128,13 @@ fn perform<D: Depot, I: Source, O: Sink, L: Ledger>(
             base,
             index,
             format,
-        } => build(alloc, base, index, depot, format, steps),
+        } => {
+            let index = NewIndex {
+                name: index,
+                format,
+            };
+            build(alloc, base, index, depot, steps)
+        }
         Command::Query { index, plan } => query(alloc, index, plan, depot, input, out),
         Command::Answer { base, plan } => answer(alloc, base, plan, depot, input, out, steps),
         Command::Inspect { index } => inspect(alloc, index, depot, out),
@@ -136,7 +142,14 @@ fn perform<D: Depot, I: Source, O: Sink, L: Ledger>(
             seed,
             documents,
             terms,
-        } => generate(alloc, seed, documents, terms, out, steps),
+        } => {
+            let collection = GeneratedCollection {
+                seed,
+                documents,
+                terms,
+            };
+            generate(alloc, collection, out, steps)
+        }
         Command::Migrate { from, to, kind } => {
             migrate(alloc, Rewrite { from, to, kind }, depot, steps)
         },

@@ -23,8 +23,7 @@ use Rattle.command_ends.specs.FoundIndex.{FindsIndexOf, HasBroken}
 use Rattle.command_ends.specs.FoundSegments.{no_collection, FindsSegments, IsUnfit, IsRefusedAt}
 use Rattle.command_ends.specs.SegmentStarts.{ComesTo}
 use Rattle.command_ends.proofs.Counted.{not_both_lengths}
-use Rattle.command_ends.proofs.IndexLoaded.{index_is_short}
-use Rattle.command_ends.proofs.IndexRead.{one_first, whole}
+use Rattle.command_ends.proofs.IndexRead.{index_is_short, one_first, whole}
 
 -- ---- collections that fit together
 

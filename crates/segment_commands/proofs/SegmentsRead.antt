@@ -1,6 +1,6 @@
 -- Segments that are read one after the other.
 use Rattle.std.proofs.Common.{◌≡◌, refl, sym, ◌∙◌, ap, subst, ℕ, suc, ◌+◌, ◌-◌, ◌<◌, ◌≤◌, List, [], ◌∷◌, ◌++◌, length, take, get_or, inl, inr, arith}
-use Rattle.std.specs.Prelude.{◌≢◌, ◌⊎◌, ◌==◌, ◌^◌, not, nat_lt, if◌then◌else◌, Bool, true, false, IsTrue, Some, None, unwrap_or, String, string_bytes}
+use Rattle.std.specs.Prelude.{◌≢◌, ◌⊎◌, ◌==◌, not, nat_lt, if◌then◌else◌, Bool, true, false, IsTrue, Some, None, unwrap_or, String, string_bytes}
 use Rattle.std.specs.declared.alloc.Global.{Global}
 use Rattle.std.specs.List.{All}
 use Rattle.std.proofs.lemmas.Bool.{cases_lt, eqb-true, eqb-false, ltb-true, ltb-false, not-true}
@@ -16,8 +16,8 @@ use Rattle.pef_io.specs.Starting.{Starting, StartedAs}
 use Rattle.pef_io.specs.DepotState.{DepotState, OnlyReads, WasStartedAs, bytes_under}
 use Rattle.pef_io.proofs.OnlyReads.{OnlyReads-same, OnlyReads-trans}
 use Rattle.index_file.specs.declared.fault.OpenFault.{OpenFault}
-use Rattle.index_file.specs.FileWords.{IsIndex, file_words}
-use Rattle.index_file.specs.IndexView.{index_stated}
+use Rattle.index_file.specs.FileWords.{file_words}
+use Rattle.index_file.specs.IndexView.{IndexView}
 use Rattle.segments.specs.declared.pushed.SegRule.{SegRule}
 use Rattle.segments.specs.declared.pushed.SegRule.TheVariants.{G1, G2}
 use Rattle.segments.specs.Joined.{FitTogether, documents_in, terms_in, most_joined}
@@ -128,7 +128,6 @@ started_more names name a b c before this = record {
 -- none is read
 pub none_accepted : (names : List (List ℕ)) (old : DepotState) → AreAccepted names 0 none_pushed old old []
 none_accepted names old = record {
-  joins = record { few_words = All-nil (λ words. length words < 2 ^ 57); indexes = All-nil IsIndex; fit = none_fit };
   found = record { as_many = refl; each = λ s lt. absurd (omega (arith, lt)); fit = none_fit };
   pushed = refl;
   reads = OnlyReads-same old;
@@ -140,10 +139,10 @@ none_accepted names old = record {
     none_fit : FitTogether []
     none_fit = record { terms = All-nil (λ c. length c.lists ≡ 0); documents = omega arith }
 
-module _ (names : List (List ℕ)) (k : ℕ) (name : List ℕ) (before : Pushed) (old mid now : DepotState) (files : List (List ℕ)) (accepted : AreAccepted names k before old mid files)
+module _ (names : List (List ℕ)) (k : ℕ) (name : List ℕ) (before : Pushed) (old mid now : DepotState) (indexes : List IndexView) (accepted : AreAccepted names k before old mid indexes)
     (lt : k < length names) (is : name ≡ get_or names k []) where
   abbrev cs : List Collection
-  cs = collections_of files
+  cs = collections_of indexes
 
   -- its file is started behind those before it
   one_more_started : WasStartedAs name Index mid now → StartedUnder (take (suc k) names) (old.starts Index) (now.starts Index)
@@ -152,19 +151,13 @@ module _ (names : List (List ℕ)) (k : ℕ) (name : List ℕ) (before : Pushed)
       (started_more (take k names) name (old.starts Index) (mid.starts Index) (now.starts Index) accepted.starts this)
 
   -- the next one is accepted
-  pub one_accepted : (after : Pushed) (words : List ℕ) (more : List (List ℕ)) → IsAccepted name before after mid now words → more ≡ files ++ words ∷ [] → AreAccepted names (k + 1) after old now more
-  one_accepted after words more w pushed =
-      let c : Collection = (index_stated words).collection in
+  pub one_accepted : (after : Pushed) (index : IndexView) (more : List IndexView) → IsAccepted name before after mid now index → more ≡ indexes ++ index ∷ [] → AreAccepted names (k + 1) after old now more
+  one_accepted after index more w pushed =
+      let c : Collection = index.collection in
       let next : suc k ≡ k + 1 = omega arith in
-      let all : collections_of more ≡ cs ++ c ∷ [] = ap collections_of pushed ∙ map-append (λ ws. (index_stated ws).collection) files (words ∷ []) in
-      let fits : FitTogether (cs ++ c ∷ []) = fits_more cs c accepted.joins.fit (ap (λ p. rule_broken p c.documents (length c.lists)) (sym accepted.pushed) ∙ w.fits) in
+      let all : collections_of more ≡ cs ++ c ∷ [] = ap collections_of pushed ∙ map-append (λ (i : IndexView). i.collection) indexes (index ∷ []) in
+      let fits : FitTogether (cs ++ c ∷ []) = fits_more cs c accepted.found.fit (ap (λ p. rule_broken p c.documents (length c.lists)) (sym accepted.pushed) ∙ w.fits) in
       record {
-        joins = record {
-          few_words = subst (All (λ ws. length ws < 2 ^ 57)) (sym pushed)
-              (All-append (λ ws. length ws < 2 ^ 57) files (words ∷ []) accepted.joins.few_words (All-cons (λ ws. length ws < 2 ^ 57) words [] w.few (All-nil (λ ws. length ws < 2 ^ 57))));
-          indexes = subst (All IsIndex) (sym pushed) (All-append IsIndex files (words ∷ []) accepted.joins.indexes (All-cons IsIndex words [] w.index (All-nil IsIndex)));
-          fit = subst FitTogether (sym all) fits;
-        };
         found = record {
           as_many = ap length all ∙ omega (arith, length-append cs (c ∷ []), accepted.found.as_many, length-take k names, length-take (k + 1) names, lt);
           each = λ s inside. subst (λ ds. FindsIndexOf (get_or (take (k + 1) names) s []) old (get_or ds s no_collection)) (sym all)
@@ -236,11 +229,11 @@ pub name_at : (names : List (String Global)) (k : ℕ) (name : String Global) (t
 name_at names k name text lt is so = so ∙ ap string_bytes is ∙ sym (get_or-map string_bytes names k name [] lt)
 
 -- memory was refused behind some of them
-pub no_room : (names : List (List ℕ)) (k : ℕ) (pushed : Pushed) (old mid : DepotState) (files : List (List ℕ)) → AreAccepted names k pushed old mid files → k ≤ length names → AreRejected names old mid NoMemory
-no_room names k pushed old mid files accepted le = record {
+pub no_room : (names : List (List ℕ)) (k : ℕ) (pushed : Pushed) (old mid : DepotState) (indexes : List IndexView) → AreAccepted names k pushed old mid indexes → k ≤ length names → AreRejected names old mid NoMemory
+no_room names k pushed old mid indexes accepted le = record {
   ends = inr refl;
   reads = accepted.reads;
   faults = stays (OfFile Index) NoMemory _ _ (λ h. let s : Of None (OfFile Index) = h in cc) accepted.faults;
-  starts = (k, le, come names old (collections_of files) k k accepted.found (omega arith) le, accepted.starts);
+  starts = (k, le, come names old (collections_of indexes) k k accepted.found (omega arith) le, accepted.starts);
   refusals = inr accepted.refusals;
 }

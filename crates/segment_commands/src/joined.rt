@@ -1,4 +1,4 @@
-ghost use Rattle.std.specs.Prelude.{◌≡◌, ℕ, IfErr, IfOk, IsTrue, length, map};
+ghost use Rattle.std.specs.Prelude.{◌≡◌, ℕ, IfErr, IfOk, IsTrue, length};
 ghost use Rattle.collection_model.specs.Collection.{Collection};
 ghost use Rattle.pef_io.specs.SinkState.{SinkState};
 ghost use Rattle.segments.specs.Segments.{Pushed};
@@ -12,8 +12,9 @@ ghost use Rattle.segment_commands.specs.Private.ReadSegments.{AreAccepted, AreRe
 ghost use Rattle.command_ends.specs.Steps.Stops.{outcome_of, outcome_of_stop};
 ghost use Rattle.segment_commands.specs.AnswerSegments.{AnswersSegments};
 
-use command_ends::{LONGEST_TEXT, Stop, load_index};
-use index_file::{Index, one_broken_check, one_index, words_and_bytes_undo_each_other};
+use command_ends::{LONGEST_TEXT, Stop, after_answering, load_index};
+use index_file::{one_broken_check, one_index, words_and_bytes_undo_each_other};
+use open_index::OpenIndex;
 use pef_io::{Depot, Sink, Source};
 use segments::Segments;
 use std::alloc::Global;
@@ -42,54 +43,51 @@ pub fn answer_segments<D: Depot, I: Source, O: Sink>(
     one_index();
     one_broken_check();
     words_and_bytes_undo_each_other();
-    let files = load_segments(alloc, indexes, depot)?;
-    answer_joined(alloc, &files, plan, input, LONGEST_TEXT, out)?;
-    Ok(())
+    let opened = load_segments(alloc, indexes, depot)?;
+    let answered = answer_joined(alloc, &opened, plan, input, LONGEST_TEXT, out);
+    after_answering(answered)
 }
 
-// The words of the indexes under the names, each of which is accepted before the next is read.
+// The indexes under the names, each of which is accepted before the next is read.
 fn load_segments<D: Depot>(
     alloc: Global,
     names: &[String],
     depot: &mut D,
-) -> Result<Vec<Vec<u64>>, Stop>
-    ensures accepted { IfOk result (λ files. (pushed : Pushed) × AreAccepted (texts names.now)
-        (length (texts names.now)) pushed (D.state depot.old) (D.state depot.new)
-        (map (λ file. file.items) files.items)) }
+) -> Result<Vec<OpenIndex>, Stop>
+    ensures accepted { IfOk result (λ opened. (pushed : Pushed) × AreAccepted (texts names.now)
+        (length (texts names.now)) pushed (D.state depot.old) (D.state depot.new) opened.items) }
     ensures rejected { IfErr result (λ stop. AreRejected (texts names.now)
         (D.state depot.old) (D.state depot.new) (outcome_of_stop stop)) }
 {
     let mut joined = Segments::new();
-    let mut files = Vec::with_capacity(alloc, names.len())?;
+    let mut opened = Vec::with_capacity(alloc, names.len())?;
     for (s, name) in names.iter().enumerate() {
-        let words = load_segment(alloc, name.as_str(), s as u64, &mut joined, depot)?;
-        files.push(words)?;
+        let segment = load_segment(alloc, name.as_str(), s as u64, &mut joined, depot)?;
+        opened.push(segment)?;
     }
-    Ok(files)
+    Ok(opened)
 }
 
-// The words of the index under the name, which is accepted as segment s behind those that are joined.
+// The index under the name, which is accepted as segment s behind those that are joined.
 fn load_segment<D: Depot>(
     alloc: Global,
     name: &str,
     s: u64,
     joined: &mut Segments,
     depot: &mut D,
-) -> Result<Vec<u64>, Stop>
-    ensures accepted { IfOk result (λ words. IsAccepted name.now joined.old joined.new
-        (D.state depot.old) (D.state depot.new) words.items) }
+) -> Result<OpenIndex, Stop>
+    ensures accepted { IfOk result (λ index. IsAccepted name.now joined.old joined.new
+        (D.state depot.old) (D.state depot.new) index) }
     ensures rejected { IfErr result (λ stop. IsRejected name.now s joined.old
         (D.state depot.old) (D.state depot.new) (outcome_of_stop stop)) }
 {
-    one_broken_check();
-    words_and_bytes_undo_each_other();
-    let words = match load_index(alloc, name, depot) {
-        Ok(words) => words,
+    let opened = match load_index(alloc, name, depot) {
+        Ok(opened) => opened,
         Err(stop) => return Err(stop.at_segment(s)),
     };
-    let index = Index::known(&words);
+    let index = opened.index();
     match joined.push(index.documents(), index.terms()) {
-        Ok(_) => Ok(words),
+        Ok(_) => Ok(opened),
         Err(rule) => Err(Stop::Unfit(rule, s)),
     }
 }

@@ -1,5 +1,4 @@
 mod SideFound
 mod SideRead
 mod SideWritten
-mod SideAnswered
 mod OtherSide

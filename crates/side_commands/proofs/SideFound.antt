@@ -21,8 +21,7 @@ use Rattle.command_ends.specs.FoundIndex.{FindsIndex}
 use Rattle.command_ends.specs.FoundSide.{HasBrokenSide, IsFirstSideFaultOfFile, side_of}
 use Rattle.command_ends.specs.Sources.{Accepts, IndexAt, IsRefusedAs, SideAt, Stands}
 use Rattle.command_ends.proofs.Counted.{not_both_lengths}
-use Rattle.command_ends.proofs.IndexLoaded.{is_even}
-use Rattle.command_ends.proofs.IndexRead.{index_laws}
+use Rattle.command_ends.proofs.IndexRead.{index_laws, is_even}
 use Rattle.command_ends.proofs.SourceRead as source
 use Rattle.command_ends.proofs.WordsLoaded.{even, short}
 use Rattle.side_commands.specs.Private.LoadedSide.{ragged_side}

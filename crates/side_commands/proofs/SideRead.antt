@@ -1,15 +1,11 @@
 -- What a run leaves at an index and its side file: it came to no index, or to no side file, or both were read.
 use Rattle.std.proofs.Common.{◌≡◌, ℕ, ◌≤◌, ◌<◌, arith, refl, sym, ◌∙◌, ap, subst, List, [], length, inl, inr}
 use Rattle.std.specs.Prelude.{◌≢◌, ◌⊎◌, ◌%◌, IsTrue, Ok, Err, unwrap_or}
-use Rattle.part_cost.specs.Formats.{numbers_of}
 use Rattle.pef_io.specs.declared.fail.Slot.{Slot}
 use Rattle.pef_io.specs.declared.fail.Slot.TheVariants.{Docs, Freqs, Sizes, Index, Side, Map}
 use Rattle.pef_io.specs.DepotState.{DepotState, NoneStartedTwice, OnlyReads, WasStartedAs, bytes_under}
-use Rattle.pef_io.specs.SourceState.{SourceState}
-use Rattle.pef_io.specs.SinkState.{SinkState}
 use Rattle.pef_io.proofs.OnlyReads.{OnlyReads-trans, OnlyReads-wider, was-started-then, then-was-started}
 use Rattle.collection_reader.specs.Starting.{turn}
-use Rattle.index_file.specs.FileWords.{Spells}
 use Rattle.index_file.specs.IndexView.{IndexView}
 use Rattle.block_max.specs.declared.fault.SideFault.{SideFault}
 use Rattle.block_max.specs.SideFaults.{IsFirstSideFault}
@@ -20,32 +16,21 @@ use Rattle.word_files.specs.declared.loading.LoadWordsError.TheVariants as loadi
 use Rattle.word_files.specs.LoadWords.{LoadsWords}
 use Rattle.command_ends.specs.declared.stop.Stop.{Stop}
 use Rattle.command_ends.specs.declared.stop.Stop.TheVariants as stop
-use Rattle.command_ends.specs.Outside.{Count, Outside, outside, OfFile}
+use Rattle.command_ends.specs.Outside.{Count, OfFile}
 use Rattle.command_ends.specs.Outcome.{Outcome, Done, BrokenIndex, BrokenSide, FileFault, NoMemory, TooLarge, fault_of}
 use Rattle.command_ends.specs.Ends.{EndsByFault, IsStopped}
-use Rattle.command_ends.specs.FoundIndex.{FindsIndex}
 use Rattle.command_ends.specs.FoundSide.{FindsWithSide, HasBrokenSide, IsFirstSideFaultOfFile, IsIndexOrSide, IsSideSlot, names_with_side}
-use Rattle.command_ends.specs.Sources.{Accepts, EndsAt, IndexAt, SideAt, Starts}
+use Rattle.command_ends.specs.Sources.{EndsAt, IndexAt, SideAt, Starts}
 use Rattle.command_ends.specs.Starts.{StartsOnly}
+use Rattle.command_ends.specs.Steps.AtSource.{IsRead, IsStill, IsUnread, was_read}
 use Rattle.command_ends.specs.Steps.LoadedIndex.{IsLoaded}
 use Rattle.command_ends.specs.Steps.Stops.{outcome_of_stop}
 use Rattle.command_ends.proofs.Counted.{Of, by_slot, not_true, second, stays}
-use Rattle.command_ends.proofs.IndexLoaded.{found_parts, is_even, is_ragged, lent_index}
-use Rattle.command_ends.proofs.SourceRead.{IsRead, IsStill, IsUnread, was_read}
+use Rattle.command_ends.proofs.IndexRead.{is_even, is_ragged}
+use Rattle.command_ends.proofs.SourceRead.{ended_there, refuses_none}
 use Rattle.command_ends.proofs.WordsLoaded.{even, loaded_counts, short, slots_unloaded, starts, unloaded_starts}
 use Rattle.side_commands.specs.Private.LoadedSide.{IsLoadedSide, IsUnloadedSide, ragged_side, stop_of_side}
-use Rattle.side_commands.proofs.SideFound.{Checked, Laws}
-
--- An index was loaded from the file under the name.
-pub record IsOpened (index : List ℕ) (d d1 : DepotState) (view : IndexView) : Type 0 where
-  pub words : List ℕ
-  pub loads : LoadsWords Index index d d1 (Ok words)
-  pub spells : Spells (numbers_of view.format) words view.collection view.parts
-
--- the words that were loaded, as they are lent, are one
-pub is_opened : (index : List ℕ) (d d1 : DepotState) (words lent : List ℕ) (view : IndexView) → IsLoaded index d d1 words → lent ≡ words
-    → Spells (numbers_of view.format) lent view.collection view.parts → IsOpened index d d1 view
-is_opened index d d1 words lent view w lends spells = record { words = lent; loads = lent_index index d d1 words lent w lends; spells = spells }
+use Rattle.side_commands.proofs.SideFound.{Checked, Laws, side_laws}
 
 -- a side file that is no whole words is no failed call
 no_fault : (count : Count) → ¬ Of (fault_of (BrokenSide ragged_side)) count
@@ -123,63 +108,49 @@ index_started index side d d1 (TooLarge Index) h s = with_side index side (TooLa
 index_started index side d d1 (TooLarge slot) h s = let bad : slot ≡ Index = h.0 in cc
 index_started index side d d1 outcome h s = absurd h
 
-pub as_unread : (index side : List ℕ) (old new : Outside) (outcome : Outcome) → IsUnread (IndexAt index) old new outcome → IsUnread (SideAt index side) old new outcome
-as_unread index side old new outcome (why, w) = (
-  elim why [ inl at ↦ inl (at_index index side old.depot outcome at) | inr memory ↦ inr memory ],
-  record {
-    reads = OnlyReads-wider (λ slot is. inl is) w.reads;
-    starts = elim why [
-      | inl at ↦ index_started index side old.depot new.depot outcome at w.starts
-      | inr memory ↦
-          subst (λ x. Starts (SideAt index side) x old.depot new.depot) (sym memory)
-          (widened index side NoMemory old.depot new.depot (inr refl) (subst (λ x. StartsOnly (λ slot. index) IsIndexSlot x old.depot new.depot) memory w.starts))
-    ];
-    files = w.files;
-    input = w.input;
-    out = w.out;
-  },
-)
+pub as_unread : Laws → (index side : List ℕ) (old new : DepotState) (outcome : Outcome) → IsUnread (IndexAt index) old new outcome → IsUnread (SideAt index side) old new outcome
+as_unread laws index side old new outcome w = ended_there (SideAt index side) (side_laws laws index side) old new outcome
+    (elim w.ends [ inl at ↦ inl (at_index index side old outcome at) | inr memory ↦ inr memory ])
+    (record {
+      reads = OnlyReads-wider (λ slot is. inl is) w.still.reads;
+      starts = elim w.ends [
+        | inl at ↦ index_started index side old new outcome at w.still.starts
+        | inr memory ↦
+            subst (λ x. Starts (SideAt index side) x old new) (sym memory)
+            (widened index side NoMemory old new (inr refl) (subst (λ x. StartsOnly (λ slot. index) IsIndexSlot x old new) memory w.still.starts))
+      ];
+      files = w.still.files;
+    })
 
 -- ---- an index was loaded
 
-module _ (laws : Laws) (index side : List ℕ) (d d1 : DepotState) (view : IndexView) (opened : IsOpened index d d1 view) where
-  found : FindsIndex (numbers_of view.format) index d view.collection view.parts
-  found = found_parts index d d1 opened.words opened.loads view opened.spells
-
-  has_index : Accepts (IndexAt index) d
-  has_index = (view.collection, (view.format, view.parts, found))
-
+module _ (laws : Laws) (index side : List ℕ) (d d1 : DepotState) (view : IndexView) (opened : IsLoaded index d d1 view) where
   -- memory was refused to the table of its blocks
-  pub no_table : (i : SourceState) (o e e' : SinkState) (n : ℕ) → IsUnread (SideAt index side) (outside d i o e n) (outside d1 i o e' n) NoMemory
-  no_table i o e e' n = (
-    inr refl,
-    record {
-      reads = OnlyReads-wider (λ slot is. inl is) opened.loads.reads;
-      starts = widened index side NoMemory d d1 (inr refl) (starts Index index d d1 opened.words opened.loads NoMemory);
-      files = λ slot. stays (OfFile slot) NoMemory _ _ (λ h. cc) (loaded_counts Index index d d1 opened.words opened.loads slot);
-      input = refl;
-      out = refl;
-    },
-  )
+  pub no_table : IsUnread (SideAt index side) d d1 NoMemory
+  no_table = ended_there (SideAt index side) (side_laws laws index side) d d1 NoMemory (inr refl) (record {
+    reads = OnlyReads-wider (λ slot is. inl is) opened.read.reads;
+    starts = widened index side NoMemory d d1 (inr refl) (opened.starts NoMemory);
+    files = λ slot. stays (OfFile slot) NoMemory _ _ (λ h. cc) (opened.read.counts slot);
+  })
 
   -- the side file is as it was
   over_same : (P : List ℕ → Type 0) → IsTrue d.tells → P (bytes_under d1 side) → P (bytes_under d side)
-  over_same P t p = subst P (ap (λ file. unwrap_or file []) (opened.loads.reads.files t side)) p
+  over_same P t p = subst P (ap (λ file. unwrap_or file []) (opened.read.reads.files t side)) p
 
   module _ (d2 : DepotState) where
     both_read : OnlyReads IsSideSlot d1 d2 → OnlyReads IsIndexOrSide d d2
-    both_read r = OnlyReads-trans (OnlyReads-wider (λ slot is. inl is) opened.loads.reads) (OnlyReads-wider (λ slot is. inr is) r)
+    both_read r = OnlyReads-trans (OnlyReads-wider (λ slot is. inl is) opened.read.reads) (OnlyReads-wider (λ slot is. inr is) r)
 
     side_fresh : d1.starts Side ≡ d.starts Side
-    side_fresh = opened.loads.reads.other_starts Side (not_index Side refl)
+    side_fresh = opened.read.reads.other_starts Side (not_index Side refl)
 
     both_start : (outcome : Outcome) → StartsOnly (λ slot. side) IsSideSlot outcome d1 d2 → StartsOnly (names_with_side index side) IsIndexOrSide outcome d d2
     both_start outcome s =
-        let w = opened.loads in
-        let first : StartsOnly (λ slot. index) IsIndexSlot Done d d1 = starts Index index d d1 opened.words w Done in
+        let first : StartsOnly (λ slot. index) IsIndexSlot Done d d1 = opened.starts Done in
+        let started : WasStartedAs index Index d d1 = first.once (λ slot h. let bad : Done ≡ FileFault slot = h in cc) (λ h. let bad : Done ≡ NoMemory = h in cc) Index refl in
         let index_there : (slot : Slot) → slot ≡ Index → WasStartedAs (names_with_side index side slot) slot d d2 = λ slot one.
         subst (λ x. WasStartedAs (names_with_side index side x) x d d2) (sym one)
-        (was-started-then index Index d d1 d2 (w.started_once Index refl) (s.no_others Index (not_side Index refl))) in
+        (was-started-then index Index d d1 d2 started (s.no_others Index (not_side Index refl))) in
         record {
           none_twice = by_slot Side (λ slot. (d2.starts slot ≡ d.starts slot) ⊎ WasStartedAs (names_with_side index side slot) slot d d2)
               (elim (s.none_twice Side) [ inl none ↦ inl (none ∙ side_fresh) | inr once ↦ inr (then-was-started side Side d d1 d2 side_fresh once) ])
@@ -187,7 +158,7 @@ module _ (laws : Laws) (index side : List ℕ) (d d1 : DepotState) (view : Index
                 | inl none ↦ inl (s.no_others slot other ∙ none)
                 | inr once ↦ inr (subst (λ n. WasStartedAs n slot d d2) (index_named index side slot other) (was-started-then index slot d d1 d2 once (s.no_others slot other)))
               ]);
-          no_others = λ slot other. s.no_others slot (λ is. other (inr is)) ∙ w.reads.other_starts slot (λ is. other (inl is));
+          no_others = λ slot other. s.no_others slot (λ is. other (inr is)) ∙ opened.read.reads.other_starts slot (λ is. other (inl is));
           once = λ files memory slot is. elim is [
             | inl one ↦ index_there slot one
             | inr two ↦
@@ -195,78 +166,70 @@ module _ (laws : Laws) (index side : List ℕ) (d d1 : DepotState) (view : Index
           ];
           in_turn = λ earlier later is lt. elim is [
             | inl one ↦ inr (index_there earlier one)
-            | inr two ↦ inl (s.no_others later (behind_side earlier later two lt) ∙ w.reads.other_starts later (behind_index earlier later (inr two) lt))
+            | inr two ↦ inl (s.no_others later (behind_side earlier later two lt) ∙ opened.read.reads.other_starts later (behind_index earlier later (inr two) lt))
           ];
           refusals = elim s.refusals [ inl refused ↦ inl refused | inr same ↦ inr (same ∙ second first.refusals (λ h. let bad : Done ≡ NoMemory = h in cc)) ];
         }
 
     from_start : (outcome : Outcome) (slot : Slot) → EndsByFault (OfFile slot) outcome (d1.faults slot) (d2.faults slot) → EndsByFault (OfFile slot) outcome (d.faults slot) (d2.faults slot)
-    from_start outcome slot h = subst (λ n. EndsByFault (OfFile slot) outcome n (d2.faults slot)) (loaded_counts Index index d d1 opened.words opened.loads slot) h
+    from_start outcome slot h = subst (λ n. EndsByFault (OfFile slot) outcome n (d2.faults slot)) (opened.read.counts slot) h
 
     -- ---- no side file was read
 
-    module _ (i : SourceState) (o e e' : SinkState) (n : ℕ) where
-      abbrev Unread : Outcome → Type 0
-      Unread outcome = IsUnread (SideAt index side) (outside d i o e n) (outside d2 i o e' n) outcome
+    abbrev Unread : Outcome → Type 0
+    Unread outcome = IsUnread (SideAt index side) d d2 outcome
 
-      still : (error : LoadWordsError) → LoadsWords Side side d1 d2 (Err error) → Starts (SideAt index side) (outcome_of_stop (stop_of_side error)) d d2
-          → IsStill (SideAt index side) (outside d i o e n) (outside d2 i o e' n) (outcome_of_stop (stop_of_side error))
-      still error w started = record {
-        reads = both_read w.reads;
-        starts = started;
-        files = λ slot. from_start (outcome_of_stop (stop_of_side error)) slot
-            (slots_unloaded Side (stop.Side ragged_side) no_fault side d1 d2 error w slot);
-        input = refl;
-        out = refl;
-      }
+    still : (error : LoadWordsError) → LoadsWords Side side d1 d2 (Err error) → Starts (SideAt index side) (outcome_of_stop (stop_of_side error)) d d2
+        → IsStill (SideAt index side) d d2 (outcome_of_stop (stop_of_side error))
+    still error w started = record {
+      reads = both_read w.reads;
+      starts = started;
+      files = λ slot. from_start (outcome_of_stop (stop_of_side error)) slot
+          (slots_unloaded Side (stop.Side ragged_side) no_fault side d1 d2 error w slot);
+    }
 
-      started : (error : LoadWordsError) → LoadsWords Side side d1 d2 (Err error) → StartsOnly (names_with_side index side) IsIndexOrSide (outcome_of_stop (stop_of_side error)) d d2
-      started error w = both_start (outcome_of_stop (stop_of_side error)) (unloaded_starts Side (stop.Side ragged_side) no_fault side d1 d2 error w)
+    started : (error : LoadWordsError) → LoadsWords Side side d1 d2 (Err error) → StartsOnly (names_with_side index side) IsIndexOrSide (outcome_of_stop (stop_of_side error)) d d2
+    started error w = both_start (outcome_of_stop (stop_of_side error)) (unloaded_starts Side (stop.Side ragged_side) no_fault side d1 d2 error w)
 
-      -- the file breaks this check
-      broken : (fault : SideFault) → IsTrue d.tells → length (bytes_under d side) ≤ most_bytes → IsFirstSideFaultOfFile (blocks_of_index view) (bytes_under d side) fault
-          → HasBrokenSide index side d fault
-      broken fault t within first =
-          record { format = view.format; collection = view.collection; parts = view.parts; found = found; within = within; first = first }
+    -- the file breaks this check
+    broken : (fault : SideFault) → IsTrue d.tells → length (bytes_under d side) ≤ most_bytes → IsFirstSideFaultOfFile (blocks_of_index view) (bytes_under d side) fault
+        → HasBrokenSide index side d fault
+    broken fault t within first =
+        record { format = view.format; collection = view.collection; parts = view.parts; found = opened.found; within = within; first = first }
 
-      not_loaded : (error : LoadWordsError) → LoadsWords Side side d1 d2 (Err error) → Unread (outcome_of_stop (stop_of_side error))
-      not_loaded loading.Ragged w = (
-        inl (
-          has_index,
-          λ t. let r = w.ragged (opened.loads.reads.tells ∙ t) refl in
-              broken ragged_side t (over_same (λ b. length b ≤ most_bytes) t r.0)
-              (subst (Checked (blocks_of_index view) (bytes_under d side) ragged_side) (sym (is_ragged (length (bytes_under d side) % 8) (over_same (λ b. length b % 8 ≢ 0) t r.1))) refl),
-        ),
-        still loading.Ragged w (started loading.Ragged w),
-      )
-      not_loaded loading.Read w = (inl (inr (refl, has_index)), still loading.Read w (started loading.Read w))
-      not_loaded loading.TooLarge w = (
-        inl (inr (refl, has_index, λ t. over_same (λ b. most_bytes < length b) t (w.too_large (opened.loads.reads.tells ∙ t) refl))),
-        still loading.TooLarge w (started loading.TooLarge w),
-      )
-      not_loaded loading.NoMemory w = (inr refl, still loading.NoMemory w (started loading.NoMemory w))
+    ended : (outcome : Outcome) → IsStill (SideAt index side) d d2 outcome → EndsAt (SideAt index side) d outcome ⊎ (outcome ≡ NoMemory) → Unread outcome
+    ended outcome w ends = ended_there (SideAt index side) (side_laws laws index side) d d2 outcome ends w
 
-      -- words that are none, of which this is the first check that breaks
-      not_accepted : (words : List ℕ) → LoadsWords Side side d1 d2 (Ok words) → (fault : SideFault) → IsFirstSideFault (blocks_of_index view) words fault → Unread (BrokenSide fault)
-      not_accepted words w fault first = (
-        inl (
-          has_index,
-          λ t. let of : AreOfWords (bytes_under d side) words = over_same (λ bytes. AreOfWords bytes words) t (w.words (opened.loads.reads.tells ∙ t)) in
-              broken fault t (short (bytes_under d side) words of w.within)
-              (subst (Checked (blocks_of_index view) (bytes_under d side) fault) (sym (is_even (length (bytes_under d side) % 8) (even (bytes_under d side) words of))) (words, of, first)),
-        ),
-        record {
+    not_loaded : (error : LoadWordsError) → LoadsWords Side side d1 d2 (Err error) → Unread (outcome_of_stop (stop_of_side error))
+    not_loaded loading.Ragged w = ended (BrokenSide ragged_side) (still loading.Ragged w (started loading.Ragged w)) (inl (
+      opened.read.accepted,
+      λ t. let r = w.ragged (opened.read.reads.tells ∙ t) refl in
+          broken ragged_side t (over_same (λ b. length b ≤ most_bytes) t r.0)
+          (subst (Checked (blocks_of_index view) (bytes_under d side) ragged_side) (sym (is_ragged (length (bytes_under d side) % 8) (over_same (λ b. length b % 8 ≢ 0) t r.1))) refl),
+    ))
+    not_loaded loading.Read w = ended (FileFault Side) (still loading.Read w (started loading.Read w)) (inl (inr (refl, opened.read.accepted)))
+    not_loaded loading.TooLarge w = ended (TooLarge Side) (still loading.TooLarge w (started loading.TooLarge w))
+        (inl (inr (refl, opened.read.accepted, λ t. over_same (λ b. most_bytes < length b) t (w.too_large (opened.read.reads.tells ∙ t) refl))))
+    not_loaded loading.NoMemory w = ended NoMemory (still loading.NoMemory w (started loading.NoMemory w)) (inr refl)
+
+    -- words that are none, of which this is the first check that breaks
+    not_accepted : (words : List ℕ) → LoadsWords Side side d1 d2 (Ok words) → (fault : SideFault) → IsFirstSideFault (blocks_of_index view) words fault → Unread (BrokenSide fault)
+    not_accepted words w fault first = ended (BrokenSide fault)
+        (record {
           reads = both_read w.reads;
           starts = both_start (BrokenSide fault) (starts Side side d1 d2 words w (BrokenSide fault));
           files = λ slot. from_start (BrokenSide fault) slot (stays (OfFile slot) (BrokenSide fault) _ _ (λ h. cc) (loaded_counts Side side d1 d2 words w slot));
-          input = refl;
-          out = refl;
-        },
-      )
+        })
+        (inl (
+          opened.read.accepted,
+          λ t. let of : AreOfWords (bytes_under d side) words = over_same (λ bytes. AreOfWords bytes words) t (w.words (opened.read.reads.tells ∙ t)) in
+              broken fault t (short (bytes_under d side) words of w.within)
+              (subst (Checked (blocks_of_index view) (bytes_under d side) fault) (sym (is_even (length (bytes_under d side) % 8) (even (bytes_under d side) words of))) (words, of, first)),
+        ))
 
-      pub side_unread : (it : Stop) → IsUnloadedSide (blocks_of_index view) side d1 d2 it → Unread (outcome_of_stop it)
-      side_unread it (inl (error, w, is)) = subst (λ x. Unread (outcome_of_stop x)) (sym is) (not_loaded error w)
-      side_unread it (inr (fault, none, is)) = subst (λ x. Unread (outcome_of_stop x)) (sym is) (not_accepted none.words none.loads fault none.first)
+    pub side_unread : (it : Stop) → IsUnloadedSide (blocks_of_index view) side d1 d2 it → Unread (outcome_of_stop it)
+    side_unread it (inl (error, w, is)) = subst (λ x. Unread (outcome_of_stop x)) (sym is) (not_loaded error w)
+    side_unread it (inr (fault, none, is)) = subst (λ x. Unread (outcome_of_stop x)) (sym is) (not_accepted none.words none.loads fault none.first)
 
     -- ---- both were read
 
@@ -274,14 +237,15 @@ module _ (laws : Laws) (index side : List ℕ) (d d1 : DepotState) (view : Index
     both_found words w = (
       view.format,
       view.parts,
-      found,
-      λ t. subst (λ ws. AreOfWords (bytes_under d side) ws) w.side (over_same (λ bytes. AreOfWords bytes words) t (w.loads.words (opened.loads.reads.tells ∙ t))),
+      opened.found,
+      λ t. subst (λ ws. AreOfWords (bytes_under d side) ws) w.side (over_same (λ bytes. AreOfWords bytes words) t (w.loads.words (opened.read.reads.tells ∙ t))),
     )
 
     pub side_read : (words : List ℕ) → IsLoadedSide (blocks_of_index view) side d1 d2 words → IsRead (SideAt index side) d d2
     side_read words w = record {
       accepted = (view.collection, both_found words w);
+      refuses = refuses_none (SideAt index side) (side_laws laws index side) d (view.collection, both_found words w);
       reads = both_read w.loads.reads;
       starts = λ outcome read. both_started index side d d2 outcome read (both_start outcome (starts Side side d1 d2 words w.loads outcome));
-      counts = λ slot. loaded_counts Side side d1 d2 words w.loads slot ∙ loaded_counts Index index d d1 opened.words opened.loads slot;
+      counts = λ slot. loaded_counts Side side d1 d2 words w.loads slot ∙ opened.read.counts slot;
     }

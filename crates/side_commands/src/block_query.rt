@@ -11,12 +11,12 @@ ghost use Rattle.side_commands.specs.BlockQuery.{QueriesBlocks};
 
 use crate::side_loading::load_side;
 use block_max::{Side, one_side_fault};
-use command_ends::{LONGEST_TEXT, Stop, load_index};
+use command_ends::{LONGEST_TEXT, Stop, after_answering, load_index};
 use index_blocks::{IndexBlocks, block_starts, side_files_fit};
-use index_file::{Index, one_broken_check, one_index, words_and_bytes_undo_each_other};
+use index_file::{one_broken_check, one_index, words_and_bytes_undo_each_other};
 use pef_io::{Depot, Sink, Source};
 use std::alloc::Global;
-use text_replies::answer_by_blocks;
+use text_replies::{SideLists, answer_by_blocks};
 
 /// Reads the index under one name and its side file under another, and answers the input from both.
 pub fn query_blocks<D: Depot, I: Source, O: Sink>(
@@ -43,12 +43,13 @@ pub fn query_blocks<D: Depot, I: Source, O: Sink>(
     one_index();
     one_side_fault();
     side_files_fit();
-    let words = load_index(alloc, index, depot)?;
-    let index = Index::known(&words);
+    let opened = load_index(alloc, index, depot)?;
+    let index = opened.index();
     let starts = block_starts(alloc, &index)?;
     let blocks = IndexBlocks::new(&index, &starts);
     let greatest = load_side(alloc, side, &blocks, depot)?;
     let side = Side::known(&greatest, &blocks);
-    answer_by_blocks(alloc, &blocks, side, input, LONGEST_TEXT, out)?;
-    Ok(())
+    let lists = SideLists::new(&blocks, side);
+    let answered = answer_by_blocks(alloc, &lists, input, LONGEST_TEXT, out);
+    after_answering(answered)
 }

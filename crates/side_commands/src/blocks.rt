@@ -10,7 +10,6 @@ ghost use Rattle.command_model.specs.Found.{IsIndexSlot};
 
 use command_ends::{Stop, after_writing, load_index, words_fit};
 use index_blocks::index_side_words;
-use index_file::{Index, one_broken_check, words_and_bytes_undo_each_other};
 use pef_io::{Depot, Slot};
 use std::alloc::Global;
 use word_files::write_words;
@@ -27,10 +26,8 @@ pub fn write_blocks<D: Depot>(
         (outside (D.state depot.old) i o e costs) (outside (D.state depot.new) i o e' costs)
         (outcome_of result) }
 {
-    one_broken_check();
-    words_and_bytes_undo_each_other();
-    let words = load_index(alloc, index, depot)?;
-    let index = Index::known(&words);
+    let opened = load_index(alloc, index, depot)?;
+    let index = opened.index();
     let greatest = index_side_words(alloc, &index)?;
     words_fit(&greatest);
     let written = write_words(alloc, &greatest, side, depot);

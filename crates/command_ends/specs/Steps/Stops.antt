@@ -118,3 +118,13 @@ written_outcome slot (Err fail) = outcome_of_stop (stop_of_writing slot fail)
 abbrev pub printed_outcome : Result (Unit {0}) IoFail → Outcome
 printed_outcome (Ok u) = Done
 printed_outcome (Err fail) = outcome_of_stop (stop_of_printing fail)
+
+-- how a run ends that answered a text or stopped at that
+abbrev pub answered_outcome : Result (Unit {0}) RunFault → Outcome
+answered_outcome (Ok u) = Done
+answered_outcome (Err fault) = outcome_of_stop (stop_of_answering fault)
+
+-- how a run ends that wrote its files or stopped at one
+abbrev pub files_outcome : Result (Unit {0}) FileFail → Outcome
+files_outcome (Ok u) = Done
+files_outcome (Err f) = outcome_of_stop (stop_of_file f)

@@ -1,13 +1,12 @@
-use Rattle.std.specs.Prelude.{◌≡◌, ◌⊎◌, ⊤, ℕ, ◌<◌, ◌^◌, IsTrue, List, [], ◌∷◌, length, take, Option, Some, None}
+use Rattle.std.specs.Prelude.{◌≡◌, ◌⊎◌, ⊤, ℕ, ◌<◌, IsTrue, List, [], ◌∷◌, length, take, Option, Some, None}
 use Rattle.collection_model.specs.Collection.{Collection}
 use Rattle.pef_io.specs.declared.fail.Slot.TheVariants.{Index}
 use Rattle.pef_io.specs.DepotState.{DepotState, OnlyReads, WasStartedAs, bytes_under}
-use Rattle.index_file.specs.FileWords.{IsIndex}
-use Rattle.index_file.specs.IndexView.{index_stated}
+use Rattle.index_file.specs.IndexView.{IndexView}
 use Rattle.segments.specs.Joined.{documents_in}
 use Rattle.segments.specs.Segments.{Pushed, rule_broken, with_segment}
 use Rattle.command_model.specs.Found.{IsIndexSlot, most_bytes}
-use Rattle.line_replies.specs.AnswerJoined.{CanBeJoined, collections_of}
+use Rattle.line_replies.specs.AnswerJoined.{collections_of}
 use Rattle.command_ends.specs.Outside.{OfFile}
 use Rattle.command_ends.specs.Outcome.{Outcome, BrokenSegment, UnfitSegment, FileFault, TooLarge, NoMemory}
 use Rattle.command_ends.specs.Ends.{EndsByFault}
@@ -25,16 +24,13 @@ first_terms (c ∷ cs) = Some (length c.lists)
 abbrev pub pushed_of : List Collection → Pushed
 pushed_of cs = record { documents = documents_in cs; terms = first_terms cs }
 
--- The words of the index under the name were read, and it is accepted behind what was pushed.
+-- This index stands under the name and was read, and is accepted behind what was pushed.
 pub record IsAccepted (name : List ℕ) (before after : Pushed) (old now : DepotState)
-    (words : List ℕ) : Type 0 where
-  pub few : length words < 2 ^ 57
-  pub index : IsIndex words
-  pub found : FindsIndexOf name old (index_stated words).collection
-  pub fits : rule_broken before (index_stated words).collection.documents
-      (length (index_stated words).collection.lists) ≡ None
-  pub pushed : after ≡ with_segment before (index_stated words).collection.documents
-      (length (index_stated words).collection.lists)
+    (index : IndexView) : Type 0 where
+  pub found : FindsIndexOf name old index.collection
+  pub fits : rule_broken before index.collection.documents (length index.collection.lists) ≡ None
+  pub pushed : after ≡ with_segment before index.collection.documents
+      (length index.collection.lists)
   pub reads : OnlyReads IsIndexSlot old now
   pub faults : now.faults Index ≡ old.faults Index
   pub starts : WasStartedAs name Index old now
@@ -62,12 +58,11 @@ pub record IsRejected (name : List ℕ) (s : ℕ) (before : Pushed) (old now : D
   pub starts : WasStartedAs name Index old now
   pub refusals : (outcome ≡ NoMemory) ⊎ (now.refusals ≡ old.refusals)
 
--- The words of the first k segments were read, and these are accepted.
+-- These are the first k segments, which were read and are accepted.
 pub record AreAccepted (names : List (List ℕ)) (k : ℕ) (after : Pushed) (old now : DepotState)
-    (files : List (List ℕ)) : Type 0 where
-  pub joins : CanBeJoined files
-  pub found : FindsSegments (take k names) old (collections_of files)
-  pub pushed : after ≡ pushed_of (collections_of files)
+    (indexes : List IndexView) : Type 0 where
+  pub found : FindsSegments (take k names) old (collections_of indexes)
+  pub pushed : after ≡ pushed_of (collections_of indexes)
   pub reads : OnlyReads IsIndexSlot old now
   pub faults : now.faults Index ≡ old.faults Index
   pub starts : StartedUnder (take k names) (old.starts Index) (now.starts Index)

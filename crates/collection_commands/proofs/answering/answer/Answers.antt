@@ -1,32 +1,24 @@
-use Rattle.std.proofs.Common.{sym, ◌∙◌, ap, Ok, Err}
-use Rattle.std.proofs.lemmas.Result.{err_from_is_err_and}
-use Rattle.command_ends.specs.Steps.Stops.{outcome_of}
 use Rattle.collection_commands.proofs.BaseAnswered.{answer_refused, answer_ended, lent_are_index}
 use Rattle.collection_commands.proofs.BuildRefused.{FaultLaws}
-use Rattle.command_ends.proofs.TextAnswered.{text_outcome}
+use Rattle.command_ends.proofs.TextAnswered.{answers_refuse_none}
+use Rattle.command_ends.proofs.Told.{handed_on}
 use Rattle.collection_commands.proofs.answering.answer.Goals as goal
 
 pub returns-in_err-words-clause-leaves : goal.returns-in_err-words-clause-leaves
 returns-in_err-words-clause-leaves g c = λ e e'.
-    let p = err_from_is_err_and c.from_residual.result c.from_residual.ensures.1 in
     let laws : FaultLaws = record { one = c.files_have_one_first_fault.ensures; none = c.spelled_files_have_no_fault.ensures } in
     answer_refused c.args.base.now _ _ _ _ c.build_words.result c.build_words.ensures laws _ (g.I.Source.state c.args.input.now) _ (g.O.Sink.state c.args.out.now) e e'
-    _ c.from_residual.result c.in_err-words.was (p.1 ∙ ap Err p.2)
+    _ c.from_residual.result c.in_err-words.was (handed_on c.from_residual.result c.from_residual.ensures.1)
 
 pub known-index-requires-clause-index : goal.known-index-requires-clause-index
 known-index-requires-clause-index g c =
     lent_are_index c.args.base.now _ _ _ _ c.build_words.result c.build_words.ensures c.in_ok-words.words c.deref.result.now c.in_ok-words.was c.deref.ensures.value
 
-pub returns-in_err-answer_text-clause-leaves : goal.returns-in_err-answer_text-clause-leaves
-returns-in_err-answer_text-clause-leaves g c = λ e e'.
-    let p = err_from_is_err_and c.from_residual-in_err-answer_text.result c.from_residual-in_err-answer_text.ensures.1 in
-    let laws : FaultLaws = record { one = c.files_have_one_first_fault.ensures; none = c.spelled_files_have_no_fault.ensures } in
-    answer_ended c.args.base.now _ _ _ _ c.build_words.result c.build_words.ensures laws _ _ _ _ e e' c.one_index.ensures c.in_ok-words.words c.deref.result.now c.known-index.result
-    c.answer_text.result c.from_residual-in_err-answer_text.result c.in_ok-words.was c.deref.ensures.value c.known-index.ensures.spells c.answer_text.ensures
-    (ap outcome_of (p.1 ∙ ap Err p.2) ∙ sym (ap text_outcome c.in_err-answer_text.was))
-
 pub returns-clause-leaves : goal.returns-clause-leaves
 returns-clause-leaves g c = λ e e'.
     let laws : FaultLaws = record { one = c.files_have_one_first_fault.ensures; none = c.spelled_files_have_no_fault.ensures } in
     answer_ended c.args.base.now _ _ _ _ c.build_words.result c.build_words.ensures laws _ _ _ _ e e' c.one_index.ensures c.in_ok-words.words c.deref.result.now c.known-index.result
-    c.answer_text.result (Ok tt) c.in_ok-words.was c.deref.ensures.value c.known-index.ensures.spells c.answer_text.ensures (sym (ap text_outcome c.in_ok-answer_text.was))
+    c.answer_text-answered.result c.after_answering.result c.in_ok-words.was c.deref.ensures.value c.known-index.ensures.spells c.answer_text-answered.ensures c.after_answering.ensures
+
+pub returns-clause-refused : goal.returns-clause-refused
+returns-clause-refused g c = λ h. answers_refuse_none c.answer_text-answered.result c.after_answering.result c.after_answering.ensures h

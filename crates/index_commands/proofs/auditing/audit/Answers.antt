@@ -1,34 +1,43 @@
-use Rattle.std.proofs.Common.{◌∙◌, ap, subst, Err}
-use Rattle.std.specs.Prelude.{IsTrue}
-use Rattle.std.proofs.lemmas.Result.{err_from_is_err_and}
-use Rattle.command_ends.specs.Outcome.{Outcome, is_refusal}
-use Rattle.index_commands.proofs.AuditPrinted.{audit_stops, audit_ended}
-use Rattle.command_ends.proofs.IndexLoaded.{lent_is_index, loaded_is_found}
-use Rattle.command_ends.proofs.IndexRead.{index_refused}
-use Rattle.command_ends.proofs.TextPrinted.{no_print_refuses}
+use Rattle.std.proofs.Common.{refl, inl, inr}
+use Rattle.command_model.specs.AuditText.{IsAuditText}
+use Rattle.command_ends.specs.Outside.{outside}
+use Rattle.command_ends.specs.Sources.{IndexAt}
+use Rattle.command_ends.specs.Products.{Text}
+use Rattle.command_ends.proofs.IndexRead.{loaded_as}
+use Rattle.command_ends.proofs.SourceRead.{promised, stops}
+use Rattle.command_ends.proofs.TextMade.{text_printed}
+use Rattle.command_ends.proofs.TextPrinted.{no_print_refuses, prints, prints_refuse_none, where_done}
+use Rattle.command_ends.proofs.Told.{handed_on}
+use Rattle.index_commands.specs.Audit.{PrintsFoundAudit}
 use Rattle.index_commands.proofs.auditing.audit.Goals as goal
 
-pub returns-in_err-words-clause-leaves : goal.returns-in_err-words-clause-leaves
-returns-in_err-words-clause-leaves g c = λ i e e'.
-    let p = err_from_is_err_and c.from_residual.result c.from_residual.ensures.1 in
-    audit_stops c.words_and_bytes_undo_each_other.ensures.read c.one_broken_check.ensures c.args.index.now _ _ i _ (g.O.Sink.state c.args.out.now) e e' _ c.args.steps.now _
-    (index_refused c.words_and_bytes_undo_each_other.ensures.read c.one_broken_check.ensures c.args.index.now _ _ i _ e e' _ _ c.in_err-words.ensures.refused
-    c.from_residual.result (p.1 ∙ ap Err p.2))
-
-pub known-index-requires-clause-index : goal.known-index-requires-clause-index
-known-index-requires-clause-index g c = lent_is_index c.args.index.now _ _ _ _ c.in_ok-words.ensures.loaded c.deref.ensures.value
+pub returns-in_err-opened-clause-leaves : goal.returns-in_err-opened-clause-leaves
+returns-in_err-opened-clause-leaves g c = λ i e e'.
+    stops (IndexAt c.args.index.now) Text (PrintsFoundAudit c.args.index.now) _ _ refl refl c.in_err-opened.field-0.0 c.from_residual.result
+    (handed_on c.from_residual.result c.from_residual.ensures.1) c.in_err-opened.ensures.refused (inl (record { no_memory = refl; out = refl; costs = refl }))
+    (λ other does. record { does = does; refused = λ h. refl })
 
 pub returns-clause-leaves : goal.returns-clause-leaves
 returns-clause-leaves g c = λ i e e'.
-    audit_ended c.words_and_bytes_undo_each_other.ensures.read c.one_broken_check.ensures c.args.index.now _ _ i _ _ e e' _ _
-    c.in_ok-words.words.items c.deref.result.now c.known-index.result c.print_audit.result c.after_printing.result
-    c.in_ok-words.ensures.loaded c.deref.ensures.value c.known-index.ensures.spells c.print_audit.ensures
-    c.after_printing.ensures
+    let index = c.index-index.result in
+    let w = loaded_as c.args.index.now _ _ c.in_ok-opened.opened index c.in_ok-opened.ensures.loaded c.index-index.ensures in
+    let p = c.print_audit.ensures in
+    let old = outside (g.D.Depot.state c.args.depot.now) i (g.O.Sink.state c.args.out.now) e c.args.steps.now in
+    let new = outside (g.D.Depot.state c.load_index.new.depot) i (g.O.Sink.state c.print_audit.new.out) e' c.print_audit.new.steps in
+    promised old new _ _ c.after_printing.ensures (λ does. record { does = does; refused = λ h. no_print_refuses c.print_audit.result h })
+    (text_printed (IndexAt c.args.index.now) (PrintsFoundAudit c.args.index.now) _ _ w.read i _ _ e e' _ _ p.text c.print_audit.result p.prints
+    (inr (
+      index,
+      record {
+        found = w.found;
+        lines = prints (IsAuditText index) p.text p.audit old new c.print_audit.result p.prints;
+        at_least = where_done c.print_audit.result p.counted;
+        at_most = p.bounded;
+      },
+    )))
 
 pub returns-clause-refused : goal.returns-clause-refused
-returns-clause-refused g c = λ h.
-    let P : Outcome → Type 0 = λ x. IsTrue (is_refusal x) in
-    absurd (no_print_refuses c.print_audit.result (subst P c.after_printing.ensures h))
+returns-clause-refused g c = λ h. prints_refuse_none c.print_audit.result c.after_printing.result c.after_printing.ensures h
 
 pub returns-clause-unaccepted : goal.returns-clause-unaccepted
-returns-clause-unaccepted g c = λ denied. absurd (denied (loaded_is_found c.args.index.now _ _ _ c.in_ok-words.ensures.loaded))
+returns-clause-unaccepted g c = λ denied. absurd (denied c.in_ok-opened.ensures.loaded.read.accepted)

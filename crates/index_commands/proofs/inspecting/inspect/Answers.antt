@@ -1,34 +1,34 @@
-use Rattle.std.proofs.Common.{◌∙◌, ap, subst, Err}
-use Rattle.std.specs.Prelude.{IsTrue}
-use Rattle.std.proofs.lemmas.Result.{err_from_is_err_and}
-use Rattle.command_ends.specs.Outcome.{Outcome, is_refusal}
-use Rattle.command_ends.proofs.IndexLoaded.{lent_is_index, loaded_is_found}
-use Rattle.command_ends.proofs.IndexRead.{index_refused}
-use Rattle.command_ends.proofs.TextPrinted.{no_print_refuses}
-use Rattle.index_commands.proofs.SummaryPrinted.{inspect_stops, inspect_ended}
+use Rattle.std.proofs.Common.{refl, inl}
+use Rattle.command_model.specs.SummaryLine.{summary_line}
+use Rattle.command_ends.specs.Outside.{outside}
+use Rattle.command_ends.specs.PrintedText.{PrintsText}
+use Rattle.command_ends.specs.Sources.{IndexAt}
+use Rattle.command_ends.specs.Products.{Text}
+use Rattle.command_ends.proofs.IndexRead.{loaded_as}
+use Rattle.command_ends.proofs.SourceRead.{promised, stops}
+use Rattle.command_ends.proofs.TextMade.{text_printed}
+use Rattle.command_ends.proofs.TextPrinted.{prints, prints_refuse_none}
+use Rattle.command_ends.proofs.Told.{handed_on}
+use Rattle.index_commands.specs.Inspect.{IsInspection}
 use Rattle.index_commands.proofs.inspecting.inspect.Goals as goal
 
-pub returns-in_err-words-clause-leaves : goal.returns-in_err-words-clause-leaves
-returns-in_err-words-clause-leaves g c = λ i e e' n.
-    let p = err_from_is_err_and c.from_residual.result c.from_residual.ensures.1 in
-    inspect_stops c.words_and_bytes_undo_each_other.ensures.read c.one_broken_check.ensures c.args.index.now _ _ i _ (g.O.Sink.state c.args.out.now) e e' n _
-    (index_refused c.words_and_bytes_undo_each_other.ensures.read c.one_broken_check.ensures c.args.index.now _ _ i _ e e' n _ c.in_err-words.ensures.refused
-    c.from_residual.result (p.1 ∙ ap Err p.2))
-
-pub known-index-requires-clause-index : goal.known-index-requires-clause-index
-known-index-requires-clause-index g c = lent_is_index c.args.index.now _ _ _ _ c.in_ok-words.ensures.loaded c.deref.ensures.value
+pub returns-in_err-opened-clause-leaves : goal.returns-in_err-opened-clause-leaves
+returns-in_err-opened-clause-leaves g c = λ i e e' n.
+    stops (IndexAt c.args.index.now) Text (PrintsText (IsInspection c.args.index.now (g.D.Depot.state c.args.depot.now))) _ _ refl refl c.in_err-opened.field-0.0 c.from_residual.result
+    (handed_on c.from_residual.result c.from_residual.ensures.1) c.in_err-opened.ensures.refused (inl refl) (λ other does. record { does = does; costs = refl })
 
 pub returns-clause-leaves : goal.returns-clause-leaves
 returns-clause-leaves g c = λ i e e' n.
-    inspect_ended c.words_and_bytes_undo_each_other.ensures.read c.one_broken_check.ensures c.args.index.now _ _ i _ _ e e' n
-    c.in_ok-words.words.items c.deref.result.now c.known-index.result c.print_summary.result c.after_printing.result
-    c.in_ok-words.ensures.loaded c.deref.ensures.value c.known-index.ensures.spells c.print_summary.ensures
-    c.after_printing.ensures
+    let index = c.index-index.result in
+    let w = loaded_as c.args.index.now _ _ c.in_ok-opened.opened index c.in_ok-opened.ensures.loaded c.index-index.ensures in
+    let old = outside (g.D.Depot.state c.args.depot.now) i (g.O.Sink.state c.args.out.now) e n in
+    let new = outside (g.D.Depot.state c.load_index.new.depot) i (g.O.Sink.state c.print_summary.new.out) e' n in
+    promised old new _ _ c.after_printing.ensures (λ does. record { does = does; costs = refl })
+    (text_printed (IndexAt c.args.index.now) (PrintsText (IsInspection c.args.index.now (g.D.Depot.state c.args.depot.now))) _ _ w.read i _ _ e e' n n (summary_line index) c.print_summary.result c.print_summary.ensures
+    (prints (IsInspection c.args.index.now (g.D.Depot.state c.args.depot.now)) (summary_line index) (index, w.found, refl) old new c.print_summary.result c.print_summary.ensures))
 
 pub returns-clause-refused : goal.returns-clause-refused
-returns-clause-refused g c = λ h.
-    let P : Outcome → Type 0 = λ x. IsTrue (is_refusal x) in
-    absurd (no_print_refuses c.print_summary.result (subst P c.after_printing.ensures h))
+returns-clause-refused g c = λ h. prints_refuse_none c.print_summary.result c.after_printing.result c.after_printing.ensures h
 
 pub returns-clause-unaccepted : goal.returns-clause-unaccepted
-returns-clause-unaccepted g c = λ denied. absurd (denied (loaded_is_found c.args.index.now _ _ _ c.in_ok-words.ensures.loaded))
+returns-clause-unaccepted g c = λ denied. absurd (denied c.in_ok-opened.ensures.loaded.read.accepted)
