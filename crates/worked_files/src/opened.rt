@@ -1,11 +1,15 @@
 // Indexes that are opened: what they tell, and their postings.
+ghost use Rattle.std.specs.Prelude.{◌≤◌, length};
+
 use crate::words::{
     IN_TWO_PARTS, ONE_LIST, ONE_LIST_OF_TWO, ONE_PACKED_LIST, ONE_WIDE_GAP, PACKED_END,
     PACKED_OPENING, THREE_LISTS, THREE_PACKED_LISTS,
 };
 use cursor_api::DocCursor;
-use index_file::Index;
+use index_file::{Index, list_starts};
 use part_cost::{Format, Kind};
+use std::alloc::Global;
+use std::process::Abort;
 use std::test::Fail;
 
 // The posting at the place of a cursor, which then goes on.
@@ -98,4 +102,34 @@ fn opens_empty_lists(rt: HostRuntime) {
         (index.payload_bits(), index.parts_of_kind(Kind::Ones)),
         (0, 0)
     );
+}
+
+// Where the lists of an index begin is kept so, and the lists are found by it.
+fn keeps_starts(rt: &impl Abort, alloc: Global, words: &[u64], starts: &[u64])
+    requires { length words.now ≤ 29 }
+{
+    let index = Index::view(words).expect(rt, "an index");
+    let kept = list_starts(alloc, words).expect(rt, "memory");
+    assert_eq!(rt; kept.as_slice(), starts);
+    let with_starts = Index::with_starts(words, &kept);
+    if index.terms() == 3 {
+        for t in 0..3 {
+            assert_eq!(rt;
+                next_posting(&mut with_starts.cursor(t)),
+                next_posting(&mut index.cursor(t))
+            );
+        }
+    }
+}
+
+// One list takes 25 bits, and of three the second none. Nothing is kept of a plain file, nor of six words that may be as many empty
+// lists as there may be.
+#[test]
+fn keeps_where_lists_begin(rt: HostRuntime) {
+    keeps_starts(&rt, rt.alloc(), ONE_PACKED_LIST, &[0, 25]);
+    keeps_starts(&rt, rt.alloc(), THREE_PACKED_LISTS, &[0, 3, 3, 8]);
+    keeps_starts(&rt, rt.alloc(), THREE_LISTS, &[]);
+    keeps_starts(&rt, rt.alloc(), ONE_LIST_OF_TWO, &[]);
+    let words = [PACKED_OPENING, 3, 0, 4_294_967_295, 0, PACKED_END];
+    keeps_starts(&rt, rt.alloc(), &words, &[]);
 }

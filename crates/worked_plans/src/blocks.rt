@@ -6,6 +6,7 @@ ghost use Rattle.worked_plans.specs.OneList.{one_list, one-cut};
 ghost use Rattle.block_max.specs.SideWords.{side_words, words_seen};
 ghost use Rattle.worked_plans.specs.TwoLists.{long_freqs, long_list, short_list, two_lists, two-cut};
 
+use crate::counting::Counting;
 use block_max::{
     BlockCursor, BlockSource, Side, SideCheck, SideCursor, SideFault, side_words, top_blockmax,
 };
@@ -80,79 +81,6 @@ impl BlockSource for TwoLists {
     }
 
     ghost cut = { λ s. two-cut s.n s.some s.few };
-}
-
-// A cursor that counts how often it is moved, and how many postings it gives.
-#[derive(Drop)]
-struct Counting<C: BlockCursor> {
-    cursor: C,
-    moves: u64,
-    read: u64,
-}
-
-impl<C: BlockCursor> DocCursor for Counting<C> {
-    ghost list = { λ c. C.list c.cursor };
-
-    ghost place = { λ c. C.place c.cursor };
-
-    fn doc(&self) -> Option<u32> {
-        self.cursor.doc()
-    }
-
-    fn freq(&mut self) -> u32 {
-        self.cursor.freq()
-    }
-
-    fn advance(&mut self) {
-        self.moves = self.moves.saturating_add(1);
-        self.cursor.advance();
-    }
-
-    fn next_geq(&mut self, d: u32) {
-        self.moves = self.moves.saturating_add(1);
-        self.cursor.next_geq(d);
-    }
-
-    fn next_frequent(&mut self, f: u32) {
-        self.moves = self.moves.saturating_add(1);
-        self.cursor.next_frequent(f);
-    }
-
-    fn docs_below(&mut self, end: u64, docs: &mut [u64]) -> usize {
-        let count = self.cursor.docs_below(end, docs);
-        self.read = self.read.saturating_add(count as u64);
-        count
-    }
-
-    fn postings_below(&mut self, end: u64, docs: &mut [u64], freqs: &mut [u64]) -> usize {
-        let count = self.cursor.postings_below(end, docs, freqs);
-        self.read = self.read.saturating_add(count as u64);
-        count
-    }
-
-    fn max_freq(&self) -> u32 {
-        self.cursor.max_freq()
-    }
-
-    fn common_freq(&self, k: u32) -> u32 {
-        self.cursor.common_freq(k)
-    }
-
-    fn len(&self) -> u32 {
-        self.cursor.len()
-    }
-
-    ghost well_formed = { λ c. C.well_formed c.cursor };
-}
-
-impl<C: BlockCursor> BlockCursor for Counting<C> {
-    ghost blocks = { λ c. C.blocks c.cursor };
-
-    fn block_at(&self, doc: u32) -> Option<(u32, u32)> {
-        self.cursor.block_at(doc)
-    }
-
-    ghost are_blocks = { λ c. C.are_blocks c.cursor };
 }
 
 #[test]

@@ -5,6 +5,8 @@
 #[cfg(test)]
 mod blocks;
 #[cfg(test)]
+mod counting;
+#[cfg(test)]
 mod cursors;
 #[cfg(test)]
 mod joined;

@@ -1,7 +1,8 @@
-// WAND and MaxScore over plain lists. Of no more than 8,192 documents all would be scored, so there are more.
-ghost use Rattle.std.specs.Prelude.{◌≤◌, ◌<◌};
+// WAND and MaxScore over plain lists. Of no more than 8,192 documents, or of fewer than k times k postings, all are scored, so most rows have more.
+ghost use Rattle.std.specs.Prelude.{◌≡◌, ◌≤◌, ◌<◌};
 
 use crate::blocks::{first_documents, long_cursor};
+use crate::counting::Counting;
 use cursor_api::PlainCursor;
 use no_memory::NoMemory;
 use std::alloc::Global;
@@ -32,17 +33,37 @@ fn two_lists(rt: HostRuntime) {
     }
 }
 
-// The candidates of one list lie between those of the other.
+// A plain cursor that has counted nothing.
+fn counting(cursor: PlainCursor<'_>) -> Counting<PlainCursor<'_>>
+    ensures { result.cursor ≡ cursor.entry }
+{
+    Counting {
+        cursor,
+        moves: 0,
+        read: 0,
+    }
+}
+
+// The candidates of one list lie between those of the other. WAND passes over document 40: it has 1 there at most.
 #[test]
 fn documents_of_one_list_each(rt: HostRuntime) {
     let starts = [
-        PlainCursor::new(&[0, 5], &[1, 1]),
-        PlainCursor::new(&[3], &[1]),
+        PlainCursor::new(&[0, 5, 40], &[1, 1, 1]),
+        PlainCursor::new(&[3, 50], &[1, 1]),
     ];
-    for plan in [Plan::Wand, Plan::MaxScore] {
-        let mut cursors = starts;
-        let top = plan_top(rt.alloc(), plan, &mut cursors, &[1, 1], 3, 9_000).expect(&rt, "memory");
-        assert_eq!(rt; top.as_slice(), [(0, 1), (3, 1), (5, 1)].as_slice());
+    for (plan, k, wanted, read) in [
+        (Plan::Wand, 1, [(0, 1)].as_slice(), 4),
+        (Plan::Wand, 2, [(0, 1), (3, 1)].as_slice(), 4),
+        (Plan::Wand, 3, [(0, 1), (3, 1), (5, 1)].as_slice(), 5),
+        (Plan::MaxScore, 1, [(0, 1)].as_slice(), 5),
+        (Plan::MaxScore, 2, [(0, 1), (3, 1)].as_slice(), 5),
+        (Plan::MaxScore, 3, [(0, 1), (3, 1), (5, 1)].as_slice(), 5),
+    ] {
+        let mut cursors = [counting(starts[0]), counting(starts[1])];
+        let top = plan_top(rt.alloc(), plan, &mut cursors, &[1, 1], k, 9_000).expect(&rt, "memory");
+        assert_eq!(rt; top.as_slice(), wanted);
+        let all = cursors[0].read.saturating_add(cursors[1].read);
+        assert!(rt; all <= read, "{plan:?} of {k}: {all}");
     }
 }
 
@@ -59,56 +80,77 @@ fn one_list(rt: HostRuntime) {
     }
 }
 
-// The best k of the documents below `n`, each had once by the one list but the last, which it has nine times.
+// Two documents are wanted where four lists have one between them.
+#[test]
+fn one_document_of_four_lists(rt: HostRuntime) {
+    let start = PlainCursor::new(&[7], &[2]);
+    for plan in [Plan::Wand, Plan::MaxScore] {
+        let mut cursors = [start, start, start, start];
+        let top = plan_top(rt.alloc(), plan, &mut cursors, &[1, 1, 1, 1], 2, 9_000).expect(
+            &rt, "memory",
+        );
+        assert_eq!(rt; top.as_slice(), [(7, 8)].as_slice());
+    }
+}
+
+// The best k of the documents below `n`, each had once by the one list but the last, which it has nine times; and how many postings
+// were read.
 fn best_of_a_long_list(
     alloc: Global,
     plan: Plan,
     k: u32,
     n: u32,
-) -> Result<Vec<(u32, u64)>, NoMemory>
+) -> Result<(Vec<(u32, u64)>, u64), NoMemory>
     requires some { 2 ≤ n }
     requires few { n < 4294967295 }
 {
     let docs = first_documents(alloc, n)?;
     let mut freqs = vec![in alloc; 1; n as usize - 1]?;
     freqs.push(9)?;
-    let mut cursors = [long_cursor(&docs, &freqs, n)];
-    plan_top(alloc, plan, &mut cursors, &[1], k, n)
+    let mut cursors = [counting(long_cursor(&docs, &freqs, n))];
+    let top = plan_top(alloc, plan, &mut cursors, &[1], k, n)?;
+    Ok((top, cursors[0].read))
 }
 
 // Of a list with 8,193 postings a score is told that k of them reach, here 1. A score at this floor is held, and then one above it is
-// asked for.
+// asked for: MaxScore passes over all the others between.
 #[test]
 fn scores_at_a_floor(rt: HostRuntime) {
     for plan in [Plan::Exhaustive, Plan::Wand, Plan::MaxScore] {
-        for (k, last) in [
-            (1, (8_192, 9)),
-            (2, (0, 1)),
-            (8_192, (8_190, 1)),
-            (8_193, (8_191, 1)),
+        for (k, last, most) in [
+            (1, (8_192, 9), 100),
+            (2, (0, 1), 100),
+            (90, (88, 1), 200),
+            (8_192, (8_190, 1), 8_193),
+            (8_193, (8_191, 1), 8_193),
         ] {
-            let top = best_of_a_long_list(rt.alloc(), plan, k, 8_193).expect(&rt, "memory");
+            let (top, read) = best_of_a_long_list(rt.alloc(), plan, k, 8_193).expect(&rt, "memory");
             assert_eq!(rt; top.len(), k as usize);
             assert_eq!(rt; top.last().copied(), Some(last), "of {k}");
+            if plan == Plan::MaxScore {
+                assert!(rt; read <= most, "of {k}: {read}");
+            }
         }
     }
 }
 
-// One list alone can lift a document above the bar after the first, and only by its frequency in document 30; at equal scores the
-// earlier document stays.
+// One list alone can lift a document above the bar after the first ones, and only where it has it often enough; at equal scores the
+// earlier document stays. What lies between is passed over.
 #[test]
 fn candidates_far_apart(rt: HostRuntime) {
     let starts = [
-        PlainCursor::new(&[0, 10, 20, 30, 40], &[5, 1, 4, 6, 6]),
+        PlainCursor::new(&[0, 2, 4, 10, 20, 30, 40], &[5, 5, 4, 1, 4, 6, 6]),
         PlainCursor::new(&[0, 20, 30], &[1, 1, 1]),
     ];
-    for (k, wanted) in [
-        (1, [(30, 7)].as_slice()),
-        (2, [(30, 7), (0, 6)].as_slice()),
-        (3, [(30, 7), (0, 6), (40, 6)].as_slice()),
+    for (k, wanted, read) in [
+        (1, [(30, 7)].as_slice(), 7),
+        (2, [(30, 7), (0, 6)].as_slice(), 7),
+        (3, [(30, 7), (0, 6), (40, 6)].as_slice(), 9),
     ] {
-        let mut cursors = starts;
+        let mut cursors = [counting(starts[0]), counting(starts[1])];
         let top = top_maxscore(rt.alloc(), &mut cursors, &[1, 1], k, 9_000).expect(&rt, "memory");
         assert_eq!(rt; top.as_slice(), wanted);
+        let all = cursors[0].read.saturating_add(cursors[1].read);
+        assert!(rt; all <= read, "of {k}: {all}");
     }
 }

@@ -68,22 +68,28 @@ fn are(lists: &[Vec<u32>], wanted: &[&[u32]]) -> bool {
             .all(|(list, want)| list.as_slice() == *want)
 }
 
-// Whether these numbers are read as a collection of so many documents, with these lists and sizes.
+// What a collection has: so many documents, lists and sizes.
+#[derive(Clone, Copy)]
+struct Contents<'a> {
+    documents: u32,
+    docs: &'a [&'a [u32]],
+    freqs: &'a [&'a [u32]],
+    sizes: &'a [u32],
+}
+
+// Whether these numbers are read as a collection that has this.
 fn are_read_as(
     alloc: Global,
     numbers: &Numbers,
     format: Format,
-    documents: u32,
-    docs: &[&[u32]],
-    freqs: &[&[u32]],
-    sizes: &[u32],
+    wanted: &Contents,
 ) -> Result<bool, Fail> {
     let read = read_collection(alloc, "small", &mut depot(alloc, numbers)?, format)?;
     Ok(
-        read.documents == documents
-            && are(&read.docs, docs)
-            && are(&read.freqs, freqs)
-            && read.sizes.as_slice() == sizes,
+        read.documents == wanted.documents
+            && are(&read.docs, wanted.docs)
+            && are(&read.freqs, wanted.freqs)
+            && read.sizes.as_slice() == wanted.sizes,
     )
 }
 
@@ -93,12 +99,28 @@ fn small_collections_are_read(rt: HostRuntime) -> Result<(), Fail> {
     assert_eq!(rt; number_at(&[9, 2, 1, 0, 0], 1), 258);
     let empty = in_files(&[1, 0], &[], &[0]);
     let three_lists = in_files(&[1, 2, 1, 0, 0, 1, 1], &[1, 1, 0, 1, 3], &[2, 1, 1]);
+    let one = Contents {
+        documents: 3,
+        docs: &[&[0, 2]],
+        freqs: &[&[1, 5]],
+        sizes: &[4, 0, 7],
+    };
+    let none = Contents {
+        documents: 0,
+        docs: &[],
+        freqs: &[],
+        sizes: &[],
+    };
+    let three = Contents {
+        documents: 2,
+        docs: &[&[0], &[], &[1]],
+        freqs: &[&[1], &[], &[3]],
+        sizes: &[1, 1],
+    };
     for format in [Format::One, Format::Two] {
-        let (docs, freqs) = ([[0, 2].as_slice()], [[1, 5].as_slice()]);
-        assert!(rt; are_read_as(alloc, &ONE_LIST, format, 3, &docs, &freqs, &[4, 0, 7])?);
-        assert!(rt; are_read_as(alloc, &empty, format, 0, &[], &[], &[])?);
-        let (docs, freqs): ([&[u32]; 3], [&[u32]; 3]) = ([&[0], &[], &[1]], [&[1], &[], &[3]]);
-        assert!(rt; are_read_as(alloc, &three_lists, format, 2, &docs, &freqs, &[1, 1])?);
+        assert!(rt; are_read_as(alloc, &ONE_LIST, format, &one)?);
+        assert!(rt; are_read_as(alloc, &empty, format, &none)?);
+        assert!(rt; are_read_as(alloc, &three_lists, format, &three)?);
     }
     Ok(())
 }

@@ -4,8 +4,8 @@ use crate::side_files::SIDE_OF_TEN;
 use pef_io::Slot;
 use pef_top::Status;
 use run_tables::{
-    BQUERY, DOCUMENTS_IN_TWO_PARTS_PACKED, ONE_LIST_PACKED, ONE_LIST_WORDS, ONE_LIST_WORDS_OF_TWO,
-    TEN_LISTS_PACKED, index_and_side, steady_run,
+    BQUERY, DOCUMENTS_IN_TWO_PARTS_PACKED, FileList, ONE_LIST_PACKED, ONE_LIST_WORDS,
+    ONE_LIST_WORDS_OF_TWO, TEN_LISTS_PACKED, index_and_side, steady_run,
 };
 use std::alloc::Global;
 
@@ -145,22 +145,16 @@ const REFUSED: [(&[&str], &[u64], &[u64], Status, &str); 10] = [
     ),
 ];
 
-// Whether a run of these words over an index and a side file ends so, and starts each file under its name, the side file only where
-// the index is one.
+// Whether a run of these words over the files of an index and of a side file ends so, and starts each under its name, the side file
+// only where the index is one.
 fn is_refused(
     alloc: Global,
     words: &[&str],
-    index: &[u64],
-    side: &[u64],
+    files: FileList,
     status: Status,
     line: &str,
 ) -> Option<bool> {
-    let run = steady_run(
-        alloc,
-        words,
-        index_and_side(alloc, index, side)?,
-        TEXT.as_bytes(),
-    )?;
+    let run = steady_run(alloc, words, files, TEXT.as_bytes())?;
     let names = words.get(2..)?;
     let sides = if status == Status::Side { 1 } else { 0 };
     let started = run.started(Slot::Index, names.get(..1)?)
@@ -171,7 +165,8 @@ fn is_refused(
 #[test]
 fn broken_side_files_are_refused(rt: HostRuntime) {
     for (words, index, side, status, line) in REFUSED {
-        let right = is_refused(rt.alloc(), words, index, side, status, line);
+        let files = index_and_side(rt.alloc(), index, side).expect(&rt, "the two files");
+        let right = is_refused(rt.alloc(), words, files, status, line);
         assert_eq!(rt; right, Some(true), "{line}");
     }
 }

@@ -5,7 +5,7 @@ use pef_io::Slot;
 use pef_top::Status;
 use run_tables::{
     BUILD, BUILD_ONE, FileList, NO_LIST_WORDS, Numbers, ONE_LIST_PACKED, ONE_LIST_WORDS,
-    ONE_LIST_WORDS_OF_TWO, PACK, QUERY, documents_from, files_of, indexes_of, steady_run,
+    ONE_LIST_WORDS_OF_TWO, Outcome, PACK, QUERY, documents_from, files_of, indexes_of, steady_run,
     two_long_lists,
 };
 use std::alloc::Global;
@@ -129,16 +129,23 @@ const JOINED: [(&[&str], Indexes, &str, Result<&str, (Status, &str)>, usize); 13
     ),
 ];
 
-// Whether a run of these words over index files ends so, with replies or refused, and starts so many of its files, the first first.
-fn ends_so(
+// Runs these words over index files and this text.
+fn run_over_indexes(
     alloc: Global,
     words: &[&str],
     indexes: &[(&str, &[u64])],
     text: &str,
+) -> Option<Outcome> {
+    steady_run(alloc, words, indexes_of(alloc, indexes)?, text.as_bytes())
+}
+
+// Whether a run of these words ended so, with replies or refused, and started so many of its files, the first first.
+fn ended_so(
+    run: &Outcome,
+    words: &[&str],
     end: Result<&str, (Status, &str)>,
     starts: usize,
 ) -> Option<bool> {
-    let run = steady_run(alloc, words, indexes_of(alloc, indexes)?, text.as_bytes())?;
     let right = match end {
         Ok(replies) => {
             let told = run.out.bytes() == replies.as_bytes();
@@ -153,7 +160,8 @@ fn ends_so(
 #[test]
 fn indexes_are_one_collection_or_refused(rt: HostRuntime) {
     for (words, indexes, text, end, starts) in JOINED {
-        let right = ends_so(rt.alloc(), words, indexes, text, end, starts);
+        let run = run_over_indexes(rt.alloc(), words, indexes, text).expect(&rt, "a run");
+        let right = ended_so(&run, words, end, starts);
         assert_eq!(rt; right, Some(true), "{words:?} {end:?}");
     }
 }
@@ -171,7 +179,8 @@ fn at_most_64_indexes_are_joined(rt: HostRuntime) {
     ] {
         let words = words.get(..count).expect(&rt, "so many words");
         let index: Indexes = &[("y", &ONE_LIST_WORDS)];
-        let right = ends_so(rt.alloc(), words, index, text, end, starts);
+        let run = run_over_indexes(rt.alloc(), words, index, text).expect(&rt, "a run");
+        let right = ended_so(&run, words, end, starts);
         assert_eq!(rt; right, Some(true), "{count}");
     }
 }

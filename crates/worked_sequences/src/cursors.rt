@@ -1,7 +1,7 @@
 ghost use Rattle.std.specs.Prelude.{◌≤◌};
 
 use crate::reading::are_read_back;
-use crate::sequences::written;
+use crate::sequences::{Parted, written};
 use crate::steps::finds_long_steps;
 use part_cost::Format;
 use std::process::Abort;
@@ -104,7 +104,11 @@ fn five_parts_are_read_by_every_call(rt: HostRuntime) {
         let words = written(&rt, rt.alloc(), &values, &ends, format);
         assert!(rt; words.len() < 100);
         let bound = format.most_sum();
-        are_read_back(&rt, &words, &values, &ends, bound, format);
+        let parted = Parted {
+            values: &values,
+            ends: &ends,
+        };
+        are_read_back(&rt, &words, parted, bound, format);
         let view = SeqView::check(&words, 5, 29, bound, format).expect(&rt, "a sequence");
         goes_on(&rt, &view, &values);
         finds_long_steps(&rt, &view, &values);

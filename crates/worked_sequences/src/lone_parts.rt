@@ -28,18 +28,26 @@ fn moved_on(alloc: Global, words: &[u64], place: u32) -> Result<Vec<u64>, AllocE
     Ok(moved)
 }
 
-// The sequence of so many values whose one part stands alone at a place, where its bits are those
-// of some values. One value has none.
-fn standing_alone<'a>(
-    rt: &impl Abort,
+// Words, where in them the bits of m values begin, and the last of the values.
+#[derive(Clone, Copy)]
+struct LonePart<'a> {
     words: &'a [u64],
     place: u64,
     last: u64,
     m: u32,
-    format: Format,
-) -> SeqView<'a>
-    requires words { length words.now < 2 ^ 57 }
+}
+
+// The sequence whose one part stands alone so, where its bits are those of some values. One value has
+// none.
+fn standing_alone<'a>(rt: &impl Abort, lone: LonePart<'a>, format: Format) -> SeqView<'a>
+    requires words { length lone.words.now < 2 ^ 57 }
 {
+    let LonePart {
+        words,
+        place,
+        last,
+        m,
+    } = lone;
     formats_have_room();
     assert!(rt; last < format.most_sum() && place <= 64 * words.len() as u64);
     if m == 1 {
@@ -51,37 +59,36 @@ fn standing_alone<'a>(
     SeqView::standing_alone(words, place, last, m, format)
 }
 
-// Whether so many values from a first one on, each so far from the one before it, are read from the
-// bits of their one part alone, which begin at a place.
+// Whether values are read from the bits of their one part alone, which begin at a place.
 fn is_read_alone(
     rt: &impl Abort,
     alloc: Global,
-    count: u64,
-    first: u64,
-    step: u64,
+    values: &[u64],
     place: u32,
     format: Format,
-) -> Result<(), AllocError>
-    requires count { count < 2 ^ 20 }
-    requires first { first < 2 ^ 32 }
-    requires step { step < 2 ^ 10 }
-{
-    let values = numbers(alloc, first, count, step, None)?;
-    assert!(rt; 1 <= count && values.len() as u64 == count);
+) -> Result<(), AllocError> {
+    assert!(rt; 1 <= values.len() && values.len() < 1 << 20);
+    let count = values.len() as u64;
     let last = values[values.len() - 1];
-    let words = written(rt, alloc, &values, &[count], format);
+    let words = written(rt, alloc, values, &[count], format);
     let entry = format.entry_words() as usize;
     assert!(rt; entry <= words.len());
     let moved = moved_on(alloc, &words[entry..], place)?;
     assert!(rt; moved.len() < 1 << 28);
-    let view = standing_alone(rt, &moved, u64::from(place), last, count as u32, format);
-    is_read(rt, &view, &values, &[count]);
-    goes_on(rt, &view, &values);
+    let lone = LonePart {
+        words: &moved,
+        place: u64::from(place),
+        last,
+        m: count as u32,
+    };
+    let view = standing_alone(rt, lone, format);
+    is_read(rt, &view, values, &[count]);
+    goes_on(rt, &view, values);
     if count <= 2 {
-        finds_long_steps(rt, &view, &values);
-        gives_blocks(rt, &view, &values, 2);
+        finds_long_steps(rt, &view, values);
+        gives_blocks(rt, &view, values, 2);
     }
-    assert!(rt; first <= last && last < 1 << 48 && count <= last + 1);
+    assert!(rt; last < 1 << 48 && count <= last + 1);
     let bits = payload_bits(last + 1, count);
     assert_eq!(rt; view.cost(), format.charge().saturating_add(bits));
     assert_eq!(rt; view.common_step(1), 0);
@@ -101,7 +108,9 @@ fn a_part_is_read_alone(rt: HostRuntime) -> Result<(), Fail> {
             (5_000, 1_000, 1, Format::One),
             (5_000, 1_000, 129, Format::Three),
         ] {
-            is_read_alone(&rt, rt.alloc(), count, first, step, place, format)?;
+            let values = numbers(rt.alloc(), first, count, step, None)?;
+            assert_eq!(rt; values.len() as u64, count);
+            is_read_alone(&rt, rt.alloc(), &values, place, format)?;
         }
     }
     Ok(())
@@ -141,7 +150,13 @@ fn one_value_has_no_bits(rt: HostRuntime) {
             (&[0], 3),
         ] {
             assert!(rt; words.len() <= 1);
-            let view = standing_alone(&rt, words, place, last, 1, format);
+            let lone = LonePart {
+                words,
+                place,
+                last,
+                m: 1,
+            };
+            let view = standing_alone(&rt, lone, format);
             is_read(&rt, &view, &[last], &[1]);
             goes_on(&rt, &view, &[last]);
             finds_long_steps(&rt, &view, &[last]);

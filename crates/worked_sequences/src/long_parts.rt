@@ -1,5 +1,5 @@
 use crate::reading::are_read_back;
-use crate::sequences::{numbers, written};
+use crate::sequences::{Parted, numbers, written};
 use part_cost::Format;
 use std::alloc::Global;
 use std::process::Abort;
@@ -9,7 +9,7 @@ use std::test::Fail;
 fn stand_in_words(rt: &impl Abort, alloc: Global, values: &[u64], ends: &[u64], want: &[u64]) {
     let words = written(rt, alloc, values, ends, Format::Three);
     assert_eq!(rt; words.as_slice(), want);
-    are_read_back(rt, &words, values, ends, 1 << 48, Format::Three);
+    are_read_back(rt, &words, Parted { values, ends }, 1 << 48, Format::Three);
 }
 
 // 0 to 99,999, and 1,000,000 as a part of its own: the parts end 34,464 and 34,465 behind 2^16, and

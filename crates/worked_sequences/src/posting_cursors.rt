@@ -32,25 +32,33 @@ fn greatest_step(sums: &SeqView, m: u32) -> Option<u32>
     Some(most as u32)
 }
 
-// The two sequences of m documents below 1000 that these words of a format are, in so many parts,
-// and the greatest frequency.
-fn views<'a>(
-    rt: &impl Abort,
+// The words of documents and of sums in a format, and in how many parts each are.
+#[derive(Clone, Copy)]
+struct Words<'a> {
     format: Format,
     docs: &'a [u64],
-    sums: &'a [u64],
     doc_parts: u32,
+    sums: &'a [u64],
     sum_parts: u32,
-    m: u32,
-) -> (SeqView<'a>, SeqView<'a>, u32)
-    requires docs { length docs.now < 2 ^ 57 }
-    requires sums { length sums.now < 2 ^ 57 }
+}
+
+// The two sequences of m documents below 1000 that these words are, and the greatest frequency.
+fn views<'a>(rt: &impl Abort, words: Words<'a>, m: u32) -> (SeqView<'a>, SeqView<'a>, u32)
+    requires docs { length words.docs.now < 2 ^ 57 }
+    requires sums { length words.sums.now < 2 ^ 57 }
     ensures same_length { length result.0.values ≡ length result.1.values }
     ensures list { IsCursorList (postings_in result.0.values result.1.values) }
     ensures greatest { result.2 ≡ greatest_freq (postings_in result.0.values result.1.values) }
 {
     sequences_are_a_list();
     cursors_stand_in_lists();
+    let Words {
+        format,
+        docs,
+        doc_parts,
+        sums,
+        sum_parts,
+    } = words;
     let docs = SeqView::check(docs, doc_parts, m, 1000, format).expect(rt, "documents");
     let sums = SeqView::check(sums, sum_parts, m, format.most_sum(), format).expect(rt, "sums");
     let max = greatest_step(&sums, m).expect(rt, "frequencies that fit");
@@ -58,19 +66,11 @@ fn views<'a>(
 }
 
 // A cursor over them.
-fn opened<'a>(
-    rt: &impl Abort,
-    format: Format,
-    docs: &'a [u64],
-    sums: &'a [u64],
-    doc_parts: u32,
-    sum_parts: u32,
-    m: u32,
-) -> PostingCursor<'a>
-    requires docs { length docs.now < 2 ^ 57 }
-    requires sums { length sums.now < 2 ^ 57 }
+fn opened<'a>(rt: &impl Abort, words: Words<'a>, m: u32) -> PostingCursor<'a>
+    requires docs { length words.docs.now < 2 ^ 57 }
+    requires sums { length words.sums.now < 2 ^ 57 }
 {
-    let (docs, sums, max) = views(rt, format, docs, sums, doc_parts, sum_parts, m);
+    let (docs, sums, max) = views(rt, words, m);
     PostingCursor::new(docs, sums, max)
 }
 
@@ -117,11 +117,11 @@ fn two_docs_below<C: DocCursor>(cursor: &mut C, end: u64) -> (usize, [u64; 2]) {
     (count, docs)
 }
 
-// A format, the words of documents and of sums, and in how many parts the sums are.
-type Words = (Format, &'static [u64], &'static [u64], u32);
+// A format, the words of documents in one part and of sums, and in how many parts these are.
+type Row = (Format, &'static [u64], &'static [u64], u32);
 
 // Documents 0, 2 with frequencies 1, 5 in one part, and 1, 2 in two, in each format.
-const TWO_POSTINGS: [(Words, u32); 6] = [
+const TWO_POSTINGS: [(Row, u32); 6] = [
     (
         (
             Format::One,
@@ -163,7 +163,7 @@ const TWO_POSTINGS: [(Words, u32); 6] = [
 ];
 
 // Documents 0, 1, 2 with frequencies 1, 2, 3 in one part and in two.
-const THREE_POSTINGS: [Words; 3] = [
+const THREE_POSTINGS: [Row; 3] = [
     (
         Format::One,
         &[206_158_430_210, 0],
@@ -179,17 +179,24 @@ const THREE_POSTINGS: [Words; 3] = [
     (Format::Two, &[2, 3, 0], &[0, 1, 0, 5, 3, 0, 18], 2),
 ];
 
-// A cursor over so many documents, which are in one part.
-fn opened_at(rt: &impl Abort, words: &Words, m: u32) -> PostingCursor<'static> {
-    let (format, docs, sums, parts) = *words;
+// A cursor over so many documents of a row.
+fn opened_at(rt: &impl Abort, row: &Row, m: u32) -> PostingCursor<'static> {
+    let (format, docs, sums, sum_parts) = *row;
     assert!(rt; docs.len() < 10 && sums.len() < 10);
-    opened(rt, format, docs, sums, 1, parts, m)
+    let words = Words {
+        format,
+        docs,
+        doc_parts: 1,
+        sums,
+        sum_parts,
+    };
+    opened(rt, words, m)
 }
 
 #[test]
 fn reads_the_postings_back(rt: HostRuntime) {
-    for (words, freq) in &TWO_POSTINGS {
-        let mut cursor = opened_at(&rt, words, 2);
+    for (row, freq) in &TWO_POSTINGS {
+        let mut cursor = opened_at(&rt, row, 2);
         let told = (cursor.len(), cursor.max_freq());
         let read = next_three(&mut cursor);
         let still = (cursor.len(), cursor.max_freq());
@@ -204,7 +211,14 @@ fn reads_the_postings_back(rt: HostRuntime) {
 fn finds_the_first_posting(rt: HostRuntime) {
     let docs = [68_719_476_736, 0, 137_438_953_474, 0, 2];
     let sums = [68_719_476_736, 0, 137_438_953_474, 0, 2];
-    let (docs, sums, _) = views(&rt, Format::One, &docs, &sums, 2, 2, 2);
+    let words = Words {
+        format: Format::One,
+        docs: &docs,
+        doc_parts: 2,
+        sums: &sums,
+        sum_parts: 2,
+    };
+    let (docs, sums, _) = views(&rt, words, 2);
     for (d, posting) in [
         (0, Some((0, 1))),
         (1, Some((2, 2))),
@@ -220,7 +234,14 @@ fn finds_the_first_posting(rt: HostRuntime) {
 fn goes_to_a_document(rt: HostRuntime) {
     let docs = [137_438_953_474, 0, 5];
     let sums = [137_438_953_477, 0, 33];
-    let mut cursor = opened(&rt, Format::One, &docs, &sums, 1, 1, 2);
+    let words = Words {
+        format: Format::One,
+        docs: &docs,
+        doc_parts: 1,
+        sums: &sums,
+        sum_parts: 1,
+    };
+    let mut cursor = opened(&rt, words, 2);
     for (d, doc) in [
         (0, Some(0)),
         (1, Some(2)),
@@ -236,8 +257,8 @@ fn goes_to_a_document(rt: HostRuntime) {
 // Read from the second on: the first document is skipped.
 #[test]
 fn reads_on_from_a_document(rt: HostRuntime) {
-    for words in &THREE_POSTINGS {
-        let mut cursor = opened_at(&rt, words, 3);
+    for row in &THREE_POSTINGS {
+        let mut cursor = opened_at(&rt, row, 3);
         let second = next_of(&mut cursor, 1);
         let postings = [Some((1, 2)), Some((2, 3)), None];
         assert_eq!(rt; (second, next_three(&mut cursor)), (Some(1), postings));
@@ -247,8 +268,8 @@ fn reads_on_from_a_document(rt: HostRuntime) {
 // By their frequencies, before and behind a document that was read.
 #[test]
 fn goes_to_a_frequency(rt: HostRuntime) {
-    for words in &THREE_POSTINGS[..2] {
-        let mut cursor = opened_at(&rt, words, 3);
+    for row in &THREE_POSTINGS[..2] {
+        let mut cursor = opened_at(&rt, row, 3);
         for (f, found) in [
             (0, Some((0, 1))),
             (1, Some((0, 1))),
@@ -260,7 +281,7 @@ fn goes_to_a_frequency(rt: HostRuntime) {
         ] {
             assert_eq!(rt; frequent_of(&mut cursor, f), found, "at least {f}");
         }
-        let mut cursor = opened_at(&rt, words, 3);
+        let mut cursor = opened_at(&rt, row, 3);
         let first = next_posting(&mut cursor);
         let second = frequent_of(&mut cursor, 1);
         let common = cursor.common_freq(1);
@@ -274,7 +295,14 @@ fn tells_a_common_frequency(rt: HostRuntime) {
     let docs = [206_158_430_210, 0];
     let sums = written(&rt, rt.alloc(), &[0, 1, 101], &[2, 3], Format::One);
     assert!(rt; sums.len() < 100);
-    let mut cursor = opened(&rt, Format::One, &docs, &sums, 1, 2, 3);
+    let words = Words {
+        format: Format::One,
+        docs: &docs,
+        doc_parts: 1,
+        sums: &sums,
+        sum_parts: 2,
+    };
+    let mut cursor = opened(&rt, words, 3);
     let common = (cursor.common_freq(1), cursor.common_freq(2));
     assert_eq!(rt;
         (common, frequent_of(&mut cursor, 100)),
@@ -286,13 +314,13 @@ fn tells_a_common_frequency(rt: HostRuntime) {
 #[test]
 fn reads_the_postings_below(rt: HostRuntime) {
     let none = (0, [0, 0], [0, 0]);
-    for words in &THREE_POSTINGS {
-        let mut all = opened_at(&rt, words, 3);
+    for row in &THREE_POSTINGS {
+        let mut all = opened_at(&rt, row, 3);
         let first = (two_below(&mut all, 0), two_below(&mut all, 9));
         let last = (next_posting(&mut all), two_below(&mut all, 9));
         assert_eq!(rt; first, (none, (2, [0, 1], [1, 2])));
         assert_eq!(rt; last, (Some((2, 3)), none));
-        let mut behind = opened_at(&rt, words, 3);
+        let mut behind = opened_at(&rt, row, 3);
         let first = (two_docs_below(&mut behind, 1), two_below(&mut behind, 2));
         let last = (
             two_below(&mut behind, u64::MAX),
@@ -300,7 +328,7 @@ fn reads_the_postings_below(rt: HostRuntime) {
         );
         assert_eq!(rt; first, ((1, [0, 0]), (1, [1, 0], [2, 0])));
         assert_eq!(rt; last, ((1, [2, 0], [3, 0]), (0, [0, 0])));
-        let mut last = opened_at(&rt, words, 3);
+        let mut last = opened_at(&rt, row, 3);
         let place = next_of(&mut last, 2);
         let read = (two_below(&mut last, 2), two_below(&mut last, 3));
         assert_eq!(rt; (place, read), (Some(2), (none, (1, [2, 0], [3, 0]))));
@@ -310,7 +338,14 @@ fn reads_the_postings_below(rt: HostRuntime) {
 #[test]
 fn an_empty_list_is_at_its_end(rt: HostRuntime) {
     for format in [Format::One, Format::Two, Format::Three] {
-        let mut cursor = opened(&rt, format, &[], &[], 0, 0, 0);
+        let words = Words {
+            format,
+            docs: &[],
+            doc_parts: 0,
+            sums: &[],
+            sum_parts: 0,
+        };
+        let mut cursor = opened(&rt, words, 0);
         assert_eq!(rt; (cursor.len(), cursor.max_freq()), (0, 0));
         let read = (next_of(&mut cursor, 0), two_below(&mut cursor, 9));
         assert_eq!(rt; read, (None, (0, [0, 0], [0, 0])));
@@ -344,7 +379,14 @@ fn keeps_marks_in_whole_words(rt: HostRuntime) {
         some,
     ];
     let sums = [(320 << 36) + 319, 0];
-    let mut cursor = opened(&rt, Format::One, &docs, &sums, 2, 1, 320);
+    let words = Words {
+        format: Format::One,
+        docs: &docs,
+        doc_parts: 2,
+        sums: &sums,
+        sum_parts: 1,
+    };
+    let mut cursor = opened(&rt, words, 320);
     for (doc, first, words, marks) in [
         (0, 0, 2, [all, all]),
         (0, 64, 1, [all, all]),

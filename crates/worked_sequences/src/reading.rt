@@ -1,5 +1,5 @@
 use crate::checks::found;
-use crate::sequences::{numbers, written};
+use crate::sequences::{Parted, numbers, written};
 use part_cost::Format;
 use std::process::Abort;
 use std::test::Fail;
@@ -79,16 +79,16 @@ pub(crate) fn is_read(rt: &impl Abort, view: &SeqView, values: &[u64], ends: &[u
     has_parts(rt, view, values, ends);
 }
 
-// Whether words are accepted as those of values below a bound in parts that end at such places, and
-// are read back, once they are checked and where they are known.
+// Whether words are accepted as those of values below a bound in parts, and are read back, once they
+// are checked and where they are known.
 pub(crate) fn are_read_back(
     rt: &impl Abort,
     words: &[u64],
-    values: &[u64],
-    ends: &[u64],
+    parted: Parted<'_>,
     bound: u64,
     format: Format,
 ) {
+    let Parted { values, ends } = parted;
     assert!(rt; words.len() < 1 << 28 && values.len() < 1 << 28 && ends.len() < 1 << 28);
     assert!(rt; bound <= format.most_sum());
     let (parts, m) = (ends.len() as u32, values.len() as u32);
@@ -194,7 +194,11 @@ fn two_values_are_read_back(rt: HostRuntime) {
             1 << 48,
         ),
     ] {
-        are_read_back(&rt, words, &values, ends, bound, format);
+        let parted = Parted {
+            values: &values,
+            ends,
+        };
+        are_read_back(&rt, words, parted, bound, format);
     }
 }
 
@@ -209,7 +213,11 @@ fn a_whole_range_takes_its_entry_alone(rt: HostRuntime) -> Result<(), Fail> {
         let values = numbers(rt.alloc(), 0, 1_000, 1, None)?;
         let words = written(&rt, rt.alloc(), &values, &[1_000], format);
         assert_eq!(rt; words.as_slice(), want);
-        are_read_back(&rt, want, &values, &[1_000], 1_000, format);
+        let parted = Parted {
+            values: &values,
+            ends: &[1_000],
+        };
+        are_read_back(&rt, want, parted, 1_000, format);
     }
     Ok(())
 }
@@ -225,7 +233,11 @@ fn a_part_with_a_sample_is_read_back(rt: HostRuntime) -> Result<(), Fail> {
         let words = written(&rt, rt.alloc(), &values, &[129, 130], format);
         assert!(rt; directory <= 6);
         assert_eq!(rt; words.len(), directory + 12);
-        are_read_back(&rt, &words, &values, &[129, 130], bound, format);
+        let parted = Parted {
+            values: &values,
+            ends: &[129, 130],
+        };
+        are_read_back(&rt, &words, parted, bound, format);
         assert_eq!(rt; words[directory + 10] >> 36 & 511, 288);
         for (word, bit, fault) in [
             (10, 36, (Check::K8, 0)),

@@ -59,6 +59,13 @@ pub(crate) fn numbers(
     Ok(values)
 }
 
+// Values in parts that end at such places.
+#[derive(Clone, Copy)]
+pub(crate) struct Parted<'a> {
+    pub(crate) values: &'a [u64],
+    pub(crate) ends: &'a [u64],
+}
+
 // The words of values in parts that end at such places.
 pub(crate) fn written(
     rt: &impl Abort,

@@ -1,4 +1,4 @@
-use crate::sequences::written;
+use crate::sequences::{Parted, written};
 use part_cost::Format;
 use std::alloc::Global;
 use std::process::Abort;
@@ -74,16 +74,15 @@ fn tells_common_steps(rt: HostRuntime) {
     }
 }
 
-// Whether values in parts have such a greatest step from one place up to another, and cost so much.
-fn has_step(
+// The greatest step of values in parts from one place up to another, and what they cost.
+fn step_and_cost(
     rt: &impl Abort,
     alloc: Global,
     format: Format,
-    values: &[u64],
-    ends: &[u64],
+    parted: Parted<'_>,
     span: (u32, u32),
-    want: (u64, u64),
-) {
+) -> (u64, u64) {
+    let Parted { values, ends } = parted;
     let words = written(rt, alloc, values, ends, format);
     assert!(rt; words.len() < 1 << 28 && values.len() < 1 << 28 && ends.len() < 1 << 28);
     let (parts, m) = (ends.len() as u32, values.len() as u32);
@@ -93,7 +92,7 @@ fn has_step(
     let (from, to) = span;
     assert!(rt; from <= to && to <= m);
     assert_eq!(rt; checked.used, words.len() as u64);
-    assert_eq!(rt; (view.greatest_step(from, to), view.cost()), want);
+    (view.greatest_step(from, to), view.cost())
 }
 
 // 0, 2 in one part and in two, which have 3 and 2 payload bits beside their entries, and up to the
@@ -118,6 +117,7 @@ fn finds_the_greatest_step(rt: HostRuntime) {
         (Format::Two, &[0, 2], &[1, 2], (0, 2), (2, 386)),
         (Format::Three, &[0, 2], &[1, 2], (0, 2), (2, 258)),
     ] {
-        has_step(&rt, rt.alloc(), format, values, ends, span, want);
+        let told = step_and_cost(&rt, rt.alloc(), format, Parted { values, ends }, span);
+        assert_eq!(rt; told, want);
     }
 }

@@ -31,13 +31,13 @@ pub returns-clause-list : goal.returns-clause-list
 returns-clause-list g c =
     let docs : SequenceView = c.expect-docs.result in
     let sums : SequenceView = c.expect-sums.result in
-    let d : (used : ℕ) × BeginsSequence (numbers_of c.args.format) c.args.m 1000 c.args.doc_parts docs.values docs.ends c.args.docs.now used =
-    IfOk-at_ok (λ v. (used : ℕ) × BeginsSequence (numbers_of c.args.format) c.args.m 1000 c.args.doc_parts v.values v.ends c.args.docs.now used) c.expect-docs.ensures c.check.ensures.ok in
-    let s : (used : ℕ) × BeginsSequence (numbers_of c.args.format) c.args.m (numbers_of c.args.format).most_sum c.args.sum_parts sums.values sums.ends c.args.sums.now used =
-    IfOk-at_ok (λ v. (used : ℕ) × BeginsSequence (numbers_of c.args.format) c.args.m (numbers_of c.args.format).most_sum c.args.sum_parts v.values v.ends c.args.sums.now used) c.expect-sums.ensures
-    (subst (λ bound. IfOk c.check-2.result (λ v. (used : ℕ) × BeginsSequence (numbers_of c.args.format) c.args.m bound c.args.sum_parts v.values v.ends c.args.sums.now used)) c.most_sum.ensures c.check-2.ensures.ok) in
+    let d : (used : ℕ) × BeginsSequence (numbers_of c.args.words.format) c.args.m 1000 c.args.words.doc_parts docs.values docs.ends c.args.words.docs.now used =
+    IfOk-at_ok (λ v. (used : ℕ) × BeginsSequence (numbers_of c.args.words.format) c.args.m 1000 c.args.words.doc_parts v.values v.ends c.args.words.docs.now used) c.expect-docs.ensures c.check.ensures.ok in
+    let s : (used : ℕ) × BeginsSequence (numbers_of c.args.words.format) c.args.m (numbers_of c.args.words.format).most_sum c.args.words.sum_parts sums.values sums.ends c.args.words.sums.now used =
+    IfOk-at_ok (λ v. (used : ℕ) × BeginsSequence (numbers_of c.args.words.format) c.args.m (numbers_of c.args.words.format).most_sum c.args.words.sum_parts v.values v.ends c.args.words.sums.now used) c.expect-sums.ensures
+    (subst (λ bound. IfOk c.check-2.result (λ v. (used : ℕ) × BeginsSequence (numbers_of c.args.words.format) c.args.m bound c.args.words.sum_parts v.values v.ends c.args.words.sums.now used)) c.most_sum.ensures c.check-2.ensures.ok) in
     let fit : All (λ f. f < 2 ^ 32) (steps_from 0 sums.values) = subst (λ o. IfSome o (λ x. All (λ f. f < 2 ^ 32) (steps_from 0 sums.values))) c.expect-max.ensures c.greatest_step.ensures.fit in
-    cursor-list c.sequences_are_a_list.ensures c.cursors_stand_in_lists.ensures (numbers_of c.args.format) docs.values sums.values docs.ends sums.ends c.args.docs.now c.args.sums.now c.args.m c.args.doc_parts c.args.sum_parts d s fit
+    cursor-list c.sequences_are_a_list.ensures c.cursors_stand_in_lists.ensures (numbers_of c.args.words.format) docs.values sums.values docs.ends sums.ends c.args.words.docs.now c.args.words.sums.now c.args.m c.args.words.doc_parts c.args.words.sum_parts d s fit
 
 pub returns-clause-greatest : goal.returns-clause-greatest
 returns-clause-greatest g c =
