@@ -13,7 +13,8 @@ use Rattle.part_cost.proofs.Partitions.{few-parts}
 use Rattle.part_cost.specs.Span.{past, payload_of_part}
 use Rattle.two_level.specs.EntryWords.{entry, entry_in}
 use Rattle.two_level.specs.SequenceWords.{directory_from, payload_from, sequence_words}
-use Rattle.packed_list.specs.ListBits.{head_bits, sequence_bits, docs_bits, freqs_bits, list_bits}
+use Rattle.packed_sequence.specs.SequenceBits.{sequence_bits}
+use Rattle.packed_list.specs.ListBits.{head_bits, docs_bits, freqs_bits, list_bits}
 use Rattle.index_file.specs.FileWords.{CutList, ListParts, ArePartitions, doc_words, freq_words, lists_words, plain_words, words_of_kind, with_parts}
 use Rattle.index_file.specs.PackedWords.{first_list_bit, bits_of_list, bits_of_lists, packed_words}
 use Rattle.index_file.specs.Builder.{most_words}

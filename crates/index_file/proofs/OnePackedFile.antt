@@ -18,10 +18,11 @@ use Rattle.part_codec.specs.PartBits.{part_bits}
 use Rattle.part_codec.specs.Laws.{PartIsBits, TakesItsPayload, OneListAtPlace}
 use Rattle.two_level.specs.SequenceWords.{sequence_words}
 use Rattle.packed_list.specs.Gamma.{gamma}
-use Rattle.packed_list.specs.ListBits.{parted_bits, head_bits, docs_bits, freqs_bits, list_bits, IsCutInto}
+use Rattle.packed_sequence.specs.SequenceBits.{parted_bits}
+use Rattle.packed_list.specs.ListBits.{head_bits, docs_bits, freqs_bits, list_bits, IsCutInto}
 use Rattle.packed_list.specs.Laws.{OnePackedList}
 use Rattle.packed_list.proofs.GammaCodes.{gamma-takes}
-use Rattle.packed_list.proofs.OneSequenceBits.{same-prefixes}
+use Rattle.packed_sequence.proofs.OneSequenceBits.{same-prefixes}
 use Rattle.index_file.specs.CutLists.{CutList}
 use Rattle.index_file.specs.PlainWords.{sizes_words}
 use Rattle.index_file.specs.PackedWords.{packed_magic, packed_end, first_list_bit, bits_of_list, bits_of_lists, starts_from, starts_bits}

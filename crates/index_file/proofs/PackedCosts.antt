@@ -22,7 +22,8 @@ use Rattle.postings.specs.Laws.{SequencesRise}
 use Rattle.two_level.specs.Laws.{TakesItsCost}
 use Rattle.two_level.specs.SequenceWords.{sequence_words}
 use Rattle.packed_list.specs.Gamma.{gamma}
-use Rattle.packed_list.specs.ListBits.{head_bits, sequence_bits, docs_bits, freqs_bits, list_bits, IsCutInto}
+use Rattle.packed_sequence.specs.SequenceBits.{sequence_bits}
+use Rattle.packed_list.specs.ListBits.{head_bits, docs_bits, freqs_bits, list_bits, IsCutInto}
 use Rattle.packed_list.proofs.GammaBack.{length-one_after}
 use Rattle.index_file.specs.CutLists.{CutList, ListParts}
 use Rattle.index_file.specs.PackedWords.{first_list_bit, bits_of_list, bits_of_lists}

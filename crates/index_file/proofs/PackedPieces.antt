@@ -12,7 +12,7 @@ use Rattle.bit_words.proofs.Value.{length-bits_of}
 use Rattle.collection_model.specs.FormatNumbers.{format_three}
 use Rattle.part_cost.specs.Payload.{widest_low, payload}
 use Rattle.part_codec.specs.Laws.{TakesItsPayload}
-use Rattle.packed_list.proofs.PartedPlaces.{bits-behind, words-stand}
+use Rattle.packed_sequence.proofs.PartedPlaces.{bits-behind, words-stand}
 use Rattle.index_file.specs.CutLists.{CutList}
 use Rattle.index_file.specs.PlainWords.{sizes_words}
 use Rattle.index_file.specs.PackedWords.{packed_magic, packed_end, bits_of_lists, starts_bits, packed_words}

@@ -184,7 +184,7 @@ impl<'a> Index<'a> {
         let list = self.list(t);
         match which {
             Which::Docs => stored_cost(&list.docs, format),
-            Which::Freqs => stored_cost(&list.freqs, format),
+            Which::Freqs => stored_cost(&list.freqs.into_view(), format),
         }
     }
 
@@ -210,7 +210,7 @@ impl<'a> Index<'a> {
         self.stands_for_a_collection();
         let list = self.list(t);
         let part = list.docs.part(q);
-        let greatest = list.freqs.greatest_step(part.from, part.to);
+        let greatest = list.freqs.into_view().greatest_step(part.from, part.to);
         (part.last as u32, greatest as u32)
     }
 
@@ -310,5 +310,6 @@ fn posting_from(words: &[u64], starts: &[u64], t: u32, d: u32, format: Format) -
 {
     file_laws();
     let list = list_views(words, starts, t, format);
-    first_posting(&list.docs, &list.freqs, d)
+    let freqs = list.freqs.into_view();
+    first_posting(&list.docs, &freqs, d)
 }

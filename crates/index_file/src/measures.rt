@@ -62,7 +62,7 @@ fn of_list(measure: Measure, words: &[u64], t: u32, format: Format) -> u64
     file_laws();
     sequence_takes_its_cost();
     let list = list_views(words, &words[..0], t, format);
-    of_sequence(measure, &list.docs) + of_sequence(measure, &list.freqs)
+    of_sequence(measure, &list.docs) + of_sequence(measure, &list.freqs.into_view())
 }
 
 // What the sequences of all lists of the words of an index add.

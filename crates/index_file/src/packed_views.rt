@@ -8,6 +8,7 @@ ghost use Rattle.index_file.specs.PackedView.{packed_list_stated};
 use crate::packed_checking::{FIRST_LIST_BIT, number_after, starts_part};
 use crate::packed_frame::{PackedFrame, packed_frame_of};
 use packed_list::{ListViews, view_list};
+use packed_sequence::LaterView;
 use part_codec::{PartCodec, PartView, one_list_at_place};
 use part_cost::Format;
 use two_level::SeqView;
@@ -87,7 +88,7 @@ pub(crate) fn packed_list_views<'a>(words: &'a [u64], starts: &[u64], t: u32) ->
     if range.from == range.to {
         return ListViews {
             docs: SeqView::without_values(Format::Three),
-            freqs: SeqView::without_values(Format::Three),
+            freqs: LaterView::read(SeqView::without_values(Format::Three)),
             greatest: 0,
         };
     }

@@ -12,6 +12,7 @@ use crate::laws::{file_laws, sequence_laws};
 use crate::lists::list_entry;
 use crate::packed_views::packed_list_views;
 use packed_list::ListViews;
+use packed_sequence::LaterView;
 use part_cost::Format;
 use two_level::SeqView;
 
@@ -57,7 +58,7 @@ fn plain_list_views<'a>(words: &'a [u64], t: u32, format: Format) -> ListViews<'
     let freqs = known_at(words, list.sums, list.sum_parts, list.len, format);
     ListViews {
         docs,
-        freqs,
+        freqs: LaterView::read(freqs),
         greatest: list.greatest,
     }
 }

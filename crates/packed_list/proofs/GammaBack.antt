@@ -1,7 +1,6 @@
 -- A gamma code is read back where it stands.
-use Rattle.std.proofs.Common.{◌≡◌, ℕ, ◌+◌, ◌-◌, ◌^◌, ◌<◌, ◌≤◌, List, [], ◌∷◌, ◌++◌, length, take, drop, get_or, replicate, sym, ap, ◌∙◌, arith}
+use Rattle.std.proofs.Common.{◌≡◌, ℕ, ◌+◌, ◌-◌, ◌^◌, ◌<◌, ◌≤◌, List, [], ◌∷◌, ◌++◌, length, drop, get_or, replicate, sym, ap, ◌∙◌, arith}
 use Rattle.std.specs.Prelude.{◌==◌}
-use Rattle.std.specs.List.{slice_range}
 use Rattle.std.proofs.Math.Nat.{mod-eq_of_lt}
 use Rattle.std.proofs.lemmas.List.{length-append, length-replicate, length-drop, get_or-drop, get_or-replicate, get_or_append_left, get_or-append_right}
 use Rattle.std.proofs.lemmas.List.Sums.{position_or_len_is}
@@ -12,6 +11,7 @@ use Rattle.part_cost.specs.Payload.{digits}
 use Rattle.packed_list.specs.Gamma.{gamma, gamma_at, behind_gamma, zeros_at}
 use Rattle.packed_list.specs.GammaLaws.{GammaReadsBack}
 use Rattle.packed_list.proofs.GammaCodes.{low-power, high-power}
+use Rattle.packed_sequence.proofs.LonePlaces.{piece-stands}
 
 pub length-one_after : (z : ℕ) → length (one_after z) ≡ z + 1
 length-one_after z = omega (arith, length-append {A = ℕ} (replicate z 0) (1 ∷ []), length-replicate {A = ℕ} z 0)
@@ -64,10 +64,6 @@ gamma-back bits at n some few h fit =
       ap (λ j. 2 ^ j + field_at bits (at + j + 1) j) zeros ∙ number,
       omega (arith, zeros, length-append (one_after z) (field_bits z v), length-one_after z, length-field_bits z v),
     )
-
--- bits from one place up to another, as a piece that stands there
-pub piece-stands : (bits : List ℕ) (at : ℕ) (piece : List ℕ) → slice_range bits at (at + length piece) ≡ piece → StandAt bits at piece
-piece-stands bits at piece h = ap (λ n. take n (drop at bits)) (let e : length piece ≡ at + length piece - at = omega arith in e) ∙ h
 
 pub gamma-reads-back : GammaReadsBack
 gamma-reads-back bits at n some few fit h = gamma-back bits at n some few (piece-stands bits at (gamma n) h) fit

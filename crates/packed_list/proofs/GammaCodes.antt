@@ -1,16 +1,17 @@
 -- Gamma codes: their bits, how many they are, and that bits begin with one only.
-use Rattle.std.proofs.Common.{◌≡◌, ℕ, zero, suc, ◌-◌, ◌*◌, ◌^◌, ◌<◌, ◌≤◌, List, [], ◌∷◌, ◌++◌, take, drop, get_or, replicate, refl, sym, ap, ◌∙◌, inl, inr, arith, append_assoc}
-use Rattle.std.proofs.Math.Nat.{mod-eq_of_lt, pow-suc}
+use Rattle.std.proofs.Common.{◌≡◌, ℕ, zero, suc, ◌-◌, ◌*◌, ◌^◌, ◌<◌, ◌≤◌, List, [], ◌∷◌, ◌++◌, drop, get_or, replicate, refl, sym, ap, ◌∙◌, inl, inr, arith, append_assoc}
+use Rattle.std.proofs.Math.Nat.{pow-suc}
 use Rattle.std.proofs.lemmas.Bool.{cases_lt}
-use Rattle.std.proofs.lemmas.List.{length-append, length-replicate, take_at, drop_at}
+use Rattle.std.proofs.lemmas.List.{length-append, length-replicate}
 use Rattle.std.proofs.lemmas.List.Elements.{All-nil, All-append, All-from_recursion}
-use Rattle.bit_words.specs.Bits.{AreBits, field_bits, bits_value, one_after}
-use Rattle.bit_words.proofs.Value.{value-field_bits, length-field_bits}
+use Rattle.bit_words.specs.Bits.{AreBits, field_bits, one_after}
+use Rattle.bit_words.proofs.Value.{length-field_bits}
 use Rattle.bit_words.proofs.AllBits.{bits-field}
 use Rattle.part_cost.specs.Payload.{digits}
 use Rattle.part_cost.proofs.DigitCounts.{digits-hold, digits-are-fewest}
 use Rattle.packed_list.specs.Gamma.{gamma}
 use Rattle.packed_list.specs.GammaLaws.{GammaTakes, OneGamma}
+use Rattle.packed_sequence.proofs.OneSequenceBits.{one-field_prefix}
 
 -- a number from 1 on has a digit, and lies between the powers of two of its digits
 pub some-digits : (n : ℕ) → 1 ≤ n → n < 2 ^ 64 → 1 ≤ digits n
@@ -43,14 +44,6 @@ spread : (n : ℕ) (behind : List ℕ) → gamma n ++ behind ≡ replicate (digi
 spread n behind =
     append_assoc (one_after (digits n - 1)) (field_bits (digits n - 1) (n - 2 ^ (digits n - 1))) behind
     ∙ append_assoc (replicate (digits n - 1) 0) (1 ∷ []) (field_bits (digits n - 1) (n - 2 ^ (digits n - 1)) ++ behind)
-
--- fields of one width before other bits are of one number only
-pub one-field_prefix : (w v u : ℕ) (xs ys : List ℕ) → v < 2 ^ w → u < 2 ^ w → field_bits w v ++ xs ≡ field_bits w u ++ ys → (v ≡ u) × (xs ≡ ys)
-one-field_prefix w v u xs ys fit also h =
-    let same : field_bits w v ≡ field_bits w u = sym (take_at (field_bits w v) xs w (length-field_bits w v)) ∙ ap (take w) h ∙ take_at (field_bits w u) ys w (length-field_bits w u) in (
-      sym (mod-eq_of_lt fit) ∙ sym (value-field_bits w v) ∙ ap bits_value same ∙ value-field_bits w u ∙ mod-eq_of_lt also,
-      sym (drop_at (field_bits w v) xs w (length-field_bits w v)) ∙ ap (drop w) h ∙ drop_at (field_bits w u) ys w (length-field_bits w u),
-    )
 
 pub one-gamma : OneGamma
 one-gamma n m behind others some fit also fits h =

@@ -11,7 +11,8 @@ use Rattle.part_cost.specs.Payload.{digits}
 use Rattle.part_cost.proofs.DigitCounts.{digits-hold, digits-are-fewest}
 use Rattle.packed_list.specs.Gamma.{gamma, gamma_length, gamma_at, IsGammaBefore}
 use Rattle.packed_list.proofs.GammaCodes.{some-digits, gamma-takes}
-use Rattle.packed_list.proofs.GammaBack.{length-one_after, zero-of, one-of, zero-stands, one-stands, piece-stands, gamma-back}
+use Rattle.packed_sequence.proofs.LonePlaces.{piece-stands}
+use Rattle.packed_list.proofs.GammaBack.{length-one_after, zero-of, one-of, zero-stands, one-stands, gamma-back}
 
 -- a number whose highest digit has so many behind it
 digits-are : (z f : ℕ) → z < 32 → f < 2 ^ z → digits (2 ^ z + f) ≡ z + 1

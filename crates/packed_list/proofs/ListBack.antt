@@ -19,12 +19,16 @@ use Rattle.two_level.specs.SequenceView.{SequenceView}
 use Rattle.two_level.specs.Laws.{OneSequence, WordsState, SequencesPassChecks}
 use Rattle.postings.specs.Laws.{SequencesRise}
 use Rattle.packed_list.specs.Gamma.{gamma, gamma_at, behind_gamma}
-use Rattle.packed_list.specs.ListBits.{last_doc, last_sum, head_bits, docs_bits, freqs_bits, list_bits, IsCutInto}
-use Rattle.packed_list.specs.ListStated.{SequenceAt, ListStated, sequence_at, single_at, sequences_at, list_at}
-use Rattle.packed_list.specs.Laws.{SequenceWordsFit, ListsStateBack}
-use Rattle.packed_list.proofs.GammaBack.{gamma-back, piece-stands}
+use Rattle.packed_sequence.specs.SequenceBits.{last_doc, last_sum}
+use Rattle.packed_list.specs.ListBits.{head_bits, docs_bits, freqs_bits, list_bits, IsCutInto}
+use Rattle.packed_sequence.specs.SequenceStated.{SequenceAt, sequence_at}
+use Rattle.packed_list.specs.ListStated.{ListStated, single_at, sequences_at, list_at}
+use Rattle.packed_sequence.specs.Laws.{SequenceWordsFit}
+use Rattle.packed_list.specs.Laws.{ListsStateBack}
+use Rattle.packed_sequence.proofs.LonePlaces.{piece-stands}
+use Rattle.packed_list.proofs.GammaBack.{gamma-back}
 use Rattle.packed_list.proofs.OneListBits.{HasSome, has-some, docs-stored, freqs-stored, one-cut}
-use Rattle.packed_list.proofs.SequenceBack.{sequence-back}
+use Rattle.packed_sequence.proofs.SequenceBack.{sequence-back}
 
 -- what a list states
 abbrev listed : List Posting → List ℕ → List ℕ → ListStated

@@ -6,7 +6,8 @@ use Rattle.collection_model.specs.Collection.{Posting, greatest_freq}
 use Rattle.collection_model.specs.Sequences.{doc_sequence, freq_sequence}
 use Rattle.part_cost.specs.Payload.{digits}
 use Rattle.packed_list.specs.Gamma.{gamma}
-use Rattle.packed_list.specs.ListBits.{last_doc, last_sum, sequence_bits, list_bits}
+use Rattle.packed_sequence.specs.SequenceBits.{last_doc, last_sum, sequence_bits}
+use Rattle.packed_list.specs.ListBits.{list_bits}
 
 -- its head, and the bits of one posting and of more behind it
 abbrev pub head-of : ℕ → ℕ → List ℕ

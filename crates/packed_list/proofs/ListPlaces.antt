@@ -20,30 +20,21 @@ use Rattle.part_codec.specs.Laws.{TakesItsPayload, OneListAtPlace}
 use Rattle.two_level.specs.Laws.{OneSequence}
 use Rattle.postings.specs.Laws.{SequencesGiveTheirList, SequencesRise, SequencesAreAList}
 use Rattle.packed_list.specs.declared.check.Found.{Found}
-use Rattle.packed_list.specs.declared.last_field.LastField.{LastField}
+use Rattle.packed_sequence.specs.declared.last_field.LastField.{LastField}
 use Rattle.packed_list.specs.Gamma.{gamma, gamma_length, IsGammaBefore}
-use Rattle.packed_list.specs.ListBits.{last_doc, last_sum, sequence_bits, head_bits, list_bits, IsStored}
-use Rattle.packed_list.specs.ListPlaces.{IsSequenceBefore, IsFound, tail_bits, IsTailBetween, IsListBetween, HoldsList, HoldsTail, OneSequenceAtPlace}
-use Rattle.packed_list.specs.Laws.{SequenceWordsFit}
+use Rattle.packed_sequence.specs.SequenceBits.{last_doc, last_sum, sequence_bits, IsStored}
+use Rattle.packed_list.specs.ListBits.{head_bits, list_bits}
+use Rattle.packed_sequence.specs.SequencePlaces.{IsSequenceBefore, OneSequenceAtPlace}
+use Rattle.packed_list.specs.ListPlaces.{IsFound, tail_bits, IsTailBetween, IsListBetween, HoldsList, HoldsTail}
+use Rattle.packed_sequence.specs.Laws.{SequenceWordsFit}
 use Rattle.packed_list.proofs.GammaCodes.{gamma-takes}
-use Rattle.packed_list.proofs.GammaBack.{piece-stands}
+use Rattle.packed_sequence.proofs.LonePlaces.{piece-stands}
 use Rattle.packed_list.proofs.GammaReads.{one-number}
-use Rattle.packed_list.proofs.LonePlaces.{stands-piece}
-use Rattle.packed_list.proofs.PartedPlaces.{range-stands, stands-range}
-use Rattle.packed_list.proofs.OneSequenceBits.{one-sequence-bits}
+use Rattle.packed_sequence.proofs.LonePlaces.{stands-piece}
+use Rattle.packed_sequence.proofs.PartedPlaces.{range-stands, stands-range}
+use Rattle.packed_sequence.proofs.OneSequenceBits.{one-sequence-bits}
 use Rattle.packed_list.proofs.OneListBits.{HasSome, has-some, each-at_most, docs-stored, freqs-stored}
 use Rattle.packed_list.proofs.ListPieces.{count-docs}
-
--- one sequence stands at a place
-pub one-at-place : TakesItsPayload → OneListAtPlace → BitsOfAppended → WordsOfBits → OneSequence format_three → SequenceWordsFit → OneSequenceAtPlace
-one-at-place payloads one_part appended whole one fit last m bound other bits at end to xs ys ends cuts many few h k =
-    let a : List ℕ = sequence_bits last at xs ends in
-    let b : List ℕ = sequence_bits last at ys cuts in
-    let rest : List ℕ = drop at bits in
-    let first : a ++ drop (length a) rest ≡ rest = ap (λ zs. zs ++ drop (length a) rest) (sym (piece-stands bits at a h.stands)) ∙ take-append-drop (length a) rest in
-    let second : b ++ drop (length b) rest ≡ rest = ap (λ zs. zs ++ drop (length b) rest) (sym (piece-stands bits at b k.stands)) ∙ take-append-drop (length b) rest in
-    let r = one-sequence-bits payloads one_part appended whole one fit m many few last at xs ys ends cuts (drop (length a) rest) (drop (length b) rest) h.stored k.stored (first ∙ sym second) in
-    (r.0, r.1)
 
 -- what stands behind the head of a list of two postings and more
 abbrev pub many-tail : ℕ → ℕ → ℕ → ℕ → List ℕ → List ℕ → List ℕ → List ℕ → List ℕ

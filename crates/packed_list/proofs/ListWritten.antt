@@ -8,10 +8,11 @@ use Rattle.collection_model.specs.FormatNumbers.{format_three}
 use Rattle.collection_model.specs.Collection.{Posting, greatest_freq}
 use Rattle.part_cost.specs.Payload.{digits}
 use Rattle.postings.specs.Laws.{SequencesRise}
-use Rattle.packed_list.specs.declared.last_field.LastField.{LastField}
+use Rattle.packed_sequence.specs.declared.last_field.LastField.{LastField}
 use Rattle.packed_list.specs.declared.write.ListParts.{ListParts}
 use Rattle.packed_list.specs.Gamma.{gamma, gamma_length}
-use Rattle.packed_list.specs.ListBits.{last_doc, last_sum, sequence_bits, list_bits, IsStored}
+use Rattle.packed_sequence.specs.SequenceBits.{last_doc, last_sum, sequence_bits, IsStored}
+use Rattle.packed_list.specs.ListBits.{list_bits}
 use Rattle.packed_list.specs.ListParts.{IsPartsOf}
 use Rattle.packed_list.proofs.Appending.{appends-some}
 use Rattle.packed_list.proofs.GammaCodes.{gamma-takes}

@@ -14,7 +14,7 @@ use Rattle.bit_words.proofs.Pieces.{StandAt, stands-at, stands-from, field-below
 use Rattle.part_cost.specs.Payload.{digits}
 use Rattle.packed_list.specs.Gamma.{gamma, gamma_length, IsGammaBefore, AreGammasBefore}
 use Rattle.packed_list.proofs.GammaCodes.{some-digits, gamma-takes}
-use Rattle.packed_list.proofs.GammaBack.{piece-stands}
+use Rattle.packed_sequence.proofs.LonePlaces.{piece-stands}
 use Rattle.packed_list.proofs.WindowBits.{shifted-down}
 use Rattle.packed_list.proofs.GammaReads.{code-first, read-stands, behind-is, number-is, one-number}
 

@@ -19,10 +19,13 @@ use Rattle.part_codec.specs.Laws.{TakesItsPayload, OneListAtPlace}
 use Rattle.two_level.specs.Laws.{OneSequence}
 use Rattle.postings.specs.Laws.{SequencesGiveTheirList, SequencesRise}
 use Rattle.packed_list.specs.Gamma.{gamma}
-use Rattle.packed_list.specs.ListBits.{last_doc, last_sum, sequence_bits, head_bits, docs_bits, freqs_bits, list_bits, IsStored, IsCutInto}
-use Rattle.packed_list.specs.Laws.{SequenceWordsFit, OnePackedList}
-use Rattle.packed_list.proofs.GammaCodes.{one-gamma, one-field_prefix}
-use Rattle.packed_list.proofs.OneSequenceBits.{one-sequence-bits}
+use Rattle.packed_sequence.specs.SequenceBits.{last_doc, last_sum, sequence_bits, IsStored}
+use Rattle.packed_list.specs.ListBits.{head_bits, docs_bits, freqs_bits, list_bits, IsCutInto}
+use Rattle.packed_sequence.specs.Laws.{SequenceWordsFit}
+use Rattle.packed_list.specs.Laws.{OnePackedList}
+use Rattle.packed_sequence.proofs.OneSequenceBits.{one-field_prefix}
+use Rattle.packed_list.proofs.GammaCodes.{one-gamma}
+use Rattle.packed_sequence.proofs.OneSequenceBits.{one-sequence-bits}
 
 -- the greatest of some numbers is no less than each, and is among those below a bound
 pub each-at_most : (fs : List ℕ) (k : ℕ) → k < length fs → get_or fs k 0 ≤ greatest fs

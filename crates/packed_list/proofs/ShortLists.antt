@@ -17,10 +17,11 @@ use Rattle.part_codec.specs.Laws.{TakesItsPayload}
 use Rattle.two_level.specs.Laws.{TakesItsCost}
 use Rattle.two_level.specs.SequenceWords.{sequence_words}
 use Rattle.postings.specs.Laws.{SequencesRise}
-use Rattle.packed_list.specs.declared.last_field.LastField.{LastField}
-use Rattle.packed_list.specs.ListBits.{last_doc, last_sum, sequence_bits, head_bits, IsStored}
+use Rattle.packed_sequence.specs.declared.last_field.LastField.{LastField}
+use Rattle.packed_sequence.specs.SequenceBits.{last_doc, last_sum, sequence_bits, IsStored}
+use Rattle.packed_list.specs.ListBits.{head_bits}
 use Rattle.packed_list.specs.Laws.{ListsAreShort}
-use Rattle.packed_list.proofs.LonePlaces.{relative}
+use Rattle.packed_sequence.proofs.LonePlaces.{relative}
 use Rattle.packed_list.proofs.OneListBits.{has-some, docs-stored, freqs-stored}
 use Rattle.packed_list.proofs.ListPlaces.{length-head_bits}
 

@@ -10,13 +10,14 @@ use Rattle.collection_model.specs.Collection.{Posting, greatest_freq}
 use Rattle.collection_model.specs.Sequences.{doc_sequence, freq_sequence}
 use Rattle.part_cost.specs.Payload.{digits}
 use Rattle.part_cost.proofs.DigitCounts.{digits-hold}
-use Rattle.packed_list.specs.declared.last_field.LastField.{LastField}
+use Rattle.packed_sequence.specs.declared.last_field.LastField.{LastField}
 use Rattle.packed_list.specs.ListBits.{list_bits}
-use Rattle.packed_list.specs.ListPlaces.{IsSequenceBefore, IsTailBetween, IsListBetween}
+use Rattle.packed_sequence.specs.SequencePlaces.{IsSequenceBefore}
+use Rattle.packed_list.specs.ListPlaces.{IsTailBetween, IsListBetween}
 use Rattle.packed_list.specs.ListStated.{list_at}
 use Rattle.packed_list.specs.Laws.{ListsStateBack}
 use Rattle.packed_list.proofs.OneListBits.{one-cut}
-use Rattle.packed_list.proofs.PartedPlaces.{range-stands}
+use Rattle.packed_sequence.proofs.PartedPlaces.{range-stands}
 use Rattle.packed_list.proofs.ListPlaces.{single-facts, length-range}
 
 -- what one posting is, by the document that is read

@@ -10,18 +10,13 @@ use Rattle.part_cost.specs.Span.{past}
 use Rattle.part_cost.specs.Partition.{IsPartition}
 use Rattle.part_codec.specs.PartBits.{part_bits}
 use Rattle.two_level.specs.SequenceWords.{sequence_words}
-use Rattle.packed_list.specs.declared.last_field.LastField.{LastField}
-use Rattle.packed_list.specs.ListBits.{lone_part_bits, parted_bits, sequence_bits}
+use Rattle.packed_sequence.specs.declared.last_field.LastField.{LastField}
+use Rattle.packed_sequence.specs.SequenceBits.{lone_part_bits, parted_bits, sequence_bits}
 use Rattle.packed_list.proofs.Appending.{appends-some}
 
 -- one part: its flag and its last value
 pub lone-head : (old a b : List ℕ) (w v : ℕ) → a ≡ old ++ (0 ∷ []) → b ≡ a ++ field_bits w v → b ≡ old ++ (0 ∷ field_bits w v)
 lone-head old a b w v e f = appends-both old a b (0 ∷ []) (field_bits w v) e f
-
-pub length-lone : (last : LastField) (xs : List ℕ) → length (lone_part_bits last xs) ≡ 1 + last.width + length (part_bits xs (past xs (length xs)))
-length-lone last xs =
-    let v : ℕ = past xs (length xs) - 1 - last.less in
-    omega (arith, length-append (0 ∷ field_bits last.width v) (part_bits xs (past xs (length xs))), length-field_bits last.width v)
 
 -- and then a prefix of the part
 pub lone-prefix : (old a b new xs : List ℕ) (last : LastField) (end : ℕ) → past xs (length xs) ≡ end + 1 → a ≡ old ++ (0 ∷ []) → b ≡ a ++ field_bits last.width (end - last.less)

@@ -1,20 +1,11 @@
 use Rattle.std.specs.Prelude.{◌≡◌, ℕ, ◌+◌, ◌*◌, ◌^◌, ◌<◌, ◌≤◌, List, length, slice_range}
 use Rattle.std.specs.List.{All}
-use Rattle.std.specs.List.Sorted.{IsStrictlyIncreasing}
 use Rattle.bit_words.specs.Bits.{bits_of}
 use Rattle.collection_model.specs.FormatNumbers.{format_three}
 use Rattle.collection_model.specs.Collection.{Posting, greatest_freq}
 use Rattle.collection_model.specs.Sequences.{doc_sequence, freq_sequence}
-use Rattle.part_cost.specs.Partition.{IsPartition}
-use Rattle.two_level.specs.SequenceWords.{sequence_words}
 use Rattle.packed_list.specs.ListBits.{list_bits, IsCutInto}
 use Rattle.packed_list.specs.ListStated.{list_at}
-
--- The words of a sequence of the third format, of fewer than 2 ^ 32 values, are below 2 ^ 64.
-abbrev pub SequenceWordsFit : Type 0
-SequenceWordsFit =
-    (xs ends : List ℕ) → IsStrictlyIncreasing xs → All (λ x. x < format_three.most_sum) xs → length xs < 2 ^ 32 → IsPartition (length xs) ends
-    → All (λ w. w < 2 ^ 64) (sequence_words format_three xs ends)
 
 -- Bits that begin at a place are those of one list over n documents, and of one partition of each
 -- of its sequences.

@@ -1,12 +1,12 @@
 ghost use Rattle.std.specs.Prelude.{◌≡◌, ℕ, ◌+◌, ◌*◌, ◌^◌, ◌<◌, ◌≤◌, ◌↔◌, IsTrue, List, length, slice_index, IfSome, IfNone};
 ghost use Rattle.bit_words.specs.Bits.{bits_of};
 ghost use Rattle.collection_model.specs.FormatNumbers.{format_three};
-ghost use Rattle.packed_list.specs.ListPlaces.{IsSequenceBefore, IsFound, IsPartedHead, HoldsTail, HoldsList};
+ghost use Rattle.packed_sequence.specs.SequencePlaces.{IsSequenceBefore, IsPartedHead};
+ghost use Rattle.packed_list.specs.ListPlaces.{IsFound, HoldsTail, HoldsList};
 
 use crate::gamma::gamma_before;
-use crate::last_field::{LastField, last_doc, last_sum};
-use crate::sequence_laws::{one_sequence_at_place, sequence_words_fit};
 use bit_words::{Bits, words_are_bits};
+use packed_sequence::{LastField, last_doc, last_sum, one_sequence_at_place, sequence_words_fit};
 use part_codec::{check_part_steps, part_takes_its_payload};
 use part_cost::{Format, PlacedPart, digits, parts_are_short, payload_bits};
 use postings::{sequences_are_a_list, sequences_give_their_list, sequences_of_a_list_rise};

@@ -4,9 +4,7 @@
 mod check;
 mod choice;
 mod gamma;
-mod last_field;
 mod list_laws;
-mod sequence_laws;
 mod view;
 mod window;
 mod write;

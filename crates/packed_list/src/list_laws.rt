@@ -1,6 +1,7 @@
 ghost use Rattle.packed_list.specs.Laws.{OnePackedList, ListsStateBack, ListsAreShort};
 
 use bit_words::words_are_bits;
+use packed_sequence::sequence_words_fit;
 use part_codec::{one_list_at_place, part_takes_its_payload};
 use part_cost::parts_are_short;
 use postings::{sequences_give_their_list, sequences_of_a_list_rise};
@@ -15,8 +16,8 @@ pub fn one_packed_list()
     words_are_bits();
     part_takes_its_payload();
     one_list_at_place();
-    parts_are_short();
     one_sequence();
+    sequence_words_fit();
     sequences_give_their_list();
     sequences_of_a_list_rise();
 }
@@ -28,8 +29,8 @@ pub fn lists_state_back()
     words_are_bits();
     part_takes_its_payload();
     one_list_at_place();
-    parts_are_short();
     one_sequence();
+    sequence_words_fit();
     words_state_their_sequence();
     sequences_pass_checks();
     sequences_of_a_list_rise();

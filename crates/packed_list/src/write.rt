@@ -6,13 +6,14 @@ ghost use Rattle.collection_model.specs.Collection.{Posting};
 ghost use Rattle.collection_model.specs.FormatNumbers.{format_three};
 ghost use Rattle.part_cost.specs.Partition.{IsPartition};
 ghost use Rattle.part_cost.specs.Span.{past};
-ghost use Rattle.packed_list.specs.ListBits.{lone_part_bits, parted_bits, sequence_bits, list_bits, IsStored};
+ghost use Rattle.packed_sequence.specs.SequenceBits.{lone_part_bits, parted_bits, sequence_bits, IsStored};
+ghost use Rattle.packed_list.specs.ListBits.{list_bits};
 ghost use Rattle.packed_list.specs.ListParts.{IsPartsOf};
 
 use crate::gamma::put_gamma;
-use crate::last_field::{LastField, last_doc, last_sum};
 use bit_words::BitWriter;
 use no_memory::NoMemory;
+use packed_sequence::{LastField, last_doc, last_sum};
 use part_codec::write_part;
 use part_cost::{Format, digits};
 use postings::sequences_of_a_list_rise;

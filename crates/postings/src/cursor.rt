@@ -8,6 +8,7 @@ ghost use Rattle.postings.specs.Blocks.{AreSumsFrom};
 
 use crate::sums::Sums;
 use cursor_api::{BlankCursor, DocCursor};
+use packed_sequence::LaterView;
 use part_cost::Format;
 use std::alloc::Global;
 use std::default::MadeWith;
@@ -53,7 +54,7 @@ fn sums_to_freqs(sums: &mut [u64], past: u64) -> u64
 impl<'a> PostingCursor<'a> {
     /// A cursor at the start of the list whose sequences these are, and whose greatest frequency is `max`, 0 where the list is
     /// empty.
-    pub fn new(docs: SeqView<'a>, freqs: SeqView<'a>, max: u32) -> PostingCursor<'a>
+    pub fn new(docs: SeqView<'a>, freqs: LaterView<'a>, max: u32) -> PostingCursor<'a>
         requires same_length { length docs.values ≡ length freqs.values }
         requires list { IsCursorList (postings_in docs.values freqs.values) }
         requires greatest { max ≡ greatest_freq (postings_in docs.values freqs.values) }
@@ -132,7 +133,7 @@ impl<'a> MadeWith<Global> for PostingCursor<'a> {
     fn made_with(_alloc: Global) -> PostingCursor<'a> {
         PostingCursor::new(
             SeqView::without_values(Format::One),
-            SeqView::without_values(Format::One),
+            LaterView::read(SeqView::without_values(Format::One)),
             0,
         )
     }

@@ -5,13 +5,14 @@ ghost use Rattle.two_level.specs.SequenceView.{SequencePlace, place_at_least};
 ghost use Rattle.two_level.specs.LongSteps.{count_reaching};
 ghost use Rattle.postings.specs.Sums.{place_of, IsOver};
 
+use packed_sequence::LaterView;
 use std::marker::Model;
-use two_level::{SeqCursor, SeqView};
+use two_level::SeqCursor;
 
 // The sums of a list's frequencies, and a place in them. No part of them is held to be read before one of them is asked.
 #[derive(Drop)]
 pub(crate) struct Sums<'a> {
-    view: SeqView<'a>,
+    view: LaterView<'a>,
     cursor: Option<SeqCursor<'a>>,
 }
 
@@ -27,7 +28,7 @@ impl<'a> Model for Sums<'a> {
 }
 
 // Opens a cursor over the sequence where there is none yet.
-fn open<'a>(view: &SeqView<'a>, cursor: &mut Option<SeqCursor<'a>>)
+fn open<'a>(view: &LaterView<'a>, cursor: &mut Option<SeqCursor<'a>>)
     requires over { IsOver view.now cursor.old }
     ensures { (c : SequencePlace) × (cursor.new ≡ Some c) × (c.sequence ≡ view.now)
         × (c.place ≡ place_of cursor.old) }
@@ -38,7 +39,7 @@ fn open<'a>(view: &SeqView<'a>, cursor: &mut Option<SeqCursor<'a>>)
 }
 
 // Opens a cursor at place k of the sequence where there is none yet.
-fn open_at<'a>(view: &SeqView<'a>, cursor: &mut Option<SeqCursor<'a>>, k: u32)
+fn open_at<'a>(view: &LaterView<'a>, cursor: &mut Option<SeqCursor<'a>>, k: u32)
     requires over { IsOver view.now cursor.old }
     requires within { k ≤ length view.now.values }
     ensures { (c : SequencePlace) × (cursor.new ≡ Some c) × (c.sequence ≡ view.now) }
@@ -50,7 +51,7 @@ fn open_at<'a>(view: &SeqView<'a>, cursor: &mut Option<SeqCursor<'a>>, k: u32)
 
 impl<'a> Sums<'a> {
     // The sums at their start.
-    pub(crate) fn new(view: SeqView<'a>) -> Sums<'a>
+    pub(crate) fn new(view: LaterView<'a>) -> Sums<'a>
         ensures sequence { result.sequence ≡ view.entry }
         ensures start { result.place ≡ 0 }
     {

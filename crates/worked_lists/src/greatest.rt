@@ -55,13 +55,14 @@ fn is_list(words: &[u64]) -> bool {
         return false;
     }
     let list = view_list(words, 0, BITS, 65_537);
+    let freqs = list.freqs.into_view();
     list.greatest == u32::MAX
         && list.docs.len() == 65_537
         && list.docs.get(65_536) == 65_536
-        && list.freqs.len() == 65_537
-        && list.freqs.get(0) == 4_294_967_294
-        && list.freqs.get(65_535) == 281_474_976_645_119
-        && list.freqs.get(65_536) == 281_474_976_710_655
+        && freqs.len() == 65_537
+        && freqs.get(0) == 4_294_967_294
+        && freqs.get(65_535) == 281_474_976_645_119
+        && freqs.get(65_536) == 281_474_976_710_655
 }
 
 // A sum of 2^48 is accepted, and one more is not.

@@ -45,9 +45,10 @@ fn states(words: &[u64], bits: u64, documents: u32, wanted: Wanted<'_>) -> bool 
         return false;
     }
     let list = view_list(words, 0, bits, documents);
+    let freqs = list.freqs.into_view();
     list.greatest == wanted.greatest
         && is_run_and(&list.docs, wanted.run, wanted.docs)
-        && is_run_and(&list.freqs, wanted.run, wanted.sums)
+        && is_run_and(&freqs, wanted.run, wanted.sums)
 }
 
 // How many of the lists of which one bit is flipped are accepted, and whether none of them is the

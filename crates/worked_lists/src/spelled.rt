@@ -88,16 +88,17 @@ fn is_full(words: &[u64], bits: u64, m: u32, freq: u32) -> bool {
         return false;
     }
     let list = view_list(words, 0, bits, m);
+    let freqs = list.freqs.into_view();
     !check_list(words, 0, bits, m - 1)
         && !check_list(words, 0, bits - 1, m)
         && list.greatest == freq
         && list.docs.len() == m
         && list.docs.parts() == 1
         && list.docs.get(m - 1) == u64::from(m - 1)
-        && list.freqs.len() == m
-        && list.freqs.parts() == 1
-        && list.freqs.get(m / 2) + 1 == u64::from(freq) * (u64::from(m / 2) + 1)
-        && list.freqs.get(m - 1) + 1 == u64::from(freq) * u64::from(m)
+        && freqs.len() == m
+        && freqs.parts() == 1
+        && freqs.get(m / 2) + 1 == u64::from(freq) * (u64::from(m / 2) + 1)
+        && freqs.get(m - 1) + 1 == u64::from(freq) * u64::from(m)
 }
 
 // Each frequency is 1: the sums take no bits either, and their last value has no digits.

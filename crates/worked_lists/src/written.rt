@@ -59,6 +59,7 @@ fn is_written(alloc: Global, zeros: u32, doc_ends: &[u64], sum_ends: &[u64], bit
         return false;
     }
     let view = view_list(&list.words, from, to, 3);
+    let freqs = view.freqs.into_view();
     !check_list(&list.words, from, to - 1, 3)
         && !check_list(&list.words, from + 1, to, 3)
         && view.greatest == 5
@@ -66,10 +67,10 @@ fn is_written(alloc: Global, zeros: u32, doc_ends: &[u64], sum_ends: &[u64], bit
         && view.docs.get(0) == 0
         && view.docs.get(1) == 2
         && view.docs.parts() as usize == doc_ends.len()
-        && view.freqs.len() == 2
-        && view.freqs.get(0) == 0
-        && view.freqs.get(1) == 5
-        && view.freqs.parts() as usize == sum_ends.len()
+        && freqs.len() == 2
+        && freqs.get(0) == 0
+        && freqs.get(1) == 5
+        && freqs.parts() as usize == sum_ends.len()
 }
 
 // One part each: 25 bits, as one word.

@@ -6,6 +6,7 @@ ghost use Rattle.cursor_api.specs.NextGeq.{IsCursorList};
 
 use crate::sequences::written;
 use cursor_api::DocCursor;
+use packed_sequence::LaterView;
 use part_cost::Format;
 use postings::{PostingCursor, cursors_stand_in_lists, first_posting, sequences_are_a_list};
 use std::process::Abort;
@@ -71,7 +72,7 @@ fn opened<'a>(rt: &impl Abort, words: Words<'a>, m: u32) -> PostingCursor<'a>
     requires sums { length words.sums.now < 2 ^ 57 }
 {
     let (docs, sums, max) = views(rt, words, m);
-    PostingCursor::new(docs, sums, max)
+    PostingCursor::new(docs, LaterView::read(sums), max)
 }
 
 // The posting at the place of a cursor, which then goes on.

@@ -24,7 +24,7 @@ of_sequence-requires-2 c =
     let narrow = narrow-words words (λ k. omega (arith, c.type_inv.words k)) in
     let f = framed c.file_laws.ensures.takes c.args.format words i.collection i.parts c.requires.index in
     let list = c.list_views-list in
-    let views = views-measured c.file_laws.ensures c.sequence_takes_its_cost.ensures c.args.measure c.args.format words narrow c.requires.words i.collection i.parts c.requires.index c.args.t (omega (arith, c.requires.within, f.terms)) list.result.docs list.result.freqs list.ensures.docs list.ensures.freqs in
+    let views = views-measured c.file_laws.ensures c.sequence_takes_its_cost.ensures c.args.measure c.args.format words narrow c.requires.words i.collection i.parts c.requires.index c.args.t (omega (arith, c.requires.within, f.terms)) list.result.docs c.into_view.result list.ensures.docs (c.into_view.ensures ∙ list.ensures.freqs) in
     record { measured = views.freqs }
 
 pub overflow_add-result : goal.overflow_add-result
@@ -34,7 +34,7 @@ overflow_add-result c =
     let narrow = narrow-words words (λ k. omega (arith, c.type_inv.words k)) in
     let f = framed c.file_laws.ensures.takes c.args.format words i.collection i.parts c.requires.index in
     let list = c.list_views-list in
-    let views = views-measured c.file_laws.ensures c.sequence_takes_its_cost.ensures c.args.measure c.args.format words narrow c.requires.words i.collection i.parts c.requires.index c.args.t (omega (arith, c.requires.within, f.terms)) list.result.docs list.result.freqs list.ensures.docs list.ensures.freqs in
+    let views = views-measured c.file_laws.ensures c.sequence_takes_its_cost.ensures c.args.measure c.args.format words narrow c.requires.words i.collection i.parts c.requires.index c.args.t (omega (arith, c.requires.within, f.terms)) list.result.docs c.into_view.result list.ensures.docs (c.into_view.ensures ∙ list.ensures.freqs) in
     omega (arith, c.of_sequence.ensures, c.of_sequence-2.ensures, views.docs.small, views.freqs.small)
 
 pub returns : goal.returns
@@ -44,5 +44,5 @@ returns c =
     let narrow = narrow-words words (λ k. omega (arith, c.type_inv.words k)) in
     let f = framed c.file_laws.ensures.takes c.args.format words i.collection i.parts c.requires.index in
     let list = c.list_views-list in
-    let views = views-measured c.file_laws.ensures c.sequence_takes_its_cost.ensures c.args.measure c.args.format words narrow c.requires.words i.collection i.parts c.requires.index c.args.t (omega (arith, c.requires.within, f.terms)) list.result.docs list.result.freqs list.ensures.docs list.ensures.freqs in
+    let views = views-measured c.file_laws.ensures c.sequence_takes_its_cost.ensures c.args.measure c.args.format words narrow c.requires.words i.collection i.parts c.requires.index c.args.t (omega (arith, c.requires.within, f.terms)) list.result.docs c.into_view.result list.ensures.docs (c.into_view.ensures ∙ list.ensures.freqs) in
     (λ i. c.of_sequence.ensures i + c.of_sequence-2.ensures i) ∙ views.adds

@@ -46,7 +46,7 @@ returns-then-range-clause-docs c =
 pub returns-then-range-clause-freqs : goal.returns-then-range-clause-freqs
 returns-then-range-clause-freqs c =
     let is = empty-stated c.args.words.now c.args.t (sym c.range_of_list-range.ensures.from ∙ c.if-range.true ∙ c.range_of_list-range.ensures.to) in
-    c.without_values-then-range.ensures ∙ ap (λ (s : ListStated). s.freqs) (sym is)
+    c.read.ensures ∙ c.without_values-then-range.ensures ∙ ap (λ (s : ListStated). s.freqs) (sym is)
 
 pub returns-then-range-clause-greatest : goal.returns-then-range-clause-greatest
 returns-then-range-clause-greatest c =

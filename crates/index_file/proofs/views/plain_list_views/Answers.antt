@@ -74,5 +74,5 @@ returns-clause-freqs c =
     let list = c.list_entry-list.result in
     let laws = c.sequence_laws.ensures c.args.format in
     let l = opened-list (numbers_of c.args.format) (formats-have-room c.args.format) laws words i.0 i.1 i.2 t c.requires.within in
-    c.known_at-freqs.ensures.same (freqs_view (numbers_of c.args.format) l.0) refl (begin-as words list.sums (term_word words t 1) list.len (stated_length words t) list.sum_parts (stated_freq_parts words t) (freqs_view (numbers_of c.args.format) l.0) c.list_entry-list.ensures.sums c.list_entry-list.ensures.len c.list_entry-list.ensures.sum_parts l.1.freqs)
+    c.read.ensures ∙ c.known_at-freqs.ensures.same (freqs_view (numbers_of c.args.format) l.0) refl (begin-as words list.sums (term_word words t 1) list.len (stated_length words t) list.sum_parts (stated_freq_parts words t) (freqs_view (numbers_of c.args.format) l.0) c.list_entry-list.ensures.sums c.list_entry-list.ensures.len c.list_entry-list.ensures.sum_parts l.1.freqs)
     ∙ sym (freqs-read (numbers_of c.args.format) laws words t l.0 l.1)

@@ -5,8 +5,8 @@ use Rattle.part_cost.specs.Payload.{payload}
 use Rattle.part_cost.specs.Span.{past}
 use Rattle.part_cost.specs.Stored.{HoldsPart}
 use Rattle.part_codec.specs.PartBits.{part_bits}
-use Rattle.packed_list.specs.ListPlaces.{IsSequenceBefore}
-use Rattle.packed_list.proofs.LonePlaces.{LoneFacts, lone-facts, lone-found}
+use Rattle.packed_sequence.specs.SequencePlaces.{IsSequenceBefore}
+use Rattle.packed_sequence.proofs.LonePlaces.{LoneFacts, lone-facts, lone-found}
 use Rattle.packed_list.proofs.check.check_lone.Goals as goal
 use Rattle.packed_list.proofs.check.check_lone.Goals.{After-part_takes_its_payload}
 

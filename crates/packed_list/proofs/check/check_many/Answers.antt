@@ -5,8 +5,9 @@ use Rattle.bit_words.specs.Bits.{bits_of}
 use Rattle.bit_words.proofs.Value.{length-bits_of}
 use Rattle.collection_model.specs.FormatNumbers.{format_three}
 use Rattle.collection_model.specs.Sequences.{doc_sequence, freq_sequence}
-use Rattle.packed_list.specs.ListBits.{last_doc, last_sum}
-use Rattle.packed_list.specs.ListPlaces.{IsFound, IsSequenceBefore, HoldsTail}
+use Rattle.packed_sequence.specs.SequenceBits.{last_doc, last_sum}
+use Rattle.packed_sequence.specs.SequencePlaces.{IsSequenceBefore}
+use Rattle.packed_list.specs.ListPlaces.{IsFound, HoldsTail}
 use Rattle.packed_list.proofs.ListPlaces.{TailFacts, tail-facts, many-found, found-as, before-as, FoundFacts, found-facts, sums-behind, ends-behind}
 use Rattle.packed_list.proofs.check.check_many.Goals as goal
 use Rattle.packed_list.proofs.check.check_many.Goals.{After-last_sum, In-Some, In-Some-check_sequence}

@@ -5,7 +5,7 @@ use Rattle.bit_words.specs.Bits.{bits_of}
 use Rattle.collection_model.specs.FormatNumbers.{format_three}
 use Rattle.part_cost.specs.Payload.{digits}
 use Rattle.two_level.specs.SequenceWords.{sequence_words}
-use Rattle.packed_list.proofs.PartedPlaces.{parted-found, parted-head, parted-begins}
+use Rattle.packed_sequence.proofs.PartedPlaces.{parted-found, parted-head, parted-begins}
 use Rattle.packed_list.proofs.check.check_parted.Goals as goal
 
 pub returns-in_default-clause-none : goal.returns-in_default-clause-none

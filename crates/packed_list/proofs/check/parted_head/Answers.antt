@@ -5,7 +5,7 @@ use Rattle.bit_words.proofs.Value.{bits-bits_of, length-bits_of}
 use Rattle.bit_words.proofs.Pieces.{field-below}
 use Rattle.part_cost.specs.Payload.{digits}
 use Rattle.part_cost.proofs.DigitCounts.{digits-are-fewest}
-use Rattle.packed_list.proofs.PartedPlaces.{head-read, read-head, zero-in-range}
+use Rattle.packed_sequence.proofs.PartedPlaces.{head-read, read-head, zero-in-range}
 use Rattle.packed_list.proofs.check.parted_head.Goals as goal
 
 -- a number is rounded up to words

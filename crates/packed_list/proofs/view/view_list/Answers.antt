@@ -8,15 +8,18 @@ use Rattle.collection_model.specs.Collection.{Posting, greatest_freq}
 use Rattle.collection_model.specs.Sequences.{doc_sequence, freq_sequence}
 use Rattle.part_cost.specs.Payload.{digits}
 use Rattle.two_level.specs.SequenceView.{SequenceView}
-use Rattle.packed_list.specs.declared.last_field.LastField.{LastField}
+use Rattle.packed_sequence.specs.declared.last_field.LastField.{LastField}
 use Rattle.packed_list.specs.Gamma.{gamma_length, IsGammaBefore}
-use Rattle.packed_list.specs.ListBits.{last_doc, last_sum, sequence_bits}
-use Rattle.packed_list.specs.ListPlaces.{IsSequenceBefore, IsTailBetween, HoldsList}
+use Rattle.packed_sequence.specs.SequenceBits.{last_doc, last_sum, sequence_bits}
+use Rattle.packed_sequence.specs.SequencePlaces.{IsSequenceBefore}
+use Rattle.packed_list.specs.ListPlaces.{IsTailBetween, HoldsList}
 use Rattle.packed_list.specs.Laws.{ListsStateBack}
 use Rattle.packed_list.proofs.ListPlaces.{facts-between, are-read, tail-behind, TailFacts, tail-facts, single-facts, before-as, not-empty}
 use Rattle.packed_list.proofs.StatedList.{single-read, StatesList, states-list, before-later, before-more}
+use Rattle.packed_sequence.specs.Behind.{place_behind}
+use Rattle.packed_sequence.specs.Sums.{AreSums}
 use Rattle.packed_list.proofs.view.view_list.Goals as goal
-use Rattle.packed_list.proofs.view.view_list.Goals.{After-last_doc-field, After-get-doc, After-last_sum-sums}
+use Rattle.packed_list.proofs.view.view_list.Goals.{After-last_doc-field, After-get-doc, After-known_sequence-docs}
 
 small-words : (words : List ℕ) → ((i : ℕ) → get_or words i 0 < 2 ^ 64) → All (λ w. w < 2 ^ 64) words
 small-words words h = All-from_get_or (λ w. w < 2 ^ 64) words 0 (λ i lt. h i)
@@ -110,11 +113,11 @@ docs-there c more =
     docs-stand c.args.documents c.two_gammas-head.result.first c.two_gammas-head.result.second c.args.words.now c.two_gammas-head.result.behind c.args.to c.last_doc-field.result c.requires.list.0 c.requires.list.1 c.requires.list.2 (omega (arith, c.ranges.documents.fits)) c.requires.range c.last_doc-field.ensures (several c more)
 
 -- and its sums behind them
-sums-there : (c : After-last_sum-sums)
-    → IsSequenceBefore c.last_sum-sums.result c.two_gammas-head.result.first format_three.most_sum (bits_of c.args.words.now) c.known_sequence-docs.result.behind (64 * length c.args.words.now) (freq_sequence c.requires.list.0) c.requires.list.2
+sums-there : (c : After-known_sequence-docs)
+    → AreSums c.args.words.now c.known_sequence-docs.result.behind c.two_gammas-head.result.first c.two_gammas-head.result.second (freq_sequence c.requires.list.0) c.requires.list.2
 sums-there c =
-    let place = c.known_sequence-docs.ensures.behind refl (doc_sequence c.requires.list.0) c.requires.list.1 (docs-there (goal.at.After-last_sum-sums c).After-last_doc-field c.if-head-eq1.false) in
-    sums-stand c.args.documents c.two_gammas-head.result.first c.two_gammas-head.result.second c.args.words.now c.two_gammas-head.result.behind c.args.to c.known_sequence-docs.result.behind c.last_sum-sums.result c.last_doc-field.result c.requires.list.0 c.requires.list.1 c.requires.list.2 c.requires.range c.last_doc-field.ensures c.last_sum-sums.ensures place (several (goal.at.After-last_sum-sums c).After-last_doc-field c.if-head-eq1.false)
+    let place = c.known_sequence-docs.ensures.behind refl (doc_sequence c.requires.list.0) c.requires.list.1 (docs-there (goal.at.After-known_sequence-docs c).After-last_doc-field c.if-head-eq1.false) in
+    sums-stand c.args.documents c.two_gammas-head.result.first c.two_gammas-head.result.second c.args.words.now c.two_gammas-head.result.behind c.args.to (place_behind c.known_sequence-docs.result.behind c.two_gammas-head.result.first) (last_sum c.two_gammas-head.result.first c.two_gammas-head.result.second) c.last_doc-field.result c.requires.list.0 c.requires.list.1 c.requires.list.2 c.requires.range c.last_doc-field.ensures refl place (several (goal.at.After-known_sequence-docs c).After-last_doc-field c.if-head-eq1.false)
 
 pub get-doc-requires-clause-range : goal.get-doc-requires-clause-range
 get-doc-requires-clause-range c =
@@ -141,7 +144,7 @@ returns-then-head-eq1-clause-freqs c =
     let r = single-read c.args.documents c.two_gammas-head.result.second (bits_of c.args.words.now) c.two_gammas-head.result.behind c.args.to c.requires.list.0 c.requires.list.1 c.requires.list.2 (omega (arith, c.ranges.documents.fits)) s.le s.fit (single (goal.at.returns-then-head-eq1-clause-freqs c).After-last_doc-field c.if-head-eq1.true) in
     let view : List ℕ → List ℕ → SequenceView = λ xs es. record { format = format_three; values = xs; ends = es } in
     let value : c.from-sum.result - 1 ≡ c.two_gammas-head.result.second - 1 = omega (arith, c.from-sum.ensures) in
-    c.standing_alone-then-head-eq1.ensures.one refl ∙ ap (λ d. view (d ∷ []) (1 ∷ [])) value ∙ ap (λ xs. view xs (1 ∷ [])) (sym r.sums) ∙ ap (view (freq_sequence c.requires.list.0)) (sym r.sum_end) ∙ sym (said (goal.at.returns-then-head-eq1-clause-freqs c).After-last_doc-field).freqs
+    c.read.ensures ∙ c.standing_alone-then-head-eq1.ensures.one refl ∙ ap (λ d. view (d ∷ []) (1 ∷ [])) value ∙ ap (λ xs. view xs (1 ∷ [])) (sym r.sums) ∙ ap (view (freq_sequence c.requires.list.0)) (sym r.sum_end) ∙ sym (said (goal.at.returns-then-head-eq1-clause-freqs c).After-last_doc-field).freqs
 
 pub returns-then-head-eq1-clause-greatest : goal.returns-then-head-eq1-clause-greatest
 returns-then-head-eq1-clause-greatest c = (read (goal.at.returns-then-head-eq1-clause-greatest c).After-last_doc-field).most ∙ sym (said (goal.at.returns-then-head-eq1-clause-greatest c).After-last_doc-field).most
@@ -149,14 +152,24 @@ returns-then-head-eq1-clause-greatest c = (read (goal.at.returns-then-head-eq1-c
 pub known_sequence-docs-requires-clause-stands : goal.known_sequence-docs-requires-clause-stands
 known_sequence-docs-requires-clause-stands c = (doc_sequence c.requires.list.0, c.requires.list.1, docs-there (goal.at.known_sequence-docs-requires-clause-stands c).After-last_doc-field c.if-head-eq1.false)
 
-pub known_sequence-freqs-requires-clause-stands : goal.known_sequence-freqs-requires-clause-stands
-known_sequence-freqs-requires-clause-stands c = (freq_sequence c.requires.list.0, c.requires.list.2, sums-there (goal.at.known_sequence-freqs-requires-clause-stands c).After-last_sum-sums)
+pub of_sums-requires : goal.of_sums-requires
+of_sums-requires c = record {
+  lent = c.requires.words;
+  words_fit = small-words c.args.words.now (λ i. (let f = c.type_inv.words i in omega (arith, f)));
+  many = omega (arith, (read (goal.at.of_sums-requires c).After-last_doc-field).some, c.if-head-eq1.false);
+  few = c.two_gammas-head.ensures.numbers.first.few;
+  some = c.two_gammas-head.ensures.numbers.second.some;
+  range = c.known_sequence-docs.ensures.range;
+  sums = freq_sequence c.requires.list.0;
+  ends = c.requires.list.2;
+  stand = sums-there (goal.at.of_sums-requires c).After-known_sequence-docs;
+}
 
 pub returns-clause-docs : goal.returns-clause-docs
 returns-clause-docs c = c.known_sequence-docs.ensures.view (doc_sequence c.requires.list.0) c.requires.list.1 (docs-there (goal.at.returns-clause-docs c).After-last_doc-field c.if-head-eq1.false) ∙ sym (said (goal.at.returns-clause-docs c).After-last_doc-field).docs
 
 pub returns-clause-freqs : goal.returns-clause-freqs
-returns-clause-freqs c = c.known_sequence-freqs.ensures.view (freq_sequence c.requires.list.0) c.requires.list.2 (sums-there (goal.at.returns-clause-freqs c).After-last_sum-sums) ∙ sym (said (goal.at.returns-clause-freqs c).After-last_doc-field).freqs
+returns-clause-freqs c = c.of_sums.ensures (freq_sequence c.requires.list.0) c.requires.list.2 (sums-there (goal.at.returns-clause-freqs c).After-known_sequence-docs) ∙ sym (said (goal.at.returns-clause-freqs c).After-last_doc-field).freqs
 
 pub returns-clause-greatest : goal.returns-clause-greatest
 returns-clause-greatest c = (read (goal.at.returns-clause-greatest c).After-last_doc-field).most ∙ sym (said (goal.at.returns-clause-greatest c).After-last_doc-field).most

@@ -8,7 +8,7 @@ use Rattle.part_cost.specs.Payload.{digits}
 use Rattle.part_cost.proofs.DigitCounts.{digits-hold}
 use Rattle.packed_list.specs.Gamma.{gamma, gamma_length}
 use Rattle.packed_list.proofs.GammaCodes.{gamma-takes}
-use Rattle.packed_list.specs.ListBits.{last_doc, last_sum, IsStored}
+use Rattle.packed_sequence.specs.SequenceBits.{last_doc, last_sum, IsStored}
 use Rattle.packed_list.proofs.ListPieces.{head-of, docs-of, count-docs, none-of, single-of}
 use Rattle.packed_list.proofs.ListWritten.{has-parts, docs-are, sums-are, stored-by, room-of-head, prefix-count, prefix-most, head-whole, length-behind, single-whole, single-prefix, docs-whole, docs-room, docs-prefix, sums-room, sums-prefix, sums-whole}
 use Rattle.packed_list.proofs.write.append_list.Goals as goal

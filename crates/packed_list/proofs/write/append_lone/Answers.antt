@@ -2,7 +2,8 @@ use Rattle.std.proofs.Common.{ℕ, ◌-◌, List, [], ◌∷◌, length, slice_i
 use Rattle.std.proofs.lemmas.List.{length-append}
 use Rattle.std.proofs.lemmas.Result.{on_err_weaker}
 use Rattle.part_cost.proofs.Parts.{past-at}
-use Rattle.packed_list.proofs.Written.{length-lone, lone-prefix}
+use Rattle.packed_sequence.proofs.LonePlaces.{length-lone}
+use Rattle.packed_list.proofs.Written.{lone-prefix}
 use Rattle.packed_list.proofs.write.append_lone.Goals as goal
 
 pub put-requires-2-clause-room : goal.put-requires-2-clause-room

@@ -25,7 +25,7 @@ greatest_step-greatest-requires-clause-within c =
     let now = c.args.self.now in
     let block = block-of-index now c.stands_for_a_collection.ensures.well_formed c.stands_for_a_collection.ensures.partitions c.args.t c.args.q c.requires.within c.requires.part in
     let part = subst (λ v. IsPartOf v c.args.q c.part-part.result) c.list-list.ensures.docs c.part-part.ensures in
-    omega (arith, block.within, block.sums, part.end, ap (λ v. length v.values) c.list-list.ensures.freqs)
+    omega (arith, block.within, block.sums, part.end, ap (λ v. length v.values) (c.into_view.ensures ∙ c.list-list.ensures.freqs))
 
 pub overflow_cast-result : goal.overflow_cast-result
 overflow_cast-result c =
@@ -43,7 +43,7 @@ overflow_cast-result-2 c =
     let part = subst (λ v. IsPartOf v c.args.q c.part-part.result) c.list-list.ensures.docs c.part-part.ensures in
     let sums : List ℕ = freq_sequence (list_of now.collection c.args.t) in
     let step : c.greatest_step-greatest.result ≡ greatest_step sums c.part-part.result.from c.part-part.result.to =
-    c.greatest_step-greatest.ensures ∙ ap (λ v. greatest_step v.values c.part-part.result.from c.part-part.result.to) c.list-list.ensures.freqs in
+    c.greatest_step-greatest.ensures ∙ ap (λ v. greatest_step v.values c.part-part.result.from c.part-part.result.to) (c.into_view.ensures ∙ c.list-list.ensures.freqs) in
     omega (arith, step, ap (λ k. greatest_step sums k c.part-part.result.to) part.start, ap (λ k. greatest_step sums (start_of_part (doc_ends_of now c.args.t) c.args.q) k) part.end, block.steps, block.small)
 
 pub returns-clause-last : goal.returns-clause-last
@@ -60,7 +60,7 @@ returns-clause-greatest c =
     let part = subst (λ v. IsPartOf v c.args.q c.part-part.result) c.list-list.ensures.docs c.part-part.ensures in
     let sums : List ℕ = freq_sequence (list_of now.collection c.args.t) in
     c.greatest_step-greatest.ensures
-    ∙ ap (λ v. greatest_step v.values c.part-part.result.from c.part-part.result.to) c.list-list.ensures.freqs
+    ∙ ap (λ v. greatest_step v.values c.part-part.result.from c.part-part.result.to) (c.into_view.ensures ∙ c.list-list.ensures.freqs)
     ∙ ap (λ k. greatest_step sums k c.part-part.result.to) part.start
     ∙ ap (λ k. greatest_step sums (start_of_part (doc_ends_of now c.args.t) c.args.q) k) part.end
     ∙ block.steps

@@ -10,9 +10,9 @@ use Rattle.part_cost.specs.Payload.{digits}
 use Rattle.part_cost.specs.Span.{past, payload_of_part}
 use Rattle.sequence_words.specs.EntryWords.{entry}
 use Rattle.sequence_words.specs.SequenceWords.{directory_from, payload_from, sequence_words}
-use Rattle.packed_list.specs.declared.last_field.LastField.{LastField}
-use Rattle.packed_list.specs.ListPlaces.{IsSequenceBefore}
-use Rattle.packed_list.proofs.Written.{length-lone}
+use Rattle.packed_sequence.specs.declared.last_field.LastField.{LastField}
+use Rattle.packed_sequence.specs.SequencePlaces.{IsSequenceBefore}
+use Rattle.packed_sequence.proofs.LonePlaces.{length-lone}
 
 -- the first of some bits, and those behind it
 first-of : (xs : List ℕ) (w : ℕ) → bits_value (take (suc w) xs) ≡ get_or xs 0 0 + 2 * bits_value (take w (drop 1 xs))

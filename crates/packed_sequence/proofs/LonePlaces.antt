@@ -16,10 +16,19 @@ use Rattle.part_cost.proofs.Parts.{past-at, past-is, relative-past}
 use Rattle.elias_fano.proofs.Rising.{below-last, relative-fit}
 use Rattle.part_codec.specs.PartBits.{part_bits}
 use Rattle.part_codec.specs.Laws.{TakesItsPayload}
-use Rattle.packed_list.specs.declared.last_field.LastField.{LastField}
-use Rattle.packed_list.specs.ListBits.{lone_part_bits, parted_bits, sequence_bits, IsStored}
-use Rattle.packed_list.specs.ListPlaces.{IsSequenceBefore}
-use Rattle.packed_list.proofs.GammaBack.{piece-stands}
+use Rattle.packed_sequence.specs.declared.last_field.LastField.{LastField}
+use Rattle.packed_sequence.specs.SequenceBits.{lone_part_bits, parted_bits, sequence_bits, IsStored}
+use Rattle.packed_sequence.specs.SequencePlaces.{IsSequenceBefore}
+
+-- bits from one place up to another, as a piece that stands there
+pub piece-stands : (bits : List ℕ) (at : ℕ) (piece : List ℕ) → slice_range bits at (at + length piece) ≡ piece → StandAt bits at piece
+piece-stands bits at piece h = ap (λ n. take n (drop at bits)) (let e : length piece ≡ at + length piece - at = omega arith in e) ∙ h
+
+-- and how many bits one part takes
+pub length-lone : (last : LastField) (xs : List ℕ) → length (lone_part_bits last xs) ≡ 1 + last.width + length (part_bits xs (past xs (length xs)))
+length-lone last xs =
+    let v : ℕ = past xs (length xs) - 1 - last.less in
+    omega (arith, length-append (0 ∷ field_bits last.width v) (part_bits xs (past xs (length xs))), length-field_bits last.width v)
 
 -- what stands at a place, as a range
 pub stands-piece : (bits : List ℕ) (at : ℕ) (piece : List ℕ) → StandAt bits at piece → slice_range bits at (at + length piece) ≡ piece

@@ -8,13 +8,13 @@ use Rattle.part_cost.specs.Payload.{digits}
 use Rattle.part_cost.proofs.Partitions.{few-parts}
 use Rattle.two_level.specs.SequenceView.{SequenceView, BeginWith, words_used}
 use Rattle.two_level.specs.SequenceWords.{sequence_words, BeginsSequence}
-use Rattle.packed_list.specs.declared.last_field.LastField.{LastField}
-use Rattle.packed_list.specs.ListBits.{sequence_bits}
-use Rattle.packed_list.specs.ListPlaces.{IsSequenceBefore, IsPartedHead}
-use Rattle.packed_list.specs.Laws.{SequenceWordsFit}
-use Rattle.packed_list.proofs.PartedPlaces.{head-read, parted-head, parted-begins, parted-size}
-use Rattle.packed_list.proofs.view.known_parted.Goals as goal
-use Rattle.packed_list.proofs.view.known_parted.Goals.{After-digits-width, After-div_ceil-start, After-words_from, After-used}
+use Rattle.packed_sequence.specs.declared.last_field.LastField.{LastField}
+use Rattle.packed_sequence.specs.SequenceBits.{sequence_bits}
+use Rattle.packed_sequence.specs.SequencePlaces.{IsSequenceBefore, IsPartedHead}
+use Rattle.packed_sequence.specs.Laws.{SequenceWordsFit}
+use Rattle.packed_sequence.proofs.PartedPlaces.{head-read, parted-head, parted-begins, parted-size}
+use Rattle.packed_sequence.proofs.view.known_parted.Goals as goal
+use Rattle.packed_sequence.proofs.view.known_parted.Goals.{After-digits-width, After-div_ceil-start, After-words_from, After-used}
 
 rounds : (n r : ℕ) → r ≡ n / 64 + min 1 (n % 64) → r ≡ (n + 63) / 64
 rounds n r e = omega arith

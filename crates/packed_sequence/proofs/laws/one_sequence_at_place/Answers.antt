@@ -1,6 +1,6 @@
 use Rattle.part_cost.specs.declared.formats.Format.TheVariants.{Three}
-use Rattle.packed_list.proofs.ListPlaces.{one-at-place}
-use Rattle.packed_list.proofs.sequence_laws.one_sequence_at_place.Goals as goal
+use Rattle.packed_sequence.proofs.SequencePlaces.{one-at-place}
+use Rattle.packed_sequence.proofs.laws.one_sequence_at_place.Goals as goal
 
 pub returns : goal.returns
 returns c =

@@ -1,11 +1,11 @@
 -- Bits begin with one sequence in its parts only, as a packed list has it.
-use Rattle.std.proofs.Common.{◌≡◌, ℕ, ◌+◌, ◌-◌, ◌*◌, ◌^◌, ◌<◌, ◌≤◌, List, [], ◌∷◌, ◌++◌, length, take, drop, get_or, slice_index, replicate, refl, sym, ap, ◌∙◌, subst, inl, inr, arith, append_assoc}
+use Rattle.std.proofs.Common.{◌≡◌, ℕ, ◌+◌, ◌-◌, ◌*◌, ◌^◌, ◌<◌, ◌≤◌, List, [], ◌∷◌, ◌++◌, length, take, drop, get_or, slice_index, replicate, refl, sym, ap, ◌∙◌, subst, inl, inr, arith, append_assoc, mod-eq_of_lt}
 use Rattle.std.specs.List.{All}
 use Rattle.std.proofs.lemmas.Bool.{cases_lt}
 use Rattle.std.proofs.lemmas.List.{length-replicate, length-take-le, take_at, drop_at, take_all, take-append-drop, get_or-take}
-use Rattle.bit_words.specs.Bits.{field_bits, bits_of, words_of, padding}
+use Rattle.bit_words.specs.Bits.{bits_value, field_bits, bits_of, words_of, padding}
 use Rattle.bit_words.specs.Laws.{BitsOfAppended, WordsOfBits}
-use Rattle.bit_words.proofs.Value.{length-bits_of}
+use Rattle.bit_words.proofs.Value.{value-field_bits, length-field_bits, length-bits_of}
 use Rattle.collection_model.specs.FormatNumbers.{format_three}
 use Rattle.part_cost.specs.Payload.{digits, widest_low, payload}
 use Rattle.part_cost.specs.Span.{AreRelative, past}
@@ -18,10 +18,17 @@ use Rattle.part_codec.specs.PartBits.{part_bits}
 use Rattle.part_codec.specs.Laws.{TakesItsPayload, OneListAtPlace}
 use Rattle.two_level.specs.SequenceWords.{sequence_words, BeginsSequence}
 use Rattle.two_level.specs.Laws.{OneSequence}
-use Rattle.packed_list.specs.declared.last_field.LastField.{LastField}
-use Rattle.packed_list.specs.ListBits.{lone_part_bits, parted_bits, sequence_bits, IsStored}
-use Rattle.packed_list.specs.Laws.{SequenceWordsFit}
-use Rattle.packed_list.proofs.GammaCodes.{one-field_prefix}
+use Rattle.packed_sequence.specs.declared.last_field.LastField.{LastField}
+use Rattle.packed_sequence.specs.SequenceBits.{lone_part_bits, parted_bits, sequence_bits, IsStored}
+use Rattle.packed_sequence.specs.Laws.{SequenceWordsFit}
+
+-- fields of one width before other bits are of one number only
+pub one-field_prefix : (w v u : ℕ) (xs ys : List ℕ) → v < 2 ^ w → u < 2 ^ w → field_bits w v ++ xs ≡ field_bits w u ++ ys → (v ≡ u) × (xs ≡ ys)
+one-field_prefix w v u xs ys fit also h =
+    let same : field_bits w v ≡ field_bits w u = sym (take_at (field_bits w v) xs w (length-field_bits w v)) ∙ ap (take w) h ∙ take_at (field_bits w u) ys w (length-field_bits w u) in (
+      sym (mod-eq_of_lt fit) ∙ sym (value-field_bits w v) ∙ ap bits_value same ∙ value-field_bits w u ∙ mod-eq_of_lt also,
+      sym (drop_at (field_bits w v) xs w (length-field_bits w v)) ∙ ap (drop w) h ∙ drop_at (field_bits w u) ys w (length-field_bits w u),
+    )
 
 -- bits of one length before others
 pub same-prefixes : (n : ℕ) (a b xs ys : List ℕ) → length a ≡ n → length b ≡ n → a ++ xs ≡ b ++ ys → (a ≡ b) × (xs ≡ ys)

@@ -6,11 +6,12 @@ use Rattle.part_cost.specs.Span.{past}
 use Rattle.part_cost.specs.Stored.{HoldsPart}
 use Rattle.part_codec.specs.PartBits.{part_bits}
 use Rattle.two_level.specs.SequenceView.{SequenceView}
-use Rattle.packed_list.specs.declared.last_field.LastField.{LastField}
-use Rattle.packed_list.specs.ListPlaces.{IsSequenceBefore}
-use Rattle.packed_list.proofs.LonePlaces.{LoneFacts, lone-facts, lone-size, one-end, one-when-zero}
-use Rattle.packed_list.proofs.view.known_lone.Goals as goal
-use Rattle.packed_list.proofs.view.known_lone.Goals.{After-part_takes_its_payload}
+use Rattle.packed_sequence.specs.declared.last_field.LastField.{LastField}
+use Rattle.packed_sequence.specs.SequencePlaces.{IsSequenceBefore}
+use Rattle.packed_sequence.proofs.LonePlaces.{LoneFacts, lone-facts, lone-size, one-end, one-when-zero}
+use Rattle.packed_sequence.proofs.PlaceBehind.{behind-part}
+use Rattle.packed_sequence.proofs.view.known_lone.Goals as goal
+use Rattle.packed_sequence.proofs.view.known_lone.Goals.{After-part_takes_its_payload}
 
 -- what is known of the one part
 facts : (c : After-part_takes_its_payload) → (xs ends : List ℕ) → IsSequenceBefore c.args.last c.args.m format_three.most_sum (bits_of c.args.words.now) c.args.at (64 * length c.args.words.now) xs ends
@@ -20,12 +21,6 @@ facts c xs ends h =
 
 stood : (c : After-part_takes_its_payload) → LoneFacts (bits_of c.args.words.now) c.args.at (64 * length c.args.words.now) c.args.last c.args.m format_three.most_sum c.requires.stands.0
 stood c = facts c c.requires.stands.0 c.requires.stands.1 c.requires.stands.2
-
--- and how many bits it takes, by the numbers that are read
-taken : (words : List ℕ) (at m j got bits : ℕ) (last : LastField) (xs : List ℕ) → LoneFacts (bits_of words) at (64 * length words) last m format_three.most_sum xs → got ≡ field_at (bits_of words) (at + 1) last.width → j ≡ m
-    → bits ≡ payload (got + last.less + 1) j → bits ≡ payload (past xs (length xs)) m
-taken words at m j got bits last xs f value same is =
-    is ∙ ap (λ k. payload (got + last.less + 1) k) same ∙ ap (λ u. payload u m) (let e : got + last.less + 1 ≡ past xs (length xs) = omega (arith, f.end_is, value) in e)
 
 held : (words : List ℕ) (at m w got : ℕ) (last : LastField) (xs : List ℕ) → LoneFacts (bits_of words) at (64 * length words) last m format_three.most_sum xs → got ≡ field_at (bits_of words) (at + 1) last.width → w ≡ last.width
     → HoldsPart part_bits (bits_of words) (at + 1 + w) (got + last.less + 1) m xs
@@ -54,25 +49,10 @@ standing_alone-requires-clause-part c = λ many. (
   held c.args.words.now c.args.at c.args.m c.from.result c.args.field c.args.last c.requires.stands.0 (stood (goal.at.standing_alone-requires-clause-part c).After-part_takes_its_payload) c.requires.read c.from.ensures,
 )
 
-pub overflow_add-end-2 : goal.overflow_add-end-2
-overflow_add-end-2 c =
-    let f = stood (goal.at.overflow_add-end-2 c).After-part_takes_its_payload in
-    omega (arith, f.end_is, f.below, c.requires.read)
-
-pub payload_bits-requires-clause-fit : goal.payload_bits-requires-clause-fit
-payload_bits-requires-clause-fit c =
-    let f = stood (goal.at.payload_bits-requires-clause-fit c).After-part_takes_its_payload in
-    omega (arith, f.end_is, f.room, c.requires.read, c.from-2.ensures)
-
-pub payload_bits-requires-clause-in_range : goal.payload_bits-requires-clause-in_range
-payload_bits-requires-clause-in_range c =
-    let f = stood (goal.at.payload_bits-requires-clause-in_range c).After-part_takes_its_payload in
-    omega (arith, f.end_is, f.below, c.requires.read)
-
 pub overflow_add-result : goal.overflow_add-result
 overflow_add-result c =
     let f = stood (goal.at.overflow_add-result c).After-part_takes_its_payload in
-    omega (arith, f.behind, taken c.args.words.now c.args.at c.args.m c.from-2.result c.args.field c.payload_bits.result c.args.last c.requires.stands.0 f c.requires.read c.from-2.ensures c.payload_bits.ensures, c.from.ensures, c.requires.words)
+    omega (arith, f.end_is, f.below, c.requires.read)
 
 pub returns-clause-view : goal.returns-clause-view
 returns-clause-view c = λ xs ends h.
@@ -83,6 +63,13 @@ returns-clause-view c = λ xs ends h.
 
 pub returns-clause-behind : goal.returns-clause-behind
 returns-clause-behind c = λ xs ends h.
-    let t = taken c.args.words.now c.args.at c.args.m c.from-2.result c.args.field c.payload_bits.result c.args.last xs (facts (goal.at.returns-clause-behind c).After-part_takes_its_payload xs ends h) c.requires.read c.from-2.ensures c.payload_bits.ensures in
+    let f = facts (goal.at.returns-clause-behind c).After-part_takes_its_payload xs ends h in
+    let end : c.args.field + c.args.last.less + 1 ≡ past xs (length xs) = omega (arith, f.end_is, c.requires.read) in
     let s = lone-size c.part_takes_its_payload.ensures.payload c.args.last c.args.m format_three.most_sum (bits_of c.args.words.now) c.args.at (64 * length c.args.words.now) xs ends (omega (arith, c.requires.many)) (omega arith) c.requires.flag h in
-    omega (arith, t, s, c.from.ensures)
+    let t = behind-part (c.args.at + 1 + c.from.result) (c.args.field + c.args.last.less + 1) c.args.m (omega arith) in
+    omega (arith, t, ap (λ u. payload u c.args.m) end, s, c.from.ensures)
+
+pub returns-clause-range : goal.returns-clause-range
+returns-clause-range c =
+    let f = stood (goal.at.returns-clause-range c).After-part_takes_its_payload in
+    record { fit = λ some. omega (arith, f.end_is, f.room, c.requires.read); small = omega (arith, f.end_is, f.below, c.requires.read) }

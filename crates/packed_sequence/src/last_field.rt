@@ -1,18 +1,18 @@
 ghost use Rattle.std.specs.Prelude.{◌≡◌, ◌≤◌};
-ghost use Rattle.packed_list.specs.ListBits.{last_doc, last_sum};
+ghost use Rattle.packed_sequence.specs.SequenceBits.{last_doc, last_sum};
 
 use part_cost::digits;
 
-// How the last value of a sequence is written that stands as one part: less so much, in a field of
-// so many bits.
+/// How the last value of a sequence is written that stands as one part: less so much, in a field of
+/// so many bits.
 #[derive(Clone, Copy)]
-pub(crate) struct LastField {
-    pub(crate) less: u64,
-    pub(crate) width: u32,
+pub struct LastField {
+    pub less: u64,
+    pub width: u32,
 }
 
-// The last document of a list over so many documents.
-pub(crate) fn last_doc(documents: u32) -> LastField
+/// The last document of a list over so many documents.
+pub fn last_doc(documents: u32) -> LastField
     ensures { result ≡ last_doc documents }
 {
     LastField {
@@ -21,8 +21,8 @@ pub(crate) fn last_doc(documents: u32) -> LastField
     }
 }
 
-// The last sum of m frequencies, of which the greatest is known.
-pub(crate) fn last_sum(m: u32, greatest: u32) -> LastField
+/// The last sum of m frequencies, of which the greatest is known.
+pub fn last_sum(m: u32, greatest: u32) -> LastField
     requires some { 1 ≤ m }
     requires not_zero { 1 ≤ greatest }
     ensures { result ≡ last_sum m greatest }

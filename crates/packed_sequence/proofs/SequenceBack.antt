@@ -23,11 +23,11 @@ use Rattle.two_level.specs.SequenceWords.{sequence_words, BeginsSequence}
 use Rattle.two_level.specs.SequenceFault.{word_behind}
 use Rattle.two_level.specs.SequenceView.{SequenceView, sequence_stated}
 use Rattle.two_level.specs.Laws.{OneSequence, WordsState, SequencesPassChecks}
-use Rattle.packed_list.specs.declared.last_field.LastField.{LastField}
-use Rattle.packed_list.specs.ListBits.{lone_part_bits, parted_bits, sequence_bits, IsStored}
-use Rattle.packed_list.specs.ListStated.{SequenceAt, lone_at, parted_at, sequence_at}
-use Rattle.packed_list.specs.Laws.{SequenceWordsFit}
-use Rattle.packed_list.proofs.OneSequenceBits.{relative, universe-fits, words-fit, words-prefix, begins}
+use Rattle.packed_sequence.specs.declared.last_field.LastField.{LastField}
+use Rattle.packed_sequence.specs.SequenceBits.{lone_part_bits, parted_bits, sequence_bits, IsStored}
+use Rattle.packed_sequence.specs.SequenceStated.{SequenceAt, lone_at, parted_at, sequence_at}
+use Rattle.packed_sequence.specs.Laws.{SequenceWordsFit}
+use Rattle.packed_sequence.proofs.OneSequenceBits.{relative, universe-fits, words-fit, words-prefix, begins}
 
 -- what a sequence in its parts is, and the place behind its bits
 abbrev pub stated : List ℕ → List ℕ → ℕ → SequenceAt

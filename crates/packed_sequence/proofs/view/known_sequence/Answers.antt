@@ -2,10 +2,10 @@ use Rattle.std.proofs.Common.{◌≡◌, ◌*◌, ◌%◌, length, slice_index, 
 use Rattle.bit_words.specs.Bits.{bits_of}
 use Rattle.bit_words.proofs.Value.{bits-bits_of}
 use Rattle.collection_model.specs.FormatNumbers.{format_three}
-use Rattle.packed_list.proofs.LonePlaces.{lone-facts}
-use Rattle.packed_list.proofs.FlagAndField.{FlagAndField, flag-and-field, head-fits}
-use Rattle.packed_list.proofs.view.known_sequence.Goals as goal
-use Rattle.packed_list.proofs.view.known_sequence.Goals.{After-get-head}
+use Rattle.packed_sequence.proofs.LonePlaces.{lone-facts}
+use Rattle.packed_sequence.proofs.FlagAndField.{FlagAndField, flag-and-field, head-fits}
+use Rattle.packed_sequence.proofs.view.known_sequence.Goals as goal
+use Rattle.packed_sequence.proofs.view.known_sequence.Goals.{After-get-head}
 
 pub get-head-requires-clause-range : goal.get-head-requires-clause-range
 get-head-requires-clause-range c =

@@ -14,13 +14,13 @@ use Rattle.part_cost.specs.Partition.{IsPartition}
 use Rattle.part_cost.proofs.DigitCounts.{digits-hold}
 use Rattle.part_cost.proofs.Partitions.{few-parts}
 use Rattle.two_level.specs.SequenceWords.{sequence_words, BeginsSequence}
-use Rattle.packed_list.specs.declared.last_field.LastField.{LastField}
-use Rattle.packed_list.specs.ListBits.{parted_bits, sequence_bits}
-use Rattle.packed_list.specs.ListPlaces.{IsSequenceBefore, IsPartedHead}
-use Rattle.packed_list.specs.Laws.{SequenceWordsFit}
-use Rattle.packed_list.proofs.GammaBack.{piece-stands}
-use Rattle.packed_list.proofs.LonePlaces.{stands-piece, more-when-one}
-use Rattle.packed_list.proofs.OneSequenceBits.{words-prefix-of}
+use Rattle.packed_sequence.specs.declared.last_field.LastField.{LastField}
+use Rattle.packed_sequence.specs.SequenceBits.{parted_bits, sequence_bits}
+use Rattle.packed_sequence.specs.SequencePlaces.{IsSequenceBefore, IsPartedHead}
+use Rattle.packed_sequence.specs.Laws.{SequenceWordsFit}
+use Rattle.packed_sequence.proofs.LonePlaces.{piece-stands}
+use Rattle.packed_sequence.proofs.LonePlaces.{stands-piece, more-when-one}
+use Rattle.packed_sequence.proofs.OneSequenceBits.{words-prefix-of}
 
 -- a range is a piece that stands where it begins
 pub range-stands : (bits : List ℕ) (at end : ℕ) (piece : List ℕ) → end ≡ at + length piece → slice_range bits at end ≡ piece → StandAt bits at piece

@@ -1,0 +1,8 @@
+mod PlaceBehind
+mod SequenceWordsFit
+pub mod OneSequenceBits
+pub mod LonePlaces
+pub mod PartedPlaces
+pub mod FlagAndField
+pub mod SequenceBack
+mod SequencePlaces

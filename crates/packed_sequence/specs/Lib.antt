@@ -1,0 +1,7 @@
+pub mod Behind
+pub mod Laws
+pub mod Later
+pub mod SequenceBits
+pub mod SequencePlaces
+pub mod SequenceStated
+pub mod Sums
