@@ -1,42 +1,25 @@
--- Rows of the table, one after the other, and the words of a row.
-use Rattle.std.proofs.Common.{◌≡◌, refl, sym, ap, ap₂, ◌∙◌, arith, ℕ, ◌+◌, ◌<◌, ◌≤◌, List, [], ◌∷◌, ◌++◌, length, take, drop, get_or}
-use Rattle.std.proofs.lemmas.List.{drop_all, drop_more, drop-map, get_or-map, length-map, map-append, take_all, take_more, take-map}
-use Rattle.std.proofs.lemmas.List.Sums.{fold-append}
-use Rattle.std.specs.Prelude.{◌&&◌, Bool, nat_le, if◌then◌else◌, option_and_then, Option, None, bytes_eq, codes, cond, find, map, Some, String, string_bytes}
-use Rattle.std.specs.List.{prefix_len}
+-- The rows of the table, and the words of a row.
+use Rattle.std.proofs.Common.{◌≡◌, refl, sym, ap, ap₂, ◌∙◌, subst, ℕ, ◌+◌, List, [], ◌∷◌, take, drop, true, false}
+use Rattle.std.proofs.lemmas.Bool.{and_parts}
+use Rattle.std.proofs.lemmas.List.{drop-map, take-map}
+use Rattle.std.specs.Prelude.{◌&&◌, Bool, nat_le, if◌then◌else◌, option_and_then, Option, None, bytes_eq, cond, find, Some, String, string_bytes, unwrap_or}
+use Rattle.std.specs.List.{list_all, prefix_len}
 use Rattle.std.specs.declared.alloc.Global.{Global}
-use Rattle.clap.specs.Words.{new_app, with_subcommand}
-use Rattle.command_line.specs.declared.table.Row as words
 use Rattle.command_line.specs.Command.{by_row, command_with, is_text, texts, texts_before, value_in}
-use Rattle.command_line.specs.Private.CommandLine.{app_with, subcommand_with}
-use Rattle.command_line.specs.Table.{Row, seen, table}
+use Rattle.command_line.specs.Table.{Row, row_of, table}
 
-module _ (rows : List words.Row) (k : ℕ) (none : words.Row) (all : map seen rows ≡ table) (within : k < 14) where
-  inside : k < length rows
-  inside = let many : length (map seen rows) ≡ 14 = ap length all in omega (arith, within, many, length-map rows seen)
+-- what all pass, what is found passes
+passes : {X : Type 0} (test find_by : X → Bool) (xs : List X) (x : X) → list_all test xs ≡ true → find find_by xs ≡ Some x → test x ≡ true
+passes test find_by [] x all h = cc
+passes test find_by (y ∷ ys) x all h = go (find_by y) h (passes test find_by ys x (and_parts (test y) (list_all test ys) all).1)
+  where
+    go : (b : Bool) → cond b (Some y) (find find_by ys) ≡ Some x → (find find_by ys ≡ Some x → test x ≡ true) → test x ≡ true
+    go true h rest = subst (λ z. test z ≡ true) (ap (λ o. unwrap_or o y) h) (and_parts (test y) (list_all test ys) all).0
+    go false h rest = rest h
 
-  -- what is found from a row on
-  pub found_from : (verb : List ℕ) (b : Bool) → bytes_eq (get_or rows k none).name.now verb ≡ b
-      → find (λ row. bytes_eq row.name verb) (drop k (map seen rows)) ≡ cond b (Some (seen (get_or rows k none))) (find (λ row. bytes_eq row.name verb) (drop (k + 1) (map seen rows)))
-  found_from verb b e =
-      let rest : List Row = drop (k + 1) (map seen rows) in
-      ap (find (λ row. bytes_eq row.name verb)) (drop_more (map seen rows) k (seen none) (omega (arith, inside, length-map rows seen)))
-      ∙ ap (λ r. find (λ row. bytes_eq row.name verb) (r ∷ rest)) (get_or-map seen rows k none (seen none) inside)
-      ∙ ap (λ b. cond b (Some (seen (get_or rows k none))) (find (λ row. bytes_eq row.name verb) rest)) e
-
-  -- one more subcommand
-  pub one_more : app_with (map seen (take (k + 1) rows)) ≡ with_subcommand (app_with (map seen (take k rows))) (subcommand_with (seen (get_or rows k none)))
-  one_more =
-      ap (λ rows. app_with (map seen rows)) (take_more rows k none inside)
-      ∙ ap app_with (map-append seen (take k rows) (get_or rows k none ∷ []))
-      ∙ fold-append (λ app row. with_subcommand app (subcommand_with row)) (new_app (codes "pefidx")) (map seen (take k rows)) (seen (get_or rows k none) ∷ [])
-
--- no row is left behind the last
-pub none_left : (rows : List words.Row) (k : ℕ) → map seen rows ≡ table → 14 ≤ k → drop k (map seen rows) ≡ []
-none_left rows k all past = let many : length (map seen rows) ≡ 14 = ap length all in drop_all k (map seen rows) (omega (arith, past, many))
-
-pub all_taken : (rows : List words.Row) (k : ℕ) → map seen rows ≡ table → 14 ≤ k → map seen (take k rows) ≡ table
-all_taken rows k all past = let many : length (map seen rows) ≡ 14 = ap length all in ap (map seen) (take_all k rows (omega (arith, past, many, length-map rows seen))) ∙ all
+-- each row of the table has a text
+pub has_texts : (verb : List ℕ) (row : Row) → row_of verb ≡ Some row → nat_le 1 row.fewest ≡ true
+has_texts verb row is = passes (λ (row : Row). nat_le 1 row.fewest) (λ (row : Row). bytes_eq row.name verb) table row refl is
 
 -- how many words are texts, as their bytes
 pub counted_texts : (words : List (String Global)) → prefix_len (λ word. is_text (string_bytes word)) words ≡ texts_before (texts words)

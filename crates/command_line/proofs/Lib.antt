@@ -2,9 +2,7 @@ mod Joined
 mod TakenPlaces
 mod Plain
 mod Found
-mod TextsRead
 mod PlainWalk
 mod Level
-mod Program
 mod WordsRead
 mod Rows

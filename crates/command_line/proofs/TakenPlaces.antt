@@ -7,11 +7,6 @@ use Rattle.std.proofs.lemmas.Slice.Eq.{bytes_eq-Decides}
 use Rattle.std.proofs.lemmas.List.{append_cancel_right, reverse-append}
 use Rattle.command_line.specs.Command.{is_file_of, takes_place}
 
-either-way : (a b : List ℕ) → bytes_eq a b ≡ bytes_eq b a
-either-way a b =
-    let back = bytes_eq-Decides b a in
-    one_answer (bytes_eq a b) (bytes_eq b a) (bytes_eq-Decides a b) (λ t. sym (back.0 t), λ e. back.1 (sym e))
-
 -- the same ending behind both
 same-ending : (a b ending : List ℕ) → bytes_eq (a ++ ending) (b ++ ending) ≡ bytes_eq a b
 same-ending a b ending =
@@ -43,9 +38,6 @@ pub place-taken : (base map to : List ℕ) → (bytes_eq to base || is_file_of t
 place-taken base map to =
     sym (
     rw (
-      either-way (to ++ codes ".docs") map,
-      either-way (to ++ codes ".freqs") map,
-      either-way (to ++ codes ".sizes") map,
       same-ending to base (codes ".docs"),
       same-ending to base (codes ".freqs"),
       same-ending to base (codes ".sizes"),
@@ -58,9 +50,3 @@ place-taken base map to =
     )
     (any-of (bytes_eq to base) (bytes_eq map (to ++ codes ".docs")) (bytes_eq map (to ++ codes ".freqs")) (bytes_eq map (to ++ codes ".sizes")))
     )
-
-pub taken-then : (base map to : List ℕ) (r : Bool) → r ≡ bytes_eq to base → r ≡ true → r ≡ takes_place base map to
-taken-then base map to r e t = t ∙ ap (λ b. b || is_file_of to map) (sym t ∙ e) ∙ place-taken base map to
-
-pub taken-else : (base map to : List ℕ) (r s : Bool) → r ≡ bytes_eq to base → r ≡ false → s ≡ is_file_of to map → s ≡ takes_place base map to
-taken-else base map to r s e f is = is ∙ ap (λ b. b || is_file_of to map) (sym f ∙ e) ∙ place-taken base map to

@@ -59,7 +59,7 @@ plan_of name =
 
 -- whether a name is that of a map, or of a file of a collection
 abbrev pub is_input_of : List ℕ → List ℕ → List ℕ → Bool
-is_input_of base map name = bytes_eq name map || is_file_of base name
+is_input_of base map name = bytes_eq map name || is_file_of base name
 
 -- whether a collection under a new base would take the place of the map, or of a file of the collection
 abbrev pub takes_place : List ℕ → List ℕ → List ℕ → Bool
@@ -83,59 +83,34 @@ abbrev pub unless : Bool → Command → Option Command
 unless taken command = if taken then None else Some command
 
 -- a base and an index that is none of its files, in a format
-abbrev pub built_in : Option Format → List ℕ × List ℕ → Option Command
-built_in None names = None
-built_in (Some format) names = unless (is_file_of names.0 names.1) (Build names.0 names.1 format)
-
--- a base and an index that is none of its files, which is to be a packed file
-abbrev pub pack_command : List (List ℕ) → Option Command
-pack_command texts = option_and_then (built_in (Some Three)) (two_of texts)
-
--- a seed, a number of documents and a number of lists, where each is a number
-abbrev pub generate_of : Option ℕ → Option ℕ → Option ℕ → Option Command
-generate_of (Some seed) (Some n) (Some t) = Some (Generate seed n t)
-generate_of seed n t = None
-
--- three numbers, spelled as in query lines
-abbrev pub generate_command : List (List ℕ) → Option Command
-generate_command texts = option_and_then (λ three. generate_of (number_of three.0) (number_of three.1) (number_of three.2)) (three_of texts)
+abbrev pub built_in : List (List ℕ) → Format → Option Command
+built_in texts format = option_and_then (λ names. unless (is_file_of names.0 names.1) (Build names.0 names.1 format)) (two_of texts)
 
 -- an index and another name, for a new one of a kind
-abbrev pub migrate_command : FileKind → List (List ℕ) → Option Command
-migrate_command kind texts = option_and_then (λ names. unless (bytes_eq names.0 names.1) (Migrate names.0 names.1 kind)) (two_of texts)
+abbrev pub migrated_to : FileKind → List (List ℕ) → Option Command
+migrated_to kind texts = option_and_then (λ names. unless (bytes_eq names.0 names.1) (Migrate names.0 names.1 kind)) (two_of texts)
 
--- two texts, of which the second is not the first
-abbrev pub blocks_command : List (List ℕ) → Option Command
-blocks_command texts = option_and_then (λ names. unless (bytes_eq names.0 names.1) (Blocks names.0 names.1)) (two_of texts)
-
--- two texts, which may be the same
-abbrev pub bquery_command : List (List ℕ) → Option Command
-bquery_command texts = option_map (λ names. BlockQuery names.0 names.1) (two_of texts)
-
--- a base, a map, and a new base whose files are none of theirs
-abbrev pub remap_command : List (List ℕ) → Option Command
-remap_command texts = option_and_then (λ names. unless (takes_place names.0 names.1 names.2) (Remap names.0 names.1 names.2)) (three_of texts)
-
--- an index, and a base of which it is no file
-abbrev pub export_command : List (List ℕ) → Option Command
-export_command texts = option_and_then (λ names. unless (is_file_of names.1 names.0) (Export names.0 names.1)) (two_of texts)
+-- a seed, a number of documents and a number of lists, where each is a number
+abbrev pub generated_by : Option ℕ → Option ℕ → Option ℕ → Option Command
+generated_by (Some seed) (Some n) (Some t) = Some (Generate seed n t)
+generated_by seed n t = None
 
 -- the command of a verb, of the texts behind it and of the value of its option; none where they do not go together
 abbrev pub command_with : Verb → List (List ℕ) → List ℕ → Option Command
-command_with verbs.Build texts value = option_and_then (built_in (format_of value)) (two_of texts)
+command_with verbs.Build texts value = option_and_then (built_in texts) (format_of value)
 command_with verbs.Query texts value = option_and_then (λ index. option_map (Query index) (plan_of value)) (one_of texts)
 command_with verbs.Answer texts value = option_and_then (λ base. option_map (Answer base) (plan_of value)) (one_of texts)
 command_with verbs.Inspect texts value = option_map Inspect (one_of texts)
-command_with verbs.Generate texts value = generate_command texts
-command_with verbs.Migrate texts value = migrate_command Plain texts
+command_with verbs.Generate texts value = option_and_then (λ three. generated_by (number_of three.0) (number_of three.1) (number_of three.2)) (three_of texts)
+command_with verbs.Migrate texts value = migrated_to Plain texts
 command_with verbs.Audit texts value = option_map Audit (one_of texts)
-command_with verbs.Blocks texts value = blocks_command texts
-command_with verbs.BlockQuery texts value = bquery_command texts
-command_with verbs.Remap texts value = remap_command texts
+command_with verbs.Blocks texts value = option_and_then (λ names. unless (bytes_eq names.0 names.1) (Blocks names.0 names.1)) (two_of texts)
+command_with verbs.BlockQuery texts value = option_map (λ names. BlockQuery names.0 names.1) (two_of texts)
+command_with verbs.Remap texts value = option_and_then (λ names. unless (takes_place names.0 names.1 names.2) (Remap names.0 names.1 names.2)) (three_of texts)
 command_with verbs.Segments texts value = option_map (Segments texts) (plan_of value)
-command_with verbs.Pack texts value = pack_command texts
-command_with verbs.Repack texts value = migrate_command Packed texts
-command_with verbs.Export texts value = export_command texts
+command_with verbs.Pack texts value = built_in texts Three
+command_with verbs.Repack texts value = migrated_to Packed texts
+command_with verbs.Export texts value = option_and_then (λ names. unless (is_file_of names.1 names.0) (Export names.0 names.1)) (two_of texts)
 
 -- how many words stand before the first that can be no text of a command
 abbrev pub texts_before : List (List ℕ) → ℕ

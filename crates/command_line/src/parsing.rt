@@ -1,16 +1,16 @@
-ghost use Rattle.std.specs.Prelude.{◌≡◌, [], ◌+◌, ◌≤◌, codes, drop, length, take, false, IfErr, IfOk, Some, option_map};
-ghost use Rattle.clap.specs.Words.{all_of, app_of, found_of, rows_of, rule_of, subcommand_rows_of};
-ghost use Rattle.clap.specs.declared.builder.command.Command.TheViews.{out-Command};
+ghost use Rattle.std.specs.Prelude.{◌≡◌, ℕ, List, ◌∷◌, ◌≤◌, length, take, true, false, IfErr, IfOk, Some, is_some, option_map};
+ghost use Rattle.clap.specs.Words.{app_of, found_of, kind_of, rows_of, rule_of};
+ghost use Rattle.clap.specs.declared.error.kind.ErrorKind.TheVariants.{OutOfMemory};
 ghost use Rattle.command_line.specs.Asked.{asked};
-ghost use Rattle.command_line.specs.Command.{command_of};
+ghost use Rattle.command_line.specs.Command.{by_row, command_of, texts_before};
 ghost use Rattle.command_line.specs.Command as line;
 ghost use Rattle.command_line.specs.Table.{seen};
-ghost use Rattle.command_line.specs.Private.CommandLine.{AreLent, AreRead, FailsForMemory, LendsTexts, asked_by, asked_in, option_rule, program_app, subcommand_with, texts_rule, value_found};
+ghost use Rattle.command_line.specs.Private.CommandLine.{Gives, IsRead, app_with, option_rule, texts_rule, value_found};
 ghost use Rattle.command_line.specs.WordsErrors.{error_of_words};
 
 use crate::error::WordsError;
-use crate::table::{Choice, Row, row_of, rows};
-use crate::words::{Command, command_with, is_command};
+use crate::table::{Choice, Row, row_of};
+use crate::words::{Command, by_row, command_with};
 use clap::{Arg, ArgAction, ArgMatches};
 use std::alloc::{AllocError, Global};
 
@@ -22,60 +22,71 @@ pub fn parse_words<'a>(alloc: Global, words: &'a [String]) -> Result<Command<'a>
     ensures error { IfErr result (λ error. error
         ≡ error_of_words (command_of (line.texts words.entry.now))) }
 {
-    if !is_command(words) {
+    match words {
+        [_name, verb, words @ ..] => parse_verb(alloc, verb.as_str(), words),
+        _ => Err(WordsError::Usage),
+    }
+}
+
+// The command of a verb and the words behind it.
+fn parse_verb<'a>(alloc: Global, verb: &str, words: &'a [String]) -> Result<Command<'a>, WordsError>
+    ensures { (name : List ℕ) → Gives (command_of (name ∷ verb.now ∷ line.texts words.entry.now))
+        result }
+{
+    match row_of(verb) {
+        Some(row) => parse_row(alloc, row, words),
+        None => Err(WordsError::Usage),
+    }
+}
+
+// The command of a row: whether there is one is found without memory, and then `clap` reads the words.
+fn parse_row<'a>(alloc: Global, row: Row, words: &'a [String]) -> Result<Command<'a>, WordsError>
+    requires { 1 ≤ row.fewest }
+    ensures { Gives (by_row (seen row) (line.texts words.entry.now)) result }
+{
+    if by_row(row, words).is_none() {
         return Err(WordsError::Usage);
     }
-    let matches = match_words(alloc, words)?;
-    read_command(words, &matches).ok_or(WordsError::Usage)
+    let found = match_row(alloc, row, words)?;
+    read_row(row, words, &found).ok_or(WordsError::Usage)
 }
 
-// The matches of the words. Of words that are a command there are none only where memory is refused.
-fn match_words<'a>(alloc: Global, words: &'a [String]) -> Result<ArgMatches<'a>, clap::Error>
-    ensures matches { IfOk result (λ matches.
-        AreRead (line.texts words.entry.now) (subcommand_rows_of matches)) }
-    ensures error { IfErr result (FailsForMemory (line.texts words.entry.now)) }
+// The matches of words that are a command of a row. There are none only where memory is refused.
+fn match_row<'a>(
+    alloc: Global,
+    row: Row,
+    words: &'a [String],
+) -> Result<ArgMatches<'a>, clap::Error>
+    requires some { 1 ≤ row.fewest }
+    requires command { is_some (by_row (seen row) (line.texts words.now)) ≡ true }
+    ensures found { IfOk result (λ found. IsRead (seen row) (line.texts words.entry.now)
+        (rows_of (found_of found))) }
+    ensures error { IfErr result (λ error. kind_of error ≡ OutOfMemory) }
 {
-    program(alloc)?.try_get_matches_from(words)
+    command_line(alloc, row.choice)?.try_get_matches_from(words)
 }
 
-// What the matches of the words ask for.
-fn read_command<'a>(words: &'a [String], matches: &ArgMatches<'a>) -> Option<Command<'a>>
-    requires { AreLent (line.texts words.now) (subcommand_rows_of matches.now) }
-    ensures { option_map asked result ≡ asked_in (subcommand_rows_of matches.now) }
+// The command that the matches of the words ask for.
+fn read_row<'a>(row: Row, words: &'a [String], found: &ArgMatches<'a>) -> Option<Command<'a>>
+    requires { IsRead (seen row) (line.texts words.now) (rows_of (found_of found.now)) }
+    ensures { option_map asked result ≡ by_row (seen row) (line.texts words.now) }
 {
-    let (verb, found) = matches.subcommand()?;
-    read_row(words, row_of(verb)?, found)
-}
-
-// What the matches of a subcommand ask for.
-fn read_row<'a>(words: &'a [String], row: Row, found: &ArgMatches<'a>) -> Option<Command<'a>>
-    requires { LendsTexts (line.texts words.now) (rows_of (found_of found.now)) }
-    ensures { option_map asked result ≡ asked_by (seen row) (rows_of (found_of found.now)) }
-{
-    let texts = texts_found(words, found)?;
+    let texts = texts_found(row, words, found)?;
     let value = value_found(row.choice, found)?;
     command_with(row.verb, texts, value)
 }
 
-// The texts among the matches of a subcommand: as many of the words behind the verb.
-fn texts_found<'a>(words: &'a [String], found: &ArgMatches<'a>) -> Option<&'a [String]>
-    requires { LendsTexts (line.texts words.now) (rows_of (found_of found.now)) }
+// The texts among the matches: as many of the words, from the first on.
+fn texts_found<'a>(row: Row, words: &'a [String], found: &ArgMatches<'a>) -> Option<&'a [String]>
+    requires { IsRead (seen row) (line.texts words.now) (rows_of (found_of found.now)) }
     ensures { option_map (λ texts. line.texts texts.now) result
-        ≡ all_of (codes "texts") (rows_of (found_of found.now)) }
+        ≡ Some (take (texts_before (line.texts words.now)) (line.texts words.now)) }
 {
     let count = found.get_strs("texts")?.len();
-    Some(behind_verb(words, count))
+    Some(&words[..count])
 }
 
-// The first so many words behind the verb.
-fn behind_verb<'a>(words: &'a [String], count: usize) -> &'a [String]
-    requires { 2 + count ≤ length words.now }
-    ensures { result.now ≡ take count (drop 2 words.entry.now) }
-{
-    &words[2..2 + count]
-}
-
-// The value of an option among the matches of a subcommand, and an empty text where there may be none.
+// The value of an option among the matches, and an empty text where there may be none.
 fn value_found<'a>(choice: Option<Choice>, found: &ArgMatches<'a>) -> Option<&'a str>
     ensures { option_map (λ text. text.now) result
         ≡ value_found choice (rows_of (found_of found.now)) }
@@ -86,39 +97,21 @@ fn value_found<'a>(choice: Option<Choice>, found: &ArgMatches<'a>) -> Option<&'a
     }
 }
 
-// The command line of the program: a subcommand for each row of the table.
-fn program<'a>(alloc: Global) -> Result<clap::Command<'a>, AllocError>
-    ensures { IfOk result (λ command. app_of command ≡ program_app) }
+// The command line behind a verb: texts, and then an option with its default, or none.
+fn command_line<'a>(alloc: Global, choice: Option<Choice>) -> Result<clap::Command<'a>, AllocError>
+    ensures { IfOk result (λ command. app_of command ≡ app_with choice) }
 {
-    let mut program = clap::Command::new(alloc, "pefidx");
-    for row in rows() {
-        program = program.subcommand(subcommand(alloc, row)?)?;
-    }
-    Ok(program)
-}
-
-// The subcommand of a row: its texts, and its option with its default.
-fn subcommand<'a>(alloc: Global, row: Row) -> Result<clap::Command<'a>, AllocError>
-    ensures app { IfOk result (λ command. app_of command
-        ≡ record { top = subcommand_with (seen row); subs = [] }) }
-    ensures local { IfOk result (λ command. (out-Command command).has_globals ≡ false) }
-{
-    let command = clap::Command::new(alloc, row.name).arg(texts(alloc, row))?;
-    match row.choice {
+    let texts = Arg::new(alloc, "texts")
+        .required(true)
+        .action(ArgAction::Set)
+        .num_args(1..);
+    let command = clap::Command::new(alloc, "pefidx")
+        .no_binary_name(true)
+        .arg(texts)?;
+    match choice {
         Some(choice) => command.arg(option(alloc, choice)),
         None => Ok(command),
     }
-}
-
-// The texts behind a verb.
-fn texts<'a>(alloc: Global, row: Row) -> Arg<'a>
-    ensures rule { rule_of result ≡ texts_rule (seen row) }
-    ensures local { result.global ≡ false }
-{
-    Arg::new(alloc, "texts")
-        .required(true)
-        .action(ArgAction::Set)
-        .num_args(row.fewest..=row.most)
 }
 
 // An option with its default.

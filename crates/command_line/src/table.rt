@@ -3,7 +3,7 @@ ghost use Rattle.command_line.specs.Table as words;
 ghost use Rattle.command_line.specs.Table.{seen, table, row_of};
 
 // The most indexes of a command.
-pub(crate) const MOST_SEGMENTS: usize = 64;
+const MOST: usize = 64;
 
 // What a command of the program does.
 #[derive(Clone, Copy, Debug, PartialEq, Eq)]
@@ -63,122 +63,56 @@ pub(crate) struct Row {
     pub(crate) choice: Option<Choice>,
 }
 
-const ROWS: [Row; 14] = [
-    Row {
-        name: "build",
-        verb: Verb::Build,
-        fewest: 2,
-        most: 2,
-        choice: Some(Choice::Format),
-    },
-    Row {
-        name: "query",
-        verb: Verb::Query,
-        fewest: 1,
-        most: 1,
-        choice: Some(Choice::Plan),
-    },
-    Row {
-        name: "answer",
-        verb: Verb::Answer,
-        fewest: 1,
-        most: 1,
-        choice: Some(Choice::Plan),
-    },
-    Row {
-        name: "inspect",
-        verb: Verb::Inspect,
-        fewest: 1,
-        most: 1,
-        choice: None,
-    },
-    Row {
-        name: "generate",
-        verb: Verb::Generate,
-        fewest: 3,
-        most: 3,
-        choice: None,
-    },
-    Row {
-        name: "migrate",
-        verb: Verb::Migrate,
-        fewest: 2,
-        most: 2,
-        choice: None,
-    },
-    Row {
-        name: "audit",
-        verb: Verb::Audit,
-        fewest: 1,
-        most: 1,
-        choice: None,
-    },
-    Row {
-        name: "blocks",
-        verb: Verb::Blocks,
-        fewest: 2,
-        most: 2,
-        choice: None,
-    },
-    Row {
-        name: "bquery",
-        verb: Verb::BlockQuery,
-        fewest: 2,
-        most: 2,
-        choice: None,
-    },
-    Row {
-        name: "remap",
-        verb: Verb::Remap,
-        fewest: 3,
-        most: 3,
-        choice: None,
-    },
-    Row {
-        name: "segments",
-        verb: Verb::Segments,
-        fewest: 1,
-        most: MOST_SEGMENTS,
-        choice: Some(Choice::Plan),
-    },
-    Row {
-        name: "pack",
-        verb: Verb::Pack,
-        fewest: 2,
-        most: 2,
-        choice: None,
-    },
-    Row {
-        name: "repack",
-        verb: Verb::Repack,
-        fewest: 2,
-        most: 2,
-        choice: None,
-    },
-    Row {
-        name: "export",
-        verb: Verb::Export,
-        fewest: 2,
-        most: 2,
-        choice: None,
-    },
-];
-
 // The words of each command.
-pub(crate) fn rows() -> [Row; 14]
+fn rows() -> [Row; 14]
     ensures { map seen result ≡ table }
 {
-    ROWS
+    [
+        row_with("build", Verb::Build, 2, 2, Some(Choice::Format)),
+        row_with("query", Verb::Query, 1, 1, Some(Choice::Plan)),
+        row_with("answer", Verb::Answer, 1, 1, Some(Choice::Plan)),
+        row_with("inspect", Verb::Inspect, 1, 1, None),
+        row_with("generate", Verb::Generate, 3, 3, None),
+        row_with("migrate", Verb::Migrate, 2, 2, None),
+        row_with("audit", Verb::Audit, 1, 1, None),
+        row_with("blocks", Verb::Blocks, 2, 2, None),
+        row_with("bquery", Verb::BlockQuery, 2, 2, None),
+        row_with("remap", Verb::Remap, 3, 3, None),
+        row_with("segments", Verb::Segments, 1, MOST, Some(Choice::Plan)),
+        row_with("pack", Verb::Pack, 2, 2, None),
+        row_with("repack", Verb::Repack, 2, 2, None),
+        row_with("export", Verb::Export, 2, 2, None),
+    ]
+}
+
+// A row of the table.
+fn row_with(
+    name: &'static str,
+    verb: Verb,
+    fewest: usize,
+    most: usize,
+    choice: Option<Choice>,
+) -> Row
+    ensures { result ≡ record {
+      name = name.entry;
+      verb = verb;
+      fewest = fewest;
+      most = most;
+      choice = choice;
+    } }
+{
+    Row {
+        name,
+        verb,
+        fewest,
+        most,
+        choice,
+    }
 }
 
 // The words of the command with this verb.
 pub(crate) fn row_of(name: &str) -> Option<Row>
     ensures { option_map seen result ≡ row_of name.now }
 {
-    for row in rows() {
-        if row.name == name {
-            return Some(row);
-        }
-    }
-    None
+    rows().iter().find(|row| row.name == name).copied()
 }

@@ -1,12 +1,10 @@
-ghost use Rattle.std.specs.Prelude.{◌≡◌, ◌≤◌, nat_le, length, ◌&&◌, ℕ, List, ◌∷◌, ◌++◌, bytes_eq, codes, is_some, option_map, string_bytes};
+ghost use Rattle.std.specs.Prelude.{◌≡◌, ◌≤◌, nat_le, length, ◌&&◌, ◌++◌, bytes_eq, option_map, string_bytes};
 ghost use Rattle.std.specs.List.{prefix_len};
-ghost use Rattle.query_text.specs.Numbers.{number_of};
 ghost use Rattle.command_line.specs.Asked.{asked};
-ghost use Rattle.command_line.specs.Command.{blocks_command, bquery_command, built_in, by_row, chosen_in, command_of, command_with, export_command, format_of, generate_command, is_file_of, is_text, migrate_command, one_of, pack_command, plan_of, remap_command, takes_place, texts, texts_before, three_of, two_of, value_in};
-ghost use Rattle.command_line.specs.Table.{name_of, seen};
-ghost use Rattle.command_line.specs.declared.table.Verb.TheVariants as verbs;
+ghost use Rattle.command_line.specs.Command.{built_in, by_row, chosen_in, command_with, format_of, is_file_of, is_text, migrated_to, one_of, plan_of, takes_place, texts, three_of, two_of, value_in};
+ghost use Rattle.command_line.specs.Table.{seen};
 
-use crate::table::{Choice, Row, Verb, row_of};
+use crate::table::{Choice, Row, Verb};
 use part_cost::Format;
 use query_text::number;
 use topk_pruning::Plan;
@@ -74,28 +72,8 @@ pub enum Command<'a> {
     },
 }
 
-// Whether the words are a command, the program's name first. The others are refused as usage.
-pub(crate) fn is_command(words: &[String]) -> bool
-    ensures { result ≡ is_some (command_of (texts words.now)) }
-{
-    match words {
-        [_name, verb, words @ ..] => is_asked(verb.as_str(), words),
-        _ => false,
-    }
-}
-
-// Whether a verb and the words behind it are a command.
-fn is_asked(verb: &str, words: &[String]) -> bool
-    ensures { (name : List ℕ) → result ≡ is_some (command_of (name ∷ verb.now ∷ texts words.now)) }
-{
-    match row_of(verb) {
-        Some(row) => by_row(row, words).is_some(),
-        None => false,
-    }
-}
-
 // The command of a row, with as many texts as it may have, and then its option or nothing.
-fn by_row<'a>(row: Row, words: &'a [String]) -> Option<Command<'a>>
+pub(crate) fn by_row<'a>(row: Row, words: &'a [String]) -> Option<Command<'a>>
     ensures { option_map asked result ≡ by_row (seen row) (texts words.now) }
 {
     let count = texts_before(words);
@@ -141,18 +119,11 @@ fn chosen_in(choice: Choice, words: &[String]) -> Option<&str>
     match words {
         [] => Some(choice.default()),
         [option, value] => {
-            let (option, value) = (option.as_str(), value.as_str());
-            (is_option(choice, option) && can_be_text(value)).then_some(value)
+            let is_named = is_joined(option.as_bytes(), b"--", choice.name().as_bytes());
+            (is_named && can_be_text(value.as_str())).then_some(value.as_str())
         }
         _ => None,
     }
-}
-
-// Whether a word is the name of an option behind two minus signs.
-fn is_option(choice: Choice, word: &str) -> bool
-    ensures { result ≡ bytes_eq word.now (codes "--" ++ name_of choice) }
-{
-    is_joined(word.as_bytes(), b"--", choice.name().as_bytes())
 }
 
 // The command of a verb, of the texts behind it and of the value of its option; none where they do not go together.
@@ -160,7 +131,7 @@ pub(crate) fn command_with<'a>(verb: Verb, words: &'a [String], value: &str) -> 
     ensures { option_map asked result ≡ command_with verb (texts words.now) value.now }
 {
     match verb {
-        Verb::Build => build(words, value),
+        Verb::Build => build(words, parse_format(value)?),
         Verb::Query => Some(Command::Query {
             index: one(words)?,
             plan: parse_plan(value)?,
@@ -170,43 +141,46 @@ pub(crate) fn command_with<'a>(verb: Verb, words: &'a [String], value: &str) -> 
             plan: parse_plan(value)?,
         }),
         Verb::Inspect => Some(Command::Inspect { index: one(words)? }),
-        Verb::Generate => generate(words),
+        Verb::Generate => {
+            let (seed, documents, terms) = three(words)?;
+            Some(Command::Generate {
+                seed: number(seed.as_bytes())?,
+                documents: number(documents.as_bytes())?,
+                terms: number(terms.as_bytes())?,
+            })
+        }
         Verb::Migrate => migrate(words, FileKind::Plain),
         Verb::Audit => Some(Command::Audit { index: one(words)? }),
-        Verb::Blocks => blocks(words),
-        Verb::BlockQuery => block_query(words),
-        Verb::Remap => remap(words),
+        Verb::Blocks => {
+            let (index, side) = two(words)?;
+            (index != side).then_some(Command::Blocks { index, side })
+        }
+        Verb::BlockQuery => {
+            let (index, side) = two(words)?;
+            Some(Command::BlockQuery { index, side })
+        }
+        Verb::Remap => {
+            let (base, map, to) = three(words)?;
+            (!takes_place(base, map, to)).then_some(Command::Remap { base, map, to })
+        }
         Verb::Segments => Some(Command::Segments {
             indexes: words,
             plan: parse_plan(value)?,
         }),
-        Verb::Pack => pack(words),
+        Verb::Pack => build(words, Format::Three),
         Verb::Repack => migrate(words, FileKind::Packed),
-        Verb::Export => export(words),
+        Verb::Export => {
+            let (index, base) = two(words)?;
+            (!is_file_of(base, index)).then_some(Command::Export { index, base })
+        }
     }
 }
 
 // A base and an index that is none of its files, in a format.
-fn build<'a>(words: &'a [String], value: &str) -> Option<Command<'a>>
-    ensures { option_map asked result ≡ command_with verbs.Build (texts words.now) value.now }
+fn build<'a>(words: &'a [String], format: Format) -> Option<Command<'a>>
+    ensures { option_map asked result ≡ built_in (texts words.now) format }
 {
     let (base, index) = two(words)?;
-    let format = parse_format(value)?;
-    built_in(base, index, format)
-}
-
-// A base and an index that is none of its files, which is to be a packed file.
-fn pack<'a>(words: &'a [String]) -> Option<Command<'a>>
-    ensures { option_map asked result ≡ pack_command (texts words.now) }
-{
-    let (base, index) = two(words)?;
-    built_in(base, index, Format::Three)
-}
-
-// A base and an index in a format, unless the index is one of its files.
-fn built_in<'a>(base: &'a str, index: &'a str, format: Format) -> Option<Command<'a>>
-    ensures { option_map asked result ≡ built_in (Some format) (base.now, index.now) }
-{
     (!is_file_of(base, index)).then_some(Command::Build {
         base,
         index,
@@ -214,59 +188,12 @@ fn built_in<'a>(base: &'a str, index: &'a str, format: Format) -> Option<Command
     })
 }
 
-// Three numbers.
-fn generate<'a>(words: &'a [String]) -> Option<Command<'a>>
-    ensures { option_map asked result ≡ generate_command (texts words.now) }
-{
-    let (seed, documents, terms) = three(words)?;
-    let seed = parse_number(seed)?;
-    let documents = parse_number(documents)?;
-    let terms = parse_number(terms)?;
-    Some(Command::Generate {
-        seed,
-        documents,
-        terms,
-    })
-}
-
 // An index and another name, for a new one of a kind.
 fn migrate<'a>(words: &'a [String], kind: FileKind) -> Option<Command<'a>>
-    ensures { option_map asked result ≡ migrate_command kind (texts words.now) }
+    ensures { option_map asked result ≡ migrated_to kind (texts words.now) }
 {
     let (from, to) = two(words)?;
     (from != to).then_some(Command::Migrate { from, to, kind })
-}
-
-// An index, and another name.
-fn blocks<'a>(words: &'a [String]) -> Option<Command<'a>>
-    ensures { option_map asked result ≡ blocks_command (texts words.now) }
-{
-    let (index, side) = two(words)?;
-    (index != side).then_some(Command::Blocks { index, side })
-}
-
-// An index and a side file.
-fn block_query<'a>(words: &'a [String]) -> Option<Command<'a>>
-    ensures { option_map asked result ≡ bquery_command (texts words.now) }
-{
-    let (index, side) = two(words)?;
-    Some(Command::BlockQuery { index, side })
-}
-
-// A base, a map, and a new base whose files are none of theirs.
-fn remap<'a>(words: &'a [String]) -> Option<Command<'a>>
-    ensures { option_map asked result ≡ remap_command (texts words.now) }
-{
-    let (base, map, to) = three(words)?;
-    (!takes_place(base, map, to)).then_some(Command::Remap { base, map, to })
-}
-
-// An index, and a base of which it is no file.
-fn export<'a>(words: &'a [String]) -> Option<Command<'a>>
-    ensures { option_map asked result ≡ export_command (texts words.now) }
-{
-    let (index, base) = two(words)?;
-    (!is_file_of(base, index)).then_some(Command::Export { index, base })
 }
 
 // The text of one word.
@@ -305,13 +232,6 @@ fn takes_place(base: &str, map: &str, to: &str) -> bool
     ensures { result ≡ takes_place base.now map.now to.now }
 {
     to == base || is_file_of(to, map)
-}
-
-// The number that a word is: decimal digits alone, with any leading zeros.
-fn parse_number(word: &str) -> Option<u32>
-    ensures { result ≡ number_of word.now }
-{
-    number(word.as_bytes())
 }
 
 // The plan of this name.
@@ -356,11 +276,10 @@ fn is_file_of(base: &str, name: &str) -> bool
 fn is_joined(name: &[u8], text: &[u8], ending: &[u8]) -> bool
     ensures { result ≡ bytes_eq name.now (text.now ++ ending.now) }
 {
-    if name.len() < text.len() {
-        return false;
+    match name.strip_prefix(text) {
+        Some(rest) => rest == ending,
+        None => false,
     }
-    let (prefix, back) = name.split_at(text.len());
-    prefix == text && back == ending
 }
 
 // Whether a word can be a text of a command: it is not empty, is not `help`, and begins with no minus sign.

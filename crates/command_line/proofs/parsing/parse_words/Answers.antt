@@ -1,24 +1,24 @@
-use Rattle.std.proofs.Common.{◌≡◌, ◌∙◌, sym, subst, true}
-use Rattle.std.specs.Prelude.{IfErr, Result, is_some}
-use Rattle.std.proofs.lemmas.Result.{err_from_is_err_and}
-use Rattle.command_line.specs.declared.words.Command.{Command}
-use Rattle.command_line.specs.declared.error.WordsError.{WordsError}
+use Rattle.std.proofs.Common.{◌∙◌, ◌∷◌, sym, ap, subst, string_bytes}
+use Rattle.std.proofs.lemmas.List.{take_rest}
 use Rattle.command_line.specs.Command.{command_of, texts}
 use Rattle.command_line.specs.WordsErrors.{error_of_words}
-use Rattle.command_line.proofs.Plain.{no_words, refused_words}
+use Rattle.command_line.specs.Private.CommandLine.{Gives}
+use Rattle.command_line.proofs.Plain.{named, no_verb}
 use Rattle.command_line.proofs.parsing.parse_words.Goals as goal
+use Rattle.command_line.proofs.parsing.parse_words.Goals.{After-parse_verb}
 
-pub returns-then-not-is_command-clause-error : goal.returns-then-not-is_command-clause-error
-returns-then-not-is_command-clause-error c = no_words (command_of (texts c.args.words.now)) (sym c.is_command.ensures ∙ c.if-not-is_command.true)
+given : (c : After-parse_verb) → Gives (command_of (texts c.args.words.now)) c.parse_verb.result
+given c =
+    subst (λ ws. Gives (command_of ws) c.parse_verb.result)
+    (ap (λ ws. string_bytes c._name-item.result ∷ c.as_str.result.now ∷ texts ws) (take_rest c.args.words.now 2)
+    ∙ sym (named c.args.words.now c._name-item.result c.verb-item.result c.as_str.result.now c.in-len2-up.len_at_least c._name-item.is c.verb-item.is c.as_str.ensures.value))
+    (c.parse_verb.ensures (string_bytes c._name-item.result))
 
-pub returns-in_err-matches-clause-error : goal.returns-in_err-matches-clause-error
-returns-in_err-matches-clause-error c =
-    let some : is_some (command_of (texts c.args.words.now)) ≡ true = sym c.is_command.ensures ∙ c.if-not-is_command.false in
-    let p = err_from_is_err_and c.from_residual.result c.from_residual.ensures.1 in
-    let P : Result Command WordsError → Type 0 = λ r. IfErr r (λ error. error ≡ error_of_words (command_of (texts c.args.words.now))) in
-    subst P (sym p.1) (refused_words (command_of (texts c.args.words.now)) c.in_err-matches.field-0.0 _ some (c.in_err-matches.ensures.error some) p.2)
+pub returns-in-len2-up-clause-command : goal.returns-in-len2-up-clause-command
+returns-in-len2-up-clause-command c = (given c).0
 
-pub read_command-requires : goal.read_command-requires
-read_command-requires c =
-    let some : is_some (command_of (texts c.args.words.now)) ≡ true = sym c.is_command.ensures ∙ c.if-not-is_command.false in
-    (c.in_ok-matches.ensures.matches some).lends
+pub returns-in-len2-up-clause-error : goal.returns-in-len2-up-clause-error
+returns-in-len2-up-clause-error c = (given c).1
+
+pub returns-in_default-clause-error : goal.returns-in_default-clause-error
+returns-in_default-clause-error c = ap error_of_words (sym (no_verb c.args.words.now c.in_default.len_below))

@@ -1,5 +1,4 @@
-use Rattle.std.proofs.Common.{sym, ◌≡◌, ◌∙◌, ap}
-use Rattle.std.specs.Prelude.{Some, option_map}
+use Rattle.std.proofs.Common.{sym, ◌∙◌, ap}
 use Rattle.clap.specs.Words.{found_of, first_of, rows_of}
 use Rattle.clap.proofs.WalkLemmas.{first_value-rows}
 use Rattle.command_line.specs.Private.CommandLine.{value_found}

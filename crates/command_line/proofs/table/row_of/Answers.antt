@@ -1,18 +1,15 @@
-use Rattle.std.proofs.Common.{◌≡◌, ◌∙◌, sym, ap, arith, true, false}
+use Rattle.std.proofs.Common.{rules, tests, ◌≡◌, ◌∙◌, ap, option_map, Bool, Bor}
+use Rattle.std.proofs.lemmas.Iterator.{YieldsList-from_slice}
+use Rattle.std.proofs.lemmas.Iterator.Search.{find_from_yields_List}
 use Rattle.std.specs.Prelude.{bytes_eq, find}
-use Rattle.command_line.proofs.Found.{found_from, none_left}
+use Rattle.clap.proofs.WalkLemmas.{find-map}
+use Rattle.command_line.specs.declared.table.Row as words
+use Rattle.command_line.specs.Table.{Row, seen}
 use Rattle.command_line.proofs.table.row_of.Goals as goal
-
-pub returns-then-eq : goal.returns-then-eq
-returns-then-eq c =
-    sym (c.loop-row.invariant.rest ∙ found_from c.rows-row-items.result c.loop-row.row-index _ c.loop-row.invariant.rows c.loop-row-test.true c.args.name.now true (sym c.eq.ensures ∙ c.if-eq.true))
-
-pub loop-row-preserved : goal.loop-row-preserved
-loop-row-preserved c = record {
-  rows = c.loop-row.invariant.rows;
-  rest = c.loop-row.invariant.rest ∙ found_from c.rows-row-items.result c.loop-row.row-index _ c.loop-row.invariant.rows c.loop-row-test.true c.args.name.now false (sym c.eq.ensures ∙ c.if-eq.false);
-}
 
 pub returns : goal.returns
 returns c =
-    sym (c.loop-row.invariant.rest ∙ ap (find (λ row. bytes_eq row.name c.args.name.now)) (none_left c.rows-row-items.result c.loop-row.row-index c.loop-row.invariant.rows (omega (arith, c.loop-row-test.false))))
+    let named : Row → Bool = λ row. bytes_eq row.name c.args.name.now in
+    let found : option_map (λ (row : Bor words.Row). row.now) c.find.result ≡ find (λ row. named (seen row)) c.rows.result =
+    find_from_yields_List (λ row. named (seen row)) _ _ c.find.result c.find.ensures.ran (YieldsList-from_slice c.rows.result cc) (λ x b q k. search (rules, tests)) in
+    ap (option_map seen) (c.copied.ensures ∙ found) ∙ find-map named seen c.rows.result ∙ ap (find named) c.rows.ensures

@@ -1,7 +1,6 @@
 use Rattle.std.proofs.Common.{rules, ◌≡◌, ◌∙◌, sym, ap, refl, take, drop, true, false}
 use Rattle.std.specs.Prelude.{Some, None, option_map}
 use Rattle.command_line.specs.Asked.{asked}
-use Rattle.command_line.specs.Command.{texts, value_in}
 use Rattle.command_line.specs.Table.{seen}
 use Rattle.command_line.proofs.Found.{by_count}
 use Rattle.command_line.proofs.words.by_row.Goals as goal
