@@ -1,75 +1,42 @@
 -- What a run leaves that wrote bytes as the file of a slot behind a source that was read, or stopped at that.
-use Rattle.std.proofs.Common.{◌≡◌, ℕ, ◌≤◌, arith, refl, sym, ◌∙◌, ap, subst, List, inl, inr, ◌⊎◌}
-use Rattle.std.specs.Prelude.{Some, None, IsTrue, Result, Ok, Err, take}
-use Rattle.pef_io.specs.declared.fail.IoFail.{IoFail}
+use Rattle.std.proofs.Common.{◌≡◌, ℕ, arith, refl, sym, ◌∙◌, ap, subst, List, inl, inr, ◌⊎◌}
+use Rattle.std.specs.Prelude.{Some, IsTrue, Ok, Err}
 use Rattle.pef_io.specs.declared.fail.IoFail.TheVariants as call
 use Rattle.pef_io.specs.declared.fail.Slot.{Slot}
-use Rattle.pef_io.specs.declared.fail.Slot.TheVariants.{Index}
 use Rattle.pef_io.specs.Calls.{Rose}
 use Rattle.pef_io.specs.SourceState.{SourceState}
 use Rattle.pef_io.specs.SinkState.{SinkState}
-use Rattle.pef_io.specs.DepotState.{DepotState, OnlyReads, SameStarts}
+use Rattle.pef_io.specs.DepotState.{DepotState, OnlyReads}
 use Rattle.command_model.specs.Written.{IsWritten, IsUnwritten, IsWrittenInPart, IsBeingWritten, IsLeftByFault}
 use Rattle.word_files.specs.WriteFile.{WritesBytes}
-use Rattle.command_ends.specs.Outside.{Outside, NoCallFailed, outside, OfFile, OfWriting, OfInput, OfOut}
-use Rattle.command_ends.specs.Outcome.{Outcome, Done, WriteFault, NoMemory, is_refusal, fault_of}
-use Rattle.command_ends.specs.Ends.{EndsByFault, FirstFaultEnds, OrNoMemory}
-use Rattle.command_ends.specs.WrittenFile.{IsLeftInPart, WritesFile, EndsByWriting, WritesOnlyAccepted}
-use Rattle.command_ends.specs.Sources.{Source, Accepts, IndexesAt, ReadsFrom, StartedIn, Starts, names_of}
-use Rattle.command_ends.specs.SegmentStarts.{StartedUnder}
-use Rattle.command_ends.specs.Products.{Does, File, builds_words}
-use Rattle.command_ends.specs.Steps.AtSource.{IsRead, was_read}
+use Rattle.outcomes.specs.declared.stop.Stop.TheVariants.{WriteFault}
+use Rattle.outcomes.specs.Outside.{Outside, outside, OfWriting, OfInput, OfOut}
+use Rattle.outcomes.specs.Outcome.{Outcome, done, is_refusal}
+use Rattle.outcomes.specs.Ends.{EndsByFault}
+use Rattle.outcomes.specs.Stops.{outcome_by, stop_of_writing}
+use Rattle.outcomes.proofs.Counted.{Called, calls_complete, calls_done, calls_end, calls_unrefused, not_true, others_stay}
+use Rattle.command_ends.specs.WrittenFile.{IsLeftInPart, WritesFile, EndsByWriting}
+use Rattle.command_ends.specs.Sources.{Source, ReadsFrom, Starts}
+use Rattle.command_ends.specs.Products.{Does, File, WritesTo, builds_words}
+use Rattle.command_ends.specs.Steps.AtSource.{IsRead}
 use Rattle.command_ends.specs.Steps.Leaves.{Leaves}
-use Rattle.command_ends.specs.Steps.Stops.{written_outcome}
+use Rattle.command_ends.proofs.Made.{made, only_accepted}
 use Rattle.command_ends.proofs.SourceRead.{is_complete}
-use Rattle.command_ends.proofs.Started.{written_starts}
-use Rattle.command_ends.proofs.Counted.{stays, rises, second, not_true, Of, all_end}
 
 abbrev pub Written : Type 0
-Written = Result (Unit {0}) IoFail
+Written = Called
 
-pub not_file : (slot : Slot) (r : Written) (other : Slot) → ¬ Of (fault_of (written_outcome slot r)) (OfFile other)
-not_file slot (Err call.Failed) other h = let s : Of (Some OfWriting) (OfFile other) = h in cc
-not_file slot r other h = let s : Of None (OfFile other) = h in cc
-
-pub not_input : (slot : Slot) (r : Written) → ¬ Of (fault_of (written_outcome slot r)) OfInput
-not_input slot (Err call.Failed) h = let s : Of (Some OfWriting) OfInput = h in cc
-not_input slot r h = let s : Of None OfInput = h in cc
-
-pub not_out : (slot : Slot) (r : Written) → ¬ Of (fault_of (written_outcome slot r)) OfOut
-not_out slot (Err call.Failed) h = let s : Of (Some OfWriting) OfOut = h in cc
-not_out slot r h = let s : Of None OfOut = h in cc
-
-pub not_refusal : (slot : Slot) (r : Written) → IsTrue (is_refusal (written_outcome slot r)) → ⊥
-not_refusal slot (Ok u) h = not_true h
-not_refusal slot (Err call.Failed) h = not_true h
-not_refusal slot (Err call.NoMemory) h = not_true h
+pub not_refusal : (slot : Slot) (r : Called) → IsTrue (is_refusal (outcome_by (stop_of_writing slot) r)) → ⊥
+not_refusal slot r h = not_true (sym (calls_unrefused (WriteFault slot) refl r) ∙ h)
 
 -- where all is done, the bytes stand under the name
-pub stands_written : (slot : Slot) (bytes name : List ℕ) (d1 d2 : DepotState) (r : Written) → WritesBytes bytes name d1 d2 r → written_outcome slot r ≡ Done
+pub stands_written : (slot : Slot) (bytes name : List ℕ) (d1 d2 : DepotState) (r : Called) → WritesBytes bytes name d1 d2 r → outcome_by (stop_of_writing slot) r ≡ done
     → IsTrue d2.tells → d2.file name ≡ Some bytes
-stands_written slot bytes name d1 d2 (Ok u) v is t = v.written.file (sym v.writes.tells ∙ t)
-stands_written slot bytes name d1 d2 (Err call.Failed) v is t = let bad : (WriteFault slot) ≡ Done = is in cc
-stands_written slot bytes name d1 d2 (Err call.NoMemory) v is t = let bad : NoMemory ≡ Done = is in cc
-
-was_written : (slot : Slot) (r : Written) → IsTrue (was_read (written_outcome slot r))
-was_written slot (Ok u) = refl
-was_written slot (Err call.Failed) = refl
-was_written slot (Err call.NoMemory) = refl
+stands_written slot bytes name d1 d2 r v is t = (calls_done (WriteFault slot) r v.written is).file (sym v.writes.tells ∙ t)
 
 -- a run that only read wrote nothing
 pub only_read : {slots : Slot → Type 0} (d d' : DepotState) → OnlyReads slots d d' → IsUnwritten d d'
 only_read d d' reads = record { files = reads.files; writing = reads.writing }
-
--- a writing starts nothing, and is refused memory only where that is the outcome
-pub then_written : (source : Source) (d d1 d2 : DepotState) (outcome : Outcome) → Starts source outcome d d1 → SameStarts d1 d2
-    → (outcome ≡ NoMemory) ⊎ (d2.refusals ≡ d1.refusals) → Starts source outcome d d2
-then_written (IndexesAt names) d d1 d2 outcome s same wanted = record {
-  in_turn = (s.in_turn.0, s.in_turn.1, s.in_turn.2, subst (StartedUnder (take s.in_turn.0 names) (d.starts Index)) (sym (same Index)) s.in_turn.3);
-  no_others = λ slot other. same slot ∙ s.no_others slot other;
-  refusals = elim wanted [ inl is ↦ inl is | inr stays ↦ elim s.refusals [ inl is ↦ inl is | inr before ↦ inr (stays ∙ before) ] ];
-}
-then_written source d d1 d2 outcome s same wanted = written_starts (names_of source) (StartedIn source outcome) d d1 d2 outcome s same wanted
 
 -- Bytes of which OnBytes tells were made of a source over depot `d`, which is `d1` then, and written as the file of a slot or not, which leaves `d2`.
 module _ (source : Source) (Makes : Outside → Outside → Outcome → Type 0) (slot : Slot) (d d1 d2 : DepotState) (read : IsRead source d d1)
@@ -120,7 +87,7 @@ module _ (source : Source) (Makes : Outside → Outside → Outcome → Type 0) 
   rose_from (inl lt) = inl (omega (arith, lt, reads.refusals_never_fall))
   rose_from (inr last) = inr last
 
-  writes : (r : Written) → WritesBytes bytes name d1 d2 r → WritesFile slot name OnBytes old new (written_outcome slot r)
+  writes : (r : Called) → WritesBytes bytes name d1 d2 r → WritesFile slot name OnBytes old new (outcome_by (stop_of_writing slot) r)
   writes (Ok u) v = on (IsWritten name d d2) (written_from v.written)
   writes (Err call.Failed) v =
       (refl, on (λ bytes. IsLeftInPart name d d2 bytes × IsLeftByFault name d d2 bytes) (left_from v.refused v.begun, fault_from (v.failed refl)))
@@ -129,67 +96,30 @@ module _ (source : Source) (Makes : Outside → Outside → Outcome → Type 0) 
     | inr rose ↦ inr (rose_from rose, on (IsLeftInPart name d d2) (left_from v.refused v.begun))
   ]
 
-  same_writing : d1.writing_faults ≡ d.writing_faults
-  same_writing = reads.writing_count
-
-  -- the count of what is written
-  writing_ends : (r : Written) → WritesBytes bytes name d1 d2 r → EndsByFault OfWriting (written_outcome slot r) d.writing_faults d2.writing_faults
-  writing_ends (Ok u) v = stays OfWriting Done _ _ (λ h. cc) (second v.count_rises_only_there (λ h. let b : ◌≡◌ {A = Written} (Ok u) (Err call.Failed) = h in cc) ∙ same_writing)
-  writing_ends (Err call.Failed) v =
-      let P : ℕ → Type 0 = λ n. Rose n d2.writing_faults in
-      let Q : ℕ → Type 0 = λ n. n ≤ d2.writing_faults in
-      rises OfWriting (WriteFault slot) _ _ refl (subst P same_writing (v.write_only_where_it_rose refl)) (subst Q same_writing v.writes.never_falls)
-  writing_ends (Err call.NoMemory) v =
-      stays OfWriting NoMemory _ _ (λ h. cc) (second v.count_rises_only_there (λ h. let b : ◌≡◌ {A = Written} (Err call.NoMemory) (Err call.Failed) = h in cc) ∙ same_writing)
-
-  faults_end : (r : Written) → WritesBytes bytes name d1 d2 r → FirstFaultEnds old new (written_outcome slot r)
-  faults_end r v = all_end _ _ _ (record {
-    slots = λ other. stays (OfFile other) (written_outcome slot r) _ _ (not_file slot r other) (v.writes.slot_counts other ∙ read.counts other);
-    writing = writing_ends r v;
-    input = stays OfInput (written_outcome slot r) _ _ (not_input slot r) refl;
-    out = stays OfOut (written_outcome slot r) _ _ (not_out slot r) refl;
-  })
-
-  complete : (r : Written) → WritesBytes bytes name d1 d2 r → NoCallFailed old new → OrNoMemory Done (written_outcome slot r)
-  complete (Ok u) v none = inl refl
-  complete (Err call.Failed) v none =
-      let P : ℕ → Type 0 = λ n. Rose n d2.writing_faults in
-      absurd (none OfWriting (subst P same_writing (v.write_only_where_it_rose refl)))
-  complete (Err call.NoMemory) v none = inr refl
-
-  -- a count that stood as before at the reading's end
-  or_same : (r : Written) (now before : ℕ) {first : ℕ} → (r ≡ Err call.Failed) ⊎ (now ≡ before) → before ≡ first
-      → EndsByWriting (λ s. s ≡ slot) (written_outcome slot r) ⊎ (now ≡ first)
-  or_same r now before (inl is) same = inl (slot, refl, ap (written_outcome slot) is)
-  or_same r now before (inr stands) same = inr (stands ∙ same)
-
-  only_accepted : (r : Written) → WritesBytes bytes name d1 d2 r → WritesOnlyAccepted (ReadsFrom source) (λ s. s ≡ slot) (Accepts source d) old new (written_outcome slot r)
-  only_accepted r v = record {
-    refused = λ h. absurd (not_refusal slot r h);
-    unaccepted = λ denied. absurd (denied read.accepted);
-    stay_started = λ other h. (v.writes.slots other).0 ∙ reads.stay_started other h;
-    other_slots = λ other ne. (
-      (v.writes.slots other).0 ∙ (reads.other_slots other ne).0,
-      λ t. (v.writes.slots other).1 (told t) ∙ (reads.other_slots other ne).1 t,
-    );
-    create_count = or_same r _ _ v.create_count reads.create_count;
-    finish_count = or_same r _ _ v.finish_count reads.finish_count;
-  }
-
   -- all that is left
-  pub file_written : (r : Written) → WritesBytes bytes name d1 d2 r → (WritesFile slot name OnBytes old new (written_outcome slot r) → Makes old new (written_outcome slot r))
-      → Leaves (Does source (File slot) Makes) (Starts source) old new (written_outcome slot r)
-  file_written r v makes = record {
-    performs = record {
-      ends = inr (makes (writes r v));
-      refuses = read.refuses (written_outcome slot r);
-      complete = λ stands none. is_complete (builds_words source (File slot)) (written_outcome slot r) (complete r v none);
-      depot = only_accepted r v;
-    };
-    faults = faults_end r v;
-    starts = then_written source d d1 d2 (written_outcome slot r) (read.starts (written_outcome slot r) (was_written slot r)) v.writes.starts
-        (elim v.refusals_rise_only_there [ inl is ↦ inl (ap (written_outcome slot) is) | inr same ↦ inr same ]);
-    depot_tells = v.writes.tells ∙ reads.tells;
-    input_tells = refl;
-    out_tells = refl;
-  }
+  pub file_written : (r : Called) → WritesBytes bytes name d1 d2 r → (WritesFile slot name OnBytes old new (outcome_by (stop_of_writing slot) r) → Makes old new (outcome_by (stop_of_writing slot) r))
+      → Leaves (Does source (File slot) Makes) (Starts source) old new (outcome_by (stop_of_writing slot) r)
+  file_written r v makes =
+      let outcome : Outcome = outcome_by (stop_of_writing slot) r in
+      let Rises : ℕ → Type 0 = λ n. Rose n d2.writing_faults in
+      let Counts : ℕ → Type 0 = λ n. EndsByFault OfWriting outcome n d2.writing_faults in
+      let unrefused = calls_unrefused (WriteFault slot) refl r in
+      made source old new d1 read (File slot) Makes outcome (record {
+        unrefused = unrefused;
+        complete = λ stands none. is_complete (builds_words source (File slot)) outcome
+            (calls_complete (WriteFault slot) r (λ is. none OfWriting (subst Rises reads.writing_count (v.write_only_where_it_rose is))));
+        touches = only_accepted source old new d1 read (WritesTo (File slot)) outcome unrefused v.writes.slots (by_writing v.create_count) (by_writing v.finish_count);
+        starts = v.writes.starts;
+        refusals = elim v.refusals_rise_only_there [ inl is ↦ inl (ap (outcome_by (stop_of_writing slot)) is) | inr same ↦ inr same ];
+        slots = v.writes.slot_counts;
+        writing = subst Counts reads.writing_count (calls_end (WriteFault slot) OfWriting refl r _ _ v.write_only_where_it_rose v.count_rises_only_there v.writes.never_falls);
+        input = others_stay (WriteFault slot) OfWriting refl OfInput (λ e. cc) r _ _ refl;
+        out = others_stay (WriteFault slot) OfWriting refl OfOut (λ e. cc) r _ _ refl;
+        depot_tells = v.writes.tells;
+        input_tells = refl;
+        out_tells = refl;
+      }) (makes (writes r v))
+    where
+      by_writing : {same : Type 0} → (r ≡ Err call.Failed) ⊎ same → EndsByWriting (WritesTo (File slot)) (outcome_by (stop_of_writing slot) r) ⊎ same
+      by_writing (inl is) = inl (slot, refl, ap (outcome_by (stop_of_writing slot)) is)
+      by_writing (inr same) = inr same

@@ -7,6 +7,7 @@ use Rattle.collection_model.specs.Spelling.{Files}
 use Rattle.pef_io.specs.declared.fail.IoFail.{IoFail}
 use Rattle.pef_io.specs.declared.fail.IoFail.TheVariants as call
 use Rattle.pef_io.specs.declared.fail.Slot.{Slot}
+use Rattle.pef_io.specs.declared.fail.Slot.TheVariants.{Docs}
 use Rattle.pef_io.specs.Calls.{Rose}
 use Rattle.pef_io.specs.SourceState.{SourceState}
 use Rattle.pef_io.specs.SinkState.{SinkState}
@@ -17,30 +18,33 @@ use Rattle.command_model.specs.FilesWritten.{NamedFile, nth_file, AreWritten, Is
 use Rattle.command_model.specs.FoundMap.{files_under}
 use Rattle.remapped_files.specs.declared.image.FileFail.{FileFail}
 use Rattle.remapped_files.specs.WriteImage as one
-use Rattle.remapped_files.specs.WriteImage.{file_fail}
-use Rattle.command_ends.specs.Outside.{Outside, outside, NoCallFailed, OfFile, OfWriting, OfInput, OfOut}
-use Rattle.command_ends.specs.Outcome.{Outcome, Done, WriteFault, NoMemory, fault_of, is_refusal}
-use Rattle.command_ends.specs.Ends.{EndsByFault, OrNoMemory}
+use Rattle.remapped_files.specs.WriteImage.{file_fail, io_of}
+use Rattle.outcomes.specs.declared.stop.Stop.TheVariants.{WriteFault}
+use Rattle.outcomes.specs.Outside.{Outside, outside, OfWriting, OfInput, OfOut}
+use Rattle.outcomes.specs.Outcome.{Outcome, done}
+use Rattle.outcomes.specs.Ends.{EndsByFault}
+use Rattle.outcomes.specs.Stops.{outcome_by, stop_of_file, stop_of_writing}
+use Rattle.outcomes.proofs.Counted.{Called, calls_complete, calls_end, calls_unrefused, others_stay}
 use Rattle.command_ends.specs.WrittenFile.{EndsByWriting}
 use Rattle.command_ends.specs.WrittenFiles.{WritesFiles}
 use Rattle.command_ends.specs.Sources.{Source, ReadsFrom, Starts}
 use Rattle.command_ends.specs.Products as product
 use Rattle.command_ends.specs.Products.{Does, builds_words}
-use Rattle.command_ends.specs.Steps.AtSource.{IsRead, was_read}
+use Rattle.command_ends.specs.Steps.AtSource.{IsRead}
 use Rattle.command_ends.specs.Steps.Leaves.{Leaves}
-use Rattle.command_ends.specs.Steps.Stops.{files_outcome}
-use Rattle.command_ends.proofs.Counted.{stays, rises, second, not_true, Of, all_end}
-use Rattle.command_ends.proofs.FileWritten.{then_written}
+use Rattle.command_ends.proofs.Made.{made, only_accepted}
 use Rattle.command_ends.proofs.SourceRead.{is_complete}
 
 abbrev pub Written : Type 0
 Written = Result (Unit {0}) FileFail
 
-fail_of : (e f : FileFail) → (let r : Written = Err e in r ≡ Err f) → e ≡ f
-fail_of e f h = cc
-
-failed_not_wanted : (slot s : Slot) → (let r : Written = Err (file_fail slot call.Failed) in r ≡ Err (file_fail s call.NoMemory)) → ⊥
-failed_not_wanted slot s h = let e : call.Failed ≡ call.NoMemory = ap (λ (f : FileFail). f.fail) (fail_of (file_fail slot call.Failed) (file_fail s call.NoMemory) h) in cc
+-- the slot of a failed write
+failed_at : (r : Written) → io_of r ≡ Err call.Failed → (slot : Slot) × (r ≡ Err (file_fail slot call.Failed))
+failed_at (Ok u) h = let bad : ◌≡◌ {A = Called} (Ok u) (Err call.Failed) = h in cc
+failed_at (Err f) h = (f.slot, ap (λ x. Err (file_fail f.slot x)) (same f.fail h))
+  where
+    same : (x : IoFail) → ◌≡◌ {A = Called} (Err x) (Err call.Failed) → x ≡ call.Failed
+    same x is = cc
 
 -- what stands in the files is what was written
 files-stand : (files : Files) (f g h : Option (List ℕ)) → f ≡ Some files.docs → g ≡ Some files.freqs → h ≡ Some files.sizes
@@ -58,13 +62,9 @@ stand_under base files d d2 h t =
     (All-get_or Stands (files_under base files) 2 nothing (omega arith) each)
 
 -- where all is done, all is written
-pub all_there : (files : List NamedFile) (d1 d2 : DepotState) (r : Written) → one.WritesFiles files d1 d2 r → files_outcome r ≡ Done → AreWritten files d1 d2
-all_there files d1 d2 (Ok u) v done = v.written
-all_there files d1 d2 (Err f) v done = absurd (go f.fail done)
-  where
-    go : (fail : IoFail) → files_outcome (Err (file_fail f.slot fail)) ≡ Done → ⊥
-    go call.Failed h = let bad : WriteFault f.slot ≡ Done = h in cc
-    go call.NoMemory h = let bad : NoMemory ≡ Done = h in cc
+pub all_there : (files : List NamedFile) (d1 d2 : DepotState) (r : Written) → one.WritesFiles files d1 d2 r → outcome_by stop_of_file r ≡ done → AreWritten files d1 d2
+all_there files d1 d2 (Ok u) v is = v.written
+all_there files d1 d2 (Err f) v is = let bad : ◌≡◌ {A = Outcome} (Err (stop_of_file f)) done = is in cc
 
 -- Files of which OnFiles tells are those of a source over depot `d`, which is `d1` then, and were written or not, which leaves `d2`.
 module _ (source : Source) (Makes : Outside → Outside → Outcome → Type 0) (d d1 d2 : DepotState) (read : IsRead source d d1)
@@ -120,112 +120,54 @@ module _ (source : Source) (Makes : Outside → Outside → Outcome → Type 0) 
   rose_from (inl lt) = inl (omega (arith, lt, reads.refusals_never_fall))
   rose_from (inr last) = inr last
 
-  -- What is known of a run that wrote its files or stopped at one.
-  record IsEnded (outcome : Outcome) : Type 0 where
-    ends : WritesFiles OnFiles old new outcome
-    complete : NoCallFailed old new → OrNoMemory Done outcome
-    no_refusal : ¬ IsTrue (is_refusal outcome)
-    read_before : IsTrue (was_read outcome)
-    writing : EndsByFault OfWriting outcome d.writing_faults d2.writing_faults
-    slots : (slot : Slot) → ¬ Of (fault_of outcome) (OfFile slot)
-    input : ¬ Of (fault_of outcome) OfInput
-    out : ¬ Of (fault_of outcome) OfOut
-    create_count : EndsByWriting IsCollectionSlot outcome ⊎ (d2.create_faults ≡ d.create_faults)
-    finish_count : EndsByWriting IsCollectionSlot outcome ⊎ (d2.finish_faults ≡ d.finish_faults)
-    refusals : (outcome ≡ NoMemory) ⊎ (d2.refusals ≡ d1.refusals)
+  ends : (r : Written) → one.WritesFiles files d1 d2 r → WritesFiles OnFiles old new (outcome_by stop_of_file r)
+  ends (Ok u) v = on (λ files. AreWritten files d d2) (written_from v.written)
+  ends (Err f) v = go f.slot f.fail v
+    where
+      go : (slot : Slot) (fail : IoFail) → one.WritesFiles files d1 d2 (Err (file_fail slot fail)) → WritesFiles OnFiles old new (Err (stop_of_writing slot fail))
+      go slot call.Failed v = (
+        v.stopped.0,
+        on (λ files. StopsAtFile files (turn slot) d d2 × FileLeftByFault files (turn slot) d d2) (stops_from (turn slot) v.stopped.1, fault_from (turn slot) (v.failed slot refl)),
+      )
+      go slot call.NoMemory v = inr (
+        rose_from (v.no_memory slot refl),
+        on (λ files. (slot : Slot) × IsCollectionSlot slot × StopsAtFile files (turn slot) d d2) (slot, v.stopped.0, stops_from (turn slot) v.stopped.1),
+      )
 
-  module _ (r : Written) (v : one.WritesFiles files d1 d2 r) where
-    left : (outcome : Outcome) → IsEnded outcome → (WritesFiles OnFiles old new outcome → Makes old new outcome) → Leaves (Does source product.Files Makes) (Starts source) old new outcome
-    left outcome m makes = record {
-      performs = record {
-        ends = inr (makes m.ends);
-        refuses = read.refuses outcome;
-        complete = λ stands none. is_complete (builds_words source product.Files) outcome (m.complete none);
-        depot = record {
-          refused = λ h. absurd (m.no_refusal h);
-          unaccepted = λ denied. absurd (denied read.accepted);
-          stay_started = λ slot h. (v.creates.slots slot).0 ∙ reads.stay_started slot h;
-          other_slots = λ slot other. (
-            (v.creates.slots slot).0 ∙ (reads.other_slots slot other).0,
-            λ t. (v.creates.slots slot).1 (told t) ∙ (reads.other_slots slot other).1 t,
-          );
-          create_count = m.create_count;
-          finish_count = m.finish_count;
-        };
-      };
-      faults = all_end _ _ _ (record {
-        slots = λ slot. stays (OfFile slot) outcome _ _ (m.slots slot) (v.creates.slot_counts slot ∙ read.counts slot);
-        writing = m.writing;
-        input = stays OfInput outcome _ _ m.input refl;
-        out = stays OfOut outcome _ _ m.out refl;
-      });
-      starts = then_written source d d1 d2 outcome (read.starts outcome m.read_before) v.creates.starts m.refusals;
-      depot_tells = v.creates.tells ∙ reads.tells;
-      input_tells = refl;
-      out_tells = refl;
-    }
+  -- all that is left where a failed write is that of this slot
+  left : (slot : Slot) (r : Written) → one.WritesFiles files d1 d2 r → (let outcome : Outcome = outcome_by (stop_of_writing slot) (io_of r) in
+      ((s : Slot) → r ≡ Err (file_fail s call.Failed) → IsCollectionSlot slot) → Makes old new outcome → Leaves (Does source product.Files Makes) (Starts source) old new outcome)
+  left slot r v of makes =
+      let outcome : Outcome = outcome_by (stop_of_writing slot) (io_of r) in
+      let Counts : ℕ → Type 0 = λ n. EndsByFault OfWriting outcome n d2.writing_faults in
+      let Rises : ℕ → Type 0 = λ n. Rose n d2.writing_faults in
+      let unrefused = calls_unrefused (WriteFault slot) refl (io_of r) in
+      made source old new d1 read product.Files Makes outcome (record {
+        unrefused = unrefused;
+        complete = λ stands none. is_complete (builds_words source product.Files) outcome
+            (calls_complete (WriteFault slot) (io_of r) (λ is. none OfWriting (subst Rises reads.writing_count (rose is))));
+        touches = only_accepted source old new d1 read IsCollectionSlot outcome unrefused v.creates.slots (by_writing v.create_count) (by_writing v.finish_count);
+        starts = v.creates.starts;
+        refusals = elim v.refusals_rise_only_there [ inl h ↦ inl (ap (λ x. outcome_by (stop_of_writing slot) (io_of x)) h.1) | inr same ↦ inr same ];
+        slots = v.creates.slot_counts;
+        writing = subst Counts reads.writing_count (calls_end (WriteFault slot) OfWriting refl (io_of r) _ _ rose
+            (elim v.count_rises_only_there [ inl h ↦ inl (ap io_of h.1) | inr same ↦ inr same ]) v.creates.never_falls);
+        input = others_stay (WriteFault slot) OfWriting refl OfInput (λ e. cc) (io_of r) _ _ refl;
+        out = others_stay (WriteFault slot) OfWriting refl OfOut (λ e. cc) (io_of r) _ _ refl;
+        depot_tells = v.creates.tells;
+        input_tells = refl;
+        out_tells = refl;
+      }) makes
+    where
+      rose : io_of r ≡ Err call.Failed → Rose d1.writing_faults d2.writing_faults
+      rose is = let at = failed_at r is in v.write_only_where_it_rose at.0 at.1
 
-  all_done : one.WritesFiles files d1 d2 (Ok tt) → IsEnded Done
-  all_done v = record {
-    ends = on (λ files. AreWritten files d d2) (written_from v.written);
-    complete = λ none. inl refl;
-    no_refusal = not_true;
-    read_before = refl;
-    writing = stays OfWriting Done _ _ (λ h. cc) (second v.count_rises_only_there (λ h. let got = h.1 in cc) ∙ reads.writing_count);
-    slots = λ slot h. cc;
-    input = λ h. cc;
-    out = λ h. cc;
-    create_count = inr (second v.create_count (λ h. let got = h.1 in cc) ∙ reads.create_count);
-    finish_count = inr (second v.finish_count (λ h. let got = h.1 in cc) ∙ reads.finish_count);
-    refusals = inr (second v.refusals_rise_only_there (λ h. let got = h.1 in cc));
-  }
-
-  one_failed : (slot : Slot) → one.WritesFiles files d1 d2 (Err (file_fail slot call.Failed)) → IsEnded (WriteFault slot)
-  one_failed slot v =
-      let at = v.stopped in
-      let rose : Rose d.writing_faults d2.writing_faults = subst (λ (n : ℕ). Rose n d2.writing_faults) reads.writing_count (v.write_only_where_it_rose slot refl) in
-      record {
-        ends = (
-          at.0,
-          on (λ files. StopsAtFile files (turn slot) d d2 × FileLeftByFault files (turn slot) d d2) (stops_from (turn slot) at.1, fault_from (turn slot) (v.failed slot refl)),
-        );
-        complete = λ none. absurd (none OfWriting rose);
-        no_refusal = not_true;
-        read_before = refl;
-        writing = rises OfWriting (WriteFault slot) _ _ refl rose (omega (arith, v.creates.never_falls, reads.writing_count));
-        slots = λ s h. cc;
-        input = λ h. cc;
-        out = λ h. cc;
-        create_count = inl (slot, at.0, refl);
-        finish_count = inl (slot, at.0, refl);
-        refusals = inr (second v.refusals_rise_only_there (λ h. failed_not_wanted slot h.0 h.1));
-      }
-
-  one_wanted : (slot : Slot) → one.WritesFiles files d1 d2 (Err (file_fail slot call.NoMemory)) → IsEnded NoMemory
-  one_wanted slot v =
-      let at = v.stopped in
-      let not_failed : ((s : Slot) × (let r : Written = Err (file_fail slot call.NoMemory) in r ≡ Err (file_fail s call.Failed))) → ⊥ = λ h. failed_not_wanted h.0 slot (sym h.1) in
-      record {
-        ends = inr (rose_from (v.no_memory slot refl), on (λ files. (slot : Slot) × IsCollectionSlot slot × StopsAtFile files (turn slot) d d2) (slot, at.0, stops_from (turn slot) at.1));
-        complete = λ none. inr refl;
-        no_refusal = not_true;
-        read_before = refl;
-        writing = stays OfWriting NoMemory _ _ (λ h. cc) (second v.count_rises_only_there not_failed ∙ reads.writing_count);
-        slots = λ s h. cc;
-        input = λ h. cc;
-        out = λ h. cc;
-        create_count = inr (second v.create_count not_failed ∙ reads.create_count);
-        finish_count = inr (second v.finish_count not_failed ∙ reads.finish_count);
-        refusals = inl refl;
-      }
+      by_writing : {same : Type 0} → ((s : Slot) × (r ≡ Err (file_fail s call.Failed))) ⊎ same → EndsByWriting IsCollectionSlot (outcome_by (stop_of_writing slot) (io_of r)) ⊎ same
+      by_writing (inl h) = inl (slot, of h.0 h.1, ap (λ x. outcome_by (stop_of_writing slot) (io_of x)) h.1)
+      by_writing (inr same) = inr same
 
   -- all that is left
-  pub files_written : (r : Written) → one.WritesFiles files d1 d2 r → (WritesFiles OnFiles old new (files_outcome r) → Makes old new (files_outcome r))
-      → Leaves (Does source product.Files Makes) (Starts source) old new (files_outcome r)
-  files_written (Ok u) v makes = left (Ok u) v Done (all_done v) makes
-  files_written (Err f) v makes = go f.slot f.fail v makes
-    where
-      go : (slot : Slot) (fail : IoFail) → (let r : Written = Err (file_fail slot fail) in one.WritesFiles files d1 d2 r → (WritesFiles OnFiles old new (files_outcome r) → Makes old new (files_outcome r))
-          → Leaves (Does source product.Files Makes) (Starts source) old new (files_outcome r))
-      go slot call.Failed v makes = left (Err (file_fail slot call.Failed)) v (WriteFault slot) (one_failed slot v) makes
-      go slot call.NoMemory v makes = left (Err (file_fail slot call.NoMemory)) v NoMemory (one_wanted slot v) makes
+  pub files_written : (r : Written) → one.WritesFiles files d1 d2 r → (WritesFiles OnFiles old new (outcome_by stop_of_file r) → Makes old new (outcome_by stop_of_file r))
+      → Leaves (Does source product.Files Makes) (Starts source) old new (outcome_by stop_of_file r)
+  files_written (Ok u) v makes = left Docs (Ok u) v (λ s is. let bad : ◌≡◌ {A = Written} (Ok u) (Err (file_fail s call.Failed)) = is in cc) (makes (ends (Ok u) v))
+  files_written (Err f) v makes = left f.slot (Err f) v (λ s is. v.stopped.0) (makes (ends (Err f) v))

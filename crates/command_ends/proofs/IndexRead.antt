@@ -17,15 +17,16 @@ use Rattle.command_model.specs.Found.{AreOfWords, most_bytes}
 use Rattle.word_files.specs.declared.loading.LoadWordsError.{LoadWordsError}
 use Rattle.word_files.specs.declared.loading.LoadWordsError.TheVariants as loading
 use Rattle.word_files.specs.LoadWords.{LoadsWords}
-use Rattle.command_ends.specs.declared.stop.Stop.TheVariants as stop
-use Rattle.command_ends.specs.Outside.{Count, OfFile}
-use Rattle.command_ends.specs.Outcome.{Outcome, BrokenIndex, NoMemory, TooLarge, fault_of}
+use Rattle.outcomes.specs.declared.stop.Stop.TheVariants as stop
+use Rattle.outcomes.specs.Outside.{Count, OfFile}
+use Rattle.outcomes.specs.declared.stop.Stop.TheVariants.{BrokenIndex, NoMemory, TooLarge}
+use Rattle.outcomes.specs.Outcome.{Outcome, fault_of}
 use Rattle.command_ends.specs.FoundIndex.{FindsIndex, FindsIndexOf, HasBroken, IsFirstBrokenOfFile}
 use Rattle.command_ends.specs.Sources.{EndsAt, IndexAt, IsRefusedAs, Stands}
 use Rattle.command_ends.specs.Steps.AtSource.{IsUnread}
 use Rattle.command_ends.specs.Steps.LoadedIndex.{IsLoaded, IsUnloaded}
-use Rattle.command_ends.specs.Steps.Stops.{outcome_of_stop, ragged_index, stop_of_index}
-use Rattle.command_ends.proofs.Counted.{not_both_lengths, stays, Of}
+use Rattle.outcomes.specs.Stops.{ragged_index, stop_of_index}
+use Rattle.outcomes.proofs.Counted.{not_both_lengths, stays, Of}
 use Rattle.command_ends.proofs.SourceRead.{Laws, ended_there, refuses_none}
 use Rattle.command_ends.proofs.WordsLoaded.{even, loaded_counts, short, slots_unloaded, starts, unloaded_starts}
 
@@ -95,17 +96,17 @@ whole read one name d t c fault (v, e, f) broken =
 
 module _ (read : WordsAreRead) (check : OneBrokenCheck) (name : List ℕ) where
   one : (d : DepotState) → IsTrue d.tells → (a b : Outcome) → IsRefusedAs (IndexAt name) d a → IsRefusedAs (IndexAt name) d b → a ≡ b
-  one d t (BrokenIndex f) (BrokenIndex g) x y = ap BrokenIndex (one_first read check (bytes_under d name) f g (x t).first (y t).first)
-  one d t (BrokenIndex f) (TooLarge slot) x y = absurd (not_both_lengths _ _ (x t).within (y.1 t))
-  one d t (BrokenIndex f) b x y = absurd y
-  one d t (TooLarge slot) (BrokenIndex g) x y = absurd (not_both_lengths _ _ (y t).within (x.1 t))
-  one d t (TooLarge slot) (TooLarge other) x y = ap TooLarge (x.0 ∙ sym y.0)
-  one d t (TooLarge slot) b x y = absurd y
+  one d t (Err (BrokenIndex f)) (Err (BrokenIndex g)) x y = ap (λ it. Err (BrokenIndex it)) (one_first read check (bytes_under d name) f g (x t).first (y t).first)
+  one d t (Err (BrokenIndex f)) (Err (TooLarge slot)) x y = absurd (not_both_lengths _ _ (x t).within (y.1 t))
+  one d t (Err (BrokenIndex f)) b x y = absurd y
+  one d t (Err (TooLarge slot)) (Err (BrokenIndex g)) x y = absurd (not_both_lengths _ _ (y t).within (x.1 t))
+  one d t (Err (TooLarge slot)) (Err (TooLarge other)) x y = ap (λ it. Err (TooLarge it)) (x.0 ∙ sym y.0)
+  one d t (Err (TooLarge slot)) b x y = absurd y
   one d t a b x y = absurd x
 
   none : (d : DepotState) → Stands (IndexAt name) d → (a : Outcome) → IsRefusedAs (IndexAt name) d a → ⊥
-  none d (t, (c, found)) (BrokenIndex f) x = whole read check name d t c f found (x t)
-  none d (t, (c, found)) (TooLarge slot) x = not_both_lengths _ _ (index_is_short name d c t found) (x.1 t)
+  none d (t, (c, found)) (Err (BrokenIndex f)) x = whole read check name d t c f found (x t)
+  none d (t, (c, found)) (Err (TooLarge slot)) x = not_both_lengths _ _ (index_is_short name d c t found) (x.1 t)
   none d stands a x = x
 
   pub index_laws : Laws (IndexAt name)
@@ -115,15 +116,15 @@ module _ (read : WordsAreRead) (check : OneBrokenCheck) (name : List ℕ) where
     -- ---- its words are not loaded
 
     -- an index that is no whole words is no failed call
-    no_fault : (count : Count) → ¬ Of (fault_of (BrokenIndex ragged_index)) count
+    no_fault : (count : Count) → ¬ Of (fault_of (Err (BrokenIndex ragged_index))) count
     no_fault count h = let s : Of None count = h in cc
 
-    not_loaded : (error : LoadWordsError) → LoadsWords Index name d d' (Err error) → EndsAt (IndexAt name) d (outcome_of_stop (stop_of_index error)) ⊎ (outcome_of_stop (stop_of_index error) ≡ NoMemory)
+    not_loaded : (error : LoadWordsError) → LoadsWords Index name d d' (Err error) → EndsAt (IndexAt name) d (Err (stop_of_index error)) ⊎ (◌≡◌ {A = Outcome} (Err (stop_of_index error)) (Err NoMemory))
         → IsUnloaded name d d' (stop_of_index error)
-    not_loaded error w ends = ended_there (IndexAt name) index_laws d d' (outcome_of_stop (stop_of_index error)) ends (record {
+    not_loaded error w ends = ended_there (IndexAt name) index_laws d d' (Err (stop_of_index error)) ends (record {
       reads = w.reads;
-      starts = unloaded_starts Index (stop.Index ragged_index) no_fault name d d' error w;
-      files = slots_unloaded Index (stop.Index ragged_index) no_fault name d d' error w;
+      starts = unloaded_starts Index (stop.BrokenIndex ragged_index) no_fault name d d' error w;
+      files = slots_unloaded Index (stop.BrokenIndex ragged_index) no_fault name d d' error w;
     })
 
     pub index_unloaded : (error : LoadWordsError) → LoadsWords Index name d d' (Err error) → IsUnloaded name d d' (stop_of_index error)
@@ -136,7 +137,7 @@ module _ (read : WordsAreRead) (check : OneBrokenCheck) (name : List ℕ) where
     -- ---- they are loaded
 
     module _ (words : List ℕ) (w : LoadsWords Index name d d' (Ok words)) where
-      ended : (outcome : Outcome) → fault_of outcome ≡ None → EndsAt (IndexAt name) d outcome ⊎ (outcome ≡ NoMemory) → IsUnread (IndexAt name) d d' outcome
+      ended : (outcome : Outcome) → fault_of outcome ≡ None → EndsAt (IndexAt name) d outcome ⊎ (outcome ≡ Err NoMemory) → IsUnread (IndexAt name) d d' outcome
       ended outcome none ends = ended_there (IndexAt name) index_laws d d' outcome ends (record {
         reads = w.reads;
         starts = starts Index name d d' words w outcome;
@@ -144,15 +145,15 @@ module _ (read : WordsAreRead) (check : OneBrokenCheck) (name : List ℕ) where
       })
 
       -- and are no index
-      pub index_broken : (fault : OpenFault) → IsFirstBroken words fault → IsUnloaded name d d' (stop.Index fault)
-      index_broken fault first = ended (BrokenIndex fault) refl (inl (λ t. record {
+      pub index_broken : (fault : OpenFault) → IsFirstBroken words fault → IsUnloaded name d d' (stop.BrokenIndex fault)
+      index_broken fault first = ended (Err (BrokenIndex fault)) refl (inl (λ t. record {
         within = short (bytes_under d name) words (w.words t) w.within;
         first = words_break (bytes_under d name) words fault (w.words t) first;
       }))
 
       -- or memory was refused then
       pub index_unkept : IsUnloaded name d d' stop.NoMemory
-      index_unkept = ended NoMemory refl (inr refl)
+      index_unkept = ended (Err NoMemory) refl (inr refl)
 
       -- or are one, which stands under the name
       pub index_loaded : (index : IndexView) → Spells (numbers_of index.format) words index.collection index.parts → IsLoaded name d d' index

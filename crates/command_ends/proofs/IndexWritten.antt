@@ -12,21 +12,21 @@ use Rattle.pef_io.specs.DepotState.{DepotState, bytes_under}
 use Rattle.index_file.specs.FileWords.{ListParts, file_words}
 use Rattle.command_model.specs.Found.{AreOfWords}
 use Rattle.index_file.specs.declared.builder.FinishError.{FinishError}
-use Rattle.command_ends.specs.Outside.{Outside}
-use Rattle.command_ends.specs.Outcome.{Outcome}
+use Rattle.outcomes.specs.Outside.{Outside}
+use Rattle.outcomes.specs.Outcome.{Outcome}
 use Rattle.command_ends.specs.FoundIndex.{FindsIndex}
 use Rattle.command_ends.specs.WordsThen.{AreBuilt, BuildsWordsThen}
 use Rattle.command_ends.specs.WrittenIndex.{OnBuiltBytes}
-use Rattle.command_ends.specs.Steps.Stops.{outcome_of_stop, stop_of_making, written_outcome}
+use Rattle.outcomes.specs.Stops.{outcome_by, stop_of_making, stop_of_writing}
 use Rattle.command_ends.proofs.FileWritten.{Written}
 
 -- how a run ends that did not make its words
 abbrev pub unmade_words : FinishError → Outcome
-unmade_words e = outcome_of_stop (stop_of_making e)
+unmade_words e = Err (stop_of_making e)
 
 -- what comes behind the building of words
-pub behind_building : (format : Format) (Is : Collection → Type 0) (old new : Outside) (Then : Outcome → Type 0) (r : Written) → Then (written_outcome Index r)
-    → BuildsWordsThen format Is old new Then (written_outcome Index r)
+pub behind_building : (format : Format) (Is : Collection → Type 0) (old new : Outside) (Then : Outcome → Type 0) (r : Written) → Then (outcome_by (stop_of_writing Index) r)
+    → BuildsWordsThen format Is old new Then (outcome_by (stop_of_writing Index) r)
 behind_building format Is old new Then (Ok u) then = then
 behind_building format Is old new Then (Err call.Failed) then = then
 behind_building format Is old new Then (Err call.NoMemory) then = then

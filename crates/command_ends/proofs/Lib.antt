@@ -1,7 +1,6 @@
-pub mod Counted
-pub mod Told
 pub mod Started
 pub mod WordsLoaded
+pub mod Made
 pub mod TextAnswered
 pub mod TextPrinted
 pub mod FileWritten
@@ -10,6 +9,4 @@ pub mod IndexWritten
 pub mod SourceRead
 pub mod IndexRead
 pub mod TextMade
-mod ErrPieces
 mod OtherFile
-mod Rows

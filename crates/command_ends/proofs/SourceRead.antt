@@ -1,6 +1,6 @@
 -- What a run leaves at its source: it is refused, or a call on one of its files failed, or it was read.
 use Rattle.std.proofs.Common.{◌≡◌, ℕ, arith, refl, sym, ◌∙◌, ap, subst, inl, inr}
-use Rattle.std.specs.Prelude.{◌≢◌, ◌⊎◌, true, false, Bool, IsTrue, Some, None, Result, Err}
+use Rattle.std.specs.Prelude.{◌≢◌, ◌⊎◌, true, false, Bool, IsTrue, Some, None, Result, Ok, Err}
 use Rattle.std.proofs.lemmas.List.{append-nil}
 use Rattle.collection_model.specs.Collection.{Collection}
 use Rattle.pef_io.specs.declared.fail.Slot.{Slot}
@@ -9,17 +9,17 @@ use Rattle.pef_io.specs.DepotState.{DepotState, OnlyReads}
 use Rattle.pef_io.specs.SourceState.{SourceState}
 use Rattle.pef_io.specs.SinkState.{SinkState}
 use Rattle.pef_io.proofs.OnlyReads.{OnlyReads-same}
-use Rattle.command_ends.specs.Outside.{Outside, outside, Count, NoCallFailed, OfFile, OfWriting, OfInput, OfOut}
-use Rattle.command_ends.specs.Outcome.{Outcome, Done, FileFault, InputFault, WriteFault, OutFault, NoMemory, TooLarge, InputTooLarge, fault_of}
-use Rattle.command_ends.specs.Ends.{EndsByFault, OrNoMemory}
+use Rattle.outcomes.specs.Outside.{Outside, outside, Count, NoCallFailed, OfFile, OfWriting, OfInput, OfOut}
+use Rattle.outcomes.specs.declared.stop.Stop.TheVariants.{FileFault, InputFault, WriteFault, OutFault, NoMemory, TooLarge, InputTooLarge}
+use Rattle.outcomes.specs.Outcome.{Outcome, done, fault_of, is_refusal}
+use Rattle.outcomes.specs.Ends.{EndsByFault, OrNoMemory}
 use Rattle.command_ends.specs.WrittenFile.{WritesOnlyAccepted}
 use Rattle.command_ends.specs.Sources.{Source, Nothing, IndexesAt, Accepts, ComesTo, EndsAt, Finds, IsRefusedAs, ReadsFrom, Refuses, Stands, StartedIn, Starts, names_of}
 use Rattle.command_ends.specs.Products.{Product, Replies, File, Files, Completes, Does, IsComplete, Touches, WritesTo, builds_words}
-use Rattle.command_ends.specs.declared.stop.Stop.{Stop}
+use Rattle.outcomes.specs.declared.stop.Stop.{Stop}
 use Rattle.command_ends.specs.Steps.AtSource.{IsRead, IsStill, IsUnread}
 use Rattle.command_ends.specs.Steps.Leaves.{Leaves}
-use Rattle.command_ends.specs.Steps.Stops.{outcome_of, outcome_of_stop}
-use Rattle.command_ends.proofs.Counted.{stays, all_end, or_larger, Of}
+use Rattle.outcomes.proofs.Counted.{stays, all_end, or_larger, no_fault, not_true, refused_of_file, IsOfFile, Of}
 use Rattle.command_ends.proofs.Started as started
 
 -- A source is refused in one way only, and in none where it stands there.
@@ -29,59 +29,36 @@ pub record Laws (source : Source) : Type 0 where
 
 -- ---- a refusal is no failed call
 
--- The fault by which a run ended, if it did by one, is that of a file.
-abbrev IsOfFile : Outcome → Type 0
-IsOfFile outcome = (count : Count) → Of (fault_of outcome) count → (slot : Slot) × (count ≡ OfFile slot)
+-- An end at the source is a refusal.
+ends_refused : (source : Source) (d : DepotState) (outcome : Outcome) → EndsAt source d outcome → is_refusal outcome ≡ true
+ends_refused Nothing d (Err (FileFault slot)) h = refl
+ends_refused Nothing d outcome h = absurd h
+ends_refused source d (Ok u) h = absurd h
+ends_refused source d (Err InputFault) h = absurd h
+ends_refused source d (Err (WriteFault slot)) h = absurd h
+ends_refused source d (Err OutFault) h = absurd h
+ends_refused source d (Err NoMemory) h = absurd h
+ends_refused source d (Err InputTooLarge) h = absurd h
+ends_refused source d outcome h = refl
 
-no_fault : (outcome : Outcome) → fault_of outcome ≡ None → IsOfFile outcome
-no_fault outcome none count h = let bad : Of None count = sym none ∙ h in cc
-
-refused_by_none : (source : Source) (d : DepotState) (outcome : Outcome) → IsRefusedAs source d outcome → fault_of outcome ≡ None
-refused_by_none Nothing d outcome h = absurd h
-refused_by_none source d (FileFault slot) h = absurd h
-refused_by_none source d InputFault h = absurd h
-refused_by_none source d (WriteFault slot) h = absurd h
-refused_by_none source d OutFault h = absurd h
-refused_by_none source d outcome h = refl
-
-same_count : (a b : Count) → Some a ≡ Some b → a ≡ b
-same_count a b h = cc
-
--- An end at the source is a failed call on one of its files, or a refusal.
+-- It is a failed call on one of its files, or the source is refused so.
 at_source : (source : Source) (d : DepotState) (outcome : Outcome) → EndsAt source d outcome
-    → ((slot : Slot) × ComesTo source d slot × (outcome ≡ FileFault slot)) ⊎ IsRefusedAs source d outcome
-at_source source d (FileFault slot) at = inl (slot, at, refl)
+    → ((slot : Slot) × ComesTo source d slot × (outcome ≡ Err (FileFault slot))) ⊎ IsRefusedAs source d outcome
+at_source source d (Err (FileFault slot)) at = inl (slot, at, refl)
 at_source source d outcome at = inr at
 
-of_file : (source : Source) (d : DepotState) (outcome : Outcome) → EndsAt source d outcome → IsOfFile outcome
-of_file source d outcome at = elim (at_source source d outcome at) [
-  | inl file ↦ λ count h. (file.0, sym (same_count (OfFile file.0) count (sym (ap fault_of file.2) ∙ h)))
-  | inr refused ↦ no_fault outcome (refused_by_none source d outcome refused)
-]
-
-same_slot : (a b : Slot) → Some (OfFile a) ≡ Some (OfFile b) → a ≡ b
-same_slot a b h = cc
-
 -- a run that ends by the fault of a file came to it
-pub comes_to : (source : Source) (d : DepotState) (outcome : Outcome) → EndsAt source d outcome ⊎ (outcome ≡ NoMemory) → (slot : Slot)
+pub comes_to : (source : Source) (d : DepotState) (outcome : Outcome) → EndsAt source d outcome ⊎ (outcome ≡ Err NoMemory) → (slot : Slot)
     → Of (fault_of outcome) (OfFile slot) → ComesTo source d slot
-comes_to source d outcome (inl at) slot h = elim (at_source source d outcome at) [
-  | inl file ↦ subst (ComesTo source d) (same_slot file.0 slot (sym (ap fault_of file.2) ∙ h)) file.1
-  | inr refused ↦ let bad : Of None (OfFile slot) = sym (refused_by_none source d outcome refused) ∙ h in cc
-]
-comes_to source d outcome (inr memory) slot h = let bad : Of None (OfFile slot) = sym (ap fault_of memory) ∙ h in cc
-
-not_memory : (source : Source) (d : DepotState) → ¬ IsRefusedAs source d NoMemory
-not_memory Nothing d h = h
-not_memory source d h = h
-
-refused_not_done : (source : Source) (d : DepotState) → ¬ IsRefusedAs source d Done
-refused_not_done Nothing d h = h
-refused_not_done source d h = h
-
-not_done : (source : Source) (d : DepotState) (outcome : Outcome) → EndsAt source d outcome ⊎ (outcome ≡ NoMemory) → outcome ≢ Done
-not_done source d outcome (inl at) is = refused_not_done source d (subst (EndsAt source d) is at)
-not_done source d outcome (inr memory) is = let bad : NoMemory ≡ Done = sym memory ∙ is in cc
+comes_to source d (Err (FileFault other)) (inl at) slot h = subst (ComesTo source d) (same_slot other slot h) at
+  where
+    same_slot : (a b : Slot) → Some (OfFile a) ≡ Some (OfFile b) → a ≡ b
+    same_slot a b h = cc
+comes_to source d (Err (FileFault other)) (inr memory) slot h = let bad : ◌≡◌ {A = Outcome} (Err (FileFault other)) (Err NoMemory) = memory in cc
+comes_to source d (Err InputFault) ends slot h = let bad : Of (Some OfInput) (OfFile slot) = h in cc
+comes_to source d (Err (WriteFault other)) ends slot h = let bad : Of (Some OfWriting) (OfFile slot) = h in cc
+comes_to source d (Err OutFault) ends slot h = let bad : Of (Some OfOut) (OfFile slot) = h in cc
+comes_to source d outcome ends slot h = let bad : Of None (OfFile slot) = h in cc
 
 -- ---- what stands there
 
@@ -104,7 +81,7 @@ refuses_none source laws d is outcome = record {
 }
 
 -- and where a run ended there, it is refused in this way only
-pub ended_there : (source : Source) (laws : Laws source) (old new : DepotState) (outcome : Outcome) → EndsAt source old outcome ⊎ (outcome ≡ NoMemory)
+pub ended_there : (source : Source) (laws : Laws source) (old new : DepotState) (outcome : Outcome) → EndsAt source old outcome ⊎ (outcome ≡ Err NoMemory)
     → IsStill source old new outcome → IsUnread source old new outcome
 ended_there source laws old new outcome ends w = record {
   ends = ends;
@@ -121,8 +98,8 @@ ended_there source laws old new outcome ends w = record {
   still = w;
 }
 
-pub is_complete : (b : Bool) (outcome : Outcome) → OrNoMemory Done outcome → IsComplete b outcome
-is_complete true outcome is = or_larger Done outcome is
+pub is_complete : (b : Bool) (outcome : Outcome) → OrNoMemory done outcome → IsComplete b outcome
+is_complete true outcome is = or_larger done outcome is
 is_complete false outcome is = is
 
 -- What is promised of a run is more than what it leaves.
@@ -191,39 +168,39 @@ module _ (source : Source) (product : Product) (Makes : Outside → Outside → 
     completes product = λ stands none. absurd (never stands none)
 
     stopped : Left outcome
-    stopped = left outcome w.still (of_file source old.depot outcome at) (inl at) w.refuses (completes product)
+    stopped = left outcome w.still (refused_of_file outcome (ends_refused source old.depot outcome at)) (inl at) w.refuses (completes product)
 
   -- memory was refused
-  memory_completes : (product : Product) → Completes source product old new NoMemory
+  memory_completes : (product : Product) → Completes source product old new (Err NoMemory)
   memory_completes Replies = record { complete = λ t c is none len. inr (inr refl); limited = λ t c is none len. inr (inr refl) }
-  memory_completes product = λ stands none. is_complete (builds_words source product) NoMemory (inr refl)
+  memory_completes product = λ stands none. is_complete (builds_words source product) (Err NoMemory) (inr refl)
 
-  pub no_memory : IsStill source old.depot new.depot NoMemory → Makes old new NoMemory → Left NoMemory
+  pub no_memory : IsStill source old.depot new.depot (Err NoMemory) → Makes old new (Err NoMemory) → Left (Err NoMemory)
   no_memory w makes =
-      left NoMemory w (no_fault NoMemory refl) (inr makes) (record { refused = λ t this h. inr (inr refl); sound = λ stands. not_memory source old.depot })
+      left (Err NoMemory) w (no_fault (Err NoMemory) refl) (inr makes) (record { refused = λ t this h. inr (inr refl); sound = λ stands h. not_true (ends_refused source old.depot (Err NoMemory) h) })
       (memory_completes product)
 
   -- it ended so, or memory was refused before anything was made
-  pub unread : (outcome : Outcome) → Makes old new NoMemory → IsUnread source old.depot new.depot outcome → Left outcome
+  pub unread : (outcome : Outcome) → Makes old new (Err NoMemory) → IsUnread source old.depot new.depot outcome → Left outcome
   unread outcome makes w = elim w.ends [
     | inl at ↦ stopped outcome w at
     | inr memory ↦ subst Left (sym memory) (no_memory (subst (IsStill source old.depot new.depot) memory w.still) makes)
   ]
 
   -- of what a command gives that promises more
-  pub stops : {Promises : Outside → Outside → Outcome → Type 0} (it : Stop) (r : Result (Unit {0}) Stop) → r ≡ Err it → IsUnread source old.depot new.depot (outcome_of_stop it) → Makes old new NoMemory
-      → (outcome_of_stop it ≢ Done → Does source product Makes old new (outcome_of_stop it) → Promises old new (outcome_of_stop it))
-      → Leaves Promises (Starts source) old new (outcome_of r)
+  pub stops : {Promises : Outside → Outside → Outcome → Type 0} (it : Stop) (r : Result (Unit {0}) Stop) → r ≡ Err it → IsUnread source old.depot new.depot (Err it) → Makes old new (Err NoMemory)
+      → (Err it ≢ done → Does source product Makes old new (Err it) → Promises old new (Err it))
+      → Leaves Promises (Starts source) old new r
   stops {Promises} it r is w makes more =
-      promised old new (outcome_of_stop it) (outcome_of r) (ap outcome_of is) (more (not_done source old.depot (outcome_of_stop it) w.ends)) (unread (outcome_of_stop it) makes w)
+      promised old new (Err it) r is (more (λ h. let bad : ◌≡◌ {A = Outcome} (Err it) done = h in cc)) (unread (Err it) makes w)
 
   -- the words that were to be built are too many
-  large_completes : (product : Product) → builds_words source product ≡ true → Completes source product old new (TooLarge Index)
+  large_completes : (product : Product) → builds_words source product ≡ true → Completes source product old new (Err (TooLarge Index))
   large_completes Replies builds = record { complete = λ t c is none len. inr (inl refl); limited = λ t c is none len. inr (inl refl) }
-  large_completes product builds = λ stands none. subst (λ b. IsComplete b (TooLarge Index)) (sym builds) (inr (inl refl))
+  large_completes product builds = λ stands none. subst (λ b. IsComplete b (Err (TooLarge Index))) (sym builds) (inr (inl refl))
 
-  pub too_many : Refuses source old.depot (TooLarge Index) → builds_words source product ≡ true → IsStill source old.depot new.depot (TooLarge Index) → Makes old new (TooLarge Index) → Left (TooLarge Index)
-  too_many refuses builds w makes = left (TooLarge Index) w (no_fault (TooLarge Index) refl) (inr makes) refuses (large_completes product builds)
+  pub too_many : Refuses source old.depot (Err (TooLarge Index)) → builds_words source product ≡ true → IsStill source old.depot new.depot (Err (TooLarge Index)) → Makes old new (Err (TooLarge Index)) → Left (Err (TooLarge Index))
+  too_many refuses builds w makes = left (Err (TooLarge Index)) w (no_fault (Err (TooLarge Index)) refl) (inr makes) refuses (large_completes product builds)
 
 -- ---- nothing is read
 
@@ -247,26 +224,26 @@ still_read source d d' read outcome none starts = record {
 
 -- and then memory was refused before anything was made
 pub read_no_memory : {Promises : Outside → Outside → Outcome → Type 0} (source : Source) (product : Product) (Makes : Outside → Outside → Outcome → Type 0) (d d' : DepotState) → IsRead source d d'
-    → (i : SourceState) (o e e' : SinkState) (s s' : ℕ) (so : Outcome) → so ≡ NoMemory → Makes (outside d i o e s) (outside d' i o e' s') NoMemory
-    → (Does source product Makes (outside d i o e s) (outside d' i o e' s') NoMemory → Promises (outside d i o e s) (outside d' i o e' s') NoMemory)
+    → (i : SourceState) (o e e' : SinkState) (s s' : ℕ) (so : Outcome) → so ≡ Err NoMemory → Makes (outside d i o e s) (outside d' i o e' s') (Err NoMemory)
+    → (Does source product Makes (outside d i o e s) (outside d' i o e' s') (Err NoMemory) → Promises (outside d i o e s) (outside d' i o e' s') (Err NoMemory))
     → Leaves Promises (Starts source) (outside d i o e s) (outside d' i o e' s') so
 read_no_memory source product Makes d d' read i o e e' s s' so is makes more =
-    promised (outside d i o e s) (outside d' i o e' s') NoMemory so is more
-    (no_memory source product Makes (outside d i o e s) (outside d' i o e' s') refl refl (still_read source d d' read NoMemory refl (read.starts NoMemory refl)) makes)
+    promised (outside d i o e s) (outside d' i o e' s') (Err NoMemory) so is more
+    (no_memory source product Makes (outside d i o e s) (outside d' i o e' s') refl refl (still_read source d d' read (Err NoMemory) refl (read.starts (Err NoMemory) refl)) makes)
 
 -- ---- nothing is called
 
-pub none_started : (source : Source) (d : DepotState) → Starts source NoMemory d d
+pub none_started : (source : Source) (d : DepotState) → Starts source (Err NoMemory) d d
 none_started (IndexesAt names) d = record {
   in_turn = (0, omega arith, λ s lt. absurd (omega (arith, lt)), record { count = refl; told = λ t. t; named = λ t. sym (append-nil (d.starts Index).names) });
   no_others = λ slot other. refl;
   refusals = inr refl;
 }
-none_started source d = started.uncalled (names_of source) (StartedIn source NoMemory) NoMemory d (inl refl)
+none_started source d = started.uncalled (names_of source) (StartedIn source (Err NoMemory)) (Err NoMemory) d (inl refl)
 
 pub uncalled : (source : Source) (product : Product) (Makes : Outside → Outside → Outcome → Type 0) (d : DepotState) (i : SourceState) (o e e' : SinkState) (s : ℕ)
-    → Makes (outside d i o e s) (outside d i o e' s) NoMemory
-    → Leaves (Does source product Makes) (Starts source) (outside d i o e s) (outside d i o e' s) NoMemory
+    → Makes (outside d i o e s) (outside d i o e' s) (Err NoMemory)
+    → Leaves (Does source product Makes) (Starts source) (outside d i o e s) (outside d i o e' s) (Err NoMemory)
 uncalled source product Makes d i o e e' s makes =
     no_memory source product Makes (outside d i o e s) (outside d i o e' s) refl refl
-    (record { reads = OnlyReads-same d; starts = none_started source d; files = λ slot. stays (OfFile slot) NoMemory _ _ (λ h. cc) refl }) makes
+    (record { reads = OnlyReads-same d; starts = none_started source d; files = λ slot. stays (OfFile slot) (Err NoMemory) _ _ (λ h. cc) refl }) makes

@@ -9,14 +9,14 @@ use Rattle.command_model.proofs.WordBytes.{word_bytes-length}
 use Rattle.word_files.specs.declared.loading.LoadWordsError.{LoadWordsError}
 use Rattle.word_files.specs.declared.loading.LoadWordsError.TheVariants as loading
 use Rattle.word_files.specs.LoadWords.{LoadsWords}
-use Rattle.command_ends.specs.declared.stop.Stop.{Stop}
-use Rattle.command_ends.specs.Outside.{Count, OfFile}
-use Rattle.command_ends.specs.Outcome.{Outcome, fault_of}
-use Rattle.command_ends.specs.Ends.{EndsByFault}
-use Rattle.command_ends.specs.Steps.Stops.{outcome_of_stop, stop_of_loading}
+use Rattle.outcomes.specs.declared.stop.Stop.{Stop}
+use Rattle.outcomes.specs.Outside.{Count, OfFile}
+use Rattle.outcomes.specs.Outcome.{Outcome, fault_of}
+use Rattle.outcomes.specs.Ends.{EndsByFault}
+use Rattle.outcomes.specs.Stops.{stop_of_loading}
 use Rattle.command_ends.specs.Starts.{StartsOnly}
 use Rattle.command_ends.proofs.Started.{loaded_starts}
-use Rattle.command_ends.proofs.Counted.{stays, second, by_slot, Of}
+use Rattle.outcomes.proofs.Counted.{stays, second, by_slot, Of}
 
 -- ---- bytes and words
 
@@ -34,7 +34,7 @@ short bytes words of le = omega (arith, length_of bytes words of, le)
 
 -- how a run ends whose words are not loaded from a slot
 abbrev pub unloaded : Slot → Stop → LoadWordsError → Outcome
-unloaded slot ragged e = outcome_of_stop (stop_of_loading slot ragged e)
+unloaded slot ragged e = Err (stop_of_loading slot ragged e)
 
 abbrev refused : LoadWordsError → Result (List ℕ) LoadWordsError
 refused e = Err e
@@ -43,7 +43,7 @@ same_error : (e f : LoadWordsError) → refused e ≡ refused f → e ≡ f
 same_error e f h = cc
 
 -- Words that are no whole ones end the run without a failed call.
-module _ (slot : Slot) (ragged : Stop) (no_fault : (count : Count) → ¬ Of (fault_of (outcome_of_stop ragged)) count) where
+module _ (slot : Slot) (ragged : Stop) (no_fault : (count : Count) → ¬ Of (fault_of (Err ragged)) count) where
   is_read : (e : LoadWordsError) (other : Slot) → Of (fault_of (unloaded slot ragged e)) (OfFile other) → e ≡ loading.Read
   is_read loading.Ragged other h = absurd (no_fault (OfFile other) h)
   is_read loading.Read other h = refl

@@ -1,10 +1,11 @@
-use Rattle.std.specs.Prelude.{◌≡◌, ℕ, ◌^◌, ◌<◌, ◌≤◌, ◌⊎◌, IsTrue, List, [], ◌++◌, length, take}
+use Rattle.std.specs.Prelude.{◌≡◌, ℕ, ◌^◌, ◌<◌, ◌≤◌, ◌⊎◌, IsTrue, List, [], ◌++◌, length, take, Err, Ok}
 use Rattle.collection_model.specs.Collection.{Collection}
 use Rattle.query_text.specs.Lines.{text_lines, ended_lines}
 use Rattle.command_model.specs.GotReplies.{TextIsTold, GotReplies, GotPrefixOfReplies}
-use Rattle.command_ends.specs.Outside.{Outside, Told, NoCallFailed, IsUnanswered}
-use Rattle.command_ends.specs.Outcome.{Outcome, Done, InputFault, OutFault, NoMemory, InputTooLarge}
-use Rattle.command_ends.specs.Ends.{OrTooLarge}
+use Rattle.outcomes.specs.Outside.{Outside, Told, NoCallFailed, IsUnanswered}
+use Rattle.outcomes.specs.declared.stop.Stop.TheVariants.{InputFault, OutFault, NoMemory, InputTooLarge}
+use Rattle.outcomes.specs.Outcome.{Outcome, done}
+use Rattle.outcomes.specs.Ends.{OrTooLarge}
 
 -- the most bytes of query text that are answered
 abbrev pub longest_text : ℕ
@@ -43,17 +44,17 @@ pub record AnswersWithin (Is : Collection → Type 0) (old new : Outside) : Type
 
 -- A run answers the input from a collection of this property, and ends so. Want of memory may come before one is accepted.
 abbrev pub AnswersInput : (Collection → Type 0) → Outside → Outside → Outcome → Type 0
-AnswersInput Is old new Done = AnswersAll Is old new
-AnswersInput Is old new InputFault = AnswersRead Is old new
-AnswersInput Is old new OutFault = AnswersInPart Is old new
-AnswersInput Is old new NoMemory = IsUnanswered old new ⊎ AnswersInPart Is old new
-AnswersInput Is old new InputTooLarge = AnswersWithin Is old new
+AnswersInput Is old new (Ok u) = AnswersAll Is old new
+AnswersInput Is old new (Err InputFault) = AnswersRead Is old new
+AnswersInput Is old new (Err OutFault) = AnswersInPart Is old new
+AnswersInput Is old new (Err NoMemory) = IsUnanswered old new ⊎ AnswersInPart Is old new
+AnswersInput Is old new (Err InputTooLarge) = AnswersWithin Is old new
 AnswersInput Is old new outcome = ⊥
 
 -- A text within the limit is answered whole, and a longer one is refused, where no call fails, no index is too large and memory is not refused.
 pub record MustAnswer (Is : Collection → Type 0) (old new : Outside) (outcome : Outcome)
     : Type 0 where
   pub complete : Told old → (c : Collection) → Is c → NoCallFailed old new
-      → length old.input.left ≤ longest_text → OrTooLarge Done outcome
+      → length old.input.left ≤ longest_text → OrTooLarge done outcome
   pub limited : Told old → (c : Collection) → Is c → NoCallFailed old new
-      → longest_text < length old.input.left → OrTooLarge InputTooLarge outcome
+      → longest_text < length old.input.left → OrTooLarge (Err InputTooLarge) outcome

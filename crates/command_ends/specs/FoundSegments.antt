@@ -1,11 +1,12 @@
-use Rattle.std.specs.Prelude.{◌≡◌, ◌≢◌, ℕ, ◌+◌, ◌<◌, List, [], ◌∷◌, ◌++◌, length, take, get_or}
+use Rattle.std.specs.Prelude.{◌≡◌, ◌≢◌, ℕ, ◌+◌, ◌<◌, List, [], ◌∷◌, ◌++◌, length, take, get_or, Err}
 use Rattle.collection_model.specs.Collection.{Collection}
 use Rattle.pef_io.specs.DepotState.{DepotState, bytes_under}
 use Rattle.segments.specs.declared.pushed.SegRule.{SegRule}
 use Rattle.segments.specs.declared.pushed.SegRule.TheVariants.{G1, G2}
 use Rattle.segments.specs.Joined.{FitTogether, documents_in, terms_in, joined, most_joined}
 use Rattle.command_model.specs.Found.{IsIndexSlot, most_bytes}
-use Rattle.command_ends.specs.Outcome.{Outcome, BrokenSegment, UnfitSegment, TooLarge}
+use Rattle.outcomes.specs.declared.stop.Stop.TheVariants.{BrokenSegment, UnfitSegment, TooLarge}
+use Rattle.outcomes.specs.Outcome.{Outcome}
 use Rattle.command_ends.specs.FoundIndex.{FindsIndexOf, HasBroken}
 
 -- a collection that is not there
@@ -40,12 +41,12 @@ IsUnfit cs c G2 =
 -- A segment is refused so, and those before it are accepted: it is no index, and this is its first check that breaks; or it is an index that
 -- cannot be joined to those before it, by this rule; or it has more bytes than the limit.
 abbrev pub IsRefusedAt : List (List ℕ) → DepotState → Outcome → Type 0
-IsRefusedAt names depot (BrokenSegment fault s) =
+IsRefusedAt names depot (Err (BrokenSegment fault s)) =
     OnSegment names depot s (λ cs name. HasBroken name depot fault)
-IsRefusedAt names depot (UnfitSegment rule s) =
+IsRefusedAt names depot (Err (UnfitSegment rule s)) =
     OnSegment names depot s (λ cs name.
     (c : Collection) × FindsIndexOf name depot c × IsUnfit cs c rule)
-IsRefusedAt names depot (TooLarge slot) =
+IsRefusedAt names depot (Err (TooLarge slot)) =
     IsIndexSlot slot
     × ((s : ℕ) × OnSegment names depot s (λ cs name. most_bytes < length (bytes_under depot name)))
 IsRefusedAt names depot outcome = ⊥

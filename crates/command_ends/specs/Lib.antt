@@ -1,8 +1,4 @@
-pub mod StatusNumber
-pub mod ErrLines
-pub mod Outside
-pub mod Outcome
-pub mod Ends
+pub mod Lent
 pub mod Starts
 pub mod FoundIndex
 pub mod FoundSide
@@ -17,4 +13,3 @@ pub mod WrittenFile
 pub mod WrittenFiles
 pub mod WrittenIndex
 pub mod Steps
-pub mod Private

@@ -1,7 +1,8 @@
-use Rattle.std.specs.Prelude.{◌≡◌, ℕ, ◌⊎◌, ◌++◌, IsTrue, List}
+use Rattle.std.specs.Prelude.{◌≡◌, ℕ, ◌⊎◌, ◌++◌, IsTrue, List, Err, Ok}
 use Rattle.pef_io.specs.Helpers.{AppendsPrefix}
-use Rattle.command_ends.specs.Outside.{Outside}
-use Rattle.command_ends.specs.Outcome.{Outcome, Done, OutFault, NoMemory}
+use Rattle.outcomes.specs.Outside.{Outside}
+use Rattle.outcomes.specs.declared.stop.Stop.TheVariants.{OutFault, NoMemory}
+use Rattle.outcomes.specs.Outcome.{Outcome, done}
 
 -- Out got a text of this property.
 abbrev pub GotWhole : (List ℕ → Type 0) → Outside → Outside → Type 0
@@ -16,7 +17,7 @@ GotPrefix Is old new =
 
 -- A run prints a text of this property, and ends so. Want of memory may come before there is one.
 abbrev pub PrintsText : (List ℕ → Type 0) → Outside → Outside → Outcome → Type 0
-PrintsText Is old new Done = GotWhole Is old new
-PrintsText Is old new OutFault = GotPrefix Is old new
-PrintsText Is old new NoMemory = (new.out ≡ old.out) ⊎ GotPrefix Is old new
+PrintsText Is old new (Ok u) = GotWhole Is old new
+PrintsText Is old new (Err OutFault) = GotPrefix Is old new
+PrintsText Is old new (Err NoMemory) = (new.out ≡ old.out) ⊎ GotPrefix Is old new
 PrintsText Is old new outcome = ⊥

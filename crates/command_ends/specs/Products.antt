@@ -4,9 +4,9 @@ use Rattle.pef_io.specs.declared.fail.Slot.{Slot}
 use Rattle.pef_io.specs.declared.fail.Slot.TheVariants.{Index}
 use Rattle.pef_io.specs.DepotState.{OnlyReads}
 use Rattle.collection_reader.specs.ReadCollection.{IsCollectionSlot}
-use Rattle.command_ends.specs.Outside.{Outside, NoCallFailed}
-use Rattle.command_ends.specs.Outcome.{Outcome, Done}
-use Rattle.command_ends.specs.Ends.{OrNoMemory, OrTooLarge}
+use Rattle.outcomes.specs.Outside.{Outside, NoCallFailed}
+use Rattle.outcomes.specs.Outcome.{Outcome, done}
+use Rattle.outcomes.specs.Ends.{OrNoMemory, OrTooLarge}
 use Rattle.command_ends.specs.AnsweredText.{MustAnswer}
 use Rattle.command_ends.specs.WrittenFile.{WritesOnlyAccepted}
 use Rattle.command_ends.specs.Sources.{Source, Nothing, CollectionAt, Accepts, EndsAt, Finds, ReadsFrom, Refuses, Stands}
@@ -51,8 +51,8 @@ builds_words source product = false
 
 -- All is done, or memory was refused, or the words that were to be built are too many.
 abbrev pub IsComplete : Bool → Outcome → Type 0
-IsComplete true outcome = OrTooLarge Done outcome
-IsComplete false outcome = OrNoMemory Done outcome
+IsComplete true outcome = OrTooLarge done outcome
+IsComplete false outcome = OrNoMemory done outcome
 
 -- Where what is read stands there and no call fails, all is done, but for want of memory or of room; of
 -- replies also but for the limit of the text.

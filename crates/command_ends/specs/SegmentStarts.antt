@@ -1,11 +1,12 @@
-use Rattle.std.specs.Prelude.{◌≡◌, ◌⊎◌, ⊤, ℕ, zero, suc, ◌<◌, ◌≤◌, ◌++◌, IsTrue, List, length, take}
+use Rattle.std.specs.Prelude.{◌≡◌, ◌⊎◌, ⊤, ℕ, zero, suc, ◌<◌, ◌≤◌, ◌++◌, IsTrue, List, length, take, Err}
 use Rattle.pef_io.specs.declared.fail.Slot.{Slot}
 use Rattle.pef_io.specs.declared.fail.Slot.TheVariants.{Index}
 use Rattle.pef_io.specs.Calls.{one_more}
 use Rattle.pef_io.specs.Starting.{Starting}
 use Rattle.pef_io.specs.DepotState.{DepotState, bytes_under}
 use Rattle.command_model.specs.Found.{IsIndexSlot, most_bytes}
-use Rattle.command_ends.specs.Outcome.{Outcome, BrokenSegment, UnfitSegment, FileFault, NoMemory, TooLarge}
+use Rattle.outcomes.specs.declared.stop.Stop.TheVariants.{BrokenSegment, UnfitSegment, FileFault, NoMemory, TooLarge}
+use Rattle.outcomes.specs.Outcome.{Outcome}
 use Rattle.command_ends.specs.FoundSegments.{OnSegment}
 
 -- a count that was raised so often
@@ -21,11 +22,11 @@ pub record StartedUnder (names : List (List ℕ)) (old new : Starting) : Type 0 
 
 -- How often a run starts the slot of the index that reads the segments under these names and ends so: once for each segment that it reads.
 abbrev pub IsSegmentCount : List (List ℕ) → DepotState → Outcome → ℕ → Type 0
-IsSegmentCount names depot (BrokenSegment fault s) n = n ≡ suc s
-IsSegmentCount names depot (UnfitSegment rule s) n = n ≡ suc s
-IsSegmentCount names depot (FileFault slot) n = (1 ≤ n) × (n ≤ length names)
-IsSegmentCount names depot NoMemory n = n ≤ length names
-IsSegmentCount names depot (TooLarge slot) n =
+IsSegmentCount names depot (Err (BrokenSegment fault s)) n = n ≡ suc s
+IsSegmentCount names depot (Err (UnfitSegment rule s)) n = n ≡ suc s
+IsSegmentCount names depot (Err (FileFault slot)) n = (1 ≤ n) × (n ≤ length names)
+IsSegmentCount names depot (Err NoMemory) n = n ≤ length names
+IsSegmentCount names depot (Err (TooLarge slot)) n =
     (s : ℕ) × (n ≡ suc s) × (s < length names)
     × (IsTrue depot.tells
     → OnSegment names depot s (λ cs name. most_bytes < length (bytes_under depot name)))
@@ -49,4 +50,4 @@ pub record StartsEach (names : List (List ℕ)) (outcome : Outcome) (old new : D
   pub in_turn : StartsInTurn names outcome old new
   pub no_others : (slot : Slot) → ¬ IsIndexSlot slot → new.starts slot ≡ old.starts slot
   -- The first memory that the depot is refused ends the run.
-  pub refusals : (outcome ≡ NoMemory) ⊎ (new.refusals ≡ old.refusals)
+  pub refusals : (outcome ≡ Err NoMemory) ⊎ (new.refusals ≡ old.refusals)

@@ -1,5 +1,5 @@
 -- What a command reads, and what is known of its run by that alone: what it starts, what it refuses, and where.
-use Rattle.std.specs.Prelude.{◌≡◌, ◌<◌, ◌⊎◌, ⊤, ℕ, IsTrue, List, [], length}
+use Rattle.std.specs.Prelude.{◌≡◌, ◌<◌, ◌⊎◌, ⊤, ℕ, IsTrue, List, [], length, Err}
 use Rattle.collection_model.specs.FormatNumbers.{FormatNumbers}
 use Rattle.collection_model.specs.Collection.{Collection}
 use Rattle.pef_io.specs.declared.fail.Slot.{Slot}
@@ -9,7 +9,8 @@ use Rattle.collection_reader.specs.ReadCollection.{IsCollectionSlot}
 use Rattle.collection_reader.specs.Starting.{names_under}
 use Rattle.command_model.specs.Found.{FindsCollection, HasFault, IsIndexSlot, most_bytes}
 use Rattle.command_model.specs.FoundMap.{IsCollectionOrMap, names_with_map, FindsBothOf, HasMapFault, remap_numbers}
-use Rattle.command_ends.specs.Outcome.{Outcome, BrokenCollection, BrokenIndex, BrokenSide, BrokenMap, BrokenSegment, FileFault, NoMemory, TooLarge, UnfitSegment}
+use Rattle.outcomes.specs.declared.stop.Stop.TheVariants.{BrokenCollection, BrokenIndex, BrokenSide, BrokenMap, BrokenSegment, FileFault, NoMemory, TooLarge, UnfitSegment}
+use Rattle.outcomes.specs.Outcome.{Outcome}
 use Rattle.command_ends.specs.FoundIndex.{FindsIndexOf, HasBroken}
 use Rattle.command_ends.specs.FoundSide.{FindsWithSide, HasBrokenSide, IsIndexOrSide, IsSideSlot, names_with_side}
 use Rattle.command_ends.specs.FoundSegments.{FindsJoined, IsRefusedAt}
@@ -71,41 +72,41 @@ IsLong name depot = IsTrue depot.tells → most_bytes < length (bytes_under depo
 -- It is to be refused so: for its first fault, or the first check that it breaks, or as too large; a side
 -- file and a map only where what comes before is accepted, and a segment only where those before it are.
 abbrev pub IsRefusedAs : Source → DepotState → Outcome → Type 0
-IsRefusedAs (CollectionAt format base) depot (BrokenCollection fault) =
+IsRefusedAs (CollectionAt format base) depot (Err (BrokenCollection fault)) =
     IsTrue depot.tells → HasFault format base depot fault
-IsRefusedAs (IndexAt name) depot (BrokenIndex fault) =
+IsRefusedAs (IndexAt name) depot (Err (BrokenIndex fault)) =
     IsTrue depot.tells → HasBroken name depot fault
-IsRefusedAs (IndexAt name) depot (TooLarge slot) = IsIndexSlot slot × IsLong name depot
-IsRefusedAs (SideAt index side) depot (BrokenIndex fault) =
+IsRefusedAs (IndexAt name) depot (Err (TooLarge slot)) = IsIndexSlot slot × IsLong name depot
+IsRefusedAs (SideAt index side) depot (Err (BrokenIndex fault)) =
     IsTrue depot.tells → HasBroken index depot fault
-IsRefusedAs (SideAt index side) depot (BrokenSide fault) =
+IsRefusedAs (SideAt index side) depot (Err (BrokenSide fault)) =
     Accepts (IndexAt index) depot × (IsTrue depot.tells → HasBrokenSide index side depot fault)
-IsRefusedAs (SideAt index side) depot (TooLarge slot) =
+IsRefusedAs (SideAt index side) depot (Err (TooLarge slot)) =
     (IsIndexSlot slot × IsLong index depot)
     ⊎ (IsSideSlot slot × Accepts (IndexAt index) depot × IsLong side depot)
-IsRefusedAs (MapAt base map) depot (BrokenCollection fault) =
+IsRefusedAs (MapAt base map) depot (Err (BrokenCollection fault)) =
     IsTrue depot.tells → HasFault remap_numbers base depot fault
-IsRefusedAs (MapAt base map) depot (BrokenMap fault) =
+IsRefusedAs (MapAt base map) depot (Err (BrokenMap fault)) =
     Accepts (CollectionAt remap_numbers base) depot
     × (IsTrue depot.tells → HasMapFault base map depot fault)
-IsRefusedAs (IndexesAt names) depot (BrokenSegment fault segment) =
-    IsTrue depot.tells → IsRefusedAt names depot (BrokenSegment fault segment)
-IsRefusedAs (IndexesAt names) depot (UnfitSegment rule segment) =
-    IsRefusedAt names depot (UnfitSegment rule segment)
-IsRefusedAs (IndexesAt names) depot (TooLarge slot) =
-    IsIndexSlot slot × (IsTrue depot.tells → IsRefusedAt names depot (TooLarge slot))
+IsRefusedAs (IndexesAt names) depot (Err (BrokenSegment fault segment)) =
+    IsTrue depot.tells → IsRefusedAt names depot (Err (BrokenSegment fault segment))
+IsRefusedAs (IndexesAt names) depot (Err (UnfitSegment rule segment)) =
+    IsRefusedAt names depot (Err (UnfitSegment rule segment))
+IsRefusedAs (IndexesAt names) depot (Err (TooLarge slot)) =
+    IsIndexSlot slot × (IsTrue depot.tells → IsRefusedAt names depot (Err (TooLarge slot)))
 IsRefusedAs source depot outcome = ⊥
 
 -- A run ends at what it reads: it is refused, or a call on one of its files failed.
 abbrev pub EndsAt : Source → DepotState → Outcome → Type 0
-EndsAt source depot (FileFault slot) = ComesTo source depot slot
+EndsAt source depot (Err (FileFault slot)) = ComesTo source depot slot
 EndsAt source depot outcome = IsRefusedAs source depot outcome
 
 -- A call on one of its files failed, or memory was refused.
 abbrev pub StopsAt : Source → DepotState → Outcome → Type 0
 StopsAt source depot outcome =
-    ((slot : Slot) × ComesTo source depot slot × (outcome ≡ FileFault slot))
-    ⊎ (outcome ≡ NoMemory)
+    ((slot : Slot) × ComesTo source depot slot × (outcome ≡ Err (FileFault slot)))
+    ⊎ (outcome ≡ Err NoMemory)
 
 -- It is refused exactly where it is to be, and so; a failed call or want of memory may come before.
 pub record Refuses (source : Source) (depot : DepotState) (outcome : Outcome) : Type 0 where
@@ -116,9 +117,9 @@ pub record Refuses (source : Source) (depot : DepotState) (outcome : Outcome) : 
 -- the slots to which a run comes that ends so, where no call on a file failed and no memory was refused:
 -- what comes behind a refused file is not started
 abbrev pub StartedIn : Source → Outcome → Slot → Type 0
-StartedIn (SideAt index side) (BrokenIndex fault) = IsIndexSlot
-StartedIn (SideAt index side) (TooLarge Index) = IsIndexSlot
-StartedIn (MapAt base map) (BrokenCollection fault) = IsCollectionSlot
+StartedIn (SideAt index side) (Err (BrokenIndex fault)) = IsIndexSlot
+StartedIn (SideAt index side) (Err (TooLarge Index)) = IsIndexSlot
+StartedIn (MapAt base map) (Err (BrokenCollection fault)) = IsCollectionSlot
 StartedIn source outcome = ReadsFrom source
 
 -- the names of its files, by the slots from which they are read; several indexes are read from one slot

@@ -1,5 +1,4 @@
 -- What contracts of the steps and the commands cite, and `run` does not.
-pub mod Stops
 pub mod AtSource
 pub mod LoadedIndex
 pub mod Leaves

@@ -1,4 +1,4 @@
-use Rattle.std.specs.Prelude.{◌≡◌, ℕ, ◌≤◌, ◌<◌, List, length}
+use Rattle.std.specs.Prelude.{◌≡◌, ℕ, ◌≤◌, ◌<◌, List, length, Err}
 use Rattle.collection_model.specs.Collection.{Collection}
 use Rattle.part_cost.specs.declared.formats.Format.{Format}
 use Rattle.part_cost.specs.Formats.{numbers_of}
@@ -6,8 +6,9 @@ use Rattle.pef_io.specs.declared.fail.Slot.TheVariants.{Index}
 use Rattle.index_file.specs.FileWords.{ListParts, file_words}
 use Rattle.index_file.specs.Builder.{most_words}
 use Rattle.command_model.specs.CollectionCut.{AreCut}
-use Rattle.command_ends.specs.Outside.{Outside}
-use Rattle.command_ends.specs.Outcome.{Outcome, TooLarge}
+use Rattle.outcomes.specs.Outside.{Outside}
+use Rattle.outcomes.specs.declared.stop.Stop.TheVariants.{TooLarge}
+use Rattle.outcomes.specs.Outcome.{Outcome}
 
 -- The words of a collection of this property were built, and they are not too many.
 pub record AreBuilt (format : Format) (Is : Collection → Type 0) (before after : ℕ)
@@ -24,6 +25,6 @@ AreTooMany format Is before after =
 -- A run builds the words of a collection of this property. It ends as they are too many, or goes on, and ends so.
 abbrev pub BuildsWordsThen : Format → (Collection → Type 0) → Outside → Outside
     → (Outcome → Type 0) → Outcome → Type 0
-BuildsWordsThen format Is old new Then (TooLarge slot) =
+BuildsWordsThen format Is old new Then (Err (TooLarge slot)) =
     (slot ≡ Index) × AreTooMany format Is old.costs new.costs
 BuildsWordsThen format Is old new Then outcome = Then outcome

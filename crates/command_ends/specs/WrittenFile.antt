@@ -1,10 +1,11 @@
-use Rattle.std.specs.Prelude.{◌≡◌, ℕ, ◌⊎◌, IsTrue, List}
+use Rattle.std.specs.Prelude.{◌≡◌, ℕ, ◌⊎◌, IsTrue, List, Err, Ok}
 use Rattle.pef_io.specs.declared.fail.Slot.{Slot}
 use Rattle.pef_io.specs.Calls.{Rose}
 use Rattle.pef_io.specs.DepotState.{DepotState, OnlyReads}
 use Rattle.command_model.specs.Written.{IsWritten, IsUnwritten, IsWrittenInPart, IsBeingWritten, IsLeftByFault}
-use Rattle.command_ends.specs.Outside.{Outside}
-use Rattle.command_ends.specs.Outcome.{Outcome, Done, WriteFault, NoMemory, is_refusal}
+use Rattle.outcomes.specs.Outside.{Outside}
+use Rattle.outcomes.specs.declared.stop.Stop.TheVariants.{WriteFault, NoMemory}
+use Rattle.outcomes.specs.Outcome.{Outcome, is_refusal, done}
 
 -- Nothing is written, or the name is still the one that is being written, and a prefix of these bytes may stand under it.
 abbrev pub IsLeftInPart : List ℕ → DepotState → DepotState → List ℕ → Type 0
@@ -15,11 +16,11 @@ IsLeftInPart name old new bytes =
 -- may come before they are made, and behind the create only of the depot.
 abbrev pub WritesFile : Slot → List ℕ → ((List ℕ → Type 0) → Type 0) → Outside → Outside
     → Outcome → Type 0
-WritesFile slot name OnBytes old new Done = OnBytes (IsWritten name old.depot new.depot)
-WritesFile slot name OnBytes old new (WriteFault written) = (written ≡ slot)
+WritesFile slot name OnBytes old new (Ok u) = OnBytes (IsWritten name old.depot new.depot)
+WritesFile slot name OnBytes old new (Err (WriteFault written)) = (written ≡ slot)
     × OnBytes (λ bytes.
     IsLeftInPart name old.depot new.depot bytes × IsLeftByFault name old.depot new.depot bytes)
-WritesFile slot name OnBytes old new NoMemory =
+WritesFile slot name OnBytes old new (Err NoMemory) =
     IsUnwritten old.depot new.depot
     ⊎ (Rose old.depot.refusals new.depot.refusals
     × OnBytes (IsLeftInPart name old.depot new.depot))
@@ -27,7 +28,7 @@ WritesFile slot name OnBytes old new outcome = ⊥
 
 -- A run ends by the failed write of one of these files.
 abbrev pub EndsByWriting : (Slot → Type 0) → Outcome → Type 0
-EndsByWriting written outcome = (slot : Slot) × written slot × (outcome ≡ WriteFault slot)
+EndsByWriting written outcome = (slot : Slot) × written slot × (outcome ≡ Err (WriteFault slot))
 
 -- Only these slots are started and read; files are changed, and names created, only where what is read is accepted and the run is not refused;
 -- a create or a finish fails only where the run ends by the failed write of one of the files that are written.

@@ -1,22 +1,23 @@
-use Rattle.std.specs.Prelude.{◌⊎◌, List}
+use Rattle.std.specs.Prelude.{◌⊎◌, List, Err, Ok}
 use Rattle.pef_io.specs.declared.fail.Slot.{Slot}
 use Rattle.pef_io.specs.Calls.{Rose}
 use Rattle.collection_reader.specs.ReadCollection.{IsCollectionSlot}
 use Rattle.collection_reader.specs.Starting.{turn}
 use Rattle.command_model.specs.Written.{IsUnwritten}
 use Rattle.command_model.specs.FilesWritten.{NamedFile, AreWritten, StopsAtFile, FileLeftByFault}
-use Rattle.command_ends.specs.Outside.{Outside}
-use Rattle.command_ends.specs.Outcome.{Outcome, Done, WriteFault, NoMemory}
+use Rattle.outcomes.specs.Outside.{Outside}
+use Rattle.outcomes.specs.declared.stop.Stop.TheVariants.{WriteFault, NoMemory}
+use Rattle.outcomes.specs.Outcome.{Outcome, done}
 
 -- A run writes the three files of a collection, of which OnFiles tells, one after the other, and ends so. A failed write names its
 -- file. Want of memory may come before the first is begun, and behind that only of the depot.
 abbrev pub WritesFiles : ((List NamedFile → Type 0) → Type 0) → Outside → Outside → Outcome → Type 0
-WritesFiles OnFiles old new Done = OnFiles (λ files. AreWritten files old.depot new.depot)
-WritesFiles OnFiles old new (WriteFault slot) = IsCollectionSlot slot
+WritesFiles OnFiles old new (Ok u) = OnFiles (λ files. AreWritten files old.depot new.depot)
+WritesFiles OnFiles old new (Err (WriteFault slot)) = IsCollectionSlot slot
     × OnFiles (λ files.
     StopsAtFile files (turn slot) old.depot new.depot
     × FileLeftByFault files (turn slot) old.depot new.depot)
-WritesFiles OnFiles old new NoMemory =
+WritesFiles OnFiles old new (Err NoMemory) =
     IsUnwritten old.depot new.depot
     ⊎ (Rose old.depot.refusals new.depot.refusals
     × OnFiles (λ files.

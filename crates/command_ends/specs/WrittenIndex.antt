@@ -5,8 +5,8 @@ use Rattle.part_cost.specs.declared.formats.Format.{Format}
 use Rattle.part_cost.specs.Formats.{numbers_of}
 use Rattle.pef_io.specs.declared.fail.Slot.TheVariants.{Index}
 use Rattle.index_file.specs.FileWords.{ListParts, file_words}
-use Rattle.command_ends.specs.Outside.{Outside}
-use Rattle.command_ends.specs.Outcome.{Outcome}
+use Rattle.outcomes.specs.Outside.{Outside}
+use Rattle.outcomes.specs.Outcome.{Outcome}
 use Rattle.command_ends.specs.WordsThen.{AreBuilt}
 use Rattle.command_ends.specs.WrittenFile.{WritesFile}
 

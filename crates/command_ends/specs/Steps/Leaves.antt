@@ -1,8 +1,8 @@
 use Rattle.std.specs.Prelude.{◌≡◌}
 use Rattle.pef_io.specs.DepotState.{DepotState}
-use Rattle.command_ends.specs.Outside.{Outside}
-use Rattle.command_ends.specs.Outcome.{Outcome}
-use Rattle.command_ends.specs.Ends.{FirstFaultEnds}
+use Rattle.outcomes.specs.Outside.{Outside}
+use Rattle.outcomes.specs.Outcome.{Outcome}
+use Rattle.outcomes.specs.Ends.{FirstFaultEnds}
 
 -- What a command leaves, err apart: what it promises, the counts of faults, what it starts, and that the objects go on telling.
 pub record Leaves (Promises : Outside → Outside → Outcome → Type 0)

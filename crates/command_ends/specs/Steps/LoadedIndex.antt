@@ -1,13 +1,12 @@
-use Rattle.std.specs.Prelude.{ℕ, List}
+use Rattle.std.specs.Prelude.{ℕ, List, Err}
 use Rattle.part_cost.specs.Formats.{numbers_of}
 use Rattle.pef_io.specs.DepotState.{DepotState}
 use Rattle.index_file.specs.IndexView.{IndexView}
-use Rattle.command_ends.specs.declared.stop.Stop.{Stop}
-use Rattle.command_ends.specs.Outcome.{Outcome}
+use Rattle.outcomes.specs.declared.stop.Stop.{Stop}
+use Rattle.outcomes.specs.Outcome.{Outcome}
 use Rattle.command_ends.specs.FoundIndex.{FindsIndex}
 use Rattle.command_ends.specs.Sources.{IndexAt, Starts}
 use Rattle.command_ends.specs.Steps.AtSource.{IsRead, IsUnread}
-use Rattle.command_ends.specs.Steps.Stops.{outcome_of_stop}
 
 -- This index stands under the name and was read, and its file was started once however the run then ends.
 pub record IsLoaded (name : List ℕ) (old new : DepotState) (index : IndexView) : Type 0 where
@@ -17,4 +16,4 @@ pub record IsLoaded (name : List ℕ) (old new : DepotState) (index : IndexView)
 
 -- A run stops so that loaded no index.
 abbrev pub IsUnloaded : List ℕ → DepotState → DepotState → Stop → Type 0
-IsUnloaded name old new it = IsUnread (IndexAt name) old new (outcome_of_stop it)
+IsUnloaded name old new it = IsUnread (IndexAt name) old new (Err it)

@@ -5,11 +5,11 @@ use Rattle.std.proofs.lemmas.Result.{err_from_is_err_and}
 use Rattle.pef_io.specs.declared.fail.Slot.TheVariants.{Index}
 use Rattle.word_files.specs.declared.loading.LoadWordsError.{LoadWordsError}
 use Rattle.word_files.specs.LoadWords.{LoadsKept, words_loaded}
-use Rattle.command_ends.specs.declared.stop.Stop.{Stop}
+use Rattle.outcomes.specs.declared.stop.Stop.{Stop}
 use Rattle.command_ends.specs.Steps.LoadedIndex.{IsUnloaded}
 use Rattle.command_ends.proofs.IndexRead.{index_broken, index_loaded, index_unkept, index_unloaded, loaded_as, spelled_index}
 use Rattle.command_ends.proofs.OtherFile.{openings, kept_is_loaded, kept_is_none, kept_once}
-use Rattle.command_ends.proofs.Told.{handed_on, told_ok, told_err}
+use Rattle.outcomes.proofs.Told.{handed_on, told_ok, told_err}
 use Rattle.command_ends.proofs.loading.load_index.Goals as goal
 
 pub returns-in_err-words-clause-refused : goal.returns-in_err-words-clause-refused

@@ -1,7 +1,0 @@
-use Rattle.std.specs.Prelude.{ℕ, List, map}
-use Rattle.std.specs.List.{concat}
-use Rattle.std.specs.Borrow.{Bor}
-
--- pieces that are lent, one after the other
-abbrev pub joined : List (Bor (List ℕ)) → List ℕ
-joined pieces = concat (map (λ piece. piece.now) pieces)

@@ -1,0 +1,4 @@
+pub mod Counted
+pub mod Told
+mod ErrPieces
+mod Rows
