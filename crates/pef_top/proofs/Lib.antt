@@ -1,6 +1,6 @@
+mod FilesLeft
+mod Made
+mod Names
 mod RunEnds
-mod Without
 mod Stopped
 mod Tabled
-mod Headline
-mod WayBack

@@ -1,23 +1,11 @@
-use Rattle.std.specs.Prelude.{◌≡◌, Option, Some, None}
-use Rattle.pef_io.specs.SinkState.{SinkState}
-use Rattle.command_ends.specs.declared.status.Status.{Status}
-use Rattle.command_ends.specs.declared.status.Status.TheVariants as status
-use Rattle.command_line.specs.Command.{Command, Build, Query, Answer, Inspect, Generate, Migrate, Audit, Blocks, BlockQuery, Remap, Segments, Export}
-use Rattle.command_ends.specs.ErrLines.{usage_line}
-use Rattle.command_ends.specs.Outside.{Outside, GotText}
-use Rattle.command_ends.specs.Outcome.{Outcome, Usage}
-use Rattle.collection_commands.specs.Build.{Builds}
-use Rattle.index_commands.specs.Query.{Queries}
-use Rattle.collection_commands.specs.Answer.{Answers}
-use Rattle.index_commands.specs.Inspect.{Inspects}
-use Rattle.collection_commands.specs.Generate.{Generates}
-use Rattle.index_commands.specs.Migrate.{Migrates, migrate_format}
-use Rattle.index_commands.specs.Audit.{Audits}
-use Rattle.index_commands.specs.Export.{Exports}
-use Rattle.side_commands.specs.Blocks.{WritesBlocks}
-use Rattle.side_commands.specs.BlockQuery.{QueriesBlocks}
-use Rattle.collection_commands.specs.Remap.{Remaps}
-use Rattle.segment_commands.specs.AnswerSegments.{AnswersSegments}
+use Rattle.std.specs.Prelude.{◌≡◌, Option, Some, None, Err}
+use Rattle.pef_top.specs.Names.{SinkState, Status, Command, Build, Query, Answer, Inspect, Generate, Migrate, Audit, Blocks, BlockQuery, Remap, Segments, Export, Outside, GotText, Outcome, Builds, Migrates, Exports, Queries}
+use Rattle.outcomes.specs.declared.status.Status.TheVariants as status
+use Rattle.outcomes.specs.ErrLines.{usage_line}
+use Rattle.outcomes.specs.declared.stop.Stop.TheVariants.{Usage}
+use Rattle.commands.specs.Files.{migrate_format, WritesBlocks, Remaps}
+use Rattle.commands.specs.Replies.{Answers, QueriesBlocks, AnswersSegments}
+use Rattle.commands.specs.Texts.{Inspects, Generates, Audits}
 
 -- Words that are no command end the run with the usage line.
 pub record IsUsage (old new : SinkState) (result : Status) : Type 0 where
@@ -26,7 +14,7 @@ pub record IsUsage (old new : SinkState) (result : Status) : Type 0 where
 
 -- Words that are no command end the run as usage, and nothing else; no part cost is counted.
 pub record RefusesWords (old new : Outside) (outcome : Outcome) : Type 0 where
-  pub usage : outcome ≡ Usage
+  pub usage : outcome ≡ Err Usage
   pub costs : new.costs ≡ old.costs
 
 -- what a run does, by the command of its words and its outcome

@@ -1,27 +1,21 @@
 use Rattle.std.specs.Prelude.{◌≡◌, ℕ, IsTrue, List}
+use Rattle.pef_top.specs.Names.{numbers_of, DepotState, Outside, done, Builds, Exports, Migrates, Queries}
 use Rattle.collection_model.specs.Collection.{Collection}
 use Rattle.part_cost.specs.declared.formats.Format.{Format}
-use Rattle.part_cost.specs.Formats.{numbers_of}
-use Rattle.pef_io.specs.DepotState.{DepotState}
 use Rattle.query_text.specs.Lines.{text_lines}
 use Rattle.collection_reader.specs.ReadCollection.{files_at}
 use Rattle.command_model.specs.Found.{FindsCollection}
 use Rattle.command_model.specs.GotReplies.{GotReplies}
-use Rattle.command_ends.specs.Outside.{Outside, Told}
-use Rattle.command_ends.specs.Outcome.{Done}
-use Rattle.collection_commands.specs.Build.{Builds}
-use Rattle.index_commands.specs.Query.{Queries}
+use Rattle.outcomes.specs.Outside.{Told}
 use Rattle.command_ends.specs.FoundIndex.{FindsIndexOf}
-use Rattle.index_commands.specs.Export.{Exports}
-use Rattle.index_commands.specs.Migrate.{Migrates}
 
 -- Where `build`, or `pack`, is done and then `query` of what it left, the replies are those of the collection that it
 -- found.
 abbrev pub BuiltFilesAnswer : Type 0
 BuiltFilesAnswer =
     (format : Format) (base index : List ℕ) (old built asked answered : Outside)
-    → Builds format base index old built Done → asked.depot ≡ built.depot
-    → Queries index asked answered Done → Told asked
+    → Builds format base index old built done → asked.depot ≡ built.depot
+    → Queries index asked answered done → Told asked
     → (c : Collection) × FindsCollection (numbers_of format) base old.depot c
     × GotReplies c (text_lines asked.input.left) asked.out answered.out
 
@@ -30,8 +24,8 @@ BuiltFilesAnswer =
 abbrev pub MigratedFilesAnswer : Type 0
 MigratedFilesAnswer =
     (format : Format) (from to : List ℕ) (old migrated asked answered : Outside)
-    → Migrates format from to old migrated Done → asked.depot ≡ migrated.depot
-    → Queries to asked answered Done → Told asked
+    → Migrates format from to old migrated done → asked.depot ≡ migrated.depot
+    → Queries to asked answered done → Told asked
     → (c : Collection) × FindsIndexOf from old.depot c
     × GotReplies c (text_lines asked.input.left) asked.out answered.out
 
@@ -46,8 +40,8 @@ pub record AllTell (first second third : DepotState) : Type 0 where
 abbrev pub BuiltFilesComeBack : Type 0
 BuiltFilesComeBack =
     (format : Format) (base index to : List ℕ) (old built asked exported : Outside)
-    → Builds format base index old built Done → asked.depot ≡ built.depot
-    → Exports index to asked exported Done → AllTell old.depot asked.depot exported.depot
+    → Builds format base index old built done → asked.depot ≡ built.depot
+    → Exports index to asked exported done → AllTell old.depot asked.depot exported.depot
     → files_at exported.depot to ≡ files_at old.depot base
 
 -- Where `migrate`, or `repack`, is done and then `export` of what it left, the three files are those that `export` leaves
@@ -55,7 +49,7 @@ BuiltFilesComeBack =
 abbrev pub MigratedFilesComeBack : Type 0
 MigratedFilesComeBack =
     (format : Format) (from index to : List ℕ) (old migrated asked exported : Outside)
-    → Migrates format from index old migrated Done → asked.depot ≡ migrated.depot
-    → Exports index to asked exported Done → AllTell old.depot asked.depot exported.depot
-    → (other : List ℕ) (left : Outside) → Exports from other old left Done → IsTrue left.depot.tells
+    → Migrates format from index old migrated done → asked.depot ≡ migrated.depot
+    → Exports index to asked exported done → AllTell old.depot asked.depot exported.depot
+    → (other : List ℕ) (left : Outside) → Exports from other old left done → IsTrue left.depot.tells
     → files_at exported.depot to ≡ files_at left.depot other

@@ -1,8 +1,9 @@
-pub mod SourceAndProduct
 pub mod Commands
-pub mod Uncalled
-pub mod Starts
-pub mod MayEnd
-pub mod Runs
 pub mod Laws
+pub mod MayEnd
+pub mod Names
 pub mod Private
+pub mod Runs
+pub mod SourceAndProduct
+pub mod Starts
+pub mod Uncalled

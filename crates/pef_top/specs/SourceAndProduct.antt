@@ -1,9 +1,7 @@
-use Rattle.part_cost.specs.Formats.{numbers_of}
-use Rattle.pef_io.specs.declared.fail.Slot.TheVariants.{Index, Side}
-use Rattle.command_line.specs.Command.{Command, Build, Query, Answer, Inspect, Generate, Migrate, Audit, Blocks, BlockQuery, Remap, Segments, Export}
-use Rattle.command_ends.specs.Sources.{Source, Nothing, CollectionAt, IndexAt, SideAt, MapAt, IndexesAt}
-use Rattle.command_ends.specs.Products.{Product, Replies, Text, File, Files}
-use Rattle.collection_commands.specs.Answer.{answer_format}
+use Rattle.pef_top.specs.Names.{numbers_of, Index, Side, Command, Build, Query, Answer, Inspect, Generate, Migrate, Audit, Blocks, BlockQuery, Remap, Segments, Export, Source, IndexAt, SideAt, IndexesAt, Product}
+use Rattle.command_ends.specs.Sources.{Nothing, CollectionAt, MapAt}
+use Rattle.command_ends.specs.Products.{Replies, Text, File, Files}
+use Rattle.commands.specs.Replies.{answer_format}
 
 -- what a command reads
 abbrev pub source_of : Command → Source

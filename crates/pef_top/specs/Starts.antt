@@ -1,7 +1,5 @@
 use Rattle.std.specs.Prelude.{Option, Some, None}
-use Rattle.pef_io.specs.DepotState.{DepotState}
-use Rattle.command_line.specs.Command.{Command}
-use Rattle.command_ends.specs.Outcome.{Outcome}
+use Rattle.pef_top.specs.Names.{DepotState, Command, Outcome}
 use Rattle.command_ends.specs.Sources as source
 use Rattle.pef_top.specs.SourceAndProduct.{source_of}
 

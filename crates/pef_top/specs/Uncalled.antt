@@ -1,20 +1,9 @@
-use Rattle.std.specs.Prelude.{◌≡◌, Bool, false, not, IsTrue, Option, Some, None}
-use Rattle.pef_io.specs.DepotState.{DepotState}
-use Rattle.command_line.specs.Command.{Command}
-use Rattle.command_ends.specs.Outcome.{Outcome, is_refusal}
+use Rattle.std.specs.Prelude.{◌≡◌, IsTrue, Option, Some, None, Bool, false, not}
+use Rattle.pef_top.specs.Names.{DepotState, Command, Devices, Outcome}
+use Rattle.outcomes.specs.Outcome.{is_refusal}
 use Rattle.command_ends.specs.Sources as source
 use Rattle.command_ends.specs.Products as product
 use Rattle.pef_top.specs.SourceAndProduct.{product_of, source_of}
-
--- the objects on which a command works, whole
-pub record Objects (D I O : Type 0) : Type 0 where
-  pub depot : D
-  pub input : I
-  pub out : O
-
--- them put together
-abbrev pub objects : {D I O : Type 0} → D → I → O → Objects D I O
-objects depot input out = record { depot = depot; input = input; out = out }
 
 -- whether a command calls the depot
 abbrev pub calls_depot : Option Command → Bool
@@ -37,14 +26,14 @@ Accepts None depot = ⊥
 Accepts (Some command) depot = source.Accepts (source_of command) depot
 
 -- Neither the input nor out was called.
-pub record IsSilent {D I O : Type 0} (old new : Objects D I O) : Type 0 where
+pub record IsSilent {D I O : Type 0} (old new : Devices D I O) : Type 0 where
   pub input : new.input ≡ old.input
   pub out : new.out ≡ old.out
 
 -- What is not called is the same object: what the command has no use for, and the input and out of a run
 -- that is refused or accepts nothing.
 pub record LeavesUncalled {D I O : Type 0} (command : Option Command) (accepted : Type 0)
-    (outcome : Outcome) (old new : Objects D I O) : Type 0 where
+    (outcome : Outcome) (old new : Devices D I O) : Type 0 where
   pub depot : IsTrue (not (calls_depot command)) → new.depot ≡ old.depot
   pub input : IsTrue (not (reads_input command)) → new.input ≡ old.input
   pub out : IsTrue (not (prints command)) → new.out ≡ old.out

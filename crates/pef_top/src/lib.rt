@@ -4,12 +4,13 @@
 mod laws;
 mod top;
 
-pub use command_ends::Status;
+pub use command_ends::Devices;
 pub use index_building::{BuildError, build_words};
 pub use laws::{
     built_files_answer, built_files_come_back, commands_end_by_the_table, migrated_files_answer,
     migrated_files_come_back,
 };
+pub use outcomes::Status;
 pub use text_replies::{Plan, RunFault, answer_joined, answer_text};
 pub use top::{run, run_uncounted};
 pub use topk_pruning::plan_top;

@@ -1,22 +1,31 @@
 ghost use Rattle.std.specs.Prelude.{◌≡◌, ℕ, ◌<◌, IsOk};
-ghost use Rattle.pef_io.specs.SinkState.{SinkState};
+ghost use Rattle.pef_top.specs.Names.{SinkState};
 ghost use Rattle.command_line.specs.Command.{command_of, texts};
-ghost use Rattle.command_ends.specs.Outside.{outside};
-ghost use Rattle.pef_top.specs.Uncalled.{objects, Accepts, LeavesUncalled};
+ghost use Rattle.command_ends.specs.Lent.{devices, lent, LendTheSame};
+ghost use Rattle.outcomes.specs.Outside.{outside};
+ghost use Rattle.pef_top.specs.Uncalled.{Accepts, LeavesUncalled};
 ghost use Rattle.pef_top.specs.Commands.{Performs};
 ghost use Rattle.pef_top.specs.Starts.{Starts};
 ghost use Rattle.pef_top.specs.Runs.{Runs};
 ghost use Rattle.pef_top.specs.Private.Reports.{Reports};
 ghost use Rattle.command_ends.specs.Steps.Leaves.{Leaves};
-ghost use Rattle.command_ends.specs.Steps.Stops.{outcome_of};
 
-use collection_commands::{GeneratedCollection, NewIndex, answer, build, generate, reorder};
-use command_ends::{Status, Stop, write_line};
+use command_ends::Devices;
 use command_line::{Command, parse_words};
-use index_commands::{Rewrite, audit, export, inspect, migrate, query};
+use commands::answer::answer;
+use commands::audit::audit;
+use commands::blocks::blocks;
+use commands::bquery::bquery;
+use commands::build::{NewIndex, build};
+use commands::export::export;
+use commands::generate::{GeneratedCollection, generate};
+use commands::inspect::inspect;
+use commands::joining::segments;
+use commands::migrate::{Rewrite, migrate};
+use commands::query::query;
+use commands::remapping::remap;
+use outcomes::{Status, Stop, write_line};
 use pef_io::{Depot, Sink, Source};
-use segment_commands::answer_segments;
-use side_commands::{query_blocks, write_blocks};
 use std::alloc::Global;
 use std::marker::Brand;
 use std::sync::ledger::{Blank, Ledger};
@@ -54,39 +63,35 @@ pub fn run<D: Depot, I: Source, O: Sink, E: Sink, L: Ledger>(
         steps.old)
         (outside (D.state depot.new) (I.state input.new) (O.state out.new) (E.state err.new)
         steps.new)
-        (objects depot.old input.old out.old) (objects depot.new input.new out.new)
+        (devices depot.old input.old out.old) (devices depot.new input.new out.new)
         err.old err.new result }
 {
-    let ending = perform(alloc, words, depot, input, out, steps);
-    report(err, ending)
+    let mut on = Devices { depot, input, out };
+    run_on(alloc, words, &mut on, err, steps)
 }
 
 /// Runs the command of the words as `run` does, for a caller that counts nothing.
 pub fn run_uncounted<D: Depot, I: Source, O: Sink, E: Sink>(
     alloc: Global,
     words: &[String],
-    depot: &mut D,
-    input: &mut I,
-    out: &mut O,
+    on: &mut Devices<D, I, O>,
     err: &mut E,
 ) -> Status
     ensures { (counted : ℕ) × Runs (command_of (texts words.now))
-        (outside (D.state depot.old) (I.state input.old) (O.state out.old) (E.state err.old) 0)
-        (outside (D.state depot.new) (I.state input.new) (O.state out.new) (E.state err.new)
-        counted)
-        (objects depot.old input.old out.old) (objects depot.new input.new out.new)
-        err.old err.new result }
+        (outside (D.state on.old.depot) (I.state on.old.input) (O.state on.old.out)
+        (E.state err.old) 0)
+        (outside (D.state on.new.depot) (I.state on.new.input) (O.state on.new.out)
+        (E.state err.new) counted)
+        on.old on.new err.old err.new result }
 {
-    run_counted::<_, _, _, _, Brand>(alloc, words, depot, input, out, err, Blank::new(1))
+    run_counted::<_, _, _, _, Brand>(alloc, words, on, err, Blank::new(1))
 }
 
 // Runs the command of the words with a counter of its own.
 fn run_counted<D: Depot, I: Source, O: Sink, E: Sink, L: Ledger>(
     alloc: Global,
     words: &[String],
-    depot: &mut D,
-    input: &mut I,
-    out: &mut O,
+    on: &mut Devices<D, I, O>,
     err: &mut E,
     blank: Blank,
 ) -> Status
@@ -94,33 +99,62 @@ fn run_counted<D: Depot, I: Source, O: Sink, E: Sink, L: Ledger>(
     requires parts { blank.parts ≡ L.parts }
     requires some { 0 < L.parts }
     ensures { (counted : ℕ) × Runs (command_of (texts words.now))
-        (outside (D.state depot.old) (I.state input.old) (O.state out.old) (E.state err.old) 0)
-        (outside (D.state depot.new) (I.state input.new) (O.state out.new) (E.state err.new)
-        counted)
-        (objects depot.old input.old out.old) (objects depot.new input.new out.new)
-        err.old err.new result }
+        (outside (D.state on.old.depot) (I.state on.old.input) (O.state on.old.out)
+        (E.state err.old) 0)
+        (outside (D.state on.new.depot) (I.state on.new.input) (O.state on.new.out)
+        (E.state err.new) counted)
+        on.old on.new err.old err.new result }
 {
     let mut steps = Steps::<L>::new(blank);
-    run(alloc, words, depot, input, out, err, &mut steps)
+    run(
+        alloc,
+        words,
+        &mut on.depot,
+        &mut on.input,
+        &mut on.out,
+        err,
+        &mut steps,
+    )
+}
+
+// Runs the command of the words on devices that are lent.
+fn run_on<D: Depot, I: Source, O: Sink, E: Sink, L: Ledger>(
+    alloc: Global,
+    words: &[String],
+    on: &mut Devices<&mut D, &mut I, &mut O>,
+    err: &mut E,
+    steps: &mut Steps<L>,
+) -> Status
+    ensures runs { Runs (command_of (texts words.now))
+        (outside (D.state on.old.depot.now) (I.state on.old.input.now)
+        (O.state on.old.out.now) (E.state err.old) steps.old)
+        (outside (D.state on.new.depot.now) (I.state on.new.input.now)
+        (O.state on.new.out.now) (E.state err.new) steps.new)
+        (lent on.old) (lent on.new) err.old err.new result }
+    ensures same { LendTheSame on.old on.new }
+{
+    let ending = perform(alloc, words, on, steps);
+    report(err, ending)
 }
 
 // Carries out the command of the words.
 fn perform<D: Depot, I: Source, O: Sink, L: Ledger>(
     alloc: Global,
     words: &[String],
-    depot: &mut D,
-    input: &mut I,
-    out: &mut O,
+    on: &mut Devices<&mut D, &mut I, &mut O>,
     steps: &mut Steps<L>,
 ) -> Result<(), Stop>
     ensures leaves { let command = command_of (texts words.now) in (e e' : SinkState) →
         Leaves (Performs command) (Starts command)
-        (outside (D.state depot.old) (I.state input.old) (O.state out.old) e steps.old)
-        (outside (D.state depot.new) (I.state input.new) (O.state out.new) e' steps.new)
-        (outcome_of result) }
+        (outside (D.state on.old.depot.now) (I.state on.old.input.now)
+        (O.state on.old.out.now) e steps.old)
+        (outside (D.state on.new.depot.now) (I.state on.new.input.now)
+        (O.state on.new.out.now) e' steps.new)
+        result }
     ensures uncalled { let command = command_of (texts words.now) in
-        LeavesUncalled command (Accepts command (D.state depot.old)) (outcome_of result)
-        (objects depot.old input.old out.old) (objects depot.new input.new out.new) }
+        LeavesUncalled command (Accepts command (D.state on.old.depot.now)) result
+        (lent on.old) (lent on.new) }
+    ensures same { LendTheSame on.old on.new }
 {
     let command = parse_words(alloc, words)?;
     match command {
@@ -133,11 +167,11 @@ fn perform<D: Depot, I: Source, O: Sink, L: Ledger>(
                 name: index,
                 format,
             };
-            build(alloc, base, index, depot, steps)
+            build(alloc, base, index, on.depot, steps)
         }
-        Command::Query { index, plan } => query(alloc, index, plan, depot, input, out),
-        Command::Answer { base, plan } => answer(alloc, base, plan, depot, input, out, steps),
-        Command::Inspect { index } => inspect(alloc, index, depot, out),
+        Command::Query { index, plan } => query(alloc, index, plan, on),
+        Command::Answer { base, plan } => answer(alloc, base, plan, on, steps),
+        Command::Inspect { index } => inspect(alloc, index, on.depot, on.out),
         Command::Generate {
             seed,
             documents,
@@ -148,25 +182,23 @@ fn perform<D: Depot, I: Source, O: Sink, L: Ledger>(
                 documents,
                 terms,
             };
-            generate(alloc, collection, out, steps)
+            generate(alloc, collection, on.out, steps)
         }
         Command::Migrate { from, to, kind } => {
-            migrate(alloc, Rewrite { from, to, kind }, depot, steps)
+            migrate(alloc, Rewrite { from, to, kind }, on.depot, steps)
         },
-        Command::Audit { index } => audit(alloc, index, depot, out, steps),
-        Command::Blocks { index, side } => write_blocks(alloc, index, side, depot),
-        Command::BlockQuery { index, side } => query_blocks(alloc, index, side, depot, input, out),
-        Command::Remap { base, map, to } => reorder(alloc, base, map, to, depot),
-        Command::Segments { indexes, plan } => {
-            answer_segments(alloc, indexes, plan, depot, input, out)
-        }
-        Command::Export { index, base } => export(alloc, index, base, depot),
+        Command::Audit { index } => audit(alloc, index, on.depot, on.out, steps),
+        Command::Blocks { index, side } => blocks(alloc, index, side, on.depot),
+        Command::BlockQuery { index, side } => bquery(alloc, index, side, on),
+        Command::Remap { base, map, to } => remap(alloc, base, map, to, on.depot),
+        Command::Segments { indexes, plan } => segments(alloc, indexes, plan, on),
+        Command::Export { index, base } => export(alloc, index, base, on.depot),
     }
 }
 
 // The status of an ending, whose line is written on err. An err that fails changes no status.
 fn report<E: Sink>(err: &mut E, ending: Result<(), Stop>) -> Status
-    ensures ending { Reports (E.state err.old) (E.state err.new) (outcome_of ending) result }
+    ensures ending { Reports (E.state err.old) (E.state err.new) ending result }
     ensures done { IsOk ending → err.new ≡ err.old }
 {
     match ending {

@@ -6,24 +6,20 @@ mod process;
 use crate::process::process;
 use no_memory::NoMemory;
 use pef_io::{StdDepot, StdSink, StdSource};
+use pef_top::Devices;
 use std::env;
 use std::io::ErrorKind;
 use std::process::ExitCode;
 use std::rt::Env;
 
 fn main(rt: HostRuntime) -> ExitCode {
-    let mut depot = StdDepot::new(rt);
-    let mut input = StdSource::new(rt.stdin());
-    let mut out = StdSink::new(rt.stdout());
+    let mut on = Devices {
+        depot: StdDepot::new(rt),
+        input: StdSource::new(rt.stdin()),
+        out: StdSink::new(rt.stdout()),
+    };
     let mut err = StdSink::new(rt.stderr());
-    process(
-        rt.alloc(),
-        words(&rt),
-        &mut depot,
-        &mut input,
-        &mut out,
-        &mut err,
-    )
+    process(rt.alloc(), words(&rt), &mut on, &mut err)
 }
 
 // The words of the command line, the program's name first. There are none where one is no UTF-8,

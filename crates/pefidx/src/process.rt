@@ -1,15 +1,14 @@
 ghost use Rattle.std.specs.Prelude.{◌≡◌};
 ghost use Rattle.std.specs.Process.{exit_status};
-ghost use Rattle.command_ends.specs.declared.status.Status as ended;
-ghost use Rattle.command_ends.specs.Outside.{outside};
-ghost use Rattle.command_ends.specs.StatusNumber.{status_number};
-ghost use Rattle.pef_top.specs.Uncalled.{objects};
+ghost use Rattle.outcomes.specs.declared.status.Status as ended;
+ghost use Rattle.outcomes.specs.Outside.{outside};
+ghost use Rattle.outcomes.specs.StatusNumber.{status_number};
 ghost use Rattle.pefidx.specs.Process.{Processes};
 
-use command_ends::{Stop, write_line};
 use no_memory::NoMemory;
+use outcomes::{Stop, write_line};
 use pef_io::{Depot, Sink, Source};
-use pef_top::{Status, run_uncounted};
+use pef_top::{Devices, Status, run_uncounted};
 use std::alloc::Global;
 use std::process::ExitCode;
 
@@ -18,40 +17,36 @@ use std::process::ExitCode;
 pub(crate) fn process<D: Depot, I: Source, O: Sink, E: Sink>(
     alloc: Global,
     words: Result<Vec<String>, NoMemory>,
-    depot: &mut D,
-    input: &mut I,
-    out: &mut O,
+    on: &mut Devices<D, I, O>,
     err: &mut E,
 ) -> ExitCode
     ensures { (status : ended.Status) × (exit_status result ≡ status_number status)
         × Processes words
-        (outside (D.state depot.old) (I.state input.old) (O.state out.old) (E.state err.old) 0)
-        (λ costs. outside (D.state depot.new) (I.state input.new) (O.state out.new)
+        (outside (D.state on.old.depot) (I.state on.old.input) (O.state on.old.out)
+        (E.state err.old) 0)
+        (λ costs. outside (D.state on.new.depot) (I.state on.new.input) (O.state on.new.out)
         (E.state err.new) costs)
-        (objects depot.old input.old out.old) (objects depot.new input.new out.new)
-        err.old err.new status }
+        on.old on.new err.old err.new status }
 {
-    exit_code(run_words(alloc, words, depot, input, out, err))
+    exit_code(run_words(alloc, words, on, err))
 }
 
 // Runs the command of the words, and says how it ended.
 fn run_words<D: Depot, I: Source, O: Sink, E: Sink>(
     alloc: Global,
     words: Result<Vec<String>, NoMemory>,
-    depot: &mut D,
-    input: &mut I,
-    out: &mut O,
+    on: &mut Devices<D, I, O>,
     err: &mut E,
 ) -> Status
     ensures { Processes words
-        (outside (D.state depot.old) (I.state input.old) (O.state out.old) (E.state err.old) 0)
-        (λ costs. outside (D.state depot.new) (I.state input.new) (O.state out.new)
+        (outside (D.state on.old.depot) (I.state on.old.input) (O.state on.old.out)
+        (E.state err.old) 0)
+        (λ costs. outside (D.state on.new.depot) (I.state on.new.input) (O.state on.new.out)
         (E.state err.new) costs)
-        (objects depot.old input.old out.old) (objects depot.new input.new out.new)
-        err.old err.new result }
+        on.old on.new err.old err.new result }
 {
     match words {
-        Ok(words) => run_uncounted(alloc, words.as_slice(), depot, input, out, err),
+        Ok(words) => run_uncounted(alloc, words.as_slice(), on, err),
         Err(NoMemory) => {
             let _ = write_line(err, Stop::NoMemory);
             Status::NoMemory

@@ -1,6 +1,6 @@
 // One run.
 use pef_io::{Depot, Op, Sink, Slot, Source, SteadyDepot, SteadySink, SteadySource};
-use pef_top::{Status, run_uncounted};
+use pef_top::{Devices, Status, run_uncounted};
 use std::alloc::Global;
 
 /// Files by name.
@@ -103,16 +103,14 @@ pub fn are_names(told: Option<&[String]>, names: &[&str]) -> bool {
 pub fn run_words<D: Depot, I: Source, O: Sink, E: Sink>(
     alloc: Global,
     words: &[&str],
-    depot: &mut D,
-    input: &mut I,
-    out: &mut O,
+    on: &mut Devices<D, I, O>,
     err: &mut E,
 ) -> Option<Status> {
     let mut texts = Vec::new(alloc);
     for word in words {
         texts.push(String::from_str(alloc, word).ok()?).ok()?;
     }
-    Some(run_uncounted(alloc, texts.as_slice(), depot, input, out, err))
+    Some(run_uncounted(alloc, texts.as_slice(), on, err))
 }
 
 /// Runs the words over these files and this query text, where no call fails.
@@ -122,16 +120,15 @@ pub fn steady_run(alloc: Global, words: &[&str], files: FileList, text: &[u8]) -
 }
 
 /// Runs the words over the files that a depot holds and this query text, where no call fails.
-pub fn run_over(
-    alloc: Global,
-    words: &[&str],
-    mut depot: SteadyDepot,
-    text: &[u8],
-) -> Option<Outcome> {
-    let mut input = SteadySource::new(Vec::from_slice(alloc, text).ok()?, 8192);
-    let mut out = SteadySink::new(alloc, 8192).ok()?;
+pub fn run_over(alloc: Global, words: &[&str], depot: SteadyDepot, text: &[u8]) -> Option<Outcome> {
+    let mut on = Devices {
+        depot,
+        input: SteadySource::new(Vec::from_slice(alloc, text).ok()?, 8192),
+        out: SteadySink::new(alloc, 8192).ok()?,
+    };
     let mut err = SteadySink::new(alloc, 8192).ok()?;
-    let status = run_words(alloc, words, &mut depot, &mut input, &mut out, &mut err)?;
+    let status = run_words(alloc, words, &mut on, &mut err)?;
+    let Devices { depot, input, out } = on;
     Some(Outcome {
         status,
         out,

@@ -1,4 +1,4 @@
-use Rattle.pef_top.proofs.Headline.{built_and_asked}
+use Rattle.pef_top.proofs.FilesLeft.{built_and_asked}
 use Rattle.pef_top.proofs.laws.built_files_answer.Goals as goal
 
 pub returns : goal.returns

@@ -1,4 +1,4 @@
-use Rattle.pef_top.proofs.WayBack.{built_come_back}
+use Rattle.pef_top.proofs.FilesLeft.{built_come_back}
 use Rattle.pef_top.proofs.laws.built_files_come_back.Goals as goal
 
 pub returns : goal.returns

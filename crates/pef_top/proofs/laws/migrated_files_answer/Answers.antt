@@ -1,4 +1,4 @@
-use Rattle.pef_top.proofs.Headline.{migrated_and_asked}
+use Rattle.pef_top.proofs.FilesLeft.{migrated_and_asked}
 use Rattle.pef_top.proofs.laws.migrated_files_answer.Goals as goal
 
 pub returns : goal.returns

@@ -1,4 +1,4 @@
-use Rattle.pef_top.proofs.WayBack.{migrated_come_back}
+use Rattle.pef_top.proofs.FilesLeft.{migrated_come_back}
 use Rattle.pef_top.proofs.laws.migrated_files_come_back.Goals as goal
 
 pub returns : goal.returns

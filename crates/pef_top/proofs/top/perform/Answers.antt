@@ -1,20 +1,13 @@
-use Rattle.std.proofs.Common.{rules, ◌≡◌, ℕ, List, refl, sym, ◌∙◌, ap, subst}
-use Rattle.std.specs.Prelude.{true, not, IsTrue, Option, Some, Result, Err}
-use Rattle.pef_io.specs.DepotState.{DepotState}
-use Rattle.command_ends.specs.declared.stop.Stop.{Stop}
-use Rattle.command_line.specs.Command.{Command, command_of, texts}
+use Rattle.std.proofs.Common.{◌≡◌, ℕ, List, refl, sym, ◌∙◌, ap, subst, not, IsTrue, Option, Some, Result, Err, rules, true}
+use Rattle.pef_top.proofs.Names.{DepotState, Stop, Command, command_of, texts, Outside, outside, Outcome, Leaves, stop_of_words, Performs, Starts, devices, calls_depot, prints, reads_input, Accepts, LeavesUncalled}
 use Rattle.command_line.specs.declared.words.Command as words
-use Rattle.command_ends.specs.Outside.{Outside, outside}
-use Rattle.command_ends.specs.Outcome.{Outcome, is_refusal}
+use Rattle.outcomes.specs.Outcome.{is_refusal}
 use Rattle.command_line.specs.Asked.{asked}
-use Rattle.command_ends.specs.Steps.Leaves.{Leaves}
-use Rattle.command_ends.specs.Steps.Stops.{outcome_of, stop_of_words}
 use Rattle.pef_top.proofs.Stopped.{stopped}
 use Rattle.pef_top.proofs.top.perform.Goals as goal
-use Rattle.pef_top.specs.Commands.{Performs}
-use Rattle.pef_top.specs.Starts.{Starts}
-use Rattle.pef_top.specs.Uncalled.{objects, calls_depot, prints, reads_input, Accepts, IsSilent, LeavesUncalled, Objects}
-use Rattle.command_ends.proofs.Counted.{not_true}
+use Rattle.command_ends.specs.declared.devices.Devices.{Devices}
+use Rattle.pef_top.specs.Uncalled.{IsSilent}
+use Rattle.outcomes.proofs.Counted.{not_true}
 
 -- what is left of the command that was asked is left of that of the words
 left : (ws : List (List ℕ)) (it other : words.Command) → it ≡ other → Some (asked it) ≡ command_of ws → (old new : Outside) (outcome : Outcome)
@@ -26,56 +19,56 @@ pub returns-in_err-command-clause-leaves : goal.returns-in_err-command-clause-le
 returns-in_err-command-clause-leaves g c = λ e e'.
     let command = command_of (texts c.args.words.now) in
     let P : Result (Unit {0}) Stop → Type 0 = λ result. Leaves (Performs command) (Starts command)
-    (outside (g.D.Depot.state c.args.depot.now) (g.I.Source.state c.args.input.now) (g.O.Sink.state c.args.out.now) e c.args.steps.now)
-    (outside (g.D.Depot.state c.args.depot.now) (g.I.Source.state c.args.input.now) (g.O.Sink.state c.args.out.now) e' c.args.steps.now) (outcome_of result) in
+    (outside (g.D.Depot.state c.args.on.now.depot.now) (g.I.Source.state c.args.on.now.input.now) (g.O.Sink.state c.args.on.now.out.now) e c.args.steps.now)
+    (outside (g.D.Depot.state c.args.on.now.depot.now) (g.I.Source.state c.args.on.now.input.now) (g.O.Sink.state c.args.on.now.out.now) e' c.args.steps.now) result in
     let is : c.from_residual.result ≡ Err (stop_of_words c.in_err-command.field-0.0) = search rules in
-    subst P (sym is) (stopped command c.in_err-command.field-0.0 (g.D.Depot.state c.args.depot.now) (g.I.Source.state c.args.input.now) (g.O.Sink.state c.args.out.now)
-    e e' c.args.steps.now c.in_err-command.ensures.error)
+    subst P (sym is) (stopped (g.D.Depot.state c.args.on.now.depot.now) (g.I.Source.state c.args.on.now.input.now) (g.O.Sink.state c.args.on.now.out.now)
+    e e' c.args.steps.now command c.in_err-command.field-0.0 c.in_err-command.ensures.error)
 
 pub returns-in-Build-clause-leaves : goal.returns-in-Build-clause-leaves
-returns-in-Build-clause-leaves g c = λ e e'. left (texts c.args.words.now) _ _ c.in-Build.is c.in_ok-command.ensures.command _ _ _ (c.build.ensures (g.I.Source.state c.args.input.now) (g.O.Sink.state c.args.out.now) e e')
+returns-in-Build-clause-leaves g c = λ e e'. left (texts c.args.words.now) _ _ c.in-Build.is c.in_ok-command.ensures.command _ _ _ (c.build.ensures (g.I.Source.state c.args.on.now.input.now) (g.O.Sink.state c.args.on.now.out.now) e e')
 
 pub returns-in-Query-clause-leaves : goal.returns-in-Query-clause-leaves
 returns-in-Query-clause-leaves g c = λ e e'. left (texts c.args.words.now) _ _ c.in-Query.is c.in_ok-command.ensures.command _ _ _ (c.query.ensures.leaves e e' c.args.steps.now)
 
 pub returns-in-Inspect-clause-leaves : goal.returns-in-Inspect-clause-leaves
-returns-in-Inspect-clause-leaves g c = λ e e'. left (texts c.args.words.now) _ _ c.in-Inspect.is c.in_ok-command.ensures.command _ _ _ (c.inspect.ensures.leaves (g.I.Source.state c.args.input.now) e e' c.args.steps.now)
+returns-in-Inspect-clause-leaves g c = λ e e'. left (texts c.args.words.now) _ _ c.in-Inspect.is c.in_ok-command.ensures.command _ _ _ (c.inspect.ensures.leaves (g.I.Source.state c.args.on.now.input.now) e e' c.args.steps.now)
 
 pub returns-in-Answer-clause-leaves : goal.returns-in-Answer-clause-leaves
 returns-in-Answer-clause-leaves g c = λ e e'. left (texts c.args.words.now) _ _ c.in-Answer.is c.in_ok-command.ensures.command _ _ _ (c.answer.ensures.leaves e e')
 
 pub returns-in-Generate-clause-leaves : goal.returns-in-Generate-clause-leaves
-returns-in-Generate-clause-leaves g c = λ e e'. left (texts c.args.words.now) _ _ c.in-Generate.is c.in_ok-command.ensures.command _ _ _ (c.generate.ensures.leaves (g.D.Depot.state c.args.depot.now) (g.I.Source.state c.args.input.now) e e')
+returns-in-Generate-clause-leaves g c = λ e e'. left (texts c.args.words.now) _ _ c.in-Generate.is c.in_ok-command.ensures.command _ _ _ (c.generate.ensures.leaves (g.D.Depot.state c.args.on.now.depot.now) (g.I.Source.state c.args.on.now.input.now) e e')
 
 pub returns-in-Migrate-clause-leaves : goal.returns-in-Migrate-clause-leaves
-returns-in-Migrate-clause-leaves g c = λ e e'. left (texts c.args.words.now) _ _ c.in-Migrate.is c.in_ok-command.ensures.command _ _ _ (c.migrate.ensures (g.I.Source.state c.args.input.now) (g.O.Sink.state c.args.out.now) e e')
+returns-in-Migrate-clause-leaves g c = λ e e'. left (texts c.args.words.now) _ _ c.in-Migrate.is c.in_ok-command.ensures.command _ _ _ (c.migrate.ensures (g.I.Source.state c.args.on.now.input.now) (g.O.Sink.state c.args.on.now.out.now) e e')
 
 pub returns-in-Audit-clause-leaves : goal.returns-in-Audit-clause-leaves
-returns-in-Audit-clause-leaves g c = λ e e'. left (texts c.args.words.now) _ _ c.in-Audit.is c.in_ok-command.ensures.command _ _ _ (c.audit.ensures.leaves (g.I.Source.state c.args.input.now) e e')
+returns-in-Audit-clause-leaves g c = λ e e'. left (texts c.args.words.now) _ _ c.in-Audit.is c.in_ok-command.ensures.command _ _ _ (c.audit.ensures.leaves (g.I.Source.state c.args.on.now.input.now) e e')
 
 pub returns-in-Blocks-clause-leaves : goal.returns-in-Blocks-clause-leaves
-returns-in-Blocks-clause-leaves g c = λ e e'. left (texts c.args.words.now) _ _ c.in-Blocks.is c.in_ok-command.ensures.command _ _ _ (c.write_blocks.ensures (g.I.Source.state c.args.input.now) (g.O.Sink.state c.args.out.now) e e' c.args.steps.now)
+returns-in-Blocks-clause-leaves g c = λ e e'. left (texts c.args.words.now) _ _ c.in-Blocks.is c.in_ok-command.ensures.command _ _ _ (c.blocks-in-Blocks.ensures (g.I.Source.state c.args.on.now.input.now) (g.O.Sink.state c.args.on.now.out.now) e e' c.args.steps.now)
 
 pub returns-in-BlockQuery-clause-leaves : goal.returns-in-BlockQuery-clause-leaves
-returns-in-BlockQuery-clause-leaves g c = λ e e'. left (texts c.args.words.now) _ _ c.in-BlockQuery.is c.in_ok-command.ensures.command _ _ _ (c.query_blocks.ensures.leaves e e' c.args.steps.now)
+returns-in-BlockQuery-clause-leaves g c = λ e e'. left (texts c.args.words.now) _ _ c.in-BlockQuery.is c.in_ok-command.ensures.command _ _ _ (c.bquery.ensures.leaves e e' c.args.steps.now)
 
 pub returns-in-Remap-clause-leaves : goal.returns-in-Remap-clause-leaves
-returns-in-Remap-clause-leaves g c = λ e e'. left (texts c.args.words.now) _ _ c.in-Remap.is c.in_ok-command.ensures.command _ _ _ (c.reorder.ensures (g.I.Source.state c.args.input.now) (g.O.Sink.state c.args.out.now) e e' c.args.steps.now)
+returns-in-Remap-clause-leaves g c = λ e e'. left (texts c.args.words.now) _ _ c.in-Remap.is c.in_ok-command.ensures.command _ _ _ (c.remap.ensures (g.I.Source.state c.args.on.now.input.now) (g.O.Sink.state c.args.on.now.out.now) e e' c.args.steps.now)
 
 pub returns-in-Segments-clause-leaves : goal.returns-in-Segments-clause-leaves
-returns-in-Segments-clause-leaves g c = λ e e'. left (texts c.args.words.now) _ _ c.in-Segments.is c.in_ok-command.ensures.command _ _ _ (c.answer_segments.ensures.leaves e e' c.args.steps.now)
+returns-in-Segments-clause-leaves g c = λ e e'. left (texts c.args.words.now) _ _ c.in-Segments.is c.in_ok-command.ensures.command _ _ _ (c.segments.ensures.leaves e e' c.args.steps.now)
 
 pub returns-in-Export-clause-leaves : goal.returns-in-Export-clause-leaves
-returns-in-Export-clause-leaves g c = λ e e'. left (texts c.args.words.now) _ _ c.in-Export.is c.in_ok-command.ensures.command _ _ _ (c.export.ensures (g.I.Source.state c.args.input.now) (g.O.Sink.state c.args.out.now) e e' c.args.steps.now)
+returns-in-Export-clause-leaves g c = λ e e'. left (texts c.args.words.now) _ _ c.in-Export.is c.in_ok-command.ensures.command _ _ _ (c.export.ensures (g.I.Source.state c.args.on.now.input.now) (g.O.Sink.state c.args.on.now.out.now) e e' c.args.steps.now)
 
 -- Neither the input nor out was called.
 silent : {D I O : Type 0} (depot depot' : D) (input input' : I) (out out' : O) → (input' ≡ input) × (out' ≡ out)
-    → IsSilent (objects depot input out) (objects depot' input' out')
+    → IsSilent (devices depot input out) (devices depot' input' out')
 silent depot depot' input input' out out' same = record { input = same.0; out = same.1 }
 
 -- what a command leaves uncalled that calls the depot and prints
 uncalled : {D I O : Type 0} (ws : List (List ℕ)) (it other : words.Command) → it ≡ other → Some (asked it) ≡ command_of ws
-    → (d : DepotState) (outcome : Outcome) (old new : Objects D I O) → calls_depot (Some (asked other)) ≡ true → prints (Some (asked other)) ≡ true
+    → (d : DepotState) (outcome : Outcome) (old new : Devices D I O) → calls_depot (Some (asked other)) ≡ true → prints (Some (asked other)) ≡ true
     → (IsTrue (not (reads_input (Some (asked other)))) → new.input ≡ old.input) → (IsTrue (is_refusal outcome) → IsSilent old new)
     → (¬ Accepts (Some (asked other)) d → IsSilent old new) → LeavesUncalled (command_of ws) (Accepts (command_of ws) d) outcome old new
 uncalled {D} {I} {O} ws it other is was d outcome old new calls prints input refused unaccepted =
@@ -107,8 +100,8 @@ returns-in-Audit-clause-uncalled g c =
 
 pub returns-in-BlockQuery-clause-uncalled : goal.returns-in-BlockQuery-clause-uncalled
 returns-in-BlockQuery-clause-uncalled g c =
-    uncalled (texts c.args.words.now) _ _ c.in-BlockQuery.is c.in_ok-command.ensures.command _ _ _ _ refl refl (λ h. absurd (not_true h)) (λ h. silent _ _ _ _ _ _ (c.query_blocks.ensures.refused h)) (λ h. silent _ _ _ _ _ _ (c.query_blocks.ensures.unaccepted h))
+    uncalled (texts c.args.words.now) _ _ c.in-BlockQuery.is c.in_ok-command.ensures.command _ _ _ _ refl refl (λ h. absurd (not_true h)) (λ h. silent _ _ _ _ _ _ (c.bquery.ensures.refused h)) (λ h. silent _ _ _ _ _ _ (c.bquery.ensures.unaccepted h))
 
 pub returns-in-Segments-clause-uncalled : goal.returns-in-Segments-clause-uncalled
 returns-in-Segments-clause-uncalled g c =
-    uncalled (texts c.args.words.now) _ _ c.in-Segments.is c.in_ok-command.ensures.command _ _ _ _ refl refl (λ h. absurd (not_true h)) (λ h. silent _ _ _ _ _ _ (c.answer_segments.ensures.refused h)) (λ h. silent _ _ _ _ _ _ (c.answer_segments.ensures.unaccepted h))
+    uncalled (texts c.args.words.now) _ _ c.in-Segments.is c.in_ok-command.ensures.command _ _ _ _ refl refl (λ h. absurd (not_true h)) (λ h. silent _ _ _ _ _ _ (c.segments.ensures.refused h)) (λ h. silent _ _ _ _ _ _ (c.segments.ensures.unaccepted h))

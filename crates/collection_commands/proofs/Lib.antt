@@ -1,6 +1,0 @@
-mod BuildRefused
-mod BaseBuilt
-mod BaseAnswered
-mod GenerationPrinted
-mod MapRead
-mod ImageMoved

@@ -1,4 +1,0 @@
-pub mod Build
-pub mod Answer
-pub mod Remap
-pub mod Generate

@@ -1,0 +1,114 @@
+-- What the commands promise that write files.
+use Rattle.std.specs.Prelude.{◌≡◌, ◌⊎◌, ℕ, IsTrue, List}
+use Rattle.commands.specs.Names.{Collection, Format, Two, numbers_of, Index, Side, DepotState, ListParts, FindsCollection, Outside, Outcome, is_refusal, done, FindsIndex, FindsIndexOf, BuildsWordsThen, CollectionAt, IndexAt, MapAt, Does}
+use Rattle.collection_model.specs.Bytes.{word_bytes}
+use Rattle.collection_model.specs.Spelling.{spelled}
+use Rattle.part_cost.specs.declared.formats.Format.TheVariants.{Three}
+use Rattle.remap.specs.Image.{IsImage}
+use Rattle.command_line.specs.declared.words.FileKind.{FileKind}
+use Rattle.command_line.specs.declared.words.FileKind.TheVariants.{Plain, Packed}
+use Rattle.command_model.specs.FilesWritten.{NamedFile}
+use Rattle.command_model.specs.FoundMap.{remap_numbers, FindsBothOf, OnImageFiles, files_under}
+use Rattle.command_ends.specs.FoundSide.{FindsSide, side_of}
+use Rattle.command_ends.specs.WordsThen.{AreTooMany}
+use Rattle.command_ends.specs.WrittenFile.{WritesFile}
+use Rattle.command_ends.specs.WrittenFiles.{WritesFiles}
+use Rattle.command_ends.specs.WrittenIndex.{WritesIndex}
+use Rattle.command_ends.specs.Products.{File, Files}
+
+-- A run builds the words of the collection under the base in a format, and writes them under the name.
+abbrev pub MakesBuilt : Format → List ℕ → List ℕ → Outside → Outside → Outcome → Type 0
+MakesBuilt format base index old new =
+    BuildsWordsThen format (FindsCollection (numbers_of format) base old.depot) old new
+    (WritesIndex format (FindsCollection (numbers_of format) base old.depot) index old new)
+
+-- `build BASE INDEX` reads a collection with the limits of a format and does so; what it writes is then found
+-- as an index of that collection.
+pub record Builds (format : Format) (base index : List ℕ) (old new : Outside) (outcome : Outcome)
+    : Type 0 where
+  pub does : Does (CollectionAt (numbers_of format) base) (File Index)
+      (MakesBuilt format base index) old new outcome
+  pub opens : outcome ≡ done →
+      (c : Collection) × FindsCollection (numbers_of format) base old.depot c
+      × FindsIndexOf index new.depot c
+
+-- the format in which an index is written anew, as a file of a kind
+abbrev pub migrate_format : FileKind → Format
+migrate_format Plain = Two
+migrate_format Packed = Three
+
+-- An index of this collection, in that format and some parts, stands under the name.
+abbrev pub FindsMigrated : Format → List ℕ → DepotState → Collection → Type 0
+FindsMigrated format name depot c =
+    (parts : List ListParts) × FindsIndex (numbers_of format) name depot c parts
+
+-- A run builds the words of the collection of an index in that format, and writes them under the other name.
+abbrev pub MakesMigrated : Format → List ℕ → List ℕ → Outside → Outside → Outcome → Type 0
+MakesMigrated format from to old new =
+    BuildsWordsThen format (FindsIndexOf from old.depot) old new
+    (WritesIndex format (FindsIndexOf from old.depot) to old new)
+
+-- `migrate OLD NEW`, in the second format, and `repack OLD NEW`, in the third, read an index of any format and do so;
+-- what they write is then found as an index of that collection.
+pub record Migrates (format : Format) (from to : List ℕ) (old new : Outside) (outcome : Outcome) : Type 0 where
+  pub does : Does (IndexAt from) (File Index) (MakesMigrated format from to) old new outcome
+  pub opens : outcome ≡ done →
+      (c : Collection) × FindsIndexOf from old.depot c × FindsMigrated format to new.depot c
+  -- No part cost is counted before the old index is accepted, nor where it is refused, but that its
+  -- new words are found to be too many by counting.
+  pub unaccepted : ¬ ((c : Collection) × FindsIndexOf from old.depot c) → new.costs ≡ old.costs
+  pub refused : IsTrue (is_refusal outcome) →
+      (new.costs ≡ old.costs)
+      ⊎ AreTooMany format (FindsIndexOf from old.depot) old.costs new.costs
+
+-- An index stands under the name, and P holds of the bytes of its side file.
+abbrev pub OnSideBytes : List ℕ → DepotState → (List ℕ → Type 0) → Type 0
+OnSideBytes index depot P =
+    (format : Format) × (c : Collection) × (parts : List ListParts)
+    × FindsIndex (numbers_of format) index depot c parts × P (word_bytes (side_of c parts))
+
+-- An index stood under one name, and its side file now stands under another.
+abbrev pub HasSide : List ℕ → List ℕ → DepotState → DepotState → Type 0
+HasSide index side old new =
+    (format : Format) × (c : Collection) × (parts : List ListParts)
+    × FindsIndex (numbers_of format) index old c parts × FindsSide side new c parts
+
+-- `blocks INDEX SIDE` reads an index of either format, and writes its side file under the other name; no part
+-- cost is counted.
+pub record WritesBlocks (index side : List ℕ) (old new : Outside) (outcome : Outcome) : Type 0 where
+  pub does : Does (IndexAt index) (File Side) (WritesFile Side side (OnSideBytes index old.depot))
+      old new outcome
+  pub opens : outcome ≡ done → HasSide index side old.depot new.depot
+  pub costs : new.costs ≡ old.costs
+
+-- A run writes the three files of the image, and ends so.
+abbrev pub WritesImage : List ℕ → List ℕ → List ℕ → Outside → Outside → Outcome → Type 0
+WritesImage base map to old new = WritesFiles (OnImageFiles base map to old.depot) old new
+
+-- `remap BASE MAP NEW` reads a collection with the limits of the second format, and an order of its documents, and writes the three files of
+-- its image under a new base, where that is then found; no part cost is counted.
+pub record Remaps (base map to : List ℕ) (old new : Outside) (outcome : Outcome) : Type 0 where
+  pub does : Does (MapAt base map) Files (WritesImage base map to) old new outcome
+  pub opens : outcome ≡ done →
+      (c : Collection) × (ids : List ℕ) × (image : Collection)
+      × FindsBothOf base map old.depot c ids × IsImage ids c image
+      × FindsCollection remap_numbers to new.depot image
+  pub costs : new.costs ≡ old.costs
+
+-- P holds of the three files, under a base, of a collection of this property.
+abbrev pub OnFilesOf : (Collection → Type 0) → List ℕ → (List NamedFile → Type 0) → Type 0
+OnFilesOf Is base P = (c : Collection) × Is c × P (files_under base (spelled c))
+
+-- A run writes the three files of the collection of an index that stands under a name, and ends so.
+abbrev pub WritesCollection : List ℕ → List ℕ → Outside → Outside → Outcome → Type 0
+WritesCollection index base old new =
+    WritesFiles (OnFilesOf (FindsIndexOf index old.depot) base) old new
+
+-- `export INDEX BASE` reads an index of any format, and writes the three files of its collection under a base,
+-- where that is then found with the limits of the second format; no part cost is counted.
+pub record Exports (index base : List ℕ) (old new : Outside) (outcome : Outcome) : Type 0 where
+  pub does : Does (IndexAt index) Files (WritesCollection index base) old new outcome
+  pub opens : outcome ≡ done →
+      (c : Collection) × FindsIndexOf index old.depot c
+      × FindsCollection (numbers_of Two) base new.depot c
+  pub costs : new.costs ≡ old.costs

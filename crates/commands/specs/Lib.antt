@@ -1,0 +1,5 @@
+pub mod Files
+pub mod Names
+pub mod Private
+pub mod Replies
+pub mod Texts

@@ -1,0 +1,3 @@
+-- What contracts of private functions cite, and `run` does not.
+pub mod LoadedSide
+pub mod ReadSegments

@@ -1,0 +1,35 @@
+ghost use Rattle.std.specs.Prelude.{◌≡◌, ℕ, IsTrue};
+ghost use Rattle.commands.specs.Names.{Collection, SinkState, FindsIndexOf, LendTheSame, outside, is_refusal, Leaves, StartsOnly, IsIndexSlot};
+ghost use Rattle.commands.specs.Replies.{Queries};
+
+use command_ends::{Devices, LONGEST_TEXT, load_index};
+use outcomes::{Stop, after_answering};
+use pef_io::{Depot, Sink, Source};
+use std::alloc::Global;
+use text_replies::{Plan, answer_text};
+
+/// Reads the index under the name, and answers the input from it.
+pub fn query<D: Depot, I: Source, O: Sink>(
+    alloc: Global,
+    index: &str,
+    plan: Plan,
+    on: &mut Devices<&mut D, &mut I, &mut O>,
+) -> Result<(), Stop>
+    ensures leaves { (e e' : SinkState) (costs : ℕ)
+        → Leaves (Queries index.now) (StartsOnly (λ slot. index.now) IsIndexSlot)
+        (outside (D.state on.old.depot.now) (I.state on.old.input.now)
+        (O.state on.old.out.now) e costs)
+        (outside (D.state on.new.depot.now) (I.state on.new.input.now)
+        (O.state on.new.out.now) e' costs)
+        result }
+    ensures refused { IsTrue (is_refusal result)
+        → (on.new.input.now ≡ on.old.input.now) × (on.new.out.now ≡ on.old.out.now) }
+    ensures unaccepted { ¬ ((c : Collection) × FindsIndexOf index.now (D.state on.old.depot.now) c)
+        → (on.new.input.now ≡ on.old.input.now) × (on.new.out.now ≡ on.old.out.now) }
+    ensures same { LendTheSame on.old on.new }
+{
+    let opened = load_index(alloc, index, on.depot)?;
+    let index = opened.index();
+    let answered = answer_text(alloc, &index, plan, on.input, LONGEST_TEXT, on.out);
+    after_answering(answered)
+}

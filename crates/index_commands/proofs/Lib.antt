@@ -1,2 +1,0 @@
-mod IndexMigrated
-mod CollectionExported

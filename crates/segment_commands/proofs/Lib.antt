@@ -1,4 +1,0 @@
-mod SegmentLoaded
-mod SegmentsFound
-mod SegmentsRead
-mod SegmentsAnswered

@@ -1,2 +1,0 @@
-pub mod AnswerSegments
-pub mod Private

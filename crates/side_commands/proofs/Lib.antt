@@ -1,4 +1,0 @@
-mod SideFound
-mod SideRead
-mod SideWritten
-mod OtherSide

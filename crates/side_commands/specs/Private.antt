@@ -1,2 +1,0 @@
--- What contracts of private functions cite, and `run` does not.
-pub mod LoadedSide
