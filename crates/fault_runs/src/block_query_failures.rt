@@ -1,5 +1,5 @@
 // Each call of a run that answers from an index and its side file fails in turn.
-use crate::failures::{Files, Runs, ends_so, no_fails, run_failing};
+use crate::failures::{Files, Given, Runs, ends_so, no_fails, run_failing};
 use crate::in_turn::first_wrong;
 use pef_io::{Op, Slot};
 use pef_top::Status;
@@ -81,8 +81,12 @@ fn ends_by_blocks(
     ending: (Status, &str),
     replies: &str,
 ) -> Option<bool> {
-    let files = index_and_side(alloc, &ONE_LIST_WORDS, &SIDE_WORDS)?;
-    ends_so(alloc, (&BQUERY, files, TEXT), fails, ending, replies)
+    let given = Given {
+        words: &BQUERY,
+        files: index_and_side(alloc, &ONE_LIST_WORDS, &SIDE_WORDS)?,
+        text: TEXT,
+    };
+    ends_so(alloc, given, fails, ending, replies)
 }
 
 // Four bytes at a time: the first line ends in the third piece.
@@ -104,8 +108,12 @@ fn reads_of_the_input_and_writes_on_out_by_blocks_fail(rt: HostRuntime) {
 
 // Whether a run over a broken index does not start its side file.
 fn is_side_unstarted(alloc: Global) -> Option<bool> {
-    let files = index_and_side(alloc, &[1], &SIDE_WORDS)?;
-    let run = run_failing(alloc, &BQUERY, files, TEXT, 8, no_fails(alloc))?;
+    let given = Given {
+        words: &BQUERY,
+        files: index_and_side(alloc, &[1], &SIDE_WORDS)?,
+        text: TEXT,
+    };
+    let run = run_failing(alloc, given, 8, no_fails(alloc))?;
     let unstarted = run.depot.calls(Op::Start(Slot::Side)) == 0;
     Some(unstarted && run.ends(Status::Index, "index K1 term 0 part 0\n"))
 }

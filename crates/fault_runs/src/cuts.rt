@@ -1,7 +1,7 @@
 // Each file of the three lists is cut at each byte, and err fails at each of its writes.
 use crate::in_turn::{Turn, Turns, first_wrong};
 use pef_io::{MemSink, Op, Slot, SteadyDepot, SteadySink, SteadySource};
-use pef_top::Status;
+use pef_top::{Devices, Status};
 use run_tables::{ANSWER, BUILD, BUILD_ONE, PACK, THREE_LISTS, cut_files, run_words};
 use std::alloc::Global;
 
@@ -32,12 +32,14 @@ fn run_cut(
     failing: u64,
 ) -> Option<(Status, MemSink)> {
     let files = cut_files(alloc, THREE_LISTS, cut, length)?;
-    let mut depot = SteadyDepot::new(alloc, files, 4).ok()?;
-    let mut input = SteadySource::new(Vec::new(alloc), 4);
-    let mut out = SteadySink::new(alloc, 4).ok()?;
+    let mut on = Devices {
+        depot: SteadyDepot::new(alloc, files, 4).ok()?,
+        input: SteadySource::new(Vec::new(alloc), 4),
+        out: SteadySink::new(alloc, 4).ok()?,
+    };
     let mut err = MemSink::new(alloc, 4, vec![in alloc; failing].ok()?).ok()?;
-    let status = run_words(alloc, words, &mut depot, &mut input, &mut out, &mut err)?;
-    if input.calls() > 0 || out.calls() > 0 || depot.calls(Op::Create) > 0 {
+    let status = run_words(alloc, words, &mut on, &mut err)?;
+    if on.input.calls() > 0 || on.out.calls() > 0 || on.depot.calls(Op::Create) > 0 {
         return None;
     }
     Some((status, err))

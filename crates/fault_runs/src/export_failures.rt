@@ -1,5 +1,5 @@
 // Each call of a run that writes an index as a collection fails in turn.
-use crate::failures::{failing_call, run_failing};
+use crate::failures::{Given, failing_call, run_failing};
 use crate::in_turn::{Turn, Turns, first_wrong};
 use crate::left::{Files, are_left, line_at, stop_at};
 use pef_io::{Op, Slot};
@@ -37,8 +37,12 @@ impl Turns for Exporting {
     fn turn(&self, alloc: Global, failing: u64) -> Option<Turn> {
         let index = bytes_of(alloc, self.words)?;
         let fails = failing_call(alloc, self.op, failing)?;
-        let files = only_index(alloc, &index)?;
-        let run = run_failing(alloc, &EXPORT, files, b"", 4, fails)?;
+        let given = Given {
+            words: &EXPORT,
+            files: only_index(alloc, &index)?,
+            text: b"",
+        };
+        let run = run_failing(alloc, given, 4, fails)?;
         let made = failing <= run.depot.calls(self.op);
         let ((status, line), stop) = if made {
             (self.ending(failing), stop_at(&WRITTEN, self.op, failing))

@@ -3,7 +3,7 @@ ghost use Rattle.std.specs.Prelude.{◌≤◌};
 
 use crate::in_turn::{Turn, Turns, first_wrong};
 use pef_io::{MemDepot, MemSink, MemSource, Op, Slot};
-use pef_top::Status;
+use pef_top::{Devices, Status};
 use run_tables::{
     ANSWER, BUILD, BUILD_ONE, EXPORT, FileList, MIGRATE, ONE_LIST, OPS, PACK, QUERY, REMAP, REPACK,
     THREE_LISTS, THREE_LISTS_PACKED, THREE_LISTS_WORDS, THREE_LISTS_WORDS_OF_TWO, bytes_of,
@@ -41,37 +41,56 @@ impl Failed {
     }
 }
 
-// Which calls fail: of the depot, reads of the input, writes on out.
-pub(crate) type Fails = (Vec<(Op, u64)>, Vec<u64>, Vec<u64>);
+// What a run is given: its words, its files and the text of its input.
+#[derive(Drop)]
+pub(crate) struct Given {
+    pub(crate) words: &'static [&'static str],
+    pub(crate) files: FileList,
+    pub(crate) text: &'static [u8],
+}
+
+// Which calls fail.
+#[derive(Drop)]
+pub(crate) struct Fails {
+    /// Of the depot, those of a kind by their number.
+    pub(crate) depot: Vec<(Op, u64)>,
+    /// Reads of the input.
+    pub(crate) reads: Vec<u64>,
+    /// Writes on out.
+    pub(crate) writes: Vec<u64>,
+}
 
 // No call fails.
 pub(crate) fn no_fails(alloc: Global) -> Fails {
-    (Vec::new(alloc), Vec::new(alloc), Vec::new(alloc))
+    Fails {
+        depot: Vec::new(alloc),
+        reads: Vec::new(alloc),
+        writes: Vec::new(alloc),
+    }
 }
 
 // This call of the depot fails.
 pub(crate) fn failing_call(alloc: Global, op: Op, failing: u64) -> Option<Fails> {
-    let calls = vec![in alloc; (op, failing)].ok()?;
-    Some((calls, Vec::new(alloc), Vec::new(alloc)))
+    let depot = vec![in alloc; (op, failing)].ok()?;
+    Some(Fails {
+        depot,
+        ..no_fails(alloc)
+    })
 }
 
-// Runs the words over the text where each call moves at most `most` bytes, and the calls with these numbers
-// fail: of the depot, reads of the input, writes on out.
-pub(crate) fn run_failing(
-    alloc: Global,
-    words: &[&str],
-    files: FileList,
-    text: &[u8],
-    most: usize,
-    fails: Fails,
-) -> Option<Failed>
+// A run of what is given, where each call moves at most `most` bytes and these calls fail.
+pub(crate) fn run_failing(alloc: Global, given: Given, most: usize, fails: Fails) -> Option<Failed>
     requires { 1 ≤ most }
 {
-    let mut depot = MemDepot::new(alloc, files, most, fails.0).ok()?;
-    let mut input = MemSource::new(Vec::from_slice(alloc, text).ok()?, most, fails.1);
-    let mut out = MemSink::new(alloc, most, fails.2).ok()?;
+    let Given { words, files, text } = given;
+    let mut on = Devices {
+        depot: MemDepot::new(alloc, files, most, fails.depot).ok()?,
+        input: MemSource::new(Vec::from_slice(alloc, text).ok()?, most, fails.reads),
+        out: MemSink::new(alloc, most, fails.writes).ok()?,
+    };
     let mut err = MemSink::new(alloc, most, Vec::new(alloc)).ok()?;
-    let status = run_words(alloc, words, &mut depot, &mut input, &mut out, &mut err)?;
+    let status = run_words(alloc, words, &mut on, &mut err)?;
+    let Devices { depot, input, out } = on;
     Some(Failed {
         status,
         depot,
@@ -183,9 +202,13 @@ impl Runs {
 impl Turns for Runs {
     fn turn(&self, alloc: Global, failing: u64) -> Option<Turn> {
         let bytes = self.bytes(alloc)?;
-        let files = self.files.list(alloc)?;
+        let given = Given {
+            words: self.words,
+            files: self.files.list(alloc)?,
+            text: self.text,
+        };
         let fails = failing_call(alloc, self.op, failing)?;
-        let run = run_failing(alloc, self.words, files, self.text, self.most.max(1), fails)?;
+        let run = run_failing(alloc, given, self.most.max(1), fails)?;
         let made = failing <= run.depot.calls(self.op);
         let right = if made {
             self.failed_well(&run, failing, &bytes)
@@ -260,43 +283,40 @@ const OVER: [(&[&str], &[u64]); 4] = [
     (&QUERY, &THREE_LISTS_PACKED),
 ];
 
-// Whether a run of these words over files ends so, where four bytes move at a time, and this read of the input and this write on out
-// fail.
+// Whether a run of what is given ends so, where four bytes move at a time, and this read of the input and this write on out fail.
 pub(crate) fn ends_so(
     alloc: Global,
-    over: (&[&str], FileList, &[u8]),
+    given: Given,
     fails: (u64, u64),
     ending: (Status, &str),
     replies: &str,
 ) -> Option<bool> {
-    let (words, files, text) = over;
-    let reads = vec![in alloc; fails.0].ok()?;
-    let writes = vec![in alloc; fails.1].ok()?;
-    let run = run_failing(
-        alloc,
-        words,
-        files,
-        text,
-        4,
-        (Vec::new(alloc), reads, writes),
-    )?;
+    let fails = Fails {
+        depot: Vec::new(alloc),
+        reads: vec![in alloc; fails.0].ok()?,
+        writes: vec![in alloc; fails.1].ok()?,
+    };
+    let run = run_failing(alloc, given, 4, fails)?;
     let told = run.err.bytes() == ending.1.as_bytes() && run.out.bytes() == replies.as_bytes();
     Some(told && run.status == ending.0)
 }
 
 // The first row that ends otherwise in runs of these words over the three lists and the file `y` of these words.
-fn first_wrong_stream(alloc: Global, words: &[&str], index: &[u64]) -> Option<usize> {
+fn first_wrong_stream(
+    alloc: Global,
+    words: &'static [&'static str],
+    index: &[u64],
+) -> Option<usize> {
     for (row, (read, write, ending, replies)) in STREAMS.iter().enumerate() {
         let Some(files) = with_index(alloc, index) else {
             return Some(row);
         };
-        let right = ends_so(
-            alloc,
-            (words, files, TEXT),
-            (*read, *write),
-            *ending,
-            replies,
-        );
+        let given = Given {
+            words,
+            files,
+            text: TEXT,
+        };
+        let right = ends_so(alloc, given, (*read, *write), *ending, replies);
         if right != Some(true) {
             return Some(row);
         }
@@ -317,10 +337,16 @@ fn reads_of_the_input_and_writes_on_out_fail_in_turn(rt: HostRuntime) {
 
 // Whether the second write on out of two bytes is the last.
 fn second_write_is_last(alloc: Global) -> Option<bool> {
-    let held = files_of(alloc, ONE_LIST)?;
-    let fails = (Vec::new(alloc), Vec::new(alloc), vec![in alloc; 2].ok()?);
-    let text = b"next 0 1\nnext 0 3\nand 0\nor 0 0\ntop 1 0";
-    let run = run_failing(alloc, &ANSWER, held, text, 2, fails)?;
+    let given = Given {
+        words: &ANSWER,
+        files: files_of(alloc, ONE_LIST)?,
+        text: b"next 0 1\nnext 0 3\nand 0\nor 0 0\ntop 1 0",
+    };
+    let fails = Fails {
+        writes: vec![in alloc; 2].ok()?,
+        ..no_fails(alloc)
+    };
+    let run = run_failing(alloc, given, 2, fails)?;
     let told = run.err.bytes() == b"write fault: out\n".as_slice();
     Some(told && run.status == Status::Write && run.out.bytes() == b"2 ".as_slice())
 }
@@ -333,11 +359,13 @@ fn the_second_write_of_two_bytes_fails(rt: HostRuntime) {
 // Whether a run that finds no file, where a write on err moves at most `most` bytes and the second fails, calls err so often, and err
 // then has this.
 fn is_told_on_err(alloc: Global, most: usize, line: &[u8], calls: u64) -> Option<bool> {
-    let mut depot = MemDepot::new(alloc, Vec::new(alloc), 8, Vec::new(alloc)).ok()?;
-    let mut input = MemSource::new(Vec::new(alloc), 8, Vec::new(alloc));
-    let mut out = MemSink::new(alloc, 8, Vec::new(alloc)).ok()?;
+    let mut on = Devices {
+        depot: MemDepot::new(alloc, Vec::new(alloc), 8, Vec::new(alloc)).ok()?,
+        input: MemSource::new(Vec::new(alloc), 8, Vec::new(alloc)),
+        out: MemSink::new(alloc, 8, Vec::new(alloc)).ok()?,
+    };
     let mut err = MemSink::new(alloc, most.max(1), vec![in alloc; 2].ok()?).ok()?;
-    let status = run_words(alloc, &ANSWER, &mut depot, &mut input, &mut out, &mut err)?;
+    let status = run_words(alloc, &ANSWER, &mut on, &mut err)?;
     Some(status == Status::Read && err.bytes() == line && err.calls() == calls)
 }
 
@@ -354,13 +382,23 @@ fn a_line_is_given_to_err_at_once(rt: HostRuntime) {
 }
 
 // Whether a run of these words over the one list without this one of its files ends with this line, and creates nothing.
-fn misses(alloc: Global, words: &[&str], missing: usize, line: &str) -> Option<bool> {
-    let mut held = files_of(alloc, ONE_LIST)?;
-    if held.len() <= missing {
+fn misses(
+    alloc: Global,
+    words: &'static [&'static str],
+    missing: usize,
+    line: &str,
+) -> Option<bool> {
+    let mut files = files_of(alloc, ONE_LIST)?;
+    if files.len() <= missing {
         return None;
     }
-    held.remove(missing);
-    let run = run_failing(alloc, words, held, TEXT, 4, no_fails(alloc))?;
+    files.remove(missing);
+    let given = Given {
+        words,
+        files,
+        text: TEXT,
+    };
+    let run = run_failing(alloc, given, 4, no_fails(alloc))?;
     let untouched = run.depot.calls(Op::Create) == 0 && run.depot.file("y").is_none();
     Some(untouched && run.ends(Status::Read, line))
 }
@@ -399,8 +437,13 @@ const ABSENT: [(&[&str], Files, &str); 5] = [
 ];
 
 // Whether a run of these words ends with this line, and creates nothing.
-fn lacks(alloc: Global, words: &[&str], files: Files, line: &str) -> Option<bool> {
-    let run = run_failing(alloc, words, files.list(alloc)?, TEXT, 4, no_fails(alloc))?;
+fn lacks(alloc: Global, words: &'static [&'static str], files: Files, line: &str) -> Option<bool> {
+    let given = Given {
+        words,
+        files: files.list(alloc)?,
+        text: TEXT,
+    };
+    let run = run_failing(alloc, given, 4, no_fails(alloc))?;
     Some(run.ends(Status::Read, line) && run.depot.calls(Op::Create) == 0)
 }
 

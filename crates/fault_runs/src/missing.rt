@@ -1,5 +1,5 @@
 // Files that are missing: the run ends at the first of them, and starts none behind it.
-use crate::failures::{no_fails, run_failing};
+use crate::failures::{Given, no_fails, run_failing};
 use pef_io::Slot;
 use pef_top::Status;
 use run_tables::{BUILD, FileList, are_names};
@@ -18,8 +18,12 @@ fn empty_files(alloc: Global, names: &[&str]) -> Option<FileList> {
 
 // Whether a build over files of these names ends so, and starts so many of the three files.
 fn ends_at(alloc: Global, names: &[&str], line: &str, starts: [usize; 3]) -> Option<bool> {
-    let files = empty_files(alloc, names)?;
-    let run = run_failing(alloc, &BUILD, files, b"", 8192, no_fails(alloc))?;
+    let given = Given {
+        words: &BUILD,
+        files: empty_files(alloc, names)?,
+        text: b"",
+    };
+    let run = run_failing(alloc, given, 8192, no_fails(alloc))?;
     let mut right = run.ends(Status::Read, line);
     for (slot, name, count) in [
         (Slot::Docs, "x.docs", starts[0]),

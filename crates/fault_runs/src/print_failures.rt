@@ -1,5 +1,5 @@
 // Each write on out of `inspect`, of `generate` and of `audit` fails in turn.
-use crate::failures::run_failing;
+use crate::failures::{Fails, Given, no_fails, run_failing};
 use crate::in_turn::{Turn, Turns, first_wrong};
 use pef_top::Status;
 use run_tables::{
@@ -23,14 +23,17 @@ struct Printing {
 impl Turns for Printing {
     fn turn(&self, alloc: Global, failing: u64) -> Option<Turn> {
         let bytes = bytes_of(alloc, self.index)?;
-        let files = only_index(alloc, bytes.as_slice())?;
+        let given = Given {
+            words: self.words,
+            files: only_index(alloc, bytes.as_slice())?,
+            text: b"or 0",
+        };
         let most = self.most.max(1);
-        let fails = (
-            Vec::new(alloc),
-            Vec::new(alloc),
-            vec![in alloc; failing].ok()?,
-        );
-        let run = run_failing(alloc, self.words, files, b"or 0", most, fails)?;
+        let fails = Fails {
+            writes: vec![in alloc; failing].ok()?,
+            ..no_fails(alloc)
+        };
+        let run = run_failing(alloc, given, most, fails)?;
         let made = failing <= run.out.calls();
         let right = if made {
             let prefix = (failing as usize).saturating_sub(1).saturating_mul(most);

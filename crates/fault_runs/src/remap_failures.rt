@@ -1,5 +1,5 @@
 // Each call of a move to another order fails in turn.
-use crate::failures::{failing_call, run_failing};
+use crate::failures::{Given, failing_call, run_failing};
 use crate::in_turn::{Turn, Turns, first_wrong};
 use crate::left::{Files, are_left, line_at, stop_at};
 use pef_io::{Op, Slot};
@@ -33,9 +33,13 @@ struct Moving {
 
 impl Turns for Moving {
     fn turn(&self, alloc: Global, failing: u64) -> Option<Turn> {
-        let files = with_map(alloc, ONE_LIST, &MAP, 16)?;
+        let given = Given {
+            words: &REMAP,
+            files: with_map(alloc, ONE_LIST, &MAP, 16)?,
+            text: b"",
+        };
         let fails = failing_call(alloc, self.op, failing)?;
-        let run = run_failing(alloc, &REMAP, files, b"", 4, fails)?;
+        let run = run_failing(alloc, given, 4, fails)?;
         let made = failing <= run.depot.calls(self.op);
         let (ending, stop) = if made {
             (line_of(self.op, failing), stop_at(&MOVED, self.op, failing))

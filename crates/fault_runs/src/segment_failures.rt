@@ -1,10 +1,13 @@
 // Calls on the files of three indexes fail in turn: each is read to its end, in pieces of four bytes, before the next is started.
-use crate::failures::{failing_call, run_failing};
+use crate::failures::{Given, failing_call, run_failing};
 use crate::in_turn::{Turn, Turns, first_wrong};
 use pef_io::{Op, Slot};
 use pef_top::Status;
 use run_tables::{ONE_LIST_WORDS, ONE_LIST_WORDS_OF_TWO, indexes_of};
 use std::alloc::Global;
+
+// The words of a run over three indexes.
+const SEGMENTS: [&str; 5] = ["pefidx", "segments", "x", "y", "z"];
 
 // Runs over three indexes where a call of this kind fails.
 #[derive(Clone, Copy)]
@@ -17,10 +20,13 @@ impl Turns for OverThree {
             ("y", &ONE_LIST_WORDS_OF_TWO),
             ("z", &ONE_LIST_WORDS),
         ];
-        let held = indexes_of(alloc, &files)?;
-        let words = ["pefidx", "segments", "x", "y", "z"];
+        let given = Given {
+            words: &SEGMENTS,
+            files: indexes_of(alloc, &files)?,
+            text: b"or 0",
+        };
         let fails = failing_call(alloc, self.0, failing)?;
-        let run = run_failing(alloc, &words, held, b"or 0", 4, fails)?;
+        let run = run_failing(alloc, given, 4, fails)?;
         let made = failing <= run.depot.calls(self.0);
         let right = if made {
             run.ends(Status::Read, "read fault: index\n")
