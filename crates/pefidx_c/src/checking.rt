@@ -33,6 +33,7 @@ pub extern "C" fn pefidx_check(words: &[u64], fault: &mut Fault) -> u32
     ensures first { result ≡ number_of Status.NoIndex
         → (broken : FaultOf) × IsFirstBroken words.now broken × (fault.new ≡ fault_of broken) }
     ensures too_large { result ≡ number_of Status.TooLarge → 2 ^ 57 ≤ length words.now }
+    ensures large { 2 ^ 57 ≤ length words.now → result ≡ number_of Status.TooLarge }
     ensures kept { result ≢ number_of Status.NoIndex → fault.new ≡ fault.old }
 {
     if words.len() >= TOO_MANY_WORDS {
