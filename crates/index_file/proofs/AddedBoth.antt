@@ -11,7 +11,7 @@ use Rattle.index_file.specs.CutLists.{CutList}
 use Rattle.index_file.specs.PlainWords.{plain_words}
 use Rattle.index_file.specs.PackedWords.{bits_of_list, bits_of_lists, starts_from}
 use Rattle.index_file.specs.FileWords.{words_of_kind, words_of_file}
-use Rattle.index_file.specs.Builder.{Built, StandsFor, StandsForPlain, IsNearCut, IsAppended, AddsList, with_list, with_plain_list, written_of, directory_of, added_of, entered_of, built_of, IsBuilder}
+use Rattle.index_file.specs.Builder.{Built, StandsFor, StandsForPlain, IsNearCut, AddsList, cut_list, with_list, with_plain_list, written_of, directory_of, added_of, entered_of, built_of, IsBuilder}
 use Rattle.index_file.proofs.Added.{plain-stands-more}
 use Rattle.index_file.proofs.Files.{file-count}
 use Rattle.index_file.proofs.OnePackedFile.{count-starts}
@@ -98,11 +98,11 @@ stands-more b cs c h list near =
     ]
 
 -- a list that is added in near-cheapest parts that were counted
-pub adds-list : (old new : Built) (docs freqs doc_ends freq_ends : List ℕ) (before after : ℕ) → IsPostingList (numbers_of old.format) old.documents (postings_of docs freqs)
-    → before + length doc_ends + length freq_ends ≤ after → IsAppended old new (postings_of docs freqs) doc_ends freq_ends → AddsList old new (postings_of docs freqs) before after
-adds-list old new docs freqs doc_ends freq_ends before after list counted (parts, near, fewer_docs, fewer_freqs, is) =
-    let c : CutList = record { list = postings_of docs freqs; parts = parts } in
-    subst (λ b. AddsList old b (postings_of docs freqs) before after) (sym is) (refl, refl, λ cs stands. (parts, stands-more old cs c stands list near, omega (arith, counted, fewer_docs, fewer_freqs)))
+pub adds-list : (old new : Built) (docs freqs doc_ends freq_ends : List ℕ) (before after : ℕ) → IsPostingList (numbers_of old.format) old.documents (postings_of docs freqs) → IsNearCut (numbers_of old.format) (cut_list docs freqs doc_ends freq_ends)
+    → before + length doc_ends + length freq_ends ≤ after → new ≡ with_list old (cut_list docs freqs doc_ends freq_ends) → AddsList old new (postings_of docs freqs) before after
+adds-list old new docs freqs doc_ends freq_ends before after list near counted is =
+    let c : CutList = cut_list docs freqs doc_ends freq_ends in
+    subst (λ b. AddsList old b (postings_of docs freqs) before after) (sym is) (refl, refl, λ cs stands. (c.parts, stands-more old cs c stands list near, counted))
 
 -- the words of a plain file
 pub plain-file : (format : FormatNumbers) → format.kind ≡ Plain → (n : ℕ) (cs : List CutList) (sizes : List ℕ) → words_of_file format n cs sizes ≡ plain_words format n cs sizes
@@ -165,20 +165,17 @@ plain-builder-after f p q r c e h list near is =
       | inr same ↦ subst (λ x. IsBuilder f x q) (sym same) h
     ]
 
-pub packed-builder-after : (p q r : Built) (list : List Posting) (doc_ends freq_ends : List ℕ) → IsBuilder Three p q → IsPostingList format_three p.documents list
-    → IsAppended q r list doc_ends freq_ends ⊎ (r ≡ q) → IsBuilder Three p r
-packed-builder-after p q r list doc_ends freq_ends h good is =
+pub packed-builder-after : (p q r : Built) (c : CutList) → IsBuilder Three p q → IsPostingList format_three p.documents c.list → IsNearCut format_three c → (r ≡ with_list q c) ⊎ (r ≡ q) → IsBuilder Three p r
+packed-builder-after p q r c h good near is =
     elim is [
-      | inl (parts, near, fewer_docs, fewer_freqs, more) ↦
-          (let c : CutList = record { list = list; parts = parts } in
-          let here : IsNearCut format_three (record { list = list; parts = parts }) = subst (λ f. IsNearCut (numbers_of f) c) h.packed_format near in
+      | inl more ↦
           subst (λ x. IsBuilder Three p x) (sym more) (record {
             documents = h.documents;
             plain_format = h.plain_format;
             packed_format = h.packed_format;
             same_documents = h.same_documents;
-            stands = (h.stands.0 ++ c ∷ [], subst (λ b. StandsFor b (h.stands.0 ++ c ∷ [])) (sym (packed-takes p q (with_list q c) c h.packed_format h.same_documents refl)) (stands-more (built_of Three p q) h.stands.0 c h.stands.1 good here));
-          }))
+            stands = (h.stands.0 ++ c ∷ [], subst (λ b. StandsFor b (h.stands.0 ++ c ∷ [])) (sym (packed-takes p q (with_list q c) c h.packed_format h.same_documents refl)) (stands-more (built_of Three p q) h.stands.0 c h.stands.1 good near));
+          })
       | inr same ↦ subst (λ x. IsBuilder Three p x) (sym same) h
     ]
 

@@ -13,9 +13,8 @@ use Rattle.part_cost.specs.Span.{cost_of_part}
 use Rattle.part_cost.specs.Partition.{IsPartition}
 use Rattle.part_cost.proofs.Partitions.{ends-within}
 use Rattle.part_cost.specs.StoredBits.{MayStandIn, IsNearStored}
-use Rattle.part_cost.specs.StoredLaws.{IsCutNear, NearInPlainFiles, NearInPackedFiles}
 use Rattle.index_file.specs.CutLists.{CutList}
-use Rattle.index_file.specs.Builder.{IsNearCut, AreCutsNear}
+use Rattle.index_file.specs.Builder.{IsNearCut}
 
 -- what may stand in a file is a partition
 stands-partition : (kind : FileKind) (limit : ℕ) (cost : ℕ → ℕ → ℕ) (n : ℕ) (ends : List ℕ) → MayStandIn kind limit cost n ends → IsPartition n ends
@@ -32,34 +31,6 @@ pub freqs-partition : (format : FormatNumbers) (c : CutList) → IsNearCut forma
 freqs-partition format c h =
     subst (λ m. IsPartition m c.parts.freq_ends) (sums-length 0 (freqs_of c.list) ∙ length-map c.list (λ p. p.freq)) (cut-partition format (freq_sequence c.list) c.parts.freq_ends h.freqs)
 
--- in a plain file what is near-cheapest by its cost is
-pub near-plain : NearInPlainFiles → (format : FormatNumbers) → format.kind ≡ Plain → (c : CutList) → AreCutsNear format c → IsNearCut format c
-near-plain law format e c h = record {
-  docs = law format e (doc_sequence c.list) c.parts.doc_ends h.docs;
-  freqs = law format e (freq_sequence c.list) c.parts.freq_ends h.freqs;
-}
-
 -- a near-cheapest partition of a sequence, where it is named otherwise
-pub cut-as : (format : FormatNumbers) (xs ys ends : List ℕ) → xs ≡ ys → IsCutNear format xs ends → IsCutNear format ys ends
-cut-as format xs ys ends e h = subst (λ zs. IsCutNear format zs ends) e h
-
--- a sequence of no values, and one of some
-no-ends : (ends : List ℕ) → IsPartition 0 ends → ends ≡ []
-no-ends [] h = refl
-no-ends (end ∷ ends) h = absurd (omega (arith, h.0, ends-within end 0 ends h.1))
-
-pub stored-none : NearInPackedFiles → (xs ends : List ℕ) → length xs ≡ 0 → IsCutNear format_three xs ends → IsNearStored format_three xs ends
-stored-none law xs ends none near =
-    let is : ends ≡ [] = no-ends ends (subst (λ m. IsPartition m ends) none near.near.allowed.partition) in
-    subst (IsNearStored format_three xs) (sym is) ((law format_three refl xs ends near).none none)
-
-pub some-ends : (n : ℕ) (ends : List ℕ) → 1 ≤ n → IsPartition n ends → 1 ≤ length ends
-some-ends n [] some h = absurd (omega (arith, some, h))
-some-ends n (end ∷ ends) some h = omega arith
-
--- whether there are values
-pub none-tested : (n : ℕ) → true ≡ (n == 0) → n ≡ 0
-none-tested n h = eqb-true n 0 (sym h)
-
-pub some-tested : (n : ℕ) → false ≡ (n == 0) → 1 ≤ n
-some-tested n h = grind (arith, nat_tests)
+pub cut-as : (format : FormatNumbers) (xs ys ends : List ℕ) → xs ≡ ys → IsNearStored format xs ends → IsNearStored format ys ends
+cut-as format xs ys ends e h = subst (λ zs. IsNearStored format zs ends) e h

@@ -7,13 +7,13 @@ ghost use Rattle.part_cost.specs.Span.{cost_of_part};
 ghost use Rattle.part_cost.specs.Partition.{partition_cost};
 ghost use Rattle.cost_windows.specs.WindowBounds.{window_bounds};
 ghost use Rattle.index_file.specs.FileWords.{CutList, words_of_file};
-ghost use Rattle.index_file.specs.Builder.{StandsFor, AreCutsNear, IsAppended, AddsList, lists_added, most_words, cut_list};
+ghost use Rattle.index_file.specs.Builder.{StandsFor, IsNearCut, AddsList, lists_added, most_words, cut_list, with_list};
 
 use crate::packed_builder::PackedBuilder;
 use crate::partitions::cut;
 use crate::plain_builder::PlainBuilder;
 use no_memory::NoMemory;
-use part_cost::{Format, formats_have_room, near_is_near_stored};
+use part_cost::{Format, formats_have_room};
 use partition_path::Cuts;
 use postings::{doc_values, freq_sums, sequences_of_a_list_rise};
 use std::alloc::Global;
@@ -98,7 +98,7 @@ impl Builder {
         self.append(&values, &sums, freqs, &doc_cuts, &freq_cuts)
     }
 
-    // Appends a list whose sequences are these, and are cut so, or stored as one part.
+    // Appends a list whose sequences are these, and are cut so.
     fn append(
         &mut self,
         docs: &[u64],
@@ -112,23 +112,22 @@ impl Builder {
             (postings_of docs.now freqs.now) }
         requires sums { sums.now ≡ freq_sequence (postings_of docs.now freqs.now) }
         requires room { lists_added self.old < most_terms }
-        requires near { AreCutsNear (numbers_of self.old.format)
+        requires near { IsNearCut (numbers_of self.old.format)
             (cut_list docs.now freqs.now doc_cuts.now.ends freq_cuts.now.ends) }
         requires total { doc_cuts.now.total ≡ partition_cost
             (cost_of_part (part_charge (numbers_of self.old.format))
             (doc_sequence (postings_of docs.now freqs.now))) doc_cuts.now.ends }
-        requires freq_total { freq_cuts.now.total ≡ partition_cost
-            (cost_of_part (part_charge (numbers_of self.old.format))
-            (freq_sequence (postings_of docs.now freqs.now))) freq_cuts.now.ends }
-        ensures ok { OnOk result (IsAppended self.old self.new (postings_of docs.now freqs.now)
-            doc_cuts.now.ends freq_cuts.now.ends) }
+        ensures ok { OnOk result (self.new ≡ with_list self.old
+            (cut_list docs.now freqs.now doc_cuts.now.ends freq_cuts.now.ends)) }
         ensures err { OnErr result (self.new ≡ self.old) }
     {
-        near_is_near_stored();
         match self.format {
             Format::One => self.plain.append(docs, sums, freqs, doc_cuts, freq_cuts),
             Format::Two => self.plain.append(docs, sums, freqs, doc_cuts, freq_cuts),
-            Format::Three => self.packed.append(docs, sums, freqs, doc_cuts, freq_cuts),
+            Format::Three => {
+                self.packed
+                    .append(docs, sums, freqs, doc_cuts.ends(), freq_cuts.ends())
+            }
         }
     }
 

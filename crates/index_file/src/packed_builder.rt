@@ -1,55 +1,25 @@
-ghost use Rattle.std.specs.Prelude.{◌≡◌, ℕ, ◌≤◌, ◌<◌, ◌^◌, List, [], ◌∷◌, length, IfOk, OnOk, OnErr};
-ghost use Rattle.collection_model.specs.FormatNumbers.{format_three, most_terms, part_charge};
+ghost use Rattle.std.specs.Prelude.{◌≡◌, ℕ, ◌≤◌, ◌<◌, ◌^◌, List, [], length, IfOk, OnOk, OnErr};
+ghost use Rattle.collection_model.specs.FormatNumbers.{format_three, most_terms};
 ghost use Rattle.collection_model.specs.Collection.{postings_of, IsPostingList};
-ghost use Rattle.collection_model.specs.Sequences.{doc_sequence, freq_sequence};
-ghost use Rattle.std.specs.List.{All};
-ghost use Rattle.std.specs.List.Sorted.{IsStrictlyIncreasing};
-ghost use Rattle.part_cost.specs.Span.{cost_of_part};
-ghost use Rattle.part_cost.specs.Partition.{partition_cost};
-ghost use Rattle.part_cost.specs.StoredBits.{IsNearStored};
-ghost use Rattle.part_cost.specs.StoredLaws.{IsCutNear};
+ghost use Rattle.collection_model.specs.Sequences.{freq_sequence};
 ghost use Rattle.index_file.specs.CutLists.{CutList};
 ghost use Rattle.index_file.specs.PackedWords.{packed_words};
-ghost use Rattle.index_file.specs.Builder.{StandsFor, AreCutsNear, IsAppended, cut_list};
+ghost use Rattle.index_file.specs.Builder.{StandsFor, IsNearCut, cut_list, with_list};
 
 use crate::entries::{greatest_freq, push_sizes};
 use crate::packed_checking::FIRST_LIST_BIT;
 use crate::packed_frame::{PACKED_END, PACKED_MAGIC, PackedFrame, count_of};
 use bit_words::BitWriter;
 use no_memory::NoMemory;
-use packed_list::{ListParts, is_one_part, lists_are_short, write_list};
+use packed_list::{ListParts, lists_are_short, write_list};
 use part_codec::{part_takes_its_payload, write_part};
-use part_cost::{Format, near_is_near_stored};
-use partition_path::Cuts;
+use part_cost::Format;
 use postings::sequences_of_a_list_rise;
 use std::alloc::Global;
 use std::marker::Model;
 
 // The most bits behind which one list more is taken, many more than a file has.
 const MOST_HELD_BITS: u64 = 1 << 46;
-
-// The ends of the parts in which a sequence is stored: those of its cuts, or of the one part where
-// that is stored in no more bits.
-fn stored_ends<'a>(values: &[u64], cuts: &'a Cuts, whole: &'a [u64]) -> &'a [u64]
-    requires rising { IsStrictlyIncreasing values.now }
-    requires below { All (λ x. x < format_three.most_sum) values.now }
-    requires whole { whole.now ≡ length values.now ∷ [] }
-    requires near { IsCutNear format_three values.now cuts.now.ends }
-    requires total { cuts.now.total ≡ partition_cost
-        (cost_of_part (part_charge format_three) values.now) cuts.now.ends }
-    ensures near { IsNearStored format_three values.now result.now }
-    ensures few { length result.now ≤ length cuts.entry.now.ends }
-{
-    near_is_near_stored();
-    if values.is_empty() {
-        return cuts.ends();
-    }
-    if is_one_part(values, cuts.total()) {
-        whole
-    } else {
-        cuts.ends()
-    }
-}
 
 // The bits of a packed file, list by list, and the places where the lists begin.
 #[derive(Drop)]
@@ -90,31 +60,24 @@ impl PackedBuilder {
         })
     }
 
-    // Appends a list whose sequences are these, each in the parts into which it is cut, or as one
-    // part where it is stored in no more bits so. A refusal leaves the lists as they were.
+    // Appends a list whose sequences are these, in parts with these ends. A refusal leaves the lists as they were.
     pub(crate) fn append(
         &mut self,
         docs: &[u64],
         sums: &[u64],
         freqs: &[u32],
-        doc_cuts: &Cuts,
-        freq_cuts: &Cuts,
+        doc_ends: &[u64],
+        sum_ends: &[u64],
     ) -> Result<(), NoMemory>
         requires same_length { length docs.now ≡ length freqs.now }
         requires list { IsPostingList format_three self.old.documents
             (postings_of docs.now freqs.now) }
         requires sums { sums.now ≡ freq_sequence (postings_of docs.now freqs.now) }
         requires room { length self.old.directory ≤ most_terms }
-        requires near { AreCutsNear format_three
-            (cut_list docs.now freqs.now doc_cuts.now.ends freq_cuts.now.ends) }
-        requires total { doc_cuts.now.total ≡ partition_cost
-            (cost_of_part (part_charge format_three)
-            (doc_sequence (postings_of docs.now freqs.now))) doc_cuts.now.ends }
-        requires freq_total { freq_cuts.now.total ≡ partition_cost
-            (cost_of_part (part_charge format_three)
-            (freq_sequence (postings_of docs.now freqs.now))) freq_cuts.now.ends }
-        ensures ok { OnOk result (IsAppended self.old self.new (postings_of docs.now freqs.now)
-            doc_cuts.now.ends freq_cuts.now.ends) }
+        requires near { IsNearCut format_three
+            (cut_list docs.now freqs.now doc_ends.now sum_ends.now) }
+        ensures ok { OnOk result (self.new ≡ with_list self.old
+            (cut_list docs.now freqs.now doc_ends.now sum_ends.now)) }
         ensures err { OnErr result (self.new ≡ self.old) }
     {
         lists_are_short();
@@ -123,9 +86,6 @@ impl PackedBuilder {
         if first > MOST_HELD_BITS {
             return Err(NoMemory);
         }
-        let whole = [docs.len() as u64];
-        let doc_ends = stored_ends(docs, doc_cuts, &whole);
-        let sum_ends = stored_ends(sums, freq_cuts, &whole);
         let list = ListParts {
             docs,
             doc_ends,

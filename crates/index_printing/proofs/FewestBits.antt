@@ -1,10 +1,20 @@
 -- The fewest bits that a sequence may take in a file, by the least costs of its partitions.
-use Rattle.std.proofs.Common.{◌≡◌, ℕ, zero, suc, ◌≤◌, min, List, [], length, inl, refl, sym, ap, ◌∙◌, subst, arith}
+use Rattle.std.proofs.Common.{◌≡◌, ℕ, zero, suc, true, false, ◌≤◌, min, List, [], length, inl, refl, sym, ap, ◌∙◌, subst, arith}
+use Rattle.std.specs.Prelude.{◌==◌}
+use Rattle.std.proofs.lemmas.Bool.{eqb-true}
+use Rattle.std.proofs.lemmas.Bool.Decides.{nat_tests}
 use Rattle.collection_model.specs.FormatNumbers.{FormatNumbers, FileKind, Plain, Packed, part_charge}
 use Rattle.part_cost.specs.Span.{payload_of_part, cost_of_part}
 use Rattle.part_cost.specs.Partition.{IsPartition, IsAllowed, IsCheapest, IsCheapestOfAll}
 use Rattle.part_cost.specs.StoredBits.{MayStandIn, stored_in, IsLeastStored, IsLeastStoredOfAll}
 use Rattle.part_cost.specs.StoredLaws.{LeastInPackedFiles}
+
+-- whether there are values
+pub none-tested : (n : ℕ) → true ≡ (n == 0) → n ≡ 0
+none-tested n h = eqb-true n 0 (sym h)
+
+pub some-tested : (n : ℕ) → false ≡ (n == 0) → 1 ≤ n
+some-tested n h = grind (arith, nat_tests)
 
 -- These are the fewest bits that a sequence may take in a file of the format, and the fewest of any of its partitions.
 pub record AreFewest (format : FormatNumbers) (xs : List ℕ) (allowed any : ℕ) : Type 0 where

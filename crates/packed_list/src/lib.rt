@@ -2,7 +2,6 @@
 #![tactic(auto)]
 
 mod check;
-mod choice;
 mod gamma;
 mod list_laws;
 mod view;
@@ -10,7 +9,6 @@ mod window;
 mod write;
 
 pub use check::check_list;
-pub use choice::is_one_part;
 pub use gamma::{GammaRead, gamma_before, gamma_codes, put_gamma};
 pub use list_laws::{lists_are_short, lists_state_back, one_packed_list};
 pub use view::{ListViews, view_list};

@@ -7,7 +7,7 @@ use Rattle.collection_model.specs.FormatNumbers.{part_charge}
 use Rattle.part_cost.specs.Payload.{widest_low}
 use Rattle.part_cost.specs.Span.{payload_of_part, cost_of_part}
 use Rattle.part_cost.specs.Partition.{IsPartitionFrom, IsPartition, cost_from, partition_cost, WithinLimitFrom, IsAllowed}
-use Rattle.part_cost.specs.Laws.{PayloadsGrow, PartPayloadsAdd, EachIsAllowed, LimitCostsLittle, NearIsNearOfAll}
+use Rattle.part_cost.specs.Laws.{PayloadsGrow, PartPayloadsAdd, EachIsAllowed, LimitCostsLittle, NearIsNearOfAll, CheapIsNearOfAll}
 use Rattle.part_cost.proofs.Partitions.{ends-within}
 use Rattle.part_cost.proofs.Parts.{parts-grow, single-is-allowed}
 use Rattle.part_cost.proofs.Sums.{parts-add}
@@ -143,11 +143,14 @@ near-of-all w v near others any some ratio first second =
           absurd (omega (arith, a, b, c, second, some))
     ]
 
-pub near-is-near-of-all : NearIsNearOfAll
-near-is-near-of-all format room xs up below ends near others h =
+pub cheap-is-near-of-all : CheapIsNearOfAll
+cheap-is-near-of-all format room xs up below bits cheap others h =
     let wide : All (λ x. x < 2 ^ widest_low) xs = (λ k d lt. omega (arith, below k d lt, room.sums)) in
     let single = single-is-allowed (part_charge format) format.limit room.single xs up wide in
     let cut = limit-costs-little (part_charge format) format.limit xs up single others h in
     let costs = cost_of_part (part_charge format) xs in
-    near-of-all (format.limit + 1 - part_charge format) (format.limit + 1 + part_charge format) (partition_cost costs ends) (partition_cost costs cut.0) (partition_cost costs others)
-    (omega (arith, room.single)) room.little (near.near cut.0 cut.1) cut.2
+    near-of-all (format.limit + 1 - part_charge format) (format.limit + 1 + part_charge format) bits (partition_cost costs cut.0) (partition_cost costs others)
+    (omega (arith, room.single)) room.little (cheap cut.0 cut.1) cut.2
+
+pub near-is-near-of-all : NearIsNearOfAll
+near-is-near-of-all format room xs up below ends near = cheap-is-near-of-all format room xs up below (partition_cost (cost_of_part (part_charge format) xs) ends) near.near

@@ -1,26 +1,26 @@
 -- Lemmas on the search from all places in order.
-use Rattle.std.proofs.Common.{◌≡◌, refl, sym, ◌∙◌, subst, ap, ℕ, zero, suc, ◌+◌, ◌*◌, ◌≤◌, ◌<◌, inl, inr, List, length, get_or, replicate, arith, get_or-set_same, get_or-set_other}
+use Rattle.std.proofs.Common.{◌≡◌, refl, sym, ◌∙◌, subst, ap, ℕ, zero, suc, ◌+◌, ◌*◌, ◌≤◌, ◌<◌, inl, inr, min, List, length, get_or, replicate, arith, get_or-set_same, get_or-set_other}
 use Rattle.std.specs.List.{All, sum}
+use Rattle.std.proofs.lemmas.Bool.{cases_lt}
 use Rattle.std.proofs.lemmas.List.{length-set, length-replicate, get_or-replicate}
 use Rattle.std.proofs.lemmas.List.Elements.{All-from_get_or}
 use Rattle.std.proofs.lemmas.List.Sums.{sum_by-le}
 use Rattle.std.proofs.Math.Nat.{eq-or-lt_of_le}
-use Rattle.part_cost.specs.Bounds.{Cover}
+use Rattle.collection_model.specs.FormatNumbers.{FormatNumbers, part_charge}
 use Rattle.part_cost.specs.Partition.{IsAllowed, partition_cost}
 use Rattle.partition_path.specs.declared.routes.Route.{Route}
-use Rattle.partition_path.specs.Tables.{Table, IsReached, AreRoutes, AreTried, IsAnswered, StandCheap, cost_to, new_table, no_route, unreached}
-use Rattle.partition_path.proofs.Near.{IsSettled, IsDone, IsOutdone, near-rest}
+use Rattle.partition_path.specs.Tables.{Table, IsReached, AreRoutes, AreTried, IsSettled, StandCheap, cost_to, least_known, new_table, no_route, unreached}
+use Rattle.partition_path.proofs.Near.{AreCosts, near-rest}
 use Rattle.partition_path.proofs.Offering.{same-cost, tried-none, later-routes}
-use Rattle.partition_path.proofs.Windowing.{find-place, stand-cheaper}
+use Rattle.partition_path.proofs.Windowing.{stand-cheaper}
 
--- All parts that start before place i are tried, or need not be; the place itself is reached.
-pub record Searched (limit charge : ℕ) (cost : ℕ → ℕ → ℕ) (bounds : List ℕ) (n i before after : ℕ) (t : Table) (stands : List ℕ) : Type 0 where
-  pub routes : AreRoutes limit cost n i t
-  pub done : (r : ℕ) → r < i → IsReached t r → IsDone limit charge cost n t r
-  pub reached : IsReached t i
+-- All parts that start before place i are settled.
+pub record Searched (format : FormatNumbers) (cost : ℕ → ℕ → ℕ) (bounds : List ℕ) (n most i before after : ℕ) (t : Table) (stands : List ℕ) : Type 0 where
+  pub routes : AreRoutes format.limit cost n i t
+  pub done : (r : ℕ) → r < i → IsReached t r → (e : ℕ) → r < e → e ≤ n → IsSettled format cost n most t r e
   pub stand : StandCheap bounds n (cost_to t i) t stands
   pub counted : before ≤ after
-  pub risen : after ≤ before + sum stands + length bounds * i
+  pub risen : after ≤ before + sum stands + (length bounds + 2) * i
 
 abbrev none_known : ℕ → Table
 none_known n = replicate (n + 1) no_route
@@ -56,13 +56,12 @@ new-routes limit cost n =
     }
 
 -- before the first part is tried
-pub searched-none : (limit charge : ℕ) (cost : ℕ → ℕ → ℕ) (bounds : List ℕ) (n before : ℕ) → Searched limit charge cost bounds n 0 before before (new_table n) (replicate (length bounds) 0)
-searched-none limit charge cost bounds n before =
+pub searched-none : (format : FormatNumbers) (cost : ℕ → ℕ → ℕ) (bounds : List ℕ) (n most before : ℕ) → Searched format cost bounds n most 0 before before (new_table n) (replicate (length bounds) 0)
+searched-none format cost bounds n most before =
     let at_zero : (k : ℕ) → k < length bounds → get_or (replicate (length bounds) 0) k 0 ≡ 0 = (λ k l. get_or-replicate {A = ℕ} (length bounds) k 0 0 l) in
     record {
-      routes = new-routes limit cost n;
+      routes = new-routes format.limit cost n;
       done = λ r l. absurd (omega (arith, l));
-      reached = omega (arith, new-first n);
       stand = record {
         count = length-replicate {A = ℕ} (length bounds) 0;
         within = λ k l. let e = at_zero k l in omega (arith, e);
@@ -72,98 +71,92 @@ searched-none limit charge cost bounds n before =
       risen = omega arith;
     }
 
--- some bound covers the charge
-pub cover-some : (charge limit : ℕ) (bounds : List ℕ) → Cover charge limit bounds → charge ≤ limit → 0 < length bounds
-cover-some charge limit bounds cover l =
-    let found = find-place charge bounds (λ b. 100 * b ≤ 103 * charge) (cover charge (omega arith) l) in
-    omega (arith, found.1)
+-- a part that is settled stays so where places become cheaper, but for its start
+settled-more : (format : FormatNumbers) (cost : ℕ → ℕ → ℕ) (n most : ℕ) (t new : Table) (r e : ℕ) → ((j : ℕ) → cost_to new j ≤ cost_to t j) → cost_to new r ≡ cost_to t r → IsSettled format cost n most t r e → IsSettled format cost n most new r e
+settled-more format cost n most t new r e cheaper same settled allowed = elim (settled allowed) [
+  | inl answered ↦ inl (omega (arith, answered, cheaper e, same))
+  | inr other ↦ elim other [
+    | inl dear ↦ inr (inl (dear.0, omega (arith, dear.1, cheaper n, same)))
+    | inr later ↦ inr (inr (record { start = later.start; after = later.after; before = later.before; cheap = omega (arith, later.cheap, cheaper later.start, same) }))
+  ]
+]
 
-module _ (limit charge : ℕ) (cost : ℕ → ℕ → ℕ) (bounds : List ℕ) (n i before middle : ℕ) (t : Table) (stands : List ℕ) (s : Searched limit charge cost bounds n i before middle t stands) (below : i < n) where
-  -- places that were done stay done
-  done-more : (new : Table) → AreTried limit cost n i t new → IsDone limit charge cost n new i → (r : ℕ) → r < i + 1 → IsReached new r → IsDone limit charge cost n new r
-  done-more new x here_done r l reached =
-      let le : r ≤ i = omega (arith, l) in
-      elim (eq-or-lt_of_le le) [
-        | inl e ↦ subst (λ (y : ℕ). IsDone limit charge cost n new y) (sym e) here_done
-        | inr earlier ↦
-            let at = same-cost t new r (x.same r le) in
-            let last = x.cheaper n in
-            elim (s.done r earlier (omega (arith, at, reached))) [
-              | inl settled ↦ inl (λ e a m c.
-                  let u = settled e a m c in
-                  let cheaper = x.cheaper u.0 in
-                  (u.0, u.1, u.2, omega (arith, u.3, cheaper), omega (arith, u.4, cheaper, at)))
-              | inr other ↦ elim other [
-                | inl p ↦ let cheaper = x.cheaper p.0 in inr (inl (p.0, p.1, p.2, omega (arith, p.3, cheaper, at)))
-                | inr o ↦ inr (inr (record {
-                  reached = omega (arith, o.reached, last);
-                  two = omega (arith, o.two, last, at);
-                  one = λ a. let rest = o.one a in omega (arith, rest, last, at);
-                }))
-              ]
-            ]
-      ]
-
+module _ (format : FormatNumbers) (cost : ℕ → ℕ → ℕ) (bounds : List ℕ) (n most i before middle : ℕ) (t : Table) (stands : List ℕ) (s : Searched format cost bounds n most i before middle t stands) (below : i < n) where
   -- one more place is done
-  searched-next : (after : ℕ) (new : Table) (more : List ℕ) → AreTried limit cost n i t new → IsDone limit charge cost n new i → IsReached new (i + 1) → StandCheap bounds n (cost_to t i) new more → middle ≤ after → after + sum stands ≤ middle + sum more + length bounds → Searched limit charge cost bounds n (i + 1) before after new more
-  searched-next after new more x here_done reached stand counted bounded =
+  searched-next : (after : ℕ) (new : Table) (more : List ℕ) → AreTried format.limit cost n i t new → (IsReached new i → (e : ℕ) → i < e → e ≤ n → IsSettled format cost n most new i e) → StandCheap bounds n (cost_to t i) new more → middle ≤ after → after + sum stands ≤ middle + sum more + length bounds + 2 → Searched format cost bounds n most (i + 1) before after new more
+  searched-next after new more x here_done stand counted bounded =
       let here = same-cost t new i (x.same i (omega arith)) in
       let up = x.routes.rising i (i + 1) (omega arith) (omega (arith, below)) in
       record {
         routes = x.routes;
-        done = done-more new x here_done;
-        reached = reached;
+        done = λ r l reached e a w.
+            let le : r ≤ i = omega (arith, l) in
+            elim (eq-or-lt_of_le le) [
+              | inl at ↦ subst (λ (y : ℕ). IsReached new y → y < e → IsSettled format cost n most new y e) (sym at) (λ z b. here_done z e b w) reached a
+              | inr earlier ↦
+                  let same = same-cost t new r (x.same r le) in
+                  settled-more format cost n most t new r e x.cheaper same (s.done r earlier (omega (arith, same, reached)) e a w)
+            ];
         stand = stand-cheaper (cost_to new (i + 1)) new (omega (arith, here, up)) (λ j. omega arith) stand;
         counted = omega (arith, s.counted, counted);
         risen = omega (arith, s.risen, bounded);
       }
 
-  -- where the next place costs no more
-  pub searched-passed : cost_to t (i + 1) ≤ cost_to t i → Searched limit charge cost bounds n (i + 1) before middle t stands
-  searched-passed flat =
-      let r = s.reached in
-      searched-next middle t stands (tried-none (later-routes s.routes)) (inr (inl (i + 1, omega arith, omega (arith, below), flat))) (omega (arith, flat, r)) s.stand (omega arith) (omega arith)
+  -- where the next place costs no more: a longer part can begin there
+  pub searched-passed : ((a b : ℕ) → a < b → b ≤ n → part_charge format ≤ cost a b) → cost_to t (i + 1) ≤ cost_to t i → Searched format cost bounds n most (i + 1) before middle t stands
+  searched-passed least flat = searched-next middle t stands (tried-none (later-routes s.routes)) passed s.stand (omega arith) (omega arith)
+    where
+      passed : IsReached t i → (e : ℕ) → i < e → e ≤ n → IsSettled format cost n most t i e
+      passed reached e a w allowed = elim (cases_lt (i + 1) e) [
+        | inl behind ↦ inr (inr (record { start = i + 1; after = omega arith; before = behind; cheap = omega (arith, flat, least i (i + 1) (omega arith) (omega (arith, below))) }))
+        | inr at ↦ let next : e ≡ i + 1 = omega (arith, at, a) in inl (subst (λ (x : ℕ). 100 * cost_to t x ≤ 100 * cost_to t i + 103 * cost i x) (sym next) (omega (arith, flat)))
+      ]
 
-  -- where the end costs at most two charges more, after the part to the end was tried
-  pub searched-rest : 0 < length bounds → cost_to t i + 2 * charge < unreached → cost_to t n ≤ cost_to t i + 2 * charge → (new : Table) → AreTried limit cost n i t new → (cost i n ≤ limit → cost_to new n ≤ cost_to t i + cost i n) → (after : ℕ) → after ≡ middle + 1 → Searched limit charge cost bounds n (i + 1) before after new stands
-  searched-rest some room two new x offered after step =
-      let here = same-cost t new i (x.same i (omega arith)) in
-      let last = x.cheaper n in
-      let up = x.routes.rising (i + 1) n (omega (arith, below)) (omega arith) in
-      let outdone : IsOutdone limit charge cost n new i = record {
-        reached = omega (arith, last, two, room);
-        two = omega (arith, last, two, here);
-        one = λ a. let o = offered a in omega (arith, o, here);
-      } in
-      searched-next after new stands x (inr (inr outdone)) (omega (arith, up, last, two, room)) (stand-cheaper (cost_to t i) new (omega arith) x.cheaper s.stand) (omega (arith, step)) (omega (arith, some, step))
+  -- where what is known costs at most two charges more, after the part to the end was tried
+  pub searched-rest : 0 < length bounds → ((a b : ℕ) → a < b → b ≤ n → part_charge format ≤ cost a b) → least_known most n t ≤ cost_to t i + 2 * part_charge format → (new : Table) → AreTried format.limit cost n i t new
+      → (cost i n ≤ format.limit → cost_to new n ≤ cost_to t i + cost i n) → (after : ℕ) → after ≡ middle + 1 → Searched format cost bounds n most (i + 1) before after new stands
+  searched-rest some least two new x offered after step = searched-next after new stands x tried (stand-cheaper (cost_to t i) new (omega arith) x.cheaper s.stand) (omega (arith, step)) (omega (arith, some, step))
+    where
+      here : cost_to new i ≡ cost_to t i
+      here = same-cost t new i (x.same i (omega arith))
 
-  -- where each allowed part is answered
-  pub searched-windows : cost i (i + 1) ≤ limit → (after : ℕ) (new : Table) (more : List ℕ) → AreTried limit cost n i t new → ((e : ℕ) → i < e → e ≤ n → IsAnswered limit cost i (cost_to t i) new e) → StandCheap bounds n (cost_to t i) new more → middle ≤ after → after + sum stands ≤ middle + sum more + length bounds → Searched limit charge cost bounds n (i + 1) before after new more
-  searched-windows one after new more x answered stand counted bounded =
-      let here = same-cost t new i (x.same i (omega arith)) in
-      let settled : IsSettled limit cost n new i = (λ e a b c. let said = answered e a b c in (e, omega arith, b, said.0, omega (arith, said.1, here))) in
-      let next = answered (i + 1) (omega arith) (omega (arith, below)) one in
-      searched-next after new more x (inl settled) next.0 stand counted bounded
+      tried : IsReached new i → (e : ℕ) → i < e → e ≤ n → IsSettled format cost n most new i e
+      tried reached e a w allowed = elim (cases_lt e n) [
+        | inl inside ↦ inr (inl (inside, omega (arith, two, x.cheaper n, here, least i e a w)))
+        | inr at ↦
+            let last : e ≡ n = omega (arith, at, w) in
+            inl (subst (λ (z : ℕ). cost i z ≤ format.limit → 100 * cost_to new z ≤ 100 * cost_to new i + 103 * cost i z) (sym last) (λ c. omega (arith, offered c, here)) allowed)
+      ]
 
-module _ (limit charge : ℕ) (cost : ℕ → ℕ → ℕ) (bounds : List ℕ) (n i before after : ℕ) (t : Table) (stands : List ℕ) (searched : Searched limit charge cost bounds n i before after t stands) (all : i ≡ n) where
-  all-searched : Searched limit charge cost bounds n n before after t stands
-  all-searched = subst (λ (x : ℕ). Searched limit charge cost bounds n x before after t stands) all searched
+  -- where each allowed part is settled by what is known already to be the least
+  pub searched-windows : (known after : ℕ) (new : Table) (more : List ℕ) → known ≡ least_known most n t → AreTried format.limit cost n i t new
+      → ((e : ℕ) → i < e → e ≤ n → IsSettled format cost n known new i e) → StandCheap bounds n (cost_to t i) new more → middle ≤ after → after + sum stands ≤ middle + sum more + length bounds + 2 → Searched format cost bounds n most (i + 1) before after new more
+  searched-windows known after new more is x settled stand counted bounded = searched-next after new more x tried stand counted bounded
+    where
+      tried : IsReached new i → (e : ℕ) → i < e → e ≤ n → IsSettled format cost n most new i e
+      tried reached e a w allowed = elim (settled e a w allowed) [
+        | inl answered ↦ inl answered
+        | inr other ↦ elim other [
+          | inl dear ↦ inr (inl (dear.0, omega (arith, dear.1, is, x.cheaper n)))
+          | inr later ↦ inr (inr later)
+        ]
+      ]
 
-  pub all-routes : AreRoutes limit cost n n t
+module _ (format : FormatNumbers) (cost : ℕ → ℕ → ℕ) (bounds : List ℕ) (n most i before after : ℕ) (t : Table) (stands : List ℕ) (searched : Searched format cost bounds n most i before after t stands) (all : i ≡ n) where
+  all-searched : Searched format cost bounds n most n before after t stands
+  all-searched = subst (λ (x : ℕ). Searched format cost bounds n most x before after t stands) all searched
+
+  pub all-routes : AreRoutes format.limit cost n n t
   all-routes = all-searched.routes
 
-  pub last-reached : IsReached t n
-  last-reached = all-searched.reached
+  -- what is known costs at most 103/100 of each allowed partition
+  pub last-near : AreCosts (part_charge format) cost n → most ≤ unreached → (others : List ℕ) → IsAllowed format.limit cost n others → 100 * least_known most n t ≤ 103 * partition_cost cost others
+  last-near costs few others a =
+      let near = near-rest format cost n most t costs few all-searched.done n 0 0 others (omega arith) (omega arith) (omega (arith, all-searched.routes.origin)) a.partition a.within in
+      omega (arith, near)
 
-  -- the end costs at most 103/100 of each allowed partition
-  pub last-near : ((h i j k : ℕ) → h ≤ i → i < j → j ≤ k → k ≤ n → cost i j ≤ cost h k) → ((i j : ℕ) → i < j → j ≤ n → charge ≤ cost i j) → (others : List ℕ) → IsAllowed limit cost n others → 100 * cost_to t n ≤ 103 * partition_cost cost others
-  last-near monotone least others a =
-      let first : IsReached t 0 = omega (arith, all-searched.routes.origin) in
-      let near = near-rest limit charge cost n t monotone least all-searched.done 0 0 others (omega arith) (omega arith) first a.partition a.within in
-      omega (arith, near.1, all-searched.routes.origin)
-
-  -- two costs at most for each window and number
-  pub few-costs : after ≤ before + 2 * length bounds * n
+  -- two costs at most for each window and number, and two for each number
+  pub few-costs : after ≤ before + 2 * (length bounds + 1) * n
   few-costs =
       let each : All (λ p. p ≤ n) stands = All-from_get_or (λ p. p ≤ n) stands 0 (λ k l. all-searched.stand.within k (omega (arith, l, all-searched.stand.count))) in
       let most : sum stands ≤ length stands * n = sum_by-le (λ x. x) n stands each in

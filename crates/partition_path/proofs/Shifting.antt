@@ -81,14 +81,14 @@ module _ (limit : ℕ) (cost : ℕ → ℕ → ℕ) (n : ℕ) where
       ends-within (get_or ends k 0) n (drop (suc k) ends) parts.1
 
 -- every format has more bounds than places where an end is tried, and one
-wide : (format : Format) → 27 ≤ length (window_bounds format)
+wide : (format : Format) → 29 ≤ length (window_bounds format)
 wide One = let e : length (window_bounds One) ≡ 114 = refl in omega (arith, e)
 wide Two = let e : length (window_bounds Two) ≡ 116 = refl in omega (arith, e)
 wide Three = let e : length (window_bounds Three) ≡ 114 = refl in omega (arith, e)
 
 -- so what is counted while ends are shifted, and for the total, has room
-pub few-steps : (format : Format) (n parts before after : ℕ) → parts ≤ n → after ≤ before + 1 + 2 * length (window_bounds format) * n + 27 * parts → after ≤ before + 3 * length (window_bounds format) * (n + 1)
+pub few-steps : (format : Format) (n parts before after : ℕ) → parts ≤ n → after ≤ before + 1 + 2 * (length (window_bounds format) + 1) * n + 27 * parts → after ≤ before + 3 * length (window_bounds format) * (n + 1)
 few-steps format n parts before after few l =
     let some = wide format in
-    let most = mul-le 27 parts (length (window_bounds format)) n some few in
-    omega (arith, l, most, some)
+    let most = mul-le 29 n (length (window_bounds format)) n some (omega arith) in
+    omega (arith, l, most, some, few)

@@ -6,11 +6,12 @@ use Rattle.std.proofs.lemmas.Bool.{leb-true, cases_lt, cases_eq}
 use Rattle.std.proofs.lemmas.List.{length-set}
 use Rattle.std.proofs.lemmas.Nat.{mul-le}
 use Rattle.std.specs.List.Sorted.{IsStrictlyIncreasing}
+use Rattle.collection_model.specs.FormatNumbers.{FormatNumbers, part_charge}
 use Rattle.part_cost.specs.Bounds.{Cover}
 use Rattle.part_cost.proofs.Numbers.{rises}
 use Rattle.cost_windows.specs.EdgeFacts.{Knows}
 use Rattle.cost_windows.specs.declared.edge.Edge.{Edge}
-use Rattle.partition_path.specs.Tables.{Table, AreTried, AreRoutes, IsAnswered, StandCheap, cost_to, unreached}
+use Rattle.partition_path.specs.Tables.{Table, AreTried, AreRoutes, IsAnswered, IsSettled, StandCheap, cost_to, least_known, unreached}
 use Rattle.partition_path.proofs.Offering.{same-cost, tried-none, tried-more, later-routes}
 
 -- the bound that is found is one of the list
@@ -25,6 +26,12 @@ find-place c (b ∷ bs) P h =
       | inl here ↦ (0, omega arith, here.0, here.1)
       | inr later ↦ let more = find-place c bs P later in (suc more.0, omega (arith, more.1), more.2, more.3)
     ]
+
+-- some bound covers the charge
+pub cover-some : (charge limit : ℕ) (bounds : List ℕ) → Cover charge limit bounds → charge ≤ limit → 0 < length bounds
+cover-some charge limit bounds cover l =
+    let found = find-place charge bounds (λ b. 100 * b ≤ 103 * charge) (cover charge (omega arith) l) in
+    omega (arith, found.1)
 
 -- two facts on what is known
 pub both-known : (o : Option ℕ) (P Q : ℕ → Type 0) → IsSome o → IfSome o P → IfSome o Q → (c : ℕ) × P c × Q c
@@ -78,6 +85,24 @@ module _ (limit : ℕ) (cost : ℕ → ℕ → ℕ) (bounds : List ℕ) (n i : �
         passed = λ b m l. absurd (omega (arith, l));
       })
 
+  -- Windows are passed whose bound the next part is above.
+  pub windowed-passed : (t : Table) (k : ℕ) (edge : Edge) (stands : List ℕ) → Windowed limit cost bounds n i old t k edge stands → (l : ℕ) → k ≤ l → (edge.end < n → IsSome edge.next) → IfSome edge.next (λ c. (m : ℕ) → k ≤ m → m < l → get_or bounds m 0 < c)
+      → Windowed limit cost bounds n i old t l edge stands
+  windowed-passed t k edge stands w l more known passed =
+      record {
+        tried = w.tried;
+        knows = w.knows;
+        stand = w.stand;
+        cheap = λ m a b. w.cheap m (omega (arith, a, more)) b;
+        answered = w.answered;
+        passed = λ b m a. elim (cases_lt m k) [
+          | inl earlier ↦ w.passed b m earlier
+          | inr later ↦
+              let next = both-known edge.next (λ c. (x : ℕ) → k ≤ x → x < l → get_or bounds x 0 < c) (λ c. (edge.end < n) × (c ≡ cost i (edge.end + 1))) (known b) passed w.knows.next in
+              omega (arith, next.1 m later a, next.2.1)
+        ];
+      }
+
   module _ (rising : (j k : ℕ) → j ≤ k → k < length bounds → get_or bounds j 0 ≤ get_or bounds k 0) (charge : ℕ) (cover : Cover charge limit bounds) (monotone : (h i j k : ℕ) → h ≤ i → i < j → j ≤ k → k ≤ n → cost i j ≤ cost h k) (least : (i j : ℕ) → i < j → j ≤ n → charge ≤ cost i j) where
     -- A part behind the edge is allowed only under a bound that was not passed.
     open-bound : (t : Table) (k : ℕ) (edge : Edge) (stands : List ℕ) → Windowed limit cost bounds n i old t k edge stands → (e : ℕ) → edge.end < e → e ≤ n → cost i e ≤ limit → (m : ℕ) × (m < length bounds) × (k ≤ m) × (100 * get_or bounds m 0 ≤ 103 * cost i e)
@@ -91,13 +116,12 @@ module _ (limit : ℕ) (cost : ℕ → ℕ → ℕ) (bounds : List ℕ) (n i : �
           | inr free ↦ (m, found.1, free, found.3)
         ]
 
-    -- one more window looked at, and those passed whose bound the next part is above
-    pub windowed-more : (room : cost_to old i + limit < unreached) (small : All (λ b. b ≤ limit) bounds) (t : Table) (k : ℕ) (edge : Edge) (stands : List ℕ) → Windowed limit cost bounds n i old t k edge stands → k < length bounds → (new : Table) (longer : Edge) (l : ℕ)
+    -- one more window looked at
+    pub windowed-more : (t : Table) (k : ℕ) (edge : Edge) (stands : List ℕ) → Windowed limit cost bounds n i old t k edge stands → k < length bounds → (new : Table) (longer : Edge)
         → AreTried limit cost n i t new → Knows cost n i longer → cost_to new longer.end ≤ cost_to t i + get_or bounds k 0 → edge.end ≤ longer.end
         → (longer.end < n → get_or bounds k 0 < cost i (longer.end + 1)) → (longer.end < n → IsSome longer.next)
-        → k + 1 ≤ l → IfSome longer.next (λ c. (m : ℕ) → k + 1 ≤ m → m < l → get_or bounds m 0 < c)
-        → Windowed limit cost bounds n i old new l longer (set stands k longer.end)
-    windowed-more room small t k edge stands w below new longer l tried knows cheap forward over known more passed =
+        → Windowed limit cost bounds n i old new (k + 1) longer (set stands k longer.end)
+    windowed-more t k edge stands w below new longer tried knows cheap forward over known =
         let here : cost_to t i ≡ cost_to old i = same-cost old t i (w.tried.same i (omega arith)) in
         let stood : (m : ℕ) → m < length bounds → (get_or (set stands k longer.end) m 0 ≤ n) × (cost_to new (get_or (set stands k longer.end) m 0) ≤ cost_to old i + get_or bounds m 0) = (λ m b.
         elim (cases_eq m k) [
@@ -119,28 +143,20 @@ module _ (limit : ℕ) (cost : ℕ → ℕ → ℕ) (bounds : List ℕ) (n i : �
             within = λ m b. (stood m b).0;
             cheap = λ m b. (stood m b).1;
           };
-          cheap = λ m a b. let up = rising k m (omega (arith, a, more)) b in omega (arith, cheap, here, up);
+          cheap = λ m a b. let up = rising k m (omega (arith, a)) b in omega (arith, cheap, here, up);
           answered = λ e a b.
               elim (cases_lt edge.end e) [
                 | inl behind ↦ (λ allowed.
                     let free = open-bound t k edge stands w e behind (omega (arith, b, knows.within)) allowed in
                     let up = rising k free.0 free.2 free.1 in
                     let before = tried.routes.rising e longer.end b knows.within in
-                    let bounded = small k 0 below in
-                    (omega (arith, before, cheap, here, room, bounded), omega (arith, before, cheap, here, up, free.3)))
+                    omega (arith, before, cheap, here, up, free.3))
                 | inr inside ↦ (λ allowed.
                     let was = w.answered e a inside allowed in
                     let now = tried.cheaper e in
-                    (omega (arith, was.0, now), omega (arith, was.1, now)))
+                    omega (arith, was, now))
               ];
-          passed = λ b m a.
-              elim (cases_lt k m) [
-                | inl later ↦
-                    let next = both-known longer.next (λ c. (x : ℕ) → k + 1 ≤ x → x < l → get_or bounds x 0 < c) (λ c. (longer.end < n) × (c ≡ cost i (longer.end + 1))) (known b) passed knows.next in
-                    let above = next.1 m (omega (arith, later)) a in
-                    omega (arith, above, next.2.1)
-                | inr earlier ↦ let up = rising m k earlier below in omega (arith, up, over b)
-              ];
+          passed = λ b m a. let up = rising m k (omega (arith, a)) below in omega (arith, up, over b);
         }
 
     -- where all windows are looked at, or the edge is the end, each allowed part is answered
@@ -152,3 +168,29 @@ module _ (limit : ℕ) (cost : ℕ → ℕ → ℕ) (bounds : List ℕ) (n i : �
               absurd (omega (arith, ended (omega (arith, free.1, free.2)), behind, b)))
           | inr inside ↦ w.answered e a inside
         ]
+
+-- Parts that are answered are settled, and so are longer ones where a route leads on from their start to a place behind those for at most
+-- 103/100 of the payload of the part up to there.
+pub settled-later : (format : FormatNumbers) (cost : ℕ → ℕ → ℕ) (n most i : ℕ) (t : Table) (start : ℕ) → i < start → 100 * cost_to t start + 103 * part_charge format ≤ 100 * cost_to t i + 103 * cost i start
+    → ((e : ℕ) → i < e → e < start → IsAnswered format.limit cost i (cost_to t i) t e) → (e : ℕ) → i < e → e ≤ n → IsSettled format cost n most t i e
+settled-later format cost n most i t start after cheap answered e a w allowed = elim (cases_lt start e) [
+  | inl behind ↦ inr (inr (record { start = start; after = after; before = behind; cheap = cheap }))
+  | inr before ↦ inl (elim (cases_lt e start) [
+    | inl inside ↦ answered e a inside allowed
+    | inr at ↦ let same : e ≡ start = omega (arith, before, at) in subst (λ (x : ℕ). 100 * cost_to t x ≤ 100 * cost_to t i + 103 * cost i x) (sym same) (omega (arith, cheap))
+  ])
+]
+
+-- Longer ones are too dear where one part more would cost as much as is known, and the part to the last place is tried.
+pub settled-dear : (format : FormatNumbers) (cost : ℕ → ℕ → ℕ) (n most i : ℕ) (t new : Table) (end : ℕ) → cost_to new i ≡ cost_to t i → ((j : ℕ) → cost_to new j ≤ cost_to t j) → ((e : ℕ) → end < e → e ≤ n → cost i (end + 1) ≤ cost i e)
+    → most ≤ cost_to t i + cost i (end + 1) + part_charge format → (cost i n ≤ format.limit → cost_to new n ≤ cost_to t i + cost i n)
+    → ((e : ℕ) → i < e → e ≤ end → IsAnswered format.limit cost i (cost_to t i) t e) → (e : ℕ) → i < e → e ≤ n → IsSettled format cost n most new i e
+settled-dear format cost n most i t new end same cheaper longer dear offered answered e a w allowed = elim (cases_lt end e) [
+  | inr before ↦ inl (omega (arith, answered e a before allowed, cheaper e, same))
+  | inl behind ↦ elim (cases_lt e n) [
+    | inl inside ↦ inr (inl (inside, omega (arith, dear, longer e behind w, same)))
+    | inr at ↦
+        let last : e ≡ n = omega (arith, at, w) in
+        inl (subst (λ (z : ℕ). cost i z ≤ format.limit → 100 * cost_to new z ≤ 100 * cost_to new i + 103 * cost i z) (sym last) (λ c. omega (arith, offered c, same)) allowed)
+  ]
+]

@@ -8,5 +8,5 @@ mod routes;
 mod search;
 mod whole;
 
-pub use cuts::{Cuts, partition};
+pub use cuts::{Cuts, partition, partition_below};
 pub use exact::exact_cost;

@@ -19,6 +19,9 @@ const NO_ROUTE: Route = Route {
     start: 0,
 };
 
+// How many places are passed at once where that many on the cost is still low.
+const STRIDE: u64 = 8;
+
 // For each place of a sequence the cheapest route that is known to it or to a place behind it: no place costs more than one
 // behind it.
 #[derive(Drop)]
@@ -71,6 +74,9 @@ impl Routes {
     {
         let last = self.last();
         let mut place = from;
+        while STRIDE <= last - place && self.cost(place + STRIDE) <= most {
+            place += STRIDE;
+        }
         while place < last && self.cost(place + 1) <= most {
             place += 1;
         }

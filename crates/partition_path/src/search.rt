@@ -1,11 +1,12 @@
-ghost use Rattle.std.specs.Prelude.{◌≡◌, ℕ, ◌+◌, ◌*◌, ◌<◌, ◌≤◌, length, IsSome, IfSome, IfNone, IfOk, List, slice_index_or};
+ghost use Rattle.std.specs.Prelude.{◌≡◌, ℕ, ◌+◌, ◌*◌, ◌<◌, ◌≤◌, length, min, IsTrue, IsSome, IfSome, IfNone, IfOk, List, slice_index_or};
 ghost use Rattle.std.specs.List.{sum};
+ghost use Rattle.collection_model.specs.FormatNumbers.{part_charge};
 ghost use Rattle.part_cost.specs.Formats.{numbers_of};
 ghost use Rattle.part_cost.specs.Partition.{IsAllowed, partition_cost};
 ghost use Rattle.cost_windows.specs.EdgeFacts.{Knows};
 ghost use Rattle.cost_windows.specs.WindowBounds.{window_bounds};
 ghost use Rattle.partition_path.specs.Trying.{CanTry, IsCheapWindow};
-ghost use Rattle.partition_path.specs.Tables.{AreRoutes, AreTried, IsAnswered, IsReached, StandCheap, cost_to, unreached};
+ghost use Rattle.partition_path.specs.Tables.{AreRoutes, AreTried, IsReached, IsSettled, StandCheap, cost_to, unreached};
 
 use crate::routes::Routes;
 use cost_windows::{Edge, bounds, bounds_follow_rule};
@@ -16,22 +17,23 @@ use std::sync::ledger::Ledger;
 use step_count::Steps;
 
 // The routes that are found from all places in order: from each place that costs less than the next, parts are tried whose
-// ends no known route reaches at nearly their cost.
+// ends no known route reaches at nearly their cost. What costs as many bits as are given, or more, is not looked for.
 pub(crate) fn routes_found<C: SpanCost, L: Ledger>(
     alloc: Global,
     cost: &C,
+    most: u64,
     steps: &mut Steps<L>,
 ) -> Result<Routes, NoMemory>
     ensures routes { IfOk result (λ t. AreRoutes (numbers_of (C.format_of cost.now)).limit
         (C.cost_of cost.now) (C.count cost.now) (C.count cost.now) t) }
-    ensures reached { IfOk result (λ t. IsReached t (C.count cost.now)) }
     ensures near { IfOk result (λ t. (others : List ℕ)
         → IsAllowed (numbers_of (C.format_of cost.now)).limit (C.cost_of cost.now)
         (C.count cost.now) others
-        → 100 * cost_to t (C.count cost.now) ≤ 103 * partition_cost (C.cost_of cost.now) others) }
+        → 100 * min most (cost_to t (C.count cost.now))
+        ≤ 103 * partition_cost (C.cost_of cost.now) others) }
     ensures counted { steps.old ≤ steps.new }
     ensures bounded { steps.new ≤ steps.old
-        + 2 * length (window_bounds (C.format_of cost.now)) * C.count cost.now }
+        + 2 * (length (window_bounds (C.format_of cost.now)) + 1) * C.count cost.now }
 {
     formats_have_room();
     bounds_follow_rule();
@@ -42,10 +44,11 @@ pub(crate) fn routes_found<C: SpanCost, L: Ledger>(
     let mut stands = vec![in alloc; 0; bounds(cost.format()).len()]?;
     for i in 0..count {
         if routes.cost(i) < routes.cost(i + 1) {
-            if routes.cost(count) <= routes.cost(i) + 2 * charge {
+            let least = routes.cost(count).min(most);
+            if least <= routes.cost(i) + 2 * charge {
                 try_rest(&mut routes, i, cost, steps);
             } else {
-                try_windows(&mut routes, i, &mut stands, cost, steps);
+                try_windows(&mut routes, i, least, &mut stands, cost, steps);
             }
         }
     }
@@ -54,11 +57,8 @@ pub(crate) fn routes_found<C: SpanCost, L: Ledger>(
 
 // Tries the part from place i to the last place, where it is allowed.
 fn try_rest<C: SpanCost, L: Ledger>(routes: &mut Routes, i: u64, cost: &C, steps: &mut Steps<L>)
-    requires within { i < C.count cost.now }
-    requires routes { AreRoutes (numbers_of (C.format_of cost.now)).limit (C.cost_of cost.now)
+    requires from { CanTry (numbers_of (C.format_of cost.now)).limit (C.cost_of cost.now)
         (C.count cost.now) i routes.old }
-    requires reached { IsReached routes.old i }
-    requires room { cost_to routes.old i + (numbers_of (C.format_of cost.now)).limit < unreached }
     ensures tried { AreTried (numbers_of (C.format_of cost.now)).limit (C.cost_of cost.now)
         (C.count cost.now) i routes.old routes.new }
     ensures offered { C.cost_of cost.now i (C.count cost.now)
@@ -73,11 +73,14 @@ fn try_rest<C: SpanCost, L: Ledger>(routes: &mut Routes, i: u64, cost: &C, steps
     }
 }
 
-// Tries parts from place i, so that each allowed one is answered. Of each window that is looked at it is known how far a route
+// Tries parts from place i, until each allowed one is settled. Of each window that is looked at it is known how far a route
 // leads that costs at most its bound more than the route to this place; those whose bound the next part is above are passed.
+// It ends where longer parts can begin at a later place, and where one more part behind them would cost as much as what is known
+// to be the least, or more: then the part to the last place is tried.
 fn try_windows<C: SpanCost, L: Ledger>(
     routes: &mut Routes,
     i: u64,
+    least: u64,
     stands: &mut Vec<u64>,
     cost: &C,
     steps: &mut Steps<L>,
@@ -89,21 +92,30 @@ fn try_windows<C: SpanCost, L: Ledger>(
     requires stands { StandCheap (window_bounds (C.format_of cost.now)) (C.count cost.now)
         (cost_to routes.old i) routes.old stands.old.items }
     requires room { cost_to routes.old i + (numbers_of (C.format_of cost.now)).limit < unreached }
+    requires least { cost_to routes.old i + 2 * part_charge (numbers_of (C.format_of cost.now))
+        < least }
     ensures tried { AreTried (numbers_of (C.format_of cost.now)).limit (C.cost_of cost.now)
         (C.count cost.now) i routes.old routes.new }
-    ensures answered { (e : ℕ) → i < e → e ≤ C.count cost.now
-        → IsAnswered (numbers_of (C.format_of cost.now)).limit (C.cost_of cost.now) i
-        (cost_to routes.old i) routes.new e }
+    ensures settled { (e : ℕ) → i < e → e ≤ C.count cost.now
+        → IsSettled (numbers_of (C.format_of cost.now)) (C.cost_of cost.now) (C.count cost.now)
+        least routes.new i e }
     ensures stands { StandCheap (window_bounds (C.format_of cost.now)) (C.count cost.now)
         (cost_to routes.old i) routes.new stands.new.items }
     ensures counted { steps.old ≤ steps.new }
-    // At most one cost for each place that a window moved on, and one for each window.
+    // At most one cost for each place that a window moved on, one for each window, and two.
     ensures bounded { steps.new + sum stands.old.items
-        ≤ steps.old + sum stands.new.items + length (window_bounds (C.format_of cost.now)) }
+        ≤ steps.old + sum stands.new.items + length (window_bounds (C.format_of cost.now)) + 2 }
 {
     bounds_cover();
     bounds_follow_rule();
+    let charge = cost.format().charge();
+    let here = routes.cost(i);
+    let far = routes.furthest(i, here + charge);
+    if i < far && is_cheap_way(routes.cost(far) - here, cost.cost(i, far, steps) - charge) {
+        return;
+    }
     let bounds = bounds(cost.format());
+    let spare = least - here - charge;
     let mut edge = Edge::at(i);
     let mut k = 0;
     while k < bounds.len() && edge.end < cost.len() {
@@ -114,8 +126,25 @@ fn try_windows<C: SpanCost, L: Ledger>(
         };
         edge = stretched(routes, i, window, cost, steps);
         stands[k] = edge.end;
+        if let Some(next) = edge.next {
+            if is_cheap_way(routes.cost(edge.end + 1) - here, next - charge) {
+                return;
+            }
+            if spare <= next {
+                try_rest(routes, i, cost, steps);
+                return;
+            }
+        }
         k = covering(bounds, k + 1, edge.next);
     }
+}
+
+// Whether a way to a place costs at most 103/100 of the payload of a part there, so that a part which goes on from the place can
+// stand for a longer one.
+fn is_cheap_way(way: u64, payload: u64) -> bool
+    ensures { IsTrue result → 100 * way ≤ 103 * payload }
+{
+    way <= payload.saturating_mul(103) / 100
 }
 
 // The first bound from k on that is no less than what the next part costs, where that is known.

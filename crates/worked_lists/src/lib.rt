@@ -2,8 +2,6 @@
 #![tactic(auto)]
 
 #[cfg(test)]
-mod choices;
-#[cfg(test)]
 mod greatest;
 #[cfg(test)]
 mod rows;

@@ -4,8 +4,7 @@ use Rattle.part_cost.specs.Payload.{payload}
 use Rattle.part_cost.specs.Span.{past, payload_of_part}
 use Rattle.part_cost.specs.StoredBits.{IsLeastStored, IsLeastStoredOfAll}
 use Rattle.part_cost.proofs.Parts.{past-at, rises}
-use Rattle.index_file.proofs.NearStored.{none-tested, some-tested}
-use Rattle.index_printing.proofs.FewestBits.{AreFewest, fewest-none, fewest-one, fewest-many}
+use Rattle.index_printing.proofs.FewestBits.{AreFewest, fewest-none, fewest-one, fewest-many, none-tested, some-tested}
 use Rattle.index_printing.proofs.audit.fewest_packed.Goals as goal
 use Rattle.index_printing.proofs.audit.fewest_packed.Goals.{After-payload_bits-whole}
 

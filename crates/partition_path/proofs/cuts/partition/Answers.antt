@@ -1,49 +1,25 @@
-use Rattle.std.proofs.Common.{◌≡◌, ◌^◌, ◌<◌, ◌≤◌, length, arith}
-use Rattle.std.proofs.lemmas.Grind.{common_steps}
+use Rattle.std.proofs.Common.{◌≡◌, refl, ◌≤◌, ◌<◌, ◌*◌, ◌-◌, ◌^◌, ℕ, length, arith}
+use Rattle.std.proofs.lemmas.Nat.{mul-le}
 use Rattle.part_cost.specs.Formats.{numbers_of}
-use Rattle.part_cost.specs.Partition.{partition_cost}
-use Rattle.partition_path.specs.Chains.{IsChain}
-use Rattle.partition_path.specs.Tables.{cost_to, unreached}
-use Rattle.partition_path.proofs.Traces.{to-last, linked, allowed, total}
+use Rattle.part_cost.specs.declared.formats.Format.{Format}
+use Rattle.part_cost.specs.declared.formats.Format.TheVariants.{One, Two, Three}
+use Rattle.partition_path.specs.Tables.{unreached}
+use Rattle.partition_path.proofs.Near.{singles}
 use Rattle.partition_path.proofs.Shifting.{few-parts, few-steps}
-use Rattle.partition_path.proofs.cuts.partition.Given as given
 use Rattle.partition_path.proofs.cuts.partition.Goals as goal
-use Rattle.partition_path.proofs.cuts.partition.Goals.{In_ok-ends}
 
--- the routes to the ends are a chain
-chain : (g : given.Over) (c : In_ok-ends g) → IsChain c.in_ok-routes.routes 0 (g.C.SpanCost.count c.args.cost.now) c.in_ok-ends.ends.items
-chain g c = to-last c.in_ok-routes.routes (length c.in_ok-routes.routes) (g.C.SpanCost.count c.args.cost.now) c.in_ok-ends.ends.items c.in_ok-routes.ensures.routes.places c.in_ok-ends.ensures
+-- no format allows parts of many bits
+limit-is-small : (format : Format) → (numbers_of format).limit ≤ 6144
+limit-is-small One = omega arith
+limit-is-small Two = omega arith
+limit-is-small Three = omega arith
 
--- whose parts cost no more than the last place
-most : (g : given.Over) (c : In_ok-ends g) → partition_cost (g.C.SpanCost.cost_of c.args.cost.now) c.in_ok-ends.ends.items ≤ cost_to c.in_ok-routes.routes (g.C.SpanCost.count c.args.cost.now)
-most g c = total (numbers_of (g.C.SpanCost.format_of c.args.cost.now)).limit (g.C.SpanCost.cost_of c.args.cost.now) (g.C.SpanCost.count c.args.cost.now) c.in_ok-routes.routes c.in_ok-routes.ensures.routes c.in_ok-routes.ensures.reached c.in_ok-ends.ends.items (chain g c)
-
-pub ends-requires-clause-linked : goal.ends-requires-clause-linked
-ends-requires-clause-linked g c = linked (numbers_of (g.C.SpanCost.format_of c.args.cost.now)).limit (g.C.SpanCost.cost_of c.args.cost.now) (g.C.SpanCost.count c.args.cost.now) c.in_ok-routes.routes c.in_ok-routes.ensures.routes c.in_ok-routes.ensures.reached
-
-pub shift_ends-requires : goal.shift_ends-requires
-shift_ends-requires g c =
-    allowed (numbers_of (g.C.SpanCost.format_of c.args.cost.now)).limit (g.C.SpanCost.cost_of c.args.cost.now) (g.C.SpanCost.count c.args.cost.now) c.in_ok-routes.routes c.in_ok-routes.ensures.routes c.in_ok-routes.ensures.reached c.in_ok-ends.ends.items (chain g (goal.at.shift_ends-requires g c).In_ok-ends)
-
-pub total_cost-total-requires-clause-room : goal.total_cost-total-requires-clause-room
-total_cost-total-requires-clause-room g c =
-    let small : cost_to c.in_ok-routes.routes (g.C.SpanCost.count c.args.cost.now) < unreached = c.in_ok-routes.ensures.reached in
-    let room : partition_cost (g.C.SpanCost.cost_of c.args.cost.now) c.shift_ends.new.ends.items < 2 ^ 64 = omega (arith, most g (goal.at.total_cost-total-requires-clause-room g c).In_ok-ends, small, c.shift_ends.ensures.cheaper) in
-    let same : c.deref.result.now ≡ c.shift_ends.new.ends.items = grind (arith, common_steps) in
-    rw same room
-
-pub returns-clause-near : goal.returns-clause-near
-returns-clause-near g c =
-    record {
-      allowed = c.shift_ends.ensures.allowed;
-      near = λ others a. omega (arith, c.in_ok-routes.ensures.near others a, most g (goal.at.returns-clause-near g c).In_ok-ends, c.shift_ends.ensures.cheaper);
-    }
-
-pub returns-clause-bounded : goal.returns-clause-bounded
-returns-clause-bounded g c =
+pub cuts_of-requires-clause-reached : goal.cuts_of-requires-clause-reached
+cuts_of-requires-clause-reached g c =
     let format = g.C.SpanCost.format_of c.args.cost.now in
     let n = g.C.SpanCost.count c.args.cost.now in
-    let shifted = c.shift_ends.ensures in
-    let few = few-parts (numbers_of format).limit (g.C.SpanCost.cost_of c.args.cost.now) n 0 c.shift_ends.new.ends.items shifted.allowed.partition in
-    few-steps format n (length c.shift_ends.new.ends.items) c.args.steps.now c.total_cost-total.new.steps (omega (arith, few))
-    (omega (arith, c.cost_as_one_part.ensures.bounded, c.in_ok-routes.ensures, c.routes_found.ensures.bounded, shifted.bounded, shifted.count, c.total_cost-total.ensures.counted))
+    let few = g.met.C.SpanCost.few c.args.cost.now in
+    let one = singles (numbers_of format).limit (g.C.SpanCost.cost_of c.args.cost.now) n (g.met.C.SpanCost.one_within_limit c.args.cost.now) n 0 (omega arith) in
+    let near = c.in_ok-routes.ensures.near one.0 (record { partition = one.1; within = one.2 }) in
+    let most = mul-le (numbers_of format).limit n 6144 (2 ^ 32 - 1) (limit-is-small format) (omega (arith, few)) in
+    omega (arith, near, one.3, most)

@@ -8,7 +8,7 @@ use Rattle.partition_path.proofs.search.try_windows.Given as goal
 abbrev pub invariant-loop-k : goal.invariant-loop-k
 invariant-loop-k g l =
     Windowed (numbers_of (g.C.SpanCost.format_of l.cost)).limit (g.C.SpanCost.cost_of l.cost) (window_bounds (g.C.SpanCost.format_of l.cost)) (g.C.SpanCost.count l.cost) l.i l.fn.routes l.routes l.k l.edge l.stands.items
-    × (l.steps + sum l.fn.stands.items ≤ l.fn.steps + sum l.stands.items + l.k)
+    × (l.steps + sum l.fn.stands.items ≤ l.fn.steps + sum l.stands.items + l.k + 1)
     × (l.k ≤ length l.bounds)
     × (l.bounds ≡ window_bounds (g.C.SpanCost.format_of l.cost))
     × (l.fn.steps ≤ l.steps)

@@ -1,14 +1,12 @@
-use Rattle.std.proofs.Common.{◌≡◌, ◌∙◌, ◌<◌, sym, ap, subst, arith}
+use Rattle.std.proofs.Common.{◌≡◌, ◌∙◌, ◌<◌, ◌⊎◌, List, ℕ, sym, ap, subst, arith}
 use Rattle.std.proofs.lemmas.Result.{on_ok_weaker, on_err_weaker}
 use Rattle.collection_model.specs.FormatNumbers.{Plain, Packed, format_three, most_terms, part_charge}
 use Rattle.collection_model.specs.Collection.{postings_of, IsPostingList}
-use Rattle.collection_model.specs.Sequences.{doc_sequence, freq_sequence}
+use Rattle.collection_model.specs.Sequences.{doc_sequence}
 use Rattle.part_cost.specs.Formats.{numbers_of}
 use Rattle.part_cost.specs.Span.{cost_of_part}
 use Rattle.part_cost.specs.Partition.{partition_cost}
-use Rattle.index_file.specs.CutLists.{CutList}
-use Rattle.index_file.specs.Builder.{IsNearCut, AreCutsNear, IsBuilder, cut_list, with_list, lists_added, lists_in, half_in, built_of}
-use Rattle.index_file.proofs.NearStored.{near-plain}
+use Rattle.index_file.specs.Builder.{IsNearCut, IsBuilder, cut_list, with_list, lists_added, lists_in, half_in, built_of}
 use Rattle.index_file.proofs.AddedBoth.{either-way, plain-takes, packed-takes, plain-builder-after, packed-builder-after}
 use Rattle.index_file.proofs.builder.Builder.append.Goals as goal
 
@@ -27,9 +25,9 @@ append-requires-clause-room c =
 pub append-requires-clause-near : goal.append-requires-clause-near
 append-requires-clause-near c =
     let cut = cut_list c.args.docs.now c.args.freqs.now c.args.doc_cuts.now.ends c.args.freq_cuts.now.ends in
-    let h : AreCutsNear (numbers_of c.self.inside.format) (cut_list c.args.docs.now c.args.freqs.now c.args.doc_cuts.now.ends c.args.freq_cuts.now.ends) = subst (λ b. AreCutsNear (numbers_of b.format) cut) (sym c.self.view_is) c.requires.near in
+    let h : IsNearCut (numbers_of c.self.inside.format) (cut_list c.args.docs.now c.args.freqs.now c.args.doc_cuts.now.ends c.args.freq_cuts.now.ends) = subst (λ b. IsNearCut (numbers_of b.format) cut) (sym c.self.view_is) c.requires.near in
     subst (λ f. IsNearCut (numbers_of f) cut) (sym c.self.invariant.plain_format)
-    (near-plain c.near_is_near_stored.ensures.plain (numbers_of c.self.inside.format) (ap (λ f. (numbers_of f).kind) c.in-One.is) cut h)
+    h
 
 pub append-requires-clause-total : goal.append-requires-clause-total
 append-requires-clause-total c =
@@ -46,8 +44,8 @@ invariant_of-self c =
     let cut = cut_list c.args.docs.now c.args.freqs.now c.args.doc_cuts.now.ends c.args.freq_cuts.now.ends in
     let kind : (numbers_of c.self.inside.format).kind ≡ Plain = ap (λ f. (numbers_of f).kind) c.in-One.is in
     let good : IsPostingList (numbers_of c.self.inside.format) c.self.inside.plain.documents (postings_of c.args.docs.now c.args.freqs.now) = subst (λ b. IsPostingList (numbers_of b.format) b.documents list) (sym c.self.view_is) c.requires.list in
-    let h : AreCutsNear (numbers_of c.self.inside.format) (cut_list c.args.docs.now c.args.freqs.now c.args.doc_cuts.now.ends c.args.freq_cuts.now.ends) = subst (λ b. AreCutsNear (numbers_of b.format) cut) (sym c.self.view_is) c.requires.near in
-    plain-builder-after s.format s.plain s.packed c.append.new.self cut kind c.self.invariant good (near-plain c.near_is_near_stored.ensures.plain (numbers_of s.format) kind cut h)
+    let h : IsNearCut (numbers_of c.self.inside.format) (cut_list c.args.docs.now c.args.freqs.now c.args.doc_cuts.now.ends c.args.freq_cuts.now.ends) = subst (λ b. IsNearCut (numbers_of b.format) cut) (sym c.self.view_is) c.requires.near in
+    plain-builder-after s.format s.plain s.packed c.append.new.self cut kind c.self.invariant good h
     (either-way c.append.result c.append.ensures.ok c.append.ensures.err)
 
 pub returns-in-One-clause-ok : goal.returns-in-One-clause-ok
@@ -55,11 +53,7 @@ returns-in-One-clause-ok c =
     let s = c.self.inside in
     let cut = cut_list c.args.docs.now c.args.freqs.now c.args.doc_cuts.now.ends c.args.freq_cuts.now.ends in
     let kind : (numbers_of c.self.inside.format).kind ≡ Plain = ap (λ f. (numbers_of f).kind) c.in-One.is in
-    let h : AreCutsNear (numbers_of c.self.inside.format) (cut_list c.args.docs.now c.args.freqs.now c.args.doc_cuts.now.ends c.args.freq_cuts.now.ends) = subst (λ b. AreCutsNear (numbers_of b.format) cut) (sym c.self.view_is) c.requires.near in
-    let near : IsNearCut (numbers_of c.args.self.now.format) (cut_list c.args.docs.now c.args.freqs.now c.args.doc_cuts.now.ends c.args.freq_cuts.now.ends) =
-    subst (λ b. IsNearCut (numbers_of b.format) cut) c.self.view_is (near-plain c.near_is_near_stored.ensures.plain (numbers_of s.format) kind cut h) in
-    on_ok_weaker c.append.result
-    (λ taken. (cut.parts, near, omega arith, omega arith, plain-takes s.format kind s.plain s.packed c.append.new.self cut c.self.invariant.plain_format taken ∙ ap (λ b. with_list b cut) c.self.view_is)) c.append.ensures.ok
+    on_ok_weaker c.append.result (λ taken. plain-takes s.format kind s.plain s.packed c.append.new.self cut c.self.invariant.plain_format taken ∙ ap (λ b. with_list b cut) c.self.view_is) c.append.ensures.ok
 
 pub returns-in-One-clause-err : goal.returns-in-One-clause-err
 returns-in-One-clause-err c = on_err_weaker c.append.result (λ h. ap (λ x. built_of c.self.inside.format x c.self.inside.packed) h ∙ c.self.view_is) c.append.ensures.err
@@ -79,9 +73,9 @@ append-requires-in-Two-clause-room c =
 pub append-requires-in-Two-clause-near : goal.append-requires-in-Two-clause-near
 append-requires-in-Two-clause-near c =
     let cut = cut_list c.args.docs.now c.args.freqs.now c.args.doc_cuts.now.ends c.args.freq_cuts.now.ends in
-    let h : AreCutsNear (numbers_of c.self.inside.format) (cut_list c.args.docs.now c.args.freqs.now c.args.doc_cuts.now.ends c.args.freq_cuts.now.ends) = subst (λ b. AreCutsNear (numbers_of b.format) cut) (sym c.self.view_is) c.requires.near in
+    let h : IsNearCut (numbers_of c.self.inside.format) (cut_list c.args.docs.now c.args.freqs.now c.args.doc_cuts.now.ends c.args.freq_cuts.now.ends) = subst (λ b. IsNearCut (numbers_of b.format) cut) (sym c.self.view_is) c.requires.near in
     subst (λ f. IsNearCut (numbers_of f) cut) (sym c.self.invariant.plain_format)
-    (near-plain c.near_is_near_stored.ensures.plain (numbers_of c.self.inside.format) (ap (λ f. (numbers_of f).kind) c.in-Two.is) cut h)
+    h
 
 pub append-requires-in-Two-clause-total : goal.append-requires-in-Two-clause-total
 append-requires-in-Two-clause-total c =
@@ -98,8 +92,8 @@ invariant_of-self-in-Two c =
     let cut = cut_list c.args.docs.now c.args.freqs.now c.args.doc_cuts.now.ends c.args.freq_cuts.now.ends in
     let kind : (numbers_of c.self.inside.format).kind ≡ Plain = ap (λ f. (numbers_of f).kind) c.in-Two.is in
     let good : IsPostingList (numbers_of c.self.inside.format) c.self.inside.plain.documents (postings_of c.args.docs.now c.args.freqs.now) = subst (λ b. IsPostingList (numbers_of b.format) b.documents list) (sym c.self.view_is) c.requires.list in
-    let h : AreCutsNear (numbers_of c.self.inside.format) (cut_list c.args.docs.now c.args.freqs.now c.args.doc_cuts.now.ends c.args.freq_cuts.now.ends) = subst (λ b. AreCutsNear (numbers_of b.format) cut) (sym c.self.view_is) c.requires.near in
-    plain-builder-after s.format s.plain s.packed c.append-in-Two.new.self cut kind c.self.invariant good (near-plain c.near_is_near_stored.ensures.plain (numbers_of s.format) kind cut h)
+    let h : IsNearCut (numbers_of c.self.inside.format) (cut_list c.args.docs.now c.args.freqs.now c.args.doc_cuts.now.ends c.args.freq_cuts.now.ends) = subst (λ b. IsNearCut (numbers_of b.format) cut) (sym c.self.view_is) c.requires.near in
+    plain-builder-after s.format s.plain s.packed c.append-in-Two.new.self cut kind c.self.invariant good h
     (either-way c.append-in-Two.result c.append-in-Two.ensures.ok c.append-in-Two.ensures.err)
 
 pub returns-in-Two-clause-ok : goal.returns-in-Two-clause-ok
@@ -107,11 +101,7 @@ returns-in-Two-clause-ok c =
     let s = c.self.inside in
     let cut = cut_list c.args.docs.now c.args.freqs.now c.args.doc_cuts.now.ends c.args.freq_cuts.now.ends in
     let kind : (numbers_of c.self.inside.format).kind ≡ Plain = ap (λ f. (numbers_of f).kind) c.in-Two.is in
-    let h : AreCutsNear (numbers_of c.self.inside.format) (cut_list c.args.docs.now c.args.freqs.now c.args.doc_cuts.now.ends c.args.freq_cuts.now.ends) = subst (λ b. AreCutsNear (numbers_of b.format) cut) (sym c.self.view_is) c.requires.near in
-    let near : IsNearCut (numbers_of c.args.self.now.format) (cut_list c.args.docs.now c.args.freqs.now c.args.doc_cuts.now.ends c.args.freq_cuts.now.ends) =
-    subst (λ b. IsNearCut (numbers_of b.format) cut) c.self.view_is (near-plain c.near_is_near_stored.ensures.plain (numbers_of s.format) kind cut h) in
-    on_ok_weaker c.append-in-Two.result
-    (λ taken. (cut.parts, near, omega arith, omega arith, plain-takes s.format kind s.plain s.packed c.append-in-Two.new.self cut c.self.invariant.plain_format taken ∙ ap (λ b. with_list b cut) c.self.view_is)) c.append-in-Two.ensures.ok
+    on_ok_weaker c.append-in-Two.result (λ taken. plain-takes s.format kind s.plain s.packed c.append-in-Two.new.self cut c.self.invariant.plain_format taken ∙ ap (λ b. with_list b cut) c.self.view_is) c.append-in-Two.ensures.ok
 
 pub returns-in-Two-clause-err : goal.returns-in-Two-clause-err
 returns-in-Two-clause-err c = on_err_weaker c.append-in-Two.result (λ h. ap (λ x. built_of c.self.inside.format x c.self.inside.packed) h ∙ c.self.view_is) c.append-in-Two.ensures.err
@@ -129,52 +119,37 @@ append-requires-in-Three-clause-room c =
     let k : lists_in Packed (half_in Packed c.self.inside.plain c.self.inside.packed).directory < most_terms = subst (λ k. lists_in k (half_in k s.plain s.packed).directory < most_terms) (ap (λ f. (numbers_of f).kind) c.in-Three.is) h in
     omega (arith, k)
 
+-- the list in the parts that the packed half is given
+ends-are : (docs freqs : List ℕ) (a b x y : List ℕ) → a ≡ x → b ≡ y → cut_list docs freqs a b ≡ cut_list docs freqs x y
+ends-are docs freqs a b x y e f = (λ t. cut_list docs freqs (e t) (f t))
+
 pub append-requires-in-Three-clause-near : goal.append-requires-in-Three-clause-near
 append-requires-in-Three-clause-near c =
     let cut = cut_list c.args.docs.now c.args.freqs.now c.args.doc_cuts.now.ends c.args.freq_cuts.now.ends in
-    let h : AreCutsNear (numbers_of c.self.inside.format) (cut_list c.args.docs.now c.args.freqs.now c.args.doc_cuts.now.ends c.args.freq_cuts.now.ends) = subst (λ b. AreCutsNear (numbers_of b.format) cut) (sym c.self.view_is) c.requires.near in
-    subst (λ f. AreCutsNear (numbers_of f) cut) c.in-Three.is h
-
-pub append-requires-in-Three-clause-total : goal.append-requires-in-Three-clause-total
-append-requires-in-Three-clause-total c =
-    let list = postings_of c.args.docs.now c.args.freqs.now in
-    let ends = c.args.doc_cuts.now.ends in
-    let h : c.args.doc_cuts.now.total ≡ partition_cost (cost_of_part (part_charge (numbers_of c.self.inside.format)) (doc_sequence (postings_of c.args.docs.now c.args.freqs.now))) c.args.doc_cuts.now.ends =
-    subst (λ b. c.args.doc_cuts.now.total ≡ partition_cost (cost_of_part (part_charge (numbers_of b.format)) (doc_sequence list)) ends) (sym c.self.view_is) c.requires.total in
-    subst (λ f. c.args.doc_cuts.now.total ≡ partition_cost (cost_of_part (part_charge (numbers_of f)) (doc_sequence list)) ends) c.in-Three.is h
-
-pub append-requires-in-Three-clause-freq_total : goal.append-requires-in-Three-clause-freq_total
-append-requires-in-Three-clause-freq_total c =
-    let list = postings_of c.args.docs.now c.args.freqs.now in
-    let ends = c.args.freq_cuts.now.ends in
-    let h : c.args.freq_cuts.now.total ≡ partition_cost (cost_of_part (part_charge (numbers_of c.self.inside.format)) (freq_sequence (postings_of c.args.docs.now c.args.freqs.now))) c.args.freq_cuts.now.ends =
-    subst (λ b. c.args.freq_cuts.now.total ≡ partition_cost (cost_of_part (part_charge (numbers_of b.format)) (freq_sequence list)) ends) (sym c.self.view_is) c.requires.freq_total in
-    subst (λ f. c.args.freq_cuts.now.total ≡ partition_cost (cost_of_part (part_charge (numbers_of f)) (freq_sequence list)) ends) c.in-Three.is h
+    let h : IsNearCut (numbers_of c.self.inside.format) (cut_list c.args.docs.now c.args.freqs.now c.args.doc_cuts.now.ends c.args.freq_cuts.now.ends) = subst (λ b. IsNearCut (numbers_of b.format) cut) (sym c.self.view_is) c.requires.near in
+    subst (IsNearCut format_three) (sym (ends-are c.args.docs.now c.args.freqs.now c.ends.result.now c.ends-in-Three.result.now c.args.doc_cuts.now.ends c.args.freq_cuts.now.ends c.ends.ensures c.ends-in-Three.ensures)) (subst (λ f. IsNearCut (numbers_of f) cut) c.in-Three.is h)
 
 pub invariant_of-self-in-Three : goal.invariant_of-self-in-Three
 invariant_of-self-in-Three c =
     let s = c.self.inside in
     let list = postings_of c.args.docs.now c.args.freqs.now in
+    let cut = cut_list c.args.docs.now c.args.freqs.now c.args.doc_cuts.now.ends c.args.freq_cuts.now.ends in
     let good : IsPostingList (numbers_of c.self.inside.format) c.self.inside.plain.documents (postings_of c.args.docs.now c.args.freqs.now) = subst (λ b. IsPostingList (numbers_of b.format) b.documents list) (sym c.self.view_is) c.requires.list in
+    let h : IsNearCut (numbers_of c.self.inside.format) (cut_list c.args.docs.now c.args.freqs.now c.args.doc_cuts.now.ends c.args.freq_cuts.now.ends) = subst (λ b. IsNearCut (numbers_of b.format) cut) (sym c.self.view_is) c.requires.near in
+    let same = ends-are c.args.docs.now c.args.freqs.now c.ends.result.now c.ends-in-Three.result.now c.args.doc_cuts.now.ends c.args.freq_cuts.now.ends c.ends.ensures c.ends-in-Three.ensures in
     subst (λ f. IsBuilder f s.plain c.append-in-Three.new.self) (sym c.in-Three.is)
-    (packed-builder-after s.plain s.packed c.append-in-Three.new.self list c.args.doc_cuts.now.ends c.args.freq_cuts.now.ends (subst (λ f. IsBuilder f s.plain s.packed) c.in-Three.is c.self.invariant)
-    (subst (λ f. IsPostingList (numbers_of f) s.plain.documents list) c.in-Three.is good) (either-way c.append-in-Three.result c.append-in-Three.ensures.ok c.append-in-Three.ensures.err))
+    (packed-builder-after s.plain s.packed c.append-in-Three.new.self cut (subst (λ f. IsBuilder f s.plain s.packed) c.in-Three.is c.self.invariant)
+    (subst (λ f. IsPostingList (numbers_of f) s.plain.documents list) c.in-Three.is good) (subst (λ f. IsNearCut (numbers_of f) cut) c.in-Three.is h)
+    (subst (λ x. (c.append-in-Three.new.self ≡ with_list s.packed x) ⊎ (c.append-in-Three.new.self ≡ s.packed)) same (either-way c.append-in-Three.result c.append-in-Three.ensures.ok c.append-in-Three.ensures.err)))
 
 pub returns-in-Three-clause-ok : goal.returns-in-Three-clause-ok
 returns-in-Three-clause-ok c =
     let s = c.self.inside in
-    let list = postings_of c.args.docs.now c.args.freqs.now in
-    on_ok_weaker c.append-in-Three.result (λ a.
-    (let cut : CutList = record { list = list; parts = a.0 } in
-    let here : IsNearCut (numbers_of s.format) cut = subst (λ f. IsNearCut (numbers_of f) cut) (c.self.invariant.packed_format ∙ sym c.in-Three.is) a.1 in
-    let near : IsNearCut (numbers_of c.args.self.now.format) cut = subst (λ b. IsNearCut (numbers_of b.format) cut) c.self.view_is here in (
-      a.0,
-      near,
-      a.2,
-      a.3,
-      ap (λ f. built_of f s.plain c.append-in-Three.new.self) c.in-Three.is ∙ packed-takes s.plain s.packed c.append-in-Three.new.self cut c.self.invariant.packed_format c.self.invariant.same_documents a.4
-          ∙ ap (λ f. with_list (built_of f s.plain s.packed) cut) (sym c.in-Three.is) ∙ ap (λ b. with_list b cut) c.self.view_is,
-    ))) c.append-in-Three.ensures.ok
+    let cut = cut_list c.args.docs.now c.args.freqs.now c.args.doc_cuts.now.ends c.args.freq_cuts.now.ends in
+    let same = ends-are c.args.docs.now c.args.freqs.now c.ends.result.now c.ends-in-Three.result.now c.args.doc_cuts.now.ends c.args.freq_cuts.now.ends c.ends.ensures c.ends-in-Three.ensures in
+    on_ok_weaker c.append-in-Three.result (λ taken.
+    ap (λ f. built_of f s.plain c.append-in-Three.new.self) c.in-Three.is ∙ packed-takes s.plain s.packed c.append-in-Three.new.self cut c.self.invariant.packed_format c.self.invariant.same_documents (taken ∙ ap (λ x. with_list s.packed x) same)
+    ∙ ap (λ f. with_list (built_of f s.plain s.packed) cut) (sym c.in-Three.is) ∙ ap (λ b. with_list b cut) c.self.view_is) c.append-in-Three.ensures.ok
 
 pub returns-in-Three-clause-err : goal.returns-in-Three-clause-err
 returns-in-Three-clause-err c = on_err_weaker c.append-in-Three.result (λ h. ap (λ x. built_of c.self.inside.format c.self.inside.plain x) h ∙ c.self.view_is) c.append-in-Three.ensures.err

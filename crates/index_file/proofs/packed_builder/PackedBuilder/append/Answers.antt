@@ -11,95 +11,20 @@ use Rattle.part_cost.specs.Partition.{IsPartition, partition_cost}
 use Rattle.part_cost.specs.StoredBits.{IsNearStored}
 use Rattle.packed_list.specs.ListBits.{list_bits, IsCutInto}
 use Rattle.index_file.specs.CutLists.{CutList}
-use Rattle.index_file.specs.Builder.{IsNearCut, IsPackedKept, with_list, packed_built}
+use Rattle.index_file.specs.Builder.{IsNearCut, IsPackedKept, cut_list, with_list, packed_built}
 use Rattle.index_file.proofs.Added.{postings-are}
-use Rattle.index_file.proofs.NearStored.{cut-partition, cut-as}
+use Rattle.index_file.proofs.NearStored.{docs-partition, freqs-partition}
 use Rattle.index_file.proofs.AddedBoth.{on-refused}
 use Rattle.index_file.proofs.PackedBuilt.{PackedKeeps, packed-keeps, packed-holds, cut-back}
 use Rattle.index_file.proofs.packed_builder.PackedBuilder.append.Goals as goal
 
-pub stored_ends-doc_ends-requires-clause-rising : goal.stored_ends-doc_ends-requires-clause-rising
-stored_ends-doc_ends-requires-clause-rising c =
-    let s = c.self.inside in
-    let list = postings_of c.args.docs.now c.args.freqs.now in
-    let are = postings-are format_three c.args.self.now.documents c.args.docs.now c.args.freqs.now c.requires.same_length c.requires.list in
-    let good : IsPostingList format_three c.self.inside.documents (postings_of c.args.docs.now c.args.freqs.now) = subst (λ b. IsPostingList format_three b.documents list) (sym c.self.view_is) c.requires.list in
-    let r = c.sequences_of_a_list_rise.ensures format_three s.documents list good in
-    subst IsStrictlyIncreasing are.docs_are r.docs_rise
-
-pub stored_ends-doc_ends-requires-clause-below : goal.stored_ends-doc_ends-requires-clause-below
-stored_ends-doc_ends-requires-clause-below c =
-    let s = c.self.inside in
-    let list = postings_of c.args.docs.now c.args.freqs.now in
-    let are = postings-are format_three c.args.self.now.documents c.args.docs.now c.args.freqs.now c.requires.same_length c.requires.list in
-    let good : IsPostingList format_three c.self.inside.documents (postings_of c.args.docs.now c.args.freqs.now) = subst (λ b. IsPostingList format_three b.documents list) (sym c.self.view_is) c.requires.list in
-    let r = c.sequences_of_a_list_rise.ensures format_three s.documents list good in
-    subst (All (λ x. x < format_three.most_sum)) are.docs_are
-    (All-weaker (λ x. x < s.documents) (λ x. x < format_three.most_sum) (λ x l. omega (arith, l, c.self.invariant.documents)) (doc_sequence list) r.docs_below)
-
-pub stored_ends-doc_ends-requires-clause-near : goal.stored_ends-doc_ends-requires-clause-near
-stored_ends-doc_ends-requires-clause-near c =
-    let s = c.self.inside in
-    let list = postings_of c.args.docs.now c.args.freqs.now in
-    let are = postings-are format_three c.args.self.now.documents c.args.docs.now c.args.freqs.now c.requires.same_length c.requires.list in
-    let good : IsPostingList format_three c.self.inside.documents (postings_of c.args.docs.now c.args.freqs.now) = subst (λ b. IsPostingList format_three b.documents list) (sym c.self.view_is) c.requires.list in
-    let r = c.sequences_of_a_list_rise.ensures format_three s.documents list good in
-    cut-as format_three (doc_sequence list) c.args.docs.now c.args.doc_cuts.now.ends are.docs_are c.requires.near.docs
-
-pub stored_ends-doc_ends-requires-clause-total : goal.stored_ends-doc_ends-requires-clause-total
-stored_ends-doc_ends-requires-clause-total c =
-    let s = c.self.inside in
-    let list = postings_of c.args.docs.now c.args.freqs.now in
-    let are = postings-are format_three c.args.self.now.documents c.args.docs.now c.args.freqs.now c.requires.same_length c.requires.list in
-    let good : IsPostingList format_three c.self.inside.documents (postings_of c.args.docs.now c.args.freqs.now) = subst (λ b. IsPostingList format_three b.documents list) (sym c.self.view_is) c.requires.list in
-    let r = c.sequences_of_a_list_rise.ensures format_three s.documents list good in
-    c.requires.total ∙ ap (λ xs. partition_cost (cost_of_part (part_charge format_three) xs) c.args.doc_cuts.now.ends) are.docs_are
-
-pub stored_ends-sum_ends-requires-clause-rising : goal.stored_ends-sum_ends-requires-clause-rising
-stored_ends-sum_ends-requires-clause-rising c =
-    let s = c.self.inside in
-    let list = postings_of c.args.docs.now c.args.freqs.now in
-    let are = postings-are format_three c.args.self.now.documents c.args.docs.now c.args.freqs.now c.requires.same_length c.requires.list in
-    let good : IsPostingList format_three c.self.inside.documents (postings_of c.args.docs.now c.args.freqs.now) = subst (λ b. IsPostingList format_three b.documents list) (sym c.self.view_is) c.requires.list in
-    let r = c.sequences_of_a_list_rise.ensures format_three s.documents list good in
-    subst IsStrictlyIncreasing (sym c.requires.sums) r.sums_rise
-
-pub stored_ends-sum_ends-requires-clause-below : goal.stored_ends-sum_ends-requires-clause-below
-stored_ends-sum_ends-requires-clause-below c =
-    let s = c.self.inside in
-    let list = postings_of c.args.docs.now c.args.freqs.now in
-    let are = postings-are format_three c.args.self.now.documents c.args.docs.now c.args.freqs.now c.requires.same_length c.requires.list in
-    let good : IsPostingList format_three c.self.inside.documents (postings_of c.args.docs.now c.args.freqs.now) = subst (λ b. IsPostingList format_three b.documents list) (sym c.self.view_is) c.requires.list in
-    let r = c.sequences_of_a_list_rise.ensures format_three s.documents list good in
-    subst (All (λ x. x < format_three.most_sum)) (sym c.requires.sums) r.sums_below
-
-pub stored_ends-sum_ends-requires-clause-whole : goal.stored_ends-sum_ends-requires-clause-whole
-stored_ends-sum_ends-requires-clause-whole c =
-    let s = c.self.inside in
-    let list = postings_of c.args.docs.now c.args.freqs.now in
-    let are = postings-are format_three c.args.self.now.documents c.args.docs.now c.args.freqs.now c.requires.same_length c.requires.list in
-    let good : IsPostingList format_three c.self.inside.documents (postings_of c.args.docs.now c.args.freqs.now) = subst (λ b. IsPostingList format_three b.documents list) (sym c.self.view_is) c.requires.list in
-    let r = c.sequences_of_a_list_rise.ensures format_three s.documents list good in
-    let count : length c.args.docs.now ≡ length c.args.sums.now = omega (arith, ap length c.requires.sums, r.sums_count, are.count) in
-    ap (λ k. k ∷ []) count
-
-pub stored_ends-sum_ends-requires-clause-near : goal.stored_ends-sum_ends-requires-clause-near
-stored_ends-sum_ends-requires-clause-near c =
-    let s = c.self.inside in
-    let list = postings_of c.args.docs.now c.args.freqs.now in
-    let are = postings-are format_three c.args.self.now.documents c.args.docs.now c.args.freqs.now c.requires.same_length c.requires.list in
-    let good : IsPostingList format_three c.self.inside.documents (postings_of c.args.docs.now c.args.freqs.now) = subst (λ b. IsPostingList format_three b.documents list) (sym c.self.view_is) c.requires.list in
-    let r = c.sequences_of_a_list_rise.ensures format_three s.documents list good in
-    cut-as format_three (freq_sequence list) c.args.sums.now c.args.freq_cuts.now.ends (sym c.requires.sums) c.requires.near.freqs
-
-pub stored_ends-sum_ends-requires-clause-total : goal.stored_ends-sum_ends-requires-clause-total
-stored_ends-sum_ends-requires-clause-total c =
-    let s = c.self.inside in
-    let list = postings_of c.args.docs.now c.args.freqs.now in
-    let are = postings-are format_three c.args.self.now.documents c.args.docs.now c.args.freqs.now c.requires.same_length c.requires.list in
-    let good : IsPostingList format_three c.self.inside.documents (postings_of c.args.docs.now c.args.freqs.now) = subst (λ b. IsPostingList format_three b.documents list) (sym c.self.view_is) c.requires.list in
-    let r = c.sequences_of_a_list_rise.ensures format_three s.documents list good in
-    c.requires.freq_total ∙ ap (λ xs. partition_cost (cost_of_part (part_charge format_three) xs) c.args.freq_cuts.now.ends) (sym c.requires.sums)
+-- the list is cut into parts
+cut-into : (n : ℕ) (docs freqs doc_ends sum_ends : List ℕ) → IsPostingList format_three n (postings_of docs freqs) → IsNearCut format_three (cut_list docs freqs doc_ends sum_ends) → IsCutInto n (postings_of docs freqs) doc_ends sum_ends
+cut-into n docs freqs doc_ends sum_ends good near = record {
+  well_formed = good;
+  docs = docs-partition format_three (cut_list docs freqs doc_ends sum_ends) near;
+  freqs = freqs-partition format_three (cut_list docs freqs doc_ends sum_ends) near;
+}
 
 pub write_list-requires-clause-list : goal.write_list-requires-clause-list
 write_list-requires-clause-list c =
@@ -107,17 +32,12 @@ write_list-requires-clause-list c =
     let list = postings_of c.args.docs.now c.args.freqs.now in
     let are = postings-are format_three c.args.self.now.documents c.args.docs.now c.args.freqs.now c.requires.same_length c.requires.list in
     let good : IsPostingList format_three c.self.inside.documents (postings_of c.args.docs.now c.args.freqs.now) = subst (λ b. IsPostingList format_three b.documents list) (sym c.self.view_is) c.requires.list in
-    let r = c.sequences_of_a_list_rise.ensures format_three s.documents list good in
-    let cut : IsCutInto c.self.inside.documents (postings_of c.args.docs.now c.args.freqs.now) c.stored_ends-doc_ends.result.now c.stored_ends-sum_ends.result.now = record {
-      well_formed = good;
-      docs = subst (λ m. IsPartition m c.stored_ends-doc_ends.result.now) (sym are.count) (cut-partition format_three c.args.docs.now c.stored_ends-doc_ends.result.now c.stored_ends-doc_ends.ensures.near);
-      freqs = subst (λ m. IsPartition m c.stored_ends-sum_ends.result.now) (ap length c.requires.sums ∙ r.sums_count) (cut-partition format_three c.args.sums.now c.stored_ends-sum_ends.result.now c.stored_ends-sum_ends.ensures.near);
-    } in
+    let cut = cut-into s.documents c.args.docs.now c.args.freqs.now c.args.doc_ends.now c.args.sum_ends.now good c.requires.near in
     (list, record { cut = cut; of_docs = sym are.docs_are; of_sums = c.requires.sums; most = c.greatest_freq.ensures ∙ ap greatest (sym are.freqs_are) })
 
 pub write_list-requires-clause-room : goal.write_list-requires-clause-room
 write_list-requires-clause-room c postings parts =
-    omega (arith, c.lists_are_short.ensures c.self.inside.documents (length c.self.inside.bits) postings c.stored_ends-doc_ends.result.now c.stored_ends-sum_ends.result.now c.self.invariant.documents parts.cut, c.self.invariant.small)
+    omega (arith, c.lists_are_short.ensures c.self.inside.documents (length c.self.inside.bits) postings c.args.doc_ends.now c.args.sum_ends.now c.self.invariant.documents parts.cut, c.self.invariant.small)
 
 pub invariant_of-self : goal.invariant_of-self
 invariant_of-self c = subst (λ b. IsPackedKept c.self.inside.documents b c.self.inside.starts.items) (sym c.in_err-write_list.ensures.err) c.self.invariant
@@ -139,15 +59,10 @@ overflow_sub-next c =
     let list = postings_of c.args.docs.now c.args.freqs.now in
     let are = postings-are format_three c.args.self.now.documents c.args.docs.now c.args.freqs.now c.requires.same_length c.requires.list in
     let good : IsPostingList format_three c.self.inside.documents (postings_of c.args.docs.now c.args.freqs.now) = subst (λ b. IsPostingList format_three b.documents list) (sym c.self.view_is) c.requires.list in
-    let r = c.sequences_of_a_list_rise.ensures format_three s.documents list good in
-    let cut : IsCutInto c.self.inside.documents (postings_of c.args.docs.now c.args.freqs.now) c.stored_ends-doc_ends.result.now c.stored_ends-sum_ends.result.now = record {
-      well_formed = good;
-      docs = subst (λ m. IsPartition m c.stored_ends-doc_ends.result.now) (sym are.count) (cut-partition format_three c.args.docs.now c.stored_ends-doc_ends.result.now c.stored_ends-doc_ends.ensures.near);
-      freqs = subst (λ m. IsPartition m c.stored_ends-sum_ends.result.now) (ap length c.requires.sums ∙ r.sums_count) (cut-partition format_three c.args.sums.now c.stored_ends-sum_ends.result.now c.stored_ends-sum_ends.ensures.near);
-    } in
-    let written : c.write_list.new.to ≡ c.self.inside.bits ++ list_bits c.self.inside.documents (length c.self.inside.bits) (postings_of c.args.docs.now c.args.freqs.now) c.stored_ends-doc_ends.result.now c.stored_ends-sum_ends.result.now =
+    let cut = cut-into s.documents c.args.docs.now c.args.freqs.now c.args.doc_ends.now c.args.sum_ends.now good c.requires.near in
+    let written : c.write_list.new.to ≡ c.self.inside.bits ++ list_bits c.self.inside.documents (length c.self.inside.bits) (postings_of c.args.docs.now c.args.freqs.now) c.args.doc_ends.now c.args.sum_ends.now =
     c.in_ok-write_list.ensures.ok list (record { cut = cut; of_docs = sym are.docs_are; of_sums = c.requires.sums; most = c.greatest_freq.ensures ∙ ap greatest (sym are.freqs_are) }) in
-    let bits : List ℕ = list_bits c.self.inside.documents (length c.self.inside.bits) (postings_of c.args.docs.now c.args.freqs.now) c.stored_ends-doc_ends.result.now c.stored_ends-sum_ends.result.now in
+    let bits : List ℕ = list_bits c.self.inside.documents (length c.self.inside.bits) (postings_of c.args.docs.now c.args.freqs.now) c.args.doc_ends.now c.args.sum_ends.now in
     omega (arith, c.len.ensures, ap length written, length-append s.bits bits, (packed-holds s.documents s.bits s.starts.items c.self.invariant).long)
 
 pub overflow_add-next : goal.overflow_add-next
@@ -156,15 +71,10 @@ overflow_add-next c =
     let list = postings_of c.args.docs.now c.args.freqs.now in
     let are = postings-are format_three c.args.self.now.documents c.args.docs.now c.args.freqs.now c.requires.same_length c.requires.list in
     let good : IsPostingList format_three c.self.inside.documents (postings_of c.args.docs.now c.args.freqs.now) = subst (λ b. IsPostingList format_three b.documents list) (sym c.self.view_is) c.requires.list in
-    let r = c.sequences_of_a_list_rise.ensures format_three s.documents list good in
-    let cut : IsCutInto c.self.inside.documents (postings_of c.args.docs.now c.args.freqs.now) c.stored_ends-doc_ends.result.now c.stored_ends-sum_ends.result.now = record {
-      well_formed = good;
-      docs = subst (λ m. IsPartition m c.stored_ends-doc_ends.result.now) (sym are.count) (cut-partition format_three c.args.docs.now c.stored_ends-doc_ends.result.now c.stored_ends-doc_ends.ensures.near);
-      freqs = subst (λ m. IsPartition m c.stored_ends-sum_ends.result.now) (ap length c.requires.sums ∙ r.sums_count) (cut-partition format_three c.args.sums.now c.stored_ends-sum_ends.result.now c.stored_ends-sum_ends.ensures.near);
-    } in
-    let written : c.write_list.new.to ≡ c.self.inside.bits ++ list_bits c.self.inside.documents (length c.self.inside.bits) (postings_of c.args.docs.now c.args.freqs.now) c.stored_ends-doc_ends.result.now c.stored_ends-sum_ends.result.now =
+    let cut = cut-into s.documents c.args.docs.now c.args.freqs.now c.args.doc_ends.now c.args.sum_ends.now good c.requires.near in
+    let written : c.write_list.new.to ≡ c.self.inside.bits ++ list_bits c.self.inside.documents (length c.self.inside.bits) (postings_of c.args.docs.now c.args.freqs.now) c.args.doc_ends.now c.args.sum_ends.now =
     c.in_ok-write_list.ensures.ok list (record { cut = cut; of_docs = sym are.docs_are; of_sums = c.requires.sums; most = c.greatest_freq.ensures ∙ ap greatest (sym are.freqs_are) }) in
-    let bits : List ℕ = list_bits c.self.inside.documents (length c.self.inside.bits) (postings_of c.args.docs.now c.args.freqs.now) c.stored_ends-doc_ends.result.now c.stored_ends-sum_ends.result.now in
+    let bits : List ℕ = list_bits c.self.inside.documents (length c.self.inside.bits) (postings_of c.args.docs.now c.args.freqs.now) c.args.doc_ends.now c.args.sum_ends.now in
     omega (
       arith,
       c.len.ensures,
@@ -173,7 +83,7 @@ overflow_add-next c =
       length-append s.bits bits,
       c.self.invariant.small,
       c.self.invariant.few,
-      c.lists_are_short.ensures s.documents (length s.bits) list c.stored_ends-doc_ends.result.now c.stored_ends-sum_ends.result.now c.self.invariant.documents cut,
+      c.lists_are_short.ensures s.documents (length s.bits) list c.args.doc_ends.now c.args.sum_ends.now c.self.invariant.documents cut,
     )
 
 pub invariant_of-self-then-is_err : goal.invariant_of-self-then-is_err
@@ -182,15 +92,10 @@ invariant_of-self-then-is_err c =
     let list = postings_of c.args.docs.now c.args.freqs.now in
     let are = postings-are format_three c.args.self.now.documents c.args.docs.now c.args.freqs.now c.requires.same_length c.requires.list in
     let good : IsPostingList format_three c.self.inside.documents (postings_of c.args.docs.now c.args.freqs.now) = subst (λ b. IsPostingList format_three b.documents list) (sym c.self.view_is) c.requires.list in
-    let r = c.sequences_of_a_list_rise.ensures format_three s.documents list good in
-    let cut : IsCutInto c.self.inside.documents (postings_of c.args.docs.now c.args.freqs.now) c.stored_ends-doc_ends.result.now c.stored_ends-sum_ends.result.now = record {
-      well_formed = good;
-      docs = subst (λ m. IsPartition m c.stored_ends-doc_ends.result.now) (sym are.count) (cut-partition format_three c.args.docs.now c.stored_ends-doc_ends.result.now c.stored_ends-doc_ends.ensures.near);
-      freqs = subst (λ m. IsPartition m c.stored_ends-sum_ends.result.now) (ap length c.requires.sums ∙ r.sums_count) (cut-partition format_three c.args.sums.now c.stored_ends-sum_ends.result.now c.stored_ends-sum_ends.ensures.near);
-    } in
-    let written : c.write_list.new.to ≡ c.self.inside.bits ++ list_bits c.self.inside.documents (length c.self.inside.bits) (postings_of c.args.docs.now c.args.freqs.now) c.stored_ends-doc_ends.result.now c.stored_ends-sum_ends.result.now =
+    let cut = cut-into s.documents c.args.docs.now c.args.freqs.now c.args.doc_ends.now c.args.sum_ends.now good c.requires.near in
+    let written : c.write_list.new.to ≡ c.self.inside.bits ++ list_bits c.self.inside.documents (length c.self.inside.bits) (postings_of c.args.docs.now c.args.freqs.now) c.args.doc_ends.now c.args.sum_ends.now =
     c.in_ok-write_list.ensures.ok list (record { cut = cut; of_docs = sym are.docs_are; of_sums = c.requires.sums; most = c.greatest_freq.ensures ∙ ap greatest (sym are.freqs_are) }) in
-    let bits : List ℕ = list_bits c.self.inside.documents (length c.self.inside.bits) (postings_of c.args.docs.now c.args.freqs.now) c.stored_ends-doc_ends.result.now c.stored_ends-sum_ends.result.now in
+    let bits : List ℕ = list_bits c.self.inside.documents (length c.self.inside.bits) (postings_of c.args.docs.now c.args.freqs.now) c.args.doc_ends.now c.args.sum_ends.now in
     let back : c.truncate.new.self ≡ c.self.inside.bits = c.truncate.ensures ∙ cut-back c.len-first.result s.bits bits c.write_list.new.to c.len-first.ensures written in
     let same : c.push.new.self.items ≡ c.self.inside.starts.items = search rules in
     subst (λ b. IsPackedKept c.self.inside.documents b c.push.new.self.items) (sym back) (subst (λ ys. IsPackedKept c.self.inside.documents c.self.inside.bits ys) (sym same) c.self.invariant)
@@ -201,54 +106,34 @@ returns-then-is_err-clause-err c =
     let list = postings_of c.args.docs.now c.args.freqs.now in
     let are = postings-are format_three c.args.self.now.documents c.args.docs.now c.args.freqs.now c.requires.same_length c.requires.list in
     let good : IsPostingList format_three c.self.inside.documents (postings_of c.args.docs.now c.args.freqs.now) = subst (λ b. IsPostingList format_three b.documents list) (sym c.self.view_is) c.requires.list in
-    let r = c.sequences_of_a_list_rise.ensures format_three s.documents list good in
-    let cut : IsCutInto c.self.inside.documents (postings_of c.args.docs.now c.args.freqs.now) c.stored_ends-doc_ends.result.now c.stored_ends-sum_ends.result.now = record {
-      well_formed = good;
-      docs = subst (λ m. IsPartition m c.stored_ends-doc_ends.result.now) (sym are.count) (cut-partition format_three c.args.docs.now c.stored_ends-doc_ends.result.now c.stored_ends-doc_ends.ensures.near);
-      freqs = subst (λ m. IsPartition m c.stored_ends-sum_ends.result.now) (ap length c.requires.sums ∙ r.sums_count) (cut-partition format_three c.args.sums.now c.stored_ends-sum_ends.result.now c.stored_ends-sum_ends.ensures.near);
-    } in
-    let written : c.write_list.new.to ≡ c.self.inside.bits ++ list_bits c.self.inside.documents (length c.self.inside.bits) (postings_of c.args.docs.now c.args.freqs.now) c.stored_ends-doc_ends.result.now c.stored_ends-sum_ends.result.now =
+    let cut = cut-into s.documents c.args.docs.now c.args.freqs.now c.args.doc_ends.now c.args.sum_ends.now good c.requires.near in
+    let written : c.write_list.new.to ≡ c.self.inside.bits ++ list_bits c.self.inside.documents (length c.self.inside.bits) (postings_of c.args.docs.now c.args.freqs.now) c.args.doc_ends.now c.args.sum_ends.now =
     c.in_ok-write_list.ensures.ok list (record { cut = cut; of_docs = sym are.docs_are; of_sums = c.requires.sums; most = c.greatest_freq.ensures ∙ ap greatest (sym are.freqs_are) }) in
-    let bits : List ℕ = list_bits c.self.inside.documents (length c.self.inside.bits) (postings_of c.args.docs.now c.args.freqs.now) c.stored_ends-doc_ends.result.now c.stored_ends-sum_ends.result.now in
+    let bits : List ℕ = list_bits c.self.inside.documents (length c.self.inside.bits) (postings_of c.args.docs.now c.args.freqs.now) c.args.doc_ends.now c.args.sum_ends.now in
     let back : c.truncate.new.self ≡ c.self.inside.bits = c.truncate.ensures ∙ cut-back c.len-first.result s.bits bits c.write_list.new.to c.len-first.ensures written in
     let same : c.push.new.self.items ≡ c.self.inside.starts.items = search rules in
     (λ t. packed_built c.self.inside.documents (back t) (same t)) ∙ c.self.view_is
 
-near : (c : goal.Else-is_err) → IsNearCut format_three (record { list = postings_of c.args.docs.now c.args.freqs.now; parts = record { doc_ends = c.stored_ends-doc_ends.result.now; freq_ends = c.stored_ends-sum_ends.result.now } })
-near c =
-    let are = postings-are format_three c.args.self.now.documents c.args.docs.now c.args.freqs.now c.requires.same_length c.requires.list in
-    record {
-      docs = subst (λ xs. IsNearStored format_three xs c.stored_ends-doc_ends.result.now) (sym are.docs_are) c.stored_ends-doc_ends.ensures.near;
-      freqs = subst (λ xs. IsNearStored format_three xs c.stored_ends-sum_ends.result.now) c.requires.sums c.stored_ends-sum_ends.ensures.near;
-    }
-
 keeps : (c : goal.Else-is_err) → PackedKeeps c.self.inside.documents c.self.inside.bits c.self.inside.starts.items c.write_list.new.to c.push.new.self.items
-    (record { list = postings_of c.args.docs.now c.args.freqs.now; parts = record { doc_ends = c.stored_ends-doc_ends.result.now; freq_ends = c.stored_ends-sum_ends.result.now } })
+    (cut_list c.args.docs.now c.args.freqs.now c.args.doc_ends.now c.args.sum_ends.now)
 keeps c =
     let s = c.self.inside in
     let list = postings_of c.args.docs.now c.args.freqs.now in
     let are = postings-are format_three c.args.self.now.documents c.args.docs.now c.args.freqs.now c.requires.same_length c.requires.list in
     let good : IsPostingList format_three c.self.inside.documents (postings_of c.args.docs.now c.args.freqs.now) = subst (λ b. IsPostingList format_three b.documents list) (sym c.self.view_is) c.requires.list in
-    let r = c.sequences_of_a_list_rise.ensures format_three s.documents list good in
-    let cut : IsCutInto c.self.inside.documents (postings_of c.args.docs.now c.args.freqs.now) c.stored_ends-doc_ends.result.now c.stored_ends-sum_ends.result.now = record {
-      well_formed = good;
-      docs = subst (λ m. IsPartition m c.stored_ends-doc_ends.result.now) (sym are.count) (cut-partition format_three c.args.docs.now c.stored_ends-doc_ends.result.now c.stored_ends-doc_ends.ensures.near);
-      freqs = subst (λ m. IsPartition m c.stored_ends-sum_ends.result.now) (ap length c.requires.sums ∙ r.sums_count) (cut-partition format_three c.args.sums.now c.stored_ends-sum_ends.result.now c.stored_ends-sum_ends.ensures.near);
-    } in
-    let written : c.write_list.new.to ≡ c.self.inside.bits ++ list_bits c.self.inside.documents (length c.self.inside.bits) (postings_of c.args.docs.now c.args.freqs.now) c.stored_ends-doc_ends.result.now c.stored_ends-sum_ends.result.now =
+    let cut = cut-into s.documents c.args.docs.now c.args.freqs.now c.args.doc_ends.now c.args.sum_ends.now good c.requires.near in
+    let written : c.write_list.new.to ≡ c.self.inside.bits ++ list_bits c.self.inside.documents (length c.self.inside.bits) (postings_of c.args.docs.now c.args.freqs.now) c.args.doc_ends.now c.args.sum_ends.now =
     c.in_ok-write_list.ensures.ok list (record { cut = cut; of_docs = sym are.docs_are; of_sums = c.requires.sums; most = c.greatest_freq.ensures ∙ ap greatest (sym are.freqs_are) }) in
-    let bits : List ℕ = list_bits c.self.inside.documents (length c.self.inside.bits) (postings_of c.args.docs.now c.args.freqs.now) c.stored_ends-doc_ends.result.now c.stored_ends-sum_ends.result.now in
-    let whole : CutList = record { list = list; parts = record { doc_ends = c.stored_ends-doc_ends.result.now; freq_ends = c.stored_ends-sum_ends.result.now } } in
+    let bits : List ℕ = list_bits c.self.inside.documents (length c.self.inside.bits) (postings_of c.args.docs.now c.args.freqs.now) c.args.doc_ends.now c.args.sum_ends.now in
+    let whole : CutList = cut_list c.args.docs.now c.args.freqs.now c.args.doc_ends.now c.args.sum_ends.now in
     let entered : c.push.new.self.items ≡ c.self.inside.starts.items ++ (c.len.result - 128 + c.len-2.result) ∷ [] = search rules in
     let room : length c.self.inside.starts.items ≤ most_terms = subst (λ b. length b.directory ≤ most_terms) (sym c.self.view_is) c.requires.room in
-    packed-keeps s.documents (c.len.result - 128 + c.len-2.result) s.bits s.starts.items c.write_list.new.to c.push.new.self.items whole c.self.invariant good (near c) room
+    packed-keeps s.documents (c.len.result - 128 + c.len-2.result) s.bits s.starts.items c.write_list.new.to c.push.new.self.items whole c.self.invariant good c.requires.near room
     (omega (arith, c.if-first-gt-MOST_HELD_BITS.false, c.len-first.ensures))
-    (c.lists_are_short.ensures s.documents (length s.bits) list c.stored_ends-doc_ends.result.now c.stored_ends-sum_ends.result.now c.self.invariant.documents cut) written (omega (arith, c.len.ensures, c.len-2.ensures)) entered
+    (c.lists_are_short.ensures s.documents (length s.bits) list c.args.doc_ends.now c.args.sum_ends.now c.self.invariant.documents cut) written (omega (arith, c.len.ensures, c.len-2.ensures)) entered
 
 pub invariant_of-self-else-is_err : goal.invariant_of-self-else-is_err
 invariant_of-self-else-is_err c = (keeps c).kept
 
 pub returns-clause-ok : goal.returns-clause-ok
-returns-clause-ok c =
-    let whole : CutList = record { list = postings_of c.args.docs.now c.args.freqs.now; parts = record { doc_ends = c.stored_ends-doc_ends.result.now; freq_ends = c.stored_ends-sum_ends.result.now } } in
-    (whole.parts, subst (λ b. IsNearCut (numbers_of b.format) whole) c.self.view_is (near c), c.stored_ends-doc_ends.ensures.few, c.stored_ends-sum_ends.ensures.few, (keeps c).is ∙ ap (λ b. with_list b whole) c.self.view_is)
+returns-clause-ok c = (keeps c).is ∙ ap (λ b. with_list b (cut_list c.args.docs.now c.args.freqs.now c.args.doc_ends.now c.args.sum_ends.now)) c.self.view_is

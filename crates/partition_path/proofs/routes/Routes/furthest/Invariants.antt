@@ -7,3 +7,9 @@ invariant-loop-place l = (l.from ≤ l.place) × (l.place < length l.self) × (c
 
 abbrev pub decreases-loop-place : goal.decreases-loop-place
 decreases-loop-place l = l.last - l.place
+
+abbrev pub invariant-loop-place-2 : goal.invariant-loop-place-2
+invariant-loop-place-2 l = (l.from ≤ l.place) × (l.place < length l.self) × (cost_to l.self l.from ≤ l.most → cost_to l.self l.place ≤ l.most)
+
+abbrev pub decreases-loop-place-2 : goal.decreases-loop-place-2
+decreases-loop-place-2 l = l.last - l.place
