@@ -1,7 +1,6 @@
 pub mod GammaCodes
 pub mod GammaBack
 mod GammaReads
-mod WindowBits
 mod NearGammas
 mod OneListBits
 mod ListBack

@@ -1,11 +1,10 @@
 -- A list where its bits stand: its head, and behind it one document, or two sequences.
-use Rattle.std.proofs.Common.{◌≡◌, ℕ, ◌+◌, ◌-◌, ◌*◌, ◌^◌, ◌<◌, ◌≤◌, List, [], ◌∷◌, ◌++◌, length, take, drop, refl, sym, ap, ◌∙◌, subst, arith, append_assoc}
+use Rattle.std.proofs.Common.{◌≡◌, ℕ, ◌+◌, ◌-◌, ◌*◌, ◌^◌, ◌<◌, ◌≤◌, Bool, true, false, List, [], ◌∷◌, ◌++◌, length, take, drop, refl, sym, ap, ◌∙◌, subst, arith, append_assoc}
 use Rattle.std.specs.List.{All, slice_range}
 use Rattle.std.proofs.Math.Nat.{mod-eq_of_lt}
-use Rattle.std.proofs.lemmas.List.{length-append, length-take, length-drop, take-append-drop}
+use Rattle.std.proofs.lemmas.List.{length-append, length-take, length-drop}
 use Rattle.std.proofs.lemmas.List.Elements.{All-from_get_or, All-from_recursion}
 use Rattle.bit_words.specs.Bits.{field_bits, field_at, bits_of}
-use Rattle.bit_words.specs.Laws.{BitsOfAppended, WordsOfBits}
 use Rattle.bit_words.proofs.Value.{EachBit, length-field_bits, length-bits_of}
 use Rattle.bit_words.proofs.Pieces.{StandAt, stands-first, stands-second, stands-both, field-stands, stands-field, field-fits}
 use Rattle.collection_model.specs.FormatNumbers.{format_three}
@@ -16,8 +15,6 @@ use Rattle.collection_model.proofs.Sequences.{same-steps}
 use Rattle.part_cost.specs.Payload.{digits}
 use Rattle.part_cost.specs.Partition.{IsPartition}
 use Rattle.part_cost.proofs.DigitCounts.{digits-hold}
-use Rattle.part_codec.specs.Laws.{TakesItsPayload, OneListAtPlace}
-use Rattle.two_level.specs.Laws.{OneSequence}
 use Rattle.postings.specs.Laws.{SequencesGiveTheirList, SequencesRise, SequencesAreAList}
 use Rattle.packed_list.specs.declared.check.Found.{Found}
 use Rattle.packed_sequence.specs.declared.last_field.LastField.{LastField}
@@ -26,13 +23,11 @@ use Rattle.packed_sequence.specs.SequenceBits.{last_doc, last_sum, sequence_bits
 use Rattle.packed_list.specs.ListBits.{head_bits, list_bits}
 use Rattle.packed_sequence.specs.SequencePlaces.{IsSequenceBefore, OneSequenceAtPlace}
 use Rattle.packed_list.specs.ListPlaces.{IsFound, tail_bits, IsTailBetween, IsListBetween, HoldsList, HoldsTail}
-use Rattle.packed_sequence.specs.Laws.{SequenceWordsFit}
 use Rattle.packed_list.proofs.GammaCodes.{gamma-takes}
 use Rattle.packed_sequence.proofs.LonePlaces.{piece-stands}
 use Rattle.packed_list.proofs.GammaReads.{one-number}
 use Rattle.packed_sequence.proofs.LonePlaces.{stands-piece}
 use Rattle.packed_sequence.proofs.PartedPlaces.{range-stands, stands-range}
-use Rattle.packed_sequence.proofs.OneSequenceBits.{one-sequence-bits}
 use Rattle.packed_list.proofs.OneListBits.{HasSome, has-some, each-at_most, docs-stored, freqs-stored}
 use Rattle.packed_list.proofs.ListPieces.{count-docs}
 
@@ -55,8 +50,8 @@ tail-of n at m g list xs ys ends cuts e f count top h =
     ∙ ap (λ zs. many-tail n at m g xs zs ends cuts) (sym f)
 
 -- two sequences that were found are those of a list
-pub many-found : SequencesAreAList → (n m g : ℕ) (bits : List ℕ) (at to : ℕ) (first second : Found) → 2 ≤ m → g < 2 ^ 32 → IsFound (last_doc n) m n bits at to first
-    → IsFound (last_sum m g) m format_three.most_sum bits first.behind to second → second.behind ≡ to → second.greatest ≡ g → HoldsTail n m g bits at to
+pub many-found : SequencesAreAList → (n m g : ℕ) (bits : List ℕ) (at to : ℕ) (first second : Found) → 2 ≤ m → g < 2 ^ 32 → IsFound (last_doc n) m n false bits at to first
+    → IsFound (last_sum m g) m format_three.most_sum true bits first.behind to second → second.behind ≡ to → second.greatest ≡ g → HoldsTail n m g bits at to
 many-found are n m g bits at to first second many few h k ends_here top =
     let xs : List ℕ = h.values in
     let ys : List ℕ = k.values in
@@ -65,7 +60,7 @@ many-found are n m g bits at to first second many few h k ends_here top =
     let count_too : length ys ≡ m = k.sequence.stored.count in
     let same : length xs ≡ length ys = count ∙ sym count_too in
     let steps : List ℕ = steps_from 0 ys in
-    let most : greatest steps ≡ g = sym k.step ∙ top in
+    let most : greatest steps ≡ g = sym (k.step refl) ∙ top in
     let fit : All (λ f. f < 2 ^ 32) steps = All-from_get_or (λ f. f < 2 ^ 32) steps 0 (λ i lt. omega (arith, each-at_most steps i lt, most, few)) in
     let is = are format_three n xs ys h.sequence.stored.rising h.sequence.small k.sequence.stored.rising k.sequence.small same fit in
     let list : List Posting = postings_in xs ys in
@@ -302,35 +297,36 @@ empty-stands n bits at = (
 )
 
 -- what was found, and what stands, by another name of its last field and of its bound
-pub found-as : (last other : LastField) (m bound limit : ℕ) (bits : List ℕ) (at end : ℕ) (found : Found) → last ≡ other → bound ≡ limit → IsFound last m bound bits at end found → IsFound other m limit bits at end found
-found-as last other m bound limit bits at end found e f h = subst (λ l. IsFound l m limit bits at end found) e (subst (λ b. IsFound last m b bits at end found) f h)
+pub found-as : (last other : LastField) (m bound limit : ℕ) (with_steps : Bool) (bits : List ℕ) (at end : ℕ) (found : Found) → last ≡ other → bound ≡ limit → IsFound last m bound with_steps bits at end found
+    → IsFound other m limit with_steps bits at end found
+found-as last other m bound limit with_steps bits at end found e f h = subst (λ l. IsFound l m limit with_steps bits at end found) e (subst (λ b. IsFound last m b with_steps bits at end found) f h)
 
 pub before-as : (last other : LastField) (m bound limit : ℕ) (bits : List ℕ) (at end : ℕ) (xs ends : List ℕ) → last ≡ other → bound ≡ limit → IsSequenceBefore last m bound bits at end xs ends
     → IsSequenceBefore other m limit bits at end xs ends
 before-as last other m bound limit bits at end xs ends e f h = subst (λ l. IsSequenceBefore l m limit bits at end xs ends) e (subst (λ b. IsSequenceBefore last m b bits at end xs ends) f h)
 
 -- what was found is the sequence that stands there
-pub record FoundFacts (last : LastField) (at : ℕ) (xs ends : List ℕ) (found : Found) : Type 0 where
+pub record FoundFacts (last : LastField) (with_steps : Bool) (at : ℕ) (xs ends : List ℕ) (found : Found) : Type 0 where
   pub behind_is : found.behind ≡ at + length (sequence_bits last at xs ends)
-  pub greatest_is : found.greatest ≡ greatest (steps_from 0 xs)
+  pub greatest_is : with_steps ≡ true → found.greatest ≡ greatest (steps_from 0 xs)
 
-pub found-facts : OneSequenceAtPlace → (last : LastField) (m bound : ℕ) (bits : List ℕ) (at end : ℕ) (found : Found) (xs ends : List ℕ) → 2 ≤ m → m < 2 ^ 32 → IsFound last m bound bits at end found
-    → IsSequenceBefore last m bound bits at end xs ends → FoundFacts last at xs ends found
-found-facts one last m bound bits at end found xs ends many few h k =
+pub found-facts : OneSequenceAtPlace → (last : LastField) (m bound : ℕ) (with_steps : Bool) (bits : List ℕ) (at end : ℕ) (found : Found) (xs ends : List ℕ) → 2 ≤ m → m < 2 ^ 32 → IsFound last m bound with_steps bits at end found
+    → IsSequenceBefore last m bound bits at end xs ends → FoundFacts last with_steps at xs ends found
+found-facts one last m bound with_steps bits at end found xs ends many few h k =
     let same = one last m bound bound bits at end end h.values xs h.ends ends many few h.sequence k in
     record {
       behind_is = h.behind ∙ ap (λ zs. at + length (sequence_bits last at zs h.ends)) same.0 ∙ ap (λ es. at + length (sequence_bits last at xs es)) same.1;
-      greatest_is = h.step ∙ ap (λ zs. greatest (steps_from 0 zs)) same.0;
+      greatest_is = λ asked. h.step asked ∙ ap (λ zs. greatest (steps_from 0 zs)) same.0;
     }
 
 -- the sums stand behind the documents that were found
-pub sums-behind : (n m g : ℕ) (bits : List ℕ) (at to : ℕ) (first : Found) (list : List Posting) (ends cuts : List ℕ) → FoundFacts (last_doc n) at (doc_sequence list) ends first → TailFacts n m g bits at to list ends cuts
+pub sums-behind : (n m g : ℕ) (bits : List ℕ) (at to : ℕ) (first : Found) (list : List Posting) (ends cuts : List ℕ) → FoundFacts (last_doc n) false at (doc_sequence list) ends first → TailFacts n m g bits at to list ends cuts
     → IsSequenceBefore (last_sum m g) m format_three.most_sum bits first.behind to (freq_sequence list) cuts
 sums-behind n m g bits at to first list ends cuts f t = subst (λ p. IsSequenceBefore (last_sum m g) m format_three.most_sum bits p to (freq_sequence list) cuts) (sym f.behind_is) t.sums
 
 -- and both end where the list does
-pub ends-behind : (n m g : ℕ) (bits : List ℕ) (at to : ℕ) (first second : Found) (list : List Posting) (ends cuts : List ℕ) → FoundFacts (last_doc n) at (doc_sequence list) ends first
-    → FoundFacts (last_sum m g) first.behind (freq_sequence list) cuts second → TailFacts n m g bits at to list ends cuts → second.behind ≡ to
+pub ends-behind : (n m g : ℕ) (bits : List ℕ) (at to : ℕ) (first second : Found) (list : List Posting) (ends cuts : List ℕ) → FoundFacts (last_doc n) false at (doc_sequence list) ends first
+    → FoundFacts (last_sum m g) true first.behind (freq_sequence list) cuts second → TailFacts n m g bits at to list ends cuts → second.behind ≡ to
 ends-behind n m g bits at to first second list ends cuts f k t =
     k.behind_is ∙ ap (λ p. p + length (sequence_bits (last_sum m g) p (freq_sequence list) cuts)) f.behind_is ∙ t.ends_here
 

@@ -15,7 +15,8 @@ use Rattle.part_cost.specs.Payload.{digits}
 use Rattle.packed_list.specs.Gamma.{gamma, gamma_length, IsGammaBefore, AreGammasBefore}
 use Rattle.packed_list.proofs.GammaCodes.{some-digits, gamma-takes}
 use Rattle.packed_sequence.proofs.LonePlaces.{piece-stands}
-use Rattle.packed_list.proofs.WindowBits.{shifted-down}
+use Rattle.packed_sequence.proofs.WindowBits.{shifted-down}
+use Rattle.packed_sequence.proofs.WindowFields.{IsWindow}
 use Rattle.packed_list.proofs.GammaReads.{code-first, read-stands, behind-is, number-is, one-number}
 
 -- a bit by its place from the first on
@@ -95,10 +96,6 @@ pub lowest-is : (w r : ℕ) → w < 2 ^ 64 → trailing_zeros w64 w < 16 → r �
 lowest-is w r small near is =
     let z : ℕ = trailing_zeros w64 w in
     lowest-read w (1 * 2 ^ z % 18446744073709551616 + bit_and (w / 2 ^ (z + 1)) (1 * 2 ^ z % 18446744073709551616 - 1)) (2 * r + 1) (some-one w near) small near (put-together (w / 2 ^ (z + 1)) z near) (ap (λ k. 2 * k + 1) is)
-
--- The lowest bits of a word are those that stand at a place of others.
-abbrev pub IsWindow : List ℕ → ℕ → ℕ → ℕ → Type 0
-IsWindow bits at k w = (i : ℕ) → i < k → bit_at w i ≡ get_or bits (at + i) 0
 
 -- Those behind some of them are.
 window-behind : (bits : List ℕ) (at k w i : ℕ) → IsWindow bits at k w → IsWindow bits (at + i) (k - i) (w / 2 ^ i)

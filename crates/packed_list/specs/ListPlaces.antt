@@ -1,4 +1,4 @@
-use Rattle.std.specs.Prelude.{◌≡◌, ℕ, ◌+◌, ◌-◌, ◌*◌, ◌^◌, ◌<◌, ◌≤◌, List, [], ◌∷◌, ◌++◌, length, slice_range}
+use Rattle.std.specs.Prelude.{◌≡◌, ℕ, ◌+◌, ◌-◌, Bool, true, List, [], ◌∷◌, ◌++◌, length, slice_range}
 use Rattle.bit_words.specs.Bits.{field_bits}
 use Rattle.collection_model.specs.Collection.{Posting, greatest, greatest_freq}
 use Rattle.collection_model.specs.Sequences.{steps_from}
@@ -9,13 +9,13 @@ use Rattle.packed_sequence.specs.SequenceBits.{sequence_bits}
 use Rattle.packed_list.specs.ListBits.{docs_bits, freqs_bits, list_bits, IsCutInto}
 use Rattle.packed_sequence.specs.SequencePlaces.{IsSequenceBefore}
 
--- such a sequence, with the place behind its bits and its greatest step
-pub record IsFound (last : LastField) (m bound : ℕ) (bits : List ℕ) (at end : ℕ) (found : Found) : Type 0 where
+-- such a sequence, with the place behind its bits and, where it is asked for, its greatest step
+pub record IsFound (last : LastField) (m bound : ℕ) (with_steps : Bool) (bits : List ℕ) (at end : ℕ) (found : Found) : Type 0 where
   pub values : List ℕ
   pub ends : List ℕ
   pub sequence : IsSequenceBefore last m bound bits at end values ends
   pub behind : found.behind ≡ at + length (sequence_bits last at values ends)
-  pub step : found.greatest ≡ greatest (steps_from 0 values)
+  pub step : with_steps ≡ true → found.greatest ≡ greatest (steps_from 0 values)
 
 -- the bits of a list over n documents behind its head
 abbrev pub tail_bits : ℕ → ℕ → List Posting → List ℕ → List ℕ → List ℕ

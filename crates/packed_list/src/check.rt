@@ -7,12 +7,13 @@ ghost use Rattle.packed_list.specs.ListPlaces.{IsFound, HoldsTail, HoldsList};
 use crate::gamma::gamma_before;
 use bit_words::{Bits, words_are_bits};
 use packed_sequence::{LastField, last_doc, last_sum, one_sequence_at_place, sequence_words_fit};
-use part_codec::{check_part_steps, part_takes_its_payload};
+use part_codec::{check_part, check_part_steps, part_takes_its_payload};
 use part_cost::{Format, PlacedPart, digits, parts_are_short, payload_bits};
 use postings::{sequences_are_a_list, sequences_give_their_list, sequences_of_a_list_rise};
 use two_level::SeqView;
 
-// What a check finds out of the bits of a sequence: the place behind them, and its greatest step.
+// What a check finds out of the bits of a sequence: the place behind them, and, where it is asked for,
+// its greatest step.
 #[derive(Clone, Copy)]
 pub(crate) struct Found {
     pub(crate) behind: u64,
@@ -20,12 +21,13 @@ pub(crate) struct Found {
 }
 
 // What is looked for: a sequence of m values below a bound, whose last value is written so where it
-// is one part.
+// is one part; and its greatest step, where it is asked for.
 #[derive(Clone, Copy)]
 pub(crate) struct Sought {
     pub(crate) m: u32,
     pub(crate) bound: u64,
     pub(crate) last: LastField,
+    pub(crate) with_steps: bool,
     ghost many: { 2 ≤ m },
     ghost few: { m < 2 ^ 32 },
     ghost bound_fits: { bound ≤ format_three.most_sum },
@@ -39,8 +41,8 @@ fn check_lone(words: &[u64], at: u64, end: u64, sought: Sought) -> Option<Found>
     requires within { at < end }
     requires range { end ≤ 64 * length words.now }
     requires flag { slice_index (bits_of words.now) at ≡ 0 }
-    ensures some { IfSome result (IsFound sought.last sought.m sought.bound (bits_of words.now) at
-        end) }
+    ensures some { IfSome result (IsFound sought.last sought.m sought.bound sought.with_steps
+        (bits_of words.now) at end) }
     ensures none { IfNone result ((xs ends : List ℕ)
         → ¬ IsSequenceBefore sought.last sought.m sought.bound (bits_of words.now) at end xs ends) }
 {
@@ -64,9 +66,19 @@ fn check_lone(words: &[u64], at: u64, end: u64, sought: Sought) -> Option<Found>
     if end < behind {
         return None;
     }
-    match check_part_steps(PlacedPart::at(bits, place, universe, m)) {
-        Some(greatest) => Some(Found { behind, greatest }),
-        None => None,
+    let part = PlacedPart::at(bits, place, universe, m);
+    if sought.with_steps {
+        match check_part_steps(part) {
+            Some(greatest) => Some(Found { behind, greatest }),
+            None => None,
+        }
+    } else if check_part(part) {
+        Some(Found {
+            behind,
+            greatest: 0,
+        })
+    } else {
+        None
     }
 }
 
@@ -110,8 +122,8 @@ fn check_parted(words: &[u64], at: u64, end: u64, sought: Sought) -> Option<Foun
     requires within { at < end }
     requires range { end ≤ 64 * length words.now }
     requires flag { slice_index (bits_of words.now) at ≡ 1 }
-    ensures some { IfSome result (IsFound sought.last sought.m sought.bound (bits_of words.now) at
-        end) }
+    ensures some { IfSome result (IsFound sought.last sought.m sought.bound sought.with_steps
+        (bits_of words.now) at end) }
     ensures none { IfNone result ((xs ends : List ℕ)
         → ¬ IsSequenceBefore sought.last sought.m sought.bound (bits_of words.now) at end xs ends) }
 {
@@ -121,12 +133,22 @@ fn check_parted(words: &[u64], at: u64, end: u64, sought: Sought) -> Option<Foun
         return None;
     };
     let stored = &words[head.start as usize..(end / 64) as usize];
-    match SeqView::check_steps(stored, head.parts, sought.m, sought.bound, Format::Three) {
-        Ok(checked) => Some(Found {
-            behind: 64 * (head.start + checked.used),
-            greatest: checked.greatest,
-        }),
-        Err(_) => None,
+    if sought.with_steps {
+        match SeqView::check_steps(stored, head.parts, sought.m, sought.bound, Format::Three) {
+            Ok(checked) => Some(Found {
+                behind: 64 * (head.start + checked.used),
+                greatest: checked.greatest,
+            }),
+            Err(_) => None,
+        }
+    } else {
+        match SeqView::check_counting(stored, head.parts, sought.m, sought.bound, Format::Three) {
+            Ok(checked) => Some(Found {
+                behind: 64 * (head.start + checked.used),
+                greatest: 0,
+            }),
+            Err(_) => None,
+        }
     }
 }
 
@@ -135,8 +157,8 @@ fn check_sequence(words: &[u64], at: u64, end: u64, sought: Sought) -> Option<Fo
     requires words { length words.now < 2 ^ 57 }
     requires ordered { at ≤ end }
     requires range { end ≤ 64 * length words.now }
-    ensures some { IfSome result (IsFound sought.last sought.m sought.bound (bits_of words.now) at
-        end) }
+    ensures some { IfSome result (IsFound sought.last sought.m sought.bound sought.with_steps
+        (bits_of words.now) at end) }
     ensures none { IfNone result ((xs ends : List ℕ)
         → ¬ IsSequenceBefore sought.last sought.m sought.bound (bits_of words.now) at end xs ends) }
 {
@@ -197,11 +219,13 @@ fn check_many(words: &[u64], at: u64, to: u64, list: HeadedList) -> bool
         m,
         bound: u64::from(documents),
         last: last_doc(documents),
+        with_steps: false,
     };
     let sums = Sought {
         m,
         bound: Format::Three.most_sum(),
         last: last_sum(m, greatest),
+        with_steps: true,
     };
     let Some(first) = check_sequence(words, at, to, docs) else {
         return false;

@@ -3,9 +3,9 @@ ghost use Rattle.bit_words.specs.Bits.{bits_of, field_bits, AppendsBits};
 ghost use Rattle.packed_list.specs.Gamma.{gamma, gamma_length, IsGammaBefore, AreGammasBefore};
 ghost use Rattle.packed_list.specs.GammaLaws.{GammaTakes, OneGamma, GammaReadsBack};
 
-use crate::window::window_from;
 use bit_words::{BitWriter, Bits};
 use no_memory::NoMemory;
+use packed_sequence::window_from;
 use part_cost::digits;
 
 /// Appends the gamma code of a number. A refusal leaves a prefix of it.

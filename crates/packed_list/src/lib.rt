@@ -5,7 +5,6 @@ mod check;
 mod gamma;
 mod list_laws;
 mod view;
-mod window;
 mod write;
 
 pub use check::check_list;

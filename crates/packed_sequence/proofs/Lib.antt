@@ -6,3 +6,5 @@ pub mod PartedPlaces
 pub mod FlagAndField
 pub mod SequenceBack
 mod SequencePlaces
+pub mod WindowBits
+pub mod WindowFields

@@ -7,9 +7,11 @@ mod later;
 mod laws;
 mod stands;
 mod view;
+mod window;
 
 pub use behind::Behind;
 pub use last_field::{LastField, last_doc, last_sum};
 pub use later::LaterView;
 pub use laws::{one_sequence_at_place, sequence_words_fit, sequences_state_back};
 pub use view::{KnownSequence, known_sequence};
+pub use window::window_from;

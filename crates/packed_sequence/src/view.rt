@@ -1,6 +1,7 @@
-ghost use Rattle.std.specs.Prelude.{◌≡◌, ℕ, ◌+◌, ◌*◌, ◌^◌, ◌<◌, ◌≤◌, true, List, length, slice_index, slice_range};
+ghost use Rattle.std.specs.Prelude.{◌≡◌, ℕ, ◌+◌, ◌*◌, ◌%◌, ◌^◌, ◌<◌, ◌≤◌, true, List, length, slice_index, slice_range};
 ghost use Rattle.bit_words.specs.Bits.{bits_of, field_at};
 ghost use Rattle.collection_model.specs.FormatNumbers.{format_three};
+ghost use Rattle.part_cost.specs.Payload.{digits};
 ghost use Rattle.packed_sequence.specs.SequenceBits.{sequence_bits};
 ghost use Rattle.packed_sequence.specs.SequencePlaces.{IsSequenceBefore};
 ghost use Rattle.packed_sequence.specs.Behind.{place_behind, IsInRange};
@@ -8,6 +9,7 @@ ghost use Rattle.packed_sequence.specs.Behind.{place_behind, IsInRange};
 use crate::behind::Behind;
 use crate::last_field::LastField;
 use crate::laws::sequence_words_fit;
+use crate::window::window_from;
 use bit_words::{Bits, words_are_bits};
 use part_codec::part_takes_its_payload;
 use part_cost::{Format, digits};
@@ -20,30 +22,36 @@ pub struct KnownSequence<'a> {
     pub behind: Behind,
 }
 
-// The sequence of m values that stands as one part, behind a zero, and the field of its last value.
-#[inline(always)]
-fn known_lone<'a>(
-    words: &'a [u64],
+// A sequence of m values whose bits stand at a place, and how its last value is written where it is one
+// part.
+#[derive(Clone, Copy)]
+struct Standing {
     at: u64,
     m: u32,
     last: LastField,
-    field: u64,
-) -> KnownSequence<'a>
+    ghost few: { m < 2 ^ 32 },
+}
+
+// The sequence where it stands as one part, behind a zero, and the field of its last value.
+#[inline(always)]
+fn known_lone<'a>(words: &'a [u64], sequence: Standing, field: u64) -> KnownSequence<'a>
     requires words { length words.now < 2 ^ 57 }
-    requires many { 2 ≤ m }
-    requires flag { slice_index (bits_of words.now) at ≡ 0 }
-    requires read { field ≡ field_at (bits_of words.now) (at + 1) last.width }
-    requires stands { (xs ends : List ℕ) × IsSequenceBefore last m format_three.most_sum
-        (bits_of words.now) at (64 * length words.now) xs ends }
-    ensures view { (xs ends : List ℕ) → IsSequenceBefore last m format_three.most_sum
-        (bits_of words.entry.now) at (64 * length words.entry.now) xs ends
-        → result.view ≡ record { format = format_three; values = xs; ends = ends } }
-    ensures behind { (xs ends : List ℕ) → IsSequenceBefore last m format_three.most_sum
-        (bits_of words.entry.now) at (64 * length words.entry.now) xs ends
-        → place_behind result.behind m ≡ at + length (sequence_bits last at xs ends) }
-    ensures range { IsInRange result.behind m }
+    requires many { 2 ≤ sequence.m }
+    requires flag { slice_index (bits_of words.now) sequence.at ≡ 0 }
+    requires read { field ≡ field_at (bits_of words.now) (sequence.at + 1) sequence.last.width }
+    requires stands { (xs ends : List ℕ) × IsSequenceBefore sequence.last sequence.m
+        format_three.most_sum (bits_of words.now) sequence.at (64 * length words.now) xs ends }
+    ensures view { (xs ends : List ℕ) → IsSequenceBefore sequence.last sequence.m
+        format_three.most_sum (bits_of words.entry.now) sequence.at (64 * length words.entry.now)
+        xs ends → result.view ≡ record { format = format_three; values = xs; ends = ends } }
+    ensures behind { (xs ends : List ℕ) → IsSequenceBefore sequence.last sequence.m
+        format_three.most_sum (bits_of words.entry.now) sequence.at (64 * length words.entry.now)
+        xs ends → place_behind result.behind sequence.m
+        ≡ sequence.at + length (sequence_bits sequence.last sequence.at xs ends) }
+    ensures range { IsInRange result.behind sequence.m }
 {
     part_takes_its_payload();
+    let Standing { at, m, last } = sequence;
     let place = at + 1 + u64::from(last.width);
     let end = field + last.less;
     KnownSequence {
@@ -63,35 +71,35 @@ fn words_from<'a>(words: &'a [u64], start: u64) -> &'a [u64]
     &words[start as usize..]
 }
 
-// The sequence of m values that stands in several parts, behind a one. The place behind it, which takes
-// two entries to find, is told where it is asked for.
+// The sequence where it stands in so many parts, behind a one. The place behind it, which takes two
+// entries to find, is told where it is asked for.
 #[inline(always)]
 fn known_parted<'a>(
     words: &'a [u64],
-    at: u64,
-    m: u32,
-    last: LastField,
+    sequence: Standing,
+    parts: u32,
     with_behind: bool,
 ) -> KnownSequence<'a>
     requires words { length words.now < 2 ^ 57 }
-    requires many { 2 ≤ m }
-    requires flag { slice_index (bits_of words.now) at ≡ 1 }
-    requires stands { (xs ends : List ℕ) × IsSequenceBefore last m format_three.most_sum
-        (bits_of words.now) at (64 * length words.now) xs ends }
-    ensures view { (xs ends : List ℕ) → IsSequenceBefore last m format_three.most_sum
-        (bits_of words.entry.now) at (64 * length words.entry.now) xs ends
-        → result.view ≡ record { format = format_three; values = xs; ends = ends } }
+    requires many { 2 ≤ sequence.m }
+    requires flag { slice_index (bits_of words.now) sequence.at ≡ 1 }
+    requires read { parts ≡ field_at (bits_of words.now) (sequence.at + 1) (digits sequence.m) }
+    requires stands { (xs ends : List ℕ) × IsSequenceBefore sequence.last sequence.m
+        format_three.most_sum (bits_of words.now) sequence.at (64 * length words.now) xs ends }
+    ensures view { (xs ends : List ℕ) → IsSequenceBefore sequence.last sequence.m
+        format_three.most_sum (bits_of words.entry.now) sequence.at (64 * length words.entry.now)
+        xs ends → result.view ≡ record { format = format_three; values = xs; ends = ends } }
     ensures behind { with_behind ≡ true → (xs ends : List ℕ)
-        → IsSequenceBefore last m format_three.most_sum
-        (bits_of words.entry.now) at (64 * length words.entry.now) xs ends
-        → place_behind result.behind m ≡ at + length (sequence_bits last at xs ends) }
-    ensures range { IsInRange result.behind m }
+        → IsSequenceBefore sequence.last sequence.m format_three.most_sum
+        (bits_of words.entry.now) sequence.at (64 * length words.entry.now) xs ends
+        → place_behind result.behind sequence.m
+        ≡ sequence.at + length (sequence_bits sequence.last sequence.at xs ends) }
+    ensures range { IsInRange result.behind sequence.m }
 {
     words_are_bits();
     sequence_words_fit();
-    let width = digits(u64::from(m));
-    let parts = (Bits { words }).get(at + 1, width) as u32;
-    let start = (at + 1 + u64::from(width)).div_ceil(64);
+    let Standing { at, m, .. } = sequence;
+    let start = (at + 1 + u64::from(digits(u64::from(m)))).div_ceil(64);
     let view = SeqView::known(words_from(words, start), parts, m, Format::Three);
     if !with_behind {
         return KnownSequence {
@@ -110,6 +118,17 @@ fn known_parted<'a>(
             universe: 0,
         },
     }
+}
+
+// The lowest bits of a word, so many of them.
+#[inline(always)]
+fn lowest_bits(word: u64, width: u32) -> u64
+    requires some { 1 ≤ width }
+    requires narrow { width ≤ 64 }
+    ensures { result ≡ word % 2 ^ width }
+{
+    let above = 64 - width;
+    word << above >> above
 }
 
 /// The sequence of m values that stands at a place, and where it is asked for the place behind it.
@@ -136,11 +155,15 @@ pub fn known_sequence<'a>(
     ensures range { IsInRange result.behind m }
 {
     part_takes_its_payload();
-    // The flag and the field behind it are read as one: the highest bits of a field of 64 are 0.
-    let head = (Bits { words }).get(at, (1 + last.width).min(64));
-    if head % 2 == 1 {
-        known_parted(words, at, m, last, with_behind)
+    let sequence = Standing { at, m, last };
+    // The flag, and the field behind it, which is the number of parts or the last value.
+    let window = window_from(Bits { words }, at);
+    if window % 2 == 1 {
+        let parts = lowest_bits(window, 1 + digits(u64::from(m))) >> 1;
+        known_parted(words, sequence, parts as u32, with_behind)
     } else {
-        known_lone(words, at, m, last, head >> 1)
+        // The highest bits of a field of 64 are 0.
+        let head = lowest_bits(window, (1 + last.width).min(64));
+        known_lone(words, sequence, head >> 1)
     }
 }

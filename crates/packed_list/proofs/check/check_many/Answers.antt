@@ -1,4 +1,4 @@
-use Rattle.std.proofs.Common.{◌≡◌, ℕ, sym, ◌∙◌, arith}
+use Rattle.std.proofs.Common.{◌≡◌, ℕ, true, false, refl, sym, ◌∙◌, arith}
 use Rattle.std.specs.Prelude.{IsTrue, nat_eq}
 use Rattle.std.proofs.lemmas.Bool.Decides.{nat_tests}
 use Rattle.bit_words.specs.Bits.{bits_of}
@@ -25,25 +25,25 @@ tail c h =
     (omega (arith, c.requires.range, length-bits_of c.args.words.now)) h.3
 
 -- what was found of documents, and of sums behind them
-docs-found : (c : In-Some) → IsFound (last_doc c.args.list.documents) c.args.list.m c.args.list.documents (bits_of c.args.words.now) c.args.at c.args.to c.in-Some.first
-docs-found c = found-as c.last_doc.result (last_doc c.args.list.documents) c.args.list.m c.from.result c.args.list.documents (bits_of c.args.words.now) c.args.at c.args.to c.in-Some.first c.last_doc.ensures c.from.ensures c.in-Some.ensures.some
+docs-found : (c : In-Some) → IsFound (last_doc c.args.list.documents) c.args.list.m c.args.list.documents false (bits_of c.args.words.now) c.args.at c.args.to c.in-Some.first
+docs-found c = found-as c.last_doc.result (last_doc c.args.list.documents) c.args.list.m c.from.result c.args.list.documents false (bits_of c.args.words.now) c.args.at c.args.to c.in-Some.first c.last_doc.ensures c.from.ensures c.in-Some.ensures.some
 
-sums-found : (c : In-Some-check_sequence) → IsFound (last_sum c.args.list.m c.args.list.greatest) c.args.list.m format_three.most_sum (bits_of c.args.words.now) c.in-Some.first.behind c.args.to c.in-Some-check_sequence.second
+sums-found : (c : In-Some-check_sequence) → IsFound (last_sum c.args.list.m c.args.list.greatest) c.args.list.m format_three.most_sum true (bits_of c.args.words.now) c.in-Some.first.behind c.args.to c.in-Some-check_sequence.second
 sums-found c =
-    found-as c.last_sum.result (last_sum c.args.list.m c.args.list.greatest) c.args.list.m c.most_sum.result format_three.most_sum (bits_of c.args.words.now) c.in-Some.first.behind c.args.to c.in-Some-check_sequence.second c.last_sum.ensures c.most_sum.ensures c.in-Some-check_sequence.ensures.some
+    found-as c.last_sum.result (last_sum c.args.list.m c.args.list.greatest) c.args.list.m c.most_sum.result format_three.most_sum true (bits_of c.args.words.now) c.in-Some.first.behind c.args.to c.in-Some-check_sequence.second c.last_sum.ensures c.most_sum.ensures c.in-Some-check_sequence.ensures.some
 
 -- what a list that stands there says of them
-docs-are : (c : In-Some) → (h : HoldsTail c.args.list.documents c.args.list.m c.args.list.greatest (bits_of c.args.words.now) c.args.at c.args.to) → FoundFacts (last_doc c.args.list.documents) c.args.at (doc_sequence h.0) h.1 c.in-Some.first
+docs-are : (c : In-Some) → (h : HoldsTail c.args.list.documents c.args.list.m c.args.list.greatest (bits_of c.args.words.now) c.args.at c.args.to) → FoundFacts (last_doc c.args.list.documents) false c.args.at (doc_sequence h.0) h.1 c.in-Some.first
 docs-are c h =
-    found-facts c.one_sequence_at_place.ensures (last_doc c.args.list.documents) c.args.list.m c.args.list.documents (bits_of c.args.words.now) c.args.at c.args.to c.in-Some.first (doc_sequence h.0) h.1 c.requires.many (omega (arith, c.args.list.few)) (docs-found c)
+    found-facts c.one_sequence_at_place.ensures (last_doc c.args.list.documents) c.args.list.m c.args.list.documents false (bits_of c.args.words.now) c.args.at c.args.to c.in-Some.first (doc_sequence h.0) h.1 c.requires.many (omega (arith, c.args.list.few)) (docs-found c)
     (tail (goal.at.In-Some c).After-last_sum h).docs
 
 sums-behind-docs : (c : In-Some) → (h : HoldsTail c.args.list.documents c.args.list.m c.args.list.greatest (bits_of c.args.words.now) c.args.at c.args.to) → IsSequenceBefore (last_sum c.args.list.m c.args.list.greatest) c.args.list.m format_three.most_sum (bits_of c.args.words.now) c.in-Some.first.behind c.args.to (freq_sequence h.0) h.2
 sums-behind-docs c h = sums-behind c.args.list.documents c.args.list.m c.args.list.greatest (bits_of c.args.words.now) c.args.at c.args.to c.in-Some.first h.0 h.1 h.2 (docs-are c h) (tail (goal.at.In-Some c).After-last_sum h)
 
-sums-are : (c : In-Some-check_sequence) → (h : HoldsTail c.args.list.documents c.args.list.m c.args.list.greatest (bits_of c.args.words.now) c.args.at c.args.to) → FoundFacts (last_sum c.args.list.m c.args.list.greatest) c.in-Some.first.behind (freq_sequence h.0) h.2 c.in-Some-check_sequence.second
+sums-are : (c : In-Some-check_sequence) → (h : HoldsTail c.args.list.documents c.args.list.m c.args.list.greatest (bits_of c.args.words.now) c.args.at c.args.to) → FoundFacts (last_sum c.args.list.m c.args.list.greatest) true c.in-Some.first.behind (freq_sequence h.0) h.2 c.in-Some-check_sequence.second
 sums-are c h =
-    found-facts c.one_sequence_at_place.ensures (last_sum c.args.list.m c.args.list.greatest) c.args.list.m format_three.most_sum (bits_of c.args.words.now) c.in-Some.first.behind c.args.to c.in-Some-check_sequence.second (freq_sequence h.0) h.2 c.requires.many (omega (arith, c.args.list.few))
+    found-facts c.one_sequence_at_place.ensures (last_sum c.args.list.m c.args.list.greatest) c.args.list.m format_three.most_sum true (bits_of c.args.words.now) c.in-Some.first.behind c.args.to c.in-Some-check_sequence.second (freq_sequence h.0) h.2 c.requires.many (omega (arith, c.args.list.few))
     (sums-found c) (sums-behind-docs (goal.at.In-Some-check_sequence c).In-Some h)
 
 pub returns-in_default : goal.returns-in_default
@@ -73,5 +73,5 @@ returns c = (
   λ t. many-found c.sequences_are_a_list.ensures c.args.list.documents c.args.list.m c.args.list.greatest (bits_of c.args.words.now) c.args.at c.args.to c.in-Some.first c.in-Some-check_sequence.second c.requires.many (omega (arith, c.args.list.greatest_fits)) (docs-found (goal.at.returns c).In-Some)
       (sums-found (goal.at.returns c).In-Some-check_sequence) c.if-second-to.false (eq-true c.in-Some-check_sequence.second.greatest c.from-2.result t ∙ c.from-2.ensures),
   λ h. true-eq c.in-Some-check_sequence.second.greatest c.from-2.result
-      ((sums-are (goal.at.returns c).In-Some-check_sequence h).greatest_is ∙ (tail (goal.at.returns c).After-last_sum h).step ∙ sym c.from-2.ensures),
+      ((sums-are (goal.at.returns c).In-Some-check_sequence h).greatest_is refl ∙ (tail (goal.at.returns c).After-last_sum h).step ∙ sym c.from-2.ensures),
 )

@@ -1,7 +1,8 @@
 use Rattle.std.proofs.Common.{◌≡◌, ℕ, ◌/◌, ◌^◌, List, subst, arith}
 use Rattle.bit_words.specs.Bits.{field_bits, bits_of}
 use Rattle.packed_list.specs.Gamma.{gamma_length, IsGammaBefore, AreGammasBefore}
-use Rattle.packed_list.proofs.NearGammas.{IsWindow, near-both, some-window}
+use Rattle.packed_sequence.proofs.WindowFields.{IsWindow}
+use Rattle.packed_list.proofs.NearGammas.{near-both, some-window}
 use Rattle.packed_list.proofs.gamma.near_gammas.Goals as goal
 
 -- what is known of the two numbers that are read off a window

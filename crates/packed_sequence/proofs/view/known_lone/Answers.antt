@@ -14,12 +14,12 @@ use Rattle.packed_sequence.proofs.view.known_lone.Goals as goal
 use Rattle.packed_sequence.proofs.view.known_lone.Goals.{After-part_takes_its_payload}
 
 -- what is known of the one part
-facts : (c : After-part_takes_its_payload) → (xs ends : List ℕ) → IsSequenceBefore c.args.last c.args.m format_three.most_sum (bits_of c.args.words.now) c.args.at (64 * length c.args.words.now) xs ends
-    → LoneFacts (bits_of c.args.words.now) c.args.at (64 * length c.args.words.now) c.args.last c.args.m format_three.most_sum xs
+facts : (c : After-part_takes_its_payload) → (xs ends : List ℕ) → IsSequenceBefore c.args.sequence.last c.args.sequence.m format_three.most_sum (bits_of c.args.words.now) c.args.sequence.at (64 * length c.args.words.now) xs ends
+    → LoneFacts (bits_of c.args.words.now) c.args.sequence.at (64 * length c.args.words.now) c.args.sequence.last c.args.sequence.m format_three.most_sum xs
 facts c xs ends h =
-    lone-facts c.part_takes_its_payload.ensures.payload c.args.last c.args.m format_three.most_sum (bits_of c.args.words.now) c.args.at (64 * length c.args.words.now) xs ends (omega (arith, c.requires.many)) (omega arith) c.requires.flag h
+    lone-facts c.part_takes_its_payload.ensures.payload c.args.sequence.last c.args.sequence.m format_three.most_sum (bits_of c.args.words.now) c.args.sequence.at (64 * length c.args.words.now) xs ends (omega (arith, c.requires.many)) (omega arith) c.requires.flag h
 
-stood : (c : After-part_takes_its_payload) → LoneFacts (bits_of c.args.words.now) c.args.at (64 * length c.args.words.now) c.args.last c.args.m format_three.most_sum c.requires.stands.0
+stood : (c : After-part_takes_its_payload) → LoneFacts (bits_of c.args.words.now) c.args.sequence.at (64 * length c.args.words.now) c.args.sequence.last c.args.sequence.m format_three.most_sum c.requires.stands.0
 stood c = facts c c.requires.stands.0 c.requires.stands.1 c.requires.stands.2
 
 held : (words : List ℕ) (at m w got : ℕ) (last : LastField) (xs : List ℕ) → LoneFacts (bits_of words) at (64 * length words) last m format_three.most_sum xs → got ≡ field_at (bits_of words) (at + 1) last.width → w ≡ last.width
@@ -46,7 +46,7 @@ standing_alone-requires-clause-place c =
 pub standing_alone-requires-clause-part : goal.standing_alone-requires-clause-part
 standing_alone-requires-clause-part c = λ many. (
   c.requires.stands.0,
-  held c.args.words.now c.args.at c.args.m c.from.result c.args.field c.args.last c.requires.stands.0 (stood (goal.at.standing_alone-requires-clause-part c).After-part_takes_its_payload) c.requires.read c.from.ensures,
+  held c.args.words.now c.args.sequence.at c.args.sequence.m c.from.result c.args.field c.args.sequence.last c.requires.stands.0 (stood (goal.at.standing_alone-requires-clause-part c).After-part_takes_its_payload) c.requires.read c.from.ensures,
 )
 
 pub overflow_add-result : goal.overflow_add-result
@@ -57,17 +57,17 @@ overflow_add-result c =
 pub returns-clause-view : goal.returns-clause-view
 returns-clause-view c = λ xs ends h.
     let view : List ℕ → SequenceView = λ es. record { format = format_three; values = xs; ends = es } in
-    let one = one-when-zero c.args.last c.args.m format_three.most_sum (bits_of c.args.words.now) c.args.at (64 * length c.args.words.now) xs ends (omega (arith, c.requires.many)) c.requires.flag h in
-    c.standing_alone.ensures.more xs c.requires.many (held c.args.words.now c.args.at c.args.m c.from.result c.args.field c.args.last xs (facts (goal.at.returns-clause-view c).After-part_takes_its_payload xs ends h) c.requires.read c.from.ensures)
-    ∙ ap view (sym (one-end c.args.m ends h.stored.partition one))
+    let one = one-when-zero c.args.sequence.last c.args.sequence.m format_three.most_sum (bits_of c.args.words.now) c.args.sequence.at (64 * length c.args.words.now) xs ends (omega (arith, c.requires.many)) c.requires.flag h in
+    c.standing_alone.ensures.more xs c.requires.many (held c.args.words.now c.args.sequence.at c.args.sequence.m c.from.result c.args.field c.args.sequence.last xs (facts (goal.at.returns-clause-view c).After-part_takes_its_payload xs ends h) c.requires.read c.from.ensures)
+    ∙ ap view (sym (one-end c.args.sequence.m ends h.stored.partition one))
 
 pub returns-clause-behind : goal.returns-clause-behind
 returns-clause-behind c = λ xs ends h.
     let f = facts (goal.at.returns-clause-behind c).After-part_takes_its_payload xs ends h in
-    let end : c.args.field + c.args.last.less + 1 ≡ past xs (length xs) = omega (arith, f.end_is, c.requires.read) in
-    let s = lone-size c.part_takes_its_payload.ensures.payload c.args.last c.args.m format_three.most_sum (bits_of c.args.words.now) c.args.at (64 * length c.args.words.now) xs ends (omega (arith, c.requires.many)) (omega arith) c.requires.flag h in
-    let t = behind-part (c.args.at + 1 + c.from.result) (c.args.field + c.args.last.less + 1) c.args.m (omega arith) in
-    omega (arith, t, ap (λ u. payload u c.args.m) end, s, c.from.ensures)
+    let end : c.args.field + c.args.sequence.last.less + 1 ≡ past xs (length xs) = omega (arith, f.end_is, c.requires.read) in
+    let s = lone-size c.part_takes_its_payload.ensures.payload c.args.sequence.last c.args.sequence.m format_three.most_sum (bits_of c.args.words.now) c.args.sequence.at (64 * length c.args.words.now) xs ends (omega (arith, c.requires.many)) (omega arith) c.requires.flag h in
+    let t = behind-part (c.args.sequence.at + 1 + c.from.result) (c.args.field + c.args.sequence.last.less + 1) c.args.sequence.m (omega arith) in
+    omega (arith, t, ap (λ u. payload u c.args.sequence.m) end, s, c.from.ensures)
 
 pub returns-clause-range : goal.returns-clause-range
 returns-clause-range c =

@@ -14,7 +14,7 @@ use Rattle.packed_sequence.specs.SequencePlaces.{IsSequenceBefore, IsPartedHead}
 use Rattle.packed_sequence.specs.Laws.{SequenceWordsFit}
 use Rattle.packed_sequence.proofs.PartedPlaces.{head-read, parted-head, parted-begins, parted-size}
 use Rattle.packed_sequence.proofs.view.known_parted.Goals as goal
-use Rattle.packed_sequence.proofs.view.known_parted.Goals.{After-digits-width, After-div_ceil-start, After-words_from, After-used}
+use Rattle.packed_sequence.proofs.view.known_parted.Goals.{After-div_ceil-start, After-words_from, After-used}
 
 rounds : (n r : ℕ) → r ≡ n / 64 + min 1 (n % 64) → r ≡ (n + 63) / 64
 rounds n r e = omega arith
@@ -29,16 +29,15 @@ record Read (words : List ℕ) (at m parts start : ℕ) (last : LastField) (xs e
   behind : 64 * (start + length (sequence_words format_three xs ends)) ≡ at + length (sequence_bits last at xs ends)
   inside : at + length (sequence_bits last at xs ends) ≤ 64 * length words
 
-read : (words : List ℕ) (at m n w d parts start : ℕ) (last : LastField) (xs ends : List ℕ) → 2 ≤ m → m < 2 ^ 32 → slice_index (bits_of words) at ≡ 1 → n ≡ m → w ≡ digits n → d ≡ w → parts ≡ field_at (bits_of words) (at + 1) w
+read : (words : List ℕ) (at m n w d parts start : ℕ) (last : LastField) (xs ends : List ℕ) → 2 ≤ m → m < 2 ^ 32 → slice_index (bits_of words) at ≡ 1 → n ≡ m → w ≡ digits n → d ≡ w → parts ≡ field_at (bits_of words) (at + 1) (digits m)
     → start ≡ (at + 1 + d) / 64 + min 1 ((at + 1 + d) % 64) → IsSequenceBefore last m format_three.most_sum (bits_of words) at (64 * length words) xs ends → Read words at m parts start last xs ends
 read words at m n w d parts start last xs ends many few flag e f g value rounded h =
     let bits : List ℕ = bits_of words in
     let first : ℕ = (at + 1 + digits m + 63) / 64 in
     let head = parted-head last m format_three.most_sum bits at (64 * length words) xs ends (omega (arith, many)) few flag h in
     let got = head-read m bits at (64 * length words) (length ends) first head in
-    let width : w ≡ digits m = f ∙ ap digits e in
-    let parts_are : parts ≡ length ends = value ∙ ap (field_at bits (at + 1)) width ∙ sym got.parts_are in
-    let start_is : start ≡ first = rounds (at + 1 + d) start rounded ∙ ap (λ k. (at + 1 + k + 63) / 64) (g ∙ width) in
+    let parts_are : parts ≡ length ends = value ∙ sym got.parts_are in
+    let start_is : start ≡ first = rounds (at + 1 + d) start rounded ∙ ap (λ k. (at + 1 + k + 63) / 64) (g ∙ f ∙ ap digits e) in
     record {
       parts_are = parts_are;
       few = omega (arith, few-parts 0 m ends h.stored.partition);
@@ -67,41 +66,21 @@ begun appended whole fits words lent at m parts start last xs ends small many fe
 small-words : (words : List ℕ) → ((i : ℕ) → get_or words i 0 < 2 ^ 64) → All (λ w. w < 2 ^ 64) words
 small-words words h = All-from_get_or (λ w. w < 2 ^ 64) words 0 (λ i lt. h i)
 
--- how its head stands
-head : (c : After-digits-width) → IsPartedHead c.args.m (bits_of c.args.words.now) c.args.at (64 * length c.args.words.now) (length c.requires.stands.1) ((c.args.at + 1 + digits c.args.m + 63) / 64)
-head c =
-    parted-head c.args.last c.args.m format_three.most_sum (bits_of c.args.words.now) c.args.at (64 * length c.args.words.now) c.requires.stands.0 c.requires.stands.1 (omega (arith, c.requires.many)) (omega (arith, c.ranges.m.fits))
-    c.requires.flag c.requires.stands.2
-
-width-is : (c : After-digits-width) → c.digits-width.result ≡ digits c.args.m
-width-is c = c.digits-width.ensures ∙ ap digits c.from.ensures
-
 -- what was read of a sequence that stands there
-seen : (c : After-div_ceil-start) → (xs ends : List ℕ) → IsSequenceBefore c.args.last c.args.m format_three.most_sum (bits_of c.args.words.now) c.args.at (64 * length c.args.words.now) xs ends → Read c.args.words.now c.args.at c.args.m c.get-parts.result c.div_ceil-start.result c.args.last xs ends
+seen : (c : After-div_ceil-start) → (xs ends : List ℕ) → IsSequenceBefore c.args.sequence.last c.args.sequence.m format_three.most_sum (bits_of c.args.words.now) c.args.sequence.at (64 * length c.args.words.now) xs ends → Read c.args.words.now c.args.sequence.at c.args.sequence.m c.args.parts c.div_ceil-start.result c.args.sequence.last xs ends
 seen c xs ends h =
-    read c.args.words.now c.args.at c.args.m c.from.result c.digits-width.result c.from-2.result c.get-parts.result c.div_ceil-start.result c.args.last xs ends c.requires.many (omega (arith, c.ranges.m.fits)) c.requires.flag c.from.ensures c.digits-width.ensures
-    c.from-2.ensures c.get-parts.ensures c.div_ceil-start.ensures h
+    read c.args.words.now c.args.sequence.at c.args.sequence.m c.from.result c.digits.result c.from-2.result c.args.parts c.div_ceil-start.result c.args.sequence.last xs ends c.requires.many (omega (arith, c.args.sequence.few)) c.requires.flag c.from.ensures c.digits.ensures
+    c.from-2.ensures c.requires.read c.div_ceil-start.ensures h
 
 -- the words behind the head begin with it
-began : (c : After-words_from) → (xs ends : List ℕ) → IsSequenceBefore c.args.last c.args.m format_three.most_sum (bits_of c.args.words.now) c.args.at (64 * length c.args.words.now) xs ends → BeginWith c.words_from.result.now c.get-parts.result c.args.m (view-of xs ends)
+began : (c : After-words_from) → (xs ends : List ℕ) → IsSequenceBefore c.args.sequence.last c.args.sequence.m format_three.most_sum (bits_of c.args.words.now) c.args.sequence.at (64 * length c.args.words.now) xs ends → BeginWith c.words_from.result.now c.args.parts c.args.sequence.m (view-of xs ends)
 began c xs ends h =
-    begun c.words_are_bits.ensures.appended c.words_are_bits.ensures.words c.sequence_words_fit.ensures c.args.words.now c.words_from.result.now c.args.at c.args.m c.get-parts.result c.div_ceil-start.result c.args.last xs ends
-    (small-words c.args.words.now (λ i. (let f = c.type_inv.words i in omega (arith, f)))) c.requires.many (omega (arith, c.ranges.m.fits)) c.requires.flag c.words_from.ensures (seen (goal.at.After-words_from c).After-div_ceil-start xs ends h) h
+    begun c.words_are_bits.ensures.appended c.words_are_bits.ensures.words c.sequence_words_fit.ensures c.args.words.now c.words_from.result.now c.args.sequence.at c.args.sequence.m c.args.parts c.div_ceil-start.result c.args.sequence.last xs ends
+    (small-words c.args.words.now (λ i. (let f = c.type_inv.words i in omega (arith, f)))) c.requires.many (omega (arith, c.args.sequence.few)) c.requires.flag c.words_from.ensures (seen (goal.at.After-words_from c).After-div_ceil-start xs ends h) h
 
 -- and are as many as are used
-used-are : (c : After-used) → (xs ends : List ℕ) → IsSequenceBefore c.args.last c.args.m format_three.most_sum (bits_of c.args.words.now) c.args.at (64 * length c.args.words.now) xs ends → c.used.result ≡ length (sequence_words format_three xs ends)
+used-are : (c : After-used) → (xs ends : List ℕ) → IsSequenceBefore c.args.sequence.last c.args.sequence.m format_three.most_sum (bits_of c.args.words.now) c.args.sequence.at (64 * length c.args.words.now) xs ends → c.used.result ≡ length (sequence_words format_three xs ends)
 used-are c xs ends h = c.used.ensures ∙ ap words_used (c.known-view.ensures.same (view-of xs ends) refl (began (goal.at.After-used c).After-words_from xs ends h))
-
-pub get-parts-requires-clause-range : goal.get-parts-requires-clause-range
-get-parts-requires-clause-range c =
-    let stands = head (goal.at.get-parts-requires-clause-range c).After-digits-width in
-    omega (arith, stands.word, stands.within, width-is (goal.at.get-parts-requires-clause-range c).After-digits-width)
-
-pub overflow_cast-parts : goal.overflow_cast-parts
-overflow_cast-parts c =
-    let got = head-read c.args.m (bits_of c.args.words.now) c.args.at (64 * length c.args.words.now) (length c.requires.stands.1) ((c.args.at + 1 + digits c.args.m + 63) / 64) (head (goal.at.overflow_cast-parts c).After-digits-width) in
-    let value = c.get-parts.ensures ∙ ap (field_at (bits_of c.args.words.now) (c.args.at + 1)) (width-is (goal.at.overflow_cast-parts c).After-digits-width) in
-    omega (arith, value, got.parts_are, few-parts 0 c.args.m c.requires.stands.1 c.requires.stands.2.stored.partition, c.ranges.m.fits)
 
 pub words_from-requires : goal.words_from-requires
 words_from-requires c = record { within = omega (arith, (seen (goal.at.words_from-requires c).After-div_ceil-start c.requires.stands.0 c.requires.stands.1 c.requires.stands.2).within) }

@@ -1,6 +1,6 @@
 use Rattle.std.proofs.Common.{ℕ, ◌/◌, ◌^◌, ◌<◌, List, get_or, rules}
-use Rattle.packed_list.proofs.WindowBits.{window-bits}
-use Rattle.packed_list.proofs.window.window_from.Goals as goal
+use Rattle.packed_sequence.proofs.WindowBits.{window-bits}
+use Rattle.packed_sequence.proofs.window.window_from.Goals as goal
 
 pub returns : goal.returns
 returns c =

@@ -15,9 +15,9 @@ fn word_or_zero(words: &[u64], i: usize) -> u64
     }
 }
 
-// The 64 bits from a place on, zeros where no more are left.
+/// The 64 bits from a place on, zeros where no more are left.
 #[inline(always)]
-pub(crate) fn window_from(bits: Bits<'_>, at: u64) -> u64
+pub fn window_from(bits: Bits<'_>, at: u64) -> u64
     requires within { at < 64 * length bits.words.now }
     ensures { (i : ℕ) → i < 64
         → bit_at result i ≡ slice_index (bits_of bits.entry.words.now) (at + i) }
