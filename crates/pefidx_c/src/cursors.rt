@@ -12,7 +12,7 @@ use postings::PostingCursor;
 use std::alloc::Global;
 
 // The most terms that are asked together.
-pub(crate) const MOST_TERMS: usize = 1024;
+pub(crate) const MOST_QUERY_TERMS: usize = 1024;
 
 // Whether all of these numbers are below another.
 pub(crate) fn all_below(numbers: &[u32], end: u32) -> bool
@@ -25,7 +25,7 @@ pub(crate) fn all_below(numbers: &[u32], end: u32) -> bool
 pub(crate) fn refusal(index: &Index<'_>, terms: &[u32]) -> Option<Status>
     ensures { result ≡ refusal index.now.collection terms.now }
 {
-    if terms.len() > MOST_TERMS {
+    if terms.len() > MOST_QUERY_TERMS {
         return Some(Status::TooManyTerms);
     }
     if !all_below(terms, index.terms()) {

@@ -11,7 +11,7 @@ use smallvec::SmallVec;
 use std::alloc::{AllocError, Global};
 
 // The most numbers of terms in a line, counted as written.
-pub(crate) const MOST_TERMS: usize = 1024;
+pub(crate) const MOST_LINE_TERMS: usize = 1024;
 
 // Puts an item behind those of a list, where the list has room for it.
 pub(crate) fn keep<T: Drop, const N: usize>(kept: &mut SmallVec<T, N>, item: T)
@@ -46,7 +46,7 @@ fn first_terms(alloc: Global, arguments: &[u8], terms: u32) -> Result<(NumberLis
     if next_field(rest).is_some() {
         return Err(Bad::Number);
     }
-    if count > MOST_TERMS {
+    if count > MOST_LINE_TERMS {
         return Err(Bad::Terms);
     }
     if !all_there {

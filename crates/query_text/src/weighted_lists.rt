@@ -8,7 +8,7 @@ ghost use Rattle.query_text.specs.Parse.{Parses, weighted_named};
 use crate::fields::next_field;
 use crate::numbers::number;
 use crate::query::{Bad, ParseError};
-use crate::term_lists::{MOST_TERMS, keep};
+use crate::term_lists::{MOST_LINE_TERMS, keep};
 use crate::weighted_terms::Weighted;
 use smallvec::SmallVec;
 use std::alloc::{AllocError, Global};
@@ -83,7 +83,7 @@ fn first_fields(alloc: Global, arguments: &[u8], terms: u32) -> Result<(FieldLis
     if !all_weigh {
         return Err(Bad::Weight);
     }
-    if count > MOST_TERMS {
+    if count > MOST_LINE_TERMS {
         return Err(Bad::Terms);
     }
     if !all_there {

@@ -7,7 +7,7 @@ ghost use Rattle.scan_plans.specs.Matches.{AreBelow, in_all, in_any};
 ghost use Rattle.scan_plans.specs.Scan.{in_each};
 ghost use Rattle.scan_plans.specs.Window.{AllAreMarked, AreMarkedBy, IsMarkedWord, is_marked, passing};
 
-use crate::scan::{catch_up, least_doc};
+use crate::scan::{least_doc, seek_all};
 use crate::window::{Block, MARKED_WORDS, mark_lists, new_marks};
 use cursor_api::{DocCursor, next_geq_is_first};
 use no_memory::NoMemory;
@@ -64,7 +64,7 @@ fn shared_docs<C: DocCursor>(
         next_try: 0,
     };
     while let Some(doc) = shortest.doc() {
-        let Some(next) = catch_up(others, doc) else {
+        let Some(next) = seek_all(others, doc) else {
             return Ok(docs);
         };
         if next != doc {

@@ -3,12 +3,12 @@ use Rattle.std.specs.Prelude.{◌≡◌, ℕ, ◌+◌, ◌*◌, ◌<◌, ◌≤�
 use Rattle.collection_model.specs.Collection.{Posting}
 use Rattle.scan_plans.specs.Window.{IsBlank, is_marked}
 use Rattle.topk_pruning.specs.declared.candidates.Candidate.{Candidate}
-use Rattle.topk_pruning.specs.declared.room.Room.{Room}
+use Rattle.topk_pruning.specs.declared.scorer.Scorer.{Scorer}
 use Rattle.topk_pruning.specs.declared.term.Term.{Term}
 use Rattle.topk_pruning.specs.Terms.{AreBefore, AreTermsIn, bounds, in_lists, score_in}
 
--- room for the terms of a query, of which there are so many, and for the next window of the n documents
-pub record IsReady (count n : ℕ) (r : Room) : Type 0 where
+-- A scorer has room for the terms of a query, of which there are so many, and for the next window of the n documents
+pub record IsReady (count n : ℕ) (r : Scorer) : Type 0 where
   -- there is room for each term
   pub each : length r.terms.items ≡ count
   -- the window has a document

@@ -10,8 +10,8 @@ use crate::ceilings::Greatest;
 use crate::essential::essential_now;
 use crate::floor::common_score;
 use crate::probe::doc_from;
-use crate::room::Room;
 use crate::saves::pruning_can_save;
+use crate::scorer::Scorer;
 use crate::shortlist::Shortlist;
 use crate::term::{Term, terms_by_bound};
 use cursor_api::DocCursor;
@@ -72,11 +72,11 @@ fn score_essential<C: DocCursor>(
     let terms = terms_by_bound(alloc, cursors, weights)?;
     let floor = common_score(cursors, &terms, k);
     let mut top = Shortlist::new(alloc, k, n, floor)?;
-    let mut room = Room::new(alloc, &terms, n)?;
+    let mut scorer = Scorer::new(alloc, &terms, n)?;
     let mut from = 0;
     while let Some(first) = next_candidate(cursors, &terms, &top, from) {
-        room.narrow_after(postings_between(cursors, &terms, from, first, n));
-        from = room.score_from(cursors, &terms, &Greatest, first, &mut top);
+        scorer.narrow_after(postings_between(cursors, &terms, from, first, n));
+        from = scorer.score_from(cursors, &terms, &Greatest, first, &mut top);
     }
     top.into_list()
 }

@@ -10,7 +10,7 @@ invariant-loop-first g l = record {
   lists : map g.C.DocCursor.list l.cursors ≡ map g.C.DocCursor.list l.initial.cursors;
   passed : All (λ c. HasPassed l.from (g.C.DocCursor.list c) (g.C.DocCursor.place c)) l.cursors;
   in_range : l.from ≤ l.fn.n;
-  ready : IsReady (length l.terms.items) l.fn.n l.room;
+  ready : IsReady (length l.terms.items) l.fn.n l.scorer;
   k : l.top.k ≡ l.fn.k;
   n : l.top.n ≡ l.fn.n;
   floor : l.top.floor ≡ l.floor;

@@ -2,7 +2,7 @@ use Rattle.std.proofs.Common.{◌≡◌, map, true}
 use Rattle.std.specs.List.{All, AllWithin}
 use Rattle.scan_plans.specs.Matches.{has_doc}
 use Rattle.scan_plans.specs.Scan.{HasPassed}
-use Rattle.scan_plans.proofs.scan.catch_up.Given as goal
+use Rattle.scan_plans.proofs.scan.seek_all.Given as goal
 
 abbrev pub invariant-loop-cursor : goal.invariant-loop-cursor
 invariant-loop-cursor g l = record {

@@ -6,9 +6,9 @@ use Rattle.topk_pruning.specs.declared.term.Term.{Term}
 use Rattle.topk_pruning.specs.Terms.{AreSpared, AreWindowTerms, FollowsTo}
 use Rattle.topk_pruning.proofs.Alike.{alike-moved, alike-apart, in-moved, in-narrower, follows-alike}
 use Rattle.topk_pruning.proofs.Near.{written-back, follows-none}
-use Rattle.topk_pruning.proofs.room.score_up_to.Given as given
-use Rattle.topk_pruning.proofs.room.score_up_to.Goals as goal
-use Rattle.topk_pruning.proofs.room.score_up_to.Goals.{After-deref-2}
+use Rattle.topk_pruning.proofs.scorer.score_up_to.Given as given
+use Rattle.topk_pruning.proofs.scorer.score_up_to.Goals as goal
+use Rattle.topk_pruning.proofs.scorer.score_up_to.Goals.{After-deref-2}
 
 pub returns-then-essential-eq0-clause-searched : goal.returns-then-essential-eq0-clause-searched
 returns-then-essential-eq0-clause-searched g c =
@@ -17,21 +17,21 @@ returns-then-essential-eq0-clause-searched g c =
       k = refl;
       n = refl;
       floor = refl;
-      held = follows-none c.top_list_grows.ensures.skipped (map g.C.DocCursor.list c.args.cursors.now) c.args.room.now.terms.items c.args.top.now.floor c.args.top.now.k c.args.first c.args.reach c.essential_now-essential.result c.args.top.now.held
+      held = follows-none c.top_list_grows.ensures.skipped (map g.C.DocCursor.list c.args.cursors.now) c.args.scorer.now.terms.items c.args.top.now.floor c.args.top.now.k c.args.first c.args.reach c.essential_now-essential.result c.args.top.now.held
           (omega (arith, c.requires.later)) c.requires.terms.terms_in c.if-essential-eq0.true spared;
     }
 
 -- the terms of the window: those of the room in another order
-reordered : (g : given.Over) (c : After-deref-2 g) → IsPermutation c.args.room.now.terms.items c.with_short_lists-essential.new.terms × (c.deref-2.result.now ≡ c.with_short_lists-essential.new.terms)
+reordered : (g : given.Over) (c : After-deref-2 g) → IsPermutation c.args.scorer.now.terms.items c.with_short_lists-essential.new.terms × (c.deref-2.result.now ≡ c.with_short_lists-essential.new.terms)
 reordered g c = (
   subst (λ (ts : List Term). IsPermutation ts c.with_short_lists-essential.new.terms) c.as_mut_slice.ensures.value c.with_short_lists-essential.ensures.moved,
-  c.deref-2.ensures.value ∙ written-back c.args.room.now.terms.len c.with_short_lists-essential.new.terms c.args.room.now.terms.items c.args.room.now.terms.ok.0 (c.with_short_lists-essential.auto.terms ∙ ap length c.as_mut_slice.ensures.value),
+  c.deref-2.ensures.value ∙ written-back c.args.scorer.now.terms.len c.with_short_lists-essential.new.terms c.args.scorer.now.terms.items c.args.scorer.now.terms.ok.0 (c.with_short_lists-essential.auto.terms ∙ ap length c.as_mut_slice.ensures.value),
 )
 
 pub score_window-requires-clause-terms : goal.score_window-requires-clause-terms
 score_window-requires-clause-terms g c =
     let lists : List (List Posting) = map g.C.DocCursor.list c.args.cursors.now in
-    let old : List Term = c.args.room.now.terms.items in
+    let old : List Term = c.args.scorer.now.terms.items in
     let near : List Term = c.with_short_lists-essential.new.terms in
     let first : ℕ = c.args.first in
     let is = reordered g (goal.at.score_window-requires-clause-terms g c).After-deref-2 in
@@ -74,6 +74,6 @@ returns-clause-searched g c =
       k = searched.k;
       n = searched.n;
       floor = searched.floor;
-      held = follows-alike (map g.C.DocCursor.list c.args.cursors.now) c.args.room.now.terms.items c.with_short_lists-essential.new.terms ranking.floor ranking.k c.args.first to ranking.held new (alike-moved c.args.room.now.terms.items c.with_short_lists-essential.new.terms is.0)
+      held = follows-alike (map g.C.DocCursor.list c.args.cursors.now) c.args.scorer.now.terms.items c.with_short_lists-essential.new.terms ranking.floor ranking.k c.args.first to ranking.held new (alike-moved c.args.scorer.now.terms.items c.with_short_lists-essential.new.terms is.0)
           (subst (λ (ts : List Term). FollowsTo (map g.C.DocCursor.list c.args.cursors.now) ts ranking.floor ranking.k c.args.first to ranking.held new) is.1 searched.held);
     }

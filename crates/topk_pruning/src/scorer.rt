@@ -27,7 +27,7 @@ const MOST_WORDS: usize = 64;
 
 // What the windows of documents of a query are scored with.
 #[derive(Drop)]
-pub(crate) struct Room {
+pub(crate) struct Scorer {
     // The terms with their bounds in a window.
     terms: Vec<Term>,
     scores: Vec<u64>,
@@ -39,9 +39,9 @@ pub(crate) struct Room {
     n: u32,
 }
 
-impl Room {
-    // Room for the windows of a query with these terms, the first of 8 documents.
-    pub(crate) fn new(alloc: Global, terms: &[Term], n: u32) -> Result<Room, NoMemory>
+impl Scorer {
+    // A scorer of the windows of a query with these terms, the first of 8 documents.
+    pub(crate) fn new(alloc: Global, terms: &[Term], n: u32) -> Result<Scorer, NoMemory>
         ensures { IfOk result (IsReady (length terms.now) n) }
     {
         let mut near = Vec::new(alloc);
@@ -49,7 +49,7 @@ impl Room {
         let words = scored_words(n).min(MOST_WORDS);
         let scores = new_scores(alloc, words)?;
         let marks = new_marks(alloc, words)?;
-        Ok(Room {
+        Ok(Scorer {
             terms: near,
             scores,
             marks,
@@ -96,48 +96,48 @@ impl Room {
     }
 }
 
-// Scores a window of the documents from `first` on by the terms of the room, whose bounds hold up to `reach`, and tells from which
+// Scores a window of the documents from `first` on by the terms of the scorer, whose bounds hold up to `reach`, and tells from which
 // document on the search goes on. Where all the bounds together do not beat the bar, no document up to there can be held, and no
 // cursor moves.
 fn score_up_to<C: DocCursor>(
     cursors: &mut [C],
     first: u32,
     reach: u32,
-    room: &mut Room,
+    scorer: &mut Scorer,
     top: &mut Shortlist,
 ) -> u32
-    requires terms { AreWindowTerms (map C.list cursors.old) first reach room.old.terms.items }
+    requires terms { AreWindowTerms (map C.list cursors.old) first reach scorer.old.terms.items }
     requires passed { All (λ c. HasPassed first (C.list c) (C.place c)) cursors.old }
     requires search { IsSearch (map C.list cursors.old) first reach top.old }
     requires later { first < reach }
-    requires ready { IsReady (length room.old.terms.items) top.old.n room.old }
+    requires ready { IsReady (length scorer.old.terms.items) top.old.n scorer.old }
     ensures lists { map C.list cursors.new ≡ map C.list cursors.old }
     ensures passed { All (λ c. HasPassed result (C.list c) (C.place c)) cursors.new }
-    ensures ready { IsReady (length room.old.terms.items) top.old.n room.new }
+    ensures ready { IsReady (length scorer.old.terms.items) top.old.n scorer.new }
     ensures between { (first < result) × (result ≤ reach) }
-    ensures searched { IsSearchedTo (map C.list cursors.old) room.old.terms.items first result
+    ensures searched { IsSearchedTo (map C.list cursors.old) scorer.old.terms.items first result
         top.old top.new }
 {
     top_list_grows();
-    let width = room.width;
-    room.width = width.saturating_mul(16).min(room.scores.len());
-    let essential = essential_now(&room.terms, top);
+    let width = scorer.width;
+    scorer.width = width.saturating_mul(16).min(scorer.scores.len());
+    let essential = essential_now(&scorer.terms, top);
     if essential == 0 {
         return reach;
     }
-    let essential = with_short_lists(cursors, room.terms.as_mut_slice(), essential);
+    let essential = with_short_lists(cursors, scorer.terms.as_mut_slice(), essential);
     let count = width.min((reach - first) as usize);
     let terms = WindowTerms {
-        all: &room.terms,
+        all: &scorer.terms,
         essential,
         first,
         count,
     };
     terms.score_window(
         cursors,
-        room.scores.as_mut_slice(),
-        room.marks.as_mut_slice(),
-        &mut room.block,
+        scorer.scores.as_mut_slice(),
+        scorer.marks.as_mut_slice(),
+        &mut scorer.block,
         top,
     );
     first + count as u32

@@ -5,9 +5,9 @@ use Rattle.std.proofs.lemmas.List.Elements.{All-set, AllWithin-more_set}
 use Rattle.scan_plans.specs.Matches.{has_doc}
 use Rattle.scan_plans.specs.Scan.{doc_at, HasPassed, StandsFrom, in_each}
 use Rattle.scan_plans.proofs.Steps.{lists-set, moved-stands, each-false, each-true, nothing-left, next-is-later, nothing-between, has-next}
-use Rattle.scan_plans.proofs.scan.catch_up.Given as given
-use Rattle.scan_plans.proofs.scan.catch_up.Goals as goal
-use Rattle.scan_plans.proofs.scan.catch_up.Goals.{After-next_geq}
+use Rattle.scan_plans.proofs.scan.seek_all.Given as given
+use Rattle.scan_plans.proofs.scan.seek_all.Goals as goal
+use Rattle.scan_plans.proofs.scan.seek_all.Goals.{After-next_geq}
 
 -- the cursors once one has moved: their lists, what they have passed, and where that one stands
 moved : (g : given.Over) (c : After-next_geq g) → (map g.C.DocCursor.list (set c.loop-cursor.cursors c.loop-cursor.cursor-index c.next_geq.new.self) ≡ map g.C.DocCursor.list c.args.cursors.now)

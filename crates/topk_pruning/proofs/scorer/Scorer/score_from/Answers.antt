@@ -4,9 +4,9 @@ use Rattle.topk_pruning.specs.declared.term.Term.{Term}
 use Rattle.topk_pruning.specs.Terms.{AreWindowTerms, FollowsTo}
 use Rattle.topk_pruning.proofs.Alike.{alike-all, alike-apart, follows-alike, in-narrower}
 use Rattle.topk_pruning.proofs.Near.{written-back}
-use Rattle.topk_pruning.proofs.room.Room.score_from.Given as given
-use Rattle.topk_pruning.proofs.room.Room.score_from.Goals as goal
-use Rattle.topk_pruning.proofs.room.Room.score_from.Goals.{After-bound_terms}
+use Rattle.topk_pruning.proofs.scorer.Scorer.score_from.Given as given
+use Rattle.topk_pruning.proofs.scorer.Scorer.score_from.Goals as goal
+use Rattle.topk_pruning.proofs.scorer.Scorer.score_from.Goals.{After-bound_terms}
 
 -- the terms that were bounded are those of the room
 bounded : (g : given.Over) (c : After-bound_terms g) → take c.args.self.now.terms.len (c.bound_terms.new.near ++ drop (length c.bound_terms.new.near) c.args.self.now.terms.items) ≡ c.bound_terms.new.near
