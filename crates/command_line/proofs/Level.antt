@@ -1,7 +1,7 @@
 -- A command line of texts and an option takes them, and has them among its matches.
-use Rattle.std.proofs.Common.{◌≡◌, refl, sym, ap, ap₂, ◌∙◌, subst, append_assoc}
+use Rattle.std.proofs.Common.{◌≤◌, ◌≡◌, refl, sym, ap, ap₂, ◌∙◌, subst, append_assoc, arith}
 use Rattle.std.proofs.lemmas.List.{append-nil}
-use Rattle.std.specs.Prelude.{◌&&◌, nat_le, length, Bool, true, false, is_some, List, [], ◌∷◌, ◌++◌, codes, Option, Some, None, fold}
+use Rattle.std.specs.Prelude.{◌&&◌, length, Bool, true, false, is_some, List, [], ◌∷◌, ◌++◌, codes, Option, Some, None, fold}
 use Rattle.std.specs.List.{list_all}
 use Rattle.clap.specs.Lexer.{usize_max}
 use Rattle.clap.specs.Walk.{Text, Walk, idle, option, positional, nothing_held, walked, walk_from, finished, all_of, settled}
@@ -31,9 +31,7 @@ top choice = (program choice).top
 
 pub simple : (choice : Option Choice) → is_simple (app_with choice) ≡ true
 unfolding clap_on_literals
-simple None = refl
-simple (Some Format) = refl
-simple (Some Plan) = refl
+simple choice = grind arith
 
 -- whether words pass, from where their walk ends
 abbrev passed : Option Choice → Walk → Bool → Bool
@@ -58,11 +56,10 @@ read_at : (choice : Option Choice) (texts words : List Text) (last : Walk) (valu
     → Reads choice texts words value
 unfolding walk_passes
 read_at choice texts words last value leads e t v =
-    let found = ap (λ (w : Walk). finished (top choice).rules w.held) leads.0 in
     record {
-      passes = ap (λ b. b && passed choice (fold (walked (top choice).rules []) (walk_from nothing_held) words) (walk_passes (top choice) [] (walk_from nothing_held) words)) (simple choice) ∙ ap₂ (passed choice) leads.0 leads.1 ∙ e;
-      texts_are = ap (all_of (codes "texts")) found ∙ t;
-      said_is = ap (value_found choice) found ∙ v;
+      passes = ap (λ b. b && passed choice (fold (walked (top choice).rules []) (walk_from nothing_held) words) (walk_passes (top choice) [] (walk_from nothing_held) words)) (simple choice) ∙ ap₂ (passed choice) leads.walk leads.passes ∙ e;
+      texts_are = grind (arith, leads.walk);
+      said_is = grind (arith, leads.walk);
     }
 
 -- where the walk stands after some texts
@@ -77,30 +74,27 @@ reading words = record {
 
 -- the texts one after the other
 texts_lead : (choice : Option Choice) (words more rest : List Text) → ArePlain more → Leads (top choice) (reading words) (more ++ rest) (reading (words ++ more)) rest
-texts_lead choice words [] rest h = subst (λ ws. Leads (top choice) (reading words) rest (reading ws) rest) (sym (append-nil words)) (refl, refl)
+texts_lead choice words [] rest h = subst (λ ws. Leads (top choice) (reading words) rest (reading ws) rest) (sym (append-nil words)) (record { walk = refl; passes = refl })
 texts_lead choice words (word ∷ more) rest h =
     subst (λ ws. Leads (top choice) (reading words) (word ∷ (more ++ rest)) (reading ws) rest) (append_assoc words (word ∷ []) more)
-    (leads_on (top choice) (reading words) (reading (words ++ word ∷ [])) (reading ((words ++ word ∷ []) ++ more)) (word ∷ (more ++ rest)) (more ++ rest) rest
-    (word_leads (top choice) positional 1 (reading words).held word h.0 refl (more ++ rest)) (texts_lead choice (words ++ word ∷ []) more rest h.1))
+    (leads_on (word_leads (top choice) positional 1 (reading words).held word h.0 refl (more ++ rest)) (texts_lead choice (words ++ word ∷ []) more rest h.1))
 
-module _ (first : Text) (more : List Text) (h : IsPlain first) (hs : ArePlain more) (some : nat_le 1 (length (first ∷ more)) ≡ true) (few : nat_le (length (first ∷ more)) usize_max ≡ true) where
+module _ (first : Text) (more : List Text) (h : IsPlain first) (hs : ArePlain more) (few : length (first ∷ more) ≤ usize_max) where
   texts_read : (choice : Option Choice) (rest : List Text) → Leads (top choice) (walk_from nothing_held) (first ∷ (more ++ rest)) (reading (first ∷ more)) rest
-  texts_read choice rest =
-      leads_on (top choice) (walk_from nothing_held) (reading (first ∷ [])) (reading (first ∷ more)) (first ∷ (more ++ rest)) (more ++ rest) rest
-      (word_leads (top choice) idle 1 nothing_held first h refl (more ++ rest)) (texts_lead choice (first ∷ []) more rest hs)
+  texts_read choice rest = leads_on (word_leads (top choice) idle 1 nothing_held first h refl (more ++ rest)) (texts_lead choice (first ∷ []) more rest hs)
 
   settles : (choice : Option Choice) → settle_passes (top choice).rules false (reading (first ∷ more)).held ≡ true
   unfolding clap_on_literals
-  settles choice = ap (λ b. b && (nat_le (length (first ∷ more)) usize_max && list_all (λ (w : Text). true) more)) some ∙ ap₂ (λ l v. l && v) few (accepted more)
+  settles choice = grind (arith, accepted more)
 
   -- no option
   pub unsaid : (choice : Option Choice) → Reads choice (first ∷ more) (first ∷ (more ++ [])) (unsaid_of choice)
   unfolding clap_on_literals
-  unsaid None = read_at None (first ∷ more) (first ∷ (more ++ [])) (reading (first ∷ more)) [] (texts_read None []) (ap (λ b. b && true) (settles None)) refl refl
+  unsaid None = read_at None (first ∷ more) (first ∷ (more ++ [])) (reading (first ∷ more)) [] (texts_read None []) (grind (arith, settles None)) refl refl
   unsaid (Some Format) =
-      read_at (Some Format) (first ∷ more) (first ∷ (more ++ [])) (reading (first ∷ more)) (default_of Format) (texts_read (Some Format) []) (ap (λ b. b && true) (settles (Some Format))) refl refl
+      read_at (Some Format) (first ∷ more) (first ∷ (more ++ [])) (reading (first ∷ more)) (default_of Format) (texts_read (Some Format) []) (grind (arith, settles (Some Format))) refl refl
   unsaid (Some Plan) =
-      read_at (Some Plan) (first ∷ more) (first ∷ (more ++ [])) (reading (first ∷ more)) (default_of Plan) (texts_read (Some Plan) []) (ap (λ b. b && true) (settles (Some Plan))) refl refl
+      read_at (Some Plan) (first ∷ more) (first ∷ (more ++ [])) (reading (first ∷ more)) (default_of Plan) (texts_read (Some Plan) []) (grind (arith, settles (Some Plan))) refl refl
 
   -- where the walk stands after the option's name
   abbrev named : Choice → Walk
@@ -114,8 +108,8 @@ module _ (first : Text) (more : List Text) (h : IsPlain first) (hs : ArePlain mo
 
   name_leads : (choice : Choice) (rest : List Text) → Leads (top (Some choice)) (reading (first ∷ more)) ((codes "--" ++ name_of choice) ∷ rest) (named choice) rest
   unfolding clap_on_literals
-  name_leads Format rest = (refl, ap (λ b. (b && true) && walk_passes (top (Some Format)) [] (named Format) rest) (settles (Some Format)))
-  name_leads Plan rest = (refl, ap (λ b. (b && true) && walk_passes (top (Some Plan)) [] (named Plan) rest) (settles (Some Plan)))
+  name_leads Format rest = record { walk = refl; passes = ap (λ b. (b && true) && walk_passes (top (Some Format)) [] (named Format) rest) (settles (Some Format)) }
+  name_leads Plan rest = record { walk = refl; passes = ap (λ b. (b && true) && walk_passes (top (Some Plan)) [] (named Plan) rest) (settles (Some Plan)) }
 
   -- and after its value
   abbrev valued : Choice → Text → Walk
@@ -124,10 +118,8 @@ module _ (first : Text) (more : List Text) (h : IsPlain first) (hs : ArePlain mo
   -- the option with a value
   said_leads : (choice : Choice) (value : Text) → IsPlain value → Leads (top (Some choice)) (walk_from nothing_held) (first ∷ (more ++ (codes "--" ++ name_of choice) ∷ value ∷ [])) (valued choice value) []
   said_leads choice value v =
-      leads_on (top (Some choice)) (walk_from nothing_held) (reading (first ∷ more)) (valued choice value) (first ∷ (more ++ (codes "--" ++ name_of choice) ∷ value ∷ [])) ((codes "--" ++ name_of choice) ∷ value ∷ []) []
-      (texts_read (Some choice) ((codes "--" ++ name_of choice) ∷ value ∷ []))
-      (leads_on (top (Some choice)) (reading (first ∷ more)) (named choice) (valued choice value) ((codes "--" ++ name_of choice) ∷ value ∷ []) (value ∷ []) []
-      (name_leads choice (value ∷ [])) (word_leads (top (Some choice)) (option (name_of choice)) 1 (named choice).held value v refl []))
+      leads_on (texts_read (Some choice) ((codes "--" ++ name_of choice) ∷ value ∷ []))
+      (leads_on (name_leads choice (value ∷ [])) (word_leads (top (Some choice)) (option (name_of choice)) 1 (named choice).held value v refl []))
 
   pub said : (choice : Choice) (value : Text) → IsPlain value → Reads (Some choice) (first ∷ more) (first ∷ (more ++ (codes "--" ++ name_of choice) ∷ value ∷ [])) value
   unfolding clap_on_literals

@@ -1,6 +1,4 @@
-mod Joined
-mod TakenPlaces
-mod Plain
+mod Endings
 mod Found
 mod PlainWalk
 mod Level

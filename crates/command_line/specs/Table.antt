@@ -22,7 +22,7 @@ abbrev pub most_segments : ℕ
 most_segments = 64
 
 -- so many texts behind a verb, and an option or none
-abbrev texts : List ℕ → Verb → ℕ → Option Choice → Row
+abbrev pub texts : List ℕ → Verb → ℕ → Option Choice → Row
 texts name does count may = record { name = name; verb = does; fewest = count; most = count; choice = may }
 
 -- the words of each command

@@ -1,5 +1,6 @@
 ghost use Rattle.std.specs.Prelude.{◌≡◌};
-ghost use Rattle.command_line.specs.Private.CommandLine.{error_of_matching};
+ghost use Rattle.clap.specs.Words.{kind_of};
+ghost use Rattle.command_line.specs.Private.CommandLine.{error_of_kind};
 
 use clap::error::ErrorKind;
 
@@ -13,7 +14,7 @@ pub enum WordsError {
 }
 
 impl From<clap::Error> for WordsError {
-    ghost from_gives = { λ e error. error ≡ error_of_matching e };
+    ghost from_gives = { λ e error. error ≡ error_of_kind (kind_of e) };
 
     fn from(e: clap::Error) -> WordsError {
         match e.kind() {

@@ -1,11 +1,11 @@
-ghost use Rattle.std.specs.Prelude.{◌≡◌, ℕ, List, ◌∷◌, ◌≤◌, length, take, true, false, IfErr, IfOk, Some, is_some, option_map};
+ghost use Rattle.std.specs.Prelude.{◌≡◌, ℕ, List, ◌∷◌, ◌≤◌, take, true, false, IfErr, IfOk, Some, is_some, option_map};
 ghost use Rattle.clap.specs.Words.{app_of, found_of, kind_of, rows_of, rule_of};
 ghost use Rattle.clap.specs.declared.error.kind.ErrorKind.TheVariants.{OutOfMemory};
 ghost use Rattle.command_line.specs.Asked.{asked};
 ghost use Rattle.command_line.specs.Command.{by_row, command_of, texts_before};
 ghost use Rattle.command_line.specs.Command as line;
 ghost use Rattle.command_line.specs.Table.{seen};
-ghost use Rattle.command_line.specs.Private.CommandLine.{Gives, IsRead, app_with, option_rule, texts_rule, value_found};
+ghost use Rattle.command_line.specs.Private.CommandLine.{Gives, IsRead, app_with, option_rule, value_found};
 ghost use Rattle.command_line.specs.WordsErrors.{error_of_words};
 
 use crate::error::WordsError;
@@ -16,6 +16,7 @@ use std::alloc::{AllocError, Global};
 
 /// The command of the words, the program's name first. Words that are none are usage, and for them no memory is taken; of words that
 /// are one there is none only where memory is refused.
+#[tactic(auto, using(crate::proofs::Found::no_verb))]
 pub fn parse_words<'a>(alloc: Global, words: &'a [String]) -> Result<Command<'a>, WordsError>
     ensures command { IfOk result (λ command. Some (asked command)
         ≡ command_of (line.texts words.entry.now)) }
@@ -77,6 +78,7 @@ fn read_row<'a>(row: Row, words: &'a [String], found: &ArgMatches<'a>) -> Option
 }
 
 // The texts among the matches: as many of the words, from the first on.
+#[tactic(auto, using(crate::proofs::Found::matched))]
 fn texts_found<'a>(row: Row, words: &'a [String], found: &ArgMatches<'a>) -> Option<&'a [String]>
     requires { IsRead (seen row) (line.texts words.now) (rows_of (found_of found.now)) }
     ensures { option_map (λ texts. line.texts texts.now) result
@@ -87,6 +89,7 @@ fn texts_found<'a>(row: Row, words: &'a [String], found: &ArgMatches<'a>) -> Opt
 }
 
 // The value of an option among the matches, and an empty text where there may be none.
+#[tactic(auto, using(crate::proofs::Found::matched))]
 fn value_found<'a>(choice: Option<Choice>, found: &ArgMatches<'a>) -> Option<&'a str>
     ensures { option_map (λ text. text.now) result
         ≡ value_found choice (rows_of (found_of found.now)) }

@@ -1,4 +1,4 @@
-ghost use Rattle.std.specs.Prelude.{◌≡◌, ◌+◌, map, length, drop, option_map};
+ghost use Rattle.std.specs.Prelude.{◌≡◌, map, option_map};
 ghost use Rattle.command_line.specs.Table as words;
 ghost use Rattle.command_line.specs.Table.{seen, table, row_of};
 
@@ -68,44 +68,35 @@ fn rows() -> [Row; 14]
     ensures { map seen result ≡ table }
 {
     [
-        row_with("build", Verb::Build, 2, 2, Some(Choice::Format)),
-        row_with("query", Verb::Query, 1, 1, Some(Choice::Plan)),
-        row_with("answer", Verb::Answer, 1, 1, Some(Choice::Plan)),
-        row_with("inspect", Verb::Inspect, 1, 1, None),
-        row_with("generate", Verb::Generate, 3, 3, None),
-        row_with("migrate", Verb::Migrate, 2, 2, None),
-        row_with("audit", Verb::Audit, 1, 1, None),
-        row_with("blocks", Verb::Blocks, 2, 2, None),
-        row_with("bquery", Verb::BlockQuery, 2, 2, None),
-        row_with("remap", Verb::Remap, 3, 3, None),
-        row_with("segments", Verb::Segments, 1, MOST, Some(Choice::Plan)),
-        row_with("pack", Verb::Pack, 2, 2, None),
-        row_with("repack", Verb::Repack, 2, 2, None),
-        row_with("export", Verb::Export, 2, 2, None),
+        texts("build", Verb::Build, 2, Some(Choice::Format)),
+        texts("query", Verb::Query, 1, Some(Choice::Plan)),
+        texts("answer", Verb::Answer, 1, Some(Choice::Plan)),
+        texts("inspect", Verb::Inspect, 1, None),
+        texts("generate", Verb::Generate, 3, None),
+        texts("migrate", Verb::Migrate, 2, None),
+        texts("audit", Verb::Audit, 1, None),
+        texts("blocks", Verb::Blocks, 2, None),
+        texts("bquery", Verb::BlockQuery, 2, None),
+        texts("remap", Verb::Remap, 3, None),
+        Row {
+            most: MOST,
+            ..texts("segments", Verb::Segments, 1, Some(Choice::Plan))
+        },
+        texts("pack", Verb::Pack, 2, None),
+        texts("repack", Verb::Repack, 2, None),
+        texts("export", Verb::Export, 2, None),
     ]
 }
 
-// A row of the table.
-fn row_with(
-    name: &'static str,
-    verb: Verb,
-    fewest: usize,
-    most: usize,
-    choice: Option<Choice>,
-) -> Row
-    ensures { result ≡ record {
-      name = name.entry;
-      verb = verb;
-      fewest = fewest;
-      most = most;
-      choice = choice;
-    } }
+// So many texts behind a verb, and an option or none.
+fn texts(name: &'static str, verb: Verb, count: usize, choice: Option<Choice>) -> Row
+    ensures { seen result ≡ words.texts name.now verb count choice }
 {
     Row {
         name,
         verb,
-        fewest,
-        most,
+        fewest: count,
+        most: count,
         choice,
     }
 }

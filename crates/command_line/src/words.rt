@@ -1,4 +1,4 @@
-ghost use Rattle.std.specs.Prelude.{◌≡◌, ◌≤◌, nat_le, length, ◌&&◌, ◌++◌, bytes_eq, option_map, string_bytes};
+ghost use Rattle.std.specs.Prelude.{◌≡◌, ◌≤◌, length, ◌++◌, bytes_eq, option_map, string_bytes};
 ghost use Rattle.std.specs.List.{prefix_len};
 ghost use Rattle.command_line.specs.Asked.{asked};
 ghost use Rattle.command_line.specs.Command.{built_in, by_row, chosen_in, command_with, format_of, is_file_of, is_text, migrated_to, one_of, plan_of, takes_place, texts, three_of, two_of, value_in};
@@ -77,18 +77,11 @@ pub(crate) fn by_row<'a>(row: Row, words: &'a [String]) -> Option<Command<'a>>
     ensures { option_map asked result ≡ by_row (seen row) (texts words.now) }
 {
     let count = texts_before(words);
-    if !may_have(row, count) {
+    if count < row.fewest || row.most < count {
         return None;
     }
     let (texts, rest) = words.split_at(count);
     command_with(row.verb, texts, value_in(row.choice, rest)?)
-}
-
-// Whether so many texts may stand behind the verb of a row.
-fn may_have(row: Row, count: usize) -> bool
-    ensures { result ≡ (nat_le row.fewest count && nat_le count row.most) }
-{
-    row.fewest <= count && count <= row.most
 }
 
 // How many words stand before the first that can be no text of a command.
@@ -228,6 +221,7 @@ fn three(words: &[String]) -> Option<(&str, &str, &str)>
 }
 
 // Whether a collection under a new base would take the place of the map, or of a file of the collection.
+#[tactic(auto, using(crate::proofs::Endings::place_taken))]
 fn takes_place(base: &str, map: &str, to: &str) -> bool
     ensures { result ≡ takes_place base.now map.now to.now }
 {
@@ -238,14 +232,11 @@ fn takes_place(base: &str, map: &str, to: &str) -> bool
 fn parse_plan(name: &str) -> Option<Plan>
     ensures { result ≡ plan_of name.now }
 {
-    if name == "exhaustive" {
-        Some(Plan::Exhaustive)
-    } else if name == "wand" {
-        Some(Plan::Wand)
-    } else if name == "maxscore" {
-        Some(Plan::MaxScore)
-    } else {
-        None
+    match name {
+        "exhaustive" => Some(Plan::Exhaustive),
+        "wand" => Some(Plan::Wand),
+        "maxscore" => Some(Plan::MaxScore),
+        _ => None,
     }
 }
 
@@ -253,12 +244,10 @@ fn parse_plan(name: &str) -> Option<Plan>
 fn parse_format(name: &str) -> Option<Format>
     ensures { result ≡ format_of name.now }
 {
-    if name == "1" {
-        Some(Format::One)
-    } else if name == "2" {
-        Some(Format::Two)
-    } else {
-        None
+    match name {
+        "1" => Some(Format::One),
+        "2" => Some(Format::Two),
+        _ => None,
     }
 }
 
@@ -273,6 +262,7 @@ fn is_file_of(base: &str, name: &str) -> bool
 }
 
 // Whether a name is a text and then an ending.
+#[tactic(auto, using(crate::proofs::Endings::joined_eq))]
 fn is_joined(name: &[u8], text: &[u8], ending: &[u8]) -> bool
     ensures { result ≡ bytes_eq name.now (text.now ++ ending.now) }
 {

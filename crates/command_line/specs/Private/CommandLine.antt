@@ -1,9 +1,8 @@
 use Rattle.std.specs.Prelude.{◌≡◌, take, List, [], ◌∷◌, true, codes, Option, Some, None, option_and_then, IfErr, IfOk, Result}
 use Rattle.clap.specs.Lexer.{usize_max}
-use Rattle.clap.specs.Words.{App, Row as Found, Rule, Text, all_of, first_of, new_rule, kind_of}
+use Rattle.clap.specs.Words.{App, Row as Found, Rule, Text, all_of, first_of, new_rule}
 use Rattle.clap.specs.Simple.{new_shape}
 use Rattle.clap.specs.declared.builder.action.ArgAction.TheVariants.{Set}
-use Rattle.clap.specs.declared.error.Error.{Error}
 use Rattle.clap.specs.declared.error.kind.ErrorKind.{ErrorKind}
 use Rattle.clap.specs.declared.error.kind.ErrorKind.TheVariants.{OutOfMemory}
 use Rattle.command_line.specs.declared.error.WordsError.{WordsError}
@@ -50,7 +49,3 @@ pub record IsRead (row : Row) (words : List Text) (found : List Found) : Type 0 
 abbrev pub error_of_kind : ErrorKind → WordsError
 error_of_kind OutOfMemory = refused.NoMemory
 error_of_kind kind = refused.Usage
-
--- the same by the error
-abbrev pub error_of_matching : Error → WordsError
-error_of_matching e = error_of_kind (kind_of e)

@@ -1,9 +1,8 @@
 use Rattle.std.proofs.Common.{◌∙◌, ◌∷◌, sym, ap, subst, string_bytes}
 use Rattle.std.proofs.lemmas.List.{take_rest}
 use Rattle.command_line.specs.Command.{command_of, texts}
-use Rattle.command_line.specs.WordsErrors.{error_of_words}
 use Rattle.command_line.specs.Private.CommandLine.{Gives}
-use Rattle.command_line.proofs.Plain.{named, no_verb}
+use Rattle.command_line.proofs.Found.{named}
 use Rattle.command_line.proofs.parsing.parse_words.Goals as goal
 use Rattle.command_line.proofs.parsing.parse_words.Goals.{After-parse_verb}
 
@@ -19,6 +18,3 @@ returns-in-len2-up-clause-command c = (given c).0
 
 pub returns-in-len2-up-clause-error : goal.returns-in-len2-up-clause-error
 returns-in-len2-up-clause-error c = (given c).1
-
-pub returns-in_default-clause-error : goal.returns-in_default-clause-error
-returns-in_default-clause-error c = ap error_of_words (sym (no_verb c.args.words.now c.in_default.len_below))
