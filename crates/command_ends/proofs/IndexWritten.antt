@@ -1,12 +1,11 @@
 -- What a run leaves that wrote the words of a collection as an index, or stopped at that.
-use Rattle.std.proofs.Common.{◌≡◌, ℕ, ◌<◌, ◌^◌, ap, subst, List, []}
-use Rattle.std.specs.Prelude.{Some, IsTrue, Ok, Err, unwrap_or}
+use Rattle.std.proofs.Common.{◌≡◌, ℕ, ◌<◌, ◌^◌, ap, subst, List, [], arith}
+use Rattle.std.specs.Prelude.{Some, IsTrue, Err, unwrap_or}
 use Rattle.std.specs.List.{All}
 use Rattle.collection_model.specs.Bytes.{word_bytes}
 use Rattle.collection_model.specs.Collection.{Collection, WellFormed}
 use Rattle.part_cost.specs.declared.formats.Format.{Format}
 use Rattle.part_cost.specs.Formats.{numbers_of}
-use Rattle.pef_io.specs.declared.fail.IoFail.TheVariants as call
 use Rattle.pef_io.specs.declared.fail.Slot.TheVariants.{Index}
 use Rattle.pef_io.specs.DepotState.{DepotState, bytes_under}
 use Rattle.index_file.specs.FileWords.{ListParts, file_words}
@@ -27,15 +26,13 @@ unmade_words e = Err (stop_of_making e)
 -- what comes behind the building of words
 pub behind_building : (format : Format) (Is : Collection → Type 0) (old new : Outside) (Then : Outcome → Type 0) (r : Written) → Then (outcome_by (stop_of_writing Index) r)
     → BuildsWordsThen format Is old new Then (outcome_by (stop_of_writing Index) r)
-behind_building format Is old new Then (Ok u) then = then
-behind_building format Is old new Then (Err call.Failed) then = then
-behind_building format Is old new Then (Err call.NoMemory) then = then
+behind_building format Is old new Then r then = grind arith
 
 -- The words of a collection were built.
 module _ (format : Format) (Is : Collection → Type 0) (old new : Outside) (words : List ℕ) (c : Collection) (parts : List ListParts)
     (built : AreBuilt format Is old.costs new.costs c parts) (are : words ≡ file_words (numbers_of format) c parts) where
   pub on_built : (P : List ℕ → Type 0) → P (word_bytes words) → OnBuiltBytes format Is old new P
-  on_built P p = let Q : List ℕ → Type 0 = λ ws. P (word_bytes ws) in (c, parts, built, subst Q are p)
+  on_built P p = (c, parts, built, rw (← are) p)
 
   -- where they were written, of 64 bits each, they stand under the name as an index
   pub found_written : All (λ x. x < 2 ^ 64) words → WellFormed (numbers_of format) c → (index : List ℕ) (d : DepotState)

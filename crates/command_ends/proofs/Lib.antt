@@ -1,8 +1,6 @@
 pub mod Started
 pub mod WordsLoaded
 pub mod Made
-pub mod TextAnswered
-pub mod TextPrinted
 pub mod FileWritten
 pub mod FilesWritten
 pub mod IndexWritten

@@ -1,13 +1,13 @@
 -- What a run leaves that made something behind a source that was read, whatever it made.
-use Rattle.std.proofs.Common.{◌≡◌, refl, sym, ◌∙◌, ap, inl, inr}
-use Rattle.std.specs.Prelude.{◌⊎◌, not, false, IsTrue, Err}
+use Rattle.std.proofs.Common.{◌≡◌, ◌∙◌, ap, inr, arith}
+use Rattle.std.specs.Prelude.{◌⊎◌, not, false, Err}
 use Rattle.pef_io.specs.declared.fail.Slot.{Slot}
 use Rattle.pef_io.specs.DepotState.{DepotState, SameSlots, SameStarts}
 use Rattle.outcomes.specs.declared.stop.Stop.TheVariants.{NoMemory}
-use Rattle.outcomes.specs.Outside.{Outside, OfFile, OfWriting, OfInput, OfOut}
+use Rattle.outcomes.specs.Outside.{Outside, OfWriting, OfInput, OfOut}
 use Rattle.outcomes.specs.Outcome.{Outcome, is_refusal}
 use Rattle.outcomes.specs.Ends.{EndsByFault}
-use Rattle.outcomes.proofs.Counted.{stays, all_end, not_of_file, not_true}
+use Rattle.outcomes.proofs.Counted.{stays, all_end}
 use Rattle.command_ends.specs.WrittenFile.{EndsByWriting, WritesOnlyAccepted}
 use Rattle.command_ends.specs.Sources.{Source, Accepts, ReadsFrom, Starts}
 use Rattle.command_ends.specs.Products.{Product, Completes, Does, Touches}
@@ -35,12 +35,7 @@ module _ (source : Source) (old new : Outside) (d : DepotState) (read : IsRead s
       → Leaves (Does source product Makes) (Starts source) old new outcome
   made product Makes outcome m makes = record {
     performs = record { ends = inr makes; refuses = read.refuses outcome; complete = m.complete; depot = m.touches };
-    faults = all_end old new outcome (record {
-      slots = λ slot. stays (OfFile slot) outcome _ _ (not_of_file outcome m.unrefused slot) (m.slots slot ∙ read.counts slot);
-      writing = m.writing;
-      input = m.input;
-      out = m.out;
-    });
+    faults = all_end old new outcome (grind (arith, stays, read.counts));
     starts = then_written source old.depot d new.depot outcome (read.starts outcome (ap not m.unrefused)) m.starts m.refusals;
     depot_tells = m.depot_tells ∙ read.reads.tells;
     input_tells = m.input_tells;
@@ -51,14 +46,4 @@ module _ (source : Source) (old new : Outside) (d : DepotState) (read : IsRead s
   pub only_accepted : (written : Slot → Type 0) (outcome : Outcome) → is_refusal outcome ≡ false → SameSlots d new.depot
       → EndsByWriting written outcome ⊎ (new.depot.create_faults ≡ d.create_faults) → EndsByWriting written outcome ⊎ (new.depot.finish_faults ≡ d.finish_faults)
       → WritesOnlyAccepted (ReadsFrom source) written (Accepts source old.depot) old new outcome
-  only_accepted written outcome unrefused slots creates finishes = record {
-    refused = λ h. absurd (not_true (sym unrefused ∙ h));
-    unaccepted = λ denied. absurd (denied read.accepted);
-    stay_started = λ slot h. (slots slot).0 ∙ read.reads.stay_started slot h;
-    other_slots = λ slot other. (
-      (slots slot).0 ∙ (read.reads.other_slots slot other).0,
-      λ t. (slots slot).1 (read.reads.tells ∙ t) ∙ (read.reads.other_slots slot other).1 t,
-    );
-    create_count = elim creates [ inl is ↦ inl is | inr same ↦ inr (same ∙ read.reads.create_count) ];
-    finish_count = elim finishes [ inl is ↦ inl is | inr same ↦ inr (same ∙ read.reads.finish_count) ];
-  }
+  only_accepted written outcome unrefused slots creates finishes = grind arith

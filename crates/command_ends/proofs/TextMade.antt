@@ -1,47 +1,82 @@
 -- What a run leaves that prints a text, or answers one, behind a source that was read.
-use Rattle.std.proofs.Common.{◌≡◌, ℕ, refl, List, inr}
-use Rattle.std.specs.Prelude.{Result}
+use Rattle.std.proofs.Common.{◌≡◌, List, ℕ, arith, ◌≢◌, ◌≤◌, ◌<◌, length}
+use Rattle.std.specs.Prelude.{IsTrue, Result, OnOk, Err}
+use Rattle.index_printing.specs.PrintLine.{PrintsLine}
+use Rattle.outcomes.specs.declared.stop.Stop.{Stop}
+use Rattle.outcomes.specs.declared.stop.Stop.TheVariants.{InputTooLarge}
+use Rattle.outcomes.specs.Outside.{Outside, Told, NoCallFailed, OfInput, OfOut, outside}
+use Rattle.outcomes.specs.Outcome.{is_refusal, done, Outcome}
+use Rattle.outcomes.specs.Stops.{outcome_by, stop_of_printing, stop_of_answering}
+use Rattle.outcomes.proofs.Counted.{Called, longer_than}
+use Rattle.command_ends.specs.PrintedText.{PrintsText}
 use Rattle.collection_model.specs.Collection.{Collection}
+use Rattle.text_replies.specs.declared.text.RunFault.{RunFault}
+use Rattle.text_replies.specs.declared.text.RunFault.TheVariants as answering
+use Rattle.text_replies.specs.AnswerText.{AnswersText}
+use Rattle.outcomes.specs.Ends.{OrTooLarge}
+use Rattle.command_ends.specs.AnsweredText.{AnswersInput, MustAnswer, longest_text}
 use Rattle.pef_io.specs.SourceState.{SourceState}
 use Rattle.pef_io.specs.SinkState.{SinkState}
 use Rattle.pef_io.specs.DepotState.{DepotState}
-use Rattle.index_printing.specs.PrintLine.{PrintsLine}
-use Rattle.text_replies.specs.AnswerText.{AnswersText}
-use Rattle.outcomes.specs.declared.stop.Stop.{Stop}
-use Rattle.outcomes.specs.declared.stop.Stop.TheVariants.{OutFault}
-use Rattle.outcomes.specs.Outside.{Outside, outside, OfWriting, OfInput, OfOut}
-use Rattle.outcomes.specs.Outcome.{Outcome}
-use Rattle.outcomes.specs.Stops.{outcome_by, stop_of_answering, stop_of_printing}
-use Rattle.outcomes.proofs.Counted.{stays, calls_complete, calls_end, calls_unrefused, others_stay}
-use Rattle.command_ends.specs.AnsweredText.{AnswersInput, longest_text}
 use Rattle.command_ends.specs.Sources.{Source, Finds, Starts}
-use Rattle.command_ends.specs.Products.{Does, Replies, Text, builds_words}
+use Rattle.command_ends.specs.Products.{Completes, Does, Replies, Text}
 use Rattle.command_ends.specs.Steps.AtSource.{IsRead}
 use Rattle.command_ends.specs.Steps.Leaves.{Leaves}
 use Rattle.command_ends.proofs.Made.{made}
-use Rattle.command_ends.proofs.SourceRead.{is_complete, promised}
-use Rattle.command_ends.proofs.TextAnswered.{Answer, answers_input, input_ends, must_answer, not_writing, out_ends, unrefused}
-use Rattle.command_ends.proofs.TextPrinted.{Printed}
+use Rattle.command_ends.proofs.SourceRead.{promised}
+
+-- ---- printing
+
+abbrev pub Printed : Type 0
+Printed = Called
+
+-- no printing is a refusal of what was read
+pub no_print_refuses : {P : Type 0} (r : Printed) → IsTrue (is_refusal (outcome_by stop_of_printing r)) → P
+no_print_refuses r h = grind arith
+
+-- what holds of a text that was printed holds where all is done
+pub where_done : {P : Type 0} (r : Printed) → OnOk r P → outcome_by stop_of_printing r ≡ done → P
+where_done r p is = grind arith
+
+-- what printing promises of a text is what the run promises of it
+pub prints : (Is : List ℕ → Type 0) (line : List ℕ) → Is line → (old new : Outside) (r : Printed) → PrintsLine line old.out new.out r → PrintsText Is old new (outcome_by stop_of_printing r)
+prints Is line is old new r p = grind arith
+
+-- ---- answering
+
+abbrev pub Answer : Type 0
+Answer = Result (Unit {0}) RunFault
+
+-- what `answer_text` promises over a collection that was found is what the run promises of its text
+pub answers_input : (Is : Collection → Type 0) (c : Collection) → Is c → (old new : Outside) (r : Answer)
+    → AnswersText c longest_text old.input new.input old.out new.out r → AnswersInput Is old new (outcome_by stop_of_answering r)
+answers_input Is c is old new r a = grind arith
+
+-- a text within the limit is answered whole, and a longer one is not
+by_length : (A : Type 0) (n : ℕ) (r : Answer) → r ≢ Err answering.Read → r ≢ Err answering.Write → (r ≡ Err answering.TooLarge → longest_text < n) → OnOk r (A × (n ≤ longest_text))
+    → (n ≤ longest_text → OrTooLarge done (outcome_by stop_of_answering r)) × (longest_text < n → OrTooLarge (Err InputTooLarge) (outcome_by stop_of_answering r))
+by_length A n r read write large whole = grind arith
+
+pub must_answer : (Is : Collection → Type 0) (c : Collection) (old new : Outside) (r : Answer)
+    → AnswersText c longest_text old.input new.input old.out new.out r → MustAnswer Is old new (outcome_by stop_of_answering r)
+must_answer Is c old new r a =
+    let ends = λ (t : Told old) (none : NoCallFailed old new).
+    by_length _ (length old.input.left) r (λ e. none OfInput (a.read_only_where_it_rose e)) (λ e. none OfOut (a.write_only_where_it_rose e))
+    (λ e. longer_than old.input.left new.input.left longest_text (a.longer t.input e)) (a.to_end t.input) in
+    record { complete = λ t x is none. (ends t none).0; limited = λ t x is none. (ends t none).1 }
+
+-- ---- behind a source
 
 module _ (source : Source) (Makes : Outside → Outside → Outcome → Type 0) (d d' : DepotState) (read : IsRead source d d') where
   -- a text was printed, or a prefix of it
   pub text_printed : (i : SourceState) (o o' e e' : SinkState) (n n' : ℕ) (text : List ℕ) (r : Printed) → PrintsLine text o o' r
       → Makes (outside d i o e n) (outside d' i o' e' n') (outcome_by stop_of_printing r)
       → Leaves (Does source Text Makes) (Starts source) (outside d i o e n) (outside d' i o' e' n') (outcome_by stop_of_printing r)
-  text_printed i o o' e e' n n' text r p makes = made source (outside d i o e n) (outside d' i o' e' n') d' read Text Makes (outcome_by stop_of_printing r) (record {
-    unrefused = calls_unrefused OutFault refl r;
-    complete = λ stands none. is_complete (builds_words source Text) (outcome_by stop_of_printing r) (calls_complete OutFault r (λ is. none OfOut (p.write_only_where_it_rose is)));
-    touches = read.reads;
-    starts = λ slot. refl;
-    refusals = inr refl;
-    slots = λ slot. refl;
-    writing = others_stay OutFault OfOut refl OfWriting (λ e. cc) r _ _ read.reads.writing_count;
-    input = others_stay OutFault OfOut refl OfInput (λ e. cc) r _ _ refl;
-    out = calls_end OutFault OfOut refl r _ _ p.write_only_where_it_rose p.count_rises_only_there p.counts_never_fall.0;
-    depot_tells = refl;
-    input_tells = refl;
-    out_tells = p.tells;
-  }) makes
+  text_printed i o o' e e' n n' text r p makes =
+      let old : Outside = outside d i o e n in
+      let new : Outside = outside d' i o' e' n' in
+      let complete : Completes source Text old new (outcome_by stop_of_printing r) = λ stands none. grind (arith, none OfOut) in
+      made source old new d' read Text Makes (outcome_by stop_of_printing r) (grind (arith, complete)) makes
 
   -- the input was answered, or a part of it
   pub text_answered : (i i' : SourceState) (o o' e e' : SinkState) (n n' : ℕ) (c : Collection) (r : Answer) → AnswersText c longest_text i i' o o' r
@@ -50,20 +85,7 @@ module _ (source : Source) (Makes : Outside → Outside → Outcome → Type 0) 
   text_answered i i' o o' e e' n n' c r a makes =
       let old : Outside = outside d i o e n in
       let new : Outside = outside d' i' o' e' n' in
-      made source old new d' read Replies Makes (outcome_by stop_of_answering r) (record {
-        unrefused = unrefused r;
-        complete = must_answer (Finds source d) c old new r a;
-        touches = read.reads;
-        starts = λ slot. refl;
-        refusals = inr refl;
-        slots = λ slot. refl;
-        writing = stays OfWriting (outcome_by stop_of_answering r) _ _ (not_writing r) read.reads.writing_count;
-        input = input_ends c old new r a;
-        out = out_ends c old new r a;
-        depot_tells = refl;
-        input_tells = a.input_tells;
-        out_tells = a.out_tells;
-      }) makes
+      made source old new d' read Replies Makes (outcome_by stop_of_answering r) (grind (arith, must_answer (Finds source d) c old new r a)) makes
 
 -- What a command leaves that answers the input from the collection of its source.
 pub source_answered : (source : Source) {Promises : Outside → Outside → Outcome → Type 0} (d d' : DepotState) → IsRead source d d' → (i i' : SourceState) (o o' e e' : SinkState) (n : ℕ)

@@ -1,6 +1,6 @@
 -- The words of a file that a run loads from a slot, or does not.
-use Rattle.std.proofs.Common.{◌≡◌, ℕ, ◌*◌, ◌≤◌, arith, refl, ◌∙◌, ap, List, length, inl, inr}
-use Rattle.std.specs.Prelude.{Some, None, ◌%◌, Result, Ok, Err}
+use Rattle.std.proofs.Common.{◌≡◌, ℕ, ◌*◌, ◌≤◌, arith, ◌∙◌, ap, List, length}
+use Rattle.std.specs.Prelude.{◌%◌, Ok, Err}
 use Rattle.pef_io.specs.declared.fail.Slot.{Slot}
 use Rattle.pef_io.specs.DepotState.{DepotState}
 use Rattle.index_file.specs.Builder.{most_words}
@@ -16,7 +16,7 @@ use Rattle.outcomes.specs.Ends.{EndsByFault}
 use Rattle.outcomes.specs.Stops.{stop_of_loading}
 use Rattle.command_ends.specs.Starts.{StartsOnly}
 use Rattle.command_ends.proofs.Started.{loaded_starts}
-use Rattle.outcomes.proofs.Counted.{stays, second, by_slot, Of}
+use Rattle.outcomes.proofs.Counted.{slot_is, Of}
 
 -- ---- bytes and words
 
@@ -36,49 +36,22 @@ short bytes words of le = omega (arith, length_of bytes words of, le)
 abbrev pub unloaded : Slot → Stop → LoadWordsError → Outcome
 unloaded slot ragged e = Err (stop_of_loading slot ragged e)
 
-abbrev refused : LoadWordsError → Result (List ℕ) LoadWordsError
-refused e = Err e
-
-same_error : (e f : LoadWordsError) → refused e ≡ refused f → e ≡ f
-same_error e f h = cc
-
 -- Words that are no whole ones end the run without a failed call.
 module _ (slot : Slot) (ragged : Stop) (no_fault : (count : Count) → ¬ Of (fault_of (Err ragged)) count) where
-  is_read : (e : LoadWordsError) (other : Slot) → Of (fault_of (unloaded slot ragged e)) (OfFile other) → e ≡ loading.Read
-  is_read loading.Ragged other h = absurd (no_fault (OfFile other) h)
-  is_read loading.Read other h = refl
-  is_read e other h = let s : Of None (OfFile other) = h in cc
-
-  is_slot : (e : LoadWordsError) (other : Slot) → Of (fault_of (unloaded slot ragged e)) (OfFile other) → other ≡ slot
-  is_slot loading.Ragged other h = absurd (no_fault (OfFile other) h)
-  is_slot loading.Read other h = let s : Of (Some (OfFile slot)) (OfFile other) = h in cc
-  is_slot e other h = let s : Of None (OfFile other) = h in cc
+  is_slot : (e : LoadWordsError) (other : Slot) → Of (fault_of (unloaded slot ragged e)) (OfFile other) → (e ≡ loading.Read) × (other ≡ slot)
+  is_slot e other h = grind (arith, no_fault (OfFile other))
 
   module _ (name : List ℕ) (d d' : DepotState) (error : LoadWordsError) (w : LoadsWords slot name d d' (Err error)) where
     pub slots_unloaded : (other : Slot) → EndsByFault (OfFile other) (unloaded slot ragged error) (d.faults other) (d'.faults other)
-    slots_unloaded =
-        by_slot slot (λ other. EndsByFault (OfFile other) (unloaded slot ragged error) (d.faults other) (d'.faults other))
-        (record {
-          only_where_it_rose = λ h. w.read_only_where_it_rose (ap refused (is_read error slot h));
-          changes_only_there = elim w.count_rises_only_there [
-            | inl is ↦ inl (ap (λ e. fault_of (unloaded slot ragged e)) (same_error error loading.Read is))
-            | inr same ↦ inr same
-          ];
-          never_falls = w.reads.never_fall slot;
-        })
-        (λ other ne. stays (OfFile other) (unloaded slot ragged error) _ _ (λ h. ne (is_slot error other h)) (w.reads.other_counts other ne))
+    slots_unloaded other = grind (arith, slot_is other slot, is_slot error other)
 
     pub unloaded_starts : StartsOnly (λ s. name) (λ s. s ≡ slot) (unloaded slot ragged error) d d'
-    unloaded_starts = loaded_starts slot name d d' (refused error) (unloaded slot ragged error) w (λ is. ap (unloaded slot ragged) (same_error error loading.NoMemory is))
+    unloaded_starts = loaded_starts slot name d d' (Err error) (unloaded slot ragged error) w (λ is. grind arith)
 
 -- ---- words that are loaded
 
 pub starts : (slot : Slot) (name : List ℕ) (d d' : DepotState) (words : List ℕ) → LoadsWords slot name d d' (Ok words) → (outcome : Outcome) → StartsOnly (λ s. name) (λ s. s ≡ slot) outcome d d'
-starts slot name d d' words w outcome =
-    loaded_starts slot name d d' (Ok words) outcome w (λ is. let s : ◌≡◌ {A = Result (List ℕ) LoadWordsError} (Ok words) (Err loading.NoMemory) = is in cc)
+starts slot name d d' words w outcome = loaded_starts slot name d d' (Ok words) outcome w (λ is. cc)
 
 pub loaded_counts : (slot : Slot) (name : List ℕ) (d d' : DepotState) (words : List ℕ) → LoadsWords slot name d d' (Ok words) → (other : Slot) → d'.faults other ≡ d.faults other
-loaded_counts slot name d d' words w =
-    by_slot slot (λ other. d'.faults other ≡ d.faults other)
-    (second w.count_rises_only_there (λ h. let s : ◌≡◌ {A = Result (List ℕ) LoadWordsError} (Ok words) (Err loading.Read) = h in cc))
-    (λ other ne. w.reads.other_counts other ne)
+loaded_counts slot name d d' words w other = grind (arith, slot_is other slot)

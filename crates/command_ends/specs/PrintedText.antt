@@ -2,7 +2,7 @@ use Rattle.std.specs.Prelude.{◌≡◌, ℕ, ◌⊎◌, ◌++◌, IsTrue, List,
 use Rattle.pef_io.specs.Helpers.{AppendsPrefix}
 use Rattle.outcomes.specs.Outside.{Outside}
 use Rattle.outcomes.specs.declared.stop.Stop.TheVariants.{OutFault, NoMemory}
-use Rattle.outcomes.specs.Outcome.{Outcome, done}
+use Rattle.outcomes.specs.Outcome.{Outcome}
 
 -- Out got a text of this property.
 abbrev pub GotWhole : (List ℕ → Type 0) → Outside → Outside → Type 0

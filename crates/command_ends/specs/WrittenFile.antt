@@ -5,7 +5,7 @@ use Rattle.pef_io.specs.DepotState.{DepotState, OnlyReads}
 use Rattle.command_model.specs.Written.{IsWritten, IsUnwritten, IsWrittenInPart, IsBeingWritten, IsLeftByFault}
 use Rattle.outcomes.specs.Outside.{Outside}
 use Rattle.outcomes.specs.declared.stop.Stop.TheVariants.{WriteFault, NoMemory}
-use Rattle.outcomes.specs.Outcome.{Outcome, is_refusal, done}
+use Rattle.outcomes.specs.Outcome.{Outcome, is_refusal}
 
 -- Nothing is written, or the name is still the one that is being written, and a prefix of these bytes may stand under it.
 abbrev pub IsLeftInPart : List ℕ → DepotState → DepotState → List ℕ → Type 0

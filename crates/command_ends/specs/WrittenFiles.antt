@@ -7,7 +7,7 @@ use Rattle.command_model.specs.Written.{IsUnwritten}
 use Rattle.command_model.specs.FilesWritten.{NamedFile, AreWritten, StopsAtFile, FileLeftByFault}
 use Rattle.outcomes.specs.Outside.{Outside}
 use Rattle.outcomes.specs.declared.stop.Stop.TheVariants.{WriteFault, NoMemory}
-use Rattle.outcomes.specs.Outcome.{Outcome, done}
+use Rattle.outcomes.specs.Outcome.{Outcome}
 
 -- A run writes the three files of a collection, of which OnFiles tells, one after the other, and ends so. A failed write names its
 -- file. Want of memory may come before the first is begun, and behind that only of the depot.

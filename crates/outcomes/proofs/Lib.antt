@@ -1,4 +1,3 @@
 pub mod Counted
 pub mod Told
-mod ErrPieces
 mod Rows

@@ -1,9 +1,8 @@
 use Rattle.std.specs.Prelude.{◌≡◌, ◌≢◌, ◌≤◌, ◌⊎◌, ℕ, Some, Err}
-use Rattle.pef_io.specs.declared.fail.Slot.{Slot}
 use Rattle.pef_io.specs.declared.fail.Slot.TheVariants.{Index}
 use Rattle.pef_io.specs.Calls.{Rose}
 use Rattle.outcomes.specs.declared.status.Status.{Status}
-use Rattle.outcomes.specs.declared.stop.Stop.TheVariants.{FileFault, NoMemory, TooLarge}
+use Rattle.outcomes.specs.declared.stop.Stop.TheVariants.{NoMemory, TooLarge}
 use Rattle.outcomes.specs.Outcome.{Outcome, done, fault_of, status_of, line_of}
 use Rattle.outcomes.specs.Outside.{Outside, Count, failed, KeepsTelling, GotText}
 
@@ -31,7 +30,3 @@ OrNoMemory this outcome = (outcome ≡ this) ⊎ (outcome ≡ Err NoMemory)
 -- The outcome is this one, or the words of an index are too many, or memory was refused.
 abbrev pub OrTooLarge : Outcome → Outcome → Type 0
 OrTooLarge this outcome = (outcome ≡ this) ⊎ (outcome ≡ Err (TooLarge Index)) ⊎ (outcome ≡ Err NoMemory)
-
--- A call on a file that is read failed, or memory was refused.
-abbrev pub IsStopped : Outcome → Type 0
-IsStopped outcome = ((slot : Slot) × (outcome ≡ Err (FileFault slot))) ⊎ (outcome ≡ Err NoMemory)

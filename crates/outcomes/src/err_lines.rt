@@ -1,30 +1,38 @@
-ghost use Rattle.std.specs.Prelude.{◌≡◌, ◌≤◌, ◌+◌, [], ◌++◌, length, Err};
+ghost use Rattle.std.specs.Prelude.{◌≡◌, ◌≤◌, ◌<◌, ◌+◌, [], ◌++◌, length, codes, Err};
+ghost use Rattle.std.specs.List.{sum_by};
 ghost use Rattle.arrayvec.specs.ArrayVec.{array_vec_len};
 ghost use Rattle.pef_io.specs.Helpers.{WritesAll};
-ghost use Rattle.outcomes.specs.ErrLines.{check_text, fault_line, index_line, map_line, map_rule_text, rule_text, seg_rule_text, segment_line, side_check_text, side_line, slot_text, unfit_line};
+ghost use Rattle.outcomes.specs.ErrLines.{check_text, map_rule_text, rule_text, seg_rule_text, side_check_text, slot_text};
 ghost use Rattle.outcomes.specs.Outcome.{line_of};
-ghost use Rattle.outcomes.specs.Private.ErrPieces.{length_with, with_pieces};
+ghost use Rattle.outcomes.specs.Private.ErrPieces.{most_of, with_piece, with_pieces};
 
+use self::Piece::{Number, Text};
 use crate::stop::Stop;
 use arrayvec::ArrayVec;
-use block_max::{SideCheck, SideFault};
-use collection_reader::{Fault, Rule};
-use index_file::OpenFault;
+use block_max::SideCheck;
+use collection_reader::Rule;
 use itoa::Buffer;
 use pef_io::{IoFail, Sink, Slot, write_all_own};
-use remap::{MapFault, MapRule};
+use remap::MapRule;
 use segments::SegRule;
 use two_level::Check;
 
-// The line of words that are no command.
+// The line of words that are no command, without its newline.
 const USAGE: &[u8] =
-    b"usage: pefidx build BASE INDEX [--format FORMAT] | query INDEX [--plan PLAN] | answer BASE [--plan PLAN] | inspect INDEX | generate SEED N T | migrate OLD NEW | audit INDEX | blocks INDEX SIDE | bquery INDEX SIDE | remap BASE MAP NEW | segments INDEX.. [--plan PLAN] | pack BASE NEW | repack OLD NEW | export INDEX BASE\n";
+    b"usage: pefidx build BASE INDEX [--format FORMAT] | query INDEX [--plan PLAN] | answer BASE [--plan PLAN] | inspect INDEX | generate SEED N T | migrate OLD NEW | audit INDEX | blocks INDEX SIDE | bquery INDEX SIDE | remap BASE MAP NEW | segments INDEX.. [--plan PLAN] | pack BASE NEW | repack OLD NEW | export INDEX BASE";
 
 // The most bytes of a line: that of usage has 320, and all others have fewer than 100.
 const LINE_ROOM: usize = 320;
 
 // A line that is put together on the stack.
 type Line = ArrayVec<u8, LINE_ROOM>;
+
+// A piece of a line: a text, or a number behind its label.
+#[derive(Clone, Copy)]
+enum Piece<'a> {
+    Text(&'a [u8]),
+    Number(&'static [u8], u64),
+}
 
 /// Writes the line of a run that stopped, without memory. All of it is given to err at once, and again what err did not take.
 pub fn write_line<E: Sink>(err: &mut E, stop: Stop) -> Result<(), IoFail>
@@ -40,142 +48,88 @@ fn spelled(stop: Stop) -> Line
     ensures { result.items ≡ line_of (Err stop) }
 {
     match stop {
-        Stop::Usage => line_of_pieces(&[USAGE]),
-        Stop::BrokenCollection(fault) => fault_spelled(fault),
-        Stop::BrokenIndex(fault) => index_fault_spelled(fault),
-        Stop::BrokenSide(fault) => side_fault_spelled(fault),
-        Stop::BrokenMap(fault) => map_fault_spelled(fault),
-        Stop::BrokenSegment(fault, s) => segment_fault_spelled(fault, s),
-        Stop::UnfitSegment(rule, s) => unfit_spelled(rule, s),
-        Stop::FileFault(slot) => line_of_pieces(&[b"read fault: ", slot_name(slot), b"\n"]),
-        Stop::InputFault => line_of_pieces(&[b"read fault: input\n"]),
-        Stop::WriteFault(slot) => line_of_pieces(&[b"write fault: ", slot_name(slot), b"\n"]),
-        Stop::OutFault => line_of_pieces(&[b"write fault: out\n"]),
-        Stop::NoMemory => line_of_pieces(&[b"no memory\n"]),
-        Stop::TooLarge(slot) => line_of_pieces(&[b"too large: ", slot_name(slot), b"\n"]),
-        Stop::InputTooLarge => line_of_pieces(&[b"too large: input\n"]),
+        Stop::Usage => line_of_pieces(&[Text(USAGE)]),
+        Stop::BrokenCollection(fault) => line_of_pieces(&[
+            Text(b"collection "),
+            Text(rule_name(fault.rule)),
+            Text(b" "),
+            Text(slot_name(fault.file)),
+            Number(b" term ", u64::from(fault.term)),
+            Number(b" place ", u64::from(fault.place)),
+        ]),
+        Stop::BrokenIndex(fault) => line_of_pieces(&[
+            Text(b"index "),
+            Text(check_name(fault.check)),
+            Number(b" term ", u64::from(fault.term)),
+            Number(b" part ", fault.part),
+        ]),
+        Stop::BrokenSide(fault) => line_of_pieces(&[
+            Text(b"side "),
+            Text(side_check_name(fault.check)),
+            Number(b" term ", u64::from(fault.term)),
+            Number(b" part ", u64::from(fault.part)),
+        ]),
+        Stop::BrokenMap(fault) => line_of_pieces(&[
+            Text(b"map "),
+            Text(map_rule_name(fault.rule)),
+            Number(b" place ", u64::from(fault.place)),
+        ]),
+        Stop::BrokenSegment(fault, s) => line_of_pieces(&[
+            Text(b"index "),
+            Text(check_name(fault.check)),
+            Number(b" term ", u64::from(fault.term)),
+            Number(b" part ", fault.part),
+            Number(b" segment ", s),
+        ]),
+        Stop::UnfitSegment(rule, s) => line_of_pieces(&[
+            Text(b"segments "),
+            Text(seg_rule_name(rule)),
+            Number(b" segment ", s),
+        ]),
+        Stop::FileFault(slot) => line_of_pieces(&[Text(b"read fault: "), Text(slot_name(slot))]),
+        Stop::InputFault => line_of_pieces(&[Text(b"read fault: input")]),
+        Stop::WriteFault(slot) => line_of_pieces(&[Text(b"write fault: "), Text(slot_name(slot))]),
+        Stop::OutFault => line_of_pieces(&[Text(b"write fault: out")]),
+        Stop::NoMemory => line_of_pieces(&[Text(b"no memory")]),
+        Stop::TooLarge(slot) => line_of_pieces(&[Text(b"too large: "), Text(slot_name(slot))]),
+        Stop::InputTooLarge => line_of_pieces(&[Text(b"too large: input")]),
     }
 }
 
-// That of a broken collection.
-fn fault_spelled(fault: Fault) -> Line
-    ensures { result.items ≡ fault_line fault }
-{
-    let mut term = Buffer::new();
-    let mut place = Buffer::new();
-    line_of_pieces(&[
-        b"collection ",
-        rule_name(fault.rule),
-        b" ",
-        slot_name(fault.file),
-        b" term ",
-        term.format(fault.term).as_bytes(),
-        b" place ",
-        place.format(fault.place).as_bytes(),
-        b"\n",
-    ])
-}
-
-// That of a file that is no index.
-fn index_fault_spelled(fault: OpenFault) -> Line
-    ensures { result.items ≡ index_line fault }
-{
-    let mut term = Buffer::new();
-    let mut part = Buffer::new();
-    line_of_pieces(&[
-        b"index ",
-        check_name(fault.check),
-        b" term ",
-        term.format(fault.term).as_bytes(),
-        b" part ",
-        part.format(fault.part).as_bytes(),
-        b"\n",
-    ])
-}
-
-// That of a file that is no side file of the index.
-fn side_fault_spelled(fault: SideFault) -> Line
-    ensures { result.items ≡ side_line fault }
-{
-    let mut term = Buffer::new();
-    let mut part = Buffer::new();
-    line_of_pieces(&[
-        b"side ",
-        side_check_name(fault.check),
-        b" term ",
-        term.format(fault.term).as_bytes(),
-        b" part ",
-        part.format(fault.part).as_bytes(),
-        b"\n",
-    ])
-}
-
-// That of a file that is no order of the documents.
-fn map_fault_spelled(fault: MapFault) -> Line
-    ensures { result.items ≡ map_line fault }
-{
-    let mut place = Buffer::new();
-    line_of_pieces(&[
-        b"map ",
-        map_rule_name(fault.rule),
-        b" place ",
-        place.format(fault.place).as_bytes(),
-        b"\n",
-    ])
-}
-
-// That of a segment that is no index.
-fn segment_fault_spelled(fault: OpenFault, s: u64) -> Line
-    ensures { result.items ≡ segment_line fault s }
-{
-    let mut term = Buffer::new();
-    let mut part = Buffer::new();
-    let mut segment = Buffer::new();
-    line_of_pieces(&[
-        b"index ",
-        check_name(fault.check),
-        b" term ",
-        term.format(fault.term).as_bytes(),
-        b" part ",
-        part.format(fault.part).as_bytes(),
-        b" segment ",
-        segment.format(s).as_bytes(),
-        b"\n",
-    ])
-}
-
-// That of a segment that cannot be joined to those before it.
-fn unfit_spelled(rule: SegRule, s: u64) -> Line
-    ensures { result.items ≡ unfit_line rule s }
-{
-    let mut segment = Buffer::new();
-    line_of_pieces(&[
-        b"segments ",
-        seg_rule_name(rule),
-        b" segment ",
-        segment.format(s).as_bytes(),
-        b"\n",
-    ])
-}
-
-// Pieces, one after the other.
-fn line_of_pieces(pieces: &[&[u8]]) -> Line
-    requires { length_with 0 pieces.now ≤ LINE_ROOM }
-    ensures { result.items ≡ with_pieces [] pieces.now }
+// Pieces, one after the other, and a newline.
+fn line_of_pieces(pieces: &[Piece]) -> Line
+    requires { sum_by most_of pieces.now < LINE_ROOM }
+    ensures { result.items ≡ with_pieces [] pieces.now ++ codes "\n" }
 {
     let mut line = Line::new();
     for piece in pieces {
-        append(&mut line, piece);
+        append_piece(&mut line, *piece);
     }
+    append(&mut line, b"\n");
     line
 }
 
 // Appends a piece for which there is room.
-fn append(line: &mut Line, piece: &[u8])
-    requires { array_vec_len line.old + length piece.now ≤ LINE_ROOM }
-    ensures { line.new.items ≡ line.old.items ++ piece.now }
+fn append_piece(line: &mut Line, piece: Piece)
+    requires { array_vec_len line.old + most_of piece < LINE_ROOM }
+    ensures text { line.new.items ≡ with_piece line.old.items piece.entry }
+    ensures room { array_vec_len line.new ≤ array_vec_len line.old + most_of piece.entry }
 {
-    if line.try_extend_from_slice(piece).is_err() {
+    match piece {
+        Text(text) => append(line, text),
+        Number(label, n) => {
+            append(line, label);
+            append(line, Buffer::new().format(n).as_bytes());
+        }
+    }
+}
+
+// Appends bytes for which there is room.
+fn append(line: &mut Line, bytes: &[u8])
+    requires { array_vec_len line.old + length bytes.now ≤ LINE_ROOM }
+    ensures { line.new.items ≡ line.old.items ++ bytes.now }
+{
+    if line.try_extend_from_slice(bytes).is_err() {
         unreachable!();
     }
 }

@@ -212,10 +212,7 @@ fn stop_of_writing(slot: Slot, fail: IoFail) -> Stop
 pub fn after_writing(slot: Slot, written: Result<(), IoFail>) -> Result<(), Stop>
     ensures { result ≡ outcome_by (stop_of_writing slot) written }
 {
-    match written {
-        Ok(()) => Ok(()),
-        Err(fail) => Err(stop_of_writing(slot, fail)),
-    }
+    written.map_err(|fail| stop_of_writing(slot, fail))
 }
 
 /// The outcome of a run that printed a text, or stopped at that.
@@ -246,8 +243,5 @@ pub fn after_answering(answered: Result<(), RunFault>) -> Result<(), Stop>
 pub fn after_writing_files(written: Result<(), FileFail>) -> Result<(), Stop>
     ensures { result ≡ outcome_by stop_of_file written }
 {
-    match written {
-        Ok(()) => Ok(()),
-        Err(e) => Err(stop_of_writing(e.slot, e.fail)),
-    }
+    written.map_err(|e| stop_of_writing(e.slot, e.fail))
 }

@@ -1,11 +1,18 @@
-use Rattle.std.specs.Prelude.{ℕ, List, [], ◌++◌, ◌+◌, length}
+use Rattle.std.specs.Prelude.{ℕ, List, decimal, ◌++◌, ◌+◌, length}
 use Rattle.std.specs.List.{fold}
-use Rattle.std.specs.Borrow.{Bor}
+use Rattle.outcomes.specs.declared.err_lines.Piece.{Piece}
+use Rattle.outcomes.specs.declared.err_lines.Piece.TheVariants.{Number, Text}
 
--- a line with pieces behind it that are lent, one after the other
-abbrev pub with_pieces : List ℕ → List (Bor (List ℕ)) → List ℕ
-with_pieces line pieces = fold (λ line piece. line ++ piece.now) line pieces
+-- a line with a piece behind it
+abbrev pub with_piece : List ℕ → Piece → List ℕ
+with_piece line (Text text) = line ++ text.now
+with_piece line (Number label n) = line ++ label.now ++ decimal n
 
--- how many bytes it has, where the line has so many
-abbrev pub length_with : ℕ → List (Bor (List ℕ)) → ℕ
-length_with bytes pieces = fold (λ bytes piece. bytes + length piece.now) bytes pieces
+-- a line with pieces behind it, one after the other
+abbrev pub with_pieces : List ℕ → List Piece → List ℕ
+with_pieces line pieces = fold with_piece line pieces
+
+-- the most bytes of a piece: a number has at most 20 digits
+abbrev pub most_of : Piece → ℕ
+most_of (Text text) = length text.now
+most_of (Number label n) = length label.now + 20
