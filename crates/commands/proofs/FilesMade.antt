@@ -1,61 +1,51 @@
 -- What `remap`, `export` and `blocks` leave that wrote their files, or stopped before or at one.
-use Rattle.std.proofs.Common.{◌≡◌, ℕ, ◌<◌, ◌^◌, refl, sym, ◌∙◌, ap, subst, List, [], inl, IsErrAnd, Result, Ok, Err, All}
+use Rattle.std.proofs.Common.{ap, [], Some, ◌≡◌, ℕ, ◌<◌, ◌^◌, refl, sym, ◌∙◌, subst, List, inl, IsErrAnd, Result, Ok, Err, All}
 use Rattle.std.specs.Prelude.{unwrap_or}
-use Rattle.commands.proofs.Names.{word_bytes, spelled, Two, numbers_of, SourceState, SinkState, DepotState, bytes_under, Side, IndexView, side_words, blocks_of_index, Plain, AreOfWords, FindsCollection, NamedFile, remap_numbers, ImageError, MakesImage, WritesWords, Stop, Outside, outside, FindsIndexOf, IndexAt, MapAt, Starts, File, IsUnread, Leaves, IsLoaded, outcome_by, stop_of_file, stop_of_image, stop_of_writing, file_written, only_read, stands_written, Laws, promised, stops, handed_on}
+use Rattle.commands.proofs.Names.{word_bytes, spelled, Two, numbers_of, SourceState, SinkState, DepotState, bytes_under, Side, IndexView, side_words, blocks_of_index, Plain, AreOfWords, FindsCollection, NamedFile, remap_numbers, ImageError, MakesImage, WritesWords, Stop, Outside, outside, FindsIndexOf, IndexAt, MapAt, Starts, File, IsUnread, Leaves, IsLoaded, outcome_by, stop_of_file, stop_of_image, stop_of_writing, file_written, only_read, stands_written, Laws, promised, stops, handed_on, AreApart, AreWritten, OnImageFiles, files_under, Exports, OnFilesOf, OnSideBytes, Remaps, WritesBlocks, WritesCollection, WritesImage}
 use Rattle.remap.specs.Laws.{ImageIsWellFormed}
 use Rattle.index_building.proofs.Migrating.{collection-fits}
-use Rattle.command_model.specs.FilesWritten.{AreApart, AreWritten}
-use Rattle.command_model.specs.FoundMap.{OnImageFiles, files_under}
-use Rattle.remapped_files.specs.declared.image.ImageFiles.{ImageFiles}
-use Rattle.remapped_files.specs.MakeImage.{files_of, files_made}
 use Rattle.remapped_files.specs.WriteImage.{WritesFiles}
 use Rattle.remapped_files.proofs.FilesInTurn.{apart-under}
 use Rattle.command_ends.specs.WrittenFile.{WritesFile}
 use Rattle.command_ends.specs.Products.{Files}
 use Rattle.command_ends.proofs.FileWritten as one
 use Rattle.command_ends.proofs.FilesWritten.{Written, all_there, files_written, stand_under}
-use Rattle.commands.specs.Files.{Exports, OnFilesOf, OnSideBytes, Remaps, WritesBlocks, WritesCollection, WritesImage}
 use Rattle.commands.proofs.MapRead.{image_unmade, map_read}
 use Rattle.commands.proofs.WordsMade.{new_holds}
 
 -- ---- `remap`
 
-module _ (base map to : List ℕ) (d d1 : DepotState) (made : Result ImageFiles ImageError) (w : MakesImage base map to d d1 (files_made made)) where
-  all_made : {files : ImageFiles} → made ≡ Ok files → MakesImage base map to d d1 (Ok (files_of files))
-  all_made was = subst (λ (x : Result ImageFiles ImageError). MakesImage base map to d d1 (files_made x)) was w
-
-  pub files_apart : {files : ImageFiles} → made ≡ Ok files → AreApart (files_of files)
-  files_apart was = let all = all_made was in subst AreApart (sym all.files.5) (apart-under to (spelled all.files.2))
+module _ (base map to : List ℕ) (d d1 : DepotState) where
+  pub files_apart : {files : List NamedFile} → MakesImage base map to d d1 (Ok files) → AreApart files
+  files_apart w = rw w.files.5 (apart-under to (spelled w.files.2))
 
   module _ (laws : Laws (MapAt base map)) (i : SourceState) (o e e' : SinkState) (s : ℕ) where
     abbrev Moved : DepotState → Result (Unit {0}) Stop → Type 0
     Moved d2 r = Leaves (Remaps base map to) (Starts (MapAt base map)) (outside d i o e s) (outside d2 i o e' s) r
 
     -- the files were not made
-    pub move_refused : {error : ImageError} (r : Result (Unit {0}) Stop) → made ≡ Err error → IsErrAnd r (λ f. f ≡ stop_of_image error) → Moved d1 r
-    move_refused {error} r was is =
-        let all : MakesImage base map to d d1 (Err error) = subst (λ (x : Result ImageFiles ImageError). MakesImage base map to d d1 (files_made x)) was w in
+    pub move_refused : {error : ImageError} (r : Result (Unit {0}) Stop) → MakesImage base map to d d1 (Err error) → IsErrAnd r (λ f. f ≡ stop_of_image error) → Moved d1 r
+    move_refused {error} r w is =
         stops (MapAt base map) Files (WritesImage base map to) (outside d i o e s) (outside d1 i o e' s) refl refl (stop_of_image error) r (handed_on r is)
-        (image_unmade base map to d d1 laws error all) (inl (only_read d d1 all.reads)) (λ other does. record { does = does; opens = λ done. absurd (other done); costs = refl })
+        (image_unmade base map to d d1 laws error w) (inl (only_read d d1 w.reads)) (λ other does. record { does = does; opens = λ done. absurd (other done); costs = refl })
 
     -- or they were written, or not
-    pub move_ended : ImageIsWellFormed → (d2 : DepotState) {files : ImageFiles} (written : Written) (r : Result (Unit {0}) Stop)
-        → made ≡ Ok files → WritesFiles (files_of files) d1 d2 written → r ≡ outcome_by stop_of_file written → Moved d2 r
-    move_ended well_formed d2 {files} written r was v is =
-        let w = all_made was in
+    pub move_ended : ImageIsWellFormed → (d2 : DepotState) (files : List NamedFile) (written : Written) (r : Result (Unit {0}) Stop)
+        → MakesImage base map to d d1 (Ok files) → WritesFiles files d1 d2 written → r ≡ outcome_by stop_of_file written → Moved d2 r
+    move_ended well_formed d2 files written r w v is =
         let both = w.files.3 in
         let image = w.files.2 in
-        let found : AreWritten (files_of files) d1 d2 → FindsCollection remap_numbers to d2 image = λ there. record {
+        let found : AreWritten files d1 d2 → FindsCollection remap_numbers to d2 image = λ there. record {
           well_formed = well_formed remap_numbers w.files.1 w.files.0 image (record { well_formed = both.collection.well_formed; new_ids = both.order.new_ids; each = both.order.each }) w.files.4;
-          files = λ t. stand_under to (spelled image) d1 d2 (subst (λ files. AreWritten files d1 d2) w.files.5 there) (sym v.creates.tells ∙ t);
+          files = λ t. stand_under to (spelled image) d1 d2 (rw w.files.5 at there) (sym v.creates.tells ∙ t);
         } in
         promised (outside d i o e s) (outside d2 i o e' s) (outcome_by stop_of_file written) r is
         (λ does. record {
           does = does;
-          opens = λ done. (w.files.0, w.files.1, image, both, w.files.4, found (all_there (files_of files) d1 d2 written v done));
+          opens = λ done. (w.files.0, w.files.1, image, both, w.files.4, found (all_there files d1 d2 written v done));
           costs = refl;
         })
-        (files_written (MapAt base map) (WritesImage base map to) d d1 d2 (map_read base map to d d1 laws (files_of files) w) i o e e' s s (files_of files) (OnImageFiles base map to d)
+        (files_written (MapAt base map) (WritesImage base map to) d d1 d2 (map_read base map to d d1 laws files w) i o e e' s s files (OnImageFiles base map to d)
         (λ P p. (w.files.0, w.files.1, image, both, w.files.4, subst P w.files.5 p)) written v (λ h. h))
 
 -- ---- `export` and `blocks`
@@ -101,22 +91,12 @@ module _ (name other : List ℕ) (d d1 : DepotState) (i : SourceState) (o e e' :
         (λ does. record { does = does; opens = λ done. (index.collection, found, there (all_there under d1 d2 written wrote done)); costs = refl })
         (files_written (IndexAt name) (WritesCollection name other) d d1 d2 w.read i o e e' s s under (OnFilesOf (FindsIndexOf name d) other) (λ P p. (index.collection, found, p)) written wrote (λ h. h))
 
-    pub blocks_ended : {made lent : List ℕ} (written : one.Written) (r : Result (Unit {0}) Stop) → made ≡ side_words (blocks_of_index index) → lent ≡ made → All (λ x. x < 2 ^ 64) made
-        → WritesWords lent other d1 d2 written → r ≡ outcome_by (stop_of_writing Side) written → Blocked d2 r
-    blocks_ended {made} written r are lends fit v is =
-        let wrote : WritesWords made other d1 d2 written = subst (λ ws. WritesWords ws other d1 d2 written) lends v in
+    pub blocks_ended : (words : List ℕ) (written : one.Written) (r : Result (Unit {0}) Stop) → words ≡ side_words (blocks_of_index index) → All (λ x. x < 2 ^ 64) words
+        → WritesWords words other d1 d2 written → r ≡ outcome_by (stop_of_writing Side) written → Blocked d2 r
+    blocks_ended words written r are fit wrote is =
+        let there : d2.file other ≡ Some (word_bytes words) → AreOfWords (bytes_under d2 other) (side_words (blocks_of_index index)) =
+        λ h. subst (λ ws. AreOfWords (bytes_under d2 other) ws) are (record { fit = fit; bytes_are = ap (λ file. unwrap_or file []) h }) in
         promised old (new d2) (outcome_by (stop_of_writing Side) written) r is
-        (λ does. record {
-          does = does;
-          opens = λ done. (
-            index.format,
-            index.collection,
-            index.parts,
-            w.found,
-            λ t. subst (λ ws. AreOfWords (bytes_under d2 other) ws) are
-                (record { fit = fit; bytes_are = ap (λ file. unwrap_or file []) (stands_written Side (word_bytes made) other d1 d2 written wrote done t) }),
-          );
-          costs = refl;
-        })
-        (file_written (IndexAt name) (WritesFile Side other (OnSideBytes name d)) Side d d1 d2 w.read i o e e' s s other (word_bytes made) (OnSideBytes name d)
+        (λ does. record { does = does; opens = λ done. (index.format, index.collection, index.parts, w.found, λ t. there (stands_written Side (word_bytes words) other d1 d2 written wrote done t)); costs = refl })
+        (file_written (IndexAt name) (WritesFile Side other (OnSideBytes name d)) Side d d1 d2 w.read i o e e' s s other (word_bytes words) (OnSideBytes name d)
         (λ P p. (index.format, index.collection, index.parts, w.found, subst (λ ws. P (word_bytes ws)) are p)) written wrote (λ writes. writes))

@@ -1,9 +1,6 @@
 -- What the commands leave that answer the input from the collection of their source.
 use Rattle.std.proofs.Common.{◌≡◌, ℕ, refl, inl, IsErrAnd, Result, Err}
-use Rattle.commands.proofs.Names.{Collection, SourceState, SinkState, DepotState, AnswersText, Stop, outside, AnswersInput, longest_text, Source, Starts, Replies, IsRead, IsUnread, Leaves, outcome_by, stop_of_answering, stops, Answer, handed_on}
-use Rattle.command_ends.specs.Sources.{Finds}
-use Rattle.command_ends.proofs.TextMade.{source_answered}
-use Rattle.commands.specs.Replies.{AnswersFrom}
+use Rattle.commands.proofs.Names.{Collection, SourceState, SinkState, DepotState, AnswersText, Stop, outside, AnswersInput, longest_text, Source, Starts, Replies, IsRead, IsUnread, Leaves, outcome_by, stop_of_answering, stops, Answer, handed_on, source_answered, Finds, AnswersFrom}
 
 module _ (source : Source) {d d' : DepotState} {i : SourceState} {o : SinkState} (e e' : SinkState) (n : ℕ) where
   -- the source was not read

@@ -1,36 +1,26 @@
 -- Several indexes: one segment at most is refused, in one way, and none where all are accepted.
-use Rattle.std.proofs.Common.{◌≡◌, refl, sym, ◌∙◌, ap, subst, ℕ, suc, ◌+◌, ◌<◌, ◌≤◌, List, [], ◌∷◌, ◌++◌, length, take, get_or, inl, inr, arith, IsTrue, Err, All, zero}
-use Rattle.std.proofs.lemmas.Bool.{cases_lt}
+use Rattle.std.proofs.Common.{◌≡◌, refl, sym, ◌∙◌, ap, subst, ℕ, suc, ◌+◌, ◌<◌, ◌≤◌, List, [], ◌∷◌, length, take, get_or, arith, IsTrue, Err, zero}
 use Rattle.std.proofs.lemmas.List.{length-take, get_or-take, take-take, ext_get_or}
 use Rattle.std.proofs.lemmas.List.Elements.{All-nil, All-get_or, All-take}
-use Rattle.commands.proofs.Names.{Collection, DepotState, WordsAreRead, OneBrokenCheck, OneIndex, SegRule, G1, G2, FitTogether, terms_in, BrokenIndex, BrokenSegment, UnfitSegment, TooLarge, Outcome, FindsIndexOf, no_collection, FindsSegments, IsUnfit, IndexAt, IndexesAt, IsRefusedAs, Stands, index_laws, Laws}
+use Rattle.commands.proofs.Names.{Collection, DepotState, WordsAreRead, OneBrokenCheck, OneIndex, SegRule, G1, G2, FitTogether, terms_in, BrokenIndex, BrokenSegment, UnfitSegment, TooLarge, Outcome, FindsIndexOf, no_collection, FindsSegments, IsUnfit, IndexAt, IndexesAt, IsRefusedAs, index_laws, Laws, ComesTo}
 use Rattle.std.proofs.lemmas.List.Sums.{sum_by-take-le, sum_by_more}
-use Rattle.command_ends.specs.SegmentStarts.{ComesTo}
 use Rattle.commands.proofs.FilesRead.{same_index}
 
 -- ---- collections that fit together
 
 -- the first of them fit together
 fits_prefix : (k : ℕ) (cs : List Collection) → FitTogether cs → FitTogether (take k cs)
-fits_prefix k cs fit = record {
-  terms = terms k cs (All-take (λ c. length c.lists ≡ terms_in cs) k cs fit.terms);
-  documents = omega (arith, fit.documents, sum_by-take-le (λ (c : Collection). c.documents) cs k);
+fits_prefix zero cs fit = grind (arith, All-nil)
+fits_prefix (suc k) [] fit = fit
+fits_prefix (suc k) (c ∷ cs) fit = record {
+  terms = All-take (λ d. length d.lists ≡ length c.lists) (suc k) (c ∷ cs) fit.terms;
+  documents = omega (arith, fit.documents, sum_by-take-le (λ (d : Collection). d.documents) (c ∷ cs) (suc k));
 }
-  where
-    terms : (k : ℕ) (cs : List Collection) → All (λ c. length c.lists ≡ terms_in cs) (take k cs) → All (λ c. length c.lists ≡ terms_in (take k cs)) (take k cs)
-    terms zero cs all = All-nil (λ c. length c.lists ≡ terms_in (take zero cs))
-    terms (suc k) [] all = all
-    terms (suc k) (c ∷ cs) all = all
 
--- as many terms as the first, which one more does not change
-terms_first : (cs : List Collection) (c : Collection) → 0 < length cs → terms_in (cs ++ c ∷ []) ≡ terms_in cs
-terms_first [] c some = absurd (omega arith)
-terms_first (x ∷ cs) c some = refl
-
+-- as many terms as the first
 terms_taken : (cs : List Collection) (s : ℕ) → 0 < length (take s cs) → terms_in (take s cs) ≡ terms_in cs
-terms_taken cs zero some = absurd (omega arith)
-terms_taken [] (suc s) some = refl
-terms_taken (c ∷ cs) (suc s) some = refl
+terms_taken cs zero some = grind arith
+terms_taken cs (suc s) some = grind arith
 
 -- none of them is unfit behind those before it
 fits : (cs : List Collection) (s : ℕ) (rule : SegRule) → FitTogether cs → s < length cs → IsUnfit (take s cs) (get_or cs s no_collection) rule → ⊥
@@ -41,9 +31,8 @@ fits cs s G2 fit within (same, many) =
 -- one rule is broken
 one_rule : (cs : List Collection) (c : Collection) (r q : SegRule) → IsUnfit cs c r → IsUnfit cs c q → r ≡ q
 one_rule cs c G1 G1 x y = refl
-one_rule cs c G1 G2 x y = absurd (x.1 (y.0 ∙ terms_first cs c x.0))
-one_rule cs c G2 G1 x y = absurd (y.1 (x.0 ∙ terms_first cs c y.0))
-one_rule cs c G2 G2 x y = refl
+one_rule [] c r q x y = grind arith
+one_rule (d ∷ cs) c r q x y = grind arith
 
 -- ---- the first of some files
 
@@ -53,8 +42,7 @@ before names depot cs s f le = record {
   as_many = omega (arith, length-take s names, length-take s cs, f.as_many);
   each = λ k within.
       let inside : k < s = omega (arith, within, length-take s names) in
-      subst (λ name. FindsIndexOf name depot (get_or (take s cs) k no_collection)) (sym (get_or-take s names k [] inside))
-      (subst (FindsIndexOf (get_or names k []) depot) (sym (get_or-take s cs k no_collection inside)) (f.each k (omega (arith, inside, le))));
+      rw (get_or-take s names k [] inside, get_or-take s cs k no_collection inside) (f.each k (omega (arith, inside, le)));
   fit = fits_prefix s cs f.fit;
 }
 
@@ -64,7 +52,7 @@ come names depot cs k n f le few = λ s lt. (
   omega (arith, lt, few),
   (
     take s cs,
-    subst (λ ns. FindsSegments ns depot (take s cs)) (take-take s k names (omega (arith, lt, le))) (before (take k names) depot cs s f (omega (arith, lt, le, few, length-take k names))),
+    rw (take-take s k names (omega (arith, lt, le))) at (before (take k names) depot cs s f (omega (arith, lt, le, few, length-take k names))),
     tt,
   ),
 )
@@ -116,7 +104,7 @@ module _ (read : WordsAreRead) (check : OneBrokenCheck) (one_index : OneIndex) (
   not_refused names cs ds s (Unfit rule) f lt g (c, found, unfit) =
       let this : c ≡ get_or cs s no_collection = same (get_or names s []) c (get_or cs s no_collection) found (f.each s lt) in
       let these : ds ≡ take s cs = same_collections (take s names) ds (take s cs) g (before names depot cs s f (omega (arith, lt))) in
-      fits cs s rule f.fit (omega (arith, lt, f.as_many)) (subst (λ xs. IsUnfit xs (get_or cs s no_collection) rule) these (subst (λ x. IsUnfit ds x rule) this unfit))
+      fits cs s rule f.fit (omega (arith, lt, f.as_many)) (rw (this, these) at unfit)
 
   -- the segment that is refused
   abbrev Refused : List (List ℕ) → Way → ℕ → Type 0
@@ -135,40 +123,29 @@ module _ (read : WordsAreRead) (check : OneBrokenCheck) (one_index : OneIndex) (
   -- a later one is not refused where an earlier one is
   not_later : (names : List (List ℕ)) (a b : Way) (s k : ℕ) → Refused names a s → Refused names b k → s < k → ⊥
   not_later names a b s k (lt, (cs, f, why)) (within, (ds, g, other)) less =
-      let shorter : take s (take k names) ≡ take s names = take-take s k names (omega arith) in
-      let this : get_or (take k names) s [] ≡ get_or names s [] = get_or-take k names s [] less in
       not_refused (take k names) ds cs s a g (omega (arith, length-take k names, within, less))
-      (subst (λ ns. FindsSegments ns depot cs) (sym shorter) f) (subst (λ name. RefusedAs cs name a) (sym this) why)
+      (rw (take-take s k names (omega arith)) f) (rw (get_or-take k names s [] less) why)
 
   -- and one at most is, in one way
   same_way : (names : List (List ℕ)) (a b : Way) (s k : ℕ) → Refused names a s → Refused names b k → outcome_in a s ≡ outcome_in b k
-  same_way names a b s k x y = elim (cases_lt s k) as (λ _. outcome_in a s ≡ outcome_in b k) [
-    | inl less ↦ absurd (not_later names a b s k x y less)
-    | inr more ↦ elim (cases_lt k s) as (λ _. outcome_in a s ≡ outcome_in b k) [
-      | inl less ↦ absurd (not_later names b a k s y x less)
-      | inr both ↦ here (omega arith) y
-    ]
-  ]
-    where
-      here : s ≡ k → Refused names b k → outcome_in a s ≡ outcome_in b k
-      here e y =
-          let at : Refused names b s = subst (Refused names b) (sym e) y in
-          let these : at.1.0 ≡ x.1.0 = same_collections (take s names) at.1.0 x.1.0 at.1.1 x.1.1 in
-          let ways : a ≡ b = one_way x.1.0 (get_or names s []) a b x.1.2 (subst (λ ds. RefusedAs ds (get_or names s []) b) these at.1.2) in
-          ap (λ way. outcome_in way s) ways ∙ ap (outcome_in b) e
+  same_way names a b s k x y =
+      let first : s < k → ⊥ = not_later names a b s k x y in
+      let last : k < s → ⊥ = not_later names b a k s y x in
+      let e : s ≡ k = omega arith in
+      let at : Refused names b s = subst (Refused names b) (sym e) y in
+      let these : at.1.0 ≡ x.1.0 = same_collections (take s names) at.1.0 x.1.0 at.1.1 x.1.1 in
+      let ways : a ≡ b = one_way x.1.0 (get_or names s []) a b x.1.2 (subst (λ ds. RefusedAs ds (get_or names s []) b) these at.1.2) in
+      ap (λ way. outcome_in way s) ways ∙ ap (outcome_in b) e
 
 -- several indexes are refused in one way only, and in none where they are accepted
 module _ (read : WordsAreRead) (check : OneBrokenCheck) (index : OneIndex) (names : List (List ℕ)) where
-  one : (d : DepotState) → IsTrue d.tells → (a b : Outcome) → IsRefusedAs (IndexesAt names) d a → IsRefusedAs (IndexesAt names) d b → a ≡ b
-  one d t a b x y =
-      let p = at_place read check index d t names a x in
-      let q = at_place read check index d t names b y in
-      p.2 ∙ same_way read check index d t names p.1 q.1 p.0 q.0 p.3 q.3 ∙ sym q.2
-
-  none : (d : DepotState) → Stands (IndexesAt names) d → (a : Outcome) → IsRefusedAs (IndexesAt names) d a → ⊥
-  none d (t, (c, (cs, found, is))) a x =
-      let at = at_place read check index d t names a x in
-      not_refused read check index d t names cs at.3.1.0 at.0 at.1 found at.3.0 at.3.1.1 at.3.1.2
-
   pub segments_laws : Laws (IndexesAt names)
-  segments_laws = record { one = one; none = none }
+  segments_laws = record {
+    one = λ d t a b x y.
+        let p = at_place read check index d t names a x in
+        let q = at_place read check index d t names b y in
+        p.2 ∙ same_way read check index d t names p.1 q.1 p.0 q.0 p.3 q.3 ∙ sym q.2;
+    none = λ d stands a x.
+        let at = at_place read check index d stands.0 names a x in
+        not_refused read check index d stands.0 names stands.1.1.0 at.3.1.0 at.0 at.1 stands.1.1.1 at.3.0 at.3.1.1 at.3.1.2;
+  }

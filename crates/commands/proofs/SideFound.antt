@@ -1,36 +1,26 @@
 -- An index and its side file: they are refused in one way only, and in none where they stand there.
 use Rattle.std.proofs.Common.{◌≡◌, ℕ, arith, sym, ◌∙◌, ap, subst, List, length, inl, inr, ◌%◌, ◌==◌, not, true, false, IsTrue, Bool, MatchBool, Err}
-use Rattle.commands.proofs.Names.{Collection, Format, numbers_of, DepotState, bytes_under, ListParts, WordsAreRead, OneBrokenCheck, OneIndex, SideFault, BlockList, IsFirstSideFault, side_words, AreOfWords, BrokenIndex, BrokenSide, TooLarge, Outcome, FindsIndex, HasBrokenSide, IsFirstSideFaultOfFile, Accepts, IndexAt, IsRefusedAs, SideAt, Stands, index_laws, is_even, even, short, ragged_side}
+use Rattle.commands.proofs.Names.{Collection, Format, numbers_of, DepotState, bytes_under, ListParts, WordsAreRead, OneBrokenCheck, OneIndex, SideFault, BlockList, IsFirstSideFault, side_words, AreOfWords, BrokenIndex, BrokenSide, TooLarge, Outcome, FindsIndex, HasBrokenSide, IsFirstSideFaultOfFile, Accepts, IndexAt, IsRefusedAs, SideAt, Stands, index_laws, is_even, even, short, ragged_side, side_of, block_lists, not_both_lengths}
 use Rattle.block_max.specs.Laws.{OneSideFault}
-use Rattle.index_blocks.specs.BlockLists.{block_lists}
 use Rattle.index_blocks.specs.Laws.{SideFilesFit}
-use Rattle.command_ends.specs.FoundSide.{side_of}
-use Rattle.outcomes.proofs.Counted.{not_both_lengths}
 use Rattle.command_ends.proofs.SourceRead as source
 use Rattle.commands.proofs.FilesRead.{same_view}
-
--- the first check of bytes that are no whole words, and of those of words
-abbrev pub Checked : List BlockList → List ℕ → SideFault → Bool → Type 0
-Checked lists bytes fault b = MatchBool b (fault ≡ ragged_side) ((ws : List ℕ) × AreOfWords bytes ws × IsFirstSideFault lists ws fault)
 
 module _ (read : WordsAreRead) (check : OneBrokenCheck) (one_index : OneIndex) (faults : OneSideFault) (fit : SideFilesFit) where
   -- bytes have one first fault
   one_fault : (lists : List BlockList) (bytes : List ℕ) (f g : SideFault) → IsFirstSideFaultOfFile lists bytes f → IsFirstSideFaultOfFile lists bytes g → f ≡ g
   one_fault lists bytes f g = go (not (length bytes % 8 == 0))
     where
-      go : (b : Bool) → Checked lists bytes f b → Checked lists bytes g b → f ≡ g
+      go : (b : Bool) → MatchBool b (f ≡ ragged_side) ((v : List ℕ) × AreOfWords bytes v × IsFirstSideFault lists v f)
+          → MatchBool b (g ≡ ragged_side) ((w : List ℕ) × AreOfWords bytes w × IsFirstSideFault lists w g) → f ≡ g
       go true x y = x ∙ sym y
-      go false (v, a, x) (w, b, y) =
-          let same : w ≡ v = read w v b.fit a.fit (sym b.bytes_are ∙ a.bytes_are) in
-          faults.one lists v f g x (subst (λ ws. IsFirstSideFault lists ws g) same y)
+      go false (v, a, x) (w, b, y) = faults.one lists v f g x (rw (read w v b.fit a.fit (sym b.bytes_are ∙ a.bytes_are)) at y)
 
   -- and those of the side file have none
-  pub no_fault : (lists : List BlockList) (bytes : List ℕ) (fault : SideFault) → AreOfWords bytes (side_words lists) → IsFirstSideFaultOfFile lists bytes fault → ⊥
+  no_fault : (lists : List BlockList) (bytes : List ℕ) (fault : SideFault) → AreOfWords bytes (side_words lists) → IsFirstSideFaultOfFile lists bytes fault → ⊥
   no_fault lists bytes fault of first =
-      let it : (ws : List ℕ) × AreOfWords bytes ws × IsFirstSideFault lists ws fault =
-      subst (Checked lists bytes fault) (is_even (length bytes % 8) (even bytes (side_words lists) of)) first in
-      let same : it.0 ≡ side_words lists = read it.0 (side_words lists) it.1.fit of.fit (sym it.1.bytes_are ∙ of.bytes_are) in
-      faults.none lists fault (subst (λ ws. IsFirstSideFault lists ws fault) same it.2)
+      let it = rw (is_even (length bytes % 8) (even bytes (side_words lists) of)) at first in
+      faults.none lists fault (rw (read it.0 (side_words lists) it.1.fit of.fit (sym it.1.bytes_are ∙ of.bytes_are)) at it.2)
 
   -- an index under a name has one list of blocks
   same_lists : (name : List ℕ) (d : DepotState) → IsTrue d.tells → (v w : Format) (c e : Collection) (p q : List ListParts)
@@ -61,22 +51,19 @@ module _ (read : WordsAreRead) (check : OneBrokenCheck) (one_index : OneIndex) (
     one d t (Err (BrokenIndex f)) (Err (BrokenSide g)) x y = denied d t y.0 (Err (BrokenIndex f)) x
     one d t (Err (BrokenIndex f)) (Err (TooLarge slot)) x (inl y) = alone.one d t (Err (BrokenIndex f)) (Err (TooLarge slot)) x y
     one d t (Err (BrokenIndex f)) (Err (TooLarge slot)) x (inr y) = denied d t y.1 (Err (BrokenIndex f)) x
-    one d t (Err (BrokenIndex f)) b x y = absurd y
     one d t (Err (BrokenSide f)) (Err (BrokenIndex g)) x y = denied d t x.0 (Err (BrokenIndex g)) y
     one d t (Err (BrokenSide f)) (Err (BrokenSide g)) x y = ap (λ it. Err (BrokenSide it)) (one_side d t f g (x.1 t) (y.1 t))
     one d t (Err (BrokenSide f)) (Err (TooLarge slot)) x (inl y) = denied d t x.0 (Err (TooLarge slot)) y
     one d t (Err (BrokenSide f)) (Err (TooLarge slot)) x (inr y) = absurd (not_both_lengths _ _ (x.1 t).within (y.2 t))
-    one d t (Err (BrokenSide f)) b x y = absurd y
     one d t (Err (TooLarge slot)) (Err (BrokenIndex g)) (inl x) y = alone.one d t (Err (TooLarge slot)) (Err (BrokenIndex g)) x y
     one d t (Err (TooLarge slot)) (Err (BrokenIndex g)) (inr x) y = denied d t x.1 (Err (BrokenIndex g)) y
     one d t (Err (TooLarge slot)) (Err (BrokenSide g)) (inl x) y = denied d t y.0 (Err (TooLarge slot)) x
     one d t (Err (TooLarge slot)) (Err (BrokenSide g)) (inr x) y = absurd (not_both_lengths _ _ (y.1 t).within (x.2 t))
-    one d t (Err (TooLarge slot)) (Err (TooLarge other)) (inl x) (inl y) = ap (λ it. Err (TooLarge it)) (x.0 ∙ sym y.0)
     one d t (Err (TooLarge slot)) (Err (TooLarge other)) (inl x) (inr y) = denied d t y.1 (Err (TooLarge slot)) x
     one d t (Err (TooLarge slot)) (Err (TooLarge other)) (inr x) (inl y) = denied d t x.1 (Err (TooLarge other)) y
+    one d t (Err (TooLarge slot)) (Err (TooLarge other)) (inl x) (inl y) = ap (λ it. Err (TooLarge it)) (x.0 ∙ sym y.0)
     one d t (Err (TooLarge slot)) (Err (TooLarge other)) (inr x) (inr y) = ap (λ it. Err (TooLarge it)) (x.0 ∙ sym y.0)
-    one d t (Err (TooLarge slot)) b x y = absurd y
-    one d t a b x y = absurd x
+    one d t a b x y = grind arith
 
     -- where both stand there
     none : (d : DepotState) → Stands (SideAt index side) d → (a : Outcome) → Refused d a → ⊥

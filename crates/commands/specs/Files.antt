@@ -1,33 +1,29 @@
 -- What the commands promise that write files.
 use Rattle.std.specs.Prelude.{◌≡◌, ◌⊎◌, ℕ, IsTrue, List}
-use Rattle.commands.specs.Names.{Collection, Format, Two, numbers_of, Index, Side, DepotState, ListParts, FindsCollection, Outside, Outcome, is_refusal, done, FindsIndex, FindsIndexOf, BuildsWordsThen, CollectionAt, IndexAt, MapAt, Does}
+use Rattle.commands.specs.Names.{Collection, Format, Two, numbers_of, Index, Side, DepotState, ListParts, FindsCollection, Outside, Outcome, is_refusal, done, FindsIndex, FindsIndexOf, BuildsWordsThen, CollectionAt, IndexAt, MapAt, Does, FindsSide, side_of, File, Files, Source, Finds, AreTooMany, Three}
 use Rattle.collection_model.specs.Bytes.{word_bytes}
 use Rattle.collection_model.specs.Spelling.{spelled}
-use Rattle.part_cost.specs.declared.formats.Format.TheVariants.{Three}
 use Rattle.remap.specs.Image.{IsImage}
 use Rattle.command_line.specs.declared.words.FileKind.{FileKind}
 use Rattle.command_line.specs.declared.words.FileKind.TheVariants.{Plain, Packed}
 use Rattle.command_model.specs.FilesWritten.{NamedFile}
 use Rattle.command_model.specs.FoundMap.{remap_numbers, FindsBothOf, OnImageFiles, files_under}
-use Rattle.command_ends.specs.FoundSide.{FindsSide, side_of}
-use Rattle.command_ends.specs.WordsThen.{AreTooMany}
 use Rattle.command_ends.specs.WrittenFile.{WritesFile}
 use Rattle.command_ends.specs.WrittenFiles.{WritesFiles}
 use Rattle.command_ends.specs.WrittenIndex.{WritesIndex}
-use Rattle.command_ends.specs.Products.{File, Files}
 
--- A run builds the words of the collection under the base in a format, and writes them under the name.
-abbrev pub MakesBuilt : Format → List ℕ → List ℕ → Outside → Outside → Outcome → Type 0
-MakesBuilt format base index old new =
-    BuildsWordsThen format (FindsCollection (numbers_of format) base old.depot) old new
-    (WritesIndex format (FindsCollection (numbers_of format) base old.depot) index old new)
+-- A run builds the words of the collection of a source in a format, and writes them under the name.
+abbrev pub MakesIndex : Source → Format → List ℕ → Outside → Outside → Outcome → Type 0
+MakesIndex source format name old new =
+    BuildsWordsThen format (Finds source old.depot) old new
+    (WritesIndex format (Finds source old.depot) name old new)
 
 -- `build BASE INDEX` reads a collection with the limits of a format and does so; what it writes is then found
 -- as an index of that collection.
 pub record Builds (format : Format) (base index : List ℕ) (old new : Outside) (outcome : Outcome)
     : Type 0 where
   pub does : Does (CollectionAt (numbers_of format) base) (File Index)
-      (MakesBuilt format base index) old new outcome
+      (MakesIndex (CollectionAt (numbers_of format) base) format index) old new outcome
   pub opens : outcome ≡ done →
       (c : Collection) × FindsCollection (numbers_of format) base old.depot c
       × FindsIndexOf index new.depot c
@@ -37,23 +33,13 @@ abbrev pub migrate_format : FileKind → Format
 migrate_format Plain = Two
 migrate_format Packed = Three
 
--- An index of this collection, in that format and some parts, stands under the name.
-abbrev pub FindsMigrated : Format → List ℕ → DepotState → Collection → Type 0
-FindsMigrated format name depot c =
-    (parts : List ListParts) × FindsIndex (numbers_of format) name depot c parts
-
--- A run builds the words of the collection of an index in that format, and writes them under the other name.
-abbrev pub MakesMigrated : Format → List ℕ → List ℕ → Outside → Outside → Outcome → Type 0
-MakesMigrated format from to old new =
-    BuildsWordsThen format (FindsIndexOf from old.depot) old new
-    (WritesIndex format (FindsIndexOf from old.depot) to old new)
-
 -- `migrate OLD NEW`, in the second format, and `repack OLD NEW`, in the third, read an index of any format and do so;
 -- what they write is then found as an index of that collection.
 pub record Migrates (format : Format) (from to : List ℕ) (old new : Outside) (outcome : Outcome) : Type 0 where
-  pub does : Does (IndexAt from) (File Index) (MakesMigrated format from to) old new outcome
+  pub does : Does (IndexAt from) (File Index) (MakesIndex (IndexAt from) format to) old new outcome
   pub opens : outcome ≡ done →
-      (c : Collection) × FindsIndexOf from old.depot c × FindsMigrated format to new.depot c
+      (c : Collection) × FindsIndexOf from old.depot c
+      × ((parts : List ListParts) × FindsIndex (numbers_of format) to new.depot c parts)
   -- No part cost is counted before the old index is accepted, nor where it is refused, but that its
   -- new words are found to be too many by counting.
   pub unaccepted : ¬ ((c : Collection) × FindsIndexOf from old.depot c) → new.costs ≡ old.costs
@@ -67,18 +53,14 @@ OnSideBytes index depot P =
     (format : Format) × (c : Collection) × (parts : List ListParts)
     × FindsIndex (numbers_of format) index depot c parts × P (word_bytes (side_of c parts))
 
--- An index stood under one name, and its side file now stands under another.
-abbrev pub HasSide : List ℕ → List ℕ → DepotState → DepotState → Type 0
-HasSide index side old new =
-    (format : Format) × (c : Collection) × (parts : List ListParts)
-    × FindsIndex (numbers_of format) index old c parts × FindsSide side new c parts
-
 -- `blocks INDEX SIDE` reads an index of either format, and writes its side file under the other name; no part
 -- cost is counted.
 pub record WritesBlocks (index side : List ℕ) (old new : Outside) (outcome : Outcome) : Type 0 where
   pub does : Does (IndexAt index) (File Side) (WritesFile Side side (OnSideBytes index old.depot))
       old new outcome
-  pub opens : outcome ≡ done → HasSide index side old.depot new.depot
+  pub opens : outcome ≡ done →
+      (format : Format) × (c : Collection) × (parts : List ListParts)
+      × FindsIndex (numbers_of format) index old.depot c parts × FindsSide side new.depot c parts
   pub costs : new.costs ≡ old.costs
 
 -- A run writes the three files of the image, and ends so.

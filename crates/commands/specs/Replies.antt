@@ -1,9 +1,7 @@
 -- What the commands promise that answer the lines of the input.
 use Rattle.std.specs.Prelude.{◌≡◌, ℕ, List}
-use Rattle.commands.specs.Names.{Collection, Format, Two, numbers_of, DepotState, ListParts, FindsCollection, Outside, Outcome, AreBuilt, BuildsWordsThen, CollectionAt, IndexAt, IndexesAt, SideAt, Does}
+use Rattle.commands.specs.Names.{Collection, Format, Two, numbers_of, DepotState, ListParts, FindsCollection, Outside, Outcome, AreBuilt, BuildsWordsThen, CollectionAt, IndexAt, IndexesAt, SideAt, Does, Replies, Source, Finds}
 use Rattle.command_ends.specs.AnsweredText.{AnswersInput}
-use Rattle.command_ends.specs.Sources.{Source, Finds}
-use Rattle.command_ends.specs.Products.{Replies}
 
 -- the format with whose limits `answer` reads, and in which it builds
 abbrev pub answer_format : Format
@@ -27,8 +25,7 @@ MakesAnswers base old new =
 
 -- `answer BASE` reads a collection and does so.
 abbrev pub Answers : List ℕ → Outside → Outside → Outcome → Type 0
-Answers base old new outcome =
-    Does (CollectionAt (numbers_of answer_format) base) Replies (MakesAnswers base) old new outcome
+Answers base = Does (CollectionAt (numbers_of answer_format) base) Replies (MakesAnswers base)
 
 -- A run reads a source and answers the input from its collection; no part cost is counted.
 pub record AnswersFrom (source : Source) (old new : Outside) (outcome : Outcome) : Type 0 where

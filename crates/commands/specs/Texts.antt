@@ -1,14 +1,12 @@
 -- What the commands promise that print a text.
 use Rattle.std.specs.Prelude.{◌≡◌, ℕ, ◌⊎◌, IsTrue, List, Err, ◌+◌, ◌≤◌}
-use Rattle.commands.specs.Names.{Collection, Format, Two, numbers_of, DepotState, ListParts, IndexView, Outside, Outcome, is_refusal, done, FindsIndex, AreBuilt, BuildsWordsThen, IndexAt, Does}
+use Rattle.commands.specs.Names.{Collection, Format, Two, numbers_of, DepotState, ListParts, IndexView, Outside, Outcome, is_refusal, done, FindsIndex, AreBuilt, BuildsWordsThen, IndexAt, Does, Text, Nothing}
 use Rattle.pef_report.specs.Generated.{generated}
 use Rattle.command_model.specs.AuditText.{IsAuditText, fewest_audited, most_audited}
 use Rattle.command_model.specs.GeneratedText.{IsGeneratedText}
 use Rattle.command_model.specs.SummaryLine.{summary_line}
 use Rattle.outcomes.specs.declared.stop.Stop.TheVariants.{NoMemory}
 use Rattle.command_ends.specs.PrintedText.{PrintsText}
-use Rattle.command_ends.specs.Sources.{Nothing}
-use Rattle.command_ends.specs.Products.{Text}
 
 -- the format in which a generated collection is built
 abbrev pub generate_format : Format
@@ -30,7 +28,7 @@ MakesGeneration seed n t old new =
 
 -- `generate SEED N T` reads nothing, and does so.
 abbrev pub Generates : ℕ → ℕ → ℕ → Outside → Outside → Outcome → Type 0
-Generates seed n t old new outcome = Does Nothing Text (MakesGeneration seed n t) old new outcome
+Generates seed n t = Does Nothing Text (MakesGeneration seed n t)
 
 -- The text is the line of an index that stands under the name.
 abbrev pub IsInspection : List ℕ → DepotState → List ℕ → Type 0

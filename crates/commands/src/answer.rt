@@ -1,6 +1,6 @@
 ghost use Rattle.std.specs.Prelude.{◌≡◌, IsTrue};
-ghost use Rattle.commands.specs.Names.{Collection, SinkState, LendTheSame, outside, is_refusal, Leaves, names_under, StartsOnly, IsCollectionSlot};
-ghost use Rattle.commands.specs.Replies.{IsAnswerable, Answers};
+ghost use Rattle.commands.specs.Names.{Collection, SinkState, LendTheSame, outside, is_refusal, CollectionAt, Starts, Leaves, numbers_of};
+ghost use Rattle.commands.specs.Replies.{answer_format, IsAnswerable, Answers};
 
 use collection_reader::{files_have_one_first_fault, spelled_files_have_no_fault};
 use command_ends::{Devices, LONGEST_TEXT};
@@ -23,7 +23,7 @@ pub fn answer<D: Depot, I: Source, O: Sink, L: Ledger>(
     steps: &mut Steps<L>,
 ) -> Result<(), Stop>
     ensures leaves { (e e' : SinkState)
-        → Leaves (Answers base.now) (StartsOnly (names_under base.now) IsCollectionSlot)
+        → Leaves (Answers base.now) (Starts (CollectionAt (numbers_of answer_format) base.now))
         (outside (D.state on.old.depot.now) (I.state on.old.input.now)
         (O.state on.old.out.now) e steps.old)
         (outside (D.state on.new.depot.now) (I.state on.new.input.now)

@@ -1,5 +1,5 @@
 ghost use Rattle.std.specs.Prelude.{◌≡◌, IsTrue};
-ghost use Rattle.commands.specs.Names.{Collection, SourceState, SinkState, FindsIndexOf, outside, is_refusal, Leaves, StartsOnly, IsIndexSlot};
+ghost use Rattle.commands.specs.Names.{Collection, SourceState, SinkState, FindsIndexOf, outside, is_refusal, Leaves, IndexAt, Starts};
 ghost use Rattle.commands.specs.Texts.{Audits};
 
 use command_ends::load_index;
@@ -19,7 +19,7 @@ pub fn audit<D: Depot, O: Sink, L: Ledger>(
     steps: &mut Steps<L>,
 ) -> Result<(), Stop>
     ensures leaves { (i : SourceState) (e e' : SinkState)
-        → Leaves (Audits index.now) (StartsOnly (λ slot. index.now) IsIndexSlot)
+        → Leaves (Audits index.now) (Starts (IndexAt index.now))
         (outside (D.state depot.old) i (O.state out.old) e steps.old)
         (outside (D.state depot.new) i (O.state out.new) e' steps.new) result }
     ensures refused { IsTrue (is_refusal result) → out.new ≡ out.old }

@@ -1,5 +1,5 @@
 ghost use Rattle.std.specs.Prelude.{ℕ};
-ghost use Rattle.commands.specs.Names.{SourceState, SinkState, outside, Leaves, StartsOnly, IsIndexSlot};
+ghost use Rattle.commands.specs.Names.{SourceState, SinkState, outside, Leaves, IndexAt, Starts};
 ghost use Rattle.commands.specs.Files.{WritesBlocks};
 
 use command_ends::{load_index, words_fit};
@@ -12,7 +12,7 @@ use word_files::write_words;
 /// Reads the index under a name, and writes its side file under another one.
 pub fn blocks<D: Depot>(alloc: Global, index: &str, side: &str, depot: &mut D) -> Result<(), Stop>
     ensures { (i : SourceState) (o e e' : SinkState) (costs : ℕ) →
-        Leaves (WritesBlocks index.now side.now) (StartsOnly (λ slot. index.now) IsIndexSlot)
+        Leaves (WritesBlocks index.now side.now) (Starts (IndexAt index.now))
         (outside (D.state depot.old) i o e costs) (outside (D.state depot.new) i o e' costs)
         result }
 {

@@ -1,6 +1,5 @@
 ghost use Rattle.std.specs.Prelude.{◌≡◌, ℕ, IsTrue};
-ghost use Rattle.commands.specs.Names.{Collection, SinkState, LendTheSame, outside, SideAt, Starts, is_refusal, Leaves};
-ghost use Rattle.command_ends.specs.FoundSide.{FindsWithSide};
+ghost use Rattle.commands.specs.Names.{Collection, SinkState, LendTheSame, outside, SideAt, Starts, is_refusal, Leaves, FindsWithSide};
 ghost use Rattle.commands.specs.Replies.{QueriesBlocks};
 
 use crate::side_loading::load_side;

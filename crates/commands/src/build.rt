@@ -1,4 +1,4 @@
-ghost use Rattle.commands.specs.Names.{SourceState, SinkState, outside, Leaves, names_under, StartsOnly, IsCollectionSlot};
+ghost use Rattle.commands.specs.Names.{SourceState, SinkState, outside, CollectionAt, Starts, Leaves, numbers_of};
 ghost use Rattle.commands.specs.Files.{Builds};
 
 use collection_reader::{files_have_one_first_fault, spelled_files_have_no_fault};
@@ -29,7 +29,7 @@ pub fn build<D: Depot, L: Ledger>(
 ) -> Result<(), Stop>
     ensures { (i : SourceState) (o e e' : SinkState)
         → Leaves (Builds index.entry.format base.now index.entry.name.now)
-        (StartsOnly (names_under base.now) IsCollectionSlot)
+        (Starts (CollectionAt (numbers_of index.entry.format) base.now))
         (outside (D.state depot.old) i o e steps.old) (outside (D.state depot.new) i o e' steps.new)
         result }
 {

@@ -1,5 +1,5 @@
 ghost use Rattle.std.specs.Prelude.{ℕ};
-ghost use Rattle.commands.specs.Names.{SourceState, SinkState, outside, Leaves, StartsOnly, IsIndexSlot};
+ghost use Rattle.commands.specs.Names.{SourceState, SinkState, outside, Leaves, IndexAt, Starts};
 ghost use Rattle.commands.specs.Files.{Exports};
 
 use command_ends::load_index;
@@ -11,7 +11,7 @@ use std::alloc::Global;
 /// Reads the index under the name, and writes the three files of its collection under a base.
 pub fn export<D: Depot>(alloc: Global, index: &str, base: &str, depot: &mut D) -> Result<(), Stop>
     ensures { (i : SourceState) (o e e' : SinkState) (costs : ℕ)
-        → Leaves (Exports index.now base.now) (StartsOnly (λ slot. index.now) IsIndexSlot)
+        → Leaves (Exports index.now base.now) (Starts (IndexAt index.now))
         (outside (D.state depot.old) i o e costs) (outside (D.state depot.new) i o e' costs)
         result }
 {

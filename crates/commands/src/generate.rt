@@ -1,5 +1,5 @@
-ghost use Rattle.std.specs.Prelude.{◌≡◌, [], IsTrue};
-ghost use Rattle.commands.specs.Names.{DepotState, SourceState, SinkState, outside, is_refusal, Leaves, StartsOnly};
+ghost use Rattle.std.specs.Prelude.{◌≡◌, IsTrue};
+ghost use Rattle.commands.specs.Names.{DepotState, SourceState, SinkState, outside, is_refusal, Starts, Leaves, Nothing};
 ghost use Rattle.commands.specs.Texts.{Generates};
 
 use index_building::generated_words;
@@ -28,7 +28,7 @@ pub fn generate<O: Sink, L: Ledger>(
 ) -> Result<(), Stop>
     ensures leaves { (d : DepotState) (i : SourceState) (e e' : SinkState)
         → Leaves (Generates collection.seed collection.documents collection.terms)
-        (StartsOnly (λ slot. []) (λ slot. ⊥))
+        (Starts Nothing)
         (outside d i (O.state out.old) e steps.old) (outside d i (O.state out.new) e' steps.new)
         result }
     ensures refused { IsTrue (is_refusal result) → out.new ≡ out.old }

@@ -1,5 +1,5 @@
 ghost use Rattle.std.specs.Prelude.{◌≡◌, ℕ, IsTrue};
-ghost use Rattle.commands.specs.Names.{Collection, SourceState, SinkState, FindsIndexOf, outside, is_refusal, Leaves, StartsOnly, IsIndexSlot};
+ghost use Rattle.commands.specs.Names.{Collection, SourceState, SinkState, FindsIndexOf, outside, is_refusal, Leaves, IndexAt, Starts};
 ghost use Rattle.commands.specs.Texts.{Inspects};
 
 use command_ends::load_index;
@@ -16,7 +16,7 @@ pub fn inspect<D: Depot, O: Sink>(
     out: &mut O,
 ) -> Result<(), Stop>
     ensures leaves { (i : SourceState) (e e' : SinkState) (costs : ℕ)
-        → Leaves (Inspects index.now) (StartsOnly (λ slot. index.now) IsIndexSlot)
+        → Leaves (Inspects index.now) (Starts (IndexAt index.now))
         (outside (D.state depot.old) i (O.state out.old) e costs)
         (outside (D.state depot.new) i (O.state out.new) e' costs) result }
     ensures refused { IsTrue (is_refusal result) → out.new ≡ out.old }

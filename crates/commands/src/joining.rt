@@ -1,8 +1,6 @@
 ghost use Rattle.std.specs.Prelude.{◌≡◌, ℕ, IfErr, IfOk, IsTrue, Err};
-ghost use Rattle.commands.specs.Names.{Collection, SinkState, LendTheSame, outside, IndexesAt, Starts, is_refusal, Leaves};
+ghost use Rattle.commands.specs.Names.{Collection, SinkState, LendTheSame, outside, IndexesAt, Starts, is_refusal, Leaves, FindsJoined, IsUnread};
 ghost use Rattle.command_line.specs.Command.{texts};
-ghost use Rattle.command_ends.specs.FoundSegments.{FindsJoined};
-ghost use Rattle.command_ends.specs.Steps.AtSource.{IsUnread};
 ghost use Rattle.commands.specs.Private.ReadSegments.{AreLoaded, IsAccepted, IsRejected};
 ghost use Rattle.commands.specs.Replies.{AnswersSegments};
 

@@ -1,5 +1,5 @@
 ghost use Rattle.std.specs.Prelude.{◌≡◌};
-ghost use Rattle.commands.specs.Names.{SourceState, SinkState, outside, Leaves, StartsOnly, IsIndexSlot};
+ghost use Rattle.commands.specs.Names.{SourceState, SinkState, outside, Leaves, IndexAt, Starts};
 ghost use Rattle.commands.specs.Files.{Migrates, migrate_format};
 
 use command_ends::{load_index, words_fit};
@@ -32,7 +32,7 @@ pub fn migrate<D: Depot, L: Ledger>(
     ensures { (i : SourceState) (o e e' : SinkState)
         → Leaves (Migrates (migrate_format files.entry.kind) files.entry.from.now
         files.entry.to.now)
-        (StartsOnly (λ slot. files.entry.from.now) IsIndexSlot)
+        (Starts (IndexAt files.entry.from.now))
         (outside (D.state depot.old) i o e steps.old) (outside (D.state depot.new) i o e' steps.new)
         result }
 {

@@ -1,5 +1,5 @@
 ghost use Rattle.std.specs.Prelude.{◌≡◌, ℕ, IsTrue};
-ghost use Rattle.commands.specs.Names.{Collection, SinkState, FindsIndexOf, LendTheSame, outside, is_refusal, Leaves, StartsOnly, IsIndexSlot};
+ghost use Rattle.commands.specs.Names.{Collection, SinkState, FindsIndexOf, LendTheSame, outside, is_refusal, Leaves, IndexAt, Starts};
 ghost use Rattle.commands.specs.Replies.{Queries};
 
 use command_ends::{Devices, LONGEST_TEXT, load_index};
@@ -16,7 +16,7 @@ pub fn query<D: Depot, I: Source, O: Sink>(
     on: &mut Devices<&mut D, &mut I, &mut O>,
 ) -> Result<(), Stop>
     ensures leaves { (e e' : SinkState) (costs : ℕ)
-        → Leaves (Queries index.now) (StartsOnly (λ slot. index.now) IsIndexSlot)
+        → Leaves (Queries index.now) (Starts (IndexAt index.now))
         (outside (D.state on.old.depot.now) (I.state on.old.input.now)
         (O.state on.old.out.now) e costs)
         (outside (D.state on.new.depot.now) (I.state on.new.input.now)

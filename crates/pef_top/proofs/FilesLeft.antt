@@ -1,15 +1,11 @@
 -- What `build` or `migrate` leaves, and then `query` or `export` of it: the replies and the files are those of the collection that was found.
 use Rattle.std.proofs.Common.{◌≡◌, refl, sym, ap, ◌∙◌, subst, ℕ, List, inl, inr, IsTrue}
-use Rattle.pef_top.proofs.Names.{Collection, DepotState, Outside, done, FindsIndexOf}
+use Rattle.pef_top.proofs.Names.{Collection, DepotState, Outside, done, FindsIndexOf, AnswersAll, Exports, Queries, Told}
 use Rattle.collection_model.specs.Spelling.{spelled}
 use Rattle.query_text.specs.Lines.{text_lines}
 use Rattle.collection_reader.specs.ReadCollection.{files_at}
 use Rattle.index_file.specs.Laws.{OneIndex, WordsAreRead}
 use Rattle.command_model.specs.GotReplies.{GotReplies}
-use Rattle.outcomes.specs.Outside.{Told}
-use Rattle.command_ends.specs.AnsweredText.{AnswersAll}
-use Rattle.commands.specs.Files.{Exports}
-use Rattle.commands.specs.Replies.{Queries}
 use Rattle.commands.proofs.FilesRead.{same_index}
 use Rattle.pef_top.specs.Laws.{BuiltFilesAnswer, BuiltFilesComeBack, MigratedFilesAnswer, MigratedFilesComeBack}
 

@@ -1,12 +1,10 @@
 use Rattle.std.specs.Prelude.{◌≡◌, ℕ, IsTrue, List}
-use Rattle.pef_top.specs.Names.{numbers_of, DepotState, Outside, done, Builds, Exports, Migrates, Queries}
+use Rattle.pef_top.specs.Names.{numbers_of, DepotState, Outside, done, Builds, Exports, Migrates, Queries, FindsCollection, Told}
 use Rattle.collection_model.specs.Collection.{Collection}
 use Rattle.part_cost.specs.declared.formats.Format.{Format}
 use Rattle.query_text.specs.Lines.{text_lines}
 use Rattle.collection_reader.specs.ReadCollection.{files_at}
-use Rattle.command_model.specs.Found.{FindsCollection}
 use Rattle.command_model.specs.GotReplies.{GotReplies}
-use Rattle.outcomes.specs.Outside.{Told}
 use Rattle.command_ends.specs.FoundIndex.{FindsIndexOf}
 
 -- Where `build`, or `pack`, is done and then `query` of what it left, the replies are those of the collection that it

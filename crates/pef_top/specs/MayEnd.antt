@@ -1,11 +1,6 @@
 use Rattle.std.specs.Prelude.{IsTrue, Some, Err, ◌⊎◌, ⊤, Ok}
-use Rattle.pef_top.specs.Names.{Index, Side, Command, Outside, Outcome, Source, IndexAt, IndexesAt, SideAt, Product}
-use Rattle.pef_io.specs.declared.fail.Slot.TheVariants.{Docs, Map}
-use Rattle.command_model.specs.Found.{IsIndexSlot}
-use Rattle.outcomes.specs.declared.stop.Stop.TheVariants.{BrokenCollection, BrokenIndex, BrokenSide, BrokenMap, FileFault, InputFault, WriteFault, OutFault, NoMemory, TooLarge, InputTooLarge, BrokenSegment, UnfitSegment}
+use Rattle.pef_top.specs.Names.{Index, Side, Command, Outside, Outcome, Source, IndexAt, IndexesAt, SideAt, Product, WritesTo, builds_words, prints, reads_input, ReadsFrom, IsIndexSlot, BrokenCollection, BrokenIndex, BrokenSide, BrokenMap, FileFault, InputFault, WriteFault, OutFault, NoMemory, TooLarge, InputTooLarge, BrokenSegment, UnfitSegment, Docs, Map}
 use Rattle.command_ends.specs.FoundSide.{IsIndexOrSide}
-use Rattle.command_ends.specs.Sources.{ReadsFrom}
-use Rattle.command_ends.specs.Products.{WritesTo, builds_words, prints, reads_input}
 use Rattle.pef_top.specs.Commands.{Performs}
 use Rattle.pef_top.specs.SourceAndProduct.{product_of, source_of}
 

@@ -1,14 +1,16 @@
 -- The names that most definitions cite, passed on from one place.
-pub use Rattle.command_ends.specs.Products.{Product}
-pub use Rattle.command_ends.specs.Sources.{IndexAt, IndexesAt, SideAt, Source}
+pub use Rattle.command_ends.specs.Products.{File, Files, Product, Replies, Text, WritesTo, builds_words, prints, reads_input}
+pub use Rattle.command_ends.specs.Sources.{CollectionAt, IndexAt, IndexesAt, MapAt, Nothing, ReadsFrom, SideAt, Source}
 pub use Rattle.command_ends.specs.declared.devices.Devices.{Devices}
-pub use Rattle.command_line.specs.Command.{Answer, Audit, BlockQuery, Blocks, Build, Command, Export, Generate, Inspect, Migrate, Query, Remap, Segments}
-pub use Rattle.commands.specs.Files.{Builds, Exports, Migrates}
-pub use Rattle.commands.specs.Replies.{Queries}
-pub use Rattle.outcomes.specs.Outcome.{Outcome, done}
-pub use Rattle.outcomes.specs.Outside.{GotText, Outside}
+pub use Rattle.command_line.specs.Command.{Answer, Audit, BlockQuery, Blocks, Build, Command, Export, Generate, Inspect, Migrate, Query, Remap, Segments, command_of, texts}
+pub use Rattle.command_model.specs.Found.{FindsCollection, IsIndexSlot}
+pub use Rattle.commands.specs.Files.{Builds, Exports, Migrates, Remaps, WritesBlocks, migrate_format}
+pub use Rattle.commands.specs.Replies.{Answers, AnswersSegments, Queries, QueriesBlocks, answer_format}
+pub use Rattle.outcomes.specs.Outcome.{Outcome, done, is_refusal, line_of, status_of}
+pub use Rattle.outcomes.specs.Outside.{GotText, Outside, Told, outside}
 pub use Rattle.outcomes.specs.declared.status.Status.{Status}
+pub use Rattle.outcomes.specs.declared.stop.Stop.TheVariants.{BrokenCollection, BrokenIndex, BrokenMap, BrokenSegment, BrokenSide, FileFault, InputFault, InputTooLarge, NoMemory, OutFault, TooLarge, UnfitSegment, Usage, WriteFault}
 pub use Rattle.part_cost.specs.Formats.{numbers_of}
 pub use Rattle.pef_io.specs.DepotState.{DepotState}
 pub use Rattle.pef_io.specs.SinkState.{SinkState}
-pub use Rattle.pef_io.specs.declared.fail.Slot.TheVariants.{Index, Side}
+pub use Rattle.pef_io.specs.declared.fail.Slot.TheVariants.{Docs, Index, Map, Side}

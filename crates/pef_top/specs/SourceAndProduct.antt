@@ -1,7 +1,4 @@
-use Rattle.pef_top.specs.Names.{numbers_of, Index, Side, Command, Build, Query, Answer, Inspect, Generate, Migrate, Audit, Blocks, BlockQuery, Remap, Segments, Export, Source, IndexAt, SideAt, IndexesAt, Product}
-use Rattle.command_ends.specs.Sources.{Nothing, CollectionAt, MapAt}
-use Rattle.command_ends.specs.Products.{Replies, Text, File, Files}
-use Rattle.commands.specs.Replies.{answer_format}
+use Rattle.pef_top.specs.Names.{numbers_of, Index, Side, Command, Build, Query, Answer, Inspect, Generate, Migrate, Audit, Blocks, BlockQuery, Remap, Segments, Export, Source, IndexAt, SideAt, IndexesAt, Product, Replies, Text, File, Files, Nothing, CollectionAt, MapAt, answer_format}
 
 -- what a command reads
 abbrev pub source_of : Command → Source

@@ -5,5 +5,5 @@ use Rattle.pef_top.specs.SourceAndProduct.{source_of}
 
 -- What a run starts: nothing where its words are no command.
 abbrev pub Starts : Option Command → Outcome → DepotState → DepotState → Type 0
-Starts None outcome old new = source.Starts source.Nothing outcome old new
-Starts (Some command) outcome old new = source.Starts (source_of command) outcome old new
+Starts None = source.Starts source.Nothing
+Starts (Some command) = source.Starts (source_of command)

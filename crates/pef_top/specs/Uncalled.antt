@@ -1,6 +1,5 @@
 use Rattle.std.specs.Prelude.{◌≡◌, IsTrue, Option, Some, None, Bool, false, not}
-use Rattle.pef_top.specs.Names.{DepotState, Command, Devices, Outcome}
-use Rattle.outcomes.specs.Outcome.{is_refusal}
+use Rattle.pef_top.specs.Names.{DepotState, Command, Devices, Outcome, is_refusal}
 use Rattle.command_ends.specs.Sources as source
 use Rattle.command_ends.specs.Products as product
 use Rattle.pef_top.specs.SourceAndProduct.{product_of, source_of}

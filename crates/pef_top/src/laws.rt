@@ -37,6 +37,7 @@ pub fn migrated_files_come_back()
 }
 
 /// Each command ends only as the table of its outcomes says.
+#[tactic(auto, using(crate::proofs::Tabled::may_end))]
 pub fn commands_end_by_the_table()
     ensures { EndsByTheTable }
 {}

@@ -1,8 +1,7 @@
-ghost use Rattle.std.specs.Prelude.{◌≡◌, ℕ, ◌<◌, IsOk};
-ghost use Rattle.pef_top.specs.Names.{SinkState};
-ghost use Rattle.command_line.specs.Command.{command_of, texts};
+ghost use Rattle.std.specs.Prelude.{◌≡◌, ℕ, ◌<◌, IsOk, Some};
+ghost use Rattle.pef_top.specs.Names.{SinkState, command_of, texts, outside};
+ghost use Rattle.command_line.specs.Asked.{asked};
 ghost use Rattle.command_ends.specs.Lent.{devices, lent, LendTheSame};
-ghost use Rattle.outcomes.specs.Outside.{outside};
 ghost use Rattle.pef_top.specs.Uncalled.{Accepts, LeavesUncalled};
 ghost use Rattle.pef_top.specs.Commands.{Performs};
 ghost use Rattle.pef_top.specs.Starts.{Starts};
@@ -157,6 +156,28 @@ fn perform<D: Depot, I: Source, O: Sink, L: Ledger>(
     ensures same { LendTheSame on.old on.new }
 {
     let command = parse_words(alloc, words)?;
+    carry_out(alloc, command, on, steps)
+}
+
+// Carries out a command.
+fn carry_out<D: Depot, I: Source, O: Sink, L: Ledger>(
+    alloc: Global,
+    command: Command<'_>,
+    on: &mut Devices<&mut D, &mut I, &mut O>,
+    steps: &mut Steps<L>,
+) -> Result<(), Stop>
+    ensures leaves { let command = Some (asked command.entry) in (e e' : SinkState) →
+        Leaves (Performs command) (Starts command)
+        (outside (D.state on.old.depot.now) (I.state on.old.input.now)
+        (O.state on.old.out.now) e steps.old)
+        (outside (D.state on.new.depot.now) (I.state on.new.input.now)
+        (O.state on.new.out.now) e' steps.new)
+        result }
+    ensures uncalled { let command = Some (asked command.entry) in
+        LeavesUncalled command (Accepts command (D.state on.old.depot.now)) result
+        (lent on.old) (lent on.new) }
+    ensures same { LendTheSame on.old on.new }
+{
     match command {
         Command::Build {
             base,

@@ -1,5 +1,5 @@
 use Rattle.std.specs.Prelude.{◌≡◌, ℕ, ◌⊎◌, List, Err, ◌≢◌, Ok}
-use Rattle.commands.specs.Names.{Side, DepotState, Stop}
+use Rattle.commands.specs.Names.{Side, DepotState, Stop, stop_of_loading}
 use Rattle.block_max.specs.declared.fault.SideCheck.TheVariants.{S1}
 use Rattle.block_max.specs.declared.fault.SideFault.{SideFault}
 use Rattle.block_max.specs.Blocks.{BlockList}
@@ -8,7 +8,6 @@ use Rattle.block_max.specs.SideWords.{side_words}
 use Rattle.word_files.specs.declared.loading.LoadWordsError.{LoadWordsError}
 use Rattle.word_files.specs.LoadWords.{LoadsWords}
 use Rattle.outcomes.specs.declared.stop.Stop.TheVariants as stop
-use Rattle.outcomes.specs.Stops.{stop_of_loading}
 
 -- These words were loaded from the file under the name, and are the side words of some lists.
 pub record IsLoadedSide (lists : List BlockList) (name : List ℕ) (old new : DepotState)

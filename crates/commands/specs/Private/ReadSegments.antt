@@ -1,16 +1,12 @@
-use Rattle.std.specs.Prelude.{◌≡◌, ◌⊎◌, ℕ, List, [], ◌∷◌, length, take, Option, Some, None}
-use Rattle.commands.specs.Names.{Collection, Index, DepotState, IndexView, IsIndexSlot, Stop, IndexesAt}
-use Rattle.pef_io.specs.DepotState.{OnlyReads, WasStartedAs}
+use Rattle.std.specs.Prelude.{◌≡◌, ◌⊎◌, ℕ, List, [], ◌∷◌, length, Option, Some, None}
+use Rattle.commands.specs.Names.{Collection, Index, DepotState, IndexView, IsIndexSlot, Stop, IndexesAt, FindsSegments, IsRead, at_segment, OnlyReads, WasStartedAs}
 use Rattle.segments.specs.declared.pushed.SegRule.{SegRule}
 use Rattle.segments.specs.Joined.{documents_in}
 use Rattle.segments.specs.Segments.{Pushed, rule_broken, with_segment}
 use Rattle.line_replies.specs.AnswerJoined.{collections_of}
 use Rattle.outcomes.specs.declared.stop.Stop.TheVariants as stop
-use Rattle.command_ends.specs.FoundSegments.{FindsSegments}
 use Rattle.command_ends.specs.SegmentStarts.{StartedUnder}
-use Rattle.command_ends.specs.Steps.AtSource.{IsRead}
 use Rattle.command_ends.specs.Steps.LoadedIndex.{IsLoaded, IsUnloaded}
-use Rattle.outcomes.specs.Stops.{at_segment}
 
 -- how many terms the first of some collections has, where there is one
 abbrev pub first_terms : List Collection → Option ℕ
@@ -42,14 +38,14 @@ pub record IsRejected (name : List ℕ) (s : ℕ) (before : Pushed) (old now : D
       × (rule_at before index.collection ≡ Some rule) × (it ≡ stop.UnfitSegment rule s))
   pub started : WasStartedAs name Index old now
 
--- These are the first k segments, which were read and are accepted.
-pub record AreAccepted (names : List (List ℕ)) (k : ℕ) (after : Pushed) (old now : DepotState)
+-- These are the segments under the names, which were read and are accepted.
+pub record AreAccepted (names : List (List ℕ)) (after : Pushed) (old now : DepotState)
     (indexes : List IndexView) : Type 0 where
-  pub found : FindsSegments (take k names) old (collections_of indexes)
+  pub found : FindsSegments names old (collections_of indexes)
   pub pushed : after ≡ pushed_of (collections_of indexes)
   pub reads : OnlyReads IsIndexSlot old now
   pub faults : now.faults Index ≡ old.faults Index
-  pub starts : StartedUnder (take k names) (old.starts Index) (now.starts Index)
+  pub starts : StartedUnder names (old.starts Index) (now.starts Index)
   pub refusals : now.refusals ≡ old.refusals
 
 -- These are all segments, which were read and are accepted.

@@ -1,6 +1,5 @@
 use Rattle.std.specs.Prelude.{◌≡◌, ◌≢◌}
-use Rattle.pef_top.specs.Names.{SinkState, Status, GotText, Outcome, done}
-use Rattle.outcomes.specs.Outcome.{status_of, line_of}
+use Rattle.pef_top.specs.Names.{SinkState, Status, GotText, Outcome, done, status_of, line_of}
 
 -- What is reported of an outcome: its status, and its line on err.
 pub record Reports (old new : SinkState) (outcome : Outcome) (result : Status) : Type 0 where

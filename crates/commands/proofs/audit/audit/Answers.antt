@@ -1,8 +1,6 @@
-use Rattle.std.proofs.Common.{refl, inl, inr}
-use Rattle.commands.proofs.Names.{outside, IndexAt, Text, loaded_as, promised, stops, text_printed, prints, prints_refuse_none, handed_on}
+use Rattle.std.proofs.Common.{arith, refl, inl, inr}
+use Rattle.commands.proofs.Names.{outside, IndexAt, Text, loaded_as, promised, stops, text_printed, prints, handed_on, no_print_refuses, where_done, PrintsFoundAudit}
 use Rattle.command_model.specs.AuditText.{IsAuditText}
-use Rattle.command_ends.proofs.TextPrinted.{no_print_refuses, where_done}
-use Rattle.commands.specs.Texts.{PrintsFoundAudit}
 use Rattle.commands.proofs.audit.audit.Goals as goal
 
 pub returns-in_err-opened-clause-leaves : goal.returns-in_err-opened-clause-leaves
@@ -20,18 +18,4 @@ returns-clause-leaves g c = λ i e e'.
     let new = outside (g.D.Depot.state c.load_index.new.depot) i (g.O.Sink.state c.print_audit.new.out) e' c.print_audit.new.steps in
     promised old new _ _ c.after_printing.ensures (λ does. record { does = does; refused = λ h. no_print_refuses c.print_audit.result h })
     (text_printed (IndexAt c.args.index.now) (PrintsFoundAudit c.args.index.now) _ _ w.read i _ _ e e' _ _ p.text c.print_audit.result p.prints
-    (inr (
-      index,
-      record {
-        found = w.found;
-        lines = prints (IsAuditText index) p.text p.audit old new c.print_audit.result p.prints;
-        at_least = where_done c.print_audit.result p.counted;
-        at_most = p.bounded;
-      },
-    )))
-
-pub returns-clause-refused : goal.returns-clause-refused
-returns-clause-refused g c = λ h. prints_refuse_none c.print_audit.result c.after_printing.result c.after_printing.ensures h
-
-pub returns-clause-unaccepted : goal.returns-clause-unaccepted
-returns-clause-unaccepted g c = λ denied. absurd (denied c.in_ok-opened.ensures.loaded.read.accepted)
+    (inr (index, grind (arith, w.found, prints (IsAuditText index) p.text p.audit old new c.print_audit.result p.prints, where_done c.print_audit.result p.counted, p.bounded))))

@@ -1,5 +1,4 @@
-use Rattle.commands.proofs.Names.{spelled, IndexAt, loaded_as}
-use Rattle.outcomes.specs.declared.stop.Stop.TheVariants as stop
+use Rattle.commands.proofs.Names.{spelled, IndexAt, loaded_as, NoMemory}
 use Rattle.commands.proofs.FilesMade.{export_ended, export_stopped}
 use Rattle.commands.proofs.FilesRead.{wanted}
 use Rattle.commands.proofs.export.export.Goals as goal
@@ -9,11 +8,11 @@ returns-in_err-opened g c = λ i o e e' s. export_stopped c.args.index.now c.arg
 
 pub returns-in_err-names : goal.returns-in_err-names
 returns-in_err-names g c = λ i o e e' s.
-    export_stopped c.args.index.now c.args.base.now _ _ i o e e' s stop.NoMemory c.from_residual-in_err-names.result c.from_residual-in_err-names.ensures.1 (wanted (IndexAt c.args.index.now) c.in_ok-opened.ensures.loaded.read)
+    export_stopped c.args.index.now c.args.base.now _ _ i o e e' s NoMemory c.from_residual-in_err-names.result c.from_residual-in_err-names.ensures.1 (wanted (IndexAt c.args.index.now) c.in_ok-opened.ensures.loaded.read)
 
 pub returns-in_err-writer : goal.returns-in_err-writer
 returns-in_err-writer g c = λ i o e e' s.
-    export_stopped c.args.index.now c.args.base.now _ _ i o e e' s stop.NoMemory c.from_residual-in_err-writer.result c.from_residual-in_err-writer.ensures.1 (wanted (IndexAt c.args.index.now) c.in_ok-opened.ensures.loaded.read)
+    export_stopped c.args.index.now c.args.base.now _ _ i o e e' s NoMemory c.from_residual-in_err-writer.result c.from_residual-in_err-writer.ensures.1 (wanted (IndexAt c.args.index.now) c.in_ok-opened.ensures.loaded.read)
 
 pub write_collection-written-requires-clause-apart : goal.write_collection-written-requires-clause-apart
 write_collection-written-requires-clause-apart g c = c.in_ok-names.ensures.apart (spelled c.index-index.result.collection)

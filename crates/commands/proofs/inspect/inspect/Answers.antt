@@ -1,7 +1,6 @@
 use Rattle.std.proofs.Common.{refl, inl}
-use Rattle.commands.proofs.Names.{outside, PrintsText, IndexAt, Text, loaded_as, promised, stops, text_printed, prints, prints_refuse_none, handed_on}
+use Rattle.commands.proofs.Names.{outside, PrintsText, IndexAt, Text, loaded_as, promised, stops, text_printed, prints, handed_on, IsInspection}
 use Rattle.command_model.specs.SummaryLine.{summary_line}
-use Rattle.commands.specs.Texts.{IsInspection}
 use Rattle.commands.proofs.inspect.inspect.Goals as goal
 
 pub returns-in_err-opened-clause-leaves : goal.returns-in_err-opened-clause-leaves
@@ -18,9 +17,3 @@ returns-clause-leaves g c = λ i e e' n.
     promised old new _ _ c.after_printing.ensures (λ does. record { does = does; costs = refl })
     (text_printed (IndexAt c.args.index.now) (PrintsText (IsInspection c.args.index.now (g.D.Depot.state c.args.depot.now))) _ _ w.read i _ _ e e' n n (summary_line index) c.print_summary.result c.print_summary.ensures
     (prints (IsInspection c.args.index.now (g.D.Depot.state c.args.depot.now)) (summary_line index) (index, w.found, refl) old new c.print_summary.result c.print_summary.ensures))
-
-pub returns-clause-refused : goal.returns-clause-refused
-returns-clause-refused g c = λ h. prints_refuse_none c.print_summary.result c.after_printing.result c.after_printing.ensures h
-
-pub returns-clause-unaccepted : goal.returns-clause-unaccepted
-returns-clause-unaccepted g c = λ denied. absurd (denied c.in_ok-opened.ensures.loaded.read.accepted)

@@ -1,5 +1,5 @@
-use Rattle.std.proofs.Common.{arith, refl, subst, ◌≡◌, ◌<◌, ◌+◌, [], ℕ, length, string_bytes}
-use Rattle.commands.proofs.Names.{none_pushed, texts, AreAccepted, handed_on}
+use Rattle.std.proofs.Common.{arith, refl, ◌≡◌, ◌<◌, ◌+◌, [], length, string_bytes}
+use Rattle.commands.proofs.Names.{none_pushed, texts, handed_on}
 use Rattle.std.proofs.lemmas.List.{length-map}
 use Rattle.commands.proofs.SegmentsFound.{segments_laws}
 use Rattle.commands.proofs.SegmentsRead.{all_loaded, none_accepted, one_accepted, one_rejected, no_room, name_at}
@@ -8,10 +8,7 @@ use Rattle.commands.proofs.joining.load_segments.Goals as goal
 pub returns-in_err-opened-clause-refused : goal.returns-in_err-opened-clause-refused
 returns-in_err-opened-clause-refused g c =
     let laws = segments_laws c.words_and_bytes_undo_each_other.ensures.read c.one_broken_check.ensures c.one_index.ensures (texts c.args.names.now) in
-    rw (handed_on c.from_residual.result c.from_residual.ensures.1) (no_room (texts c.args.names.now) 0 none_pushed _ _ [] laws (none_accepted (texts c.args.names.now) _) (omega arith))
-
-pub loop-s-init : goal.loop-s-init
-loop-s-init g c = rw (c.new-joined.ensures, c.in_ok-opened.ensures.items) (none_accepted (texts c.args.names.now) _)
+    rw (handed_on c.from_residual.result c.from_residual.ensures.1) (no_room (texts c.args.names.now) 0 none_pushed _ _ [] laws (none_accepted _) (omega arith))
 
 pub returns-in_err-segment-clause-refused : goal.returns-in_err-segment-clause-refused
 returns-in_err-segment-clause-refused g c =
@@ -40,5 +37,4 @@ pub returns-clause-loaded : goal.returns-clause-loaded
 returns-clause-loaded g c =
     let laws = segments_laws c.words_and_bytes_undo_each_other.ensures.read c.one_broken_check.ensures c.one_index.ensures (texts c.args.names.now) in
     let all : c.loop-s.s ≡ length (texts c.args.names.now) = omega (arith, c.loop-s-test.false, c.loop-s.auto.s-end, length-map c.args.names.now string_bytes) in
-    let P : ℕ → Type 0 = λ k. AreAccepted (texts c.args.names.now) k c.loop-s.joined (g.D.Depot.state c.args.depot.now) (g.D.Depot.state c.loop-s.depot) c.loop-s.opened.items in
-    all_loaded (texts c.args.names.now) c.loop-s.joined _ _ c.loop-s.opened.items laws (subst P all c.loop-s.invariant)
+    all_loaded (texts c.args.names.now) c.loop-s.joined _ _ c.loop-s.opened.items laws (rw all at c.loop-s.invariant)

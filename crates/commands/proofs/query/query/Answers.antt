@@ -1,4 +1,4 @@
-use Rattle.commands.proofs.Names.{IndexAt, loaded_as, answers_refuse_none}
+use Rattle.commands.proofs.Names.{IndexAt, loaded_as}
 use Rattle.commands.proofs.RepliesMade.{replies_made, replies_stopped}
 use Rattle.commands.proofs.query.query.Goals as goal
 
@@ -11,9 +11,3 @@ returns-clause-leaves g c = λ e e' n.
     let w = loaded_as c.args.index.now _ _ c.in_ok-opened.opened index c.in_ok-opened.ensures.loaded c.index-index.ensures in
     replies_made (IndexAt c.args.index.now) e e' n w.read index.collection (index.format, index.parts, w.found) c.answer_text-answered.result c.answer_text-answered.ensures
     c.after_answering.result c.after_answering.ensures
-
-pub returns-clause-refused : goal.returns-clause-refused
-returns-clause-refused g c = λ h. answers_refuse_none c.answer_text-answered.result c.after_answering.result c.after_answering.ensures h
-
-pub returns-clause-unaccepted : goal.returns-clause-unaccepted
-returns-clause-unaccepted g c = λ denied. absurd (denied c.in_ok-opened.ensures.loaded.read.accepted)
