@@ -3,7 +3,7 @@ use Rattle.std.proofs.Common.{◌≡◌, ℕ, ◌+◌, ◌/◌, ◌≤◌, List,
 use Rattle.std.specs.Prelude.{◌⊎◌, Result, Ok, Err, OnOk, OnErr}
 use Rattle.std.proofs.lemmas.List.Elements.{All-push}
 use Rattle.collection_model.specs.FormatNumbers.{FormatNumbers, FileKind, Plain, Packed, format_three}
-use Rattle.collection_model.specs.Collection.{Posting, postings_of, IsPostingList}
+use Rattle.collection_model.specs.Collection.{postings_of, IsPostingList}
 use Rattle.part_cost.specs.declared.formats.Format.{Format}
 use Rattle.part_cost.specs.declared.formats.Format.TheVariants.{One, Two, Three}
 use Rattle.part_cost.specs.Formats.{numbers_of}

@@ -1,17 +1,13 @@
 -- Parts that are near-cheapest as they are stored.
-use Rattle.std.proofs.Common.{◌≡◌, ℕ, true, false, ◌∙◌, ◌≤◌, List, [], ◌∷◌, length, inl, inr, refl, sym, subst, arith}
-use Rattle.std.specs.Prelude.{◌==◌}
-use Rattle.std.proofs.lemmas.Bool.{eqb-true}
-use Rattle.std.proofs.lemmas.Bool.Decides.{nat_tests}
+use Rattle.std.proofs.Common.{◌≡◌, ℕ, ◌∙◌, List, length, inl, inr, refl, sym, subst}
 use Rattle.std.proofs.lemmas.List.{length-map}
-use Rattle.collection_model.specs.FormatNumbers.{FormatNumbers, FileKind, Plain, Packed, format_three, part_charge}
+use Rattle.collection_model.specs.FormatNumbers.{FormatNumbers, FileKind, Plain, Packed, part_charge}
 use Rattle.collection_model.specs.Collection.{freqs_of}
 use Rattle.collection_model.specs.Sequences.{doc_sequence, freq_sequence}
 use Rattle.collection_model.proofs.Lists.{docs_of-length}
 use Rattle.collection_model.proofs.Sequences.{sums-length}
 use Rattle.part_cost.specs.Span.{cost_of_part}
 use Rattle.part_cost.specs.Partition.{IsPartition}
-use Rattle.part_cost.proofs.Partitions.{ends-within}
 use Rattle.part_cost.specs.StoredBits.{MayStandIn, IsNearStored}
 use Rattle.index_file.specs.CutLists.{CutList}
 use Rattle.index_file.specs.Builder.{IsNearCut}

@@ -1,7 +1,7 @@
-use Rattle.std.proofs.Common.{◌≡◌, refl, subst, ℕ, zero, suc, ◌+◌, ◌-◌, ◌*◌, ◌≤◌, ◌<◌, inl, inr, List, [], ◌∷◌, min, arith}
+use Rattle.std.proofs.Common.{◌≡◌, subst, ℕ, zero, suc, ◌+◌, ◌-◌, ◌*◌, ◌≤◌, ◌<◌, inl, inr, List, [], ◌∷◌, arith}
 use Rattle.std.proofs.lemmas.Bool.{cases_lt}
 use Rattle.collection_model.specs.FormatNumbers.{FormatNumbers, part_charge}
-use Rattle.part_cost.specs.Partition.{IsPartitionFrom, WithinLimitFrom, IsAllowed, cost_from, partition_cost}
+use Rattle.part_cost.specs.Partition.{IsPartitionFrom, WithinLimitFrom, cost_from}
 use Rattle.partition_path.specs.Tables.{Table, IsReached, IsSettled, cost_to, least_known, unreached}
 use Rattle.part_cost.proofs.Partitions.{ends-within}
 

@@ -1,5 +1,5 @@
 -- Lemmas on the search from all places in order.
-use Rattle.std.proofs.Common.{◌≡◌, refl, sym, ◌∙◌, subst, ap, ℕ, zero, suc, ◌+◌, ◌*◌, ◌≤◌, ◌<◌, inl, inr, min, List, length, get_or, replicate, arith, get_or-set_same, get_or-set_other}
+use Rattle.std.proofs.Common.{◌≡◌, refl, sym, ◌∙◌, subst, ap, ℕ, zero, suc, ◌+◌, ◌*◌, ◌≤◌, ◌<◌, inl, inr, List, length, get_or, replicate, arith, get_or-set_same, get_or-set_other}
 use Rattle.std.specs.List.{All, sum}
 use Rattle.std.proofs.lemmas.Bool.{cases_lt}
 use Rattle.std.proofs.lemmas.List.{length-set, length-replicate, get_or-replicate}
@@ -20,7 +20,7 @@ pub record Searched (format : FormatNumbers) (cost : ℕ → ℕ → ℕ) (bound
   pub done : (r : ℕ) → r < i → IsReached t r → (e : ℕ) → r < e → e ≤ n → IsSettled format cost n most t r e
   pub stand : StandCheap bounds n (cost_to t i) t stands
   pub counted : before ≤ after
-  pub risen : after ≤ before + sum stands + (length bounds + 2) * i
+  pub risen : after ≤ before + sum stands + (length bounds + 65) * i
 
 abbrev none_known : ℕ → Table
 none_known n = replicate (n + 1) no_route
@@ -83,7 +83,7 @@ settled-more format cost n most t new r e cheaper same settled allowed = elim (s
 
 module _ (format : FormatNumbers) (cost : ℕ → ℕ → ℕ) (bounds : List ℕ) (n most i before middle : ℕ) (t : Table) (stands : List ℕ) (s : Searched format cost bounds n most i before middle t stands) (below : i < n) where
   -- one more place is done
-  searched-next : (after : ℕ) (new : Table) (more : List ℕ) → AreTried format.limit cost n i t new → (IsReached new i → (e : ℕ) → i < e → e ≤ n → IsSettled format cost n most new i e) → StandCheap bounds n (cost_to t i) new more → middle ≤ after → after + sum stands ≤ middle + sum more + length bounds + 2 → Searched format cost bounds n most (i + 1) before after new more
+  searched-next : (after : ℕ) (new : Table) (more : List ℕ) → AreTried format.limit cost n i t new → (IsReached new i → (e : ℕ) → i < e → e ≤ n → IsSettled format cost n most new i e) → StandCheap bounds n (cost_to t i) new more → middle ≤ after → after + sum stands ≤ middle + sum more + length bounds + 65 → Searched format cost bounds n most (i + 1) before after new more
   searched-next after new more x here_done stand counted bounded =
       let here = same-cost t new i (x.same i (omega arith)) in
       let up = x.routes.rising i (i + 1) (omega arith) (omega (arith, below)) in
@@ -130,7 +130,7 @@ module _ (format : FormatNumbers) (cost : ℕ → ℕ → ℕ) (bounds : List �
 
   -- where each allowed part is settled by what is known already to be the least
   pub searched-windows : (known after : ℕ) (new : Table) (more : List ℕ) → known ≡ least_known most n t → AreTried format.limit cost n i t new
-      → ((e : ℕ) → i < e → e ≤ n → IsSettled format cost n known new i e) → StandCheap bounds n (cost_to t i) new more → middle ≤ after → after + sum stands ≤ middle + sum more + length bounds + 2 → Searched format cost bounds n most (i + 1) before after new more
+      → ((e : ℕ) → i < e → e ≤ n → IsSettled format cost n known new i e) → StandCheap bounds n (cost_to t i) new more → middle ≤ after → after + sum stands ≤ middle + sum more + length bounds + 65 → Searched format cost bounds n most (i + 1) before after new more
   searched-windows known after new more is x settled stand counted bounded = searched-next after new more x tried stand counted bounded
     where
       tried : IsReached new i → (e : ℕ) → i < e → e ≤ n → IsSettled format cost n most new i e
@@ -155,8 +155,8 @@ module _ (format : FormatNumbers) (cost : ℕ → ℕ → ℕ) (bounds : List �
       let near = near-rest format cost n most t costs few all-searched.done n 0 0 others (omega arith) (omega arith) (omega (arith, all-searched.routes.origin)) a.partition a.within in
       omega (arith, near)
 
-  -- two costs at most for each window and number, and two for each number
-  pub few-costs : after ≤ before + 2 * (length bounds + 1) * n
+  -- two costs at most for each window and number, one for each look, and one
+  pub few-costs : after ≤ before + (2 * length bounds + 65) * n
   few-costs =
       let each : All (λ p. p ≤ n) stands = All-from_get_or (λ p. p ≤ n) stands 0 (λ k l. all-searched.stand.within k (omega (arith, l, all-searched.stand.count))) in
       let most : sum stands ≤ length stands * n = sum_by-le (λ x. x) n stands each in

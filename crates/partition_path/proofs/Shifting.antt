@@ -80,15 +80,15 @@ module _ (limit : ℕ) (cost : ℕ → ℕ → ℕ) (n : ℕ) where
       let parts : IsPartitionFrom start n (get_or ends k 0 ∷ drop (suc k) ends) = subst (λ (x : List ℕ). IsPartitionFrom start n x) prefix h in
       ends-within (get_or ends k 0) n (drop (suc k) ends) parts.1
 
--- every format has more bounds than places where an end is tried, and one
-wide : (format : Format) → 29 ≤ length (window_bounds format)
+-- every format has many bounds
+wide : (format : Format) → 92 ≤ length (window_bounds format)
 wide One = let e : length (window_bounds One) ≡ 114 = refl in omega (arith, e)
 wide Two = let e : length (window_bounds Two) ≡ 116 = refl in omega (arith, e)
 wide Three = let e : length (window_bounds Three) ≡ 114 = refl in omega (arith, e)
 
--- so what is counted while ends are shifted, and for the total, has room
-pub few-steps : (format : Format) (n parts before after : ℕ) → parts ≤ n → after ≤ before + 1 + 2 * (length (window_bounds format) + 1) * n + 27 * parts → after ≤ before + 3 * length (window_bounds format) * (n + 1)
+-- so what is counted besides while places are tried and ends are shifted, and for the total, has room
+pub few-steps : (format : Format) (n parts before after : ℕ) → parts ≤ n → after ≤ before + 1 + (2 * length (window_bounds format) + 65) * n + 27 * parts → after ≤ before + 3 * length (window_bounds format) * (n + 1)
 few-steps format n parts before after few l =
     let some = wide format in
-    let most = mul-le 29 n (length (window_bounds format)) n some (omega arith) in
+    let most = mul-le 92 n (length (window_bounds format)) n some (omega arith) in
     omega (arith, l, most, some, few)

@@ -86,12 +86,16 @@ least_known most n t = min most (cost_to t n)
 abbrev pub IsTooDear : ℕ → (ℕ → ℕ → ℕ) → ℕ → ℕ → Table → ℕ → ℕ → Type 0
 IsTooDear charge cost n most t i e = (e < n) × (least_known most n t ≤ cost_to t i + cost i e + charge)
 
--- A part from place i to place e can begin later: a route leads from i to a place between them for at most 103/100 of the payload of the part up to there.
+-- A route leads on from place i to a later place for at most 103/100 of the payload of the part up to there.
+abbrev pub IsCheapWay : ℕ → (ℕ → ℕ → ℕ) → Table → ℕ → ℕ → Type 0
+IsCheapWay charge cost t i start = 100 * cost_to t start + 103 * charge ≤ 100 * cost_to t i + 103 * cost i start
+
+-- A part from place i to place e can begin later: a route leads on to a place between them for little.
 pub record HasLaterStart (charge : ℕ) (cost : ℕ → ℕ → ℕ) (t : Table) (i e : ℕ) : Type 0 where
   pub start : ℕ
   pub after : i < start
   pub before : start < e
-  pub cheap : 100 * cost_to t start + 103 * charge ≤ 100 * cost_to t i + 103 * cost i start
+  pub cheap : IsCheapWay charge cost t i start
 
 -- An allowed part from place i to place e, of n numbers that can also be had for so many bits, need not be tried any more.
 abbrev pub IsSettled : FormatNumbers → (ℕ → ℕ → ℕ) → ℕ → ℕ → Table → ℕ → ℕ → Type 0

@@ -59,9 +59,9 @@ impl Cuts {
 /// A partition into parts that are allowed in the costs' format, at most 103/100 of the cheapest such, after the
 /// approximation of Ottaviano and Venturini (Partitioned Elias-Fano Indexes, SIGIR 2014): from each place in order, parts are
 /// tried to the longest ends under the format's window bounds. A bound is passed over where a known route leads past its
-/// end at its cost, and a place where the next one costs no more. No longer part is tried from a place where a known route
-/// leads on from it for at most 103/100 of the payload of the part up to there, and none behind which one part more would cost as
-/// much as a known route to the end. From a place where two more parts without payload would not
+/// end at its cost, or at 103/100 of what the next part costs, and a place where the next one costs no more. No longer part is tried
+/// from a place where a known route leads on from it for at most 103/100 of the payload of the part up to there, and none behind which
+/// one part more would cost as much as a known route to the end. From a place where two more parts without payload would not
 /// be cheaper than that route, only the part to the end is tried, and a sequence that costs no more as one
 /// part than two such parts is not cut. At last each cut is moved to a place near by where that is cheaper. For each number and
 /// one more it counts at most three times as many costs as there are window bounds, and it takes room for a few numbers at
@@ -86,8 +86,8 @@ pub fn partition<C: SpanCost, L: Ledger>(
     cuts_of(alloc, &routes, cost, steps)
 }
 
-/// The same for a sequence that can also be had for so many bits otherwise: a partition as above that costs less, or None where
-/// those bits are at most 103/100 of the cost of each allowed partition. What would cost as much is not looked for.
+/// Of a sequence that can also be had for so many bits otherwise: a partition as that of [`partition`] that costs less, or None
+/// where those bits are at most 103/100 of the cost of each allowed partition. What would cost as much is not looked for.
 pub fn partition_below<C: SpanCost, L: Ledger>(
     alloc: Global,
     cost: &C,

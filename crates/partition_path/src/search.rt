@@ -5,8 +5,8 @@ ghost use Rattle.part_cost.specs.Formats.{numbers_of};
 ghost use Rattle.part_cost.specs.Partition.{IsAllowed, partition_cost};
 ghost use Rattle.cost_windows.specs.EdgeFacts.{Knows};
 ghost use Rattle.cost_windows.specs.WindowBounds.{window_bounds};
-ghost use Rattle.partition_path.specs.Trying.{CanTry, IsCheapWindow};
-ghost use Rattle.partition_path.specs.Tables.{AreRoutes, AreTried, IsReached, IsSettled, StandCheap, cost_to, unreached};
+ghost use Rattle.partition_path.specs.Trying.{CanTry, IsCheapWindow, IsWithinReach};
+ghost use Rattle.partition_path.specs.Tables.{AreRoutes, AreTried, IsCheapWay, IsReached, IsSettled, StandCheap, cost_to, unreached};
 
 use crate::routes::Routes;
 use cost_windows::{Edge, bounds, bounds_follow_rule};
@@ -33,7 +33,7 @@ pub(crate) fn routes_found<C: SpanCost, L: Ledger>(
         ≤ 103 * partition_cost (C.cost_of cost.now) others) }
     ensures counted { steps.old ≤ steps.new }
     ensures bounded { steps.new ≤ steps.old
-        + 2 * (length (window_bounds (C.format_of cost.now)) + 1) * C.count cost.now }
+        + (2 * length (window_bounds (C.format_of cost.now)) + 65) * C.count cost.now }
 {
     formats_have_room();
     bounds_follow_rule();
@@ -48,7 +48,8 @@ pub(crate) fn routes_found<C: SpanCost, L: Ledger>(
             if least <= routes.cost(i) + 2 * charge {
                 try_rest(&mut routes, i, cost, steps);
             } else {
-                try_windows(&mut routes, i, least, &mut stands, cost, steps);
+                let from = Start { place: i, least };
+                try_windows(&mut routes, from, &mut stands, cost, steps);
             }
         }
     }
@@ -73,50 +74,57 @@ fn try_rest<C: SpanCost, L: Ledger>(routes: &mut Routes, i: u64, cost: &C, steps
     }
 }
 
-// Tries parts from place i, until each allowed one is settled. Of each window that is looked at it is known how far a route
-// leads that costs at most its bound more than the route to this place; those whose bound the next part is above are passed.
+// A place from which parts are tried, and what is known to be the least cost of all numbers.
+#[derive(Clone, Copy)]
+struct Start {
+    place: u64,
+    least: u64,
+}
+
+// Behind how many windows from a place it is looked whether longer parts can begin later.
+const LOOKS: u64 = 64;
+
+// Tries parts from a place, until each allowed one is settled. Of each window that is looked at it is known how far a route
+// leads that costs at most its bound more than the route to this place, or at most 103/100 of what the part costs that is tried
+// next; those whose bound the next part is above are passed.
 // It ends where longer parts can begin at a later place, and where one more part behind them would cost as much as what is known
 // to be the least, or more: then the part to the last place is tried.
 fn try_windows<C: SpanCost, L: Ledger>(
     routes: &mut Routes,
-    i: u64,
-    least: u64,
+    from: Start,
     stands: &mut Vec<u64>,
     cost: &C,
     steps: &mut Steps<L>,
 )
-    requires within { i < C.count cost.now }
+    requires within { from.place < C.count cost.now }
     requires routes { AreRoutes (numbers_of (C.format_of cost.now)).limit (C.cost_of cost.now)
-        (C.count cost.now) i routes.old }
-    requires reached { IsReached routes.old i }
+        (C.count cost.now) from.place routes.old }
+    requires reached { IsReached routes.old from.place }
     requires stands { StandCheap (window_bounds (C.format_of cost.now)) (C.count cost.now)
-        (cost_to routes.old i) routes.old stands.old.items }
-    requires room { cost_to routes.old i + (numbers_of (C.format_of cost.now)).limit < unreached }
-    requires least { cost_to routes.old i + 2 * part_charge (numbers_of (C.format_of cost.now))
-        < least }
+        (cost_to routes.old from.place) routes.old stands.old.items }
+    requires room { cost_to routes.old from.place
+        + 2 * (numbers_of (C.format_of cost.now)).limit < unreached }
+    requires least { cost_to routes.old from.place
+        + 2 * part_charge (numbers_of (C.format_of cost.now)) < from.least }
     ensures tried { AreTried (numbers_of (C.format_of cost.now)).limit (C.cost_of cost.now)
-        (C.count cost.now) i routes.old routes.new }
-    ensures settled { (e : ℕ) → i < e → e ≤ C.count cost.now
+        (C.count cost.now) from.place routes.old routes.new }
+    ensures settled { (e : ℕ) → from.place < e → e ≤ C.count cost.now
         → IsSettled (numbers_of (C.format_of cost.now)) (C.cost_of cost.now) (C.count cost.now)
-        least routes.new i e }
+        from.least routes.new from.place e }
     ensures stands { StandCheap (window_bounds (C.format_of cost.now)) (C.count cost.now)
-        (cost_to routes.old i) routes.new stands.new.items }
+        (cost_to routes.old from.place) routes.new stands.new.items }
     ensures counted { steps.old ≤ steps.new }
-    // At most one cost for each place that a window moved on, one for each window, and two.
+    // At most one cost for each place that a window moved on, one for each window, one for each look, and one.
     ensures bounded { steps.new + sum stands.old.items
-        ≤ steps.old + sum stands.new.items + length (window_bounds (C.format_of cost.now)) + 2 }
+        ≤ steps.old + sum stands.new.items + length (window_bounds (C.format_of cost.now)) + 65 }
 {
     bounds_cover();
     bounds_follow_rule();
-    let charge = cost.format().charge();
-    let here = routes.cost(i);
-    let far = routes.furthest(i, here + charge);
-    if i < far && is_cheap_way(routes.cost(far) - here, cost.cost(i, far, steps) - charge) {
-        return;
-    }
+    let Start { place: i, least } = from;
     let bounds = bounds(cost.format());
-    let spare = least - here - charge;
+    let spare = least - routes.cost(i) - cost.format().charge();
     let mut edge = Edge::at(i);
+    let mut looks = 0;
     let mut k = 0;
     while k < bounds.len() && edge.end < cost.len() {
         let window = Window {
@@ -124,12 +132,16 @@ fn try_windows<C: SpanCost, L: Ledger>(
             bound: bounds[k],
             edge,
         };
-        edge = stretched(routes, i, window, cost, steps);
-        stands[k] = edge.end;
-        if let Some(next) = edge.next {
-            if is_cheap_way(routes.cost(edge.end + 1) - here, next - charge) {
+        let moved = stretched(routes, i, window, cost, steps);
+        stands[k] = moved.stand;
+        edge = moved.edge;
+        if looks < LOOKS {
+            if can_begin_later(routes, i, edge, cost, steps) {
                 return;
             }
+            looks += 1;
+        }
+        if let Some(next) = edge.next {
             if spare <= next {
                 try_rest(routes, i, cost, steps);
                 return;
@@ -137,6 +149,33 @@ fn try_windows<C: SpanCost, L: Ledger>(
         }
         k = covering(bounds, k + 1, edge.next);
     }
+}
+
+// Whether parts from place i that are longer than the edge can begin there: the route to it leads on for at most 103/100 of the
+// payload of the part up to there. That part is looked at only where the next one's payload would do.
+fn can_begin_later<C: SpanCost, L: Ledger>(
+    routes: &Routes,
+    i: u64,
+    edge: Edge,
+    cost: &C,
+    steps: &mut Steps<L>,
+) -> bool
+    requires routes { AreRoutes (numbers_of (C.format_of cost.now)).limit (C.cost_of cost.now)
+        (C.count cost.now) (i + 1) routes.now }
+    requires knows { Knows (C.cost_of cost.now) (C.count cost.now) i edge }
+    ensures later { IsTrue result → (i < edge.end)
+        × IsCheapWay (part_charge (numbers_of (C.format_of cost.now))) (C.cost_of cost.now)
+        routes.now i edge.end }
+    ensures counted { (steps.old ≤ steps.new) × (steps.new ≤ steps.old + 1) }
+{
+    let Some(next) = edge.next else {
+        return false;
+    };
+    let charge = cost.format().charge();
+    let way = routes.cost(edge.end) - routes.cost(i);
+    i < edge.end
+        && is_cheap_way(way, next - charge)
+        && is_cheap_way(way, cost.cost(i, edge.end, steps) - charge)
 }
 
 // Whether a way to a place costs at most 103/100 of the payload of a part there, so that a part which goes on from the place can
@@ -169,7 +208,7 @@ fn covering(bounds: &[u64], k: usize, next: Option<u64>) -> usize
 }
 
 // A window of the parts from a place: how far a route leads that costs at most the bound more than the one to the place, and a part
-// from there whose end such a route reaches too.
+// from there behind whose end longer parts are tried.
 #[derive(Clone, Copy)]
 struct Window {
     stand: u64,
@@ -177,41 +216,52 @@ struct Window {
     edge: Edge,
 }
 
-// The edge behind which the next part from place i costs more than the bound: up to there each place is reached by a route that
-// costs at most the bound more than the one to place i. Where no known route leads there, the part to it is tried.
+// The window with the edge behind which the next part from place i costs more than the bound: up to there each place is reached by
+// a route that costs at most the bound more than the one to place i, or at most 103/100 of what the part behind the old edge costs. Where
+// no known route leads so far, the part to the edge is tried, and the window stands there.
 fn stretched<C: SpanCost, L: Ledger>(
     routes: &mut Routes,
     i: u64,
     window: Window,
     cost: &C,
     steps: &mut Steps<L>,
-) -> Edge
+) -> Window
     requires from { CanTry (numbers_of (C.format_of cost.now)).limit (C.cost_of cost.now)
         (C.count cost.now) i routes.old }
     requires window { IsCheapWindow (numbers_of (C.format_of cost.now)).limit
         (C.cost_of cost.now) (C.count cost.now) i routes.old window }
     ensures tried { AreTried (numbers_of (C.format_of cost.now)).limit (C.cost_of cost.now)
         (C.count cost.now) i routes.old routes.new }
-    ensures knows { Knows (C.cost_of cost.now) (C.count cost.now) i result }
-    ensures cheap { cost_to routes.new result.end ≤ cost_to routes.old i + window.bound }
-    ensures over { result.end < C.count cost.now
-        → window.bound < C.cost_of cost.now i (result.end + 1) }
-    ensures known { result.end < C.count cost.now → IsSome result.next }
-    ensures reaches { (window.edge.end ≤ result.end) × (window.stand ≤ result.end) }
+    ensures knows { Knows (C.cost_of cost.now) (C.count cost.now) i result.edge }
+    ensures cheap { IsWithinReach window (cost_to routes.old i)
+        (cost_to routes.new result.edge.end) }
+    ensures stand { (result.stand ≤ C.count cost.now)
+        × (cost_to routes.new result.stand ≤ cost_to routes.old i + window.bound) }
+    ensures over { result.edge.end < C.count cost.now
+        → window.bound < C.cost_of cost.now i (result.edge.end + 1) }
+    ensures known { result.edge.end < C.count cost.now → IsSome result.edge.next }
+    ensures reaches { window.edge.end ≤ result.edge.end }
     ensures counted { steps.old ≤ steps.new }
-    ensures bounded { steps.new + window.stand ≤ steps.old + result.end + 1 }
+    ensures bounded { steps.new + window.stand ≤ steps.old + result.stand + 1 }
 {
+    formats_have_room();
     let Window { stand, bound, edge } = window;
-    let most = routes.cost(i) + bound;
+    let near = edge.next.unwrap_or(0) * 103 / 100;
+    let most = routes.cost(i) + bound.max(near);
     let reached = routes.furthest(edge.end.max(stand), most);
     let from = if edge.end < reached {
         Edge::at(reached)
     } else {
         Edge { cost: None, ..edge }
     };
-    let longer = from.lengthened(i, bound, cost, steps);
-    if let Some(part) = longer.cost {
-        routes.offer(i, longer.end, routes.cost(i) + part);
+    let edge = from.lengthened(i, bound, cost, steps);
+    let Some(part) = edge.cost else {
+        return Window { edge, ..window };
+    };
+    routes.offer(i, edge.end, routes.cost(i) + part);
+    Window {
+        stand: edge.end,
+        bound,
+        edge,
     }
-    longer
 }

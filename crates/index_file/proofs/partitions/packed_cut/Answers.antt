@@ -1,4 +1,4 @@
-use Rattle.std.proofs.Common.{◌≡◌, refl, subst, ap, ◌∙◌, sym, ℕ, ◌+◌, ◌-◌, ◌*◌, ◌<◌, ◌≤◌, List, [], ◌∷◌, length, slice_index_or, Option, Some, None, IfOk, IfSome, IfNone, arith}
+use Rattle.std.proofs.Common.{◌≡◌, refl, subst, ap, ◌∙◌, sym, ℕ, ◌+◌, ◌-◌, ◌*◌, ◌<◌, ◌≤◌, List, [], ◌∷◌, length, slice_index_or, Option, Some, None, IfSome, IfNone, arith}
 use Rattle.std.proofs.lemmas.Result.{IfOk-weaker}
 use Rattle.collection_model.specs.FormatNumbers.{format_three, part_charge}
 use Rattle.part_cost.specs.declared.formats.Format.{Format}

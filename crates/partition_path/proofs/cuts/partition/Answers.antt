@@ -1,11 +1,9 @@
-use Rattle.std.proofs.Common.{◌≡◌, refl, ◌≤◌, ◌<◌, ◌*◌, ◌-◌, ◌^◌, ℕ, length, arith}
+use Rattle.std.proofs.Common.{◌≤◌, ◌-◌, ◌^◌, arith}
 use Rattle.std.proofs.lemmas.Nat.{mul-le}
 use Rattle.part_cost.specs.Formats.{numbers_of}
 use Rattle.part_cost.specs.declared.formats.Format.{Format}
 use Rattle.part_cost.specs.declared.formats.Format.TheVariants.{One, Two, Three}
-use Rattle.partition_path.specs.Tables.{unreached}
 use Rattle.partition_path.proofs.Near.{singles}
-use Rattle.partition_path.proofs.Shifting.{few-parts, few-steps}
 use Rattle.partition_path.proofs.cuts.partition.Goals as goal
 
 -- no format allows parts of many bits

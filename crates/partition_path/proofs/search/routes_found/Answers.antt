@@ -1,4 +1,4 @@
-use Rattle.std.proofs.Common.{◌≡◌, ℕ, min, ◌+◌, ◌*◌, ◌<◌, ◌≤◌, subst, arith}
+use Rattle.std.proofs.Common.{◌≡◌, ℕ, ◌+◌, ◌*◌, ◌<◌, ◌≤◌, subst, arith}
 use Rattle.collection_model.specs.FormatNumbers.{part_charge}
 use Rattle.part_cost.specs.Formats.{numbers_of}
 use Rattle.part_cost.specs.declared.formats.Format.{Format}
@@ -18,7 +18,7 @@ reached : (g : given.Over) (c : Then-cost g) → IsReached c.loop-i.routes c.loo
 reached g c = omega (arith, c.if-cost.true, c.cost.ensures, c.cost-in-loop-i.type_inv)
 
 -- it leaves room for a part within the limit
-room : (g : given.Over) (c : Then-cost g) → cost_to c.loop-i.routes c.loop-i.i + (numbers_of (g.C.SpanCost.format_of c.args.cost.now)).limit < unreached
+room : (g : given.Over) (c : Then-cost g) → cost_to c.loop-i.routes c.loop-i.i + 2 * (numbers_of (g.C.SpanCost.format_of c.args.cost.now)).limit < unreached
 room g c =
     let below : c.loop-i.i < g.C.SpanCost.count c.args.cost.now = omega (arith, c.loop-i-test.true, c.len-count.ensures) in
     room_within _ _ c.loop-i.i (cost_to c.loop-i.routes c.loop-i.i) (c.formats_have_room.ensures (g.C.SpanCost.format_of c.args.cost.now)).small (g.met.C.SpanCost.few c.args.cost.now) below

@@ -1,14 +1,6 @@
-use Rattle.std.proofs.Common.{◌≡◌, ◌∙◌, ◌+◌, ◌-◌, ◌≤◌, ◌<◌, ◌++◌, ◌∷◌, [], List, ℕ, length, refl, sym, ap, subst, rules, arith, length-append}
-use Rattle.std.specs.List.{All}
-use Rattle.std.specs.List.Sorted.{IsStrictlyIncreasing}
-use Rattle.std.proofs.lemmas.List.Elements.{All-weaker}
-use Rattle.collection_model.specs.FormatNumbers.{format_three, most_terms, part_charge}
+use Rattle.std.proofs.Common.{◌≡◌, ◌∙◌, ◌+◌, ◌-◌, ◌≤◌, ◌++◌, ◌∷◌, [], List, ℕ, length, refl, sym, ap, subst, rules, arith, length-append}
+use Rattle.collection_model.specs.FormatNumbers.{format_three, most_terms}
 use Rattle.collection_model.specs.Collection.{postings_of, IsPostingList, greatest}
-use Rattle.collection_model.specs.Sequences.{doc_sequence, freq_sequence}
-use Rattle.part_cost.specs.Formats.{numbers_of}
-use Rattle.part_cost.specs.Span.{cost_of_part}
-use Rattle.part_cost.specs.Partition.{IsPartition, partition_cost}
-use Rattle.part_cost.specs.StoredBits.{IsNearStored}
 use Rattle.packed_list.specs.ListBits.{list_bits, IsCutInto}
 use Rattle.index_file.specs.CutLists.{CutList}
 use Rattle.index_file.specs.Builder.{IsNearCut, IsPackedKept, cut_list, with_list, packed_built}
