@@ -113,10 +113,9 @@ fn try_windows<C: SpanCost, L: Ledger>(
         from.least routes.new from.place e }
     ensures stands { StandCheap (window_bounds (C.format_of cost.now)) (C.count cost.now)
         (cost_to routes.old from.place) routes.new stands.new.items }
-    ensures counted { steps.old ≤ steps.new }
     // At most one cost for each place that a window moved on, one for each window, one for each look, and one.
-    ensures bounded { steps.new + sum stands.old.items
-        ≤ steps.old + sum stands.new.items + length (window_bounds (C.format_of cost.now)) + 65 }
+    ensures counted { (steps.old ≤ steps.new) × (steps.new + sum stands.old.items
+        ≤ steps.old + sum stands.new.items + length (window_bounds (C.format_of cost.now)) + 65) }
 {
     bounds_cover();
     bounds_follow_rule();
@@ -241,8 +240,8 @@ fn stretched<C: SpanCost, L: Ledger>(
         → window.bound < C.cost_of cost.now i (result.edge.end + 1) }
     ensures known { result.edge.end < C.count cost.now → IsSome result.edge.next }
     ensures reaches { window.edge.end ≤ result.edge.end }
-    ensures counted { steps.old ≤ steps.new }
-    ensures bounded { steps.new + window.stand ≤ steps.old + result.stand + 1 }
+    ensures counted { (steps.old ≤ steps.new)
+        × (steps.new + window.stand ≤ steps.old + result.stand + 1) }
 {
     formats_have_room();
     let Window { stand, bound, edge } = window;

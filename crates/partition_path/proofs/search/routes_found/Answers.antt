@@ -80,7 +80,7 @@ loop-i-preserved g c =
           let last : w.cost-then-cost.result ≡ cost_to t n = subst (λ (x : ℕ). w.cost-then-cost.result ≡ cost_to t x) c.len-count.ensures w.cost-then-cost.ensures in
           let known : w.min-least.result ≡ least_known most n t = omega (arith, w.min-least.ensures, last) in
           let said = w.try_windows.ensures in
-          let more = searched-windows (numbers_of format) cost bounds n most i before middle t stands c.loop-i.invariant below w.min-least.result w.try_windows.new.steps w.try_windows.new.routes w.try_windows.new.stands.items known said.tried said.settled said.stands said.counted (omega (arith, said.bounded)) in
+          let more = searched-windows (numbers_of format) cost bounds n most i before middle t stands c.loop-i.invariant below w.min-least.result w.try_windows.new.steps w.try_windows.new.routes w.try_windows.new.stands.items known said.tried said.settled said.stands said.counted.0 (omega (arith, said.counted.1)) in
           rw (w.steps-is, w.routes-is, w.stands-is) more
       | else-cost w ↦
           let flat : cost_to t (i + 1) ≤ cost_to t i = omega (arith, w.if-cost.false, c.cost.ensures, c.cost-in-loop-i.ensures) in

@@ -158,10 +158,10 @@ loop-k-preserved g c =
     let moved = sum_by-set (λ (x : ℕ). x) stands k stand 0 (omega (arith, below, w.stand.count)) in
     let passed : IfSome longer.next (λ x. (m : ℕ) → k + 1 ≤ m → m < c.covering-k.result → get_or bounds m 0 < x) = subst (λ (b : List ℕ). IfSome longer.next (λ x. (m : ℕ) → k + 1 ≤ m → m < c.covering-k.result → get_or b m 0 < x)) same next.passed in (
       windowed-passed _ _ _ _ _ _ _ (k + 1) longer _ m c.covering-k.result next.forward said.known passed,
-      omega (arith, said.bounded, looked.1, stood, moved, c.loop-k.invariant.1, next.forward),
+      omega (arith, said.counted.1, looked.1, stood, moved, c.loop-k.invariant.1, next.forward),
       next.within,
       same,
-      omega (arith, said.counted, looked.0, c.loop-k.invariant.4),
+      omega (arith, said.counted.0, looked.0, c.loop-k.invariant.4),
       looked.2,
       λ l. under longer.next c.bounds-bounds.result.now c.covering-k.result l next.covers,
     )
