@@ -6,3 +6,7 @@ mod Searching
 mod LeastRests
 mod SinglePart
 mod Shifting
+mod Longer
+mod Below
+mod Along
+mod Pieces

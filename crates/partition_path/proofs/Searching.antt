@@ -20,7 +20,7 @@ pub record Searched (format : FormatNumbers) (cost : ℕ → ℕ → ℕ) (bound
   pub done : (r : ℕ) → r < i → IsReached t r → (e : ℕ) → r < e → e ≤ n → IsSettled format cost n most t r e
   pub stand : StandCheap bounds n (cost_to t i) t stands
   pub counted : before ≤ after
-  pub risen : after ≤ before + sum stands + (length bounds + 65) * i
+  pub risen : after ≤ before + sum stands + (length bounds + 17) * i
 
 abbrev none_known : ℕ → Table
 none_known n = replicate (n + 1) no_route
@@ -83,7 +83,7 @@ settled-more format cost n most t new r e cheaper same settled allowed = elim (s
 
 module _ (format : FormatNumbers) (cost : ℕ → ℕ → ℕ) (bounds : List ℕ) (n most i before middle : ℕ) (t : Table) (stands : List ℕ) (s : Searched format cost bounds n most i before middle t stands) (below : i < n) where
   -- one more place is done
-  searched-next : (after : ℕ) (new : Table) (more : List ℕ) → AreTried format.limit cost n i t new → (IsReached new i → (e : ℕ) → i < e → e ≤ n → IsSettled format cost n most new i e) → StandCheap bounds n (cost_to t i) new more → middle ≤ after → after + sum stands ≤ middle + sum more + length bounds + 65 → Searched format cost bounds n most (i + 1) before after new more
+  searched-next : (after : ℕ) (new : Table) (more : List ℕ) → AreTried format.limit cost n i t new → (IsReached new i → (e : ℕ) → i < e → e ≤ n → IsSettled format cost n most new i e) → StandCheap bounds n (cost_to t i) new more → middle ≤ after → after + sum stands ≤ middle + sum more + length bounds + 17 → Searched format cost bounds n most (i + 1) before after new more
   searched-next after new more x here_done stand counted bounded =
       let here = same-cost t new i (x.same i (omega arith)) in
       let up = x.routes.rising i (i + 1) (omega arith) (omega (arith, below)) in
@@ -130,7 +130,7 @@ module _ (format : FormatNumbers) (cost : ℕ → ℕ → ℕ) (bounds : List �
 
   -- where each allowed part is settled by what is known already to be the least
   pub searched-windows : (known after : ℕ) (new : Table) (more : List ℕ) → known ≡ least_known most n t → AreTried format.limit cost n i t new
-      → ((e : ℕ) → i < e → e ≤ n → IsSettled format cost n known new i e) → StandCheap bounds n (cost_to t i) new more → middle ≤ after → after + sum stands ≤ middle + sum more + length bounds + 65 → Searched format cost bounds n most (i + 1) before after new more
+      → ((e : ℕ) → i < e → e ≤ n → IsSettled format cost n known new i e) → StandCheap bounds n (cost_to t i) new more → middle ≤ after → after + sum stands ≤ middle + sum more + length bounds + 17 → Searched format cost bounds n most (i + 1) before after new more
   searched-windows known after new more is x settled stand counted bounded = searched-next after new more x tried stand counted bounded
     where
       tried : IsReached new i → (e : ℕ) → i < e → e ≤ n → IsSettled format cost n most new i e
@@ -156,7 +156,7 @@ module _ (format : FormatNumbers) (cost : ℕ → ℕ → ℕ) (bounds : List �
       omega (arith, near)
 
   -- two costs at most for each window and number, one for each look, and one
-  pub few-costs : after ≤ before + (2 * length bounds + 65) * n
+  pub few-costs : after ≤ before + (2 * length bounds + 17) * n
   few-costs =
       let each : All (λ p. p ≤ n) stands = All-from_get_or (λ p. p ≤ n) stands 0 (λ k l. all-searched.stand.within k (omega (arith, l, all-searched.stand.count))) in
       let most : sum stands ≤ length stands * n = sum_by-le (λ x. x) n stands each in

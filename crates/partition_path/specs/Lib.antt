@@ -4,3 +4,5 @@ pub mod Chains
 pub mod Rests
 pub mod Joints
 pub mod Trying
+pub mod Lines
+pub mod FoundLines

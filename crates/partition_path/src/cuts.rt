@@ -1,15 +1,21 @@
-ghost use Rattle.std.specs.Prelude.{◌≡◌, ℕ, ◌≤◌, ◌<◌, ◌+◌, ◌-◌, ◌*◌, List, [], ◌∷◌, length, IfOk, IfSome, IfNone};
+ghost use Rattle.std.specs.Prelude.{◌≡◌, ℕ, ◌≤◌, ◌<◌, ◌+◌, ◌-◌, ◌*◌, ◌^◌, List, [], ◌∷◌, length, IfOk, IfSome, IfNone};
+ghost use Rattle.std.specs.List.{All};
+ghost use Rattle.std.specs.List.Sorted.{IsStrictlyIncreasing};
+ghost use Rattle.collection_model.specs.FormatNumbers.{part_charge};
 ghost use Rattle.part_cost.specs.Formats.{numbers_of};
+ghost use Rattle.part_cost.specs.Span.{cost_of_part};
 ghost use Rattle.part_cost.specs.Partition.{IsAllowed, IsNear, partition_cost};
 ghost use Rattle.cost_windows.specs.WindowBounds.{window_bounds};
 ghost use Rattle.partition_path.specs.Tables.{AreRoutes, IsReached, cost_to};
 
+use crate::allowed::allowed_ends;
 use crate::joints::{shift_ends, total_cost};
+use crate::lines::line_cuts;
 use crate::routes::Routes;
-use crate::search::routes_found;
+use crate::search::{is_cheap_way, routes_found};
 use crate::whole::{cost_as_one_part, no_parts_cost_less};
 use no_memory::NoMemory;
-use part_cost::SpanCost;
+use part_cost::{Format, ListCost, SpanCost, formats_have_room};
 use std::alloc::Global;
 use std::marker::Model;
 use std::sync::ledger::Ledger;
@@ -120,6 +126,109 @@ pub fn partition_below<C: SpanCost, L: Ledger>(
     Ok(Some(cuts_of(alloc, &routes, cost, steps)?))
 }
 
+/// A partition as that of [`partition`] of the values of a rising list. First the cheapest way along lines under the costs of
+/// parts is found in one pass, with parts that are allowed: where it costs at most 103/100 of what each partition costs by these lines, it
+/// is taken, and no part is tried.
+pub fn list_partition<L: Ledger>(
+    alloc: Global,
+    values: &[u64],
+    format: Format,
+    steps: &mut Steps<L>,
+) -> Result<Cuts, NoMemory>
+    requires rising { IsStrictlyIncreasing values.now }
+    requires below { All (λ x. x < (numbers_of format).most_sum) values.now }
+    requires few { length values.now < 2 ^ 32 }
+    ensures near { IfOk result (λ cuts. IsNear (numbers_of format).limit
+        (cost_of_part (part_charge (numbers_of format)) values.now) (length values.now) cuts.ends) }
+    ensures total { IfOk result (λ cuts. cuts.total
+        ≡ partition_cost (cost_of_part (part_charge (numbers_of format)) values.now) cuts.ends) }
+    ensures counted { IfOk result (λ cuts. steps.old + length cuts.ends ≤ steps.new) }
+    ensures bounded { steps.new ≤ steps.old
+        + 3 * length (window_bounds format) * (length values.now + 1) }
+{
+    let cost = ListCost::new(values, format);
+    if let Some(total) = cost_as_one_part(&cost, steps) {
+        return Cuts::of_one_part(alloc, cost.len(), total);
+    }
+    if let Some(cuts) = cuts_along_lines(alloc, values, format, steps)? {
+        return Ok(cuts);
+    }
+    let routes = routes_found(alloc, &cost, u64::MAX, steps)?;
+    cuts_of(alloc, &routes, &cost, steps)
+}
+
+/// A partition as that of [`partition_below`] of the values of a rising list, first by lines as [`list_partition`].
+pub fn list_partition_below<L: Ledger>(
+    alloc: Global,
+    values: &[u64],
+    format: Format,
+    most: u64,
+    steps: &mut Steps<L>,
+) -> Result<Option<Cuts>, NoMemory>
+    requires rising { IsStrictlyIncreasing values.now }
+    requires below { All (λ x. x < (numbers_of format).most_sum) values.now }
+    requires few { length values.now < 2 ^ 32 }
+    ensures found { IfOk result (λ found. IfSome found (λ cuts. IsNear (numbers_of format).limit
+        (cost_of_part (part_charge (numbers_of format)) values.now) (length values.now) cuts.ends
+        × (cuts.total ≡ partition_cost (cost_of_part (part_charge (numbers_of format)) values.now)
+        cuts.ends) × (cuts.total < most))) }
+    ensures none { IfOk result (λ found. IfNone found ((others : List ℕ)
+        → IsAllowed (numbers_of format).limit
+        (cost_of_part (part_charge (numbers_of format)) values.now) (length values.now) others
+        → 100 * most ≤ 103 * partition_cost
+        (cost_of_part (part_charge (numbers_of format)) values.now) others)) }
+    ensures counted { IfOk result (λ found. IfSome found
+        (λ cuts. steps.old + length cuts.ends ≤ steps.new)) }
+    ensures asked { IfOk result (λ found. 0 < length values.now → steps.old + 1 ≤ steps.new) }
+    ensures bounded { steps.new ≤ steps.old
+        + 3 * length (window_bounds format) * (length values.now + 1) }
+{
+    let cost = ListCost::new(values, format);
+    if no_parts_cost_less(&cost, most, steps) {
+        return Ok(None);
+    }
+    if let Some(cuts) = cuts_along_lines(alloc, values, format, steps)? {
+        return Ok(if cuts.total < most { Some(cuts) } else { None });
+    }
+    let routes = routes_found(alloc, &cost, most, steps)?;
+    if most <= routes.cost(cost.len()) {
+        return Ok(None);
+    }
+    Ok(Some(cuts_of(alloc, &routes, &cost, steps)?))
+}
+
+// The partition along lines under the costs of parts, where it is known to be near every allowed one.
+fn cuts_along_lines<L: Ledger>(
+    alloc: Global,
+    values: &[u64],
+    format: Format,
+    steps: &mut Steps<L>,
+) -> Result<Option<Cuts>, NoMemory>
+    requires rising { IsStrictlyIncreasing values.now }
+    requires below { All (λ x. x < (numbers_of format).most_sum) values.now }
+    requires few { length values.now < 2 ^ 32 }
+    ensures near { IfOk result (λ found. IfSome found (λ cuts. IsNear (numbers_of format).limit
+        (cost_of_part (part_charge (numbers_of format)) values.now) (length values.now)
+        cuts.ends)) }
+    ensures total { IfOk result (λ found. IfSome found (λ cuts. cuts.total
+        ≡ partition_cost (cost_of_part (part_charge (numbers_of format)) values.now) cuts.ends)) }
+    ensures counted { IfOk result (λ found. IfSome found
+        (λ cuts. steps.old + length cuts.ends ≤ steps.new)) }
+    ensures forward { steps.old ≤ steps.new }
+    ensures bounded { steps.new ≤ steps.old + 60 * length values.now }
+{
+    formats_have_room();
+    let cost = ListCost::new(values, format);
+    let lines = line_cuts(alloc, values, format.charge())?;
+    let ends = allowed_ends(alloc, lines.ends(), &cost, steps)?;
+    let cuts = cuts_near(ends, &cost, steps);
+    if is_cheap_way(cuts.total, lines.least()) {
+        Ok(Some(cuts))
+    } else {
+        Ok(None)
+    }
+}
+
 // The partition along the route to the last place, its cuts moved to places near by.
 fn cuts_of<C: SpanCost, L: Ledger>(
     alloc: Global,
@@ -139,8 +248,22 @@ fn cuts_of<C: SpanCost, L: Ledger>(
     ensures forward { steps.old ≤ steps.new }
     ensures bounded { steps.new ≤ steps.old + 27 * C.count cost.now }
 {
-    let mut ends = routes.ends(alloc)?;
+    Ok(cuts_near(routes.ends(alloc)?, cost, steps))
+}
+
+// An allowed partition by its ends, its cuts moved to places near by.
+fn cuts_near<C: SpanCost, L: Ledger>(ends: Vec<u64>, cost: &C, steps: &mut Steps<L>) -> Cuts
+    requires { IsAllowed (numbers_of (C.format_of cost.now)).limit (C.cost_of cost.now)
+        (C.count cost.now) ends.items }
+    ensures allowed { IsAllowed (numbers_of (C.format_of cost.now)).limit (C.cost_of cost.now)
+        (C.count cost.now) result.ends }
+    ensures total { result.total ≡ partition_cost (C.cost_of cost.now) result.ends }
+    ensures cheaper { result.total ≤ partition_cost (C.cost_of cost.now) ends.items }
+    ensures counted { steps.old + length result.ends ≤ steps.new }
+    ensures bounded { steps.new ≤ steps.old + 27 * C.count cost.now }
+{
+    let mut ends = ends;
     shift_ends(&mut ends, cost, steps);
     let total = total_cost(&ends, cost, steps);
-    Ok(Cuts { ends, total })
+    Cuts { ends, total }
 }

@@ -33,7 +33,7 @@ pub(crate) fn routes_found<C: SpanCost, L: Ledger>(
         ≤ 103 * partition_cost (C.cost_of cost.now) others) }
     ensures counted { steps.old ≤ steps.new }
     ensures bounded { steps.new ≤ steps.old
-        + (2 * length (window_bounds (C.format_of cost.now)) + 65) * C.count cost.now }
+        + (2 * length (window_bounds (C.format_of cost.now)) + 17) * C.count cost.now }
 {
     formats_have_room();
     bounds_follow_rule();
@@ -82,7 +82,7 @@ struct Start {
 }
 
 // Behind how many windows from a place it is looked whether longer parts can begin later.
-const LOOKS: u64 = 64;
+const LOOKS: u64 = 16;
 
 // Tries parts from a place, until each allowed one is settled. Of each window that is looked at it is known how far a route
 // leads that costs at most its bound more than the route to this place, or at most 103/100 of what the part costs that is tried
@@ -115,7 +115,7 @@ fn try_windows<C: SpanCost, L: Ledger>(
         (cost_to routes.old from.place) routes.new stands.new.items }
     // At most one cost for each place that a window moved on, one for each window, one for each look, and one.
     ensures counted { (steps.old ≤ steps.new) × (steps.new + sum stands.old.items
-        ≤ steps.old + sum stands.new.items + length (window_bounds (C.format_of cost.now)) + 65) }
+        ≤ steps.old + sum stands.new.items + length (window_bounds (C.format_of cost.now)) + 17) }
 {
     bounds_cover();
     bounds_follow_rule();
@@ -179,7 +179,7 @@ fn can_begin_later<C: SpanCost, L: Ledger>(
 
 // Whether a way to a place costs at most 103/100 of the payload of a part there, so that a part which goes on from the place can
 // stand for a longer one.
-fn is_cheap_way(way: u64, payload: u64) -> bool
+pub(crate) fn is_cheap_way(way: u64, payload: u64) -> bool
     ensures { IsTrue result → 100 * way ≤ 103 * payload }
 {
     way <= payload.saturating_mul(103) / 100

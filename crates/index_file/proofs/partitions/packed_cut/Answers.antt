@@ -1,9 +1,7 @@
 use Rattle.std.proofs.Common.{◌≡◌, refl, subst, ap, ◌∙◌, sym, ℕ, ◌+◌, ◌-◌, ◌*◌, ◌<◌, ◌≤◌, List, [], ◌∷◌, length, slice_index_or, Option, Some, None, IfSome, IfNone, arith}
 use Rattle.std.proofs.lemmas.Result.{IfOk-weaker}
 use Rattle.collection_model.specs.FormatNumbers.{format_three, part_charge}
-use Rattle.part_cost.specs.declared.formats.Format.{Format}
 use Rattle.part_cost.specs.declared.formats.Format.TheVariants.{Three}
-use Rattle.part_cost.specs.Formats.{numbers_of}
 use Rattle.part_cost.specs.Payload.{payload}
 use Rattle.part_cost.specs.Span.{past, payload_of_part, cost_of_part}
 use Rattle.part_cost.specs.Partition.{IsAllowed, IsNear, partition_cost}
@@ -14,10 +12,6 @@ use Rattle.partition_path.specs.FoundCuts.{FoundCuts}
 use Rattle.index_file.proofs.partitions.packed_cut.Given as given
 use Rattle.index_file.proofs.partitions.packed_cut.Goals as goal
 use Rattle.index_file.proofs.partitions.packed_cut.Goals.{After-payload_bits-whole}
-
--- what is known of costs of a list by another name
-named : (f : Format) (xs ys : List ℕ) (P : Format → List ℕ → Type 0) (g : Format) → g ≡ f → ys ≡ xs → P g ys → P f xs
-named f xs ys P g e is h = subst (λ (zs : List ℕ). P f zs) is (subst (λ (x : Format). P x ys) e h)
 
 -- what is found, and what is not
 found : (o : Option FoundCuts) (cuts : FoundCuts) (P : FoundCuts → Type 0) → o ≡ Some cuts → IfSome o P → P cuts
@@ -50,19 +44,21 @@ overflow_add-charge g c =
     let last = c.requires.below (length xs - 1) 0 (omega (arith, c.if-count-eq0.false)) in
     omega (arith, c.payload_bits-whole.ensures, payload-short (slice_index_or xs (length xs - 1) 0 + 1) (length xs), last, c.charge.ensures)
 
+pub returns-then-count-eq0-clause-near : goal.returns-then-count-eq0-clause-near
+returns-then-count-eq0-clause-near g c =
+    let xs = c.args.values.now in
+    let law = c.near_is_near_of_all.ensures.near format_three (c.formats_have_room.ensures Three) xs c.requires.rising c.requires.below in
+    IfOk-weaker c.list_partition.result (λ cuts. IsNear format_three.limit (cost_of_part (part_charge format_three) xs) (length xs) cuts.ends) (λ cuts. IsNearStored format_three xs cuts.ends)
+    (λ (cuts : FoundCuts) near. c.near_is_near_stored.ensures.packed format_three refl xs cuts.ends (record { near = near; of_all = law cuts.ends near }) (λ some. absurd (omega (arith, some, c.if-count-eq0.true)))) c.list_partition.ensures.near
+
 pub returns-in-Some-clause-near : goal.returns-in-Some-clause-near
 returns-in-Some-clause-near g c =
     let xs = c.args.values.now in
     let ends = c.in-Some.cuts.ends in
-    let near : IsNear format_three.limit (cost_of_part (part_charge format_three) xs) (length xs) ends =
-    named Three xs c.new-cost.result.values.now (λ f ys. IsNear (numbers_of f).limit (cost_of_part (part_charge (numbers_of f)) ys) (length ys) ends) c.new-cost.result.format c.new-cost.ensures.format c.new-cost.ensures.values
-    (found c.in_ok-cuts.field-0 c.in-Some.cuts (λ cuts. IsNear (numbers_of c.new-cost.result.format).limit (cost_of_part (part_charge (numbers_of c.new-cost.result.format)) c.new-cost.result.values.now) (length c.new-cost.result.values.now) cuts.ends) c.in-Some.is c.in_ok-cuts.ensures.near) in
-    let total : c.in-Some.cuts.total ≡ partition_cost (cost_of_part (part_charge format_three) xs) ends =
-    named Three xs c.new-cost.result.values.now (λ f ys. c.in-Some.cuts.total ≡ partition_cost (cost_of_part (part_charge (numbers_of f)) ys) ends) c.new-cost.result.format c.new-cost.ensures.format c.new-cost.ensures.values
-    (found c.in_ok-cuts.field-0 c.in-Some.cuts (λ cuts. cuts.total ≡ partition_cost (cost_of_part (part_charge (numbers_of c.new-cost.result.format)) c.new-cost.result.values.now) cuts.ends) c.in-Some.is c.in_ok-cuts.ensures.total) in
-    let below : c.in-Some.cuts.total < c.payload_bits-whole.result = found c.in_ok-cuts.field-0 c.in-Some.cuts (λ cuts. cuts.total < c.payload_bits-whole.result) c.in-Some.is c.in_ok-cuts.ensures.below in
-    let law = c.near_is_near_of_all.ensures.near format_three (c.formats_have_room.ensures Three) xs c.requires.rising c.requires.below ends near in
-    c.near_is_near_stored.ensures.packed format_three refl xs ends (record { near = near; of_all = law }) (λ some. omega (arith, total, below, whole g (goal.at.returns-in-Some-clause-near g c).After-payload_bits-whole))
+    let said : IsNear format_three.limit (cost_of_part (part_charge format_three) xs) (length xs) ends × (c.in-Some.cuts.total ≡ partition_cost (cost_of_part (part_charge format_three) xs) ends) × (c.in-Some.cuts.total < c.payload_bits-whole.result) =
+    found c.in_ok-cuts.field-0 c.in-Some.cuts (λ cuts. IsNear format_three.limit (cost_of_part (part_charge format_three) xs) (length xs) cuts.ends × (cuts.total ≡ partition_cost (cost_of_part (part_charge format_three) xs) cuts.ends) × (cuts.total < c.payload_bits-whole.result)) c.in-Some.is c.in_ok-cuts.ensures.found in
+    let law = c.near_is_near_of_all.ensures.near format_three (c.formats_have_room.ensures Three) xs c.requires.rising c.requires.below ends said.0 in
+    c.near_is_near_stored.ensures.packed format_three refl xs ends (record { near = said.0; of_all = law }) (λ some. omega (arith, said.1, said.2, whole g (goal.at.returns-in-Some-clause-near g c).After-payload_bits-whole))
 
 pub returns-in-None-clause-near : goal.returns-in-None-clause-near
 returns-in-None-clause-near g c =
@@ -73,10 +69,7 @@ returns-in-None-clause-near g c =
     let cheap : (others : List ℕ) → IsAllowed format_three.limit (cost_of_part (part_charge format_three) xs) (length xs) others → 100 * payload_of_part xs 0 (length xs) ≤ 103 * partition_cost (cost_of_part (part_charge format_three) xs) others =
     (λ others allowed. omega (
       arith,
-      named Three xs c.new-cost.result.values.now
-          (λ f ys. IsAllowed (numbers_of f).limit (cost_of_part (part_charge (numbers_of f)) ys) (length ys) others → 100 * c.payload_bits-whole.result ≤ 103 * partition_cost (cost_of_part (part_charge (numbers_of f)) ys) others)
-          c.new-cost.result.format c.new-cost.ensures.format c.new-cost.ensures.values
-          (not-found c.in_ok-cuts.field-0 _ c.in-None.is c.in_ok-cuts.ensures.none others) allowed,
+      not-found c.in_ok-cuts.field-0 _ c.in-None.is c.in_ok-cuts.ensures.none others allowed,
       whole g (goal.at.returns-in-None-clause-near g c).After-payload_bits-whole,
     )) in
     let of_all = c.near_is_near_of_all.ensures.cheap format_three (c.formats_have_room.ensures Three) xs c.requires.rising c.requires.below bits cheap in

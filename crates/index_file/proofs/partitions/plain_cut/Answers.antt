@@ -1,7 +1,6 @@
-use Rattle.std.proofs.Common.{subst, List, ℕ, length, IfOk}
+use Rattle.std.proofs.Common.{length}
 use Rattle.std.proofs.lemmas.Result.{IfOk-weaker}
 use Rattle.collection_model.specs.FormatNumbers.{part_charge}
-use Rattle.part_cost.specs.declared.formats.Format.{Format}
 use Rattle.part_cost.specs.Formats.{numbers_of}
 use Rattle.part_cost.specs.Span.{cost_of_part}
 use Rattle.part_cost.specs.Partition.{IsNear}
@@ -15,7 +14,5 @@ returns-clause-near g c =
     let xs = c.args.values.now in
     let law = c.near_is_near_of_all.ensures.near (numbers_of format) (c.formats_have_room.ensures format) xs c.requires.rising c.requires.below in
     let stored = c.near_is_near_stored.ensures.plain (numbers_of format) c.requires.plain xs in
-    IfOk-weaker c.partition.result (λ cuts. IsNear (numbers_of format).limit (cost_of_part (part_charge (numbers_of format)) xs) (length xs) cuts.ends) (λ cuts. IsNearStored (numbers_of format) xs cuts.ends)
-    (λ (cuts : FoundCuts) near. stored cuts.ends (record { near = near; of_all = law cuts.ends near }))
-    (subst (λ (ys : List ℕ). IfOk c.partition.result (λ (cuts : FoundCuts). IsNear (numbers_of format).limit (cost_of_part (part_charge (numbers_of format)) ys) (length ys) cuts.ends)) c.new.ensures.values
-    (subst (λ (f : Format). IfOk c.partition.result (λ (cuts : FoundCuts). IsNear (numbers_of f).limit (cost_of_part (part_charge (numbers_of f)) c.new.result.values.now) (length c.new.result.values.now) cuts.ends)) c.new.ensures.format c.partition.ensures.near))
+    IfOk-weaker c.list_partition.result (λ cuts. IsNear (numbers_of format).limit (cost_of_part (part_charge (numbers_of format)) xs) (length xs) cuts.ends) (λ cuts. IsNearStored (numbers_of format) xs cuts.ends)
+    (λ (cuts : FoundCuts) near. stored cuts.ends (record { near = near; of_all = law cuts.ends near })) c.list_partition.ensures.near

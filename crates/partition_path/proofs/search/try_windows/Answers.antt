@@ -145,7 +145,7 @@ loop-k-preserved g c =
     let same = c.loop-k.invariant.3 in
     let said = c.stretched-moved.ensures in
     let after = c.if-looks-lt-LOOKS in
-    let looked : (c.stretched-moved.new.steps ≤ after.steps) × (after.steps + c.loop-k.looks ≤ c.stretched-moved.new.steps + after.looks) × (after.looks ≤ 64) = elim after.branch [
+    let looked : (c.stretched-moved.new.steps ≤ after.steps) × (after.steps + c.loop-k.looks ≤ c.stretched-moved.new.steps + after.looks) × (after.looks ≤ 16) = elim after.branch [
       | then-looks-lt-LOOKS+else-can_begin_later w ↦ let one = w.can_begin_later.ensures.counted in (omega (arith, w.steps-is, one.0), omega (arith, w.steps-is, w.looks-is, one.1), omega (arith, w.looks-is, w.if-looks-lt-LOOKS.true))
       | else-looks-lt-LOOKS w ↦ (omega (arith, w.steps-is), omega (arith, w.steps-is, w.looks-is), omega (arith, w.looks-is, c.loop-k.invariant.5))
     ] in

@@ -13,7 +13,7 @@ invariant-loop-k g l =
     × (l.k ≤ length l.bounds)
     × (l.bounds ≡ window_bounds (g.C.SpanCost.format_of l.cost))
     × (l.fn.steps ≤ l.steps)
-    × (l.looks ≤ 64)
+    × (l.looks ≤ 16)
     × (l.k < length l.bounds → IfSome l.edge.next (λ c. c ≤ get_or l.bounds l.k 0))
 
 abbrev pub decreases-loop-k : goal.decreases-loop-k
