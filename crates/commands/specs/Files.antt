@@ -53,7 +53,7 @@ OnSideBytes index depot P =
     (format : Format) × (c : Collection) × (parts : List ListParts)
     × FindsIndex (numbers_of format) index depot c parts × P (word_bytes (side_of c parts))
 
--- `blocks INDEX SIDE` reads an index of either format, and writes its side file under the other name; no part
+-- `blocks INDEX SIDE` reads an index, plain or packed, and writes its side file under the other name; no part
 -- cost is counted.
 pub record WritesBlocks (index side : List ℕ) (old new : Outside) (outcome : Outcome) : Type 0 where
   pub does : Does (IndexAt index) (File Side) (WritesFile Side side (OnSideBytes index old.depot))

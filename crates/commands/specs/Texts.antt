@@ -36,7 +36,7 @@ IsInspection name depot text =
     (i : IndexView) × FindsIndex (numbers_of i.format) name depot i.collection i.parts
     × (text ≡ summary_line i)
 
--- `inspect INDEX` reads an index of either format and prints its line; no part cost is counted.
+-- `inspect INDEX` reads an index, plain or packed, and prints its line; no part cost is counted.
 pub record Inspects (index : List ℕ) (old new : Outside) (outcome : Outcome) : Type 0 where
   pub does : Does (IndexAt index) Text (PrintsText (IsInspection index old.depot)) old new outcome
   pub costs : new.costs ≡ old.costs
@@ -62,8 +62,8 @@ abbrev pub PrintsFoundAudit : List ℕ → Outside → Outside → Outcome → T
 PrintsFoundAudit name old new outcome =
     EndsBefore old new outcome ⊎ ((i : IndexView) × PrintsAuditOf i name old new outcome)
 
--- `audit INDEX` reads an index of either format and prints its lines; no part cost is counted of one
--- that is refused.
+-- `audit INDEX` reads an index, plain or packed, and prints its lines; no part cost is counted of
+-- one that is refused.
 pub record Audits (index : List ℕ) (old new : Outside) (outcome : Outcome) : Type 0 where
   pub does : Does (IndexAt index) Text (PrintsFoundAudit index) old new outcome
   pub refused : IsTrue (is_refusal outcome) → new.costs ≡ old.costs

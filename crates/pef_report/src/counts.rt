@@ -17,7 +17,7 @@ pub struct Counts {
     pub size_total: u64,
     /// Posting lists.
     pub terms: u64,
-    /// The version of the format, 1 or 2.
+    /// The version of the format: 1, 2, or 3 of a packed file.
     pub version: u64,
     /// Words of the file, of 64 bits.
     pub words: u64,
