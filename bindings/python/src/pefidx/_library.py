@@ -78,4 +78,19 @@ def _loaded() -> ctypes.CDLL:
     return loaded
 
 
-library = _loaded()
+_NAMES = tuple(
+    f"pefidx_{name}" for name in ("check", "documents", "terms", "size_of", "next", "count", "postings", "and", "or", "top", "reply", "build")
+)
+
+
+class _AtFirstUse:
+    """The library, which is loaded when a call of it is first asked for: what only reads and writes files of other formats does without it."""
+
+    def __getattr__(self, name: str) -> Any:
+        loaded = _loaded()
+        for call in _NAMES:
+            setattr(self, call, getattr(loaded, call))
+        return getattr(loaded, name)
+
+
+library = _AtFirstUse()
