@@ -137,15 +137,13 @@ def records():
 
 def main():
     where, function, without = "pef_top/src/top.rt", "run", set()
-    match sys.argv[1:]:
-        case []:
-            pass
-        case ["--command", record] if record in records():
-            without = records() - {record}
-        case [path, name] if path != "--command":
-            where, function = path, name
-        case _:
-            sys.exit(f"usage: docs/believe.py [--command {'|'.join(sorted(records()))} | CRATE/FILE FUNCTION]")
+    words = sys.argv[1:]
+    if len(words) == 2 and words[0] == "--command" and words[1] in records():
+        without = records() - {words[1]}
+    elif len(words) == 2 and words[0] != "--command":
+        where, function = words
+    elif words:
+        sys.exit(f"usage: docs/believe.py [--command {'|'.join(sorted(records()))} | CRATE/FILE FUNCTION]")
     found, outside = closure(contract_of(TOP / where, function), without)
     total = 0
     for path in sorted(found):

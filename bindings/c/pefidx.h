@@ -1,3 +1,4 @@
+/* SPDX-License-Identifier: Apache-2.0 */
 /* The posting store for programs in C: the words of an index are checked once, and every later call takes them and gives its
  * answer in room that the caller lends. No call keeps anything for the next, and none writes anything but what its last parameters
  * point to; so any number of threads may call over the same words at once.

@@ -1,3 +1,4 @@
+/* SPDX-License-Identifier: Apache-2.0 */
 /* Answers query lines over a socket. The index is mapped and checked once, and all connections share the map.
  *
  *     pefidx-serve [-c CONNECTIONS] [-i SECONDS] [-p PLAN] INDEX ADDRESS
