@@ -1,10 +1,9 @@
 -- Lemmas on the lines that lie under the cost of a part.
 use Rattle.std.proofs.Common.{◌≡◌, refl, sym, subst, ◌∙◌, ℕ, zero, suc, ◌+◌, ◌-◌, ◌*◌, ◌/◌, ◌^◌, ◌<◌, ◌≤◌, ◌⊎◌, inl, inr, min, List, length, arith}
 use Rattle.std.proofs.lemmas.Nat.{le-div, mul-le, pow_pos}
-use Rattle.std.proofs.Math.Nat.{div-mul-le_self, lt-div-mul-add}
+use Rattle.std.proofs.Math.Nat.{div-mul-le_self, lt-div-mul-add, pow-succ'}
 use Rattle.std.proofs.lemmas.Bool.{cases_lt, cases_eq}
 use Rattle.std.specs.List.Sorted.{IsStrictlyIncreasing}
-use Rattle.bit_words.proofs.Value.{two_pow-suc}
 use Rattle.part_cost.specs.Payload.{digits, least_through, widest_low, ef_bits_at, ef_payload, bitmap_payload, payload}
 use Rattle.part_cost.specs.Span.{past, universe, cost_of_part}
 use Rattle.part_cost.proofs.Forms.{payload-packed}
@@ -80,7 +79,7 @@ wide-weight w l gap below wide =
     let p = 2 ^ w in
     let some : 0 < p = pow_pos w in
     let x = 1024 * gap / p in
-    let double : 2 ^ suc w ≡ 2 * p = two_pow-suc w in
+    let double : 2 ^ suc w ≡ 2 * p = pow-succ' 2 w in
     let low : x * p ≤ 1024 * gap = div-mul-le_self (1024 * gap) p in
     let small : x < 2048 = elim (cases_lt x 2048) [
       | inl less ↦ less

@@ -1,32 +1,17 @@
-use Rattle.std.proofs.Common.{◌≡◌, subst, ℕ, zero, suc, ◌+◌, ◌-◌, ◌*◌, ◌≤◌, ◌<◌, inl, inr, List, [], ◌∷◌, arith}
+use Rattle.std.proofs.Common.{◌≡◌, subst, ℕ, zero, suc, ◌+◌, ◌-◌, ◌*◌, ◌≤◌, ◌<◌, inl, inr, min, List, [], ◌∷◌, arith}
 use Rattle.std.proofs.lemmas.Bool.{cases_lt}
-use Rattle.collection_model.specs.FormatNumbers.{FormatNumbers, part_charge}
 use Rattle.part_cost.specs.Partition.{IsPartitionFrom, WithinLimitFrom, cost_from}
-use Rattle.partition_path.specs.Tables.{Table, IsReached, IsSettled, cost_to, least_known, unreached}
+use Rattle.partition_path.specs.Tables.{Table, IsReached, IsSettled, cost_to, unreached}
 use Rattle.part_cost.proofs.Partitions.{ends-within}
 
--- what holds of the costs of parts of n numbers
-pub record AreCosts (charge : ℕ) (cost : ℕ → ℕ → ℕ) (n : ℕ) : Type 0 where
-  pub monotone : (h i j k : ℕ) → h ≤ i → i < j → j ≤ k → k ≤ n → cost i j ≤ cost h k
-  pub least : (i j : ℕ) → i < j → j ≤ n → charge ≤ cost i j
-  pub add : (h i j : ℕ) → h < i → i < j → j ≤ n → cost h i + cost i j ≤ cost h j + charge
-
-module _ (format : FormatNumbers) (cost : ℕ → ℕ → ℕ) (n most : ℕ) (t : Table) (costs : AreCosts (part_charge format) cost n) (few : most ≤ unreached) where
-  abbrev charge : ℕ
-  charge = part_charge format
-
+module _ (limit : ℕ) (cost : ℕ → ℕ → ℕ) (n : ℕ) (t : Table) (monotone : (h i j k : ℕ) → h ≤ i → i < j → j ≤ k → k ≤ n → cost i j ≤ cost h k) where
   -- each allowed part from a place is settled
   abbrev pub AllSettled : ℕ → Type 0
-  AllSettled r = (e : ℕ) → r < e → e ≤ n → IsSettled format cost n most t r e
+  AllSettled r = (e : ℕ) → r < e → e ≤ n → IsSettled limit cost t r e
 
-  -- a part more costs the charge at least
-  one-more : (e : ℕ) (others : List ℕ) → e < n → IsPartitionFrom e n others → charge ≤ cost_from cost e others
-  one-more e [] before part = absurd (omega (arith, before, part))
-  one-more e (f ∷ others) before part = omega (arith, costs.least e f part.0 (ends-within f n others part.1))
-
-  -- Where all parts are settled, what is known to be the least costs at most 103/100 of what is spent up to a place and of each allowed rest from there on.
+  -- Where all parts are settled, the route to the last place, if one is known, costs at most 103/100 of what is spent up to a place and of each allowed rest from there on.
   pub near-rest : ((r : ℕ) → r < n → IsReached t r → AllSettled r) → (fuel r spent : ℕ) (others : List ℕ) → n ≤ r + fuel → r ≤ n → 100 * cost_to t r ≤ 103 * spent
-      → IsPartitionFrom r n others → WithinLimitFrom format.limit cost r others → 100 * least_known most n t ≤ 103 * (spent + cost_from cost r others)
+      → IsPartitionFrom r n others → WithinLimitFrom limit cost r others → 100 * min unreached (cost_to t n) ≤ 103 * (spent + cost_from cost r others)
   near-rest done fuel r spent [] f l cheap part within =
       let last : 100 * cost_to t n ≤ 103 * spent = subst (λ (x : ℕ). 100 * cost_to t x ≤ 103 * spent) part cheap in
       omega (arith, last)
@@ -34,21 +19,16 @@ module _ (format : FormatNumbers) (cost : ℕ → ℕ → ℕ) (n most : ℕ) (t
   near-rest done (suc fuel) r spent (e ∷ others) f l cheap part within =
       let inside = ends-within e n others part.1 in
       elim (cases_lt (cost_to t r) unreached) [
-        | inr over ↦ omega (arith, over, few, cheap)
+        | inr over ↦ omega (arith, over, cheap)
         | inl reached ↦ elim (done r (omega (arith, part.0, inside)) reached e part.0 inside within.0) [
           | inl answered ↦
               let rest = near-rest done fuel e (spent + cost r e) others (omega (arith, f, part.0)) inside (omega (arith, answered, cheap)) part.1 within.1 in
               omega (arith, rest)
-          | inr other ↦ elim other [
-            | inl dear ↦ omega (arith, dear.1, cheap, one-more e others dear.0 part.1)
-            | inr later ↦
-                let s = later.start in
-                let before = costs.least r s later.after (omega (arith, later.before, inside)) in
-                let sum = costs.add r s e later.after later.before inside in
-                let less = costs.monotone r s e e (omega (arith, later.after)) later.before (omega arith) inside in
-                let rest = near-rest done fuel s (spent + cost r s - charge) (e ∷ others) (omega (arith, f, later.after)) (omega (arith, later.before, inside)) (omega (arith, later.cheap, cheap, before)) (later.before, part.1) (omega (arith, less, within.0), within.1) in
-                omega (arith, rest, sum, before)
-          ]
+          | inr later ↦
+              let s = later.start in
+              let less = monotone r s e e (omega (arith, later.after)) later.before (omega arith) inside in
+              let rest = near-rest done fuel s (spent + cost r e - cost s e) (e ∷ others) (omega (arith, f, later.after)) (omega (arith, later.before, inside)) (omega (arith, later.cheap, cheap, less)) (later.before, part.1) (omega (arith, less, within.0), within.1) in
+              omega (arith, rest, less)
         ]
       ]
 

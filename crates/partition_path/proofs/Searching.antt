@@ -1,26 +1,26 @@
 -- Lemmas on the search from all places in order.
-use Rattle.std.proofs.Common.{◌≡◌, refl, sym, ◌∙◌, subst, ap, ℕ, zero, suc, ◌+◌, ◌*◌, ◌≤◌, ◌<◌, inl, inr, List, length, get_or, replicate, arith, get_or-set_same, get_or-set_other}
+use Rattle.std.proofs.Common.{◌≡◌, refl, sym, ◌∙◌, subst, ap, ℕ, zero, suc, ◌+◌, ◌-◌, ◌*◌, ◌^◌, ◌≤◌, ◌<◌, inl, inr, min, List, length, get_or, replicate, arith, get_or-set_same, get_or-set_other}
 use Rattle.std.specs.List.{All, sum}
 use Rattle.std.proofs.lemmas.Bool.{cases_lt}
+use Rattle.std.proofs.lemmas.Nat.{mul-le}
 use Rattle.std.proofs.lemmas.List.{length-set, length-replicate, get_or-replicate}
 use Rattle.std.proofs.lemmas.List.Elements.{All-from_get_or}
 use Rattle.std.proofs.lemmas.List.Sums.{sum_by-le}
 use Rattle.std.proofs.Math.Nat.{eq-or-lt_of_le}
-use Rattle.collection_model.specs.FormatNumbers.{FormatNumbers, part_charge}
 use Rattle.part_cost.specs.Partition.{IsAllowed, partition_cost}
 use Rattle.partition_path.specs.declared.routes.Route.{Route}
-use Rattle.partition_path.specs.Tables.{Table, IsReached, AreRoutes, AreTried, IsSettled, StandCheap, cost_to, least_known, new_table, no_route, unreached}
-use Rattle.partition_path.proofs.Near.{AreCosts, near-rest}
+use Rattle.partition_path.specs.Tables.{Table, IsReached, AreRoutes, AreTried, IsSettled, StandCheap, cost_to, new_table, no_route, unreached}
+use Rattle.partition_path.proofs.Near.{near-rest, singles}
 use Rattle.partition_path.proofs.Offering.{same-cost, tried-none, later-routes}
 use Rattle.partition_path.proofs.Windowing.{stand-cheaper}
 
--- All parts that start before place i are settled.
-pub record Searched (format : FormatNumbers) (cost : ℕ → ℕ → ℕ) (bounds : List ℕ) (n most i before after : ℕ) (t : Table) (stands : List ℕ) : Type 0 where
-  pub routes : AreRoutes format.limit cost n i t
-  pub done : (r : ℕ) → r < i → IsReached t r → (e : ℕ) → r < e → e ≤ n → IsSettled format cost n most t r e
+-- All parts that start before place i are settled, with so many looks from each place.
+pub record Searched (limit : ℕ) (cost : ℕ → ℕ → ℕ) (bounds : List ℕ) (looks n i before after : ℕ) (t : Table) (stands : List ℕ) : Type 0 where
+  pub routes : AreRoutes limit cost n i t
+  pub done : (r : ℕ) → r < i → IsReached t r → (e : ℕ) → r < e → e ≤ n → IsSettled limit cost t r e
   pub stand : StandCheap bounds n (cost_to t i) t stands
   pub counted : before ≤ after
-  pub risen : after ≤ before + sum stands + (length bounds + 17) * i
+  pub risen : after ≤ before + sum stands + (length bounds + looks) * i
 
 abbrev none_known : ℕ → Table
 none_known n = replicate (n + 1) no_route
@@ -56,11 +56,11 @@ new-routes limit cost n =
     }
 
 -- before the first part is tried
-pub searched-none : (format : FormatNumbers) (cost : ℕ → ℕ → ℕ) (bounds : List ℕ) (n most before : ℕ) → Searched format cost bounds n most 0 before before (new_table n) (replicate (length bounds) 0)
-searched-none format cost bounds n most before =
+pub searched-none : (limit : ℕ) (cost : ℕ → ℕ → ℕ) (bounds : List ℕ) (looks n before : ℕ) → Searched limit cost bounds looks n 0 before before (new_table n) (replicate (length bounds) 0)
+searched-none limit cost bounds looks n before =
     let at_zero : (k : ℕ) → k < length bounds → get_or (replicate (length bounds) 0) k 0 ≡ 0 = (λ k l. get_or-replicate {A = ℕ} (length bounds) k 0 0 l) in
     record {
-      routes = new-routes format.limit cost n;
+      routes = new-routes limit cost n;
       done = λ r l. absurd (omega (arith, l));
       stand = record {
         count = length-replicate {A = ℕ} (length bounds) 0;
@@ -72,18 +72,15 @@ searched-none format cost bounds n most before =
     }
 
 -- a part that is settled stays so where places become cheaper, but for its start
-settled-more : (format : FormatNumbers) (cost : ℕ → ℕ → ℕ) (n most : ℕ) (t new : Table) (r e : ℕ) → ((j : ℕ) → cost_to new j ≤ cost_to t j) → cost_to new r ≡ cost_to t r → IsSettled format cost n most t r e → IsSettled format cost n most new r e
-settled-more format cost n most t new r e cheaper same settled allowed = elim (settled allowed) [
+settled-more : (limit : ℕ) (cost : ℕ → ℕ → ℕ) (t new : Table) (r e : ℕ) → ((j : ℕ) → cost_to new j ≤ cost_to t j) → cost_to new r ≡ cost_to t r → IsSettled limit cost t r e → IsSettled limit cost new r e
+settled-more limit cost t new r e cheaper same settled allowed = elim (settled allowed) [
   | inl answered ↦ inl (omega (arith, answered, cheaper e, same))
-  | inr other ↦ elim other [
-    | inl dear ↦ inr (inl (dear.0, omega (arith, dear.1, cheaper n, same)))
-    | inr later ↦ inr (inr (record { start = later.start; after = later.after; before = later.before; cheap = omega (arith, later.cheap, cheaper later.start, same) }))
-  ]
+  | inr later ↦ inr (record { start = later.start; after = later.after; before = later.before; cheap = omega (arith, later.cheap, cheaper later.start, same) })
 ]
 
-module _ (format : FormatNumbers) (cost : ℕ → ℕ → ℕ) (bounds : List ℕ) (n most i before middle : ℕ) (t : Table) (stands : List ℕ) (s : Searched format cost bounds n most i before middle t stands) (below : i < n) where
+module _ (limit : ℕ) (cost : ℕ → ℕ → ℕ) (bounds : List ℕ) (looks n i before middle : ℕ) (t : Table) (stands : List ℕ) (s : Searched limit cost bounds looks n i before middle t stands) (below : i < n) where
   -- one more place is done
-  searched-next : (after : ℕ) (new : Table) (more : List ℕ) → AreTried format.limit cost n i t new → (IsReached new i → (e : ℕ) → i < e → e ≤ n → IsSettled format cost n most new i e) → StandCheap bounds n (cost_to t i) new more → middle ≤ after → after + sum stands ≤ middle + sum more + length bounds + 17 → Searched format cost bounds n most (i + 1) before after new more
+  pub searched-next : (after : ℕ) (new : Table) (more : List ℕ) → AreTried limit cost n i t new → ((e : ℕ) → i < e → e ≤ n → IsSettled limit cost new i e) → StandCheap bounds n (cost_to t i) new more → middle ≤ after → after + sum stands ≤ middle + sum more + length bounds + looks → Searched limit cost bounds looks n (i + 1) before after new more
   searched-next after new more x here_done stand counted bounded =
       let here = same-cost t new i (x.same i (omega arith)) in
       let up = x.routes.rising i (i + 1) (omega arith) (omega (arith, below)) in
@@ -92,10 +89,10 @@ module _ (format : FormatNumbers) (cost : ℕ → ℕ → ℕ) (bounds : List �
         done = λ r l reached e a w.
             let le : r ≤ i = omega (arith, l) in
             elim (eq-or-lt_of_le le) [
-              | inl at ↦ subst (λ (y : ℕ). IsReached new y → y < e → IsSettled format cost n most new y e) (sym at) (λ z b. here_done z e b w) reached a
+              | inl at ↦ subst (λ (y : ℕ). y < e → IsSettled limit cost new y e) (sym at) (λ b. here_done e b w) a
               | inr earlier ↦
                   let same = same-cost t new r (x.same r le) in
-                  settled-more format cost n most t new r e x.cheaper same (s.done r earlier (omega (arith, same, reached)) e a w)
+                  settled-more limit cost t new r e x.cheaper same (s.done r earlier (omega (arith, same, reached)) e a w)
             ];
         stand = stand-cheaper (cost_to new (i + 1)) new (omega (arith, here, up)) (λ j. omega arith) stand;
         counted = omega (arith, s.counted, counted);
@@ -103,60 +100,41 @@ module _ (format : FormatNumbers) (cost : ℕ → ℕ → ℕ) (bounds : List �
       }
 
   -- where the next place costs no more: a longer part can begin there
-  pub searched-passed : ((a b : ℕ) → a < b → b ≤ n → part_charge format ≤ cost a b) → cost_to t (i + 1) ≤ cost_to t i → Searched format cost bounds n most (i + 1) before middle t stands
-  searched-passed least flat = searched-next middle t stands (tried-none (later-routes s.routes)) passed s.stand (omega arith) (omega arith)
+  pub searched-passed : ((h i j k : ℕ) → h ≤ i → i < j → j ≤ k → k ≤ n → cost i j ≤ cost h k) → cost_to t (i + 1) ≤ cost_to t i → Searched limit cost bounds looks n (i + 1) before middle t stands
+  searched-passed monotone flat = searched-next middle t stands (tried-none (later-routes s.routes)) passed s.stand (omega arith) (omega arith)
     where
-      passed : IsReached t i → (e : ℕ) → i < e → e ≤ n → IsSettled format cost n most t i e
-      passed reached e a w allowed = elim (cases_lt (i + 1) e) [
-        | inl behind ↦ inr (inr (record { start = i + 1; after = omega arith; before = behind; cheap = omega (arith, flat, least i (i + 1) (omega arith) (omega (arith, below))) }))
+      passed : (e : ℕ) → i < e → e ≤ n → IsSettled limit cost t i e
+      passed e a w allowed = elim (cases_lt (i + 1) e) [
+        | inl behind ↦ inr (record { start = i + 1; after = omega arith; before = behind; cheap = omega (arith, flat, monotone i (i + 1) e e (omega arith) behind (omega arith) w) })
         | inr at ↦ let next : e ≡ i + 1 = omega (arith, at, a) in inl (subst (λ (x : ℕ). 100 * cost_to t x ≤ 100 * cost_to t i + 103 * cost i x) (sym next) (omega (arith, flat)))
       ]
 
-  -- where what is known costs at most two charges more, after the part to the end was tried
-  pub searched-rest : 0 < length bounds → ((a b : ℕ) → a < b → b ≤ n → part_charge format ≤ cost a b) → least_known most n t ≤ cost_to t i + 2 * part_charge format → (new : Table) → AreTried format.limit cost n i t new
-      → (cost i n ≤ format.limit → cost_to new n ≤ cost_to t i + cost i n) → (after : ℕ) → after ≡ middle + 1 → Searched format cost bounds n most (i + 1) before after new stands
-  searched-rest some least two new x offered after step = searched-next after new stands x tried (stand-cheaper (cost_to t i) new (omega arith) x.cheaper s.stand) (omega (arith, step)) (omega (arith, some, step))
-    where
-      here : cost_to new i ≡ cost_to t i
-      here = same-cost t new i (x.same i (omega arith))
+module _ (limit : ℕ) (cost : ℕ → ℕ → ℕ) (bounds : List ℕ) (looks n i before after : ℕ) (t : Table) (stands : List ℕ) (searched : Searched limit cost bounds looks n i before after t stands) (all : i ≡ n) where
+  all-searched : Searched limit cost bounds looks n n before after t stands
+  all-searched = subst (λ (x : ℕ). Searched limit cost bounds looks n x before after t stands) all searched
 
-      tried : IsReached new i → (e : ℕ) → i < e → e ≤ n → IsSettled format cost n most new i e
-      tried reached e a w allowed = elim (cases_lt e n) [
-        | inl inside ↦ inr (inl (inside, omega (arith, two, x.cheaper n, here, least i e a w)))
-        | inr at ↦
-            let last : e ≡ n = omega (arith, at, w) in
-            inl (subst (λ (z : ℕ). cost i z ≤ format.limit → 100 * cost_to new z ≤ 100 * cost_to new i + 103 * cost i z) (sym last) (λ c. omega (arith, offered c, here)) allowed)
-      ]
-
-  -- where each allowed part is settled by what is known already to be the least
-  pub searched-windows : (known after : ℕ) (new : Table) (more : List ℕ) → known ≡ least_known most n t → AreTried format.limit cost n i t new
-      → ((e : ℕ) → i < e → e ≤ n → IsSettled format cost n known new i e) → StandCheap bounds n (cost_to t i) new more → middle ≤ after → after + sum stands ≤ middle + sum more + length bounds + 17 → Searched format cost bounds n most (i + 1) before after new more
-  searched-windows known after new more is x settled stand counted bounded = searched-next after new more x tried stand counted bounded
-    where
-      tried : IsReached new i → (e : ℕ) → i < e → e ≤ n → IsSettled format cost n most new i e
-      tried reached e a w allowed = elim (settled e a w allowed) [
-        | inl answered ↦ inl answered
-        | inr other ↦ elim other [
-          | inl dear ↦ inr (inl (dear.0, omega (arith, dear.1, is, x.cheaper n)))
-          | inr later ↦ inr (inr later)
-        ]
-      ]
-
-module _ (format : FormatNumbers) (cost : ℕ → ℕ → ℕ) (bounds : List ℕ) (n most i before after : ℕ) (t : Table) (stands : List ℕ) (searched : Searched format cost bounds n most i before after t stands) (all : i ≡ n) where
-  all-searched : Searched format cost bounds n most n before after t stands
-  all-searched = subst (λ (x : ℕ). Searched format cost bounds n most x before after t stands) all searched
-
-  pub all-routes : AreRoutes format.limit cost n n t
+  pub all-routes : AreRoutes limit cost n n t
   all-routes = all-searched.routes
 
-  -- what is known costs at most 103/100 of each allowed partition
-  pub last-near : AreCosts (part_charge format) cost n → most ≤ unreached → (others : List ℕ) → IsAllowed format.limit cost n others → 100 * least_known most n t ≤ 103 * partition_cost cost others
-  last-near costs few others a =
-      let near = near-rest format cost n most t costs few all-searched.done n 0 0 others (omega arith) (omega arith) (omega (arith, all-searched.routes.origin)) a.partition a.within in
-      omega (arith, near)
+  module _ (monotone : (h i j k : ℕ) → h ≤ i → i < j → j ≤ k → k ≤ n → cost i j ≤ cost h k) (small : limit < 2 ^ 31) (few : n < 2 ^ 32) (single : (i : ℕ) → i < n → cost i (i + 1) ≤ limit) where
+    near : (others : List ℕ) → IsAllowed limit cost n others → 100 * min unreached (cost_to t n) ≤ 103 * partition_cost cost others
+    near others a =
+        let found = near-rest limit cost n t monotone all-searched.done n 0 0 others (omega arith) (omega arith) (omega (arith, all-searched.routes.origin)) a.partition a.within in
+        omega (arith, found)
 
-  -- two costs at most for each window and number, one for each look, and one
-  pub few-costs : after ≤ before + (2 * length bounds + 17) * n
+    -- a route to the last place is known
+    pub last-reached : IsReached t n
+    last-reached =
+        let one = singles limit cost n single n 0 (omega arith) in
+        let most = mul-le limit n (2 ^ 31 - 1) (2 ^ 32 - 1) (omega (arith, small)) (omega (arith, few)) in
+        omega (arith, near one.0 (record { partition = one.1; within = one.2 }), one.3, most)
+
+    -- it costs at most 103/100 of each allowed partition
+    pub last-near : (others : List ℕ) → IsAllowed limit cost n others → 100 * cost_to t n ≤ 103 * partition_cost cost others
+    last-near others a = omega (arith, near others a, last-reached)
+
+  -- two costs at most for each window and number, and one for each look
+  pub few-costs : after ≤ before + (2 * length bounds + looks) * n
   few-costs =
       let each : All (λ p. p ≤ n) stands = All-from_get_or (λ p. p ≤ n) stands 0 (λ k l. all-searched.stand.within k (omega (arith, l, all-searched.stand.count))) in
       let most : sum stands ≤ length stands * n = sum_by-le (λ x. x) n stands each in

@@ -1,5 +1,5 @@
 -- Lemmas on partitions of which one end is shifted.
-use Rattle.std.proofs.Common.{◌≡◌, refl, ◌∙◌, sym, subst, ap, ℕ, zero, suc, ◌+◌, ◌-◌, ◌*◌, ◌^◌, ◌≤◌, ◌<◌, min, List, [], ◌∷◌, length, get_or, set, drop, drop-cons, arith, get_or-set_same}
+use Rattle.std.proofs.Common.{◌≡◌, refl, ◌∙◌, sym, subst, ap, ℕ, zero, suc, ◌+◌, ◌-◌, ◌*◌, ◌≤◌, ◌<◌, List, [], ◌∷◌, length, get_or, set, drop, drop-cons, arith, get_or-set_same}
 use Rattle.part_cost.specs.Partition.{IsPartitionFrom, WithinLimitFrom, IsAllowed, cost_from, partition_cost}
 use Rattle.part_cost.specs.Formats.{numbers_of}
 use Rattle.part_cost.specs.declared.formats.Format.{Format}
@@ -7,7 +7,6 @@ use Rattle.part_cost.specs.declared.formats.Format.TheVariants.{One, Two, Three}
 use Rattle.cost_windows.specs.WindowBounds.{window_bounds}
 use Rattle.std.proofs.lemmas.Nat.{mul-le}
 use Rattle.part_cost.proofs.Partitions.{ends-within}
-use Rattle.partition_path.proofs.Near.{singles}
 use Rattle.partition_path.specs.Joints.{IsAllowedCut}
 
 module _ (limit : ℕ) (cost : ℕ → ℕ → ℕ) (n : ℕ) where
@@ -83,28 +82,20 @@ module _ (limit : ℕ) (cost : ℕ → ℕ → ℕ) (n : ℕ) where
       ends-within (get_or ends k 0) n (drop (suc k) ends) parts.1
 
 -- every format has many bounds
-wide : (format : Format) → 105 ≤ length (window_bounds format)
+wide : (format : Format) → 103 ≤ length (window_bounds format)
 wide One = let e : length (window_bounds One) ≡ 114 = refl in omega (arith, e)
 wide Two = let e : length (window_bounds Two) ≡ 116 = refl in omega (arith, e)
 wide Three = let e : length (window_bounds Three) ≡ 114 = refl in omega (arith, e)
 
 -- so what is counted besides, where a way along lines is looked at before places are tried, has room
-pub few-steps : (format : Format) (n parts before after : ℕ) → parts ≤ n → after ≤ before + 1 + 60 * n + (2 * length (window_bounds format) + 17) * n + 27 * parts → after ≤ before + 3 * length (window_bounds format) * (n + 1)
-few-steps format n parts before after few l =
+pub few-steps : (format : Format) (n before after : ℕ) → after ≤ before + 1 + (2 * length (window_bounds format) + 103) * n → after ≤ before + 3 * length (window_bounds format) * (n + 1)
+few-steps format n before after l =
     let some = wide format in
-    let most = mul-le 105 n (length (window_bounds format)) n some (omega arith) in
-    omega (arith, l, most, some, few)
+    let most = mul-le 103 n (length (window_bounds format)) n some (omega arith) in
+    omega (arith, l, most, some)
 
 -- no format allows parts of many bits
 pub limit-is-small : (format : Format) → (numbers_of format).limit ≤ 6144
 limit-is-small One = omega arith
 limit-is-small Two = omega arith
 limit-is-small Three = omega arith
-
--- a route to the last place is known where it is near every allowed partition
-pub last-reached : (format : Format) (cost : ℕ → ℕ → ℕ) (n last : ℕ) → n < 2 ^ 32 → ((i : ℕ) → i < n → cost i (i + 1) ≤ (numbers_of format).limit)
-    → ((others : List ℕ) → IsAllowed (numbers_of format).limit cost n others → 100 * min (2 ^ 64 - 1) last ≤ 103 * partition_cost cost others) → last < 2 ^ 64 - 1
-last-reached format cost n last few single near =
-    let one = singles (numbers_of format).limit cost n single n 0 (omega arith) in
-    let most = mul-le (numbers_of format).limit n 6144 (2 ^ 32 - 1) (limit-is-small format) (omega (arith, few)) in
-    omega (arith, near one.0 (record { partition = one.1; within = one.2 }), one.3, most)

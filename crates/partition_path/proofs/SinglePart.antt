@@ -1,5 +1,8 @@
-use Rattle.std.proofs.Common.{refl, sym, subst, ℕ, ◌+◌, ◌*◌, ◌≤◌, ◌<◌, List, [], ◌∷◌, arith}
+use Rattle.std.proofs.Common.{◌≡◌, refl, sym, subst, ℕ, ◌+◌, ◌*◌, ◌≤◌, ◌<◌, List, [], ◌∷◌, length, arith}
+use Rattle.collection_model.specs.FormatNumbers.{FormatNumbers, part_charge}
 use Rattle.part_cost.specs.Partition.{IsPartitionFrom, IsNear, cost_from}
+use Rattle.part_cost.specs.Span.{cost_of_part, payload_of_part}
+use Rattle.partition_path.specs.FoundCuts.{IsWhole}
 use Rattle.part_cost.proofs.Partitions.{ends-within}
 
 -- No partition costs less than what neither one part of all numbers does, nor two charges.
@@ -18,4 +21,16 @@ single-near limit charge cost n least some cheap room =
     record {
       allowed = record { partition = (some, refl); within = (omega (arith, cheap, room), tt) };
       near = λ others a. let more = none-cheaper charge cost n (cost 0 n) least some (omega arith) cheap others a.partition in omega (arith, more);
+    }
+
+-- The whole of a list that takes at most two charges is near each partition.
+pub whole-near : (format : FormatNumbers) (xs ends : List ℕ) → 0 < length xs → payload_of_part xs 0 (length xs) ≤ 2 * part_charge format → ends ≡ length xs ∷ [] → IsWhole format xs ends
+whole-near format xs ends some cheap one =
+    record {
+      some = some;
+      one = one;
+      near = λ others a. omega (
+        arith,
+        none-cheaper (part_charge format) (cost_of_part (part_charge format) xs) (length xs) (payload_of_part xs 0 (length xs)) (λ i j b w. omega arith) some (omega arith) cheap others a.partition,
+      );
     }

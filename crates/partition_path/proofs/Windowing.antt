@@ -5,12 +5,12 @@ use Rattle.std.proofs.lemmas.Bool.{leb-true, cases_lt, cases_eq}
 use Rattle.std.proofs.lemmas.List.{length-set}
 use Rattle.std.proofs.lemmas.Nat.{mul-le}
 use Rattle.std.specs.List.Sorted.{IsStrictlyIncreasing}
-use Rattle.collection_model.specs.FormatNumbers.{FormatNumbers, part_charge}
 use Rattle.part_cost.specs.Bounds.{Cover}
 use Rattle.part_cost.proofs.Numbers.{rises}
 use Rattle.cost_windows.specs.EdgeFacts.{Knows}
 use Rattle.cost_windows.specs.declared.edge.Edge.{Edge}
-use Rattle.partition_path.specs.Tables.{Table, AreTried, AreRoutes, IsAnswered, IsSettled, StandCheap, cost_to, unreached}
+use Rattle.partition_path.specs.Tables.{Table, AreTried, AreRoutes, IsAnswered, IsCheapWay, IsSettled, StandCheap, cost_to, unreached}
+use Rattle.partition_path.specs.Trying.{CutsCostACharge}
 use Rattle.partition_path.proofs.Offering.{same-cost, tried-none, tried-more, later-routes}
 
 -- the bound that is found is one of the list
@@ -25,12 +25,6 @@ find-place c (b ∷ bs) P h =
       | inl here ↦ (0, omega arith, here.0, here.1)
       | inr later ↦ let more = find-place c bs P later in (suc more.0, omega (arith, more.1), more.2, more.3)
     ]
-
--- some bound covers the charge
-pub cover-some : (charge limit : ℕ) (bounds : List ℕ) → Cover charge limit bounds → charge ≤ limit → 0 < length bounds
-cover-some charge limit bounds cover l =
-    let found = find-place charge bounds (λ b. 100 * b ≤ 103 * charge) (cover charge (omega arith) l) in
-    omega (arith, found.1)
 
 -- two facts on what is known
 pub both-known : (o : Option ℕ) (P Q : ℕ → Type 0) → IsSome o → IfSome o P → IfSome o Q → (c : ℕ) × P c × Q c
@@ -211,26 +205,12 @@ module _ (limit : ℕ) (cost : ℕ → ℕ → ℕ) (bounds : List ℕ) (n i : �
 
 -- Parts that are answered are settled, and so are longer ones where a route leads on from their start to a place behind those for at most
 -- 103/100 of the payload of the part up to there.
-pub settled-later : (format : FormatNumbers) (cost : ℕ → ℕ → ℕ) (n most i : ℕ) (t : Table) (start : ℕ) → i < start → 100 * cost_to t start + 103 * part_charge format ≤ 100 * cost_to t i + 103 * cost i start
-    → ((e : ℕ) → i < e → e < start → IsAnswered format.limit cost i (cost_to t i) t e) → (e : ℕ) → i < e → e ≤ n → IsSettled format cost n most t i e
-settled-later format cost n most i t start after cheap answered e a w allowed = elim (cases_lt start e) [
-  | inl behind ↦ inr (inr (record { start = start; after = after; before = behind; cheap = cheap }))
+pub settled-later : (limit charge : ℕ) (cost : ℕ → ℕ → ℕ) (n i : ℕ) (t : Table) (start : ℕ) → CutsCostACharge charge cost n → i < start → IsCheapWay charge cost t i start
+    → ((e : ℕ) → i < e → e < start → IsAnswered limit cost i (cost_to t i) t e) → (e : ℕ) → i < e → e ≤ n → IsSettled limit cost t i e
+settled-later limit charge cost n i t start adds after cheap answered e a w allowed = elim (cases_lt start e) [
+  | inl behind ↦ inr (record { start = start; after = after; before = behind; cheap = omega (arith, cheap, adds i start e after behind w) })
   | inr before ↦ inl (elim (cases_lt e start) [
     | inl inside ↦ answered e a inside allowed
     | inr at ↦ let same : e ≡ start = omega (arith, before, at) in subst (λ (x : ℕ). 100 * cost_to t x ≤ 100 * cost_to t i + 103 * cost i x) (sym same) (omega (arith, cheap))
   ])
-]
-
--- Longer ones are too dear where one part more would cost as much as is known, and the part to the last place is tried.
-pub settled-dear : (format : FormatNumbers) (cost : ℕ → ℕ → ℕ) (n most i : ℕ) (t new : Table) (end : ℕ) → cost_to new i ≡ cost_to t i → ((j : ℕ) → cost_to new j ≤ cost_to t j) → ((e : ℕ) → end < e → e ≤ n → cost i (end + 1) ≤ cost i e)
-    → most ≤ cost_to t i + cost i (end + 1) + part_charge format → (cost i n ≤ format.limit → cost_to new n ≤ cost_to t i + cost i n)
-    → ((e : ℕ) → i < e → e ≤ end → IsAnswered format.limit cost i (cost_to t i) t e) → (e : ℕ) → i < e → e ≤ n → IsSettled format cost n most new i e
-settled-dear format cost n most i t new end same cheaper longer dear offered answered e a w allowed = elim (cases_lt end e) [
-  | inr before ↦ inl (omega (arith, answered e a before allowed, cheaper e, same))
-  | inl behind ↦ elim (cases_lt e n) [
-    | inl inside ↦ inr (inl (inside, omega (arith, dear, longer e behind w, same)))
-    | inr at ↦
-        let last : e ≡ n = omega (arith, at, w) in
-        inl (subst (λ (z : ℕ). cost i z ≤ format.limit → 100 * cost_to new z ≤ 100 * cost_to new i + 103 * cost i z) (sym last) (λ c. omega (arith, offered c, same)) allowed)
-  ]
 ]

@@ -1,11 +1,11 @@
 -- Lines under the costs of parts, in 1/1024 of a bit: so much for a part, and so much for each of its numbers, which hangs on the gap before it.
 use Rattle.std.specs.Prelude.{◌≡◌, ℕ, zero, suc, ◌+◌, ◌-◌, ◌*◌, ◌/◌, ◌^◌, ◌<◌, ◌≤◌, List, length, slice_index_or}
-use Rattle.part_cost.specs.Span.{past}
+use Rattle.part_cost.specs.Span.{universe}
 use Rattle.partition_path.specs.declared.lines.Open.{Open}
 
--- the gap before number j
+-- the gap before number j: its universe alone
 abbrev pub gap_at : List ℕ → ℕ → ℕ
-gap_at xs j = past xs (suc j) - past xs j
+gap_at xs j = universe xs j (suc j)
 
 -- what a number behind this gap takes at least in an Elias-Fano part of low width k: its low field, its one, nine bits of a sample for 128 numbers,
 -- and the zeros of its high bits

@@ -1,5 +1,4 @@
-use Rattle.std.specs.Prelude.{◌≡◌, ℕ, ◌+◌, ◌-◌, ◌*◌, ◌^◌, ◌<◌, ◌≤◌, ◌⊎◌, min, List, length, replicate, slice_index_or, slice_set}
-use Rattle.collection_model.specs.FormatNumbers.{FormatNumbers, part_charge}
+use Rattle.std.specs.Prelude.{◌≡◌, ℕ, ◌+◌, ◌-◌, ◌*◌, ◌^◌, ◌<◌, ◌≤◌, ◌⊎◌, List, length, replicate, slice_index_or, slice_set}
 use Rattle.partition_path.specs.declared.routes.Route.{Route}
 
 -- for each place the cheapest known route to it or to a place behind it
@@ -78,29 +77,20 @@ pub record AreTried (limit : ℕ) (cost : ℕ → ℕ → ℕ) (n i : ℕ) (old 
 abbrev pub IsAnswered : ℕ → (ℕ → ℕ → ℕ) → ℕ → ℕ → Table → ℕ → Type 0
 IsAnswered limit cost i here t e = cost i e ≤ limit → 100 * cost_to t e ≤ 100 * here + 103 * cost i e
 
--- what is known to be the least cost of all numbers: so many bits, or those of the route to the last place
-abbrev pub least_known : ℕ → ℕ → Table → ℕ
-least_known most n t = min most (cost_to t n)
-
--- A part from place i to place e is too dear: with it and one part more, where it does not end with the last of n numbers, a route costs no less than is known.
-abbrev pub IsTooDear : ℕ → (ℕ → ℕ → ℕ) → ℕ → ℕ → Table → ℕ → ℕ → Type 0
-IsTooDear charge cost n most t i e = (e < n) × (least_known most n t ≤ cost_to t i + cost i e + charge)
-
 -- A route leads on from place i to a later place for at most 103/100 of the payload of the part up to there.
 abbrev pub IsCheapWay : ℕ → (ℕ → ℕ → ℕ) → Table → ℕ → ℕ → Type 0
 IsCheapWay charge cost t i start = 100 * cost_to t start + 103 * charge ≤ 100 * cost_to t i + 103 * cost i start
 
--- A part from place i to place e can begin later: a route leads on to a place between them for little.
-pub record HasLaterStart (charge : ℕ) (cost : ℕ → ℕ → ℕ) (t : Table) (i e : ℕ) : Type 0 where
+-- A part from place i to place e can begin at a place between them: with a route there it costs at most 103/100 of what it costs from i.
+pub record HasLaterStart (cost : ℕ → ℕ → ℕ) (t : Table) (i e : ℕ) : Type 0 where
   pub start : ℕ
   pub after : i < start
   pub before : start < e
-  pub cheap : IsCheapWay charge cost t i start
+  pub cheap : 100 * cost_to t start + 103 * cost start e ≤ 100 * cost_to t i + 103 * cost i e
 
--- An allowed part from place i to place e, of n numbers that can also be had for so many bits, need not be tried any more.
-abbrev pub IsSettled : FormatNumbers → (ℕ → ℕ → ℕ) → ℕ → ℕ → Table → ℕ → ℕ → Type 0
-IsSettled format cost n most t i e =
-    cost i e ≤ format.limit → (100 * cost_to t e ≤ 100 * cost_to t i + 103 * cost i e) ⊎ (IsTooDear (part_charge format) cost n most t i e ⊎ HasLaterStart (part_charge format) cost t i e)
+-- An allowed part from place i to place e need not be tried any more.
+abbrev pub IsSettled : ℕ → (ℕ → ℕ → ℕ) → Table → ℕ → ℕ → Type 0
+IsSettled limit cost t i e = cost i e ≤ limit → (100 * cost_to t e ≤ 100 * cost_to t i + 103 * cost i e) ⊎ HasLaterStart cost t i e
 
 -- Each window stands at a place, of n numbers, that costs at most its bound more than is spent before it.
 pub record StandCheap (bounds : List ℕ) (n here : ℕ) (t : Table) (stands : List ℕ) : Type 0 where

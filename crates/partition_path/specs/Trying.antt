@@ -4,6 +4,10 @@ use Rattle.cost_windows.specs.EdgeFacts.{Knows}
 use Rattle.partition_path.specs.declared.search.Window.{Window}
 use Rattle.partition_path.specs.Tables.{Table, AreRoutes, IsReached, cost_to, unreached}
 
+-- Two parts of n numbers cost at most a charge more than the part that is cut into them.
+abbrev pub CutsCostACharge : ℕ → (ℕ → ℕ → ℕ) → ℕ → Type 0
+CutsCostACharge charge cost n = (h i j : ℕ) → h < i → i < j → j ≤ n → cost h i + cost i j ≤ cost h j + charge
+
 -- parts from place i of n numbers can be tried
 pub record CanTry (limit : ℕ) (cost : ℕ → ℕ → ℕ) (n i : ℕ) (t : Table) : Type 0 where
   -- there is a number behind the place

@@ -1,4 +1,4 @@
-ghost use Rattle.std.specs.Prelude.{◌≡◌, ℕ, ◌≤◌, ◌<◌, ◌+◌, ◌-◌, ◌*◌, ◌^◌, List, [], ◌∷◌, length, IfOk, IfSome, IfNone};
+ghost use Rattle.std.specs.Prelude.{◌≡◌, ◌≤◌, ◌<◌, ◌+◌, ◌*◌, ◌^◌, ◌⊎◌, [], ◌∷◌, length, IfOk, IfSome};
 ghost use Rattle.std.specs.List.{All};
 ghost use Rattle.std.specs.List.Sorted.{IsStrictlyIncreasing};
 ghost use Rattle.collection_model.specs.FormatNumbers.{part_charge};
@@ -6,16 +6,16 @@ ghost use Rattle.part_cost.specs.Formats.{numbers_of};
 ghost use Rattle.part_cost.specs.Span.{cost_of_part};
 ghost use Rattle.part_cost.specs.Partition.{IsAllowed, IsNear, partition_cost};
 ghost use Rattle.cost_windows.specs.WindowBounds.{window_bounds};
-ghost use Rattle.partition_path.specs.Tables.{AreRoutes, IsReached, cost_to};
+ghost use Rattle.partition_path.specs.FoundCuts.{AreBelowWhole, IsWhole};
+ghost use Rattle.partition_path.specs.Trying.{CutsCostACharge};
 
 use crate::allowed::allowed_ends;
 use crate::joints::{shift_ends, total_cost};
 use crate::lines::line_cuts;
-use crate::routes::Routes;
-use crate::search::{is_cheap_way, routes_found};
-use crate::whole::{cost_as_one_part, no_parts_cost_less};
+use crate::search::{LOOKS, is_cheap_way, routes_found};
+use crate::whole::cost_as_one_part;
 use no_memory::NoMemory;
-use part_cost::{Format, ListCost, SpanCost, formats_have_room};
+use part_cost::{Format, ListCost, SpanCost, formats_have_room, payloads_add};
 use std::alloc::Global;
 use std::marker::Model;
 use std::sync::ledger::Ledger;
@@ -37,13 +37,26 @@ impl Model for Cuts {
 }
 
 impl Cuts {
-    /// All numbers as one part, of any cost; their cost is not counted.
-    pub fn of_one_part(alloc: Global, count: u64, total: u64) -> Result<Cuts, NoMemory>
-        ensures ends { IfOk result (λ cuts. cuts.ends ≡ count ∷ []) }
-        ensures total { IfOk result (λ cuts. cuts.total ≡ total) }
+    // No parts, of no numbers.
+    fn of_none(alloc: Global) -> Cuts
+        ensures ends { result.ends ≡ [] }
+        ensures total { result.total ≡ 0 }
+    {
+        Cuts {
+            ends: Vec::new(alloc),
+            total: 0,
+        }
+    }
+
+    // All numbers as one part, which costs so much.
+    fn of_one_part<C: SpanCost>(alloc: Global, cost: &C, total: u64) -> Result<Cuts, NoMemory>
+        requires { total ≡ C.cost_of cost.now 0 (C.count cost.now) }
+        ensures ends { IfOk result (λ cuts. cuts.ends ≡ C.count cost.now ∷ []) }
+        ensures total { IfOk result (λ cuts. cuts.total
+            ≡ partition_cost (C.cost_of cost.now) (C.count cost.now ∷ [])) }
     {
         let mut ends = Vec::new(alloc);
-        ends.push(count)?;
+        ends.push(cost.len())?;
         Ok(Cuts { ends, total })
     }
 
@@ -65,13 +78,10 @@ impl Cuts {
 /// A partition into parts that are allowed in the costs' format, at most 103/100 of the cheapest such, after the
 /// approximation of Ottaviano and Venturini (Partitioned Elias-Fano Indexes, SIGIR 2014): from each place in order, parts are
 /// tried to the longest ends under the format's window bounds. A bound is passed over where a known route leads past its
-/// end at its cost, or at 103/100 of what the next part costs, and a place where the next one costs no more. No longer part is tried
-/// from a place where a known route leads on from it for at most 103/100 of the payload of the part up to there, and none behind which
-/// one part more would cost as much as a known route to the end. From a place where two more parts without payload would not
-/// be cheaper than that route, only the part to the end is tried, and a sequence that costs no more as one
-/// part than two such parts is not cut. At last each cut is moved to a place near by where that is cheaper. For each number and
-/// one more it counts at most three times as many costs as there are window bounds, and it takes room for a few numbers at
-/// each place. An `Err` comes only where memory is refused.
+/// end at its cost, or at 103/100 of what the next part costs, and a place where the next one costs no more. A sequence that costs
+/// no more as one part than two parts without payload is not cut. At last each cut is moved to a place near by where that is
+/// cheaper. For each number and one more it counts at most three times as many costs as there are window bounds, and it takes room
+/// for a few numbers at each place. An `Err` comes only where memory is refused.
 pub fn partition<C: SpanCost, L: Ledger>(
     alloc: Global,
     cost: &C,
@@ -86,49 +96,15 @@ pub fn partition<C: SpanCost, L: Ledger>(
         (C.count cost.now + 1) }
 {
     if let Some(total) = cost_as_one_part(cost, steps) {
-        return Cuts::of_one_part(alloc, cost.len(), total);
+        return Cuts::of_one_part(alloc, cost, total);
     }
-    let routes = routes_found(alloc, cost, u64::MAX, steps)?;
-    cuts_of(alloc, &routes, cost, steps)
-}
-
-/// Of a sequence that can also be had for so many bits otherwise: a partition as that of [`partition`] that costs less, or None
-/// where those bits are at most 103/100 of the cost of each allowed partition. What would cost as much is not looked for.
-pub fn partition_below<C: SpanCost, L: Ledger>(
-    alloc: Global,
-    cost: &C,
-    most: u64,
-    steps: &mut Steps<L>,
-) -> Result<Option<Cuts>, NoMemory>
-    ensures near { IfOk result (λ found. IfSome found (λ cuts.
-        IsNear (numbers_of (C.format_of cost.now)).limit (C.cost_of cost.now)
-        (C.count cost.now) cuts.ends)) }
-    ensures total { IfOk result (λ found. IfSome found (λ cuts. cuts.total
-        ≡ partition_cost (C.cost_of cost.now) cuts.ends)) }
-    ensures below { IfOk result (λ found. IfSome found (λ cuts. cuts.total < most)) }
-    ensures none { IfOk result (λ found. IfNone found ((others : List ℕ)
-        → IsAllowed (numbers_of (C.format_of cost.now)).limit (C.cost_of cost.now)
-        (C.count cost.now) others
-        → 100 * most ≤ 103 * partition_cost (C.cost_of cost.now) others)) }
-    ensures counted { IfOk result (λ found. IfSome found
-        (λ cuts. steps.old + length cuts.ends ≤ steps.new)) }
-    ensures asked { IfOk result (λ found. 0 < C.count cost.now → steps.old + 1 ≤ steps.new) }
-    ensures bounded { steps.new ≤ steps.old + 3 * length (window_bounds (C.format_of cost.now)) *
-        (C.count cost.now + 1) }
-{
-    if no_parts_cost_less(cost, most, steps) {
-        return Ok(None);
-    }
-    let routes = routes_found(alloc, cost, most, steps)?;
-    if most <= routes.cost(cost.len()) {
-        return Ok(None);
-    }
-    Ok(Some(cuts_of(alloc, &routes, cost, steps)?))
+    cuts_found(alloc, cost, 0, steps)
 }
 
 /// A partition as that of [`partition`] of the values of a rising list. First the cheapest way along lines under the costs of
 /// parts is found in one pass, with parts that are allowed: where it costs at most 103/100 of what each partition costs by these lines, it
-/// is taken, and no part is tried.
+/// is taken, and no part is tried. Where parts are tried, no longer one is from a place where a known route leads on from it for at most
+/// 103/100 of the payload of the part up to there.
 pub fn list_partition<L: Ledger>(
     alloc: Global,
     values: &[u64],
@@ -148,53 +124,74 @@ pub fn list_partition<L: Ledger>(
 {
     let cost = ListCost::new(values, format);
     if let Some(total) = cost_as_one_part(&cost, steps) {
-        return Cuts::of_one_part(alloc, cost.len(), total);
+        return Cuts::of_one_part(alloc, &cost, total);
     }
-    if let Some(cuts) = cuts_along_lines(alloc, values, format, steps)? {
-        return Ok(cuts);
-    }
-    let routes = routes_found(alloc, &cost, u64::MAX, steps)?;
-    cuts_of(alloc, &routes, &cost, steps)
+    list_cuts(alloc, values, format, steps)
 }
 
-/// A partition as that of [`partition_below`] of the values of a rising list, first by lines as [`list_partition`].
-pub fn list_partition_below<L: Ledger>(
+/// Of the values of a rising list that can also be stored whole, as one part without its charge: a partition as that of
+/// [`list_partition`] that costs less than the whole takes, or all numbers as one part, where the whole takes at most 103/100 of
+/// what each allowed partition costs. An empty list has no parts. The total is what the parts cost, each with its charge.
+pub fn list_partition_or_whole<L: Ledger>(
     alloc: Global,
     values: &[u64],
     format: Format,
-    most: u64,
     steps: &mut Steps<L>,
-) -> Result<Option<Cuts>, NoMemory>
+) -> Result<Cuts, NoMemory>
     requires rising { IsStrictlyIncreasing values.now }
     requires below { All (λ x. x < (numbers_of format).most_sum) values.now }
     requires few { length values.now < 2 ^ 32 }
-    ensures found { IfOk result (λ found. IfSome found (λ cuts. IsNear (numbers_of format).limit
-        (cost_of_part (part_charge (numbers_of format)) values.now) (length values.now) cuts.ends
-        × (cuts.total ≡ partition_cost (cost_of_part (part_charge (numbers_of format)) values.now)
-        cuts.ends) × (cuts.total < most))) }
-    ensures none { IfOk result (λ found. IfNone found ((others : List ℕ)
-        → IsAllowed (numbers_of format).limit
-        (cost_of_part (part_charge (numbers_of format)) values.now) (length values.now) others
-        → 100 * most ≤ 103 * partition_cost
-        (cost_of_part (part_charge (numbers_of format)) values.now) others)) }
-    ensures counted { IfOk result (λ found. IfSome found
-        (λ cuts. steps.old + length cuts.ends ≤ steps.new)) }
-    ensures asked { IfOk result (λ found. 0 < length values.now → steps.old + 1 ≤ steps.new) }
+    ensures either { IfOk result (λ cuts. AreBelowWhole (numbers_of format) values.now cuts.ends
+        ⊎ IsWhole (numbers_of format) values.now cuts.ends) }
+    ensures total { IfOk result (λ cuts. cuts.total
+        ≡ partition_cost (cost_of_part (part_charge (numbers_of format)) values.now) cuts.ends) }
+    ensures counted { IfOk result (λ cuts. steps.old + length cuts.ends ≤ steps.new) }
     ensures bounded { steps.new ≤ steps.old
         + 3 * length (window_bounds format) * (length values.now + 1) }
 {
     let cost = ListCost::new(values, format);
-    if no_parts_cost_less(&cost, most, steps) {
-        return Ok(None);
+    let count = cost.len();
+    if count == 0 {
+        return Ok(Cuts::of_none(alloc));
     }
+    let one_part = cost.cost(0, count, steps);
+    let whole = one_part - format.charge();
+    if whole <= 2 * format.charge() {
+        return Cuts::of_one_part(alloc, &cost, one_part);
+    }
+    let cuts = list_cuts(alloc, values, format, steps)?;
+    if cuts.total < whole {
+        Ok(cuts)
+    } else {
+        Cuts::of_one_part(alloc, &cost, one_part)
+    }
+}
+
+// A partition of the values of a rising list: that along lines, or else one that is searched for.
+fn list_cuts<L: Ledger>(
+    alloc: Global,
+    values: &[u64],
+    format: Format,
+    steps: &mut Steps<L>,
+) -> Result<Cuts, NoMemory>
+    requires rising { IsStrictlyIncreasing values.now }
+    requires below { All (λ x. x < (numbers_of format).most_sum) values.now }
+    requires few { length values.now < 2 ^ 32 }
+    ensures near { IfOk result (λ cuts. IsNear (numbers_of format).limit
+        (cost_of_part (part_charge (numbers_of format)) values.now) (length values.now) cuts.ends) }
+    ensures total { IfOk result (λ cuts. cuts.total
+        ≡ partition_cost (cost_of_part (part_charge (numbers_of format)) values.now) cuts.ends) }
+    ensures counted { IfOk result (λ cuts. steps.old + length cuts.ends ≤ steps.new) }
+    ensures forward { steps.old ≤ steps.new }
+    ensures bounded { steps.new ≤ steps.old
+        + (2 * length (window_bounds format) + 103) * length values.now }
+{
+    payloads_add();
+    let cost = ListCost::new(values, format);
     if let Some(cuts) = cuts_along_lines(alloc, values, format, steps)? {
-        return Ok(if cuts.total < most { Some(cuts) } else { None });
+        return Ok(cuts);
     }
-    let routes = routes_found(alloc, &cost, most, steps)?;
-    if most <= routes.cost(cost.len()) {
-        return Ok(None);
-    }
-    Ok(Some(cuts_of(alloc, &routes, &cost, steps)?))
+    cuts_found(alloc, &cost, LOOKS, steps)
 }
 
 // The partition along lines under the costs of parts, where it is known to be near every allowed one.
@@ -229,25 +226,25 @@ fn cuts_along_lines<L: Ledger>(
     }
 }
 
-// The partition along the route to the last place, its cuts moved to places near by.
-fn cuts_of<C: SpanCost, L: Ledger>(
+// The partition along the route to the last place that a search with so many looks finds, its cuts moved to places near by.
+fn cuts_found<C: SpanCost, L: Ledger>(
     alloc: Global,
-    routes: &Routes,
     cost: &C,
+    looks: u64,
     steps: &mut Steps<L>,
 ) -> Result<Cuts, NoMemory>
-    requires routes { AreRoutes (numbers_of (C.format_of cost.now)).limit (C.cost_of cost.now)
-        (C.count cost.now) (C.count cost.now) routes.now }
-    requires reached { IsReached routes.now (C.count cost.now) }
-    ensures allowed { IfOk result (λ cuts. IsAllowed (numbers_of (C.format_of cost.now)).limit
+    requires looks { 0 < looks → CutsCostACharge (part_charge (numbers_of (C.format_of cost.now)))
+        (C.cost_of cost.now) (C.count cost.now) }
+    ensures near { IfOk result (λ cuts. IsNear (numbers_of (C.format_of cost.now)).limit
         (C.cost_of cost.now) (C.count cost.now) cuts.ends) }
     ensures total { IfOk result (λ cuts. cuts.total
         ≡ partition_cost (C.cost_of cost.now) cuts.ends) }
-    ensures cheaper { IfOk result (λ cuts. cuts.total ≤ cost_to routes.now (C.count cost.now)) }
     ensures counted { IfOk result (λ cuts. steps.old + length cuts.ends ≤ steps.new) }
     ensures forward { steps.old ≤ steps.new }
-    ensures bounded { steps.new ≤ steps.old + 27 * C.count cost.now }
+    ensures bounded { steps.new ≤ steps.old
+        + (2 * length (window_bounds (C.format_of cost.now)) + looks + 27) * C.count cost.now }
 {
+    let routes = routes_found(alloc, cost, looks, steps)?;
     Ok(cuts_near(routes.ends(alloc)?, cost, steps))
 }
 

@@ -10,5 +10,5 @@ mod routes;
 mod search;
 mod whole;
 
-pub use cuts::{Cuts, list_partition, list_partition_below, partition, partition_below};
+pub use cuts::{Cuts, list_partition, list_partition_or_whole, partition};
 pub use exact::exact_cost;

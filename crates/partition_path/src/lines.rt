@@ -129,8 +129,8 @@ fn widths_longer(routes: &mut Vec<Open>, number: Number, charge: u64) -> Open
     requires few { length routes.old.items < 64 }
     requires gap { number.gap ≤ 2 ^ widest_low }
     requires known { number.known + charge + 2 ^ 60 ≤ 2 ^ 64 }
-    ensures { AreLonger number.place number.known charge number.gap routes.old.items routes.new.items
-        result }
+    ensures { AreLonger number.place number.known charge number.gap routes.old.items
+        routes.new.items result }
 {
     let mut best = NO_OPEN;
     for k in 0..routes.len() {

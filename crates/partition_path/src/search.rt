@@ -1,11 +1,11 @@
-ghost use Rattle.std.specs.Prelude.{◌≡◌, ℕ, ◌+◌, ◌*◌, ◌<◌, ◌≤◌, length, min, IsTrue, IsSome, IfSome, IfNone, IfOk, List, slice_index_or};
+ghost use Rattle.std.specs.Prelude.{◌≡◌, ℕ, ◌+◌, ◌*◌, ◌<◌, ◌≤◌, length, IsTrue, IsSome, IfSome, IfNone, IfOk, List, slice_index_or};
 ghost use Rattle.std.specs.List.{sum};
 ghost use Rattle.collection_model.specs.FormatNumbers.{part_charge};
 ghost use Rattle.part_cost.specs.Formats.{numbers_of};
 ghost use Rattle.part_cost.specs.Partition.{IsAllowed, partition_cost};
 ghost use Rattle.cost_windows.specs.EdgeFacts.{Knows};
 ghost use Rattle.cost_windows.specs.WindowBounds.{window_bounds};
-ghost use Rattle.partition_path.specs.Trying.{CanTry, IsCheapWindow, IsWithinReach};
+ghost use Rattle.partition_path.specs.Trying.{CanTry, CutsCostACharge, IsCheapWindow, IsWithinReach};
 ghost use Rattle.partition_path.specs.Tables.{AreRoutes, AreTried, IsCheapWay, IsReached, IsSettled, StandCheap, cost_to, unreached};
 
 use crate::routes::Routes;
@@ -17,78 +17,53 @@ use std::sync::ledger::Ledger;
 use step_count::Steps;
 
 // The routes that are found from all places in order: from each place that costs less than the next, parts are tried whose
-// ends no known route reaches at nearly their cost. What costs as many bits as are given, or more, is not looked for.
+// ends no known route reaches at nearly their cost. Behind the first windows from a place, so many as are given, it is looked whether
+// longer parts can begin later; that is known only where a part that is cut costs at most a charge more.
 pub(crate) fn routes_found<C: SpanCost, L: Ledger>(
     alloc: Global,
     cost: &C,
-    most: u64,
+    looks: u64,
     steps: &mut Steps<L>,
 ) -> Result<Routes, NoMemory>
+    requires looks { 0 < looks → CutsCostACharge (part_charge (numbers_of (C.format_of cost.now)))
+        (C.cost_of cost.now) (C.count cost.now) }
     ensures routes { IfOk result (λ t. AreRoutes (numbers_of (C.format_of cost.now)).limit
         (C.cost_of cost.now) (C.count cost.now) (C.count cost.now) t) }
+    ensures reached { IfOk result (λ t. IsReached t (C.count cost.now)) }
     ensures near { IfOk result (λ t. (others : List ℕ)
         → IsAllowed (numbers_of (C.format_of cost.now)).limit (C.cost_of cost.now)
-        (C.count cost.now) others
-        → 100 * min most (cost_to t (C.count cost.now))
+        (C.count cost.now) others → 100 * cost_to t (C.count cost.now)
         ≤ 103 * partition_cost (C.cost_of cost.now) others) }
     ensures counted { steps.old ≤ steps.new }
     ensures bounded { steps.new ≤ steps.old
-        + (2 * length (window_bounds (C.format_of cost.now)) + 17) * C.count cost.now }
+        + (2 * length (window_bounds (C.format_of cost.now)) + looks) * C.count cost.now }
 {
     formats_have_room();
-    bounds_follow_rule();
-    bounds_cover();
     let count = cost.len();
-    let charge = cost.format().charge();
     let mut routes = Routes::new(alloc, count as usize)?;
     let mut stands = vec![in alloc; 0; bounds(cost.format()).len()]?;
     for i in 0..count {
         if routes.cost(i) < routes.cost(i + 1) {
-            let least = routes.cost(count).min(most);
-            if least <= routes.cost(i) + 2 * charge {
-                try_rest(&mut routes, i, cost, steps);
-            } else {
-                let from = Start { place: i, least };
-                try_windows(&mut routes, from, &mut stands, cost, steps);
-            }
+            let from = Start { place: i, looks };
+            try_windows(&mut routes, from, &mut stands, cost, steps);
         }
     }
     Ok(routes)
 }
 
-// Tries the part from place i to the last place, where it is allowed.
-fn try_rest<C: SpanCost, L: Ledger>(routes: &mut Routes, i: u64, cost: &C, steps: &mut Steps<L>)
-    requires from { CanTry (numbers_of (C.format_of cost.now)).limit (C.cost_of cost.now)
-        (C.count cost.now) i routes.old }
-    ensures tried { AreTried (numbers_of (C.format_of cost.now)).limit (C.cost_of cost.now)
-        (C.count cost.now) i routes.old routes.new }
-    ensures offered { C.cost_of cost.now i (C.count cost.now)
-        ≤ (numbers_of (C.format_of cost.now)).limit
-        → cost_to routes.new (C.count cost.now)
-        ≤ cost_to routes.old i + C.cost_of cost.now i (C.count cost.now) }
-    ensures step { steps.new ≡ steps.old + 1 }
-{
-    let rest = cost.cost(i, cost.len(), steps);
-    if rest <= cost.format().limit() {
-        routes.offer(i, cost.len(), routes.cost(i) + rest);
-    }
-}
+// Behind how many windows from a place of a list it is looked whether longer parts can begin later.
+pub(crate) const LOOKS: u64 = 16;
 
-// A place from which parts are tried, and what is known to be the least cost of all numbers.
+// A place from which parts are tried, and behind how many windows it is looked whether longer ones can begin later.
 #[derive(Clone, Copy)]
 struct Start {
     place: u64,
-    least: u64,
+    looks: u64,
 }
-
-// Behind how many windows from a place it is looked whether longer parts can begin later.
-const LOOKS: u64 = 16;
 
 // Tries parts from a place, until each allowed one is settled. Of each window that is looked at it is known how far a route
 // leads that costs at most its bound more than the route to this place, or at most 103/100 of what the part costs that is tried
-// next; those whose bound the next part is above are passed.
-// It ends where longer parts can begin at a later place, and where one more part behind them would cost as much as what is known
-// to be the least, or more: then the part to the last place is tried.
+// next; those whose bound the next part is above are passed. It ends where longer parts can begin at a later place.
 fn try_windows<C: SpanCost, L: Ledger>(
     routes: &mut Routes,
     from: Start,
@@ -97,6 +72,9 @@ fn try_windows<C: SpanCost, L: Ledger>(
     steps: &mut Steps<L>,
 )
     requires within { from.place < C.count cost.now }
+    requires looks { 0 < from.looks
+        → CutsCostACharge (part_charge (numbers_of (C.format_of cost.now))) (C.cost_of cost.now)
+        (C.count cost.now) }
     requires routes { AreRoutes (numbers_of (C.format_of cost.now)).limit (C.cost_of cost.now)
         (C.count cost.now) from.place routes.old }
     requires reached { IsReached routes.old from.place }
@@ -104,26 +82,24 @@ fn try_windows<C: SpanCost, L: Ledger>(
         (cost_to routes.old from.place) routes.old stands.old.items }
     requires room { cost_to routes.old from.place
         + 2 * (numbers_of (C.format_of cost.now)).limit < unreached }
-    requires least { cost_to routes.old from.place
-        + 2 * part_charge (numbers_of (C.format_of cost.now)) < from.least }
     ensures tried { AreTried (numbers_of (C.format_of cost.now)).limit (C.cost_of cost.now)
         (C.count cost.now) from.place routes.old routes.new }
     ensures settled { (e : ℕ) → from.place < e → e ≤ C.count cost.now
-        → IsSettled (numbers_of (C.format_of cost.now)) (C.cost_of cost.now) (C.count cost.now)
-        from.least routes.new from.place e }
+        → IsSettled (numbers_of (C.format_of cost.now)).limit (C.cost_of cost.now)
+        routes.new from.place e }
     ensures stands { StandCheap (window_bounds (C.format_of cost.now)) (C.count cost.now)
         (cost_to routes.old from.place) routes.new stands.new.items }
-    // At most one cost for each place that a window moved on, one for each window, one for each look, and one.
+    // At most one cost for each place that a window moved on, one for each window, and one for each look.
     ensures counted { (steps.old ≤ steps.new) × (steps.new + sum stands.old.items
-        ≤ steps.old + sum stands.new.items + length (window_bounds (C.format_of cost.now)) + 17) }
+        ≤ steps.old + sum stands.new.items + length (window_bounds (C.format_of cost.now))
+        + from.looks) }
 {
     bounds_cover();
     bounds_follow_rule();
-    let Start { place: i, least } = from;
+    let Start { place: i, looks } = from;
     let bounds = bounds(cost.format());
-    let spare = least - routes.cost(i) - cost.format().charge();
     let mut edge = Edge::at(i);
-    let mut looks = 0;
+    let mut looked = 0;
     let mut k = 0;
     while k < bounds.len() && edge.end < cost.len() {
         let window = Window {
@@ -134,17 +110,11 @@ fn try_windows<C: SpanCost, L: Ledger>(
         let moved = stretched(routes, i, window, cost, steps);
         stands[k] = moved.stand;
         edge = moved.edge;
-        if looks < LOOKS {
+        if looked < looks {
             if can_begin_later(routes, i, edge, cost, steps) {
                 return;
             }
-            looks += 1;
-        }
-        if let Some(next) = edge.next {
-            if spare <= next {
-                try_rest(routes, i, cost, steps);
-                return;
-            }
+            looked += 1;
         }
         k = covering(bounds, k + 1, edge.next);
     }

@@ -1,6 +1,6 @@
-ghost use Rattle.std.specs.Prelude.{◌≡◌, ℕ, ◌≤◌, ◌<◌, ◌+◌, List, [], ◌∷◌, IfSome, IsTrue};
+ghost use Rattle.std.specs.Prelude.{◌≡◌, ◌≤◌, ◌+◌, [], ◌∷◌, IfSome};
 ghost use Rattle.part_cost.specs.Formats.{numbers_of};
-ghost use Rattle.part_cost.specs.Partition.{IsNear, IsPartition, partition_cost};
+ghost use Rattle.part_cost.specs.Partition.{IsNear};
 
 use part_cost::{SpanCost, formats_have_room};
 use std::sync::ledger::Ledger;
@@ -14,8 +14,7 @@ pub(crate) fn cost_as_one_part<C: SpanCost, L: Ledger>(
 ) -> Option<u64>
     ensures near { IfSome result (λ total. IsNear (numbers_of (C.format_of cost.now)).limit
         (C.cost_of cost.now) (C.count cost.now) (C.count cost.now ∷ [])) }
-    ensures total { IfSome result (λ total. total
-        ≡ partition_cost (C.cost_of cost.now) (C.count cost.now ∷ [])) }
+    ensures total { IfSome result (λ total. total ≡ C.cost_of cost.now 0 (C.count cost.now)) }
     ensures counted { steps.old ≤ steps.new }
     ensures asked { IfSome result (λ total. steps.old + 1 ≤ steps.new) }
     ensures bounded { steps.new ≤ steps.old + 1 }
@@ -31,26 +30,4 @@ pub(crate) fn cost_as_one_part<C: SpanCost, L: Ledger>(
     } else {
         None
     }
-}
-
-// Whether it is known at once that no partition costs less than so many bits: neither one part does, nor two parts without payload. It
-// counts one cost, and none of an empty sequence, of which it knows nothing.
-pub(crate) fn no_parts_cost_less<C: SpanCost, L: Ledger>(
-    cost: &C,
-    most: u64,
-    steps: &mut Steps<L>,
-) -> bool
-    ensures none { IsTrue result → (others : List ℕ) → IsPartition (C.count cost.now) others
-        → most ≤ partition_cost (C.cost_of cost.now) others }
-    ensures asked { 0 < C.count cost.now → steps.new ≡ steps.old + 1 }
-    ensures counted { steps.old ≤ steps.new }
-    ensures bounded { steps.new ≤ steps.old + 1 }
-{
-    formats_have_room();
-    let count = cost.len();
-    if count == 0 {
-        return false;
-    }
-    let total = cost.cost(0, count, steps);
-    most <= total && most <= 2 * cost.format().charge()
 }

@@ -1,11 +1,13 @@
-ghost use Rattle.std.specs.Prelude.{◌≡◌, ◌<◌, ◌≤◌, ◌^◌, length, IsTrue};
+ghost use Rattle.std.specs.Prelude.{◌≡◌, ◌+◌, ◌-◌, ◌*◌, ◌/◌, ◌<◌, ◌≤◌, ◌^◌, length, IsTrue};
 ghost use Rattle.std.specs.List.{All};
 ghost use Rattle.std.specs.List.Sorted.{IsStrictlyIncreasing};
+ghost use Rattle.std.proofs.Common.{arith};
 ghost use Rattle.part_cost.specs.Formats.{numbers_of};
+ghost use Rattle.part_cost.specs.declared.formats.Format.TheVariants.{One};
 
 use no_memory::NoMemory;
-use part_cost::{Format, ListCost};
-use partition_path::{Cuts, exact_cost, partition};
+use part_cost::{Format, ListCost, SpanCost};
+use partition_path::{Cuts, exact_cost, list_partition, list_partition_or_whole, partition};
 use std::alloc::{AllocError, Global};
 use std::marker::Brand;
 use std::sync::ledger::{Blank, Ledger};
@@ -61,6 +63,87 @@ fn cuts<L: Ledger>(
 {
     let mut steps = Steps::<L>::new(blank);
     partition(alloc, &ListCost::new(values, format), &mut steps)
+}
+
+// The cuts of a list of values, where it can also be stored whole or not.
+fn list_cuts<L: Ledger>(
+    alloc: Global,
+    blank: Blank,
+    values: &[u64],
+    format: Format,
+    whole: bool,
+) -> Result<Cuts, NoMemory>
+    requires name { blank.name ≡ L.name }
+    requires parts { blank.parts ≡ L.parts }
+    requires some { 0 < L.parts }
+    requires rising { IsStrictlyIncreasing values.now }
+    requires below { All (λ x. x < (numbers_of format).most_sum) values.now }
+    requires few { length values.now < 2 ^ 32 }
+{
+    let mut steps = Steps::<L>::new(blank);
+    if whole {
+        list_partition_or_whole(alloc, values, format, &mut steps)
+    } else {
+        list_partition(alloc, values, format, &mut steps)
+    }
+}
+
+// Parts of up to ten numbers that take the same each, so that two of them may cost more than a charge above the part that is cut
+// into them, and longer parts that are not allowed, in the first format.
+#[derive(Clone, Copy)]
+struct Level {
+    count: u64,
+    bits: u64,
+    ghost few: { count < 2 ^ 8 },
+    ghost charge: { 128 ≤ bits },
+    ghost allowed: { bits ≤ 4096 },
+}
+
+impl SpanCost for Level {
+    ghost format_of = { λ c. One };
+
+    ghost count = { λ c. c.count };
+
+    ghost cost_of = { λ c i j. c.bits + 4096 * ((j - i - 1) / 10) };
+
+    fn format(&self) -> Format {
+        Format::One
+    }
+
+    fn len(&self) -> u64 {
+        self.count
+    }
+
+    fn cost<L: Ledger>(&self, i: u64, j: u64, steps: &mut Steps<L>) -> u64 {
+        steps.tick();
+        self.bits + 4096 * ((j - i - 1) / 10)
+    }
+
+    ghost few = { λ c. Prim.omega (arith, c.few) };
+
+    ghost at_least_charge = { λ c i j h k. Prim.omega (arith, c.charge) };
+
+    ghost monotone = { λ c h i j k p q r s. Prim.omega (arith, p, r) };
+
+    ghost one_within_limit = { λ c i h. Prim.omega (arith, c.allowed) };
+}
+
+// The cuts of so many numbers whose parts take so many bits, if those are a part's.
+fn level_cuts<L: Ledger>(
+    alloc: Global,
+    blank: Blank,
+    count: u64,
+    bits: u64,
+) -> Result<Cuts, NoMemory>
+    requires name { blank.name ≡ L.name }
+    requires parts { blank.parts ≡ L.parts }
+    requires some { 0 < L.parts }
+    requires few { count < 2 ^ 8 }
+    requires charge { 128 ≤ bits }
+    requires allowed { bits ≤ 4096 }
+{
+    let mut steps = Steps::<L>::new(blank);
+    partition(alloc, &Level { count, bits }, &mut steps)
 }
 
 // The cheapest cost of a sequence of values.
@@ -132,6 +215,86 @@ fn all_numbers_are_one_part(rt: HostRuntime) -> Result<(), Fail> {
         let found = cuts::<Brand>(rt.alloc(), Blank::new(1), &values, format)?;
         assert_eq!(rt; found.ends(), [1_000].as_slice());
         assert_eq!(rt; found.total(), cost);
+    }
+    Ok(())
+}
+
+#[test]
+fn lists_in_parts(rt: HostRuntime) -> Result<(), Fail> {
+    // A format, a count, a number below it that is left out, a last number; the ends of the parts, and what they cost.
+    let rows = [
+        (Format::One, 0, 0, None, [].as_slice(), 0),
+        (Format::One, 1_000, 1_000, None, &[1_000], 128),
+        // The numbers on both sides of the one that is left out take no bits, and the first behind it takes 2.
+        (Format::One, 600, 300, None, &[300, 301, 599], 386),
+        (
+            Format::One,
+            100_000,
+            100_000,
+            Some(1_000_000),
+            &[100_000, 100_001],
+            277,
+        ),
+        (Format::Two, 0, 0, None, &[], 0),
+        (Format::Two, 1_000, 1_000, None, &[1_000], 192),
+        (Format::Two, 600, 300, None, &[300, 301, 599], 578),
+        (
+            Format::Two,
+            100_000,
+            100_000,
+            Some(1_000_000),
+            &[100_000, 100_001],
+            405,
+        ),
+    ];
+    for (format, count, without, last, ends, total) in rows {
+        let values = numbers(rt.alloc(), count, without, last)?;
+        assert!(rt; is_sequence(&values, format));
+        for whole in [false, true] {
+            // Whole, these lists take nothing, or more than their parts.
+            let found = list_cuts::<Brand>(rt.alloc(), Blank::new(1), &values, format, whole)?;
+            assert_eq!(rt; found.ends(), ends, "{count}");
+            assert_eq!(rt; found.total(), total, "{count}");
+        }
+    }
+    Ok(())
+}
+
+#[test]
+fn lists_stored_whole(rt: HostRuntime) -> Result<(), Fail> {
+    // Whole they take 5,641 bits, which no allowed partition costs as little as; as one part a charge more.
+    for (format, total, least, most) in [
+        (Format::One, 5_769, 5_886, 6_062),
+        (Format::Two, 5_833, 5_833, 6_007),
+    ] {
+        let values = far_apart(rt.alloc(), 256)?;
+        assert!(rt; is_sequence(&values, format));
+        let whole = list_cuts::<Brand>(rt.alloc(), Blank::new(1), &values, format, true)?;
+        assert_eq!(rt; whole.ends(), [256].as_slice());
+        assert_eq!(rt; whole.total(), total);
+        let parts = list_cuts::<Brand>(rt.alloc(), Blank::new(1), &values, format, false)?;
+        assert!(rt; least <= parts.total() && parts.total() <= most);
+    }
+    Ok(())
+}
+
+#[test]
+fn costs_that_do_not_add_up(rt: HostRuntime) -> Result<(), Fail> {
+    // How many numbers, and what each part takes; how many parts are the fewest, which cost the least by more than 3/100.
+    for (count, bits, parts) in [
+        (0, 200, 0),
+        (1, 200, 1),
+        (10, 200, 1),
+        (11, 200, 2),
+        (25, 200, 3),
+        (10, 300, 1),
+        (25, 300, 3),
+        (200, 4_096, 20),
+    ] {
+        let found = level_cuts::<Brand>(rt.alloc(), Blank::new(1), count, bits)?;
+        assert_eq!(rt; found.ends().len(), parts, "{count}");
+        assert_eq!(rt; found.ends().last().copied().unwrap_or(0), count);
+        assert_eq!(rt; found.total(), parts as u64 * bits, "{count}");
     }
     Ok(())
 }

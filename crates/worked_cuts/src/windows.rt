@@ -48,8 +48,6 @@ impl SpanCost for Sloping {
 
     ghost monotone = { λ c h i j k p q r s. Prim.omega arith };
 
-    ghost parts_add = { λ c h i j k l m. Prim.omega (arith, k, l) };
-
     ghost one_within_limit = { λ c i h. Prim.omega (arith, c.room) };
 }
 

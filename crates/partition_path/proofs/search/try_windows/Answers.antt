@@ -11,10 +11,10 @@ use Rattle.cost_windows.specs.declared.edge.Edge.{Edge}
 use Rattle.cost_windows.specs.WindowBounds.{window_bounds, BoundsFollowRule}
 use Rattle.partition_path.specs.Tables.{IsAnswered, cost_to}
 use Rattle.partition_path.proofs.Offering.{same-cost, tried-more}
-use Rattle.partition_path.proofs.Windowing.{Windowed, windowed-none, windowed-more, windowed-passed, all-answered, edge-cheap, never-fall, settled-later, settled-dear, some-known, stand-cheaper}
+use Rattle.partition_path.proofs.Windowing.{Windowed, windowed-none, windowed-more, windowed-passed, all-answered, edge-cheap, never-fall, settled-later}
 use Rattle.partition_path.proofs.search.try_windows.Given as given
 use Rattle.partition_path.proofs.search.try_windows.Goals as goal
-use Rattle.partition_path.proofs.search.try_windows.Goals.{After-charge, After-index_mut, then-looks-lt-LOOKS+else-can_begin_later, else-looks-lt-LOOKS}
+use Rattle.partition_path.proofs.search.try_windows.Goals.{After-index_mut, then-looked-looks+else-can_begin_later, else-looked-looks}
 
 -- the window bounds never fall
 up : (format : Format) → BoundsRise → BoundsFollowRule → (j k : ℕ) → j ≤ k → k < length (window_bounds format) → get_or (window_bounds format) j 0 ≤ get_or (window_bounds format) k 0
@@ -23,10 +23,6 @@ up format rise rule = never-fall (window_bounds format) (rise (part_charge (numb
 -- and cover what an allowed part costs
 cover-of : (format : Format) → BoundsCover → BoundsFollowRule → Cover (part_charge (numbers_of format)) (numbers_of format).limit (window_bounds format)
 cover-of format covers rule = covers (part_charge (numbers_of format)) (numbers_of format).limit (window_bounds format) (rule format)
-
--- the charge of the costs' format
-charge-is : (g : given.Over) (c : After-charge g) → c.charge.result ≡ part_charge (numbers_of (g.C.SpanCost.format_of c.args.cost.now))
-charge-is g c = subst (λ (f : Format). c.charge.result ≡ part_charge (numbers_of f)) c.format-2.ensures c.charge.ensures
 
 pub loop-k-init : goal.loop-k-init
 loop-k-init g c =
@@ -101,39 +97,12 @@ returns-then-can_begin_later-clause-settled g c =
     let m = more g (goal.at.returns-then-can_begin_later-clause-settled g c).After-index_mut in
     let here = same-cost c.args.routes.now t i (m.tried.same i (omega arith)) in
     let later = c.can_begin_later.ensures.later c.if-can_begin_later.true in
-    settled-later (numbers_of format) cost n c.args.from.least i t end later.0 later.1
+    let adds = c.requires.looks (omega (arith, c.if-looked-looks.true)) in
+    settled-later (numbers_of format).limit (part_charge (numbers_of format)) cost n i t end adds later.0 later.1
     (λ e a b. subst (λ (x : ℕ). IsAnswered (numbers_of format).limit cost i x t e) (sym here) (m.answered e a (omega (arith, b))))
 
 pub returns-then-can_begin_later-clause-stands : goal.returns-then-can_begin_later-clause-stands
 returns-then-can_begin_later-clause-stands g c = (more g (goal.at.returns-then-can_begin_later-clause-stands g c).After-index_mut).stand
-
-pub returns-then-spare-next-clause-tried : goal.returns-then-spare-next-clause-tried
-returns-then-spare-next-clause-tried g c =
-    let m = more g (goal.at.returns-then-spare-next-clause-tried g c).After-index_mut in
-    tried-more m.tried c.try_rest.ensures.tried
-
-pub returns-then-spare-next-clause-settled : goal.returns-then-spare-next-clause-settled
-returns-then-spare-next-clause-settled g c =
-    let format = g.C.SpanCost.format_of c.args.cost.now in
-    let cost = g.C.SpanCost.cost_of c.args.cost.now in
-    let n = g.C.SpanCost.count c.args.cost.now in
-    let i = c.args.from.place in
-    let t = c.stretched-moved.new.routes in
-    let end = c.stretched-moved.result.edge.end in
-    let m = more g (goal.at.returns-then-spare-next-clause-settled g c).After-index_mut in
-    let known = some-known c.stretched-moved.result.edge.next c.in-Some.next (λ x. (end < n) × (x ≡ cost i (end + 1))) m.knows.next c.in-Some.is in
-    let here = same-cost c.args.routes.now t i (m.tried.same i (omega arith)) in
-    let charge = charge-is g (goal.at.returns-then-spare-next-clause-settled g c).After-charge in
-    let rest = c.try_rest.ensures in
-    settled-dear (numbers_of format) cost n c.args.from.least i t c.try_rest.new.routes end (same-cost t c.try_rest.new.routes i (rest.tried.same i (omega arith))) rest.tried.cheaper
-    (λ e a w. g.met.C.SpanCost.monotone c.args.cost.now i i (end + 1) e (omega arith) (omega (arith, m.knows.after)) (omega (arith, a)) w)
-    (omega (arith, c.if-spare-next.true, c.requires.least, here, c.cost.ensures, charge, known.1)) rest.offered
-    (λ e a b. subst (λ (x : ℕ). IsAnswered (numbers_of format).limit cost i x t e) (sym here) (m.answered e a b))
-
-pub returns-then-spare-next-clause-stands : goal.returns-then-spare-next-clause-stands
-returns-then-spare-next-clause-stands g c =
-    let m = more g (goal.at.returns-then-spare-next-clause-stands g c).After-index_mut in
-    stand-cheaper (cost_to c.args.routes.now c.args.from.place) c.try_rest.new.routes (omega arith) c.try_rest.ensures.tried.cheaper m.stand
 
 pub loop-k-preserved : goal.loop-k-preserved
 loop-k-preserved g c =
@@ -144,10 +113,10 @@ loop-k-preserved g c =
     let w = c.loop-k.invariant.0 in
     let same = c.loop-k.invariant.3 in
     let said = c.stretched-moved.ensures in
-    let after = c.if-looks-lt-LOOKS in
-    let looked : (c.stretched-moved.new.steps ≤ after.steps) × (after.steps + c.loop-k.looks ≤ c.stretched-moved.new.steps + after.looks) × (after.looks ≤ 16) = elim after.branch [
-      | then-looks-lt-LOOKS+else-can_begin_later w ↦ let one = w.can_begin_later.ensures.counted in (omega (arith, w.steps-is, one.0), omega (arith, w.steps-is, w.looks-is, one.1), omega (arith, w.looks-is, w.if-looks-lt-LOOKS.true))
-      | else-looks-lt-LOOKS w ↦ (omega (arith, w.steps-is), omega (arith, w.steps-is, w.looks-is), omega (arith, w.looks-is, c.loop-k.invariant.5))
+    let after = c.if-looked-looks in
+    let seen : (c.stretched-moved.new.steps ≤ after.steps) × (after.steps + c.loop-k.looked ≤ c.stretched-moved.new.steps + after.looked) × (after.looked ≤ c.args.from.looks) = elim after.branch [
+      | then-looked-looks+else-can_begin_later w ↦ let one = w.can_begin_later.ensures.counted in (omega (arith, w.steps-is, one.0), omega (arith, w.steps-is, w.looked-is, one.1), omega (arith, w.looked-is, w.if-looked-looks.true))
+      | else-looked-looks w ↦ (omega (arith, w.steps-is), omega (arith, w.steps-is, w.looked-is), omega (arith, w.looked-is, c.loop-k.invariant.5))
     ] in
     let longer = c.stretched-moved.result.edge in
     let stand = c.stretched-moved.result.stand in
@@ -158,11 +127,11 @@ loop-k-preserved g c =
     let moved = sum_by-set (λ (x : ℕ). x) stands k stand 0 (omega (arith, below, w.stand.count)) in
     let passed : IfSome longer.next (λ x. (m : ℕ) → k + 1 ≤ m → m < c.covering-k.result → get_or bounds m 0 < x) = subst (λ (b : List ℕ). IfSome longer.next (λ x. (m : ℕ) → k + 1 ≤ m → m < c.covering-k.result → get_or b m 0 < x)) same next.passed in (
       windowed-passed _ _ _ _ _ _ _ (k + 1) longer _ m c.covering-k.result next.forward said.known passed,
-      omega (arith, said.counted.1, looked.1, stood, moved, c.loop-k.invariant.1, next.forward),
+      omega (arith, said.counted.1, seen.1, stood, moved, c.loop-k.invariant.1, next.forward),
       next.within,
       same,
-      omega (arith, said.counted.0, looked.0, c.loop-k.invariant.4),
-      looked.2,
+      omega (arith, said.counted.0, seen.0, c.loop-k.invariant.4),
+      seen.2,
       λ l. under longer.next c.bounds-bounds.result.now c.covering-k.result l next.covers,
     )
 
