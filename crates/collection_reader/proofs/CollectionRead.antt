@@ -6,8 +6,8 @@ use Rattle.std.proofs.lemmas.List.{append-nil}
 use Rattle.collection_model.specs.FormatNumbers.{FormatNumbers, most_terms}
 use Rattle.collection_model.specs.Collection.{Posting, Collection, WellFormed, IsPostingList}
 use Rattle.collection_model.specs.Spelling.{Files, head_bytes, docs_bytes, freqs_bytes, spelled}
-use Rattle.pef_io.specs.declared.fail.Slot.{Slot}
-use Rattle.pef_io.specs.DepotState.{DepotState, StartedOnce, NoneStartedTwice, OnlyReads}
+use Rattle.io_traits.specs.declared.fail.Slot.{Slot}
+use Rattle.io_traits.specs.DepotState.{DepotState, StartedOnce, NoneStartedTwice, OnlyReads}
 use Rattle.collection_reader.specs.declared.fault.Fault.{Fault}
 use Rattle.collection_reader.specs.declared.fault.CollError.{CollError}
 use Rattle.collection_reader.specs.declared.fault.CollError.TheVariants.{Broken, Read, NoMemory}
@@ -21,7 +21,7 @@ use Rattle.collection_reader.proofs.Prefixes.{longest-from_blocked, longest-from
 use Rattle.collection_reader.proofs.Breaks.{zero-not, blocked-by_fault}
 use Rattle.collection_reader.proofs.FirstFaults.{one-first_fault, spelled-no_fault, prefix-head, none-first, match_bool-cases}
 use Rattle.collection_reader.proofs.ListsRead.{calls-then, read_fault-then, no_fault-at_ok, no_refusal-at_ok, not-ok, stay_started}
-use Rattle.pef_io.proofs.OnlyReads.{OnlyReads-trans, NoneStartedTwice-then, StartedOnce-then}
+use Rattle.io_traits.proofs.OnlyReads.{OnlyReads-trans, NoneStartedTwice-then, StartedOnce-then}
 use Rattle.collection_reader.proofs.Starts.{all-started}
 
 -- the files of a well-formed collection have no first fault, and files with one are of none

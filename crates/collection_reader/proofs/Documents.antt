@@ -8,8 +8,8 @@ use Rattle.std.proofs.lemmas.List.{get_or_append_left, get_or_push, length_push}
 use Rattle.std.proofs.lemmas.List.Elements.{All-push}
 use Rattle.collection_model.specs.Bytes.{le32}
 use Rattle.collection_model.proofs.Numbers.{AreNumbers}
-use Rattle.pef_io.specs.declared.fail.Slot.TheVariants.{Docs}
-use Rattle.pef_io.specs.DepotState.{DepotState}
+use Rattle.io_traits.specs.declared.fail.Slot.TheVariants.{Docs}
+use Rattle.io_traits.specs.DepotState.{DepotState}
 use Rattle.collection_reader.specs.declared.fault.Rule.{Rule}
 use Rattle.collection_reader.specs.declared.fault.Rule.TheVariants.{C1, C4, C5}
 use Rattle.collection_reader.specs.declared.fault.CollError.{CollError}

@@ -9,8 +9,8 @@ use Rattle.std.proofs.lemmas.List.Elements.{All-push}
 use Rattle.collection_model.specs.FormatNumbers.{FormatNumbers}
 use Rattle.collection_model.specs.Bytes.{le32}
 use Rattle.collection_model.proofs.Numbers.{AreNumbers}
-use Rattle.pef_io.specs.declared.fail.Slot.TheVariants.{Freqs}
-use Rattle.pef_io.specs.DepotState.{DepotState}
+use Rattle.io_traits.specs.declared.fail.Slot.TheVariants.{Freqs}
+use Rattle.io_traits.specs.DepotState.{DepotState}
 use Rattle.collection_reader.specs.declared.fault.Rule.{Rule}
 use Rattle.collection_reader.specs.declared.fault.Rule.TheVariants.{C1, C7, C8}
 use Rattle.collection_reader.specs.declared.fault.CollError.{CollError}

@@ -2,8 +2,8 @@ use Rattle.std.proofs.Common.{◌≡◌, refl, ◌∙◌, sym, ap, ℕ, ◌<◌,
 use Rattle.std.proofs.lemmas.List.{length-append}
 use Rattle.collection_model.specs.FormatNumbers.{FormatNumbers}
 use Rattle.collection_model.specs.Bytes.{le32}
-use Rattle.pef_io.specs.declared.fail.Slot.TheVariants.{Docs}
-use Rattle.pef_io.specs.DepotState.{DepotState}
+use Rattle.io_traits.specs.declared.fail.Slot.TheVariants.{Docs}
+use Rattle.io_traits.specs.DepotState.{DepotState}
 use Rattle.collection_reader.specs.declared.fault.CollError.{CollError}
 use Rattle.collection_reader.specs.declared.position.Position.{Position}
 use Rattle.collection_reader.specs.FirstFault.{head_fault, lacks}

@@ -3,8 +3,8 @@ use Rattle.std.proofs.Common.{◌≡◌, arith, inl, inr, ◌⊎◌, ◌<◌, Li
 use Rattle.std.proofs.lemmas.Bool.{cases_lt}
 use Rattle.collection_model.specs.FormatNumbers.{FormatNumbers}
 use Rattle.collection_model.specs.Collection.{Collection}
-use Rattle.pef_io.specs.declared.fail.Slot.{Slot}
-use Rattle.pef_io.specs.DepotState.{DepotState, WasStartedAs}
+use Rattle.io_traits.specs.declared.fail.Slot.{Slot}
+use Rattle.io_traits.specs.DepotState.{DepotState, WasStartedAs}
 use Rattle.collection_reader.specs.declared.fault.CollError.{CollError}
 use Rattle.collection_reader.specs.declared.fault.CollError.TheVariants.{Broken, Read, NoMemory}
 use Rattle.collection_reader.specs.Starting.{IsCollectionSlot, turn, names_under, StopsAt, StartsInOrder, StartedInTurn}

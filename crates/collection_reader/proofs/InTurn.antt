@@ -3,7 +3,7 @@ use Rattle.std.proofs.Common.{◌≡◌, refl, sym, ap, ◌∙◌, ℕ, ◌^◌,
 use Rattle.std.specs.List.{All}
 use Rattle.collection_model.specs.FormatNumbers.{FormatNumbers}
 use Rattle.collection_model.specs.Collection.{Posting, postings_of}
-use Rattle.pef_io.specs.DepotState.{DepotState}
+use Rattle.io_traits.specs.DepotState.{DepotState}
 use Rattle.collection_reader.specs.declared.fault.CollError.{CollError}
 use Rattle.collection_reader.specs.declared.fault.CollError.TheVariants.{NoMemory}
 use Rattle.collection_reader.specs.declared.phase.Phase.{Phase}
@@ -16,7 +16,7 @@ use Rattle.collection_reader.specs.ReadLists.{ReadsLists}
 use Rattle.collection_reader.specs.InTurn.{HasRead, HasReadAll, ReadsInTurn}
 use Rattle.collection_reader.proofs.ListsRead.{nothing-read, read-more, read-end, answered-list, stay_started, no_fault-at_ok, list-refused}
 use Rattle.collection_reader.proofs.CollectionRead.{refused, start-refused, lists-refused, sizes-refused, all-read}
-use Rattle.pef_io.proofs.OnlyReads.{OnlyReads-trans, NoneStartedTwice-then, StartedOnce-then}
+use Rattle.io_traits.proofs.OnlyReads.{OnlyReads-trans, NoneStartedTwice-then, StartedOnce-then}
 
 started-reading : (format : FormatNumbers) (base : List ℕ) (old new : DepotState) (r : Reading) → StartsReading format old new base (Ok r) → HasRead format base old new r [] Lists
 started-reading format base old new r starts = record {

@@ -3,7 +3,7 @@ use Rattle.std.proofs.Common.{◌≡◌, ◌≢◌, sym, subst, ℕ, ◌+◌, �
 use Rattle.std.specs.Int.{sum_through}
 use Rattle.collection_model.specs.FormatNumbers.{FormatNumbers, most_terms}
 use Rattle.collection_model.specs.Bytes.{AreBytes}
-use Rattle.pef_io.specs.declared.fail.Slot.TheVariants.{Docs}
+use Rattle.io_traits.specs.declared.fail.Slot.TheVariants.{Docs}
 use Rattle.collection_reader.specs.declared.fault.Rule.{Rule}
 use Rattle.collection_reader.specs.declared.fault.Rule.TheVariants.{C3, C9}
 use Rattle.collection_reader.specs.declared.fault.Fault.{Fault}

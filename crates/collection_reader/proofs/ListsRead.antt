@@ -9,9 +9,9 @@ use Rattle.collection_model.specs.Bytes.{number_sequence}
 use Rattle.collection_model.specs.Collection.{Posting, docs_of, freqs_of, postings_of, IsPostingList}
 use Rattle.collection_model.specs.Spelling.{docs_bytes, freqs_bytes}
 use Rattle.collection_model.proofs.Lists.{docs-of_postings, freqs-of_postings}
-use Rattle.pef_io.specs.declared.fail.Slot.{Slot}
-use Rattle.pef_io.specs.Calls.{Rose}
-use Rattle.pef_io.specs.DepotState.{DepotState, SameStarts, OnlyReads}
+use Rattle.io_traits.specs.declared.fail.Slot.{Slot}
+use Rattle.io_traits.specs.Calls.{Rose}
+use Rattle.io_traits.specs.DepotState.{DepotState, SameStarts, OnlyReads}
 use Rattle.collection_reader.specs.declared.fault.CollError.{CollError}
 use Rattle.collection_reader.specs.declared.fault.CollError.TheVariants.{Read, NoMemory}
 use Rattle.collection_reader.specs.declared.phase.Phase.TheVariants.{Lists, Ended}
@@ -21,7 +21,7 @@ use Rattle.collection_reader.specs.Starting.{AreStarted}
 use Rattle.collection_reader.specs.ReadCollection.{IsCollectionSlot}
 use Rattle.collection_reader.specs.Reading.{Reading, rests, after_lists, IsReadFault, IsNextFault, OnlyReadsCollection, ReadsList, GivesList, EndsLists}
 use Rattle.collection_reader.specs.ReadLists.{AtFirstList, HaveBeenRead, ReadsLists}
-use Rattle.pef_io.proofs.OnlyReads.{OnlyReads-trans, OnlyReads-same}
+use Rattle.io_traits.proofs.OnlyReads.{OnlyReads-trans, OnlyReads-same}
 use Rattle.collection_reader.proofs.Aligned.{held_push, aligned_push}
 
 pub docs_bytes-push : (lists : List (List Posting)) (docs freqs : List ℕ) → length docs ≡ length freqs → docs_bytes (lists ++ postings_of docs freqs ∷ []) ≡ docs_bytes lists ++ number_sequence docs

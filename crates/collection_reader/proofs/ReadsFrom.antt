@@ -1,10 +1,10 @@
 use Rattle.std.proofs.Common.{◌≡◌, refl, sym, ap, subst, ◌∙◌, arith, inl, inr, Result, Ok, Err}
-use Rattle.pef_io.specs.declared.fail.IoFail.{IoFail}
-use Rattle.pef_io.specs.declared.fail.IoFail.TheVariants as call
-use Rattle.pef_io.specs.Calls.{Rose}
-use Rattle.pef_io.specs.declared.fail.Slot.{Slot}
-use Rattle.pef_io.specs.DepotState.{DepotState}
-use Rattle.pef_io.proofs.OnlyReads.{OnlyReads-trans, OnlyReads-wider}
+use Rattle.io_traits.specs.declared.fail.IoFail.{IoFail}
+use Rattle.io_traits.specs.declared.fail.IoFail.TheVariants as call
+use Rattle.io_traits.specs.Calls.{Rose}
+use Rattle.io_traits.specs.declared.fail.Slot.{Slot}
+use Rattle.io_traits.specs.DepotState.{DepotState}
+use Rattle.io_traits.proofs.OnlyReads.{OnlyReads-trans, OnlyReads-wider}
 use Rattle.held_pieces.specs.Pieces.{ReadsOn}
 use Rattle.held_pieces.proofs.SlotReads.{refused-not_at_ok, refused-not_at_failed, faults-on, same-at_ok}
 use Rattle.collection_reader.specs.declared.fault.CollError.{CollError}

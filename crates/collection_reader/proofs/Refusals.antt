@@ -1,6 +1,6 @@
 -- A reader keeps its first refusal.
 use Rattle.std.proofs.Common.{◌≡◌, refl, List, [], ℕ, Ok, Err, Some, Result, true, false}
-use Rattle.pef_io.specs.DepotState.{DepotState}
+use Rattle.io_traits.specs.DepotState.{DepotState}
 use Rattle.collection_reader.specs.declared.fault.CollError.{CollError}
 use Rattle.collection_reader.specs.Reading.{Reading, ReadsList, ReadsSizes}
 use Rattle.collection_reader.specs.OneReader.{TriesList, TriesEnd}

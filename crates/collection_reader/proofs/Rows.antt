@@ -1,7 +1,7 @@
 use Rattle.std.proofs.Common.{◌≡◌, refl, ℕ, zero, suc, [], ◌∷◌, ◌++◌, ◌<◌, ◌≤◌, lit<, Some, None, inl, inr, replicate, arith, ap}
 use Rattle.collection_model.specs.FormatNumbers.{FormatNumbers, format_one, format_two}
 use Rattle.collection_model.specs.Bytes.{number_sequence, le32}
-use Rattle.pef_io.specs.declared.fail.Slot.TheVariants.{Docs, Freqs, Sizes}
+use Rattle.io_traits.specs.declared.fail.Slot.TheVariants.{Docs, Freqs, Sizes}
 use Rattle.collection_reader.specs.declared.fault.Rule.{Rule}
 use Rattle.collection_reader.specs.declared.fault.Rule.TheVariants.{C1, C2, C3, C4, C5, C6, C7, C8, C10, C11, C12}
 use Rattle.collection_reader.specs.FirstFault.{head_fault, end_fault, freq_break, doc_break, IsListFault}

@@ -1,8 +1,8 @@
 -- The sizes, as they are read one after another to the end of their file.
 use Rattle.std.proofs.Common.{◌≡◌, refl, ◌∙◌, sym, ap, ℕ, ◌^◌, ◌*◌, ◌/◌, ◌<◌, ◌+◌, ◌-◌, List, [], length, arith, IsTrue, Ok, Err, Some, true, false, Bool, nat_lt, length-append}
 use Rattle.std.proofs.lemmas.Bool.{lt-ltb}
-use Rattle.pef_io.specs.declared.fail.Slot.TheVariants.{Sizes}
-use Rattle.pef_io.specs.DepotState.{DepotState}
+use Rattle.io_traits.specs.declared.fail.Slot.TheVariants.{Sizes}
+use Rattle.io_traits.specs.DepotState.{DepotState}
 use Rattle.collection_reader.specs.declared.fault.Rule.TheVariants.{C1, C12}
 use Rattle.collection_reader.specs.declared.fault.CollError.{CollError}
 use Rattle.collection_reader.specs.declared.fault.CollError.TheVariants.{Broken}

@@ -1,9 +1,9 @@
 -- How the three files of a collection are started, and the head is read.
 use Rattle.std.proofs.Common.{◌≡◌, refl, ◌∙◌, sym, ap, subst, ℕ, ◌<◌, ◌≤◌, ◌⊎◌, ◌++◌, arith, inl, inr, IsTrue, List, [], Ok, Err, Result}
 use Rattle.std.specs.Prelude.{unwrap_or, codes}
-use Rattle.pef_io.specs.declared.fail.Slot.{Slot}
-use Rattle.pef_io.specs.declared.fail.Slot.TheVariants.{Docs, Freqs, Sizes, Index, Side, Map}
-use Rattle.pef_io.specs.DepotState.{DepotState, NoneStartedTwice, OnlyReads, WasStartedAs}
+use Rattle.io_traits.specs.declared.fail.Slot.{Slot}
+use Rattle.io_traits.specs.declared.fail.Slot.TheVariants.{Docs, Freqs, Sizes, Index, Side, Map}
+use Rattle.io_traits.specs.DepotState.{DepotState, NoneStartedTwice, OnlyReads, WasStartedAs}
 use Rattle.collection_reader.specs.declared.fault.Fault.{Fault}
 use Rattle.collection_reader.specs.declared.fault.CollError.{CollError}
 use Rattle.collection_reader.specs.declared.fault.CollError.TheVariants.{Broken, Read, NoMemory}
@@ -15,7 +15,7 @@ use Rattle.collection_reader.specs.OneFile.{StartsFrom}
 use Rattle.collection_reader.specs.OneSequence.{ReadsHead}
 use Rattle.collection_reader.specs.OneReader.{StartsFile, StartsFiles}
 use Rattle.collection_reader.proofs.SameAnswer.{same-fault}
-use Rattle.pef_io.proofs.OnlyReads.{OnlyReads-trans, OnlyReads-wider, NoneStartedTwice-same, NoneStartedTwice-then, NoneStartedTwice-start, StartedOnce-then, was-started-then, then-was-started}
+use Rattle.io_traits.proofs.OnlyReads.{OnlyReads-trans, OnlyReads-wider, NoneStartedTwice-same, NoneStartedTwice-then, NoneStartedTwice-start, StartedOnce-then, was-started-then, then-was-started}
 use Rattle.collection_reader.proofs.ReadsFrom.{as-starts, starts-then, starts-wider, starts-err}
 
 -- the slots of a collection, and that they differ

@@ -1,7 +1,7 @@
 -- What a reader does behind the last list, from what it does in each file.
 use Rattle.std.proofs.Common.{refl, ◌∙◌, sym, ap, ℕ, ◌++◌, List, [], Ok, Err, Result, Bool, false}
-use Rattle.pef_io.specs.declared.fail.Slot.TheVariants.{Docs, Freqs, Sizes}
-use Rattle.pef_io.specs.DepotState.{DepotState}
+use Rattle.io_traits.specs.declared.fail.Slot.TheVariants.{Docs, Freqs, Sizes}
+use Rattle.io_traits.specs.DepotState.{DepotState}
 use Rattle.collection_reader.specs.declared.fault.CollError.{CollError}
 use Rattle.collection_reader.specs.FirstFault.{end_fault}
 use Rattle.collection_reader.specs.Reading.{Reading, rests}
@@ -9,7 +9,7 @@ use Rattle.collection_reader.specs.OneFile.{LooksAhead}
 use Rattle.collection_reader.specs.OneSequence.{ReadsToEnd}
 use Rattle.collection_reader.specs.OneReader.{TriesEnd}
 use Rattle.collection_reader.proofs.SameAnswer.{same-fault}
-use Rattle.pef_io.proofs.OnlyReads.{OnlyReads-trans, OnlyReads-wider}
+use Rattle.io_traits.proofs.OnlyReads.{OnlyReads-trans, OnlyReads-wider}
 use Rattle.collection_reader.proofs.ReadsFrom.{reads-then, reads-wider, answers-err}
 use Rattle.collection_reader.proofs.Starts.{freqs-is, sizes-is, freqs-last, sizes-last, docs-not_freqs, docs-not_sizes, freqs-not_sizes, sizes-not_freqs}
 

@@ -5,8 +5,8 @@ use Rattle.std.proofs.lemmas.List.Elements.{All-weaker}
 use Rattle.collection_model.specs.FormatNumbers.{FormatNumbers, most_terms}
 use Rattle.collection_model.specs.Bytes.{number_sequence}
 use Rattle.collection_model.proofs.Lists.{docs-of_postings, freqs-of_postings}
-use Rattle.pef_io.specs.declared.fail.Slot.TheVariants.{Docs, Freqs, Sizes}
-use Rattle.pef_io.specs.DepotState.{DepotState}
+use Rattle.io_traits.specs.declared.fail.Slot.TheVariants.{Docs, Freqs, Sizes}
+use Rattle.io_traits.specs.DepotState.{DepotState}
 use Rattle.collection_reader.specs.declared.fault.Rule.{Rule}
 use Rattle.collection_reader.specs.declared.fault.Fault.{Fault}
 use Rattle.collection_reader.specs.declared.fault.CollError.{CollError}
@@ -17,7 +17,7 @@ use Rattle.collection_reader.specs.OneFile.{LooksAhead}
 use Rattle.collection_reader.specs.OneSequence.{IsDocsFault, IsFreqsFault, ReadsDocuments, ReadsFrequencies}
 use Rattle.collection_reader.specs.OneReader.{TriesList}
 use Rattle.collection_reader.proofs.SameAnswer.{same-fault}
-use Rattle.pef_io.proofs.OnlyReads.{OnlyReads-trans, OnlyReads-wider}
+use Rattle.io_traits.proofs.OnlyReads.{OnlyReads-trans, OnlyReads-wider}
 use Rattle.collection_reader.proofs.ReadsFrom.{reads-then, reads-wider, answers-err, answers-ok}
 use Rattle.collection_reader.proofs.Breaks.{docs-none}
 use Rattle.collection_reader.proofs.Begun.{begun-claim, begun-there}

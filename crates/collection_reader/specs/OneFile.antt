@@ -1,10 +1,10 @@
 use Rattle.std.specs.Prelude.{◌≡◌, ℕ, Bool, ◌^◌, ◌<◌, ◌⊎◌, true, false, IsTrue, List, [], ◌++◌, length, Result, Ok, Err, IfOk, OnOk}
 use Rattle.collection_model.specs.Bytes.{le32}
-use Rattle.pef_io.specs.declared.fail.IoFail.{IoFail}
-use Rattle.pef_io.specs.declared.fail.IoFail.TheVariants.{Failed, NoMemory}
-use Rattle.pef_io.specs.declared.fail.Slot.{Slot}
-use Rattle.pef_io.specs.Calls.{Rose}
-use Rattle.pef_io.specs.DepotState.{DepotState, SameStarts, OnlyReads}
+use Rattle.io_traits.specs.declared.fail.IoFail.{IoFail}
+use Rattle.io_traits.specs.declared.fail.IoFail.TheVariants.{Failed, NoMemory}
+use Rattle.io_traits.specs.declared.fail.Slot.{Slot}
+use Rattle.io_traits.specs.Calls.{Rose}
+use Rattle.io_traits.specs.DepotState.{DepotState, SameStarts, OnlyReads}
 use Rattle.held_pieces.specs.Pieces.{rest_of}
 use Rattle.collection_reader.specs.declared.fault.Rule.TheVariants.{C1}
 use Rattle.collection_reader.specs.declared.fault.Fault.{Fault}

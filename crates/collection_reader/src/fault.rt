@@ -1,6 +1,6 @@
 ghost use Rattle.std.specs.Prelude.{◌≡◌};
 
-use pef_io::{IoFail, Slot};
+use io_traits::{IoFail, Slot};
 use std::alloc::{AllocError, AllocFailed};
 
 /// The rules of a collection's files.

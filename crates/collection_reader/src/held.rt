@@ -4,7 +4,7 @@ ghost use Rattle.collection_reader.specs.OneFile.{LooksAhead, TakesNumber};
 use crate::fault::{CollError, Rule};
 use crate::position::Position;
 use held_pieces::Held;
-use pef_io::{Depot, Slot};
+use io_traits::{Depot, Slot};
 
 // Whether the file has a byte left.
 pub(crate) fn has_byte<D: Depot>(

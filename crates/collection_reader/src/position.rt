@@ -2,7 +2,7 @@ ghost use Rattle.std.specs.Prelude.{◌≡◌};
 ghost use Rattle.collection_reader.specs.declared.fault.CollError.TheVariants.{Broken};
 
 use crate::fault::{CollError, Fault, Rule};
-use pef_io::Slot;
+use io_traits::Slot;
 
 // A place in a sequence of a term's file, counted from 0.
 #[derive(Clone, Copy)]

@@ -12,8 +12,8 @@ use crate::position::Position;
 use crate::sequences::{Expected, read_documents, read_frequencies, read_head, read_sizes};
 use crate::start::start_files;
 use held_pieces::Held;
+use io_traits::{Depot, Slot};
 use part_cost::Format;
-use pef_io::{Depot, Slot};
 use std::alloc::Global;
 use std::marker::Model;
 

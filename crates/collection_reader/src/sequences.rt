@@ -1,14 +1,14 @@
 ghost use Rattle.std.specs.Prelude.{◌≡◌, ◌≤◌, [], IsTrue};
 ghost use Rattle.part_cost.specs.Formats.{numbers_of};
-ghost use Rattle.pef_io.specs.declared.fail.Slot.TheVariants.{Docs, Freqs, Sizes};
+ghost use Rattle.io_traits.specs.declared.fail.Slot.TheVariants.{Docs, Freqs, Sizes};
 ghost use Rattle.collection_reader.specs.OneSequence.{ReadsHead, ReadsDocuments, ReadsFrequencies, ReadsToEnd};
 
 use crate::fault::{CollError, Rule};
 use crate::held::{has_byte, read_number};
 use crate::position::Position;
 use held_pieces::Held;
+use io_traits::{Depot, Slot};
 use part_cost::Format;
-use pef_io::{Depot, Slot};
 
 // Reads the number of documents at the head of the file of documents, at most as many as the format has room for.
 pub(crate) fn read_head<D: Depot>(

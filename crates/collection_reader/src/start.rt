@@ -2,7 +2,7 @@ ghost use Rattle.std.specs.Prelude.{◌++◌};
 ghost use Rattle.collection_reader.specs.OneReader.{StartsFile, StartsFiles};
 
 use crate::fault::CollError;
-use pef_io::{Depot, Slot};
+use io_traits::{Depot, Slot};
 use std::alloc::Global;
 
 // Starts the file whose name is `base` with this ending.

@@ -8,8 +8,8 @@ ghost use Rattle.part_cost.specs.Formats.{numbers_of};
 use crate::collection::Collection;
 use crate::fault::CollError;
 use crate::reader::ListReader;
+use io_traits::Depot;
 use part_cost::{Format, formats_have_room};
-use pef_io::Depot;
 use std::alloc::Global;
 
 // The documents and the frequencies of each list.

@@ -1,11 +1,11 @@
 -- What a run leaves that wrote bytes as the file of a slot behind a source that was read, or stopped at that.
 use Rattle.std.proofs.Common.{refl, ◌≡◌, ℕ, arith, List, ◌⊎◌}
 use Rattle.std.specs.Prelude.{Some, IsTrue}
-use Rattle.pef_io.specs.declared.fail.Slot.{Slot}
-use Rattle.pef_io.specs.Calls.{Rose}
-use Rattle.pef_io.specs.SourceState.{SourceState}
-use Rattle.pef_io.specs.SinkState.{SinkState}
-use Rattle.pef_io.specs.DepotState.{DepotState, OnlyReads}
+use Rattle.io_traits.specs.declared.fail.Slot.{Slot}
+use Rattle.io_traits.specs.Calls.{Rose}
+use Rattle.io_traits.specs.SourceState.{SourceState}
+use Rattle.io_traits.specs.SinkState.{SinkState}
+use Rattle.io_traits.specs.DepotState.{DepotState, OnlyReads}
 use Rattle.command_model.specs.Written.{IsWritten, IsUnwritten, IsWrittenInPart, IsBeingWritten, IsLeftByFault}
 use Rattle.word_files.specs.WriteFile.{WritesBytes}
 use Rattle.outcomes.specs.Outside.{Outside, outside, OfWriting}

@@ -4,13 +4,13 @@ use Rattle.std.specs.Prelude.{IsTrue, Some, Result, Ok, Err}
 use Rattle.std.specs.List.{All}
 use Rattle.std.proofs.lemmas.List.Elements.{All-get_or}
 use Rattle.collection_model.specs.Spelling.{Files}
-use Rattle.pef_io.specs.declared.fail.IoFail.{IoFail}
-use Rattle.pef_io.specs.declared.fail.IoFail.TheVariants as call
-use Rattle.pef_io.specs.declared.fail.Slot.{Slot}
-use Rattle.pef_io.specs.Calls.{Rose}
-use Rattle.pef_io.specs.SourceState.{SourceState}
-use Rattle.pef_io.specs.SinkState.{SinkState}
-use Rattle.pef_io.specs.DepotState.{DepotState, OnlyReads}
+use Rattle.io_traits.specs.declared.fail.IoFail.{IoFail}
+use Rattle.io_traits.specs.declared.fail.IoFail.TheVariants as call
+use Rattle.io_traits.specs.declared.fail.Slot.{Slot}
+use Rattle.io_traits.specs.Calls.{Rose}
+use Rattle.io_traits.specs.SourceState.{SourceState}
+use Rattle.io_traits.specs.SinkState.{SinkState}
+use Rattle.io_traits.specs.DepotState.{DepotState, OnlyReads}
 use Rattle.collection_reader.specs.ReadCollection.{IsCollectionSlot, files_at}
 use Rattle.collection_reader.specs.Starting.{turn}
 use Rattle.command_model.specs.FilesWritten.{NamedFile, AreWritten, IsNotBegun, StopsAtFile, FileLeftByFault}

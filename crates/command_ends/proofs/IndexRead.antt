@@ -3,8 +3,8 @@ use Rattle.std.proofs.Common.{ap, ◌≡◌, ℕ, ◌≤◌, refl, sym, ◌∙�
 use Rattle.std.specs.Prelude.{None, ◌≢◌, ◌⊎◌, ◌%◌, ◌==◌, not, Bool, true, false, IsTrue, MatchBool, Ok, Err}
 use Rattle.collection_model.specs.Collection.{Collection}
 use Rattle.part_cost.specs.Formats.{numbers_of}
-use Rattle.pef_io.specs.declared.fail.Slot.TheVariants.{Index}
-use Rattle.pef_io.specs.DepotState.{DepotState, bytes_under}
+use Rattle.io_traits.specs.declared.fail.Slot.TheVariants.{Index}
+use Rattle.io_traits.specs.DepotState.{DepotState, bytes_under}
 use Rattle.index_file.specs.declared.fault.OpenFault.{OpenFault}
 use Rattle.index_file.specs.FileWords.{IsIndex, Spells, file_words}
 use Rattle.index_file.specs.FirstBroken.{IsFirstBroken}

@@ -6,8 +6,8 @@ use Rattle.collection_model.specs.Bytes.{word_bytes}
 use Rattle.collection_model.specs.Collection.{Collection, WellFormed}
 use Rattle.part_cost.specs.declared.formats.Format.{Format}
 use Rattle.part_cost.specs.Formats.{numbers_of}
-use Rattle.pef_io.specs.declared.fail.Slot.TheVariants.{Index}
-use Rattle.pef_io.specs.DepotState.{DepotState, bytes_under}
+use Rattle.io_traits.specs.declared.fail.Slot.TheVariants.{Index}
+use Rattle.io_traits.specs.DepotState.{DepotState, bytes_under}
 use Rattle.index_file.specs.FileWords.{ListParts, file_words}
 use Rattle.command_model.specs.Found.{AreOfWords}
 use Rattle.index_file.specs.declared.builder.FinishError.{FinishError}

@@ -1,8 +1,8 @@
 -- What a run leaves that made something behind a source that was read, whatever it made.
 use Rattle.std.proofs.Common.{◌≡◌, ◌∙◌, ap, inr, arith}
 use Rattle.std.specs.Prelude.{◌⊎◌, not, false, Err}
-use Rattle.pef_io.specs.declared.fail.Slot.{Slot}
-use Rattle.pef_io.specs.DepotState.{DepotState, SameSlots, SameStarts}
+use Rattle.io_traits.specs.declared.fail.Slot.{Slot}
+use Rattle.io_traits.specs.DepotState.{DepotState, SameSlots, SameStarts}
 use Rattle.outcomes.specs.declared.stop.Stop.TheVariants.{NoMemory}
 use Rattle.outcomes.specs.Outside.{Outside, OfWriting, OfInput, OfOut}
 use Rattle.outcomes.specs.Outcome.{Outcome, is_refusal}

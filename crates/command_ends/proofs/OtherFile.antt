@@ -4,8 +4,8 @@ use Rattle.std.specs.Prelude.{Some}
 use Rattle.std.specs.List.{Contains}
 use Rattle.collection_model.specs.FormatNumbers.{FormatNumbers, Plain}
 use Rattle.part_cost.specs.Formats.{numbers_of}
-use Rattle.pef_io.specs.declared.fail.Slot.TheVariants.{Index}
-use Rattle.pef_io.specs.DepotState.{DepotState}
+use Rattle.io_traits.specs.declared.fail.Slot.TheVariants.{Index}
+use Rattle.io_traits.specs.DepotState.{DepotState}
 use Rattle.sequence_words.specs.declared.check.Check.TheVariants.{K2}
 use Rattle.index_file.specs.declared.fault.OpenFault.{OpenFault}
 use Rattle.index_file.specs.PlainWords.{opening_magic}

@@ -3,12 +3,12 @@ use Rattle.std.proofs.Common.{◌≡◌, ℕ, arith, refl, sym, ap, subst, inl, 
 use Rattle.std.specs.Prelude.{◌≢◌, ◌⊎◌, true, IsTrue, None, Result, Err}
 use Rattle.std.proofs.lemmas.List.{append-nil}
 use Rattle.collection_model.specs.Collection.{Collection}
-use Rattle.pef_io.specs.declared.fail.Slot.{Slot}
-use Rattle.pef_io.specs.declared.fail.Slot.TheVariants.{Index}
-use Rattle.pef_io.specs.DepotState.{DepotState, OnlyReads}
-use Rattle.pef_io.specs.SourceState.{SourceState}
-use Rattle.pef_io.specs.SinkState.{SinkState}
-use Rattle.pef_io.proofs.OnlyReads.{OnlyReads-same}
+use Rattle.io_traits.specs.declared.fail.Slot.{Slot}
+use Rattle.io_traits.specs.declared.fail.Slot.TheVariants.{Index}
+use Rattle.io_traits.specs.DepotState.{DepotState, OnlyReads}
+use Rattle.io_traits.specs.SourceState.{SourceState}
+use Rattle.io_traits.specs.SinkState.{SinkState}
+use Rattle.io_traits.proofs.OnlyReads.{OnlyReads-same}
 use Rattle.outcomes.specs.Outside.{Outside, outside, NoCallFailed, OfFile}
 use Rattle.outcomes.specs.declared.stop.Stop.TheVariants.{NoMemory, TooLarge}
 use Rattle.outcomes.specs.Outcome.{Outcome, done, fault_of, is_refusal}

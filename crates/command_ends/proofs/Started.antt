@@ -1,9 +1,9 @@
 -- What a run starts, and what memory its depot is refused.
 use Rattle.std.proofs.Common.{◌≡◌, ℕ, List, arith}
 use Rattle.std.specs.Prelude.{◌⊎◌, Result, Err}
-use Rattle.pef_io.specs.declared.fail.Slot.{Slot}
-use Rattle.pef_io.specs.DepotState.{DepotState, SameStarts}
-use Rattle.pef_io.proofs.OnlyReads.{NoneStartedTwice-then, StartedOnce-then}
+use Rattle.io_traits.specs.declared.fail.Slot.{Slot}
+use Rattle.io_traits.specs.DepotState.{DepotState, SameStarts}
+use Rattle.io_traits.proofs.OnlyReads.{NoneStartedTwice-then, StartedOnce-then}
 use Rattle.collection_reader.specs.Starting.{StartedInTurn}
 use Rattle.word_files.specs.declared.loading.LoadWordsError.{LoadWordsError}
 use Rattle.word_files.specs.declared.loading.LoadWordsError.TheVariants as loading

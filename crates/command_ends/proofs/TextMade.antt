@@ -15,9 +15,9 @@ use Rattle.text_replies.specs.declared.text.RunFault.TheVariants as answering
 use Rattle.text_replies.specs.AnswerText.{AnswersText}
 use Rattle.outcomes.specs.Ends.{OrTooLarge}
 use Rattle.command_ends.specs.AnsweredText.{AnswersInput, MustAnswer, longest_text}
-use Rattle.pef_io.specs.SourceState.{SourceState}
-use Rattle.pef_io.specs.SinkState.{SinkState}
-use Rattle.pef_io.specs.DepotState.{DepotState}
+use Rattle.io_traits.specs.SourceState.{SourceState}
+use Rattle.io_traits.specs.SinkState.{SinkState}
+use Rattle.io_traits.specs.DepotState.{DepotState}
 use Rattle.command_ends.specs.Sources.{Source, Finds, Starts}
 use Rattle.command_ends.specs.Products.{Completes, Does, Replies, Text}
 use Rattle.command_ends.specs.Steps.AtSource.{IsRead}

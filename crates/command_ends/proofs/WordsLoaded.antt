@@ -1,8 +1,8 @@
 -- The words of a file that a run loads from a slot, or does not.
 use Rattle.std.proofs.Common.{◌≡◌, ℕ, ◌*◌, ◌≤◌, arith, ◌∙◌, ap, List, length}
 use Rattle.std.specs.Prelude.{◌%◌, Ok, Err}
-use Rattle.pef_io.specs.declared.fail.Slot.{Slot}
-use Rattle.pef_io.specs.DepotState.{DepotState}
+use Rattle.io_traits.specs.declared.fail.Slot.{Slot}
+use Rattle.io_traits.specs.DepotState.{DepotState}
 use Rattle.index_file.specs.Builder.{most_words}
 use Rattle.command_model.specs.Found.{AreOfWords, most_bytes}
 use Rattle.command_model.proofs.WordBytes.{word_bytes-length}

@@ -3,7 +3,7 @@ use Rattle.collection_model.specs.FormatNumbers.{FormatNumbers}
 use Rattle.collection_model.specs.Collection.{Collection, WellFormed}
 use Rattle.part_cost.specs.declared.formats.Format.{Format}
 use Rattle.part_cost.specs.Formats.{numbers_of}
-use Rattle.pef_io.specs.DepotState.{DepotState, bytes_under}
+use Rattle.io_traits.specs.DepotState.{DepotState, bytes_under}
 use Rattle.sequence_words.specs.declared.check.Check.TheVariants.{K1}
 use Rattle.index_file.specs.declared.fault.OpenFault.{OpenFault}
 use Rattle.index_file.specs.FileWords.{ListParts, file_words, ArePartitions}

@@ -2,9 +2,9 @@ use Rattle.std.specs.Prelude.{◌≡◌, ℕ, ◌≤◌, ◌%◌, ◌==◌, ◌�
 use Rattle.collection_model.specs.Collection.{Collection}
 use Rattle.part_cost.specs.declared.formats.Format.{Format}
 use Rattle.part_cost.specs.Formats.{numbers_of}
-use Rattle.pef_io.specs.declared.fail.Slot.{Slot}
-use Rattle.pef_io.specs.declared.fail.Slot.TheVariants.{Side}
-use Rattle.pef_io.specs.DepotState.{DepotState, bytes_under}
+use Rattle.io_traits.specs.declared.fail.Slot.{Slot}
+use Rattle.io_traits.specs.declared.fail.Slot.TheVariants.{Side}
+use Rattle.io_traits.specs.DepotState.{DepotState, bytes_under}
 use Rattle.index_file.specs.FileWords.{ListParts}
 use Rattle.block_max.specs.declared.fault.SideCheck.TheVariants.{S1}
 use Rattle.block_max.specs.declared.fault.SideFault.{SideFault}

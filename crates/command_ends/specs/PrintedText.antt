@@ -1,5 +1,5 @@
 use Rattle.std.specs.Prelude.{◌≡◌, ℕ, ◌⊎◌, ◌++◌, IsTrue, List, Err, Ok}
-use Rattle.pef_io.specs.Helpers.{AppendsPrefix}
+use Rattle.io_traits.specs.Helpers.{AppendsPrefix}
 use Rattle.outcomes.specs.Outside.{Outside}
 use Rattle.outcomes.specs.declared.stop.Stop.TheVariants.{OutFault, NoMemory}
 use Rattle.outcomes.specs.Outcome.{Outcome}

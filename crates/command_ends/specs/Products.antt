@@ -1,8 +1,8 @@
 -- What a command makes, and all that is known of its run by that and by what it reads.
 use Rattle.std.specs.Prelude.{◌≡◌, ◌⊎◌, Bool, true, false}
-use Rattle.pef_io.specs.declared.fail.Slot.{Slot}
-use Rattle.pef_io.specs.declared.fail.Slot.TheVariants.{Index}
-use Rattle.pef_io.specs.DepotState.{OnlyReads}
+use Rattle.io_traits.specs.declared.fail.Slot.{Slot}
+use Rattle.io_traits.specs.declared.fail.Slot.TheVariants.{Index}
+use Rattle.io_traits.specs.DepotState.{OnlyReads}
 use Rattle.collection_reader.specs.ReadCollection.{IsCollectionSlot}
 use Rattle.outcomes.specs.Outside.{Outside, NoCallFailed}
 use Rattle.outcomes.specs.Outcome.{Outcome, done}

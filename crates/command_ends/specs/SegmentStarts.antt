@@ -1,9 +1,9 @@
 use Rattle.std.specs.Prelude.{◌≡◌, ◌⊎◌, ⊤, ℕ, zero, suc, ◌<◌, ◌≤◌, ◌++◌, IsTrue, List, length, take, Err}
-use Rattle.pef_io.specs.declared.fail.Slot.{Slot}
-use Rattle.pef_io.specs.declared.fail.Slot.TheVariants.{Index}
-use Rattle.pef_io.specs.Calls.{one_more}
-use Rattle.pef_io.specs.Starting.{Starting}
-use Rattle.pef_io.specs.DepotState.{DepotState, bytes_under}
+use Rattle.io_traits.specs.declared.fail.Slot.{Slot}
+use Rattle.io_traits.specs.declared.fail.Slot.TheVariants.{Index}
+use Rattle.io_traits.specs.Calls.{one_more}
+use Rattle.io_traits.specs.Starting.{Starting}
+use Rattle.io_traits.specs.DepotState.{DepotState, bytes_under}
 use Rattle.command_model.specs.Found.{IsIndexSlot, most_bytes}
 use Rattle.outcomes.specs.declared.stop.Stop.TheVariants.{BrokenSegment, UnfitSegment, FileFault, NoMemory, TooLarge}
 use Rattle.outcomes.specs.Outcome.{Outcome}

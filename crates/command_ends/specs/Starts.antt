@@ -1,6 +1,6 @@
 use Rattle.std.specs.Prelude.{◌≡◌, ◌≢◌, ◌⊎◌, ℕ, List, Err}
-use Rattle.pef_io.specs.declared.fail.Slot.{Slot}
-use Rattle.pef_io.specs.DepotState.{DepotState, StartedOnce, NoneStartedTwice}
+use Rattle.io_traits.specs.declared.fail.Slot.{Slot}
+use Rattle.io_traits.specs.DepotState.{DepotState, StartedOnce, NoneStartedTwice}
 use Rattle.collection_reader.specs.Starting.{StartedInTurn}
 use Rattle.outcomes.specs.declared.stop.Stop.TheVariants.{FileFault, NoMemory}
 use Rattle.outcomes.specs.Outcome.{Outcome}

@@ -3,7 +3,7 @@ use Rattle.collection_model.specs.Bytes.{word_bytes}
 use Rattle.collection_model.specs.Collection.{Collection}
 use Rattle.part_cost.specs.declared.formats.Format.{Format}
 use Rattle.part_cost.specs.Formats.{numbers_of}
-use Rattle.pef_io.specs.declared.fail.Slot.TheVariants.{Index}
+use Rattle.io_traits.specs.declared.fail.Slot.TheVariants.{Index}
 use Rattle.index_file.specs.FileWords.{ListParts, file_words}
 use Rattle.outcomes.specs.Outside.{Outside}
 use Rattle.outcomes.specs.Outcome.{Outcome}

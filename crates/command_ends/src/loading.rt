@@ -1,13 +1,13 @@
 ghost use Rattle.std.specs.Prelude.{◌≡◌, IfErr, IfOk};
-ghost use Rattle.pef_io.specs.DepotState.{StartedOnce};
+ghost use Rattle.io_traits.specs.DepotState.{StartedOnce};
 ghost use Rattle.command_model.specs.Found.{IsIndexSlot};
 ghost use Rattle.outcomes.specs.Stops.{stop_of_index};
 ghost use Rattle.command_ends.specs.Steps.LoadedIndex.{IsLoaded, IsUnloaded};
 
 use index_file::{OpenFault, one_broken_check, words_and_bytes_undo_each_other};
+use io_traits::{Depot, Slot};
 use open_index::OpenIndex;
 use outcomes::{Stop, stop_of_loading};
-use pef_io::{Depot, Slot};
 use std::alloc::Global;
 use two_level::Check;
 use word_files::{LoadWordsError, load_words};

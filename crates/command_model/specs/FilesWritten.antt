@@ -1,9 +1,9 @@
 -- Several files that are written one after the other.
 use Rattle.std.specs.Prelude.{◌≡◌, ◌≢◌, ℕ, ◌<◌, ◌≤◌, ◌⊎◌, false, IsTrue, List, [], length, take, Some, slice_index_or}
 use Rattle.std.specs.List.{All}
-use Rattle.pef_io.specs.declared.fail.Slot.{Slot}
-use Rattle.pef_io.specs.Calls.{Rose}
-use Rattle.pef_io.specs.DepotState.{DepotState, SameSlots, SameStarts, SameWriting}
+use Rattle.io_traits.specs.declared.fail.Slot.{Slot}
+use Rattle.io_traits.specs.Calls.{Rose}
+use Rattle.io_traits.specs.DepotState.{DepotState, SameSlots, SameStarts, SameWriting}
 use Rattle.command_model.specs.Written.{IsBeingWritten}
 
 -- a file that is written: its name and its bytes

@@ -6,9 +6,9 @@ use Rattle.collection_model.specs.Collection.{Collection}
 use Rattle.collection_model.specs.Spelling.{Files, spelled}
 use Rattle.part_cost.specs.declared.formats.Format.TheVariants.{Two}
 use Rattle.part_cost.specs.Formats.{numbers_of}
-use Rattle.pef_io.specs.declared.fail.Slot.{Slot}
-use Rattle.pef_io.specs.declared.fail.Slot.TheVariants.{Map}
-use Rattle.pef_io.specs.DepotState.{DepotState, bytes_under}
+use Rattle.io_traits.specs.declared.fail.Slot.{Slot}
+use Rattle.io_traits.specs.declared.fail.Slot.TheVariants.{Map}
+use Rattle.io_traits.specs.DepotState.{DepotState, bytes_under}
 use Rattle.collection_reader.specs.ReadCollection.{IsCollectionSlot}
 use Rattle.collection_reader.specs.Starting.{names_under}
 use Rattle.remap.specs.declared.fault.MapFault.{MapFault}

@@ -1,8 +1,8 @@
 use Rattle.std.specs.Prelude.{◌≡◌, ℕ, IsTrue, List, ◌++◌, take}
 use Rattle.collection_model.specs.Collection.{Collection}
-use Rattle.pef_io.specs.SourceState.{SourceState}
-use Rattle.pef_io.specs.SinkState.{SinkState}
-use Rattle.pef_io.specs.Helpers.{AppendsPrefix}
+use Rattle.io_traits.specs.SourceState.{SourceState}
+use Rattle.io_traits.specs.SinkState.{SinkState}
+use Rattle.io_traits.specs.Helpers.{AppendsPrefix}
 use Rattle.command_model.specs.Replies.{AreReplies}
 
 -- The input and out of a text that is answered tell their bytes.

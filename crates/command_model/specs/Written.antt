@@ -1,7 +1,7 @@
 use Rattle.std.specs.Prelude.{◌≡◌, ℕ, ◌≤◌, ◌<◌, ◌⊎◌, false, IsTrue, List, take, Some}
-use Rattle.pef_io.specs.declared.fail.Slot.{Slot}
-use Rattle.pef_io.specs.Calls.{Rose}
-use Rattle.pef_io.specs.DepotState.{DepotState, SameFiles, SameFilesBut, SameSlots, SameStarts, SameWriting}
+use Rattle.io_traits.specs.declared.fail.Slot.{Slot}
+use Rattle.io_traits.specs.Calls.{Rose}
+use Rattle.io_traits.specs.DepotState.{DepotState, SameFiles, SameFilesBut, SameSlots, SameStarts, SameWriting}
 
 -- The file has these bytes, all others are as before, and none is left created.
 pub record IsWritten (name : List ℕ) (old new : DepotState) (bytes : List ℕ) : Type 0 where

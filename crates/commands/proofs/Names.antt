@@ -50,9 +50,9 @@ pub use Rattle.outcomes.specs.Outside.{OfFile}
 pub use Rattle.outcomes.specs.Stops.{at_segment, outcome_by, stop_of_answering, stop_of_building, stop_of_file, stop_of_image, stop_of_making, stop_of_printing, stop_of_writing}
 pub use Rattle.outcomes.specs.declared.stop.Stop.TheVariants.{BrokenCollection, BrokenIndex, BrokenMap, BrokenSegment, BrokenSide, FileFault, NoMemory, TooLarge, UnfitSegment}
 pub use Rattle.part_cost.specs.declared.formats.Format.TheVariants.{One}
-pub use Rattle.pef_io.proofs.OnlyReads.{OnlyReads-trans, OnlyReads-wider}
-pub use Rattle.pef_io.specs.DepotState.{OnlyReads, WasStartedAs, bytes_under}
-pub use Rattle.pef_io.specs.declared.fail.Slot.{Slot}
+pub use Rattle.io_traits.proofs.OnlyReads.{OnlyReads-trans, OnlyReads-wider}
+pub use Rattle.io_traits.specs.DepotState.{OnlyReads, WasStartedAs, bytes_under}
+pub use Rattle.io_traits.specs.declared.fail.Slot.{Slot}
 pub use Rattle.pef_report.specs.Generated.{generated}
 pub use Rattle.remapped_files.specs.MakeImage.{MakesImage}
 pub use Rattle.remapped_files.specs.declared.image.ImageError.{ImageError}

@@ -6,7 +6,7 @@ use Rattle.std.proofs.lemmas.List.Elements.{All-nil, All-append, All-cons}
 use Rattle.commands.proofs.Names.{Collection, Slot, fault_of, Index, DepotState, OnlyReads, WasStartedAs, bytes_under, OnlyReads-trans, IndexView, SegRule, FitTogether, joined, terms_in, none_pushed, IsIndexSlot, most_bytes, texts, collections_of, Stop, OfFile, BrokenIndex, BrokenSegment, UnfitSegment, FileFault, NoMemory, TooLarge, Outcome, EndsByFault, FindsIndexOf, no_collection, FindsSegments, IsUnfit, Accepts, EndsAt, IndexAt, IndexesAt, IsUnread, was_read, stays, Of, Laws, ended_there, refuses_none, AreAccepted, comes_to, OnSegment, raised, IsSegmentCount, StartedUnder, StartsInTurn, IsUnloaded, pushed_of, rule_at, IsAccepted, IsRejected, AreLoaded, at_segment, documents_in, most_joined, Pushed, with_segment}
 use Rattle.std.proofs.lemmas.List.Sums.{sum_by_push}
 use Rattle.std.proofs.Math.Seq.{take-suc}
-use Rattle.pef_io.specs.Starting.{Starting, StartedAs}
+use Rattle.io_traits.specs.Starting.{Starting, StartedAs}
 use Rattle.index_file.specs.declared.fault.OpenFault.{OpenFault}
 use Rattle.command_ends.specs.FoundIndex.{HasBroken}
 use Rattle.commands.proofs.FilesRead.{bytes_stay, same_refusals}

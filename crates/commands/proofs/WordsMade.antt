@@ -1,7 +1,7 @@
 -- What the commands leave that build the words of a collection: they are not made, or they are made, and written as an index, or answered or told of.
 use Rattle.std.proofs.Common.{arith, ◌≡◌, ℕ, ◌≤◌, ◌<◌, ◌^◌, refl, sym, ◌∙◌, ap, subst, List, inl, inr, IsErrAnd, Result, Ok, Err, Vec, true, All, Global, lit≤}
 use Rattle.commands.proofs.Names.{word_bytes, Collection, Format, One, numbers_of, Index, SourceState, SinkState, DepotState, most_words, ListParts, Spells, IndexView, OneIndex, BuildError, HoldsAllOf, BuildsWords, AnswersText, WritesWords, Plain, Stop, Outside, outside, NoMemory, TooLarge, Outcome, done, AnswersInput, longest_text, PrintsText, FindsIndex, FindsIndexOf, AreTooMany, Source, IndexAt, Starts, Does, File, Product, Replies, Text, IsRead, Leaves, IsLoaded, outcome_by, stop_of_answering, stop_of_building, stop_of_writing, file_written, only_read, stands_written, promised, still_read, too_many, Laws, Answer, text_printed, prints, handed_on, MakesIndex, migrate_format, answer_format, Written, not_refusal, nothing_read, nothing_starts, read_no_memory, answers_input, text_answered, Printed, Finds, Nothing, Packed, Builds, Migrates, Answers, IsBuiltFrom, MakesAnswers, Generates, IsGeneration, MakesGeneration, generate_format, AreWordsOf, WouldBeTooMany, IsIndex, stop_of_making, stop_of_printing, generated}
-use Rattle.pef_io.specs.declared.fail.IoFail.TheVariants as call
+use Rattle.io_traits.specs.declared.fail.IoFail.TheVariants as call
 use Rattle.index_file.specs.declared.builder.FinishError.{FinishError}
 use Rattle.index_file.specs.declared.builder.FinishError.TheVariants as making
 use Rattle.command_model.specs.GeneratedText.{IsGeneratedText}

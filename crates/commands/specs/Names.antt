@@ -19,7 +19,7 @@ pub use Rattle.outcomes.specs.declared.stop.Stop.{Stop}
 pub use Rattle.part_cost.specs.Formats.{numbers_of}
 pub use Rattle.part_cost.specs.declared.formats.Format.{Format}
 pub use Rattle.part_cost.specs.declared.formats.Format.TheVariants.{Three, Two}
-pub use Rattle.pef_io.specs.DepotState.{DepotState, OnlyReads, WasStartedAs}
-pub use Rattle.pef_io.specs.SinkState.{SinkState}
-pub use Rattle.pef_io.specs.SourceState.{SourceState}
-pub use Rattle.pef_io.specs.declared.fail.Slot.TheVariants.{Index, Side}
+pub use Rattle.io_traits.specs.DepotState.{DepotState, OnlyReads, WasStartedAs}
+pub use Rattle.io_traits.specs.SinkState.{SinkState}
+pub use Rattle.io_traits.specs.SourceState.{SourceState}
+pub use Rattle.io_traits.specs.declared.fail.Slot.TheVariants.{Index, Side}

@@ -6,9 +6,9 @@ use collection_reader::{files_have_one_first_fault, spelled_files_have_no_fault}
 use command_ends::{Devices, LONGEST_TEXT};
 use index_building::build_words;
 use index_file::{Index, one_index};
+use io_traits::{Depot, Sink, Source};
 use outcomes::{Stop, after_answering};
 use part_cost::Format;
-use pef_io::{Depot, Sink, Source};
 use std::alloc::Global;
 use std::sync::ledger::Ledger;
 use step_count::Steps;

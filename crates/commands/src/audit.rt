@@ -4,8 +4,8 @@ ghost use Rattle.commands.specs.Texts.{Audits};
 
 use command_ends::load_index;
 use index_printing::print_audit;
+use io_traits::{Depot, Sink};
 use outcomes::{Stop, after_printing};
-use pef_io::{Depot, Sink};
 use std::alloc::Global;
 use std::sync::ledger::Ledger;
 use step_count::Steps;

@@ -4,8 +4,8 @@ ghost use Rattle.commands.specs.Files.{WritesBlocks};
 
 use command_ends::{load_index, words_fit};
 use index_blocks::index_side_words;
+use io_traits::{Depot, Slot};
 use outcomes::{Stop, after_writing};
-use pef_io::{Depot, Slot};
 use std::alloc::Global;
 use word_files::write_words;
 

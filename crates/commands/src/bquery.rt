@@ -7,8 +7,8 @@ use block_max::{Side, one_side_fault};
 use command_ends::{Devices, LONGEST_TEXT, load_index};
 use index_blocks::{IndexBlocks, block_starts, side_files_fit};
 use index_file::{one_broken_check, one_index, words_and_bytes_undo_each_other};
+use io_traits::{Depot, Sink, Source};
 use outcomes::{Stop, after_answering};
-use pef_io::{Depot, Sink, Source};
 use std::alloc::Global;
 use text_replies::{SideLists, answer_by_blocks};
 

@@ -4,8 +4,8 @@ ghost use Rattle.commands.specs.Files.{Exports};
 
 use command_ends::load_index;
 use exported_files::{PieceWriter, names_under, write_collection};
+use io_traits::Depot;
 use outcomes::{Stop, after_writing_files};
-use pef_io::Depot;
 use std::alloc::Global;
 
 /// Reads the index under the name, and writes the three files of its collection under a base.

@@ -4,8 +4,8 @@ ghost use Rattle.commands.specs.Texts.{Inspects};
 
 use command_ends::load_index;
 use index_printing::print_summary;
+use io_traits::{Depot, Sink};
 use outcomes::{Stop, after_printing};
-use pef_io::{Depot, Sink};
 use std::alloc::Global;
 
 /// Reads the index under the name, and prints the line that sums it up.

@@ -6,9 +6,9 @@ ghost use Rattle.commands.specs.Replies.{AnswersSegments};
 
 use command_ends::{Devices, LONGEST_TEXT, load_index};
 use index_file::{one_broken_check, one_index, words_and_bytes_undo_each_other};
+use io_traits::{Depot, Sink, Source};
 use open_index::OpenIndex;
 use outcomes::{Stop, after_answering};
-use pef_io::{Depot, Sink, Source};
 use segments::Segments;
 use std::alloc::Global;
 use text_replies::{Plan, answer_joined};

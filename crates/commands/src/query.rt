@@ -3,8 +3,8 @@ ghost use Rattle.commands.specs.Names.{Collection, SinkState, FindsIndexOf, Lend
 ghost use Rattle.commands.specs.Replies.{Queries};
 
 use command_ends::{Devices, LONGEST_TEXT, load_index};
+use io_traits::{Depot, Sink, Source};
 use outcomes::{Stop, after_answering};
-use pef_io::{Depot, Sink, Source};
 use std::alloc::Global;
 use text_replies::{Plan, answer_text};
 

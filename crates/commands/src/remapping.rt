@@ -4,8 +4,8 @@ ghost use Rattle.commands.specs.Files.{Remaps};
 
 use collection_model::files_spell_one_collection;
 use collection_reader::{files_have_one_first_fault, spelled_files_have_no_fault};
+use io_traits::Depot;
 use outcomes::{Stop, after_writing_files};
-use pef_io::Depot;
 use remap::{image_is_well_formed, maps_have_one_first_fault};
 use remapped_files::{image_files, write_image};
 use std::alloc::Global;

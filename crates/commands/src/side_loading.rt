@@ -2,8 +2,8 @@ ghost use Rattle.std.specs.Prelude.{◌≡◌, IfErr, IfOk};
 ghost use Rattle.commands.specs.Private.LoadedSide.{IsLoadedSide, IsUnloadedSide, stop_of_side};
 
 use block_max::{BlockSource, Side, SideCheck, SideFault};
+use io_traits::{Depot, Slot};
 use outcomes::{Stop, stop_of_loading};
-use pef_io::{Depot, Slot};
 use std::alloc::Global;
 use word_files::{LoadWordsError, load_words};
 

@@ -1,6 +1,6 @@
 // Index files that were changed, by the commands that read one.
 use crate::hostile_words::query;
-use pef_io::Op;
+use memory_io::Op;
 use pef_top::Status;
 use run_tables::{
     AUDIT, BLOCKS, BQUERY, EXPORT, MIGRATE, ONE_LIST_PACKED, ONE_LIST_WORDS, QUERY, REPACK,

@@ -1,5 +1,5 @@
 // Index files with hostile words, by `query`.
-use pef_io::Op;
+use memory_io::Op;
 use pef_top::Status;
 use run_tables::{
     CLOSING, ONE_LIST_PACKED, ONE_LIST_WORDS, ONE_LIST_WORDS_OF_TWO, OPENING, Outcome, QUERY,

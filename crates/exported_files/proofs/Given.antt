@@ -1,8 +1,8 @@
 -- How bytes that are given to a file go on: pieces that are written, and a rest that is held.
 use Rattle.std.proofs.Common.{◌≡◌, sym, ap, ◌∙◌, subst, ℕ, List, [], ◌++◌, IsTrue, Ok, Err, append_assoc, append-nil}
-use Rattle.pef_io.specs.declared.fail.IoFail.{IoFail}
-use Rattle.pef_io.specs.DepotState.{DepotState}
-use Rattle.pef_io.specs.Helpers.{WritesAllToFile}
+use Rattle.io_traits.specs.declared.fail.IoFail.{IoFail}
+use Rattle.io_traits.specs.DepotState.{DepotState}
+use Rattle.io_traits.specs.Helpers.{WritesAllToFile}
 use Rattle.word_files.proofs.WrittenFile.{none-written, piece-written, piece-refused}
 use Rattle.exported_files.specs.Given.{Gives}
 

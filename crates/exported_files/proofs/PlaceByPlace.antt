@@ -8,8 +8,8 @@ use Rattle.std.proofs.lemmas.Option.{none-some, slice_get-get_or, slice_get-map,
 use Rattle.collection_model.specs.Bytes.{le32, number_sequence}
 use Rattle.collection_model.specs.Collection.{Posting, docs_of, freqs_of}
 use Rattle.collection_model.specs.Spelling.{head_bytes}
-use Rattle.pef_io.specs.declared.fail.IoFail.{IoFail}
-use Rattle.pef_io.specs.DepotState.{DepotState}
+use Rattle.io_traits.specs.declared.fail.IoFail.{IoFail}
+use Rattle.io_traits.specs.DepotState.{DepotState}
 use Rattle.exported_files.specs.Given.{Gives}
 use Rattle.exported_files.proofs.Given.{none-given, given-then, given-refused}
 

@@ -1,7 +1,7 @@
 use Rattle.std.specs.Prelude.{◌≡◌, ℕ, List, ◌++◌, Result, Ok, Err}
-use Rattle.pef_io.specs.declared.fail.IoFail.{IoFail}
-use Rattle.pef_io.specs.DepotState.{DepotState}
-use Rattle.pef_io.specs.Helpers.{WritesAllToFile}
+use Rattle.io_traits.specs.declared.fail.IoFail.{IoFail}
+use Rattle.io_traits.specs.DepotState.{DepotState}
+use Rattle.io_traits.specs.Helpers.{WritesAllToFile}
 
 -- What giving bytes to the file that is being written gives: they come behind those that were held, what of both is not held then is written, and
 -- on a refusal a prefix of both.

@@ -1,6 +1,6 @@
 ghost use Rattle.std.specs.Prelude.{◌≡◌, [], IsTrue, IfOk, OnOk};
 ghost use Rattle.collection_model.specs.Spelling.{Files, spelled};
-ghost use Rattle.pef_io.specs.Calls.{Rose};
+ghost use Rattle.io_traits.specs.Calls.{Rose};
 ghost use Rattle.command_model.specs.FilesWritten.{AreApart};
 ghost use Rattle.command_model.specs.FoundMap.{files_under};
 ghost use Rattle.word_files.specs.WriteFile.{WritesBytes};
@@ -11,8 +11,8 @@ ghost use Rattle.exported_files.specs.NamedFiles.{bytes_of, file_of, files_named
 use crate::piece::PieceWriter;
 use crate::sequences::{give_docs, give_freqs, give_sizes};
 use index_file::Index;
+use io_traits::{Depot, IoFail, Slot};
 use no_memory::NoMemory;
-use pef_io::{Depot, IoFail, Slot};
 use remapped_files::FileFail;
 use std::alloc::Global;
 

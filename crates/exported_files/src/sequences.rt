@@ -7,7 +7,7 @@ ghost use Rattle.exported_files.specs.Given.{Gives};
 use crate::piece::PieceWriter;
 use cursor_api::DocCursor;
 use index_file::Index;
-use pef_io::{Depot, IoFail};
+use io_traits::{Depot, IoFail};
 
 // Gives the file of documents of the collection of an index: the number of documents, and then the documents of each list.
 pub(crate) fn give_docs<D: Depot>(

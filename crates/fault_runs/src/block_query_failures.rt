@@ -1,7 +1,8 @@
 // Each call of a run that answers from an index and its side file fails in turn.
 use crate::failures::{Files, Given, Runs, ends_so, no_fails, run_failing};
 use crate::in_turn::first_wrong;
-use pef_io::{Op, Slot};
+use io_traits::Slot;
+use memory_io::Op;
 use pef_top::Status;
 use run_tables::{BQUERY, ONE_LIST_PACKED, ONE_LIST_WORDS, index_and_side};
 use std::alloc::Global;

@@ -1,6 +1,7 @@
 // Each file of the three lists is cut at each byte, and err fails at each of its writes.
 use crate::in_turn::{Turn, Turns, first_wrong};
-use pef_io::{MemSink, Op, Slot, SteadyDepot, SteadySink, SteadySource};
+use io_traits::Slot;
+use memory_io::{MemSink, Op, SteadyDepot, SteadySink, SteadySource};
 use pef_top::{Devices, Status};
 use run_tables::{ANSWER, BUILD, BUILD_ONE, PACK, THREE_LISTS, cut_files, run_words};
 use std::alloc::Global;

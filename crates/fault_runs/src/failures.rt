@@ -2,7 +2,8 @@
 ghost use Rattle.std.specs.Prelude.{◌≤◌};
 
 use crate::in_turn::{Turn, Turns, first_wrong};
-use pef_io::{MemDepot, MemSink, MemSource, Op, Slot};
+use io_traits::Slot;
+use memory_io::{MemDepot, MemSink, MemSource, Op};
 use pef_top::{Devices, Status};
 use run_tables::{
     ANSWER, BUILD, BUILD_ONE, EXPORT, FileList, MIGRATE, ONE_LIST, OPS, PACK, QUERY, REMAP, REPACK,

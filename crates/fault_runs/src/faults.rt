@@ -1,7 +1,8 @@
 // Broken collections, each named by its first fault.
 use collection_reader::Fault;
+use io_traits::Slot;
+use memory_io::Op;
 use part_cost::Format;
-use pef_io::{Op, Slot};
 use pef_top::{BuildError, Status};
 use run_tables::{
     ANSWER, BUILD, BUILD_ONE, FileList, Numbers, PACK, built, cut_files, files_of, full_list,

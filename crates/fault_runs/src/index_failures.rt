@@ -1,7 +1,8 @@
 // Each call on the files of a build and on an index fails in turn.
 use crate::failures::{Files, REPLIES, Runs, TEXT, line_of};
 use crate::in_turn::first_wrong;
-use pef_io::{Op, Slot};
+use io_traits::Slot;
+use memory_io::Op;
 use pef_top::Status;
 use run_tables::{
     AUDIT, BUILD, BUILD_ONE, INSPECT, OPS, PACK, QUERY, THREE_LISTS_AUDIT,

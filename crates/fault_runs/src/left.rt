@@ -1,5 +1,5 @@
 // What stands of the three files of a collection after a run that writes them one behind another, four bytes at a time.
-use pef_io::{MemDepot, Op};
+use memory_io::{MemDepot, Op};
 use pef_top::Status;
 use run_tables::spelled;
 use std::alloc::Global;

@@ -1,5 +1,6 @@
 // Maps that break a rule, each named by its first fault, and a map that is cut at each byte.
-use pef_io::{Op, Slot};
+use io_traits::Slot;
+use memory_io::Op;
 use pef_top::Status;
 use run_tables::{MAP, Numbers, ONE_LIST, REMAP, files_of, steady_run, with_map};
 use std::alloc::Global;

@@ -1,7 +1,8 @@
 // Each call of a migration, and of a run that writes a side file, fails in turn.
 use crate::failures::{Files, Runs};
 use crate::in_turn::first_wrong;
-use pef_io::{Op, Slot};
+use io_traits::Slot;
+use memory_io::Op;
 use pef_top::Status;
 use run_tables::{BLOCKS, MIGRATE, ONE_LIST_PACKED, ONE_LIST_WORDS, ONE_LIST_WORDS_OF_TWO, REPACK};
 use std::alloc::Global;

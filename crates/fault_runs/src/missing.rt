@@ -1,6 +1,6 @@
 // Files that are missing: the run ends at the first of them, and starts none behind it.
 use crate::failures::{Given, no_fails, run_failing};
-use pef_io::Slot;
+use io_traits::Slot;
 use pef_top::Status;
 use run_tables::{BUILD, FileList, are_names};
 use std::alloc::Global;

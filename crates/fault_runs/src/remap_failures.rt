@@ -2,7 +2,8 @@
 use crate::failures::{Given, failing_call, run_failing};
 use crate::in_turn::{Turn, Turns, first_wrong};
 use crate::left::{Files, are_left, line_at, stop_at};
-use pef_io::{Op, Slot};
+use io_traits::Slot;
+use memory_io::Op;
 use pef_top::Status;
 use run_tables::{MAP, ONE_LIST, REMAP, with_map};
 use std::alloc::Global;

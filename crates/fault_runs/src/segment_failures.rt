@@ -1,7 +1,8 @@
 // Calls on the files of three indexes fail in turn: each is read to its end, in pieces of four bytes, before the next is started.
 use crate::failures::{Given, failing_call, run_failing};
 use crate::in_turn::{Turn, Turns, first_wrong};
-use pef_io::{Op, Slot};
+use io_traits::Slot;
+use memory_io::Op;
 use pef_top::Status;
 use run_tables::{ONE_LIST_WORDS, ONE_LIST_WORDS_OF_TWO, indexes_of};
 use std::alloc::Global;

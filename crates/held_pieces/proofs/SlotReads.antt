@@ -1,14 +1,14 @@
 -- Reads of a slot: other answers after the same reads, and reads one after another.
 use Rattle.std.proofs.Common.{◌≡◌, ◌≢◌, ◌⊎◌, refl, sym, ap, ◌∙◌, subst, inl, inr, ℕ, Bool, true, false, Result, Ok, Err}
 use denote.Enum.Bare.{same_true, true_same}
-use Rattle.pef_io.specs.declared.fail.IoFail.{IoFail}
-use Rattle.pef_io.specs.declared.fail.IoFail.TheVariants as call
-use Rattle.pef_io.specs.declared.fail.Slot.{Slot}
-use Rattle.pef_io.specs.contracts.fail.Slot.{the_type}
-use Rattle.pef_io.specs.contracts.fail.SlotPartialEq.TheImpl as slots
-use Rattle.pef_io.specs.Calls.{CountsFaults, CountsRefusals}
-use Rattle.pef_io.specs.DepotState.{DepotState}
-use Rattle.pef_io.proofs.OnlyReads.{OnlyReads-trans}
+use Rattle.io_traits.specs.declared.fail.IoFail.{IoFail}
+use Rattle.io_traits.specs.declared.fail.IoFail.TheVariants as call
+use Rattle.io_traits.specs.declared.fail.Slot.{Slot}
+use Rattle.io_traits.specs.contracts.fail.Slot.{the_type}
+use Rattle.io_traits.specs.contracts.fail.SlotPartialEq.TheImpl as slots
+use Rattle.io_traits.specs.Calls.{CountsFaults, CountsRefusals}
+use Rattle.io_traits.specs.DepotState.{DepotState}
+use Rattle.io_traits.proofs.OnlyReads.{OnlyReads-trans}
 use Rattle.held_pieces.specs.Pieces.{ReadsOn}
 
 -- a refusal or an answer of a call is none of another type but the same

@@ -3,7 +3,7 @@ ghost use Rattle.collection_model.specs.Bytes.{le32};
 ghost use Rattle.held_pieces.specs.Pieces.{LooksAhead, TakesByte, TakesNumber};
 
 use crate::four_bytes::number_at;
-use pef_io::{Depot, IoFail, Slot};
+use io_traits::{Depot, IoFail, Slot};
 use std::alloc::{AllocError, Global};
 use std::marker::Model;
 
@@ -43,7 +43,7 @@ impl Held {
 
     /// Whether the slot has a byte left. Reads a piece where none is held.
     ///
-    /// The error is that of the read.
+    /// The error is that of the read; none is held then.
     pub fn has_byte<D: Depot>(&mut self, slot: Slot, depot: &mut D) -> Result<bool, IoFail>
         requires { IsTrue ((D.state depot.old).started slot) }
         ensures { LooksAhead slot self.old self.new (D.state depot.old) (D.state depot.new) result }
@@ -63,7 +63,7 @@ impl Held {
 
     /// The next byte of the slot, where there is one.
     ///
-    /// The error is that of a read.
+    /// The error is that of a read; none is held then.
     pub fn byte<D: Depot>(&mut self, slot: Slot, depot: &mut D) -> Result<Option<u8>, IoFail>
         requires { IsTrue ((D.state depot.old).started slot) }
         ensures { TakesByte slot self.old self.new (D.state depot.old) (D.state depot.new) result }
@@ -78,7 +78,8 @@ impl Held {
 
     /// The next number of the slot, where four bytes are left.
     ///
-    /// The error is that of a read. Where there is an error or no number, the bytes that were taken for it are gone.
+    /// The error is that of a read. Where there is an error or no number, the bytes that were taken for it are gone,
+    /// and none is held.
     pub fn number<D: Depot>(&mut self, slot: Slot, depot: &mut D) -> Result<Option<u32>, IoFail>
         requires { IsTrue ((D.state depot.old).started slot) }
         ensures { TakesNumber slot self.old self.new (D.state depot.old) (D.state depot.new)

@@ -6,9 +6,9 @@ use collection_reader::{
     CollError, Fault, ListReader, files_have_one_first_fault, lists_are_read_in_turn,
 };
 use index_file::{Builder, FinishError, files_spell_collections, lists_are_counted};
+use io_traits::{Depot, Slot};
 use no_memory::NoMemory;
 use part_cost::{Format, formats_have_room};
-use pef_io::{Depot, Slot};
 use std::alloc::Global;
 use std::sync::ledger::Ledger;
 use step_count::Steps;

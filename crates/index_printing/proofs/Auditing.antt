@@ -20,10 +20,10 @@ use Rattle.part_cost.specs.Laws.{SingleIsAllowed}
 use Rattle.part_cost.specs.Payload.{widest_low}
 use Rattle.part_cost.specs.StoredBits.{stored_bits}
 use Rattle.part_cost.specs.StoredLaws.{LeastInPackedFiles}
-use Rattle.pef_io.specs.declared.fail.IoFail.{IoFail}
-use Rattle.pef_io.specs.declared.fail.IoFail.TheVariants as call
-use Rattle.pef_io.specs.Calls.{Rose}
-use Rattle.pef_io.specs.SinkState.{SinkState}
+use Rattle.io_traits.specs.declared.fail.IoFail.{IoFail}
+use Rattle.io_traits.specs.declared.fail.IoFail.TheVariants as call
+use Rattle.io_traits.specs.Calls.{Rose}
+use Rattle.io_traits.specs.SinkState.{SinkState}
 use Rattle.postings.specs.Laws.{SequencesRise}
 use Rattle.index_file.specs.FileWords.{CutList, ListParts, ArePartitions, with_parts}
 use Rattle.index_file.specs.IndexView.{IndexView, cut_lists, cut_list_at}

@@ -3,10 +3,10 @@ use Rattle.std.proofs.Common.{◌≡◌, ℕ, arith, refl, sym, ◌∙◌, ap, L
 use Rattle.std.specs.Prelude.{codes, false, Result, Ok, Err}
 use Rattle.serde_json.specs.Data.{Data}
 use Rattle.serde_json.specs.Written.{compact_text, has_float}
-use Rattle.pef_io.specs.declared.fail.IoFail.{IoFail}
-use Rattle.pef_io.specs.declared.fail.IoFail.TheVariants as call
-use Rattle.pef_io.specs.SinkState.{SinkState}
-use Rattle.pef_io.specs.Helpers.{WritesAll}
+use Rattle.io_traits.specs.declared.fail.IoFail.{IoFail}
+use Rattle.io_traits.specs.declared.fail.IoFail.TheVariants as call
+use Rattle.io_traits.specs.SinkState.{SinkState}
+use Rattle.io_traits.specs.Helpers.{WritesAll}
 use Rattle.index_file.specs.IndexView.{IndexView}
 use Rattle.pef_report.specs.declared.counts.Counts.{Counts}
 use Rattle.pef_report.specs.Summary.{summary_of}

@@ -1,8 +1,8 @@
 use Rattle.std.specs.Prelude.{◌≡◌, ℕ, ◌+◌, ◌*◌, ◌≤◌, List, ◌++◌, drop, filter, count_by, Result, Ok, OnOk}
 use Rattle.collection_model.specs.FormatNumbers.{FormatNumbers}
 use Rattle.part_cost.specs.Formats.{numbers_of}
-use Rattle.pef_io.specs.declared.fail.IoFail.{IoFail}
-use Rattle.pef_io.specs.SinkState.{SinkState}
+use Rattle.io_traits.specs.declared.fail.IoFail.{IoFail}
+use Rattle.io_traits.specs.SinkState.{SinkState}
 use Rattle.index_file.specs.IndexView.{IndexView, cut_lists}
 use Rattle.command_model.specs.AuditText.{CutSequence, sequences_from, sequences_in, has_line, is_longer, IsAuditText, AreAuditLines, fewest_audited, fewest_counted, most_audited, most_counted}
 use Rattle.index_printing.specs.PrintLine.{PrintsLine}

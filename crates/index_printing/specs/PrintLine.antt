@@ -1,9 +1,9 @@
 use Rattle.std.specs.Prelude.{◌≡◌, ℕ, ◌≤◌, ◌⊎◌, ◌++◌, IsTrue, List, Result, Err, OnOk, OnErr}
-use Rattle.pef_io.specs.declared.fail.IoFail.{IoFail}
-use Rattle.pef_io.specs.declared.fail.IoFail.TheVariants.{Failed}
-use Rattle.pef_io.specs.Calls.{Rose}
-use Rattle.pef_io.specs.SinkState.{SinkState}
-use Rattle.pef_io.specs.Helpers.{AppendsPrefix}
+use Rattle.io_traits.specs.declared.fail.IoFail.{IoFail}
+use Rattle.io_traits.specs.declared.fail.IoFail.TheVariants.{Failed}
+use Rattle.io_traits.specs.Calls.{Rose}
+use Rattle.io_traits.specs.SinkState.{SinkState}
+use Rattle.io_traits.specs.Helpers.{AppendsPrefix}
 
 -- What printing a line on out gives.
 pub record PrintsLine (line : List ℕ) (old new : SinkState) (result : Result (Unit {0}) IoFail) : Type 0 where

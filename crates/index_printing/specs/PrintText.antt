@@ -1,7 +1,7 @@
 use Rattle.std.specs.Prelude.{◌≡◌, ℕ, ◌⊎◌, List, Result, Err}
-use Rattle.pef_io.specs.SinkState.{SinkState}
-use Rattle.pef_io.specs.declared.fail.IoFail.{IoFail}
-use Rattle.pef_io.specs.declared.fail.IoFail.TheVariants.{NoMemory}
+use Rattle.io_traits.specs.SinkState.{SinkState}
+use Rattle.io_traits.specs.declared.fail.IoFail.{IoFail}
+use Rattle.io_traits.specs.declared.fail.IoFail.TheVariants.{NoMemory}
 use Rattle.index_printing.specs.PrintLine.{PrintsLine}
 
 -- Memory is refused before out is called.

@@ -9,18 +9,18 @@ ghost use Rattle.collection_model.specs.FormatNumbers.{format_three, part_charge
 ghost use Rattle.collection_model.specs.Collection.{list_of};
 ghost use Rattle.index_file.specs.IndexView.{cut_list_at};
 ghost use Rattle.command_model.specs.AuditText.{IsAuditLine, cut_sequence, longest_audited};
-ghost use Rattle.pef_io.specs.SinkState.{SinkState};
+ghost use Rattle.io_traits.specs.SinkState.{SinkState};
 ghost use Rattle.index_printing.specs.PrintAudit.{PrintsAudit, PrintsLines, IsAudited};
 
 use cursor_api::DocCursor;
 use index_file::Index;
 use index_reading::read_list;
+use io_traits::{IoFail, Sink, write_all_own};
 use no_memory::NoMemory;
 use part_cost::{
     Format, ListCost, Which, formats_have_room, least_stored, payload_bits, single_is_allowed,
 };
 use partition_path::exact_cost;
-use pef_io::{IoFail, Sink, write_all_own};
 use pef_report::{audit_end, audit_line};
 use postings::{doc_values, freq_sums, sequences_of_a_list_rise};
 use std::alloc::Global;

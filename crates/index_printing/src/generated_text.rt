@@ -7,11 +7,11 @@ ghost use Rattle.command_model.specs.Replies.{AreReplies, IsReply};
 ghost use Rattle.index_printing.specs.PrintText.{MakesAndPrints};
 
 use index_file::Index;
+use io_traits::{IoFail, Sink, write_all_own};
 use line_replies::{IndexLists, LineCursors, TermLists, reply_to};
 use no_memory::NoMemory;
 use part_codec::part_takes_its_payload;
 use part_cost::{Kind, formats_have_room};
-use pef_io::{IoFail, Sink, write_all_own};
 use postings::sequences_of_a_list_rise;
 use std::alloc::{AllocError, Global};
 use topk_pruning::Plan;

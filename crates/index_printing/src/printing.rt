@@ -3,9 +3,9 @@ ghost use Rattle.command_model.specs.SummaryLine.{counts_of, summary_line};
 ghost use Rattle.index_printing.specs.PrintLine.{PrintsLine};
 
 use index_file::Index;
+use io_traits::{IoFail, Sink, write_all_own};
 use no_memory::NoMemory;
 use part_cost::Kind;
-use pef_io::{IoFail, Sink, write_all_own};
 use pef_report::{Counts, summary};
 use std::alloc::Global;
 

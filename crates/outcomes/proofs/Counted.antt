@@ -2,9 +2,9 @@
 use Rattle.std.proofs.Common.{◌≡◌, ℕ, ◌≤◌, ◌<◌, arith, ap, List, ◌++◌, length}
 use Rattle.std.specs.Prelude.{◌≢◌, ◌⊎◌, Option, Some, Result}
 use Rattle.std.proofs.lemmas.List.{length-append}
-use Rattle.pef_io.specs.declared.fail.IoFail.{IoFail}
-use Rattle.pef_io.specs.declared.fail.Slot.{Slot}
-use Rattle.pef_io.specs.Calls.{Rose}
+use Rattle.io_traits.specs.declared.fail.IoFail.{IoFail}
+use Rattle.io_traits.specs.declared.fail.Slot.{Slot}
+use Rattle.io_traits.specs.Calls.{Rose}
 use Rattle.outcomes.specs.Outside.{Outside, Count, OfFile, OfWriting, OfInput, OfOut}
 use Rattle.outcomes.specs.Outcome.{Outcome, fault_of}
 use Rattle.outcomes.specs.Ends.{EndsByFault, FirstFaultEnds}

@@ -1,6 +1,6 @@
 use Rattle.std.proofs.Common.{◌≡◌, refl}
 use Rattle.std.specs.Prelude.{codes, Err}
-use Rattle.pef_io.specs.declared.fail.Slot.TheVariants.{Docs, Index}
+use Rattle.io_traits.specs.declared.fail.Slot.TheVariants.{Docs, Index}
 use Rattle.outcomes.specs.declared.status.Status.TheVariants as status
 use Rattle.outcomes.specs.declared.stop.Stop.TheVariants.{FileFault, WriteFault, TooLarge}
 use Rattle.outcomes.specs.Outcome.{status_of, line_of}

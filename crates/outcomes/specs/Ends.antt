@@ -1,6 +1,6 @@
 use Rattle.std.specs.Prelude.{◌≡◌, ◌≢◌, ◌≤◌, ◌⊎◌, ℕ, Some, Err}
-use Rattle.pef_io.specs.declared.fail.Slot.TheVariants.{Index}
-use Rattle.pef_io.specs.Calls.{Rose}
+use Rattle.io_traits.specs.declared.fail.Slot.TheVariants.{Index}
+use Rattle.io_traits.specs.Calls.{Rose}
 use Rattle.outcomes.specs.declared.status.Status.{Status}
 use Rattle.outcomes.specs.declared.stop.Stop.TheVariants.{NoMemory, TooLarge}
 use Rattle.outcomes.specs.Outcome.{Outcome, done, fault_of, status_of, line_of}

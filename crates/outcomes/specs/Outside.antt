@@ -1,10 +1,10 @@
 use Rattle.std.specs.Prelude.{◌≡◌, ℕ, ◌⊎◌, ◌++◌, IsTrue, List}
-use Rattle.pef_io.specs.declared.fail.Slot.{Slot}
-use Rattle.pef_io.specs.Calls.{Rose}
-use Rattle.pef_io.specs.SourceState.{SourceState}
-use Rattle.pef_io.specs.SinkState.{SinkState}
-use Rattle.pef_io.specs.DepotState.{DepotState}
-use Rattle.pef_io.specs.Helpers.{AppendsPrefix}
+use Rattle.io_traits.specs.declared.fail.Slot.{Slot}
+use Rattle.io_traits.specs.Calls.{Rose}
+use Rattle.io_traits.specs.SourceState.{SourceState}
+use Rattle.io_traits.specs.SinkState.{SinkState}
+use Rattle.io_traits.specs.DepotState.{DepotState}
+use Rattle.io_traits.specs.Helpers.{AppendsPrefix}
 
 -- all that a run has outside, and how many part costs were counted
 pub record Outside : Type 0 where

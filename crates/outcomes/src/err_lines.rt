@@ -1,7 +1,7 @@
 ghost use Rattle.std.specs.Prelude.{◌≡◌, ◌≤◌, ◌<◌, ◌+◌, [], ◌++◌, length, codes, Err};
 ghost use Rattle.std.specs.List.{sum_by};
 ghost use Rattle.arrayvec.specs.ArrayVec.{array_vec_len};
-ghost use Rattle.pef_io.specs.Helpers.{WritesAll};
+ghost use Rattle.io_traits.specs.Helpers.{WritesAll};
 ghost use Rattle.outcomes.specs.ErrLines.{check_text, map_rule_text, rule_text, seg_rule_text, side_check_text, slot_text};
 ghost use Rattle.outcomes.specs.Outcome.{line_of};
 ghost use Rattle.outcomes.specs.Private.ErrPieces.{most_of, with_piece, with_pieces};
@@ -11,8 +11,8 @@ use crate::stop::Stop;
 use arrayvec::ArrayVec;
 use block_max::SideCheck;
 use collection_reader::Rule;
+use io_traits::{IoFail, Sink, Slot, write_all_own};
 use itoa::Buffer;
-use pef_io::{IoFail, Sink, Slot, write_all_own};
 use remap::MapRule;
 use segments::SegRule;
 use two_level::Check;

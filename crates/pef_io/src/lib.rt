@@ -1,31 +1,9 @@
-//! What the program knows of the outside: sources, sinks and files under names.
+//! The outside as one crate: its traits, and their forms in memory and of the system.
 #![tactic(auto)]
 
-mod asked;
-mod calls;
-mod fail;
-mod failing;
-mod failing_depot;
-mod files;
-mod helpers;
-mod load;
-mod names;
-mod opened;
-mod per_slot;
-mod replaced;
-mod standard;
-mod started;
-mod steady;
-mod steady_depot;
-mod traits;
-
-pub use calls::Op;
-pub use fail::{IoFail, Slot};
-pub use failing::{MemSink, MemSource};
-pub use failing_depot::MemDepot;
-pub use helpers::{depot_write_all, write_all_own};
-pub use load::{LoadError, fill_piece, load_bytes};
-pub use standard::{StdDepot, StdSink, StdSource};
-pub use steady::{SteadySink, SteadySource};
-pub use steady_depot::SteadyDepot;
-pub use traits::{Depot, Sink, Source};
+pub use io_traits::{
+    Depot, IoFail, LoadError, Sink, Slot, Source, depot_write_all, fill_piece, load_bytes,
+    write_all_own,
+};
+pub use memory_io::{MemDepot, MemSink, MemSource, Op, SteadyDepot, SteadySink, SteadySource};
+pub use system_io::{StdDepot, StdSink, StdSource};

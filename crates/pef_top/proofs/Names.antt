@@ -16,7 +16,7 @@ pub use Rattle.outcomes.specs.Outside.{Told, outside}
 pub use Rattle.outcomes.specs.Stops.{stop_of_words}
 pub use Rattle.outcomes.specs.declared.stop.Stop.{Stop}
 pub use Rattle.outcomes.specs.declared.stop.Stop.TheVariants.{FileFault, NoMemory, Usage}
-pub use Rattle.pef_io.specs.SourceState.{SourceState}
+pub use Rattle.io_traits.specs.SourceState.{SourceState}
 pub use Rattle.pef_top.specs.Commands.{IsUsage, Performs}
 pub use Rattle.pef_top.specs.Names.{Answer, Audit, Blocks, Build, Command, DepotState, Export, Generate, Inspect, Migrate, Outcome, Outside, Query, Remap, Side, SinkState, done}
 pub use Rattle.pef_top.specs.SourceAndProduct.{product_of, source_of}

@@ -11,6 +11,6 @@ pub use Rattle.outcomes.specs.Outside.{GotText, Outside, Told, outside}
 pub use Rattle.outcomes.specs.declared.status.Status.{Status}
 pub use Rattle.outcomes.specs.declared.stop.Stop.TheVariants.{BrokenCollection, BrokenIndex, BrokenMap, BrokenSegment, BrokenSide, FileFault, InputFault, InputTooLarge, NoMemory, OutFault, TooLarge, UnfitSegment, Usage, WriteFault}
 pub use Rattle.part_cost.specs.Formats.{numbers_of}
-pub use Rattle.pef_io.specs.DepotState.{DepotState}
-pub use Rattle.pef_io.specs.SinkState.{SinkState}
-pub use Rattle.pef_io.specs.declared.fail.Slot.TheVariants.{Docs, Index, Map, Side}
+pub use Rattle.io_traits.specs.DepotState.{DepotState}
+pub use Rattle.io_traits.specs.SinkState.{SinkState}
+pub use Rattle.io_traits.specs.declared.fail.Slot.TheVariants.{Docs, Index, Map, Side}

@@ -1,7 +1,7 @@
 use Rattle.std.specs.Prelude.{◌≡◌, ℕ, Result, Ok, Err, String, Vec}
 use Rattle.std.specs.declared.alloc.Global.{Global}
 use Rattle.no_memory.specs.declared.NoMemory.{NoMemory}
-use Rattle.pef_io.specs.SinkState.{SinkState}
+use Rattle.io_traits.specs.SinkState.{SinkState}
 use Rattle.command_line.specs.Command.{command_of, texts}
 use Rattle.command_ends.specs.declared.devices.Devices.{Devices}
 use Rattle.outcomes.specs.declared.status.Status.{Status}

@@ -4,23 +4,28 @@ ghost use Rattle.outcomes.specs.declared.status.Status as ended;
 ghost use Rattle.outcomes.specs.Outside.{outside};
 ghost use Rattle.outcomes.specs.StatusNumber.{status_number};
 ghost use Rattle.pefidx.specs.Process.{Processes};
+ghost use Rattle.pefidx.specs.Words.{TakenWords, TakesWords};
 
+use crate::words::words_of;
+use io_traits::{Depot, Sink, Source};
 use no_memory::NoMemory;
 use outcomes::{Stop, write_line};
-use pef_io::{Depot, Sink, Source};
 use pef_top::{Devices, Status, run_uncounted};
 use std::alloc::Global;
+use std::env::Args;
+use std::io;
 use std::process::ExitCode;
 
-// What the process does: it runs the command of its words, the program's name first, and ends with the number of the status. Where
-// memory was refused for the words, it says so on err and calls nothing else.
+// What the process does: it runs the command of the words that it was given, the program's name first, and ends
+// with the number of the status. Where memory was refused for the words, it says so on err and calls nothing else.
 pub(crate) fn process<D: Depot, I: Source, O: Sink, E: Sink>(
     alloc: Global,
-    words: Result<Vec<String>, NoMemory>,
+    given: io::Result<Args>,
     on: &mut Devices<D, I, O>,
     err: &mut E,
 ) -> ExitCode
-    ensures { (status : ended.Status) × (exit_status result ≡ status_number status)
+    ensures { (status : ended.Status) × (words : TakenWords)
+        × (exit_status result ≡ status_number status) × TakesWords given words
         × Processes words
         (outside (D.state on.old.depot) (I.state on.old.input) (O.state on.old.out)
         (E.state err.old) 0)
@@ -28,6 +33,7 @@ pub(crate) fn process<D: Depot, I: Source, O: Sink, E: Sink>(
         (E.state err.new) costs)
         on.old on.new err.old err.new status }
 {
+    let words = words_of(alloc, given);
     exit_code(run_words(alloc, words, on, err))
 }
 

@@ -9,10 +9,10 @@ use Rattle.std.proofs.lemmas.List.{append-nil, nil_from_length, length_push, len
 use Rattle.std.proofs.lemmas.List.Elements.{All-nil, All-push}
 use Rattle.std.proofs.lemmas.List.Quantifiers.{all_pairs_push}
 use Rattle.collection_model.specs.Bytes.{le32}
-use Rattle.pef_io.specs.declared.fail.IoFail.{IoFail}
-use Rattle.pef_io.specs.declared.fail.IoFail.TheVariants as call
-use Rattle.pef_io.specs.declared.fail.Slot.TheVariants.{Map}
-use Rattle.pef_io.specs.DepotState.{DepotState}
+use Rattle.io_traits.specs.declared.fail.IoFail.{IoFail}
+use Rattle.io_traits.specs.declared.fail.IoFail.TheVariants as call
+use Rattle.io_traits.specs.declared.fail.Slot.TheVariants.{Map}
+use Rattle.io_traits.specs.DepotState.{DepotState}
 use Rattle.remap.specs.declared.fault.MapRule.TheVariants.{M1, M3, M4, M5}
 use Rattle.remap.specs.declared.fault.MapError.{MapError}
 use Rattle.remap.specs.declared.fault.MapError.TheVariants.{Broken, NoMemory}

@@ -1,11 +1,11 @@
 -- Reads of the map: other answers after the same reads, and reads one after another.
 use Rattle.std.proofs.Common.{◌≡◌, refl, ◌∙◌, subst, inl, inr, ℕ, Result, Ok, Err}
-use Rattle.pef_io.specs.declared.fail.IoFail.{IoFail}
-use Rattle.pef_io.specs.declared.fail.IoFail.TheVariants as call
-use Rattle.pef_io.specs.declared.fail.Slot.TheVariants.{Map}
-use Rattle.pef_io.specs.Calls.{Rose}
-use Rattle.pef_io.specs.DepotState.{DepotState}
-use Rattle.pef_io.proofs.OnlyReads.{OnlyReads-trans}
+use Rattle.io_traits.specs.declared.fail.IoFail.{IoFail}
+use Rattle.io_traits.specs.declared.fail.IoFail.TheVariants as call
+use Rattle.io_traits.specs.declared.fail.Slot.TheVariants.{Map}
+use Rattle.io_traits.specs.Calls.{Rose}
+use Rattle.io_traits.specs.DepotState.{DepotState}
+use Rattle.io_traits.proofs.OnlyReads.{OnlyReads-trans}
 use Rattle.held_pieces.specs.Pieces.{ReadsOn}
 use Rattle.held_pieces.proofs.SlotReads.{refused-not_at_ok, refused-not_at_failed}
 use Rattle.remap.specs.declared.fault.MapError.{MapError}

@@ -1,9 +1,9 @@
 -- What is left of the map while it is read, and the refusal that comes of a call.
 use Rattle.std.specs.Prelude.{ℕ, List}
-use Rattle.pef_io.specs.declared.fail.IoFail.{IoFail}
-use Rattle.pef_io.specs.declared.fail.IoFail.TheVariants.{Failed, NoMemory}
-use Rattle.pef_io.specs.declared.fail.Slot.TheVariants.{Map}
-use Rattle.pef_io.specs.DepotState.{DepotState}
+use Rattle.io_traits.specs.declared.fail.IoFail.{IoFail}
+use Rattle.io_traits.specs.declared.fail.IoFail.TheVariants.{Failed, NoMemory}
+use Rattle.io_traits.specs.declared.fail.Slot.TheVariants.{Map}
+use Rattle.io_traits.specs.DepotState.{DepotState}
 use Rattle.held_pieces.specs.Pieces.{rest_of as rest_of_slot}
 use Rattle.remap.specs.declared.fault.MapError.{MapError}
 use Rattle.remap.specs.declared.fault.MapError.TheVariants.{Read}

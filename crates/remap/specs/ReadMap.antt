@@ -1,8 +1,8 @@
 use Rattle.std.specs.Prelude.{◌≡◌, ◌≢◌, ◌⊎◌, ℕ, ◌<◌, ◌^◌, IsTrue, List, [], length, Result, Ok, Err, IfOk, OnOk}
 use Rattle.collection_model.specs.Bytes.{number_sequence}
-use Rattle.pef_io.specs.declared.fail.Slot.TheVariants.{Map}
-use Rattle.pef_io.specs.Calls.{Rose}
-use Rattle.pef_io.specs.DepotState.{DepotState, StartedOnce, OnlyReads, bytes_under}
+use Rattle.io_traits.specs.declared.fail.Slot.TheVariants.{Map}
+use Rattle.io_traits.specs.Calls.{Rose}
+use Rattle.io_traits.specs.DepotState.{DepotState, StartedOnce, OnlyReads, bytes_under}
 use Rattle.remap.specs.declared.fault.MapFault.{MapFault}
 use Rattle.remap.specs.declared.fault.MapError.{MapError}
 use Rattle.remap.specs.declared.fault.MapError.TheVariants.{Broken, Read, NoMemory}

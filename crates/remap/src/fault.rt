@@ -1,6 +1,6 @@
 ghost use Rattle.std.specs.Prelude.{◌≡◌};
 
-use pef_io::IoFail;
+use io_traits::IoFail;
 use std::alloc::{AllocError, AllocFailed};
 
 /// The rules of a map, in their order.

@@ -1,12 +1,12 @@
 ghost use Rattle.std.specs.Prelude.{◌≡◌, ◌<◌, ◌^◌, [], IsTrue};
-ghost use Rattle.pef_io.specs.declared.fail.Slot.TheVariants.{Map};
+ghost use Rattle.io_traits.specs.declared.fail.Slot.TheVariants.{Map};
 ghost use Rattle.remap.specs.OneSequence.{ReadsIds, ReadsLength, ReadsNumber, ids_of};
 ghost use Rattle.remap.specs.ReadMap.{ReadsMap};
 
 use crate::fault::{MapError, MapRule};
 use crate::permutation::Permutation;
 use held_pieces::Held;
-use pef_io::{Depot, Slot};
+use io_traits::{Depot, Slot};
 use std::alloc::Global;
 
 /// Reads the new ids of `n` documents from the file under a name, in pieces of at most 8,192 bytes, to its end.

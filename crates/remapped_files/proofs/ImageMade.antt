@@ -4,11 +4,11 @@ use Rattle.std.specs.Prelude.{◌⊎◌, IfOk}
 use Rattle.collection_model.specs.Collection.{Collection}
 use Rattle.collection_model.specs.Laws.{OneCollection}
 use Rattle.collection_model.specs.Spelling.{spelled}
-use Rattle.pef_io.specs.declared.fail.Slot.{Slot}
-use Rattle.pef_io.specs.declared.fail.Slot.TheVariants.{Docs, Freqs, Sizes, Index, Side, Map}
-use Rattle.pef_io.specs.Calls.{Rose}
-use Rattle.pef_io.specs.DepotState.{DepotState, StartedOnce, NoneStartedTwice, OnlyReads, WasStartedAs, bytes_under}
-use Rattle.pef_io.proofs.OnlyReads.{OnlyReads-trans, OnlyReads-wider, NoneStartedTwice-start, was-started-then, then-was-started}
+use Rattle.io_traits.specs.declared.fail.Slot.{Slot}
+use Rattle.io_traits.specs.declared.fail.Slot.TheVariants.{Docs, Freqs, Sizes, Index, Side, Map}
+use Rattle.io_traits.specs.Calls.{Rose}
+use Rattle.io_traits.specs.DepotState.{DepotState, StartedOnce, NoneStartedTwice, OnlyReads, WasStartedAs, bytes_under}
+use Rattle.io_traits.proofs.OnlyReads.{OnlyReads-trans, OnlyReads-wider, NoneStartedTwice-start, was-started-then, then-was-started}
 use Rattle.collection_reader.specs.declared.fault.Fault.{Fault}
 use Rattle.collection_reader.specs.declared.fault.CollError.{CollError}
 use Rattle.collection_reader.specs.declared.fault.CollError.TheVariants as reading

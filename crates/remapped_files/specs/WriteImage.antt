@@ -1,9 +1,9 @@
 use Rattle.std.specs.Prelude.{◌≡◌, ◌⊎◌, List, Result, Ok, Err, OnOk, IfErr}
-use Rattle.pef_io.specs.declared.fail.IoFail.{IoFail}
-use Rattle.pef_io.specs.declared.fail.IoFail.TheVariants.{Failed, NoMemory}
-use Rattle.pef_io.specs.declared.fail.Slot.{Slot}
-use Rattle.pef_io.specs.Calls.{Rose}
-use Rattle.pef_io.specs.DepotState.{DepotState}
+use Rattle.io_traits.specs.declared.fail.IoFail.{IoFail}
+use Rattle.io_traits.specs.declared.fail.IoFail.TheVariants.{Failed, NoMemory}
+use Rattle.io_traits.specs.declared.fail.Slot.{Slot}
+use Rattle.io_traits.specs.Calls.{Rose}
+use Rattle.io_traits.specs.DepotState.{DepotState}
 use Rattle.collection_reader.specs.ReadCollection.{IsCollectionSlot}
 use Rattle.collection_reader.specs.Starting.{turn}
 use Rattle.command_model.specs.FilesWritten.{NamedFile, AreWritten, StopsAtFile, FileLeftByFault, OnlyCreates}

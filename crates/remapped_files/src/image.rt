@@ -10,9 +10,9 @@ use collection_model::files_spell_one_collection;
 use collection_reader::{
     CollError, Collection, Fault, files_have_one_first_fault, read_collection,
 };
+use io_traits::{Depot, IoFail, Slot};
 use no_memory::NoMemory;
 use part_cost::{Format, formats_have_room};
-use pef_io::{Depot, IoFail, Slot};
 use remap::{
     MapError, MapFault, apply, image_is_well_formed, maps_have_one_first_fault, read_map,
     spell_docs, spell_freqs, spell_sizes,

@@ -2,8 +2,9 @@
 ghost use Rattle.std.specs.Prelude.{◌≡◌, ◌<◌};
 
 use crate::runs::FileList;
+use io_traits::Depot;
+use memory_io::SteadyDepot;
 use part_cost::Format;
-use pef_io::{Depot, SteadyDepot};
 use pef_top::{BuildError, build_words};
 use std::alloc::Global;
 use std::marker::Brand;

@@ -1,6 +1,6 @@
 // The collections of the runs, and their files under the base `x`.
 use crate::runs::FileList;
-use pef_io::Slot;
+use io_traits::Slot;
 use std::alloc::Global;
 
 /// The numbers of the three files.

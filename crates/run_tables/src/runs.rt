@@ -1,5 +1,6 @@
 // One run.
-use pef_io::{Depot, Op, Sink, Slot, Source, SteadyDepot, SteadySink, SteadySource};
+use io_traits::{Depot, Sink, Slot, Source};
+use memory_io::{Op, SteadyDepot, SteadySink, SteadySource};
 use pef_top::{Devices, Status, run_uncounted};
 use std::alloc::Global;
 

@@ -1,7 +1,8 @@
 // Files that are loaded and written.
 ghost use Rattle.std.specs.Prelude.{◌≤◌};
 
-use pef_io::{Depot, IoFail, MemDepot, Op, Slot};
+use io_traits::{Depot, IoFail, Slot};
+use memory_io::{MemDepot, Op};
 use std::alloc::Global;
 use std::process::Abort;
 use std::test::Fail;

@@ -4,7 +4,7 @@ ghost use Rattle.std.specs.Prelude.{◌≡◌, ◌<◌};
 use index_building::generated_words;
 use index_file::Index;
 use index_printing::print_generated;
-use pef_io::MemSink;
+use memory_io::MemSink;
 use std::alloc::Global;
 use std::marker::Brand;
 use std::sync::ledger::{Blank, Ledger};

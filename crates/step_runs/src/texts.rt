@@ -3,8 +3,8 @@ ghost use Rattle.std.specs.Prelude.{◌≡◌, ◌<◌};
 
 use index_building::build_words;
 use index_file::Index;
+use memory_io::{MemSink, MemSource, SteadyDepot};
 use part_cost::Format;
-use pef_io::{MemSink, MemSource, SteadyDepot};
 use std::alloc::Global;
 use std::marker::Brand;
 use std::sync::ledger::{Blank, Ledger};

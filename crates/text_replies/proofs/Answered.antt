@@ -5,11 +5,11 @@ use Rattle.std.proofs.lemmas.List.{take_all, take_min, length-take, length-appen
 use Rattle.std.proofs.lemmas.Result.{on_ok_weaker, on_err_weaker}
 use Rattle.std.proofs.Math.Seq.{take-length, take-append-add}
 use Rattle.collection_model.specs.Collection.{Collection}
-use Rattle.pef_io.specs.declared.fail.IoFail.{IoFail}
-use Rattle.pef_io.specs.declared.fail.IoFail.TheVariants.{Failed, NoMemory}
-use Rattle.pef_io.specs.SinkState.{SinkState}
-use Rattle.pef_io.specs.Calls.{CountsFaults}
-use Rattle.pef_io.specs.Helpers.{WritesAll}
+use Rattle.io_traits.specs.declared.fail.IoFail.{IoFail}
+use Rattle.io_traits.specs.declared.fail.IoFail.TheVariants.{Failed, NoMemory}
+use Rattle.io_traits.specs.SinkState.{SinkState}
+use Rattle.io_traits.specs.Calls.{CountsFaults}
+use Rattle.io_traits.specs.Helpers.{WritesAll}
 use Rattle.query_text.specs.declared.query.Query.{Query}
 use Rattle.query_text.specs.declared.query.Bad.{Bad}
 use Rattle.query_text.specs.declared.query.Bad.TheVariants.{Length}

@@ -3,9 +3,9 @@ use Rattle.std.specs.Prelude.{Result, Ok, Err, OnOk, MatchResult}
 use Rattle.std.specs.List.{All}
 use Rattle.std.proofs.lemmas.Result.{on_ok_weaker}
 use Rattle.collection_model.specs.Collection.{Collection}
-use Rattle.pef_io.specs.declared.fail.IoFail.{IoFail}
-use Rattle.pef_io.specs.declared.fail.IoFail.TheVariants.{NoMemory}
-use Rattle.pef_io.specs.SinkState.{SinkState}
+use Rattle.io_traits.specs.declared.fail.IoFail.{IoFail}
+use Rattle.io_traits.specs.declared.fail.IoFail.TheVariants.{NoMemory}
+use Rattle.io_traits.specs.SinkState.{SinkState}
 use Rattle.query_text.specs.Lines.{newline, ended_lines}
 use Rattle.text_replies.specs.AnswersLines.{AnswersLines}
 use Rattle.text_replies.specs.Unended.{unended, most_held, IsHeld, AnswersBytes}

@@ -1,8 +1,8 @@
 use Rattle.std.specs.Prelude.{◌≡◌, ℕ, ◌<◌, ◌≤◌, ◌⊎◌, IsTrue, List, [], ◌++◌, length, take, Result, OnOk, IsErrOf}
 use Rattle.collection_model.specs.Collection.{Collection}
-use Rattle.pef_io.specs.Calls.{Rose}
-use Rattle.pef_io.specs.SourceState.{SourceState}
-use Rattle.pef_io.specs.SinkState.{SinkState}
+use Rattle.io_traits.specs.Calls.{Rose}
+use Rattle.io_traits.specs.SourceState.{SourceState}
+use Rattle.io_traits.specs.SinkState.{SinkState}
 use Rattle.query_text.specs.Lines.{text_lines, ended_lines}
 use Rattle.text_replies.specs.declared.text.RunFault.{RunFault}
 use Rattle.text_replies.specs.declared.text.RunFault.TheVariants.{Read, Write, TooLarge, NoMemory}

@@ -1,8 +1,8 @@
 use Rattle.std.specs.Prelude.{◌≡◌, ℕ, ◌≤◌, IsTrue, List, Result, OnOk, OnErr}
 use Rattle.collection_model.specs.Collection.{Collection}
-use Rattle.pef_io.specs.declared.fail.IoFail.{IoFail}
-use Rattle.pef_io.specs.Calls.{CountsFaults}
-use Rattle.pef_io.specs.SinkState.{SinkState}
+use Rattle.io_traits.specs.declared.fail.IoFail.{IoFail}
+use Rattle.io_traits.specs.Calls.{CountsFaults}
+use Rattle.io_traits.specs.SinkState.{SinkState}
 use Rattle.command_model.specs.GotReplies.{GotReplies, GotPrefixOfReplies}
 
 -- Out got the replies to some lines, or on a refusal a prefix of them.

@@ -1,5 +1,5 @@
-use Rattle.pef_io.specs.declared.fail.IoFail.{IoFail}
-use Rattle.pef_io.specs.declared.fail.IoFail.TheVariants.{Failed, NoMemory}
+use Rattle.io_traits.specs.declared.fail.IoFail.{IoFail}
+use Rattle.io_traits.specs.declared.fail.IoFail.TheVariants.{Failed, NoMemory}
 use Rattle.text_replies.specs.declared.text.RunFault.{RunFault}
 use Rattle.text_replies.specs.declared.text.RunFault.TheVariants as run_fault
 

@@ -1,13 +1,13 @@
 ghost use Rattle.std.specs.Prelude.{◌≡◌, ◌≢◌, ◌==◌, ◌-◌, ℕ, length, take, [], ◌∷◌, ◌++◌, MatchResult, Ok, List};
 ghost use Rattle.std.specs.List.{All, position};
-ghost use Rattle.pef_io.specs.SinkState.{SinkState};
+ghost use Rattle.io_traits.specs.SinkState.{SinkState};
 ghost use Rattle.query_text.specs.Lines.{newline};
 ghost use Rattle.text_replies.specs.AnswersLines.{AnswersLines};
 ghost use Rattle.text_replies.specs.Unended.{AnswersBytes};
 
+use io_traits::{IoFail, Sink, write_all_own};
 use line_replies::{LineCursors, TermLists, reply_to};
 use no_memory::NoMemory;
-use pef_io::{IoFail, Sink, write_all_own};
 use std::alloc::Global;
 use std::default::MadeWith;
 

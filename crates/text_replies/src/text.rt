@@ -8,10 +8,10 @@ ghost use Rattle.text_replies.specs.Faults.{input_fault, out_fault};
 
 use crate::lines::{Held, answer_line, answer_piece};
 use index_file::Index;
+use io_traits::{IoFail, Sink, Source};
 use line_replies::{IndexLists, JoinedLists, SideLists, TermLists};
 use no_memory::NoMemory;
 use open_index::OpenIndex;
-use pef_io::{IoFail, Sink, Source};
 use std::alloc::Global;
 use std::mem;
 use topk_pruning::Plan;

@@ -6,13 +6,13 @@ use Rattle.std.proofs.lemmas.Bool.{cases_lt}
 use Rattle.std.proofs.lemmas.List.{append_assoc, append-nil, length-append, length-take}
 use Rattle.std.proofs.lemmas.List.Elements.{All-append}
 use Rattle.collection_model.specs.Bytes.{le64, word_bytes}
-use Rattle.pef_io.specs.declared.fail.IoFail.{IoFail}
-use Rattle.pef_io.specs.declared.fail.IoFail.TheVariants as call
-use Rattle.pef_io.specs.declared.fail.Slot.{Slot}
-use Rattle.pef_io.specs.Calls.{Rose}
-use Rattle.pef_io.specs.DepotState.{DepotState, StartedOnce, Starts, WasStartedAs, bytes_under}
-use Rattle.pef_io.proofs.OnlyReads.{OnlyReads-same, OnlyReads-start, OnlyReads-trans, StartedOnce-slot, was-started-then}
-use Rattle.pef_io.specs.Loads.{FillsPiece}
+use Rattle.io_traits.specs.declared.fail.IoFail.{IoFail}
+use Rattle.io_traits.specs.declared.fail.IoFail.TheVariants as call
+use Rattle.io_traits.specs.declared.fail.Slot.{Slot}
+use Rattle.io_traits.specs.Calls.{Rose}
+use Rattle.io_traits.specs.DepotState.{DepotState, StartedOnce, Starts, WasStartedAs, bytes_under}
+use Rattle.io_traits.proofs.OnlyReads.{OnlyReads-same, OnlyReads-start, OnlyReads-trans, StartedOnce-slot, was-started-then}
+use Rattle.io_traits.specs.Loads.{FillsPiece}
 use Rattle.index_file.specs.declared.bytes.WordsError.{WordsError}
 use Rattle.index_file.specs.declared.bytes.WordsError.TheVariants as spelled
 use Rattle.index_file.specs.Builder.{most_words}

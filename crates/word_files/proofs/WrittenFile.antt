@@ -5,11 +5,11 @@ use Rattle.std.proofs.Math.Seq.{take-append-add}
 use Rattle.std.proofs.lemmas.List.{length-append, take-append-le, take_all}
 use Rattle.std.proofs.lemmas.List.Concat.{flat_map-append}
 use Rattle.collection_model.specs.Bytes.{le64, word_bytes}
-use Rattle.pef_io.specs.declared.fail.IoFail.{IoFail}
-use Rattle.pef_io.specs.declared.fail.IoFail.TheVariants as call
-use Rattle.pef_io.specs.Calls.{Rose}
-use Rattle.pef_io.specs.DepotState.{DepotState, Creates, Finishes, CountsWriting}
-use Rattle.pef_io.specs.Helpers.{HasFile, WritesAllToFile}
+use Rattle.io_traits.specs.declared.fail.IoFail.{IoFail}
+use Rattle.io_traits.specs.declared.fail.IoFail.TheVariants as call
+use Rattle.io_traits.specs.Calls.{Rose}
+use Rattle.io_traits.specs.DepotState.{DepotState, Creates, Finishes, CountsWriting}
+use Rattle.io_traits.specs.Helpers.{HasFile, WritesAllToFile}
 use Rattle.command_model.specs.Written.{IsUnwritten, IsWrittenInPart, IsBeingWritten, IsLeftByFault, OnlyWrites}
 use Rattle.word_files.specs.WriteFile.{WritesBytes}
 

@@ -1,11 +1,11 @@
 use Rattle.std.specs.Prelude.{◌≡◌, ◌≢◌, ℕ, ◌<◌, ◌≤◌, ◌%◌, ◌^◌, ◌⊎◌, ◌++◌, IsTrue, List, length, slice_index, Result, Ok, Err, IfOk}
 use Rattle.std.specs.List.{All, Contains}
 use Rattle.collection_model.specs.Bytes.{word_bytes}
-use Rattle.pef_io.specs.declared.fail.IoFail.{IoFail}
-use Rattle.pef_io.specs.declared.fail.IoFail.TheVariants as call
-use Rattle.pef_io.specs.declared.fail.Slot.{Slot}
-use Rattle.pef_io.specs.Calls.{Rose}
-use Rattle.pef_io.specs.DepotState.{DepotState, SameStarts, OnlyReads}
+use Rattle.io_traits.specs.declared.fail.IoFail.{IoFail}
+use Rattle.io_traits.specs.declared.fail.IoFail.TheVariants as call
+use Rattle.io_traits.specs.declared.fail.Slot.{Slot}
+use Rattle.io_traits.specs.Calls.{Rose}
+use Rattle.io_traits.specs.DepotState.{DepotState, SameStarts, OnlyReads}
 use Rattle.index_file.specs.declared.bytes.WordsError.{WordsError}
 use Rattle.index_file.specs.declared.bytes.WordsError.TheVariants as spelled
 pub use Rattle.index_file.specs.Builder.{most_words}

@@ -6,7 +6,7 @@ ghost use Rattle.word_files.specs.LoadWords.{LoadsKept, words_loaded};
 ghost use Rattle.word_files.specs.ReadWords.{PassesWords, ReadsKept, most_words};
 
 use index_file::{WordsError, read_words_into};
-use pef_io::{Depot, IoFail, Slot, fill_piece};
+use io_traits::{Depot, IoFail, Slot, fill_piece};
 use std::alloc::Global;
 
 // The most bytes of a file of words.

@@ -1,11 +1,11 @@
 ghost use Rattle.std.specs.Prelude.{◌≡◌, length, IsTrue, IfErr, IfOk};
 ghost use Rattle.collection_model.specs.Bytes.{word_bytes};
-ghost use Rattle.pef_io.specs.Calls.{Rose};
-ghost use Rattle.pef_io.specs.Helpers.{WritesAllToFile};
+ghost use Rattle.io_traits.specs.Calls.{Rose};
+ghost use Rattle.io_traits.specs.Helpers.{WritesAllToFile};
 ghost use Rattle.word_files.specs.WriteFile.{WritesBytes, WritesWords};
 
 use index_file::spell_into;
-use pef_io::{Depot, IoFail, depot_write_all};
+use io_traits::{Depot, IoFail, depot_write_all};
 use std::alloc::Global;
 
 // How many words are written at once.

@@ -1,5 +1,5 @@
 -- The slots of a collection stay started.
-use Rattle.pef_io.specs.DepotState.{DepotState, OnlyReads}
+use Rattle.io_traits.specs.DepotState.{DepotState, OnlyReads}
 use Rattle.collection_reader.specs.Starting.{IsCollectionSlot, AreStarted}
 
 pub stay_started : (before after : DepotState) → AreStarted before → OnlyReads IsCollectionSlot before after → AreStarted after

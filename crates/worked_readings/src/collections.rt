@@ -2,8 +2,9 @@
 use crate::numbers::bytes;
 use collection_reader::{CollError, Fault, ListReader, Rule, read_collection};
 use held_pieces::number_at;
+use io_traits::{Depot, Slot};
+use memory_io::{MemDepot, Op, SteadyDepot};
 use part_cost::Format;
-use pef_io::{Depot, MemDepot, Op, Slot, SteadyDepot};
 use std::alloc::{AllocError, Global};
 use std::test::Fail;
 

@@ -5,9 +5,9 @@ ghost use Rattle.collection_model.specs.FormatNumbers.{format_two};
 
 use crate::numbers::bytes;
 use collection_reader::{Collection, read_collection};
+use memory_io::SteadyDepot;
 use no_memory::NoMemory;
 use part_cost::Format;
-use pef_io::SteadyDepot;
 use remap::{
     MapError, MapFault, MapRule, Permutation, apply, image_is_well_formed, read_map, spell_docs,
     spell_freqs, spell_sizes,

@@ -1,6 +1,6 @@
 // Answers and usage.
 use crate::rows::{Lines, Way, first_wrong, is_answered};
-use pef_io::SteadyDepot;
+use memory_io::SteadyDepot;
 use pef_top::Status;
 use run_tables::{
     ANSWER, BUILD, BUILD_ONE, NINE_LISTS, NO_LIST, Numbers, ONE_LIST, OPS, PACK, QUERY,

@@ -1,7 +1,7 @@
 // Replies from an index and its side file.
 use crate::rows::is_answered;
 use crate::side_files::SIDE_OF_TEN;
-use pef_io::Slot;
+use io_traits::Slot;
 use pef_top::Status;
 use run_tables::{
     BQUERY, DOCUMENTS_IN_TWO_PARTS_PACKED, FileList, ONE_LIST_PACKED, ONE_LIST_WORDS,

@@ -1,7 +1,7 @@
 // Indexes that are written as collections: byte for byte those of which they were made.
 use crate::remaps::has_files;
 use crate::rows::{Way, run_in_turn};
-use pef_io::SteadyDepot;
+use memory_io::SteadyDepot;
 use pef_top::Status;
 use run_tables::{
     BUILD, BUILD_ONE, DOCUMENTS_IN_TWO_PARTS, DOCUMENTS_IN_TWO_PARTS_PACKED, EXPORT, FileList,

@@ -1,8 +1,8 @@
 // The words of indexes: by `build_words`, and in the file that `build` leaves.
 use collection_reader::{Fault, Rule};
 use index_file::read_words;
+use io_traits::Slot;
 use part_cost::Format;
-use pef_io::Slot;
 use pef_top::{BuildError, Status};
 use run_tables::{
     BUILD, BUILD_ONE, CLOSING, NO_LIST, Numbers, ONE_LIST, ONE_LIST_PACKED, ONE_LIST_WORDS,

@@ -1,5 +1,5 @@
 // Index files, summed up by `inspect`.
-use pef_io::Op;
+use memory_io::Op;
 use pef_top::Status;
 use run_tables::{
     DOCUMENTS_IN_TWO_PARTS, DOCUMENTS_IN_TWO_PARTS_PACKED, INSPECT, ONE_LIST_PACKED,

@@ -1,7 +1,7 @@
 // Indexes that are answered as one collection.
 use crate::answers::USAGE;
 use crate::rows::run_in_turn;
-use pef_io::Slot;
+use io_traits::Slot;
 use pef_top::Status;
 use run_tables::{
     BUILD, BUILD_ONE, FileList, NO_LIST_WORDS, Numbers, ONE_LIST_PACKED, ONE_LIST_WORDS,

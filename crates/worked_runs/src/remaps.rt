@@ -1,5 +1,5 @@
 // Collections that are moved to another order of their documents: the files of the new one, and its replies.
-use pef_io::SteadyDepot;
+use memory_io::SteadyDepot;
 use pef_top::Status;
 use run_tables::{
     MAP, NO_LIST, Numbers, ONE_LIST, REMAP, TWO_LISTS, run_over, spelled, steady_run, with_map,

@@ -1,5 +1,5 @@
 // Runs one behind another over the same files, and the replies of the last.
-use pef_io::SteadyDepot;
+use memory_io::SteadyDepot;
 use pef_top::Status;
 use run_tables::{FileList, Numbers, Outcome, files_of, run_over};
 use std::alloc::Global;

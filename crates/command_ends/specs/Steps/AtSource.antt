@@ -1,7 +1,7 @@
 -- What is left at a source: a run ended there, or the source was read and is accepted.
 use Rattle.std.specs.Prelude.{◌≡◌, ◌⊎◌, Bool, not, IsTrue, Err}
-use Rattle.pef_io.specs.declared.fail.Slot.{Slot}
-use Rattle.pef_io.specs.DepotState.{DepotState, OnlyReads}
+use Rattle.io_traits.specs.declared.fail.Slot.{Slot}
+use Rattle.io_traits.specs.DepotState.{DepotState, OnlyReads}
 use Rattle.outcomes.specs.Outside.{OfFile}
 use Rattle.outcomes.specs.declared.stop.Stop.TheVariants.{NoMemory}
 use Rattle.outcomes.specs.Outcome.{Outcome, is_refusal}

@@ -1,5 +1,5 @@
 use Rattle.std.specs.Prelude.{◌≡◌}
-use Rattle.pef_io.specs.DepotState.{DepotState}
+use Rattle.io_traits.specs.DepotState.{DepotState}
 use Rattle.outcomes.specs.Outside.{Outside}
 use Rattle.outcomes.specs.Outcome.{Outcome}
 use Rattle.outcomes.specs.Ends.{FirstFaultEnds}

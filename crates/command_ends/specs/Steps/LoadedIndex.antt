@@ -1,6 +1,6 @@
 use Rattle.std.specs.Prelude.{ℕ, List, Err}
 use Rattle.part_cost.specs.Formats.{numbers_of}
-use Rattle.pef_io.specs.DepotState.{DepotState}
+use Rattle.io_traits.specs.DepotState.{DepotState}
 use Rattle.index_file.specs.IndexView.{IndexView}
 use Rattle.outcomes.specs.declared.stop.Stop.{Stop}
 use Rattle.outcomes.specs.Outcome.{Outcome}

@@ -1,7 +1,7 @@
 -- The lists so far, and one more: without lines, or with both, or refused.
 use Rattle.std.proofs.Common.{◌≡◌, ℕ, ◌+◌, ap, subst, arith, length}
 use Rattle.std.proofs.lemmas.Result.{err_from_is_err_and}
-use Rattle.pef_io.specs.SinkState.{SinkState}
+use Rattle.io_traits.specs.SinkState.{SinkState}
 use Rattle.index_file.specs.IndexView.{IndexView}
 use Rattle.index_printing.specs.PrintAudit.{IsAudited}
 use Rattle.index_printing.proofs.Auditing.{index-has, audited-empty, audited-longer, audited-shown, audit-stopped}

@@ -1,8 +1,8 @@
 use Rattle.std.proofs.Common.{◌≡◌, sym, subst, rules, arith, ℕ, List, Result, Err, refl, string_bytes}
 use Rattle.std.proofs.lemmas.Result.{err_from_is_err_and}
-use Rattle.pef_io.specs.declared.fail.IoFail.{IoFail}
-use Rattle.pef_io.specs.declared.fail.IoFail.TheVariants.{NoMemory}
-use Rattle.pef_io.specs.Helpers.{WritesAll}
+use Rattle.io_traits.specs.declared.fail.IoFail.{IoFail}
+use Rattle.io_traits.specs.declared.fail.IoFail.TheVariants.{NoMemory}
+use Rattle.io_traits.specs.Helpers.{WritesAll}
 use Rattle.pef_report.specs.AuditLine.{audit_end}
 use Rattle.index_printing.specs.PrintAudit.{PrintsAudit}
 use Rattle.index_printing.proofs.Auditing.{audit-ends}

@@ -1,8 +1,8 @@
 use Rattle.std.proofs.Common.{◌≡◌, sym, subst, rules, ℕ, ◌+◌, ◌*◌, ◌≤◌, List, [], ◌∷◌, length, string_bytes, Result, Err}
 use Rattle.part_cost.specs.Formats.{numbers_of}
-use Rattle.pef_io.specs.declared.fail.IoFail.{IoFail}
-use Rattle.pef_io.specs.declared.fail.IoFail.TheVariants.{NoMemory}
-use Rattle.pef_io.specs.Helpers.{WritesAll}
+use Rattle.io_traits.specs.declared.fail.IoFail.{IoFail}
+use Rattle.io_traits.specs.declared.fail.IoFail.TheVariants.{NoMemory}
+use Rattle.io_traits.specs.Helpers.{WritesAll}
 use Rattle.index_file.specs.IndexView.{cut_list_at}
 use Rattle.command_model.specs.AuditText.{IsAuditLine, cut_sequence}
 use Rattle.index_printing.specs.PrintAudit.{PrintsLines}

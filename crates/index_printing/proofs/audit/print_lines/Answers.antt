@@ -2,8 +2,8 @@ use Rattle.std.proofs.Common.{◌≡◌, sym, ap, subst, rules, arith, ℕ, List
 use Rattle.std.proofs.lemmas.Result.{err_from_is_err_and}
 use Rattle.part_cost.specs.declared.kinds.Which.TheVariants.{Docs, Freqs}
 use Rattle.part_cost.specs.Formats.{numbers_of}
-use Rattle.pef_io.specs.declared.fail.IoFail.{IoFail}
-use Rattle.pef_io.specs.declared.fail.IoFail.TheVariants.{NoMemory}
+use Rattle.io_traits.specs.declared.fail.IoFail.{IoFail}
+use Rattle.io_traits.specs.declared.fail.IoFail.TheVariants.{NoMemory}
 use Rattle.index_file.specs.IndexView.{cut_list_at}
 use Rattle.command_model.specs.AuditText.{cut_sequence}
 use Rattle.index_printing.specs.PrintAudit.{PrintsLines}

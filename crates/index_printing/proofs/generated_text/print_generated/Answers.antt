@@ -1,7 +1,7 @@
 -- The text is made and written, or not.
 use Rattle.std.proofs.Common.{subst, rules, List, ℕ, inr}
 use Rattle.part_cost.specs.Formats.{numbers_of}
-use Rattle.pef_io.specs.Helpers.{WritesAll}
+use Rattle.io_traits.specs.Helpers.{WritesAll}
 use Rattle.command_model.specs.GeneratedText.{IsGeneratedText}
 use Rattle.index_printing.proofs.PrintedLine.{printed-or-not}
 use Rattle.index_printing.proofs.generated_text.print_generated.Goals as goal

@@ -1,7 +1,7 @@
 use Rattle.std.proofs.Common.{◌≡◌, sym, subst, rules, List, ℕ, Result, Err}
-use Rattle.pef_io.specs.declared.fail.IoFail.{IoFail}
-use Rattle.pef_io.specs.declared.fail.IoFail.TheVariants.{NoMemory}
-use Rattle.pef_io.specs.Helpers.{WritesAll}
+use Rattle.io_traits.specs.declared.fail.IoFail.{IoFail}
+use Rattle.io_traits.specs.declared.fail.IoFail.TheVariants.{NoMemory}
+use Rattle.io_traits.specs.Helpers.{WritesAll}
 use Rattle.command_model.specs.SummaryLine.{summary_line}
 use Rattle.index_printing.specs.PrintLine.{PrintsLine}
 use Rattle.index_printing.proofs.PrintedLine.{not-made, printed-or-not}

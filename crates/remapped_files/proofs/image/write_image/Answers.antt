@@ -1,6 +1,6 @@
 use Rattle.std.proofs.Common.{arith, refl, inl, inr}
 use Rattle.std.proofs.lemmas.Result.{err_from_is_err_and}
-use Rattle.pef_io.specs.declared.fail.Slot.TheVariants.{Docs, Freqs, Sizes}
+use Rattle.io_traits.specs.declared.fail.Slot.TheVariants.{Docs, Freqs, Sizes}
 use Rattle.remapped_files.specs.MakeImage.{files_of}
 use Rattle.remapped_files.proofs.FilesInTurn.{none-written, one-written, named-refused, files-written}
 use Rattle.remapped_files.proofs.image.write_image.Goals as goal

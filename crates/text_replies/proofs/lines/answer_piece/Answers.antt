@@ -3,8 +3,8 @@ use Rattle.std.specs.Prelude.{Result}
 use Rattle.std.proofs.lemmas.List.{take_rest}
 use Rattle.std.proofs.lemmas.Result.{err_from_is_err_and}
 use Rattle.collection_model.specs.Collection.{Collection}
-use Rattle.pef_io.specs.declared.fail.IoFail.{IoFail}
-use Rattle.pef_io.specs.SinkState.{SinkState}
+use Rattle.io_traits.specs.declared.fail.IoFail.{IoFail}
+use Rattle.io_traits.specs.SinkState.{SinkState}
 use Rattle.query_text.specs.Lines.{newline}
 use Rattle.text_replies.specs.Unended.{AnswersBytes}
 use Rattle.text_replies.proofs.Newline.{none-before, split-at, none-at-all}

@@ -1,5 +1,5 @@
 use Rattle.std.proofs.Common.{◌≡◌, ℕ, List, ◌++◌, length, Ok}
-use Rattle.pef_io.specs.SinkState.{SinkState}
+use Rattle.io_traits.specs.SinkState.{SinkState}
 use Rattle.text_replies.specs.Unended.{AnswersBytes}
 use Rattle.text_replies.proofs.lines.answer_piece.Given as goal
 

@@ -2,10 +2,10 @@ use Rattle.std.proofs.Common.{◌≡◌, refl, sym, ◌∙◌, ap, subst, ℕ, �
 use Rattle.std.specs.Prelude.{Result, Ok, Err}
 use Rattle.std.proofs.lemmas.List.{length-append, length-take, length-drop}
 use Rattle.std.proofs.lemmas.Result.{err_from_is_err_and}
-use Rattle.pef_io.specs.declared.fail.IoFail.{IoFail}
+use Rattle.io_traits.specs.declared.fail.IoFail.{IoFail}
 use Rattle.collection_model.specs.Collection.{Collection}
-use Rattle.pef_io.specs.SourceState.{SourceState, Reads}
-use Rattle.pef_io.specs.SinkState.{SinkState}
+use Rattle.io_traits.specs.SourceState.{SourceState, Reads}
+use Rattle.io_traits.specs.SinkState.{SinkState}
 use Rattle.text_replies.specs.declared.text.RunFault.TheVariants.{TooLarge}
 use Rattle.text_replies.specs.AnswerText.{AnswersText}
 use Rattle.text_replies.specs.Faults.{out_fault}

@@ -1,0 +1,4 @@
+mod Prefixes
+mod Loading
+pub mod Slots
+pub mod OnlyReads

@@ -1,0 +1,9 @@
+pub mod Calls
+pub mod SourceState
+pub mod SinkState
+pub mod Starting
+pub mod DepotState
+pub mod Helpers
+pub mod Loads
+pub mod PerSlot
+pub mod LentSlot

@@ -1,0 +1,4 @@
+mod Moved
+mod Ops
+mod FileLists
+mod FailedCalls

@@ -1,6 +1,0 @@
-mod Prefixes
-mod Loading
-mod Ops
-mod FileLists
-mod FailedCalls
-pub mod OnlyReads

@@ -1,6 +1,0 @@
-use Rattle.std.specs.Prelude.{ℕ, List, drop}
-use Rattle.pef_io.specs.declared.opened.Opened.{Opened}
-
--- the bytes that are left
-abbrev pub rest : Opened → List ℕ
-rest opened = drop opened.at opened.bytes.items

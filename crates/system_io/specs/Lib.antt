@@ -1,0 +1,4 @@
+pub mod Replaced
+pub mod Known
+pub mod Created
+pub mod Standard
