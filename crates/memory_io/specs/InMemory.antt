@@ -51,6 +51,10 @@ pub record CalledOnce (op : Op) (old new : DepotInMemory) : Type 0 where
 abbrev pub FailsNext : DepotInMemory → Op → Type 0
 FailsNext depot op = Contains depot.fails (op, one_more (depot.calls op))
 
+-- The names under which a slot was started are told where they were told before.
+abbrev pub TellsOn : Slot → DepotState → DepotState → Type 0
+TellsOn slot old new = (new.starts slot).told ≡ (old.starts slot).told
+
 -- a source in memory that has these bytes to give
 abbrev pub IsNewSource : List ℕ → SourceState → Type 0
 IsNewSource bytes state = state ≡ record { tells = true; left = bytes; faults = 0 }

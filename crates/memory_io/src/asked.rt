@@ -37,14 +37,17 @@ impl Asked {
     }
 
     // Notes a name; where memory is refused for it, none is told from then on.
-    pub(crate) fn add(&mut self, alloc: Global, name: &str)
+    pub(crate) fn add(&mut self, alloc: Global, name: &str) -> Result<(), AllocError>
         ensures told { IsTrue self.new.told → IsTrue self.old.told }
         ensures named { IsTrue self.new.told → names_asked self.new
             ≡ names_asked self.old ++ name.now ∷ [] }
+        ensures told_on { OnOk result (self.new.told ≡ self.old.told) }
     {
-        if self.push(alloc, name).is_err() {
+        let added = self.push(alloc, name);
+        if added.is_err() {
             self.told = false;
         }
+        added
     }
 
     // Puts a name behind the others.
@@ -59,12 +62,18 @@ impl Asked {
 }
 
 // Notes that the slot was asked to start under this name.
-pub(crate) fn note(asked: &mut PerSlot<Asked>, alloc: Global, slot: Slot, name: &str)
+pub(crate) fn note(
+    asked: &mut PerSlot<Asked>,
+    alloc: Global,
+    slot: Slot,
+    name: &str,
+) -> Result<(), AllocError>
     ensures told { IsTrue (at_slot asked.new slot).told → IsTrue (at_slot asked.old slot).told }
     ensures named { IsTrue (at_slot asked.new slot).told → names_asked (at_slot asked.new slot)
         ≡ names_asked (at_slot asked.old slot) ++ name.now ∷ [] }
+    ensures told_on { OnOk result ((at_slot asked.new slot).told ≡ (at_slot asked.old slot).told) }
     ensures others { (other : Slot) → other ≢ slot
         → at_slot asked.new other ≡ at_slot asked.old other }
 {
-    asked.get_mut(slot).add(alloc, name);
+    asked.get_mut(slot).add(alloc, name)
 }

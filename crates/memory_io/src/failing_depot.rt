@@ -1,5 +1,5 @@
 ghost use Rattle.std.specs.Prelude.{◌≡◌, ◌≤◌, ◌↔◌, ◌⊎◌, min, length, IfOk, IsOk, IsErrOf, IsTrue, IsSome, IfSome, None, map, string_bytes, option_map};
-ghost use Rattle.memory_io.specs.InMemory.{IsNewDepot, CalledOnce, FailsNext};
+ghost use Rattle.memory_io.specs.InMemory.{IsNewDepot, CalledOnce, FailsNext, TellsOn};
 ghost use Rattle.memory_io.specs.MemDepot.{mem_depot, CountsFault};
 ghost use Rattle.io_traits.specs.DepotState.{SameButCounts, Starts, ReadsSlot, Creates, WritesFile, Finishes};
 ghost use Rattle.memory_io.specs.declared.calls.Op.{Op};
@@ -112,14 +112,20 @@ impl Depot for MemDepot {
     fn start(&mut self, slot: Slot, name: &str) -> Result<(), IoFail>
         ensures starts { Starts (mem_depot self.old).state (mem_depot self.new).state slot name.now
             result }
-        ensures fails_where_listed { IsErrOf result IoFail.Failed
-            ↔ (FailsNext (mem_depot self.old) (Op.Start slot)
-            ⊎ ((mem_depot self.old).state.file name.now ≡ None)) }
+        ensures fails_where_listed { IsErrOf result IoFail.NoMemory
+            ⊎ (IsErrOf result IoFail.Failed ↔ (FailsNext (mem_depot self.old) (Op.Start slot)
+            ⊎ ((mem_depot self.old).state.file name.now ≡ None))) }
         ensures counted { CalledOnce (Op.Start slot) (mem_depot self.old) (mem_depot self.new) }
+        ensures tells_on { IsErrOf result IoFail.NoMemory
+            ⊎ TellsOn slot (mem_depot self.old).state (mem_depot self.new).state }
     {
         let op = Op::Start(slot);
         if self.fails_next(op) || self.depot.file(name).is_none() {
-            note(&mut self.depot.asked, self.depot.alloc, slot, name);
+            if note(&mut self.depot.asked, self.depot.alloc, slot, name).is_err() {
+                self.depot.calls.count(op);
+                self.depot.refusals = self.depot.refusals.saturating_add(1);
+                return Err(IoFail::NoMemory);
+            }
             return Err(self.fail(op));
         }
         self.depot.start(slot, name)

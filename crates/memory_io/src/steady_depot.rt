@@ -1,5 +1,5 @@
-ghost use Rattle.std.specs.Prelude.{◌≡◌, ℕ, ◌≤◌, [], Some, min, length, IfOk, IsOk, IsErrOf, IsTrue, IsSome, IfSome, ◌↔◌, map, string_bytes, option_map};
-ghost use Rattle.memory_io.specs.InMemory.{IsNewDepot, CalledOnce};
+ghost use Rattle.std.specs.Prelude.{◌≡◌, ℕ, ◌≤◌, [], Some, min, length, IfOk, IsOk, IsErrOf, IsTrue, IsSome, IfSome, ◌↔◌, ◌⊎◌, map, string_bytes, option_map};
+ghost use Rattle.memory_io.specs.InMemory.{IsNewDepot, CalledOnce, TellsOn};
 ghost use Rattle.memory_io.specs.Files.{IsFirst};
 ghost use Rattle.io_traits.specs.DepotState.{Starts, ReadsSlot, Creates, WritesFile, Finishes};
 ghost use Rattle.memory_io.specs.declared.calls.Op.{Op};
@@ -22,7 +22,7 @@ pub struct SteadyDepot {
     most: usize,
     pub(crate) calls: Calls,
     pub(crate) asked: PerSlot<Asked>,
-    refusals: u64,
+    pub(crate) refusals: u64,
     ghost moves_some: { 1 ≤ most },
     ghost writes_first: { (at : ℕ) → created ≡ Some at → IsFirst files.list.items at },
 }
@@ -106,9 +106,14 @@ impl Depot for SteadyDepot {
         ensures never_fails { IsErrOf result IoFail.Failed → ⊥ }
         ensures counted { CalledOnce (Op.Start slot) (steady_depot self.old)
             (steady_depot self.new) }
+        ensures tells_on { IsErrOf result IoFail.NoMemory
+            ⊎ TellsOn slot (steady_depot self.old).state (steady_depot self.new).state }
     {
         self.calls.count(Op::Start(slot));
-        note(&mut self.asked, self.alloc, slot, name);
+        if note(&mut self.asked, self.alloc, slot, name).is_err() {
+            self.refusals = self.refusals.saturating_add(1);
+            return Err(IoFail::NoMemory);
+        }
         let Ok(bytes) = self.files.copy_of(self.alloc, name) else {
             self.refusals = self.refusals.saturating_add(1);
             return Err(IoFail::NoMemory);

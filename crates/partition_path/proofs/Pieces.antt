@@ -1,6 +1,6 @@
 -- Lemmas on parts that are put behind others.
-use Rattle.std.proofs.Common.{◌≡◌, refl, sym, subst, ℕ, suc, ◌+◌, ◌-◌, ◌*◌, ◌<◌, ◌≤◌, List, [], ◌∷◌, ◌++◌, drop, length, get_or, arith}
-use Rattle.std.proofs.Common.{drop-cons}
+use Rattle.std.proofs.Common.{◌≡◌, refl, sym, subst, ap, ◌∙◌, ℕ, suc, ◌+◌, ◌-◌, ◌*◌, ◌<◌, ◌≤◌, List, [], ◌∷◌, ◌++◌, drop, length, get_or, arith}
+use Rattle.std.proofs.Common.{drop-cons, append_assoc}
 use Rattle.std.proofs.lemmas.Nat.{mul-le}
 use Rattle.part_cost.proofs.Partitions.{ends-within}
 use Rattle.part_cost.specs.Partition.{IsAllowed, IsPartitionFrom, WithinLimitFrom, cost_from}
@@ -25,6 +25,26 @@ next-part start n ends k l h =
     let prefix : drop k ends ≡ get_or ends k 0 ∷ drop (suc k) ends = drop-cons ends k 0 l in
     let parts : IsPartitionFrom start n (get_or ends k 0 ∷ drop (suc k) ends) = subst (λ (x : List ℕ). IsPartitionFrom start n x) prefix h in
     (parts.0, ends-within (get_or ends k 0) n (drop (suc k) ends) parts.1, parts.1)
+
+-- What is left of allowed parts: what is taken and the rest from a place on are the ends, and the rest is allowed.
+pub record AreKept (limit : ℕ) (cost : ℕ → ℕ → ℕ) (ends taken rest : List ℕ) (start : ℕ) : Type 0 where
+  pub within : WithinLimitFrom limit cost start rest
+  pub all : taken ++ rest ≡ ends
+
+-- one more of them is taken
+pub kept-more : (limit : ℕ) (cost : ℕ → ℕ → ℕ) (ends taken more : List ℕ) (k start end : ℕ) → k < length ends → AreKept limit cost ends taken (drop k ends) start → (cost start (get_or ends k 0) ≤ limit → end ≡ get_or ends k 0) → more ≡ taken ++ end ∷ []
+    → (end ≡ get_or ends k 0) × AreKept limit cost ends more (drop (suc k) ends) end
+kept-more limit cost ends taken more k start end l kept whole is =
+    let prefix : drop k ends ≡ get_or ends k 0 ∷ drop (suc k) ends = drop-cons ends k 0 l in
+    let within : WithinLimitFrom limit cost start (get_or ends k 0 ∷ drop (suc k) ends) = subst (λ (x : List ℕ). WithinLimitFrom limit cost start x) prefix kept.within in
+    let at : end ≡ get_or ends k 0 = whole within.0 in
+    let all : taken ++ get_or ends k 0 ∷ drop (suc k) ends ≡ ends = subst (λ (x : List ℕ). taken ++ x ≡ ends) prefix kept.all in (
+      at,
+      record {
+        within = subst (λ (x : ℕ). WithinLimitFrom limit cost x (drop (suc k) ends)) (sym at) within.1;
+        all = ap (λ (x : List ℕ). x ++ drop (suc k) ends) is ∙ append_assoc taken (end ∷ []) (drop (suc k) ends) ∙ ap (λ (x : ℕ). taken ++ x ∷ drop (suc k) ends) at ∙ all;
+      },
+    )
 
 -- allowed parts cost the limit each at most
 pub few-bits : (limit : ℕ) (cost : ℕ → ℕ → ℕ) (i n : ℕ) (ends : List ℕ) → IsPartitionFrom i n ends → WithinLimitFrom limit cost i ends → cost_from cost i ends ≤ limit * (n - i)

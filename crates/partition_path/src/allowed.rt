@@ -1,6 +1,6 @@
-ghost use Rattle.std.specs.Prelude.{◌≡◌, ℕ, ◌+◌, ◌*◌, ◌<◌, ◌≤◌, IfOk};
+ghost use Rattle.std.specs.Prelude.{◌≡◌, ◌+◌, ◌*◌, ◌<◌, ◌≤◌, IfOk};
 ghost use Rattle.part_cost.specs.Formats.{numbers_of};
-ghost use Rattle.part_cost.specs.Partition.{IsAllowed, IsPartition};
+ghost use Rattle.part_cost.specs.Partition.{IsAllowed, IsPartition, WithinLimitFrom};
 
 use no_memory::NoMemory;
 use part_cost::SpanCost;
@@ -8,7 +8,7 @@ use std::alloc::Global;
 use std::sync::ledger::Ledger;
 use step_count::Steps;
 
-// The ends of a partition, each part that is not allowed cut into longest allowed ones.
+// The ends of a partition, each part that is not allowed cut into longest allowed ones, and no other.
 pub(crate) fn allowed_ends<C: SpanCost, L: Ledger>(
     alloc: Global,
     ends: &[u64],
@@ -18,6 +18,8 @@ pub(crate) fn allowed_ends<C: SpanCost, L: Ledger>(
     requires { IsPartition (C.count cost.now) ends.now }
     ensures allowed { IfOk result (λ v. IsAllowed (numbers_of (C.format_of cost.now)).limit
         (C.cost_of cost.now) (C.count cost.now) v.items) }
+    ensures kept { WithinLimitFrom (numbers_of (C.format_of cost.now)).limit (C.cost_of cost.now)
+        0 ends.now → IfOk result (λ v. v.items ≡ ends.now) }
     ensures counted { steps.old ≤ steps.new }
     ensures bounded { steps.new ≤ steps.old + 33 * C.count cost.now }
 {
@@ -45,6 +47,8 @@ fn long_allowed<C: SpanCost, L: Ledger>(
     ensures part { (start < result) × (result ≤ last) }
     ensures allowed { C.cost_of cost.now start result
         ≤ (numbers_of (C.format_of cost.now)).limit }
+    ensures whole { C.cost_of cost.now start last ≤ (numbers_of (C.format_of cost.now)).limit
+        → result ≡ last }
     ensures counted { (steps.old ≤ steps.new) × (steps.new ≤ steps.old + 33) }
 {
     let limit = cost.format().limit();

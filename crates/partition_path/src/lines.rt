@@ -3,8 +3,8 @@ ghost use Rattle.std.specs.List.{All};
 ghost use Rattle.std.specs.List.Sorted.{IsStrictlyIncreasing};
 ghost use Rattle.part_cost.specs.Partition.{IsPartition, partition_cost};
 ghost use Rattle.part_cost.specs.Payload.{digits, widest_low};
-ghost use Rattle.part_cost.specs.Span.{cost_of_part, past};
-ghost use Rattle.partition_path.specs.Lines.{AreKnown, AreLonger, IsLonger, gap_at, known_to, no_open, width_weight};
+ghost use Rattle.part_cost.specs.Span.{cost_of_part};
+ghost use Rattle.partition_path.specs.Lines.{AreKnown, AreLonger, IsLonger, gap_at, no_open, width_weight};
 
 use no_memory::NoMemory;
 use part_cost::{digits, digits_hold};

@@ -1,5 +1,5 @@
-ghost use Rattle.std.specs.Prelude.{◌≡◌, ℕ, ◌+◌, ◌-◌, ◌*◌, ◌^◌, ◌<◌, ◌≤◌, nat_lt, nat_le, length, IfOk};
-ghost use Rattle.partition_path.specs.Tables.{IsReached, AreLinked, IsOffered, cost_to, start_to, new_table, unreached};
+ghost use Rattle.std.specs.Prelude.{◌≡◌, ◌+◌, ◌-◌, ◌^◌, ◌<◌, ◌≤◌, length, IfOk};
+ghost use Rattle.partition_path.specs.Tables.{IsReached, AreLinked, IsOffered, cost_to, start_to, new_table};
 ghost use Rattle.partition_path.specs.Chains.{IsChain};
 
 use no_memory::NoMemory;

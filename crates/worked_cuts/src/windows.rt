@@ -1,4 +1,4 @@
-ghost use Rattle.std.specs.Prelude.{◌≡◌, ℕ, ◌+◌, ◌-◌, ◌*◌, ◌<◌, ◌≤◌, ◌^◌, length};
+ghost use Rattle.std.specs.Prelude.{◌≡◌, ◌+◌, ◌-◌, ◌*◌, ◌<◌, ◌≤◌, ◌^◌, length};
 ghost use Rattle.std.proofs.Common.{arith};
 ghost use Rattle.collection_model.specs.FormatNumbers.{part_charge};
 ghost use Rattle.part_cost.specs.Formats.{numbers_of, HasRoom};

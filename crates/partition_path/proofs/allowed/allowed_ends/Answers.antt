@@ -1,7 +1,7 @@
-use Rattle.std.proofs.Common.{suc, ◌<◌, ◌≤◌, drop, get_or, arith}
+use Rattle.std.proofs.Common.{suc, ◌<◌, ◌≤◌, inl, inr, drop, length, get_or, arith}
 use Rattle.part_cost.specs.Formats.{numbers_of}
 use Rattle.part_cost.specs.Partition.{IsPartitionFrom}
-use Rattle.partition_path.proofs.Pieces.{allowed-more, next-part}
+use Rattle.partition_path.proofs.Pieces.{allowed-more, kept-more, next-part}
 use Rattle.partition_path.proofs.allowed.allowed_ends.Given as given
 use Rattle.partition_path.proofs.allowed.allowed_ends.Goals as goal
 use Rattle.partition_path.proofs.allowed.allowed_ends.Goals.{In-loop-k}
@@ -19,9 +19,27 @@ returns-in_err-push-clause-bounded g c =
 
 pub loop-start-preserved : goal.loop-start-preserved
 loop-start-preserved g c =
-    let said = c.long_allowed-end.ensures in (
+    let limit = (numbers_of (g.C.SpanCost.format_of c.args.cost.now)).limit in
+    let cost = g.C.SpanCost.cost_of c.args.cost.now in
+    let said = c.long_allowed-end.ensures in
+    let below : c.loop-k.k < length c.args.ends.now = omega (arith, c.loop-k-test.true, c.loop-k.auto.k-end) in
+    let before : c.loop-start.start < get_or c.args.ends.now c.loop-k.k 0 = omega (arith, c.loop-start-test.true) in (
       allowed-more (numbers_of (g.C.SpanCost.format_of c.args.cost.now)).limit (g.C.SpanCost.cost_of c.args.cost.now) c.loop-start.start c.long_allowed-end.result c.loop-start.allowed.items c.push.new.self.items c.loop-start.invariant.0 said.part.0 said.allowed c.in_ok-push.ensures.items,
       said.part.1,
       omega (arith, said.counted.0, c.loop-start.invariant.2),
       omega (arith, said.counted.1, said.part.0, c.loop-start.invariant.3),
+      λ w. elim (c.loop-start.invariant.4 w) [
+        | inl before_it ↦ inr (kept-more limit cost c.args.ends.now c.loop-start.allowed.items c.push.new.self.items c.loop-k.k c.loop-start.start c.long_allowed-end.result below before_it.1 said.whole c.in_ok-push.ensures.items)
+        | inr done ↦ absurd (omega (arith, done.0, before))
+      ],
+    )
+
+pub loop-start-init : goal.loop-start-init
+loop-start-init g c =
+    let n = next g (goal.at.loop-start-init g c).In-loop-k in (
+      c.loop-k.invariant.0,
+      omega (arith, n.0),
+      c.loop-k.invariant.2,
+      c.loop-k.invariant.3,
+      λ w. inl (n.0, c.loop-k.invariant.4 w),
     )

@@ -1,6 +1,6 @@
 use Rattle.std.proofs.Common.{ℕ, List, ◌*◌, ◌≤◌, length, arith}
 use Rattle.part_cost.specs.Formats.{numbers_of}
-use Rattle.part_cost.specs.Partition.{IsAllowed, IsNear, partition_cost}
+use Rattle.part_cost.specs.Partition.{IsAllowed, partition_cost}
 use Rattle.partition_path.specs.Chains.{IsChain}
 use Rattle.partition_path.proofs.Traces.{to-last, linked, allowed, total}
 use Rattle.partition_path.proofs.cuts.cuts_found.Given as given

@@ -1,4 +1,4 @@
-use Rattle.std.proofs.Common.{◌≡◌, ◌∙◌, ap, ℕ, ◌+◌, ◌*◌, ◌≤◌, ◌<◌, ◌⊎◌, inr, List, [], ◌∷◌, length, arith}
+use Rattle.std.proofs.Common.{◌≡◌, ◌∙◌, ap, ℕ, ◌*◌, ◌≤◌, ◌<◌, ◌⊎◌, inr, List, [], ◌∷◌, length, arith}
 use Rattle.std.proofs.lemmas.Result.{IfOk-weaker}
 use Rattle.collection_model.specs.FormatNumbers.{part_charge}
 use Rattle.part_cost.specs.Formats.{numbers_of}
@@ -17,7 +17,7 @@ returns-then-whole-charge-clause-either g c =
     let some : 0 < length xs = omega (arith, c.if-count-eq0.false, count) in
     let priced : c.cost-one_part.result ≡ cost_of_part (part_charge format) xs 0 (length xs) =
     c.cost-one_part.ensures.value ∙ ap (λ (f : Format). cost_of_part (part_charge (numbers_of f)) list.values.now 0 c.len-count.result) c.new-cost.ensures.format
-        ∙ ap (λ (v : List ℕ). cost_of_part (part_charge format) v 0 c.len-count.result) c.new-cost.ensures.values ∙ ap (λ (n : ℕ). cost_of_part (part_charge format) xs 0 n) count in
+    ∙ ap (λ (v : List ℕ). cost_of_part (part_charge format) v 0 c.len-count.result) c.new-cost.ensures.values ∙ ap (λ (n : ℕ). cost_of_part (part_charge format) xs 0 n) count in
     let cheap : payload_of_part xs 0 (length xs) ≤ 2 * part_charge format = omega (arith, c.if-whole-charge.true, priced, c.charge.ensures, c.charge-2.ensures) in
     IfOk-weaker c.of_one_part.result (λ cuts. cuts.ends ≡ length list.values.now ∷ []) (λ cuts. AreBelowWhole format xs cuts.ends ⊎ IsWhole format xs cuts.ends)
     (λ (cuts : FoundCuts) is. inr (whole-near format xs cuts.ends some cheap (is ∙ ap (λ (v : List ℕ). length v ∷ []) c.new-cost.ensures.values))) c.of_one_part.ensures.ends

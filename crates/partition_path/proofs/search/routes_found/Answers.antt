@@ -1,4 +1,4 @@
-use Rattle.std.proofs.Common.{◌≡◌, ℕ, ◌+◌, ◌*◌, ◌<◌, ◌≤◌, ◌^◌, arith}
+use Rattle.std.proofs.Common.{◌+◌, ◌*◌, ◌<◌, ◌≤◌, arith}
 use Rattle.part_cost.specs.Formats.{numbers_of}
 use Rattle.cost_windows.specs.WindowBounds.{window_bounds}
 use Rattle.partition_path.specs.Tables.{IsReached, cost_to, unreached}

@@ -10,7 +10,7 @@ use Rattle.part_cost.specs.Laws.{BoundsRise, BoundsCover}
 use Rattle.cost_windows.specs.declared.edge.Edge.{Edge}
 use Rattle.cost_windows.specs.WindowBounds.{window_bounds, BoundsFollowRule}
 use Rattle.partition_path.specs.Tables.{IsAnswered, cost_to}
-use Rattle.partition_path.proofs.Offering.{same-cost, tried-more}
+use Rattle.partition_path.proofs.Offering.{same-cost}
 use Rattle.partition_path.proofs.Windowing.{Windowed, windowed-none, windowed-more, windowed-passed, all-answered, edge-cheap, never-fall, settled-later}
 use Rattle.partition_path.proofs.search.try_windows.Given as given
 use Rattle.partition_path.proofs.search.try_windows.Goals as goal
