@@ -1,5 +1,5 @@
 use Rattle.std.proofs.Common.{◌≡◌, sym, ◌∙◌, ap, subst, ℕ, List}
-use Rattle.std.specs.Prelude.{Result, Ok, Err, MatchResult, length}
+use Rattle.std.specs.Prelude.{Result, Ok, Err, MatchResult, IfErr, length}
 use Rattle.collection_model.specs.Collection.{Collection}
 use Rattle.query_text.specs.declared.query.Query.{Query}
 use Rattle.query_text.specs.declared.query.Bad.{Bad}
@@ -16,6 +16,25 @@ asked query (Err bad) e = cc
 refused : (bad : Bad) (is : Result Query Bad) → Parses (Err (parse_error.Bad bad)) is → is ≡ Err bad
 refused bad (Ok other) e = cc
 refused bad (Err other) e = cc
+
+-- nothing is bad in what asks something
+pub none-bad : (query : Query) (P : Bad → Type 0) (n m : ℕ) (line : List ℕ) → n ≡ m → Parses (Ok query) (parse_line n line) → IfErr (parse_line m line) P
+none-bad query P n m line e p =
+    let Q : Result Query Bad → Type 0 = λ r. IfErr r P in
+    subst Q (sym (asked query (parse_line n line) p) ∙ ap (λ n. parse_line n line) e) tt
+
+-- nor in what memory was refused for
+unread : (P : Bad → Type 0) (is : Result Query Bad) → Parses {T = Query} (Err parse_error.NoMemory) is → IfErr is P
+unread P (Ok other) e = tt
+unread P (Err bad) e = cc
+
+pub none-bad_unread : (P : Bad → Type 0) (n m : ℕ) (line : List ℕ) → n ≡ m → Parses {T = Query} (Err parse_error.NoMemory) (parse_line n line) → IfErr (parse_line m line) P
+none-bad_unread P n m line e p = subst (λ k. IfErr (parse_line k line) P) e (unread P (parse_line n line) p)
+
+-- what holds of each bad line holds of a bad line
+pub any-bad : (P : Bad → Type 0) (is : Result Query Bad) → ((bad : Bad) → P bad) → IfErr is P
+any-bad P (Ok other) each = tt
+any-bad P (Err bad) each = each bad
 
 pub reply-asked : (c : Collection) (line text : List ℕ) (query : Query) (n : ℕ) → n ≡ length c.lists → Parses (Ok query) (parse_line n line) → IsAnswer c query text → IsReply c line text
 reply-asked c line text query n e p is =

@@ -1,9 +1,9 @@
 // The replies to lines, from the cursors of their terms.
-ghost use Rattle.std.specs.Prelude.{◌≡◌, ◌≤◌, ◌<◌, length, map, option_map, IfOk};
-ghost use Rattle.std.specs.Cow.{cow_slice_items};
+ghost use Rattle.std.specs.Prelude.{◌≡◌, ◌≤◌, ◌<◌, length, map, option_map, IfOk, IfErr, MatchResult};
+ghost use Rattle.std.specs.Cow.{cow_slice_items, IsBorrowedSlice};
 ghost use Rattle.std.specs.List.{All};
 ghost use Rattle.collection_model.specs.Collection.{first_at_least, list_of};
-ghost use Rattle.query_text.specs.Parse.{NamesTerms};
+ghost use Rattle.query_text.specs.Parse.{NamesTerms, parse_line};
 ghost use Rattle.query_text.specs.TermSet.{AreTerms};
 ghost use Rattle.query_text.specs.Texts.{list_text, next_text};
 ghost use Rattle.scan_plans.specs.Matches.{in_all, in_any};
@@ -20,17 +20,19 @@ use scan_plans::{and_docs, or_docs};
 use std::alloc::Global;
 use std::borrow::CowSlice;
 
-/// The reply to one line, with its newline. That to a line which asks nothing is lent. The cursors that the line needs take the place
-/// of those that are lent for it, so of lines that are answered one after the other only one with more than four terms, and more than
-/// any before it, takes memory for them.
+/// The reply to one line, with its newline. That to a line which asks nothing is lent, and takes no memory. The cursors that the line
+/// needs take the place of those that are lent for it, so of lines that are answered one after the other only one with more than four
+/// terms, and more than any before it, takes memory for them.
 pub fn reply_to<L: TermLists>(
     alloc: Global,
     lists: &L,
     cursors: &mut LineCursors<L::Cursor>,
     line: &[u8],
 ) -> Result<CowSlice<'static, u8>, NoMemory>
-    ensures { IfOk result (λ reply. IsReply (L.collection lists.now) line.now
+    ensures reply { IfOk result (λ reply. IsReply (L.collection lists.now) line.now
         (cow_slice_items reply)) }
+    ensures bad { IfErr (parse_line (length (L.collection lists.now).lists) line.now)
+        (λ bad. MatchResult result IsBorrowedSlice (λ e. ⊥)) }
 {
     match parse(alloc, line, lists.terms()) {
         Ok(query) => Ok(CowSlice::Owned(answer(alloc, lists, cursors, &query)?)),

@@ -1,5 +1,6 @@
 -- A list where its bits stand: its head, and behind it one document, or two sequences.
-use Rattle.std.proofs.Common.{◌≡◌, ℕ, ◌+◌, ◌-◌, ◌*◌, ◌^◌, ◌<◌, ◌≤◌, Bool, true, false, List, [], ◌∷◌, ◌++◌, length, take, drop, refl, sym, ap, ◌∙◌, subst, arith, append_assoc}
+use Rattle.std.proofs.Common.{◌≡◌, ℕ, ◌+◌, ◌-◌, ◌*◌, ◌^◌, ◌<◌, ◌≤◌, Bool, true, false, Option, Some, None, List, [], ◌∷◌, ◌++◌, length, take, drop, refl, sym, ap, ◌∙◌, subst, arith, append_assoc}
+use Rattle.std.specs.Prelude.{if◌then◌else◌}
 use Rattle.std.specs.List.{All, slice_range}
 use Rattle.std.proofs.Math.Nat.{mod-eq_of_lt}
 use Rattle.std.proofs.lemmas.List.{length-append, length-take, length-drop}
@@ -50,8 +51,19 @@ tail-of n at m g list xs ys ends cuts e f count top h =
     ∙ ap (λ zs. many-tail n at m g xs zs ends cuts) (sym f)
 
 -- two sequences that were found are those of a list
+-- what a check tells of the greatest step, where it is asked for
+pub step-asked : (asked : Bool) (step most : ℕ) → asked ≡ true → step ≡ most → ◌≡◌ {A = Option ℕ} (Some step) (if asked then Some most else None)
+step-asked asked step most is_asked is = ap Some is ∙ sym (ap (λ (b : Bool). let told : Option ℕ = if b then Some most else None in told) is_asked)
+
+-- and where it is not
+pub step-unasked : (asked : Bool) (most : ℕ) → asked ≡ false → ◌≡◌ {A = Option ℕ} None (if asked then Some most else None)
+step-unasked asked most no_step = sym (ap (λ (b : Bool). let told : Option ℕ = if b then Some most else None in told) no_step)
+
+same-some : {a b : ℕ} → ◌≡◌ {A = Option ℕ} (Some a) (Some b) → a ≡ b
+same-some e = cc
+
 pub many-found : SequencesAreAList → (n m g : ℕ) (bits : List ℕ) (at to : ℕ) (first second : Found) → 2 ≤ m → g < 2 ^ 32 → IsFound (last_doc n) m n false bits at to first
-    → IsFound (last_sum m g) m format_three.most_sum true bits first.behind to second → second.behind ≡ to → second.greatest ≡ g → HoldsTail n m g bits at to
+    → IsFound (last_sum m g) m format_three.most_sum true bits first.behind to second → second.behind ≡ to → second.greatest ≡ Some g → HoldsTail n m g bits at to
 many-found are n m g bits at to first second many few h k ends_here top =
     let xs : List ℕ = h.values in
     let ys : List ℕ = k.values in
@@ -60,7 +72,7 @@ many-found are n m g bits at to first second many few h k ends_here top =
     let count_too : length ys ≡ m = k.sequence.stored.count in
     let same : length xs ≡ length ys = count ∙ sym count_too in
     let steps : List ℕ = steps_from 0 ys in
-    let most : greatest steps ≡ g = sym (k.step refl) ∙ top in
+    let most : greatest steps ≡ g = same-some (sym k.step ∙ top) in
     let fit : All (λ f. f < 2 ^ 32) steps = All-from_get_or (λ f. f < 2 ^ 32) steps 0 (λ i lt. omega (arith, each-at_most steps i lt, most, few)) in
     let is = are format_three n xs ys h.sequence.stored.rising h.sequence.small k.sequence.stored.rising k.sequence.small same fit in
     let list : List Posting = postings_in xs ys in
@@ -308,7 +320,7 @@ before-as last other m bound limit bits at end xs ends e f h = subst (λ l. IsSe
 -- what was found is the sequence that stands there
 pub record FoundFacts (last : LastField) (with_steps : Bool) (at : ℕ) (xs ends : List ℕ) (found : Found) : Type 0 where
   pub behind_is : found.behind ≡ at + length (sequence_bits last at xs ends)
-  pub greatest_is : with_steps ≡ true → found.greatest ≡ greatest (steps_from 0 xs)
+  pub greatest_is : found.greatest ≡ (if with_steps then Some (greatest (steps_from 0 xs)) else None)
 
 pub found-facts : OneSequenceAtPlace → (last : LastField) (m bound : ℕ) (with_steps : Bool) (bits : List ℕ) (at end : ℕ) (found : Found) (xs ends : List ℕ) → 2 ≤ m → m < 2 ^ 32 → IsFound last m bound with_steps bits at end found
     → IsSequenceBefore last m bound bits at end xs ends → FoundFacts last with_steps at xs ends found
@@ -316,7 +328,7 @@ found-facts one last m bound with_steps bits at end found xs ends many few h k =
     let same = one last m bound bound bits at end end h.values xs h.ends ends many few h.sequence k in
     record {
       behind_is = h.behind ∙ ap (λ zs. at + length (sequence_bits last at zs h.ends)) same.0 ∙ ap (λ es. at + length (sequence_bits last at xs es)) same.1;
-      greatest_is = λ asked. h.step asked ∙ ap (λ zs. greatest (steps_from 0 zs)) same.0;
+      greatest_is = h.step ∙ ap (λ (zs : List ℕ). let told : Option ℕ = if with_steps then Some (greatest (steps_from 0 zs)) else None in told) same.0;
     }
 
 -- the sums stand behind the documents that were found

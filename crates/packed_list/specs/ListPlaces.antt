@@ -1,4 +1,4 @@
-use Rattle.std.specs.Prelude.{◌≡◌, ℕ, ◌+◌, ◌-◌, Bool, true, List, [], ◌∷◌, ◌++◌, length, slice_range}
+use Rattle.std.specs.Prelude.{◌≡◌, ℕ, ◌+◌, ◌-◌, Bool, if◌then◌else◌, Some, None, List, [], ◌∷◌, ◌++◌, length, slice_range}
 use Rattle.bit_words.specs.Bits.{field_bits}
 use Rattle.collection_model.specs.Collection.{Posting, greatest, greatest_freq}
 use Rattle.collection_model.specs.Sequences.{steps_from}
@@ -15,7 +15,7 @@ pub record IsFound (last : LastField) (m bound : ℕ) (with_steps : Bool) (bits 
   pub ends : List ℕ
   pub sequence : IsSequenceBefore last m bound bits at end values ends
   pub behind : found.behind ≡ at + length (sequence_bits last at values ends)
-  pub step : with_steps ≡ true → found.greatest ≡ greatest (steps_from 0 values)
+  pub step : found.greatest ≡ (if with_steps then Some (greatest (steps_from 0 values)) else None)
 
 -- the bits of a list over n documents behind its head
 abbrev pub tail_bits : ℕ → ℕ → List Posting → List ℕ → List ℕ → List ℕ

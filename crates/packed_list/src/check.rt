@@ -12,12 +12,12 @@ use part_cost::{Format, PlacedPart, digits, parts_are_short, payload_bits};
 use postings::{sequences_are_a_list, sequences_give_their_list, sequences_of_a_list_rise};
 use two_level::SeqView;
 
-// What a check finds out of the bits of a sequence: the place behind them, and, where it is asked for,
-// its greatest step.
+// What a check finds out of the bits of a sequence: the place behind them, and its greatest step, where
+// it is asked for.
 #[derive(Clone, Copy)]
 pub(crate) struct Found {
     pub(crate) behind: u64,
-    pub(crate) greatest: u64,
+    pub(crate) greatest: Option<u64>,
 }
 
 // What is looked for: a sequence of m values below a bound, whose last value is written so where it
@@ -69,13 +69,16 @@ fn check_lone(words: &[u64], at: u64, end: u64, sought: Sought) -> Option<Found>
     let part = PlacedPart::at(bits, place, universe, m);
     if sought.with_steps {
         match check_part_steps(part) {
-            Some(greatest) => Some(Found { behind, greatest }),
+            Some(greatest) => Some(Found {
+                behind,
+                greatest: Some(greatest),
+            }),
             None => None,
         }
     } else if check_part(part) {
         Some(Found {
             behind,
-            greatest: 0,
+            greatest: None,
         })
     } else {
         None
@@ -137,7 +140,7 @@ fn check_parted(words: &[u64], at: u64, end: u64, sought: Sought) -> Option<Foun
         match SeqView::check_steps(stored, head.parts, sought.m, sought.bound, Format::Three) {
             Ok(checked) => Some(Found {
                 behind: 64 * (head.start + checked.used),
-                greatest: checked.greatest,
+                greatest: Some(checked.greatest),
             }),
             Err(_) => None,
         }
@@ -145,7 +148,7 @@ fn check_parted(words: &[u64], at: u64, end: u64, sought: Sought) -> Option<Foun
         match SeqView::check_counting(stored, head.parts, sought.m, sought.bound, Format::Three) {
             Ok(checked) => Some(Found {
                 behind: 64 * (head.start + checked.used),
-                greatest: 0,
+                greatest: None,
             }),
             Err(_) => None,
         }
@@ -196,6 +199,16 @@ fn check_single(words: &[u64], at: u64, to: u64, documents: u32, greatest: u32) 
     (Bits { words }).get(at, width) < u64::from(documents)
 }
 
+// Whether a greatest step was found, and is this one.
+fn is_greatest(found: Found, greatest: u32) -> bool
+    ensures { IsTrue result ↔ (found.greatest ≡ Some greatest) }
+{
+    match found.greatest {
+        Some(step) => step == u64::from(greatest),
+        None => false,
+    }
+}
+
 // Whether they are the two sequences of a list of several postings.
 fn check_many(words: &[u64], at: u64, to: u64, list: HeadedList) -> bool
     requires words { length words.now < 2 ^ 57 }
@@ -236,7 +249,7 @@ fn check_many(words: &[u64], at: u64, to: u64, list: HeadedList) -> bool
     if second.behind != to {
         return false;
     }
-    second.greatest == u64::from(greatest)
+    is_greatest(second, greatest)
 }
 
 // Whether they are a list behind its head.

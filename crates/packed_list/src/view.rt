@@ -9,7 +9,7 @@ ghost use Rattle.packed_list.specs.ListStated.{list_at};
 use crate::gamma::two_gammas;
 use crate::list_laws::lists_state_back;
 use bit_words::Bits;
-use packed_sequence::{LaterView, known_sequence, last_doc};
+use packed_sequence::{LaterView, known_sequence_with_end, last_doc};
 use part_cost::Format;
 use postings::{sequences_give_their_list, sequences_of_a_list_rise};
 use two_level::SeqView;
@@ -48,7 +48,7 @@ pub fn view_list<'a>(words: &'a [u64], from: u64, to: u64, documents: u32) -> Li
             greatest: head.second,
         };
     }
-    let docs = known_sequence(words, head.behind, head.first, field, true);
+    let docs = known_sequence_with_end(words, head.behind, head.first, field);
     ListViews {
         docs: docs.view,
         freqs: LaterView::of_sums(words, docs.behind, head.first, head.second),

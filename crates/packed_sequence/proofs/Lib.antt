@@ -1,4 +1,3 @@
-mod PlaceBehind
 mod SequenceWordsFit
 pub mod OneSequenceBits
 pub mod LonePlaces

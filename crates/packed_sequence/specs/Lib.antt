@@ -1,4 +1,5 @@
 pub mod Behind
+pub mod Head
 pub mod Laws
 pub mod Later
 pub mod SequenceBits

@@ -3,13 +3,14 @@ ghost use Rattle.packed_sequence.specs.Behind.{place_behind, IsInRange};
 
 use part_cost::payload_bits;
 
-/// The place behind the bits of a sequence, which is counted where it is asked for: that behind the
-/// payload of a part in this universe that stands at a place, or where the universe is 0 the place
-/// itself.
+/// The place behind the bits of a sequence.
 #[derive(Clone, Copy)]
-pub struct Behind {
-    pub place: u64,
-    pub universe: u64,
+pub enum Behind {
+    /// This place.
+    Place(u64),
+    /// That behind the payload of a part in this universe that stands at this place. It is counted where
+    /// it is asked for.
+    Part { place: u64, universe: u64 },
 }
 
 impl Behind {
@@ -20,10 +21,9 @@ impl Behind {
         requires room { place_behind self m < 2 ^ 64 }
         ensures { result ≡ place_behind self m }
     {
-        if self.universe == 0 {
-            self.place
-        } else {
-            self.place + payload_bits(self.universe, u64::from(m))
+        match self {
+            Behind::Place(place) => place,
+            Behind::Part { place, universe } => place + payload_bits(universe, u64::from(m)),
         }
     }
 }

@@ -2,7 +2,7 @@ ghost use Rattle.std.specs.Prelude.{◌≡◌, ◌≢◌, ℕ, ◌≤◌, List, 
 ghost use Rattle.collection_model.specs.FormatNumbers.{format_three};
 ghost use Rattle.collection_model.specs.Sequences.{steps_from};
 ghost use Rattle.two_level.specs.SequenceView.{place_at_least};
-ghost use Rattle.two_level.specs.LongSteps.{count_reaching};
+ghost use Rattle.two_level.specs.LongSteps.{count_reaching, steps_of_long_parts};
 ghost use Rattle.packed_sequence.specs.Sums.{AreSums, SumsStand};
 
 use crate::behind::Behind;
@@ -102,10 +102,14 @@ impl<'a> LaterView<'a> {
     }
 
     /// How far at least k of the values lie past the values before them, or farther: 0 where none is
-    /// told.
+    /// told. Of up to 64 it is no shorter than what k of the steps reach in the parts whose steps are
+    /// long in the mean.
     pub fn common_step(&self, k: u32) -> u64
         requires some { 1 ≤ k }
-        ensures { result ≢ 0 → k ≤ count_reaching result (steps_from 0 self.now.values) }
+        ensures reached { result ≢ 0
+            → k ≤ count_reaching result (steps_from 0 self.now.values) }
+        ensures longest { k ≤ 64 → (least : ℕ)
+            → k ≤ count_reaching least (steps_of_long_parts self.now) → least ≤ result }
     {
         match &self.stands {
             Stands::Read(view) => view.common_step(k),

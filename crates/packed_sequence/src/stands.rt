@@ -33,6 +33,6 @@ impl<'a> Sums<'a> {
         sequences_state_back();
         let at = self.docs.of(self.m);
         let last = last_sum(self.m, self.greatest);
-        known_sequence(self.words, at, self.m, last, false).view
+        known_sequence(self.words, at, self.m, last)
     }
 }

@@ -1,10 +1,12 @@
-ghost use Rattle.std.specs.Prelude.{◌≡◌, ℕ, ◌+◌, ◌*◌, ◌%◌, ◌^◌, ◌<◌, ◌≤◌, true, List, length, slice_index, slice_range};
+ghost use Rattle.std.specs.Prelude.{◌≡◌, ℕ, ◌+◌, ◌*◌, ◌%◌, ◌^◌, ◌<◌, ◌≤◌, List, length, slice_index, slice_range};
 ghost use Rattle.bit_words.specs.Bits.{bits_of, field_at};
 ghost use Rattle.collection_model.specs.FormatNumbers.{format_three};
 ghost use Rattle.part_cost.specs.Payload.{digits};
 ghost use Rattle.packed_sequence.specs.SequenceBits.{sequence_bits};
 ghost use Rattle.packed_sequence.specs.SequencePlaces.{IsSequenceBefore};
+ghost use Rattle.two_level.specs.SequenceView.{words_used};
 ghost use Rattle.packed_sequence.specs.Behind.{place_behind, IsInRange};
+ghost use Rattle.packed_sequence.specs.Head.{IsHead};
 
 use crate::behind::Behind;
 use crate::last_field::LastField;
@@ -56,7 +58,7 @@ fn known_lone<'a>(words: &'a [u64], sequence: Standing, field: u64) -> KnownSequ
     let end = field + last.less;
     KnownSequence {
         view: SeqView::standing_alone(words, place, end, m, Format::Three),
-        behind: Behind {
+        behind: Behind::Part {
             place,
             universe: end + 1,
         },
@@ -71,15 +73,16 @@ fn words_from<'a>(words: &'a [u64], start: u64) -> &'a [u64]
     &words[start as usize..]
 }
 
-// The sequence where it stands in so many parts, behind a one. The place behind it, which takes two
-// entries to find, is told where it is asked for.
+// A sequence that stands in several parts, and the word at which its words begin.
+#[derive(Drop)]
+struct Parted<'a> {
+    view: SeqView<'a>,
+    start: u64,
+}
+
+// The sequence where it stands in so many parts, behind a one.
 #[inline(always)]
-fn known_parted<'a>(
-    words: &'a [u64],
-    sequence: Standing,
-    parts: u32,
-    with_behind: bool,
-) -> KnownSequence<'a>
+fn known_parted<'a>(words: &'a [u64], sequence: Standing, parts: u32) -> Parted<'a>
     requires words { length words.now < 2 ^ 57 }
     requires many { 2 ≤ sequence.m }
     requires flag { slice_index (bits_of words.now) sequence.at ≡ 1 }
@@ -89,35 +92,17 @@ fn known_parted<'a>(
     ensures view { (xs ends : List ℕ) → IsSequenceBefore sequence.last sequence.m
         format_three.most_sum (bits_of words.entry.now) sequence.at (64 * length words.entry.now)
         xs ends → result.view ≡ record { format = format_three; values = xs; ends = ends } }
-    ensures behind { with_behind ≡ true → (xs ends : List ℕ)
-        → IsSequenceBefore sequence.last sequence.m format_three.most_sum
-        (bits_of words.entry.now) sequence.at (64 * length words.entry.now) xs ends
-        → place_behind result.behind sequence.m
+    ensures behind { (xs ends : List ℕ) → IsSequenceBefore sequence.last sequence.m
+        format_three.most_sum (bits_of words.entry.now) sequence.at (64 * length words.entry.now)
+        xs ends → 64 * (result.start + words_used result.view)
         ≡ sequence.at + length (sequence_bits sequence.last sequence.at xs ends) }
-    ensures range { IsInRange result.behind sequence.m }
 {
     words_are_bits();
     sequence_words_fit();
     let Standing { at, m, .. } = sequence;
     let start = (at + 1 + u64::from(digits(u64::from(m)))).div_ceil(64);
     let view = SeqView::known(words_from(words, start), parts, m, Format::Three);
-    if !with_behind {
-        return KnownSequence {
-            view,
-            behind: Behind {
-                place: 0,
-                universe: 0,
-            },
-        };
-    }
-    let behind = 64 * (start + view.used());
-    KnownSequence {
-        view,
-        behind: Behind {
-            place: behind,
-            universe: 0,
-        },
-    }
+    Parted { view, start }
 }
 
 // The lowest bits of a word, so many of them.
@@ -131,14 +116,65 @@ fn lowest_bits(word: u64, width: u32) -> u64
     word << above >> above
 }
 
-/// The sequence of m values that stands at a place, and where it is asked for the place behind it.
+// How a sequence begins.
+#[derive(Clone, Copy)]
+enum Head {
+    // With a one, and then the number of its parts.
+    Parts(u32),
+    // With a zero, and then the field of its last value, as one part.
+    Alone(u64),
+}
+
+// The head of the sequence of m values that stands at a place.
 #[inline(always)]
-pub fn known_sequence<'a>(
+fn head_of(words: &[u64], at: u64, m: u32, last: LastField) -> Head
+    requires words { length words.now < 2 ^ 57 }
+    requires many { 2 ≤ m }
+    requires narrow { last.width ≤ 64 }
+    requires stands { (xs ends : List ℕ) × IsSequenceBefore last m format_three.most_sum
+        (bits_of words.now) at (64 * length words.now) xs ends }
+    ensures { IsHead (bits_of words.now) at m last result }
+{
+    part_takes_its_payload();
+    // The flag, and the field behind it, which is the number of parts or the last value.
+    let window = window_from(Bits { words }, at);
+    if window % 2 == 1 {
+        let parts = lowest_bits(window, 1 + digits(u64::from(m))) >> 1;
+        Head::Parts(parts as u32)
+    } else {
+        // The highest bits of a field of 64 are 0.
+        let head = lowest_bits(window, (1 + last.width).min(64));
+        Head::Alone(head >> 1)
+    }
+}
+
+/// The sequence of m values that stands at a place.
+#[inline(always)]
+pub fn known_sequence<'a>(words: &'a [u64], at: u64, m: u32, last: LastField) -> SeqView<'a>
+    requires words { length words.now < 2 ^ 57 }
+    requires many { 2 ≤ m }
+    requires narrow { last.width ≤ 64 }
+    requires stands { (xs ends : List ℕ) × IsSequenceBefore last m format_three.most_sum
+        (bits_of words.now) at (64 * length words.now) xs ends }
+    ensures { (xs ends : List ℕ) → IsSequenceBefore last m format_three.most_sum
+        (bits_of words.entry.now) at (64 * length words.entry.now) xs ends
+        → result ≡ record { format = format_three; values = xs; ends = ends } }
+{
+    let sequence = Standing { at, m, last };
+    match head_of(words, at, m, last) {
+        Head::Parts(parts) => known_parted(words, sequence, parts).view,
+        Head::Alone(field) => known_lone(words, sequence, field).view,
+    }
+}
+
+/// The sequence of m values that stands at a place, and the place behind it. Of a sequence in several
+/// parts it takes two entries to find.
+#[inline(always)]
+pub fn known_sequence_with_end<'a>(
     words: &'a [u64],
     at: u64,
     m: u32,
     last: LastField,
-    with_behind: bool,
 ) -> KnownSequence<'a>
     requires words { length words.now < 2 ^ 57 }
     requires many { 2 ≤ m }
@@ -148,22 +184,21 @@ pub fn known_sequence<'a>(
     ensures view { (xs ends : List ℕ) → IsSequenceBefore last m format_three.most_sum
         (bits_of words.entry.now) at (64 * length words.entry.now) xs ends
         → result.view ≡ record { format = format_three; values = xs; ends = ends } }
-    ensures behind { with_behind ≡ true → (xs ends : List ℕ)
-        → IsSequenceBefore last m format_three.most_sum
+    ensures behind { (xs ends : List ℕ) → IsSequenceBefore last m format_three.most_sum
         (bits_of words.entry.now) at (64 * length words.entry.now) xs ends
         → place_behind result.behind m ≡ at + length (sequence_bits last at xs ends) }
     ensures range { IsInRange result.behind m }
 {
-    part_takes_its_payload();
     let sequence = Standing { at, m, last };
-    // The flag, and the field behind it, which is the number of parts or the last value.
-    let window = window_from(Bits { words }, at);
-    if window % 2 == 1 {
-        let parts = lowest_bits(window, 1 + digits(u64::from(m))) >> 1;
-        known_parted(words, sequence, parts as u32, with_behind)
-    } else {
-        // The highest bits of a field of 64 are 0.
-        let head = lowest_bits(window, (1 + last.width).min(64));
-        known_lone(words, sequence, head >> 1)
+    match head_of(words, at, m, last) {
+        Head::Parts(parts) => {
+            let parted = known_parted(words, sequence, parts);
+            let behind = 64 * (parted.start + parted.view.used());
+            KnownSequence {
+                view: parted.view,
+                behind: Behind::Place(behind),
+            }
+        }
+        Head::Alone(field) => known_lone(words, sequence, field),
     }
 }

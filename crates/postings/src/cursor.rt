@@ -1,8 +1,10 @@
-ghost use Rattle.std.specs.Prelude.{◌≡◌, ℕ, ◌+◌, ◌≤◌, ◌<◌, List, [], length, slice_index};
-ghost use Rattle.collection_model.specs.Collection.{greatest_freq};
+ghost use Rattle.std.specs.Prelude.{◌≡◌, ◌≢◌, ℕ, ◌+◌, ◌≤◌, ◌<◌, nat_le, List, [], length, slice_index};
+ghost use Rattle.std.specs.List.{count_by};
+ghost use Rattle.collection_model.specs.Collection.{freqs_of, greatest_freq};
 ghost use Rattle.collection_model.specs.NextBelow.{AreNextBelow};
 ghost use Rattle.collection_model.specs.Sequences.{steps_from, postings_in};
 ghost use Rattle.part_cost.specs.Span as span;
+ghost use Rattle.two_level.specs.LongSteps.{count_reaching, steps_of_long_parts};
 ghost use Rattle.cursor_api.specs.NextGeq.{IsCursorList, IsCursorAt};
 ghost use Rattle.postings.specs.Blocks.{AreSumsFrom};
 
@@ -188,7 +190,15 @@ impl<'a> DocCursor for PostingCursor<'a> {
         self.max
     }
 
-    fn common_freq(&self, k: u32) -> u32 {
+    // Of up to 64 postings it is no less than what k of the frequencies reach in the parts whose frequencies are high in the mean.
+    fn common_freq(&self, k: u32) -> u32
+        requires some { 1 ≤ k }
+        ensures reached { result ≢ 0 → k ≤ count_by (λ f. nat_le result f)
+            (freqs_of (postings_in self.now.docs.sequence.values self.now.sums.sequence.values)) }
+        ensures highest { k ≤ 64 → (least : ℕ)
+            → k ≤ count_reaching least (steps_of_long_parts self.now.sums.sequence)
+            → least ≤ result }
+    {
         self.sums.common_step(k) as u32
     }
 

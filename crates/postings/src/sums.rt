@@ -2,7 +2,7 @@ ghost use Rattle.std.specs.Prelude.{◌≡◌, ◌≢◌, ℕ, ◌≤◌, ◌<�
 ghost use Rattle.collection_model.specs.NextBelow.{AreNextBelow};
 ghost use Rattle.collection_model.specs.Sequences.{steps_from};
 ghost use Rattle.two_level.specs.SequenceView.{SequencePlace, place_at_least};
-ghost use Rattle.two_level.specs.LongSteps.{count_reaching};
+ghost use Rattle.two_level.specs.LongSteps.{count_reaching, steps_of_long_parts};
 ghost use Rattle.postings.specs.Sums.{place_of, IsOver};
 
 use packed_sequence::LaterView;
@@ -116,10 +116,14 @@ impl<'a> Sums<'a> {
         self.view.first_step(from, least)
     }
 
-    // How far at least k of the values lie past the values before them, or farther: 0 where none is told.
+    // How far at least k of the values lie past the values before them, or farther: 0 where none is told. Of up to 64 it is no
+    // shorter than what k of the steps of the long parts reach.
     pub(crate) fn common_step(&self, k: u32) -> u64
         requires some { 1 ≤ k }
-        ensures { result ≢ 0 → k ≤ count_reaching result (steps_from 0 self.now.sequence.values) }
+        ensures reached { result ≢ 0
+            → k ≤ count_reaching result (steps_from 0 self.now.sequence.values) }
+        ensures longest { k ≤ 64 → (least : ℕ)
+            → k ≤ count_reaching least (steps_of_long_parts self.now.sequence) → least ≤ result }
     {
         self.view.common_step(k)
     }

@@ -1,4 +1,4 @@
-ghost use Rattle.std.specs.Prelude.{◌≡◌, ◌≤◌, ◌<◌, ◌*◌, ◌^◌, map, length, sum, IfOk};
+ghost use Rattle.std.specs.Prelude.{◌≡◌, ◌≤◌, ◌<◌, ◌*◌, ◌^◌, map, length, sum, IfOk, AllPairs};
 ghost use Rattle.std.specs.List.Sorted.{IsPermutation};
 ghost use Rattle.collection_model.specs.Collection.{greatest_freq};
 ghost use Rattle.topk_pruning.specs.Terms.{terms_of, bounds};
@@ -28,6 +28,7 @@ pub(crate) fn terms_by_bound<C: DocCursor>(
     ensures all { IfOk result (λ terms. IsPermutation
         (terms_of (map C.list cursors.now) weights.now) terms.items) }
     ensures light { IfOk result (λ terms. bounds terms.items < 2 ^ 58) }
+    ensures order { IfOk result (λ terms. AllPairs (λ a b. b.bound ≤ a.bound) terms.items) }
 {
     let mut terms = terms_in_order(alloc, cursors, weights)?;
     terms.sort_unstable_by(|a, b| b.bound.cmp(&a.bound));

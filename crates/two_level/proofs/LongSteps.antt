@@ -1,17 +1,19 @@
 -- Lemmas on the steps of some values, and on those of them that are at least so long.
-use Rattle.std.proofs.Common.{◌≡◌, refl, ℕ, zero, suc, ◌+◌, ◌-◌, ◌*◌, ◌<◌, ◌≤◌, leb, cond, List, [], ◌∷◌, length, take, drop, set, replicate, get_or, slice_index, inl, inr, sym, ap, ◌∙◌, subst, arith}
-use Rattle.std.specs.List.{slice_range, position_or_len}
+use Rattle.std.proofs.Common.{◌≡◌, refl, ℕ, zero, suc, ◌+◌, ◌-◌, ◌*◌, ◌<◌, ◌≤◌, min, leb, Bool, true, false, cond, List, [], ◌∷◌, ◌++◌, length, take, drop, set, replicate, get_or, slice_index, inl, inr, sym, ap, ◌∙◌, subst, arith}
+use Rattle.std.specs.Prelude.{if◌then◌else◌}
+use Rattle.std.specs.List.{slice_range, position_or_len, range_with_len, flat_map}
 use Rattle.std.specs.List.Sorted.{IsStrictlyIncreasing}
 use Rattle.std.proofs.lemmas.Bool.{cases_lt, leb-false, leb-true, le-leb, lt-leb}
-use Rattle.std.proofs.lemmas.List.{drop_more, get_or-take, get_or-drop, take-take, drop-take}
-use Rattle.std.proofs.lemmas.List.Sums.{prefix_len-le-length, fails_before_first, passes_at_first, sum_by-cons, sum_by-take-drop, sum_by-take-le, sum_by-set}
+use Rattle.std.proofs.lemmas.List.{drop_more, get_or-take, get_or-drop, take-take, drop-take, flat_map_more, map-id}
+use Rattle.std.proofs.lemmas.List.FromFn.{map-range_with_len_more}
+use Rattle.std.proofs.lemmas.List.Sums.{prefix_len-le-length, fails_before_first, passes_at_first, sum_by-cons, sum_by-take-drop, sum_by-take-le, sum_by-set, sum_by-append}
 use Rattle.std.proofs.lemmas.List.Folds.{sum_by-replicate}
 use Rattle.collection_model.specs.Sequences.{steps_from}
 use Rattle.collection_model.proofs.Sequences.{steps-length}
 use Rattle.part_cost.specs.Span.{past, universe}
 use Rattle.part_cost.proofs.Parts.{rises}
 use Rattle.sequence_words.specs.SequenceView.{place_at_least}
-use Rattle.two_level.specs.LongSteps.{IsFirstStep, count_reaching}
+use Rattle.two_level.specs.LongSteps.{IsFirstStep, count_reaching, KeepsLongest, steps_if_long}
 use Rattle.part_directory.proofs.Places.{found-place}
 
 -- one past the value before place i, where one past the value before the first is given
@@ -144,20 +146,6 @@ first-of_any xs up from least fit few = record {
 pub count-cons : (least x : ℕ) (xs : List ℕ) → count_reaching least (x ∷ xs) ≡ cond {A = ℕ} (leb least x) 1 0 + count_reaching least xs
 count-cons least x xs = sum_by-cons (λ n. cond (leb least n) 1 0) x xs
 
--- a number that takes another's place is counted once at most
-pub count-set : (least : ℕ) (xs : List ℕ) (i y : ℕ) → i < length xs → count_reaching least (set xs i y) ≤ count_reaching least xs + cond {A = ℕ} (leb least y) 1 0
-count-set least xs i y lt = omega (arith, sum_by-set (λ n. cond {A = ℕ} (leb least n) 1 0) xs i y 0 lt)
-
--- one more value was read, and its step kept or not
-pub keep-one : (least first past index : ℕ) (values old kept new : List ℕ) → index < length values
-    → count_reaching least kept + count_reaching least (steps_from past (drop index values)) ≤ count_reaching least old + count_reaching least (steps_from first values)
-    → count_reaching least new ≤ count_reaching least kept + cond {A = ℕ} (leb least (get_or values index 0 + 1 - past)) 1 0
-    → count_reaching least new + count_reaching least (steps_from (get_or values index 0 + 1) (drop (index + 1) values)) ≤ count_reaching least old + count_reaching least (steps_from first values)
-keep-one least first past index values old kept new lt before one =
-    let value : ℕ = get_or values index 0 in
-    let step : steps_from past (drop index values) ≡ (value + 1 - past) ∷ steps_from (value + 1) (drop (index + 1) values) = ap (steps_from past) (drop_more values index 0 lt) in
-    omega (arith, before, one, ap (count_reaching least) step, count-cons least (value + 1 - past) (steps_from (value + 1) (drop (index + 1) values)))
-
 -- the counts up to a place, and from there up to another
 pub count-range : (least : ℕ) (xs : List ℕ) (i j : ℕ) → i ≤ j → count_reaching least (take i xs) + count_reaching least (slice_range xs i j) ≡ count_reaching least (take j xs)
 count-range least xs i j le =
@@ -179,6 +167,29 @@ count-all least (x ∷ xs) each =
     let one : cond {A = ℕ} (leb least x) 1 0 ≡ 1 = ap (λ b. cond {A = ℕ} b 1 0) (le-leb _ _ (each 0 (omega arith))) in
     omega (arith, more, one, count-cons least x xs)
 
+-- a number is counted once at most
+one-most : (least x : ℕ) → cond {A = ℕ} (leb least x) 1 0 ≤ 1
+one-most least x = elim (leb least x) as (λ b. cond {A = ℕ} b 1 0 ≤ 1) [ true ↦ omega arith | false ↦ omega arith ]
+
+-- no more numbers reach one than there are
+pub count-most : (least : ℕ) (xs : List ℕ) → count_reaching least xs ≤ length xs
+count-most least [] = omega arith
+count-most least (x ∷ xs) =
+    let more : count_reaching least xs ≤ length xs = count-most least xs in
+    omega (arith, more, one-most least x, count-cons least x xs)
+
+-- where as many numbers reach one as there are, each does
+pub all-counted : (least : ℕ) (xs : List ℕ) → length xs ≤ count_reaching least xs → (j : ℕ) → j < length xs → least ≤ get_or xs j 0
+all-counted least [] every j lt = absurd (omega (arith, lt))
+all-counted least (x ∷ xs) every zero lt =
+    elim (cases_lt x least) [
+      | inl below ↦
+          let none : cond {A = ℕ} (leb least x) 1 0 ≡ 0 = ap (λ b. cond {A = ℕ} b 1 0) (lt-leb _ _ below) in
+          absurd (omega (arith, every, none, count-cons least x xs, count-most least xs))
+      | inr above ↦ above
+    ]
+all-counted least (x ∷ xs) every (suc j) lt = all-counted least xs (omega (arith, every, count-cons least x xs, one-most least x)) j (omega (arith, lt))
+
 -- one more block of values has no long step
 pub first-next : (xs : List ℕ) (from place size room count least : ℕ) → IsFirstStep xs from place least place → IsFirstStep xs place (place + size) least (place + count) → size ≡ room → count ≡ room
     → IsFirstStep xs from (place + room) least (place + room)
@@ -190,9 +201,70 @@ first-next xs from place size room count least prefix back s e =
 pub count-join : (least : ℕ) (xs : List ℕ) (i j k : ℕ) → i ≤ j → j ≤ k → count_reaching least (slice_range xs i j) + count_reaching least (slice_range xs j k) ≡ count_reaching least (slice_range xs i k)
 count-join least xs i j k a b = omega (arith, count-range least xs i j a, count-range least xs j k b, count-range least xs i k (omega (arith, a, b)))
 
+-- nothing more is kept where there is nothing more
+pub keep-none : (old : List ℕ) → KeepsLongest old [] old
+keep-none old least = omega (arith, count-most least old)
+
+-- a longer step takes the place of the least that is kept
+pub keep-longer : (least room i step rest all : ℕ) (kept : List ℕ) → length kept ≡ room → i < length kept → ((j : ℕ) → j < length kept → get_or kept i 0 ≤ get_or kept j 0) → get_or kept i 0 < step
+    → min room (count_reaching least kept + (cond {A = ℕ} (leb least step) 1 0 + rest)) ≡ all → min room (count_reaching least (set kept i step) + rest) ≡ all
+keep-longer least room i step rest all kept size inside low longer before =
+    let lowest : ℕ = get_or kept i 0 in
+    let swapped = sum_by-set (λ n. cond {A = ℕ} (leb least n) 1 0) kept i step 0 inside in
+    elim (cases_lt lowest least) [
+      | inl above ↦ let none : cond {A = ℕ} (leb least lowest) 1 0 ≡ 0 = ap (λ b. cond {A = ℕ} b 1 0) (lt-leb _ _ above) in omega (arith, before, swapped, none)
+      | inr below ↦
+          let every : count_reaching least kept ≡ length kept = count-all least kept (λ j lt. let here = low j lt in omega (arith, below, here)) in
+          let one : cond {A = ℕ} (leb least lowest) 1 0 ≡ 1 = ap (λ b. cond {A = ℕ} b 1 0) (le-leb _ _ below) in
+          let two : cond {A = ℕ} (leb least step) 1 0 ≡ 1 = ap (λ b. cond {A = ℕ} b 1 0) (le-leb _ _ (omega (arith, below, longer))) in
+          omega (arith, before, swapped, every, one, two, size)
+    ]
+
+-- a step that is no longer than the least is not kept
+pub keep-shorter : (least room i step rest all : ℕ) (kept : List ℕ) → length kept ≡ room → ((j : ℕ) → j < length kept → get_or kept i 0 ≤ get_or kept j 0) → step ≤ get_or kept i 0
+    → min room (count_reaching least kept + (cond {A = ℕ} (leb least step) 1 0 + rest)) ≡ all → min room (count_reaching least kept + rest) ≡ all
+keep-shorter least room i step rest all kept size low shorter before =
+    elim (cases_lt step least) [
+      | inl above ↦ let none : cond {A = ℕ} (leb least step) 1 0 ≡ 0 = ap (λ b. cond {A = ℕ} b 1 0) (lt-leb _ _ above) in omega (arith, before, none)
+      | inr below ↦
+          let every : count_reaching least kept ≡ length kept = count-all least kept (λ j lt. let here = low j lt in omega (arith, below, here, shorter)) in
+          omega (arith, before, every, size)
+    ]
+
+-- the next value's step, and those of the values behind it
+pub count-next : (least past index : ℕ) (values : List ℕ) → index < length values
+    → count_reaching least (steps_from past (drop index values)) ≡ cond {A = ℕ} (leb least (get_or values index 0 + 1 - past)) 1 0 + count_reaching least (steps_from (get_or values index 0 + 1) (drop (index + 1) values))
+count-next least past index values lt =
+    let value : ℕ = get_or values index 0 in
+    ap (λ vs. count_reaching least (steps_from past vs)) (drop_more values index 0 lt) ∙ count-cons least (value + 1 - past) (steps_from (value + 1) (drop (index + 1) values))
+
 -- what is kept after one more block of numbers
-pub count-more : (least : ℕ) (xs : List ℕ) (from place size room : ℕ) (old kept new : List ℕ) → from ≤ place → size ≡ room → count_reaching least kept ≤ count_reaching least old + count_reaching least (slice_range xs from place)
-    → count_reaching least new ≤ count_reaching least kept + count_reaching least (slice_range xs place (place + size))
-    → count_reaching least new ≤ count_reaching least old + count_reaching least (slice_range xs from (place + room))
-count-more least xs from place size room old kept new le same before more =
-    omega (arith, before, more, count-join least xs from place (place + room) le (omega arith), ap (λ n. count_reaching least (slice_range xs place (place + n))) same)
+pub count-more : (xs : List ℕ) (from place size room : ℕ) (old kept new : List ℕ) → from ≤ place → size ≡ room → length kept ≡ length old → KeepsLongest old (slice_range xs from place) kept
+    → KeepsLongest kept (slice_range xs place (place + size)) new → KeepsLongest old (slice_range xs from (place + room)) new
+count-more xs from place size room old kept new le same kept_room before more least =
+    omega (arith, before least, more least, kept_room, count-join least xs from place (place + room) le (omega arith), ap (λ n. count_reaching least (slice_range xs place (place + n))) same)
+
+-- what is kept after one more part of numbers, of those that are taken
+pub keep-part : (taken : ℕ → List ℕ) (n : ℕ) (old kept new : List ℕ) → length kept ≡ length old → KeepsLongest old (flat_map taken (range_with_len 0 n)) kept → KeepsLongest kept (taken n) new
+    → KeepsLongest old (flat_map taken (range_with_len 0 (n + 1))) new
+keep-part taken n old kept new room before more least =
+    let next : range_with_len 0 (n + 1) ≡ range_with_len 0 n ++ n ∷ [] = sym (map-id (range_with_len 0 (n + 1))) ∙ map-range_with_len_more (λ x. x) 0 n n (omega arith) ∙ ap (λ ns. ns ++ n ∷ []) (map-id (range_with_len 0 n)) in
+    let all : flat_map taken (range_with_len 0 (n + 1)) ≡ flat_map taken (range_with_len 0 n) ++ taken n = ap (flat_map taken) next ∙ sym (flat_map_more taken [] (range_with_len 0 n) n) in
+    omega (arith, before least, more least, room, ap (count_reaching least) all, sum_by-append (λ x. cond {A = ℕ} (leb least x) 1 0) (flat_map taken (range_with_len 0 n)) (taken n))
+
+-- whether the steps of a part are long, by what is told of it
+same-test : (xs : List ℕ) (i j from to u all m : ℕ) → from ≡ i → to ≡ j → u ≡ universe xs i j → all ≡ past xs (length xs) → m ≡ length xs
+    → leb (2 * all * (to - from)) (u * m) ≡ leb (2 * past xs (length xs) * (j - i)) (universe xs i j * length xs)
+same-test xs i j from to u all m a b d e f = cc
+
+-- the steps of a part are taken where they are long
+pub long-taken : (xs : List ℕ) (i j from to u all m : ℕ) → from ≡ i → to ≡ j → u ≡ universe xs i j → all ≡ past xs (length xs) → m ≡ length xs → 2 * all * (to - from) ≤ u * m
+    → steps_if_long xs i j ≡ slice_range (steps_from 0 xs) i j
+long-taken xs i j from to u all m a b d e f long =
+    ap (λ (t : Bool). if t then slice_range (steps_from 0 xs) i j else []) (sym (same-test xs i j from to u all m a b d e f) ∙ le-leb _ _ long)
+
+-- and passed over where they are not
+pub short-passed : (xs : List ℕ) (i j from to u all m : ℕ) → from ≡ i → to ≡ j → u ≡ universe xs i j → all ≡ past xs (length xs) → m ≡ length xs → u * m < 2 * all * (to - from)
+    → steps_if_long xs i j ≡ []
+short-passed xs i j from to u all m a b d e f short =
+    ap (λ (t : Bool). if t then slice_range (steps_from 0 xs) i j else []) (sym (same-test xs i j from to u all m a b d e f) ∙ lt-leb _ _ short)

@@ -5,7 +5,7 @@ ghost use Rattle.part_cost.specs.Formats.{numbers_of};
 ghost use Rattle.part_cost.specs.Payload.{widest_low};
 ghost use Rattle.part_cost.specs.Span.{past};
 ghost use Rattle.part_directory.specs.HeldParts.{HoldsValues};
-ghost use Rattle.two_level.specs.LongSteps.{count_reaching};
+ghost use Rattle.two_level.specs.LongSteps.{count_reaching, KeepsLongest, steps_of_long_parts};
 ghost use Rattle.part_directory.specs.DirectorySequence.{sequence_of};
 
 use crate::stepping::{BLOCK, Next};
@@ -37,8 +37,7 @@ fn keep_steps(values: &[u64], first: u64, kept: &mut [u64])
     requires small { (k : ℕ) → k < length values.now → slice_index values.now k < 2 ^ widest_low }
     requires some { 0 < length kept.old }
     ensures room { length kept.new ≡ length kept.old }
-    ensures kept { (least : ℕ) → count_reaching least kept.new
-        ≤ count_reaching least kept.old + count_reaching least (steps_from first values.now) }
+    ensures kept { KeepsLongest kept.old (steps_from first values.now) kept.new }
 {
     let mut past = first;
     let mut least = place_of_least(kept);
@@ -63,9 +62,8 @@ fn keep_block(held: &HeldPart, next: Next, block: &mut [u64], kept: &mut [u64]) 
     requires any { 0 < length kept.old }
     ensures same_kept { length kept.new ≡ length kept.old }
     ensures kept { (xs : List ℕ) → HoldsValues held.now xs → next.past ≡ past xs next.place
-        → (least : ℕ) → count_reaching least kept.new ≤ count_reaching least kept.old
-        + count_reaching least
-        (slice_range (steps_from 0 xs) next.place (next.place + length block.old)) }
+        → KeepsLongest kept.old
+        (slice_range (steps_from 0 xs) next.place (next.place + length block.old)) kept.new }
     ensures last { (xs : List ℕ) → HoldsValues held.now xs
         → result + 1 ≡ past xs (next.place + length block.old) }
     ensures fits { result < 2 ^ widest_low }
@@ -82,9 +80,9 @@ fn keep_part(held: &HeldPart, kept: &mut [u64])
     requires some { held.now.part.from < held.now.part.to }
     requires any { 0 < length kept.old }
     ensures same_kept { length kept.new ≡ length kept.old }
-    ensures kept { (xs : List ℕ) → HoldsValues held.now xs → IsStrictlyIncreasing xs → (least : ℕ)
-        → count_reaching least kept.new ≤ count_reaching least kept.old
-        + count_reaching least (slice_range (steps_from 0 xs) held.now.part.from held.now.part.to) }
+    ensures kept { (xs : List ℕ) → HoldsValues held.now xs → IsStrictlyIncreasing xs
+        → KeepsLongest kept.old
+        (slice_range (steps_from 0 xs) held.now.part.from held.now.part.to) kept.new }
 {
     let to = held.part.to;
     let mut block = [0; BLOCK];
@@ -120,6 +118,8 @@ fn keep_long_parts(directory: &Directory<'_>, kept: &mut [u64])
     ensures kept { (least : ℕ) → count_reaching least kept.new
         ≤ count_reaching least kept.old + count_reaching least
         (steps_from 0 (sequence_of directory.now).values) }
+    ensures longest { KeepsLongest kept.old (steps_of_long_parts (sequence_of directory.now))
+        kept.new }
 {
     formats_have_room();
     let universe = directory.entry(directory.parts - 1).last + 1;
@@ -131,11 +131,15 @@ fn keep_long_parts(directory: &Directory<'_>, kept: &mut [u64])
     }
 }
 
-// A step that at least k of the steps of the sequence reach, 0 where none is told.
+// A step that at least k of the steps of the sequence reach, 0 where none is told. Of up to 64 it is no shorter than what k of the
+// steps of the long parts reach.
 pub(crate) fn common_step_of(directory: &Directory<'_>, k: u32) -> u64
     requires some { 1 ≤ k }
-    ensures { result ≢ 0 → k ≤ count_reaching result
+    ensures reached { result ≢ 0 → k ≤ count_reaching result
         (steps_from 0 (sequence_of directory.now).values) }
+    ensures longest { k ≤ 64 → (least : ℕ)
+        → k ≤ count_reaching least (steps_of_long_parts (sequence_of directory.now))
+        → least ≤ result }
 {
     let count = k as usize;
     if directory.parts == 0 || MOST_KEPT < count {

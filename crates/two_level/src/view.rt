@@ -13,7 +13,7 @@ ghost use Rattle.sequence_words.specs.SequenceFault.{IsSequenceFault};
 ghost use Rattle.sequence_words.specs.SequenceView.{SequenceView, BeginWith, words_used, place_at_least};
 ghost use Rattle.part_directory.specs.PartOf.{IsPartOf};
 ghost use Rattle.two_level.specs.Steps.{greatest_step};
-ghost use Rattle.two_level.specs.LongSteps.{count_reaching};
+ghost use Rattle.two_level.specs.LongSteps.{count_reaching, steps_of_long_parts};
 
 use crate::cursor::SeqCursor;
 use crate::kept_steps::common_step_of;
@@ -357,10 +357,14 @@ impl<'a> SeqView<'a> {
     }
 
     /// How far at least k of the values lie past the values before them, or farther: 0 where none is told. Parts whose steps are
-    /// short in the mean are not read, so it need not be the farthest such.
+    /// short in the mean are not read, so it need not be the farthest such; of up to 64 it is no shorter than what k of the steps of
+    /// the other parts reach.
     pub fn common_step(&self, k: u32) -> u64
         requires some { 1 ≤ k }
-        ensures { result ≢ 0 → k ≤ count_reaching result (steps_from 0 self.now.values) }
+        ensures reached { result ≢ 0
+            → k ≤ count_reaching result (steps_from 0 self.now.values) }
+        ensures longest { k ≤ 64 → (least : ℕ)
+            → k ≤ count_reaching least (steps_of_long_parts self.now) → least ≤ result }
     {
         common_step_of(&self.directory, k)
     }

@@ -20,7 +20,7 @@ use Rattle.command_model.specs.Found.{most_bytes}
 use Rattle.command_model.proofs.WordBytes.{word_bytes-length}
 use Rattle.word_files.specs.declared.loading.LoadWordsError.{LoadWordsError}
 use Rattle.word_files.specs.declared.loading.LoadWordsError.TheVariants.{Ragged, Read, TooLarge, NoMemory}
-use Rattle.word_files.specs.LoadWords.{LoadsKept, LoadsWords}
+use Rattle.word_files.specs.LoadWords.{BeginWithOne, LoadsKept, LoadsWords}
 use Rattle.word_files.specs.ReadWords.{call_error, words_error, HasWords, PassesWords, ReadsBehind, ReadsKept, ReadsWords}
 
 -- ---- counts
@@ -243,6 +243,16 @@ passed-no_words slot held passed old mid new piece n error (rest, count, fit, r)
 first-of-prefix : (prefix rest : List ℕ) → 0 < length prefix → slice_index (prefix ++ rest) 0 ≡ slice_index prefix 0
 first-of-prefix [] rest some = absurd (omega (arith, some))
 first-of-prefix (x ∷ prefix) rest some = refl
+
+-- words begin with an opening word that is the first
+pub first-begins : (openings words : List ℕ) (word : ℕ) → 0 < length words → word ≡ slice_index words 0 → Contains openings word → BeginWithOne openings words
+first-begins openings [] word some is has = absurd (omega (arith, some))
+first-begins openings (w ∷ words) word some is has = (w, word_bytes words, subst (λ x. Contains openings x) is has, refl)
+
+-- and with more words behind them
+pub begins-more : (openings words more piece : List ℕ) → word_bytes more ≡ word_bytes words ++ piece → BeginWithOne openings words → BeginWithOne openings more
+begins-more openings words more piece added (opening, rest, has, is) =
+    (opening, rest ++ piece, has, added ∙ ap (λ bytes. bytes ++ piece) is ∙ append_assoc (le64 opening) rest piece)
 
 -- words whose rest was passed over
 pub prefix-kept : (openings : List ℕ) (slot : Slot) (old new : DepotState) (prefix : List ℕ) → ReadsBehind slot prefix old new (Ok tt) → All (λ w. w < 2 ^ 64) prefix

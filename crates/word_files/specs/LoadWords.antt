@@ -1,6 +1,7 @@
-use Rattle.std.specs.Prelude.{◌≡◌, ◌≢◌, ℕ, ◌<◌, ◌≤◌, ◌%◌, ◌^◌, ◌⊎◌, IsTrue, List, length, Result, Ok, Err, IfOk, Vec}
-use Rattle.std.specs.List.{All}
+use Rattle.std.specs.Prelude.{◌≡◌, ◌≢◌, ℕ, ◌<◌, ◌≤◌, ◌%◌, ◌^◌, ◌⊎◌, ◌++◌, IsTrue, List, length, Result, Ok, Err, IfOk, Vec}
+use Rattle.std.specs.List.{All, Contains}
 use Rattle.std.specs.declared.alloc.Global.{Global}
+use Rattle.collection_model.specs.Bytes.{le64, word_bytes}
 use Rattle.io_traits.specs.declared.fail.Slot.{Slot}
 use Rattle.io_traits.specs.Calls.{Rose}
 use Rattle.io_traits.specs.DepotState.{DepotState, StartedOnce, OnlyReads, bytes_under}
@@ -37,6 +38,14 @@ pub record LoadsWords (slot : Slot) (name : List ℕ) (old new : DepotState) (re
   -- It is started exactly once, under the name, whatever comes of it, and the first memory that the depot is refused ends the loading.
   pub started_once : StartedOnce (λ s. name) (λ s. s ≡ slot) old new
   pub refusals_rise_only_there : (result ≡ Err NoMemory) ⊎ (new.refusals ≡ old.refusals)
+
+-- the most words that are kept of a file that begins with no opening word
+abbrev pub piece_words : ℕ
+piece_words = 8192
+
+-- The bytes of some words begin with those of one of these.
+abbrev pub BeginWithOne : List ℕ → List ℕ → Type 0
+BeginWithOne openings words = (opening : ℕ) × (rest : List ℕ) × Contains openings opening × (word_bytes words ≡ le64 opening ++ rest)
 
 -- What loading a file gives of which all words are kept only where it begins with one of these words.
 abbrev pub LoadsKept : List ℕ → Slot → List ℕ → DepotState → DepotState → Result (List ℕ) LoadWordsError → Type 0

@@ -1,8 +1,8 @@
-ghost use Rattle.std.specs.Prelude.{◌≡◌, ◌≢◌, ◌+◌, ◌/◌, ◌%◌, ◌^◌, ◌<◌, ◌≤◌, ◌++◌, ◌↔◌, max, length, vec_len, vec_capacity, IsTrue, IfOk, IfErr, OnOk};
+ghost use Rattle.std.specs.Prelude.{◌≡◌, ◌≢◌, ◌+◌, ◌/◌, ◌%◌, ◌^◌, ◌<◌, ◌≤◌, ◌⊎◌, ◌++◌, ◌↔◌, max, length, vec_len, vec_capacity, IsTrue, IfOk, IfErr, OnOk};
 ghost use Rattle.std.specs.List.{All, Contains};
 ghost use Rattle.collection_model.specs.Bytes.{word_bytes};
 ghost use Rattle.index_file.specs.declared.bytes.WordsError.TheVariants.{Ragged, NoMemory};
-ghost use Rattle.word_files.specs.LoadWords.{LoadsKept, words_loaded};
+ghost use Rattle.word_files.specs.LoadWords.{BeginWithOne, LoadsKept, piece_words, words_loaded};
 ghost use Rattle.word_files.specs.ReadWords.{PassesWords, ReadsKept, most_words};
 
 use index_file::{WordsError, read_words_into};
@@ -65,8 +65,10 @@ pub fn load_words<D: Depot>(
     name: &str,
     depot: &mut D,
 ) -> Result<Vec<u64>, LoadWordsError>
-    ensures { LoadsKept openings.now slot name.now (D.state depot.old) (D.state depot.new)
+    ensures loads { LoadsKept openings.now slot name.now (D.state depot.old) (D.state depot.new)
         (words_loaded result) }
+    ensures few { IfOk result (λ words. (length words.items ≤ piece_words)
+        ⊎ BeginWithOne openings.now words.items) }
 {
     depot.start(slot, name)?;
     read_file(alloc, slot, openings, depot)
@@ -93,8 +95,10 @@ fn read_file<D: Depot>(
     depot: &mut D,
 ) -> Result<Vec<u64>, LoadWordsError>
     requires { IsTrue ((D.state depot.old).started slot) }
-    ensures { ReadsKept openings.now slot (D.state depot.old) (D.state depot.new)
+    ensures reads { ReadsKept openings.now slot (D.state depot.old) (D.state depot.new)
         (words_loaded result) }
+    ensures few { IfOk result (λ words. (length words.items ≤ piece_words)
+        ⊎ BeginWithOne openings.now words.items) }
 {
     let mut piece = room_for_a_piece(alloc)?;
     let mut words = Vec::new(alloc);

@@ -10,7 +10,7 @@ returns-in_err-view-clause-refused g c =
     let was = told_ok c.load_words.result c.map_err.result _ c.in_ok-words.words c.map_err.ensures.cases c.in_ok-words.was in
     rw p.1 (inr (
       c.in_err-view.field-0.0,
-      kept_is_none (g.S.BlockSource.lists c.args.source.now) c.args.name.now _ _ c.in_ok-words.words.items c.in_err-view.field-0.0 (rw was at c.load_words.ensures)
+      kept_is_none (g.S.BlockSource.lists c.args.source.now) c.args.name.now _ _ c.in_ok-words.words.items c.in_err-view.field-0.0 (rw was at c.load_words.ensures.loads)
           (rw c.deref.ensures.value at c.in_err-view.ensures.other_words) (rw c.deref.ensures.value at c.in_err-view.ensures.first),
       p.2,
     ))

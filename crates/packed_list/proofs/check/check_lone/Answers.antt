@@ -1,4 +1,5 @@
-use Rattle.std.proofs.Common.{◌≡◌, ℕ, ◌+◌, true, false, List, [], ◌∷◌, length, sym, ap, ◌∙◌, subst, arith}
+use Rattle.std.proofs.Common.{◌≡◌, ℕ, ◌+◌, true, false, Option, Some, None, List, [], ◌∷◌, length, sym, ap, ◌∙◌, subst, arith}
+use Rattle.std.specs.Prelude.{if◌then◌else◌}
 use Rattle.bit_words.specs.Bits.{bits_of}
 use Rattle.bit_words.proofs.Value.{bits-bits_of, length-bits_of}
 use Rattle.collection_model.specs.Collection.{greatest}
@@ -10,6 +11,7 @@ use Rattle.part_codec.specs.PartBits.{part_bits}
 use Rattle.packed_sequence.specs.SequencePlaces.{IsSequenceBefore}
 use Rattle.packed_sequence.proofs.LonePlaces.{LoneFacts, lone-facts, lone-found}
 use Rattle.packed_list.specs.ListPlaces.{IsFound}
+use Rattle.packed_list.proofs.ListPlaces.{step-asked, step-unasked}
 use Rattle.packed_list.proofs.check.check_lone.Goals as goal
 use Rattle.packed_list.proofs.check.check_lone.Goals.{After-part_takes_its_payload, After-at-part}
 
@@ -61,7 +63,7 @@ stands c xs ends h =
 
 -- and a part that stands there is of such a sequence
 is-found : (c : After-at-part) → (ys : List ℕ) → HoldsPart part_bits (bits_of c.at-part.result.bits.words.now) c.at-part.result.place c.at-part.result.u c.at-part.result.m ys
-    → (step : ℕ) → (c.args.sought.with_steps ≡ true → step ≡ greatest (steps_from 0 ys))
+    → (step : Option ℕ) → step ≡ (if c.args.sought.with_steps then Some (greatest (steps_from 0 ys)) else None)
     → IsFound c.args.sought.last c.args.sought.m c.args.sought.bound c.args.sought.with_steps (bits_of c.args.words.now) c.args.at c.args.end
     (record { behind = c.args.at + 1 + c.from.result + c.payload_bits.result; greatest = step })
 is-found c ys got step is =
@@ -88,12 +90,12 @@ returns-in-None-clause-none c = λ xs ends h. c.in-None.ensures.none xs (stands 
 pub returns-in-Some-clause-some : goal.returns-in-Some-clause-some
 returns-in-Some-clause-some c =
     let got = c.in-Some.ensures.some in
-    is-found (goal.at.returns-in-Some-clause-some c).After-at-part got.0 got.1 c.in-Some.greatest (λ asked. got.2)
+    is-found (goal.at.returns-in-Some-clause-some c).After-at-part got.0 got.1 (Some c.in-Some.greatest) (step-asked c.args.sought.with_steps c.in-Some.greatest _ c.if-sought.true got.2)
 
 pub returns-then-check_part-clause-some : goal.returns-then-check_part-clause-some
 returns-then-check_part-clause-some c =
     let got = c.check_part.ensures.0 c.if-check_part.true in
-    is-found (goal.at.returns-then-check_part-clause-some c).After-at-part got.0 got.1 0 (λ asked. (let f : c.args.sought.with_steps ≡ false = c.if-sought.false in cc))
+    is-found (goal.at.returns-then-check_part-clause-some c).After-at-part got.0 got.1 None (step-unasked c.args.sought.with_steps _ c.if-sought.false)
 
 pub returns-else-check_part-clause-none : goal.returns-else-check_part-clause-none
 returns-else-check_part-clause-none c = λ xs ends h.

@@ -1,6 +1,4 @@
-use Rattle.std.proofs.Common.{◌≡◌, ℕ, true, false, refl, sym, ◌∙◌, arith}
-use Rattle.std.specs.Prelude.{IsTrue, nat_eq}
-use Rattle.std.proofs.lemmas.Bool.Decides.{nat_tests}
+use Rattle.std.proofs.Common.{true, false, Some, sym, ap, ◌∙◌, arith}
 use Rattle.bit_words.specs.Bits.{bits_of}
 use Rattle.bit_words.proofs.Value.{length-bits_of}
 use Rattle.collection_model.specs.FormatNumbers.{format_three}
@@ -11,12 +9,6 @@ use Rattle.packed_list.specs.ListPlaces.{IsFound, HoldsTail}
 use Rattle.packed_list.proofs.ListPlaces.{TailFacts, tail-facts, many-found, found-as, before-as, FoundFacts, found-facts, sums-behind, ends-behind}
 use Rattle.packed_list.proofs.check.check_many.Goals as goal
 use Rattle.packed_list.proofs.check.check_many.Goals.{After-last_sum, In-Some, In-Some-check_sequence}
-
-eq-true : (a b : ℕ) → IsTrue (nat_eq a b) → a ≡ b
-eq-true a b h = grind (arith, nat_tests)
-
-true-eq : (a b : ℕ) → a ≡ b → IsTrue (nat_eq a b)
-true-eq a b h = grind (arith, nat_tests)
 
 -- what a list that stands there is
 tail : (c : After-last_sum) → (h : HoldsTail c.args.list.documents c.args.list.m c.args.list.greatest (bits_of c.args.words.now) c.args.at c.args.to) → TailFacts c.args.list.documents c.args.list.m c.args.list.greatest (bits_of c.args.words.now) c.args.at c.args.to h.0 h.1 h.2
@@ -71,7 +63,7 @@ returns-then-second-to c = (
 pub returns : goal.returns
 returns c = (
   λ t. many-found c.sequences_are_a_list.ensures c.args.list.documents c.args.list.m c.args.list.greatest (bits_of c.args.words.now) c.args.at c.args.to c.in-Some.first c.in-Some-check_sequence.second c.requires.many (omega (arith, c.args.list.greatest_fits)) (docs-found (goal.at.returns c).In-Some)
-      (sums-found (goal.at.returns c).In-Some-check_sequence) c.if-second-to.false (eq-true c.in-Some-check_sequence.second.greatest c.from-2.result t ∙ c.from-2.ensures),
-  λ h. true-eq c.in-Some-check_sequence.second.greatest c.from-2.result
-      ((sums-are (goal.at.returns c).In-Some-check_sequence h).greatest_is refl ∙ (tail (goal.at.returns c).After-last_sum h).step ∙ sym c.from-2.ensures),
+      (sums-found (goal.at.returns c).In-Some-check_sequence) c.if-second-to.false (c.is_greatest.ensures.0 t),
+  λ h. c.is_greatest.ensures.1
+      ((sums-are (goal.at.returns c).In-Some-check_sequence h).greatest_is ∙ ap Some (tail (goal.at.returns c).After-last_sum h).step),
 )

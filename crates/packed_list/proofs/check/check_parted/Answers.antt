@@ -1,4 +1,5 @@
-use Rattle.std.proofs.Common.{◌≡◌, ℕ, ◌+◌, ◌*◌, ◌/◌, ◌^◌, ◌<◌, true, false, List, length, get_or, ap, ◌∙◌, arith}
+use Rattle.std.proofs.Common.{◌≡◌, ℕ, ◌+◌, ◌*◌, ◌/◌, ◌^◌, ◌<◌, Option, Some, None, List, length, get_or, ap, ◌∙◌, arith}
+use Rattle.std.specs.Prelude.{if◌then◌else◌}
 use Rattle.std.specs.List.{All, slice_range}
 use Rattle.std.proofs.lemmas.List.Elements.{All-from_get_or}
 use Rattle.bit_words.specs.Bits.{bits_of}
@@ -10,6 +11,7 @@ use Rattle.two_level.specs.SequenceWords.{sequence_words, BeginsSequence}
 use Rattle.packed_sequence.specs.SequencePlaces.{IsSequenceBefore}
 use Rattle.packed_sequence.proofs.PartedPlaces.{parted-found, parted-head, parted-begins}
 use Rattle.packed_list.specs.ListPlaces.{IsFound}
+use Rattle.packed_list.proofs.ListPlaces.{step-asked, step-unasked}
 use Rattle.packed_list.proofs.check.check_parted.Goals as goal
 use Rattle.packed_list.proofs.check.check_parted.Goals.{In-Some}
 
@@ -20,7 +22,7 @@ returns-in_default-clause-none c = λ xs ends h.
 
 -- the words that begin with a sequence are those of one that stands there
 is-found : (c : In-Some) → (xs ends : List ℕ) (taken used : ℕ) → BeginsSequence format_three c.args.sought.m c.args.sought.bound c.in-Some.head.parts xs ends (slice_range c.args.words.now c.in-Some.head.start (c.args.end / 64)) taken
-    → used ≡ length (sequence_words format_three xs ends) → (step : ℕ) → (c.args.sought.with_steps ≡ true → step ≡ greatest (steps_from 0 xs))
+    → used ≡ length (sequence_words format_three xs ends) → (step : Option ℕ) → step ≡ (if c.args.sought.with_steps then Some (greatest (steps_from 0 xs)) else None)
     → IsFound c.args.sought.last c.args.sought.m c.args.sought.bound c.args.sought.with_steps (bits_of c.args.words.now) c.args.at c.args.end (record { behind = 64 * (c.in-Some.head.start + used); greatest = step })
 is-found c xs ends taken used begun is step most =
     let found = parted-found c.words_are_bits.ensures.appended c.args.sought.last c.args.sought.m c.args.sought.bound c.args.words.now c.args.at c.args.end c.in-Some.head.parts c.in-Some.head.start (c.args.end / 64) taken xs ends c.args.sought.bound_fits c.requires.range
@@ -48,7 +50,7 @@ returns-in-Ok-clause-some c =
     let view = c.in-Ok.checked.view in
     let begun = c.in-Ok.ensures.ok in
     is-found (goal.at.returns-in-Ok-clause-some c).In-Some view.values view.ends begun.0 c.in-Ok.checked.used begun.1 (c.in-Ok.ensures.used ∙ ap (λ f. length (sequence_words f view.values view.ends)) c.in-Ok.ensures.format)
-    c.in-Ok.checked.greatest (λ asked. c.in-Ok.ensures.step)
+    (Some c.in-Ok.checked.greatest) (step-asked c.args.sought.with_steps c.in-Ok.checked.greatest _ c.if-sought.true c.in-Ok.ensures.step)
 
 pub returns-in-Err-clause-none : goal.returns-in-Err-clause-none
 returns-in-Err-clause-none c = λ xs ends h.
@@ -60,8 +62,8 @@ returns-in-Ok-check_counting-clause-some c =
     let checked = (c.in-Ok-check_counting).checked in
     let view = checked.view in
     let said = (c.in-Ok-check_counting).ensures in
-    is-found (goal.at.returns-in-Ok-check_counting-clause-some c).In-Some view.values view.ends said.ok.0 checked.used said.ok.1 (said.used ∙ ap (λ f. length (sequence_words f view.values view.ends)) said.format) 0
-    (λ asked. (let f : c.args.sought.with_steps ≡ false = c.if-sought.false in cc))
+    is-found (goal.at.returns-in-Ok-check_counting-clause-some c).In-Some view.values view.ends said.ok.0 checked.used said.ok.1 (said.used ∙ ap (λ f. length (sequence_words f view.values view.ends)) said.format) None
+    (step-unasked c.args.sought.with_steps _ c.if-sought.false)
 
 pub returns-in-Err-check_counting-clause-none : goal.returns-in-Err-check_counting-clause-none
 returns-in-Err-check_counting-clause-none c = λ xs ends h.

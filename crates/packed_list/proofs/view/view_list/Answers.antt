@@ -19,7 +19,7 @@ use Rattle.packed_list.proofs.StatedList.{single-read, StatesList, states-list, 
 use Rattle.packed_sequence.specs.Behind.{place_behind}
 use Rattle.packed_sequence.specs.Sums.{AreSums}
 use Rattle.packed_list.proofs.view.view_list.Goals as goal
-use Rattle.packed_list.proofs.view.view_list.Goals.{After-last_doc-field, After-get-doc, After-known_sequence-docs}
+use Rattle.packed_list.proofs.view.view_list.Goals.{After-last_doc-field, After-get-doc, After-known_sequence_with_end-docs}
 
 small-words : (words : List ℕ) → ((i : ℕ) → get_or words i 0 < 2 ^ 64) → All (λ w. w < 2 ^ 64) words
 small-words words h = All-from_get_or (λ w. w < 2 ^ 64) words 0 (λ i lt. h i)
@@ -113,11 +113,11 @@ docs-there c more =
     docs-stand c.args.documents c.two_gammas-head.result.first c.two_gammas-head.result.second c.args.words.now c.two_gammas-head.result.behind c.args.to c.last_doc-field.result c.requires.list.0 c.requires.list.1 c.requires.list.2 (omega (arith, c.ranges.documents.fits)) c.requires.range c.last_doc-field.ensures (several c more)
 
 -- and its sums behind them
-sums-there : (c : After-known_sequence-docs)
-    → AreSums c.args.words.now c.known_sequence-docs.result.behind c.two_gammas-head.result.first c.two_gammas-head.result.second (freq_sequence c.requires.list.0) c.requires.list.2
+sums-there : (c : After-known_sequence_with_end-docs)
+    → AreSums c.args.words.now c.known_sequence_with_end-docs.result.behind c.two_gammas-head.result.first c.two_gammas-head.result.second (freq_sequence c.requires.list.0) c.requires.list.2
 sums-there c =
-    let place = c.known_sequence-docs.ensures.behind refl (doc_sequence c.requires.list.0) c.requires.list.1 (docs-there (goal.at.After-known_sequence-docs c).After-last_doc-field c.if-head-eq1.false) in
-    sums-stand c.args.documents c.two_gammas-head.result.first c.two_gammas-head.result.second c.args.words.now c.two_gammas-head.result.behind c.args.to (place_behind c.known_sequence-docs.result.behind c.two_gammas-head.result.first) (last_sum c.two_gammas-head.result.first c.two_gammas-head.result.second) c.last_doc-field.result c.requires.list.0 c.requires.list.1 c.requires.list.2 c.requires.range c.last_doc-field.ensures refl place (several (goal.at.After-known_sequence-docs c).After-last_doc-field c.if-head-eq1.false)
+    let place = c.known_sequence_with_end-docs.ensures.behind (doc_sequence c.requires.list.0) c.requires.list.1 (docs-there (goal.at.After-known_sequence_with_end-docs c).After-last_doc-field c.if-head-eq1.false) in
+    sums-stand c.args.documents c.two_gammas-head.result.first c.two_gammas-head.result.second c.args.words.now c.two_gammas-head.result.behind c.args.to (place_behind c.known_sequence_with_end-docs.result.behind c.two_gammas-head.result.first) (last_sum c.two_gammas-head.result.first c.two_gammas-head.result.second) c.last_doc-field.result c.requires.list.0 c.requires.list.1 c.requires.list.2 c.requires.range c.last_doc-field.ensures refl place (several (goal.at.After-known_sequence_with_end-docs c).After-last_doc-field c.if-head-eq1.false)
 
 pub get-doc-requires-clause-range : goal.get-doc-requires-clause-range
 get-doc-requires-clause-range c =
@@ -149,8 +149,8 @@ returns-then-head-eq1-clause-freqs c =
 pub returns-then-head-eq1-clause-greatest : goal.returns-then-head-eq1-clause-greatest
 returns-then-head-eq1-clause-greatest c = (read (goal.at.returns-then-head-eq1-clause-greatest c).After-last_doc-field).most ∙ sym (said (goal.at.returns-then-head-eq1-clause-greatest c).After-last_doc-field).most
 
-pub known_sequence-docs-requires-clause-stands : goal.known_sequence-docs-requires-clause-stands
-known_sequence-docs-requires-clause-stands c = (doc_sequence c.requires.list.0, c.requires.list.1, docs-there (goal.at.known_sequence-docs-requires-clause-stands c).After-last_doc-field c.if-head-eq1.false)
+pub known_sequence_with_end-docs-requires-clause-stands : goal.known_sequence_with_end-docs-requires-clause-stands
+known_sequence_with_end-docs-requires-clause-stands c = (doc_sequence c.requires.list.0, c.requires.list.1, docs-there (goal.at.known_sequence_with_end-docs-requires-clause-stands c).After-last_doc-field c.if-head-eq1.false)
 
 pub of_sums-requires : goal.of_sums-requires
 of_sums-requires c = record {
@@ -159,17 +159,17 @@ of_sums-requires c = record {
   many = omega (arith, (read (goal.at.of_sums-requires c).After-last_doc-field).some, c.if-head-eq1.false);
   few = c.two_gammas-head.ensures.numbers.first.few;
   some = c.two_gammas-head.ensures.numbers.second.some;
-  range = c.known_sequence-docs.ensures.range;
+  range = c.known_sequence_with_end-docs.ensures.range;
   sums = freq_sequence c.requires.list.0;
   ends = c.requires.list.2;
-  stand = sums-there (goal.at.of_sums-requires c).After-known_sequence-docs;
+  stand = sums-there (goal.at.of_sums-requires c).After-known_sequence_with_end-docs;
 }
 
 pub returns-clause-docs : goal.returns-clause-docs
-returns-clause-docs c = c.known_sequence-docs.ensures.view (doc_sequence c.requires.list.0) c.requires.list.1 (docs-there (goal.at.returns-clause-docs c).After-last_doc-field c.if-head-eq1.false) ∙ sym (said (goal.at.returns-clause-docs c).After-last_doc-field).docs
+returns-clause-docs c = c.known_sequence_with_end-docs.ensures.view (doc_sequence c.requires.list.0) c.requires.list.1 (docs-there (goal.at.returns-clause-docs c).After-last_doc-field c.if-head-eq1.false) ∙ sym (said (goal.at.returns-clause-docs c).After-last_doc-field).docs
 
 pub returns-clause-freqs : goal.returns-clause-freqs
-returns-clause-freqs c = c.of_sums.ensures (freq_sequence c.requires.list.0) c.requires.list.2 (sums-there (goal.at.returns-clause-freqs c).After-known_sequence-docs) ∙ sym (said (goal.at.returns-clause-freqs c).After-last_doc-field).freqs
+returns-clause-freqs c = c.of_sums.ensures (freq_sequence c.requires.list.0) c.requires.list.2 (sums-there (goal.at.returns-clause-freqs c).After-known_sequence_with_end-docs) ∙ sym (said (goal.at.returns-clause-freqs c).After-last_doc-field).freqs
 
 pub returns-clause-greatest : goal.returns-clause-greatest
 returns-clause-greatest c = (read (goal.at.returns-clause-greatest c).After-last_doc-field).most ∙ sym (said (goal.at.returns-clause-greatest c).After-last_doc-field).most

@@ -9,7 +9,6 @@ use Rattle.two_level.specs.SequenceView.{SequenceView}
 use Rattle.packed_sequence.specs.declared.last_field.LastField.{LastField}
 use Rattle.packed_sequence.specs.SequencePlaces.{IsSequenceBefore}
 use Rattle.packed_sequence.proofs.LonePlaces.{LoneFacts, lone-facts, lone-size, one-end, one-when-zero}
-use Rattle.packed_sequence.proofs.PlaceBehind.{behind-part}
 use Rattle.packed_sequence.proofs.view.known_lone.Goals as goal
 use Rattle.packed_sequence.proofs.view.known_lone.Goals.{After-part_takes_its_payload}
 
@@ -66,10 +65,9 @@ returns-clause-behind c = λ xs ends h.
     let f = facts (goal.at.returns-clause-behind c).After-part_takes_its_payload xs ends h in
     let end : c.args.field + c.args.sequence.last.less + 1 ≡ past xs (length xs) = omega (arith, f.end_is, c.requires.read) in
     let s = lone-size c.part_takes_its_payload.ensures.payload c.args.sequence.last c.args.sequence.m format_three.most_sum (bits_of c.args.words.now) c.args.sequence.at (64 * length c.args.words.now) xs ends (omega (arith, c.requires.many)) (omega arith) c.requires.flag h in
-    let t = behind-part (c.args.sequence.at + 1 + c.from.result) (c.args.field + c.args.sequence.last.less + 1) c.args.sequence.m (omega arith) in
-    omega (arith, t, ap (λ u. payload u c.args.sequence.m) end, s, c.from.ensures)
+    omega (arith, ap (λ u. payload u c.args.sequence.m) end, s, c.from.ensures)
 
 pub returns-clause-range : goal.returns-clause-range
 returns-clause-range c =
     let f = stood (goal.at.returns-clause-range c).After-part_takes_its_payload in
-    record { fit = λ some. omega (arith, f.end_is, f.room, c.requires.read); small = omega (arith, f.end_is, f.below, c.requires.read) }
+    (omega (arith, f.end_is, f.room, c.requires.read), omega (arith, f.end_is, f.below, c.requires.read))

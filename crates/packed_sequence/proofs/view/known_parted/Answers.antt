@@ -14,7 +14,7 @@ use Rattle.packed_sequence.specs.SequencePlaces.{IsSequenceBefore, IsPartedHead}
 use Rattle.packed_sequence.specs.Laws.{SequenceWordsFit}
 use Rattle.packed_sequence.proofs.PartedPlaces.{head-read, parted-head, parted-begins, parted-size}
 use Rattle.packed_sequence.proofs.view.known_parted.Goals as goal
-use Rattle.packed_sequence.proofs.view.known_parted.Goals.{After-div_ceil-start, After-words_from, After-used}
+use Rattle.packed_sequence.proofs.view.known_parted.Goals.{After-div_ceil-start, After-words_from}
 
 rounds : (n r : ℕ) → r ≡ n / 64 + min 1 (n % 64) → r ≡ (n + 63) / 64
 rounds n r e = omega arith
@@ -78,35 +78,16 @@ began c xs ends h =
     begun c.words_are_bits.ensures.appended c.words_are_bits.ensures.words c.sequence_words_fit.ensures c.args.words.now c.words_from.result.now c.args.sequence.at c.args.sequence.m c.args.parts c.div_ceil-start.result c.args.sequence.last xs ends
     (small-words c.args.words.now (λ i. (let f = c.type_inv.words i in omega (arith, f)))) c.requires.many (omega (arith, c.args.sequence.few)) c.requires.flag c.words_from.ensures (seen (goal.at.After-words_from c).After-div_ceil-start xs ends h) h
 
--- and are as many as are used
-used-are : (c : After-used) → (xs ends : List ℕ) → IsSequenceBefore c.args.sequence.last c.args.sequence.m format_three.most_sum (bits_of c.args.words.now) c.args.sequence.at (64 * length c.args.words.now) xs ends → c.used.result ≡ length (sequence_words format_three xs ends)
-used-are c xs ends h = c.used.ensures ∙ ap words_used (c.known-view.ensures.same (view-of xs ends) refl (began (goal.at.After-used c).After-words_from xs ends h))
-
 pub words_from-requires : goal.words_from-requires
 words_from-requires c = record { within = omega (arith, (seen (goal.at.words_from-requires c).After-div_ceil-start c.requires.stands.0 c.requires.stands.1 c.requires.stands.2).within) }
 
 pub known-view-requires-clause-checked : goal.known-view-requires-clause-checked
 known-view-requires-clause-checked c = (view-of c.requires.stands.0 c.requires.stands.1, refl, began (goal.at.known-view-requires-clause-checked c).After-words_from c.requires.stands.0 c.requires.stands.1 c.requires.stands.2)
 
-pub overflow_add-behind : goal.overflow_add-behind
-overflow_add-behind c =
-    let r = seen (goal.at.overflow_add-behind c).After-div_ceil-start c.requires.stands.0 c.requires.stands.1 c.requires.stands.2 in
-    omega (arith, r.behind, r.inside, used-are (goal.at.overflow_add-behind c).After-used c.requires.stands.0 c.requires.stands.1 c.requires.stands.2, c.requires.words)
-
-pub overflow_mul-behind : goal.overflow_mul-behind
-overflow_mul-behind c =
-    let r = seen (goal.at.overflow_mul-behind c).After-div_ceil-start c.requires.stands.0 c.requires.stands.1 c.requires.stands.2 in
-    omega (arith, r.behind, r.inside, used-are (goal.at.overflow_mul-behind c).After-used c.requires.stands.0 c.requires.stands.1 c.requires.stands.2, c.requires.words)
-
 pub returns-clause-view : goal.returns-clause-view
 returns-clause-view c = λ xs ends h. c.known-view.ensures.same (view-of xs ends) refl (began (goal.at.returns-clause-view c).After-words_from xs ends h)
 
 pub returns-clause-behind : goal.returns-clause-behind
-returns-clause-behind c = λ asked xs ends h.
-    ap (λ k. 64 * (c.div_ceil-start.result + k)) (used-are (goal.at.returns-clause-behind c).After-used xs ends h) ∙ (seen (goal.at.returns-clause-behind c).After-div_ceil-start xs ends h).behind
-
-pub returns-then-not-with_behind-clause-view : goal.returns-then-not-with_behind-clause-view
-returns-then-not-with_behind-clause-view c = λ xs ends h. c.known-view.ensures.same (view-of xs ends) refl (began (goal.at.returns-then-not-with_behind-clause-view c).After-words_from xs ends h)
-
-pub returns-then-not-with_behind-clause-behind : goal.returns-then-not-with_behind-clause-behind
-returns-then-not-with_behind-clause-behind c = λ asked xs ends h. cc
+returns-clause-behind c = λ xs ends h.
+    let known = c.known-view.ensures.same (view-of xs ends) refl (began (goal.at.returns-clause-behind c).After-words_from xs ends h) in
+    ap (λ (v : SequenceView). 64 * (c.div_ceil-start.result + words_used v)) known ∙ (seen (goal.at.returns-clause-behind c).After-div_ceil-start xs ends h).behind

@@ -6,7 +6,7 @@ use Rattle.text_replies.proofs.lines.answer_line.Goals as goal
 pub returns-in-Ok : goal.returns-in-Ok
 returns-in-Ok g c =
     let P : List ℕ → Type 0 = λ text. IsReply (g.L.TermLists.collection c.args.lists.now) c.args.line.now text in
-    answered-written _ _ _ _ _ _ (subst P (sym c.deref.ensures.value) c.in-Ok.ensures) c.write_all_own.ensures
+    answered-written _ _ _ _ _ _ (subst P (sym c.deref.ensures.value) c.in-Ok.ensures.reply) c.write_all_own.ensures
 
 pub returns-in-Err : goal.returns-in-Err
 returns-in-Err g c = answered-refused _ _ _

@@ -32,9 +32,9 @@ read-preserved-then-place-to c =
           λ lt xs h.
           c.value_after-value.ensures xs h ∙ ap (slice_index xs) (let e : c.read.place + room - 1 + 1 ≡ c.read.place + room = omega (arith, some) in e);
       past_is = λ xs h up. c.keep_block-last.ensures.last xs h ∙ ap (λ n. past xs (c.read.place + n)) (size (goal.at.read-preserved-then-place-to c).After-min-room);
-      kept_few =
-          λ xs h up t.
-          count-more t (steps_from 0 xs) c.args.held.now.part.from c.read.place _ room c.args.kept.now c.read.kept c.keep_block-last.new.kept so_far.after (size (goal.at.read-preserved-then-place-to c).After-min-room) (so_far.kept_few xs h up t) (c.keep_block-last.ensures.kept xs h (so_far.past_is xs h up) t);
+      longest =
+          λ xs h up.
+          count-more (steps_from 0 xs) c.args.held.now.part.from c.read.place _ room c.args.kept.now c.read.kept c.keep_block-last.new.kept so_far.after (size (goal.at.read-preserved-then-place-to c).After-min-room) so_far.same_kept (so_far.longest xs h up) (c.keep_block-last.ensures.kept xs h (so_far.past_is xs h up));
     }
 
 pub read-preserved : goal.read-preserved
@@ -47,12 +47,12 @@ read-preserved c =
       same_kept = c.keep_block-last.ensures.same_kept ∙ so_far.same_kept;
       value = λ lt xs h. absurd (omega (arith, lt, c.if-place-to.false));
       past_is = λ xs h up. c.keep_block-last.ensures.last xs h ∙ ap (λ n. past xs (c.read.place + n)) (size (goal.at.read-preserved c).After-min-room);
-      kept_few =
-          λ xs h up t.
-          count-more t (steps_from 0 xs) c.args.held.now.part.from c.read.place _ c.min-room.result c.args.kept.now c.read.kept c.keep_block-last.new.kept so_far.after (size (goal.at.read-preserved c).After-min-room) (so_far.kept_few xs h up t) (c.keep_block-last.ensures.kept xs h (so_far.past_is xs h up) t);
+      longest =
+          λ xs h up.
+          count-more (steps_from 0 xs) c.args.held.now.part.from c.read.place _ c.min-room.result c.args.kept.now c.read.kept c.keep_block-last.new.kept so_far.after (size (goal.at.read-preserved c).After-min-room) so_far.same_kept (so_far.longest xs h up) (c.keep_block-last.ensures.kept xs h (so_far.past_is xs h up));
     }
 
 pub returns-clause-kept : goal.returns-clause-kept
 returns-clause-kept c xs h up t =
     let end : c.read.place ≡ c.args.held.now.part.to = omega (arith, c.read.invariant.within, c.read-test.false) in
-    omega (arith, c.read.invariant.kept_few xs h up t, ap (λ n. count_reaching t (slice_range (steps_from 0 xs) c.args.held.now.part.from n)) end)
+    omega (arith, c.read.invariant.longest xs h up t, ap (λ n. count_reaching t (slice_range (steps_from 0 xs) c.args.held.now.part.from n)) end)

@@ -16,7 +16,7 @@ returns c =
     let m = c.args.self.m in
     let here = subst (λ (last : LastField). IsSequenceBefore last m format_three.most_sum (bits_of words) c.of-at.result (64 * length words) sums ends) (sym c.last_sum-last.ensures)
     (subst (λ (at : ℕ). IsSequenceBefore (last_sum m c.args.self.greatest) m format_three.most_sum (bits_of words) at (64 * length words) sums ends) (sym c.of-at.ensures) c.requires.stand) in
-    c.known_sequence.ensures.view sums ends here
+    c.known_sequence.ensures sums ends here
     ∙ sym (ap (λ (s : SequenceAt). s.view)
     (c.sequences_state_back.ensures (last_sum m c.args.self.greatest) m (place_behind c.args.self.docs m) words sums ends c.requires.many c.requires.few
     c.requires.words_fit c.requires.stand))

@@ -10,8 +10,8 @@ use Rattle.packed_sequence.proofs.LonePlaces.{lone-facts}
 use Rattle.packed_sequence.proofs.PartedPlaces.{parted-head}
 use Rattle.packed_sequence.proofs.FlagAndField.{FlagAndField, flag-and-field, head-fits}
 use Rattle.packed_sequence.proofs.WindowFields.{window-first, window-field}
-use Rattle.packed_sequence.proofs.view.known_sequence.Goals as goal
-use Rattle.packed_sequence.proofs.view.known_sequence.Goals.{After-window_from-window, After-digits, After-lowest_bits-parts, After-lowest_bits-head}
+use Rattle.packed_sequence.proofs.view.head_of.Goals as goal
+use Rattle.packed_sequence.proofs.view.head_of.Goals.{After-window_from-window, After-digits, After-lowest_bits-parts, After-lowest_bits-head}
 
 -- the bits that are read lie within the words
 inside : (c : After-window_from-window) → c.args.at + min (1 + c.args.last.width) 64 ≤ 64 * length c.args.words.now
@@ -46,18 +46,18 @@ parts c one =
     (flag-and-field bits c.args.at c.digits.result (1 + c.digits.result) c.lowest_bits-parts.result (bits-bits_of c.args.words.now) (omega (arith, narrow)) (omega (arith, narrow)) got).field (omega (arith, below))
     ∙ ap (field_at bits (c.args.at + 1)) wide
 
-pub overflow_cast-parts : goal.overflow_cast-parts
-overflow_cast-parts c =
-    let after = (goal.at.overflow_cast-parts c).After-lowest_bits-parts in
+pub overflow_cast-result : goal.overflow_cast-result
+overflow_cast-result c =
+    let after = (goal.at.overflow_cast-result c).After-lowest_bits-parts in
     let bits : List ℕ = bits_of c.args.words.now in
     let narrow = digits-are-fewest c.args.m 32 (omega (arith, c.ranges.m.fits)) (omega (arith, c.ranges.m.fits)) in
     omega (arith, parts after c.if-window-eq1.true, field-below bits (c.args.at + 1) (digits c.args.m) (bits-bits_of c.args.words.now), pow_mono {i = digits c.args.m} {j = 32} narrow)
 
-pub known_parted-requires-clause-flag : goal.known_parted-requires-clause-flag
-known_parted-requires-clause-flag c = omega (arith, flag (goal.at.known_parted-requires-clause-flag c).After-window_from-window, c.if-window-eq1.true)
-
-pub known_parted-requires-clause-read : goal.known_parted-requires-clause-read
-known_parted-requires-clause-read c = parts (goal.at.known_parted-requires-clause-read c).After-lowest_bits-parts c.if-window-eq1.true
+pub returns-then-window-eq1 : goal.returns-then-window-eq1
+returns-then-window-eq1 c = (
+  omega (arith, flag (goal.at.returns-then-window-eq1 c).After-window_from-window, c.if-window-eq1.true),
+  parts (goal.at.returns-then-window-eq1 c).After-lowest_bits-parts c.if-window-eq1.true,
+)
 
 -- else the flag and the last value were read
 read : (c : After-lowest_bits-head) → FlagAndField (bits_of c.args.words.now) c.args.at c.args.last.width c.lowest_bits-head.result
@@ -70,13 +70,10 @@ read c =
 unset : (c : After-window_from-window) → (c.window_from-window.result % 2 ≡ 1 → ⊥) → slice_index (bits_of c.args.words.now) c.args.at ≡ 0
 unset c no_one = omega (arith, flag c, no_one)
 
-pub known_lone-requires-clause-flag : goal.known_lone-requires-clause-flag
-known_lone-requires-clause-flag c = unset (goal.at.known_lone-requires-clause-flag c).After-window_from-window c.if-window-eq1.false
-
-pub known_lone-requires-clause-read : goal.known_lone-requires-clause-read
-known_lone-requires-clause-read c =
+pub returns-else-window-eq1 : goal.returns-else-window-eq1
+returns-else-window-eq1 c =
     let h = c.requires.stands in
-    let after = (goal.at.known_lone-requires-clause-read c).After-lowest_bits-head in
-    let zero = unset (goal.at.known_lone-requires-clause-read c).After-window_from-window c.if-window-eq1.false in
+    let after = (goal.at.returns-else-window-eq1 c).After-lowest_bits-head in
+    let zero = unset (goal.at.returns-else-window-eq1 c).After-window_from-window c.if-window-eq1.false in
     let f = lone-facts c.part_takes_its_payload.ensures.payload c.args.last c.args.m format_three.most_sum (bits_of c.args.words.now) c.args.at (64 * length c.args.words.now) h.0 h.1 (omega (arith, c.requires.many)) (omega arith) zero h.2 in
-    (read after).field (omega (arith, f.end_is, f.below))
+    (zero, (read after).field (omega (arith, f.end_is, f.below)))
