@@ -70,6 +70,16 @@ side-at cs t q term block =
     ∙ get_or_append_left (block_freqs cs) (length (block_freqs cs) ∷ side_end ∷ []) 0 k (word-within cs t q term block)
     ∙ freq-at cs t q term block
 
+-- lists without blocks have no words
+pub rest-unspoken : (cs : List BlockList) (w : ℕ) → ((t : ℕ) → w ≤ t → (nth_list cs t).ends ≡ []) → block_freqs (take w cs) ≡ block_freqs cs
+rest-unspoken [] zero none = refl
+rest-unspoken [] (suc w) none = refl
+rest-unspoken (c ∷ cs) zero none =
+    let here : greatest_of c ≡ [] = ap (λ es. map (λ b. b.greatest) (blocks_at c.list 0 es)) (none 0 (omega arith)) in
+    sym (flat_map-cons greatest_of c cs ∙ ap (λ xs. xs ++ block_freqs cs) here ∙ sym (rest-unspoken cs zero (λ t le. none (suc t) (omega arith))))
+rest-unspoken (c ∷ cs) (suc w) none =
+    flat_map-cons greatest_of c (take w cs) ∙ ap (λ xs. greatest_of c ++ xs) (rest-unspoken cs w (λ t le. none (suc t) (omega (arith, le)))) ∙ sym (flat_map-cons greatest_of c cs)
+
 -- all blocks stand before the end
 pub all-before : (cs : List BlockList) → blocks_before cs (length cs) ≡ length (block_freqs cs)
 all-before cs = ap (sum_by count_of) (take_all (length cs) cs (omega arith)) ∙ sym (freqs-count cs)

@@ -19,7 +19,7 @@ pub fn side_words<S: BlockSource>(alloc: Global, source: &S) -> Result<Vec<u64>,
     ensures { IfOk result (λ words. words.items ≡ side_words (S.lists source.now)) }
 {
     let mut words = vec![in alloc; OPENING, 1]?;
-    for term in 0..source.terms() {
+    for term in 0..source.walked_terms() {
         add_blocks(&mut words, source, term)?;
     }
     let blocks = words.len() as u64 - 2;
@@ -142,7 +142,7 @@ fn first_wrong<S: BlockSource>(words: &[u64], source: &S) -> Option<(u32, u32)>
         (length (S.lists source.now))) }
 {
     let mut before = 0;
-    for term in 0..source.terms() {
+    for term in 0..source.walked_terms() {
         if let Some(part) = wrong_block(words, source, term, before) {
             return Some((term, part));
         }

@@ -1,4 +1,4 @@
-ghost use Rattle.std.specs.Prelude.{◌≡◌, ◌<◌, ◌≤◌, List, length};
+ghost use Rattle.std.specs.Prelude.{◌≡◌, ℕ, ◌<◌, ◌≤◌, List, [], length};
 ghost use Rattle.std.specs.List.{All};
 ghost use Rattle.block_max.specs.Blocks.{BlockList, IsBlockList, blocks_before, nth_block, nth_list};
 
@@ -9,6 +9,14 @@ pub trait BlockSource {
     /// How many lists there are.
     fn terms(&self) -> u32
         ensures { result ≡ length (lists self.now) };
+
+    /// How many lists a walk over all has to look at: those from there on have no blocks. They are all here; a source may know of fewer.
+    fn walked_terms(&self) -> u32
+        ensures within { result ≤ length (lists self.now) }
+        ensures rest { (t : ℕ) → result ≤ t → (nth_list (lists self.now) t).ends ≡ [] }
+    {
+        self.terms()
+    }
 
     /// How many blocks list t has.
     fn blocks(&self, t: u32) -> u32

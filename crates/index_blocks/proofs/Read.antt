@@ -1,5 +1,5 @@
 -- What is read of the lists of an index in blocks.
-use Rattle.std.proofs.Common.{◌≡◌, refl, sym, ap, ◌∙◌, ℕ, zero, suc, ◌+◌, ◌-◌, ◌<◌, ◌≤◌, List, [], ◌∷◌, ◌++◌, length, get_or, map, take, drop, arith}
+use Rattle.std.proofs.Common.{◌≡◌, inl, inr, refl, sym, ap, ◌∙◌, ℕ, zero, suc, ◌+◌, ◌-◌, ◌*◌, ◌/◌, ◌<◌, ◌≤◌, List, [], ◌∷◌, ◌++◌, length, get_or, map, take, drop, arith}
 use Rattle.std.specs.List.{All, range_with_len}
 use Rattle.std.proofs.lemmas.List.Elements.{All-cons, All-head, All-nil, All-tail}
 use Rattle.std.proofs.lemmas.List.FromFn.{get_or-map-range_with_len, length-map-range_with_len, map-range_with_len_more}
@@ -9,7 +9,15 @@ use Rattle.two_level.specs.SequenceView.{start_of_part}
 use Rattle.index_file.specs.FileWords.{ArePartitions, ListParts}
 use Rattle.cursor_api.specs.NextGeq.{IsCursorList}
 use Rattle.block_max.specs.Blocks.{Block, BlockList, IsBlockList, blocks_at, blocks_before, blocks_of, nth_block, nth_list}
-use Rattle.index_blocks.specs.BlockLists.{block_lists, block_starts}
+use Rattle.index_file.specs.IndexView.{IndexView}
+use Rattle.part_cost.specs.Partition.{IsPartition}
+use Rattle.part_cost.proofs.Partitions.{few-parts}
+use Rattle.part_cost.proofs.Parts.{past-at, rises}
+use Rattle.std.proofs.Math.Nat.{div-mul-le_self}
+use Rattle.std.proofs.lemmas.Nat.{le-div}
+use Rattle.std.proofs.lemmas.Bool.{cases_lt}
+use Rattle.std.proofs.lemmas.List.{length-map}
+use Rattle.index_blocks.specs.BlockLists.{block_lists, block_starts, blocks_of_index, lists_a_start}
 
 abbrev no_parts : ListParts
 no_parts = record { doc_ends = []; freq_ends = [] }
@@ -79,27 +87,71 @@ module _ (lists : List (List Posting)) (parts : List ListParts) (are : ArePartit
     pub greatest-at : (nth_block (block_lists lists parts) t q).greatest ≡ greatest_freq (take (get_or own q 0 - start_of_part own q) (drop (start_of_part own q) (get_or lists t [])))
     greatest-at = ap (λ (b : Block). b.greatest) block-at
 
--- the table says how many blocks stand before each list
-pub starts-at : (cs : List BlockList) (t : ℕ) → t ≤ length cs → get_or (block_starts cs) t 0 ≡ blocks_before cs t
-starts-at cs t within = get_or-map-range_with_len (blocks_before cs) 0 (length cs + 1) t t 0 (omega arith) (omega arith)
+-- division keeps the order
+pub div-grows : (a b n : ℕ) → 0 < n → a ≤ b → a / n ≤ b / n
+div-grows a b n some h = le-div (a / n) b n some (omega (arith, div-mul-le_self a n, h))
 
--- and has one number more than there are lists
-pub starts-count : (cs : List BlockList) → length (block_starts cs) ≡ length cs + 1
-starts-count cs = length-map-range_with_len (blocks_before cs) 0 (length cs + 1)
+-- the table says how many blocks stand before the lists where it is told
+pub starts-at : (i : IndexView) (k : ℕ) → k ≤ length i.collection.lists / lists_a_start i → get_or (block_starts i) k 0 ≡ blocks_before (blocks_of_index i) (k * lists_a_start i)
+starts-at i k within =
+    get_or-map-range_with_len (λ (n : ℕ). blocks_before (blocks_of_index i) (n * lists_a_start i)) 0 (length i.collection.lists / lists_a_start i + 1) k k 0 (omega (arith, within)) (omega arith)
+
+-- and how many numbers it has
+pub starts-count : (i : IndexView) → length (block_starts i) ≡ length i.collection.lists / lists_a_start i + 1
+starts-count i = length-map-range_with_len (λ (n : ℕ). blocks_before (blocks_of_index i) (n * lists_a_start i)) 0 (length i.collection.lists / lists_a_start i + 1)
 
 -- the sum grows by the blocks of a list
 pub one-more : (cs : List BlockList) (t : ℕ) → t < length cs → blocks_before cs (t + 1) ≡ blocks_before cs t + length (nth_list cs t).ends
 one-more cs t within = sum_by_more (λ (c : BlockList). length c.ends) cs t (record { list = []; ends = [] }) within
 
--- the table grows by a sum
-pub start-more : (cs : List BlockList) (t before : ℕ) → before ≡ blocks_before cs t → map (blocks_before cs) (range_with_len 0 t) ++ before ∷ [] ≡ map (blocks_before cs) (range_with_len 0 (t + 1))
-start-more cs t before is =
-    let at : 0 + t ≡ t = omega arith in
-    ap (λ (x : ℕ). map (blocks_before cs) (range_with_len 0 t) ++ x ∷ []) is ∙ sym (map-range_with_len_more (blocks_before cs) 0 t t at)
+-- and stays where the lists from one on have none
+pub stays : (cs : List BlockList) (k t : ℕ) → t + k ≤ length cs → ((s : ℕ) → t ≤ s → s < t + k → (nth_list cs s).ends ≡ []) → blocks_before cs (t + k) ≡ blocks_before cs t
+stays cs zero t within none = ap (blocks_before cs) (let e : t + 0 ≡ t = omega arith in e)
+stays cs (suc k) t within none =
+    let e : t + suc k ≡ t + k + 1 = omega arith in
+    let last : length (nth_list cs (t + k)).ends ≡ 0 = ap length (none (t + k) (omega arith) (omega arith)) in
+    omega (arith, ap (blocks_before cs) e, one-more cs (t + k) (omega (arith, within)), last, stays cs k t (omega (arith, within)) (λ s le lt. none s le (omega (arith, lt))))
 
--- until it has all
-pub all-made : (cs : List BlockList) (t : ℕ) → t ≡ length cs → map (blocks_before cs) (range_with_len 0 (t + 1)) ≡ block_starts cs
-all-made cs t is = ap (λ (n : ℕ). map (blocks_before cs) (range_with_len 0 (n + 1))) is
+pub same-before : (cs : List BlockList) (a b : ℕ) → a ≤ b → b ≤ length cs → ((s : ℕ) → a ≤ s → s < b → (nth_list cs s).ends ≡ []) → blocks_before cs a ≡ blocks_before cs b
+same-before cs a b le within none =
+    let e : a + (b - a) ≡ b = omega (arith, le) in
+    sym (stays cs (b - a) a (omega (arith, le, within)) (λ s from lt. none s from (omega (arith, lt, le)))) ∙ ap (blocks_before cs) e
+
+-- no numbers are cut into no parts
+no-ends : (n : ℕ) (ends : List ℕ) → IsPartition n ends → n ≡ 0 → ends ≡ []
+no-ends n [] is none = refl
+no-ends n (end ∷ ends) is none = absurd (omega (arith, few-parts 0 n (end ∷ ends) is, none))
+
+-- a list without postings has no blocks
+pub without-blocks : (lists : List (List Posting)) (parts : List ListParts) → ArePartitions lists parts → (t : ℕ) → get_or lists t [] ≡ [] → (nth_list (block_lists lists parts) t).ends ≡ []
+without-blocks [] parts are t none = refl
+without-blocks (l ∷ lists) [] are t none = absurd are
+without-blocks (l ∷ lists) (p ∷ parts) are zero none = no-ends (length l) p.doc_ends are.0 (ap length none)
+without-blocks (l ∷ lists) (p ∷ parts) are (suc t) none = without-blocks lists parts are.2 t none
+
+-- a list that is cut has fewer than 2^32 blocks
+few-of : (c : BlockList) → IsBlockList c → length c.ends ≤ 4294967295
+few-of c is =
+    let ds : List ℕ = docs_of c.list in
+    let count : length ds ≡ length c.list = length-map c.list (λ (p : Posting). p.doc) in
+    let parts = few-parts 0 (length c.list) c.ends is.partition in
+    elim (cases_lt 0 (length ds)) as (λ _. length c.ends ≤ 4294967295) [
+      | inl some ↦ (let below : get_or ds (length ds - 1) 0 < 4294967295 = is.cursor_list.docs (length ds - 1) 0 (omega (arith, some)) in
+          omega (arith, parts, count, below, past-at ds (length ds) some, rises ds is.cursor_list.rising 0 (length ds) (omega arith) (omega arith)))
+      | inr none ↦ omega (arith, parts, count, none)
+    ]
+
+pub few-before : (cs : List BlockList) → All IsBlockList cs → (t : ℕ) → t ≤ length cs → blocks_before cs t ≤ t * 4294967295
+few-before cs all zero within = omega arith
+few-before cs all (suc t) within =
+    let e : suc t ≡ t + 1 = omega arith in
+    omega (arith, ap (blocks_before cs) e, one-more cs t (omega (arith, within)), few-before cs all t (omega (arith, within)), few-of (nth_list cs t) (all t (record { list = []; ends = [] }) (omega (arith, within))))
+
+-- the table grows by a sum
+pub start-more : (f : ℕ → ℕ) (k before : ℕ) → before ≡ f k → map f (range_with_len 0 k) ++ before ∷ [] ≡ map f (range_with_len 0 (k + 1))
+start-more f k before is =
+    let at : 0 + k ≡ k = omega arith in
+    ap (λ (x : ℕ). map f (range_with_len 0 k) ++ x ∷ []) is ∙ sym (map-range_with_len_more f 0 k k at)
 
 -- a term of the lists in blocks is one of the lists
 pub term-within : (lists : List (List Posting)) (parts : List ListParts) → ArePartitions lists parts → (t : ℕ) → t < length (block_lists lists parts) → t < length lists

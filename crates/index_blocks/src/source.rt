@@ -3,9 +3,10 @@ ghost use Rattle.std.specs.List.{All};
 ghost use Rattle.collection_model.specs.Collection.{list_of};
 ghost use Rattle.block_max.specs.Blocks.{IsBlockList, blocks_of, nth_list};
 ghost use Rattle.block_max.specs.SideWords.{side_words, words_seen};
-ghost use Rattle.index_blocks.specs.BlockLists.{block_starts, blocks_of_index};
+ghost use Rattle.index_blocks.specs.BlockLists.{block_starts, blocks_of_index, lists_a_start};
 ghost use Rattle.index_blocks.specs.Props.{cut-prop};
 
+use crate::starts::{blocks_between, lists_a_start};
 use block_max::{BlockCursor, BlockSource, Side, SideCursor};
 use cursor_api::DocCursor;
 use index_file::Index;
@@ -15,10 +16,12 @@ use postings::{PostingCursor, cursors_stand_in_lists};
 #[derive(Clone, Copy)]
 pub struct IndexBlocks<'i, 'a> {
     index: &'i Index<'a>,
-    // How many blocks stand before each list, and how many there are.
+    // How many blocks stand before each list whose term is a multiple of `every`.
     starts: &'i [u64],
+    every: u64,
     ghost cut: { All IsBlockList (blocks_of_index index.now) } by { cut-prop (blocks_of_index index.now) },
-    ghost counted: { starts.now ≡ block_starts (blocks_of_index index.now) },
+    ghost counted: { starts.now ≡ block_starts index.now },
+    ghost spaced: { every ≡ lists_a_start index.now },
 }
 
 /// A cursor over a list of an index, with the greatest frequencies of the list's blocks.
@@ -29,14 +32,19 @@ impl<'i, 'a> IndexBlocks<'i, 'a> {
 
     /// The lists of an index, with what `block_starts` gives of it.
     pub fn new(index: &'i Index<'a>, starts: &'i [u64]) -> IndexBlocks<'i, 'a>
-        requires { starts.now ≡ block_starts (blocks_of_index index.now) }
+        requires { starts.now ≡ block_starts index.now }
         ensures lists { ⟦<IndexBlocks<'i, 'a> as BlockSource>⟧.lists result
             ≡ blocks_of_index index.entry.now }
         ensures index { index_seen result ≡ index.entry.now }
     {
         index.stands_for_a_collection();
         cursors_stand_in_lists();
-        IndexBlocks { index, starts }
+        let every = lists_a_start(index);
+        IndexBlocks {
+            index,
+            starts,
+            every,
+        }
     }
 
     /// The index whose lists these are.
@@ -69,6 +77,11 @@ impl<'i, 'a> BlockSource for IndexBlocks<'i, 'a> {
         self.index.terms()
     }
 
+    fn walked_terms(&self) -> u32 {
+        self.index.stands_for_a_collection();
+        self.index.walked_terms()
+    }
+
     fn blocks(&self, t: u32) -> u32 {
         self.index.stands_for_a_collection();
         self.index.blocks(t)
@@ -86,7 +99,8 @@ impl<'i, 'a> BlockSource for IndexBlocks<'i, 'a> {
 
     fn blocks_before(&self, t: u32) -> u64 {
         self.index.stands_for_a_collection();
-        self.starts[t as usize]
+        let place = t as u64 / self.every;
+        self.starts[place as usize] + blocks_between(self.index, place * self.every, t as u64)
     }
 
     ghost cut = { λ s. s.cut };

@@ -12,7 +12,7 @@ use Rattle.part_cost.specs.Span.{AreRelative}
 use Rattle.part_cost.specs.Formats.{numbers_of}
 use Rattle.index_file.specs.FileWords.{format_read, IsIndex, IsIndexIn}
 use Rattle.index_file.specs.PackedAt.{packed_terms, starts_stated, start_stated, PassesPacked}
-use Rattle.index_file.specs.ListStarts.{list_starts, lists_a_word, starts_of_format, kept_starts, AreNoneOr}
+use Rattle.index_file.specs.ListStarts.{list_starts, words_a_start, starts_of_format, kept_starts, AreNoneOr}
 use Rattle.index_file.specs.IndexView.{IndexView, index_stated}
 use Rattle.index_file.specs.Laws.{FileLaws}
 use Rattle.index_file.proofs.PackedStarts.{rises-by}
@@ -51,10 +51,10 @@ choice b xs e = ap (λ a. if a then [] else xs) e
 other : (b : Bool) (xs : List ℕ) → b ≡ false → (if b then [] else xs) ≡ xs
 other b xs e = ap (λ a. if a then [] else xs) e
 
-pub kept-none : (words : List ℕ) → lists_a_word * length words < packed_terms words → [] ≡ starts_of_format Three words
+pub kept-none : (words : List ℕ) → length words < words_a_start * (packed_terms words + 1) → [] ≡ starts_of_format Three words
 kept-none words lt = sym (choice _ (list_starts words) (lt-ltb _ _ lt))
 
-pub kept-all : (words : List ℕ) → packed_terms words ≤ lists_a_word * length words → list_starts words ≡ starts_of_format Three words
+pub kept-all : (words : List ℕ) → words_a_start * (packed_terms words + 1) ≤ length words → list_starts words ≡ starts_of_format Three words
 kept-all words le = sym (other _ (list_starts words) (le-ltb _ _ le))
 
 none-or : (b : Bool) (xs given : List ℕ) → AreNoneOr (if b then [] else xs) given → AreNoneOr xs given

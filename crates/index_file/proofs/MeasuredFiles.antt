@@ -1,9 +1,9 @@
 -- Lemmas on what is summed over the parts of a file of either kind.
 use Rattle.std.proofs.Common.{◌≡◌, ℕ, zero, suc, ◌+◌, ◌-◌, ◌^◌, ◌<◌, ◌≤◌, List, [], ◌∷◌, length, get_or, map, inl, inr, refl, sym, ap, ◌∙◌, subst, arith, length-append}
-use Rattle.std.specs.List.{All, sum}
+use Rattle.std.specs.List.{All, sum, sum_by}
 use Rattle.std.proofs.lemmas.List.{length-map, get_or_past}
 use Rattle.std.proofs.lemmas.Bool.{cases_lt}
-use Rattle.std.proofs.lemmas.List.Sums.{sum-map}
+use Rattle.std.proofs.lemmas.List.Sums.{sum-map, sum_by-cons}
 use Rattle.collection_model.specs.FormatNumbers.{format_three}
 use Rattle.collection_model.specs.Collection.{Posting, Collection, list_of}
 use Rattle.collection_model.specs.Sequences.{doc_sequence, freq_sequence}
@@ -109,6 +109,13 @@ empty-cut n at (c ∷ cs) none d e zero = empty-here c.list (omega (arith, none,
 empty-cut n at (c ∷ cs) none d e (suc t) =
     let l : List ℕ = bits_of_list n at c in
     empty-cut n (at + length l) cs (omega (arith, none, length-append l (bits_of_lists n (at + length l) cs))) d e t
+
+-- and where all lists are empty there are none
+pub no-bits : (n at : ℕ) (lists : List (List Posting)) (parts : List ListParts) → sum_by length lists ≡ 0 → length (bits_of_lists n at (with_parts lists parts)) ≡ 0
+no-bits n at [] parts none = refl
+no-bits n at (l ∷ lists) [] none = refl
+no-bits n at ([] ∷ lists) (p ∷ parts) none = no-bits n (at + 0) lists parts (omega (arith, none, sum_by-cons length [] lists))
+no-bits n at ((x ∷ l) ∷ lists) (p ∷ parts) none = absurd (omega (arith, none, sum_by-cons length (x ∷ l) lists))
 
 pub empty-lists : (n at : ℕ) (lists : List (List Posting)) (parts : List ListParts) → ArePartitions lists parts → length (bits_of_lists n at (with_parts lists parts)) ≡ 0 → (t : ℕ) → get_or lists t [] ≡ []
 empty-lists n at lists parts h none t =

@@ -9,15 +9,15 @@ use Rattle.index_file.specs.PackedAt.{packed_terms, start_stated}
 abbrev pub list_starts : List ℕ → List ℕ
 list_starts words = map (start_stated words) (range_with_len 0 (packed_terms words + 1))
 
--- so many lists a file may state for each of its words, if it is kept where they begin
-abbrev pub lists_a_word : ℕ
-lists_a_word = 8
+-- so many words a file has at least for each number that is kept of it
+abbrev pub words_a_start : ℕ
+words_a_start = 2
 
 -- what is kept of where the lists of a file in a format begin: a plain file says it by its directory
 abbrev pub starts_of_format : Format → List ℕ → List ℕ
 starts_of_format One words = []
 starts_of_format Two words = []
-starts_of_format Three words = if nat_lt (lists_a_word * length words) (packed_terms words) then [] else list_starts words
+starts_of_format Three words = if nat_lt (length words) (words_a_start * (packed_terms words + 1)) then [] else list_starts words
 
 -- what is kept of where the lists of an index begin
 abbrev pub kept_starts : List ℕ → List ℕ

@@ -1,4 +1,4 @@
-ghost use Rattle.std.specs.Prelude.{◌≡◌, ◌<◌, ◌-◌, ◌^◌, List, length, sum, slice_index, take, drop, option_map, IfOk, IfErr};
+ghost use Rattle.std.specs.Prelude.{◌≡◌, ℕ, ◌≤◌, ◌<◌, ◌-◌, ◌^◌, List, [], length, sum, slice_index, take, drop, option_map, IfOk, IfErr};
 ghost use Rattle.collection_model.specs.Collection.{Collection, WellFormed, list_of, docs_of, first_at_least, greatest_freq};
 ghost use Rattle.part_cost.specs.declared.formats.Format.TheVariants.{Three};
 ghost use Rattle.part_cost.specs.Formats.{numbers_of};
@@ -14,7 +14,7 @@ use crate::fault::OpenFault;
 use crate::frame::{format_of, frame_of};
 use crate::laws::file_laws;
 use crate::measures::{Measure, of_index};
-use crate::totals::{all_postings, all_sizes, size_at, sizes_from};
+use crate::totals::{all_postings, all_sizes, size_at, sizes_from, walked_terms};
 use crate::views::list_views;
 use cursor_api::DocCursor;
 use packed_list::ListViews;
@@ -125,6 +125,17 @@ impl<'a> Index<'a> {
     {
         file_laws();
         frame_of(self.words).terms as u32
+    }
+
+    /// How many lists a walk over all has to look at: those from there on have no postings. It is 0 where a packed file has no list
+    /// bits, as six words may be a file of 4,294,967,295 empty lists.
+    pub fn walked_terms(&self) -> u32
+        ensures within { result ≤ length self.now.collection.lists }
+        ensures rest { (t : ℕ) → result ≤ t → list_of self.now.collection t ≡ [] }
+        ensures none { self.now.format ≡ Three → of.postings_count self.now ≡ 0 → result ≡ 0 }
+    {
+        file_laws();
+        walked_terms(self.words, self.format())
     }
 
     /// How many postings all lists have.

@@ -15,13 +15,13 @@ use part_codec::{PartCodec, PartView, one_list_at_place};
 use part_cost::Format;
 use std::alloc::Global;
 
-// So many lists a file may state for each of its words, if where they begin is to be kept.
-const LISTS_A_WORD: u64 = 8;
+// So many words a file has at least for each number that is kept of it.
+const WORDS_A_START: u64 = 2;
 
 /// Where the bits of each list of a packed file begin, counted among those of all lists, and behind them where the last end; what
-/// `Index::with_starts` is given. There are none for a plain file, whose directory says it word by word, nor where a file states
-/// more than eight lists for each of its words, so that no more memory is taken than that of eight such files. The words are those
-/// that `Index::view` accepts.
+/// `Index::with_starts` is given. There are none for a plain file, whose directory says it word by word, nor where there
+/// would be more than one number for two words, so that no more memory is taken than half of the file's. The words are those that
+/// `Index::view` accepts.
 pub fn list_starts(alloc: Global, words: &[u64]) -> Result<Vec<u64>, NoMemory>
     requires words { length words.now < 2 ^ 57 }
     requires index { IsIndex words.now }
@@ -35,7 +35,7 @@ pub fn list_starts(alloc: Global, words: &[u64]) -> Result<Vec<u64>, NoMemory>
     }
 }
 
-// Where the lists of a packed file begin, if it states no more than so many for each word.
+// Where the lists of a packed file begin, if it has so many words for each number.
 fn packed_starts(alloc: Global, words: &[u64]) -> Result<Vec<u64>, NoMemory>
     requires words { length words.now < 2 ^ 57 }
     requires passes { PassesPacked words.now }
@@ -43,7 +43,7 @@ fn packed_starts(alloc: Global, words: &[u64]) -> Result<Vec<u64>, NoMemory>
 {
     one_list_at_place();
     let frame = packed_frame_of(words);
-    if frame.terms > LISTS_A_WORD * words.len() as u64 {
+    if WORDS_A_START * (frame.terms + 1) > words.len() as u64 {
         return Ok(Vec::new(alloc));
     }
     let mut starts = vec![in alloc; 0; frame.terms as usize + 1]?;

@@ -1,6 +1,7 @@
 ghost use Rattle.std.specs.Prelude.{◌≡◌, ℕ, ◌≤◌, ◌<◌, ◌+◌, ◌/◌, ◌^◌, [], sum_by, length};
 ghost use Rattle.std.specs.List.{range_with_len};
 ghost use Rattle.collection_model.specs.Collection.{list_of};
+ghost use Rattle.part_cost.specs.declared.formats.Format.TheVariants.{Three};
 ghost use Rattle.part_cost.specs.Formats.{numbers_of};
 ghost use Rattle.index_file.specs.FileWords.{IsIndexIn, Spells};
 ghost use Rattle.index_file.specs.FirstBroken.{stated_terms};
@@ -60,6 +61,8 @@ pub(crate) fn walked_terms(words: &[u64], format: Format) -> u32
         (index_stated words.now).parts }
     ensures within { result ≤ stated_terms words.now }
     ensures rest { (t : ℕ) → result ≤ t → list_of (index_stated words.now).collection t ≡ [] }
+    ensures none { format ≡ Three → sum_by length (index_stated words.now).collection.lists ≡ 0
+        → result ≡ 0 }
 {
     file_laws();
     if let Format::Three = format {

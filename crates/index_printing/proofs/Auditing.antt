@@ -1,5 +1,5 @@
 -- The lines of an audit: pieces of its text one after the other, and what is known of the sequences of an index.
-use Rattle.std.proofs.Common.{◌≡◌, refl, sym, ap, ◌∙◌, subst, ℕ, zero, suc, ◌+◌, ◌*◌, ◌^◌, ◌<◌, ◌≤◌, inl, inr, Bool, true, false, nat_le, nat_lt, ◌&&◌, cond, List, [], ◌∷◌, ◌++◌, length, length-append, get_or, take, drop, append-nil, append_assoc, arith}
+use Rattle.std.proofs.Common.{◌≡◌, refl, sym, ap, ◌∙◌, subst, ℕ, zero, suc, ◌+◌, ◌-◌, ◌*◌, ◌^◌, ◌<◌, ◌≤◌, inl, inr, Bool, true, false, nat_le, nat_lt, ◌&&◌, cond, List, [], ◌∷◌, ◌++◌, length, length-append, get_or, take, drop, append-nil, append_assoc, arith}
 use Rattle.std.specs.Prelude.{Result, Ok, Err, OnOk, filter, count_by}
 use Rattle.std.specs.List.{All}
 use Rattle.std.specs.List.Sorted.{IsStrictlyIncreasing}
@@ -287,6 +287,21 @@ module _ (i : IndexView) (cut : ArePartitions i.collection.lists i.parts) where
         longer_is = omega (arith, h.longer_is, count-append is_longer h.done (two t), counts-none is_longer (cut_sequence t Docs c) (cut_sequence t Freqs c) d.1 f.1);
         few = omega (arith, h.few);
       }
+
+  -- all lists from one on, where they have no postings
+  audited-all-empty : (k t : ℕ) (old now : SinkState) (before after shown longer : ℕ) → t + k ≤ length i.collection.lists → ((s : ℕ) → t ≤ s → list_of i.collection s ≡ [])
+      → IsAudited i t old now before after shown longer → IsAudited i (t + k) old now before after shown longer
+  audited-all-empty zero t old now before after shown longer within empty h = subst (λ n. IsAudited i n old now before after shown longer) (let e : t ≡ t + 0 = omega arith in e) h
+  audited-all-empty (suc k) t old now before after shown longer within empty h =
+      subst (λ n. IsAudited i n old now before after shown longer) (let e : t + 1 + k ≡ t + suc k = omega arith in e)
+      (audited-all-empty k (t + 1) old now before after shown longer (omega (arith, within)) (λ s le. empty s (omega (arith, le)))
+      (audited-empty t old now before after shown longer (omega (arith, within)) (ap length (empty t (omega arith))) h))
+
+  pub audited-rest : (t : ℕ) (old now : SinkState) (before after shown longer : ℕ) → t ≤ length i.collection.lists → ((s : ℕ) → t ≤ s → list_of i.collection s ≡ [])
+      → IsAudited i t old now before after shown longer → IsAudited i (length i.collection.lists) old now before after shown longer
+  audited-rest t old now before after shown longer within empty h =
+      subst (λ n. IsAudited i n old now before after shown longer) (let e : t + (length i.collection.lists - t) ≡ length i.collection.lists = omega (arith, within) in e)
+      (audited-all-empty (length i.collection.lists - t) t old now before after shown longer (omega (arith, within)) empty h)
 
   -- a list that is too long
   pub audited-longer : (t : ℕ) (old now : SinkState) (before after shown longer : ℕ) → t < length i.collection.lists → longest_audited < length (list_of i.collection t)

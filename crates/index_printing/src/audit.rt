@@ -56,7 +56,7 @@ pub fn print_audit<O: Sink, L: Ledger>(
 {
     index.stands_for_a_collection();
     let mut tally = NONE;
-    for term in 0..index.terms() {
+    for term in 0..index.walked_terms() {
         let more = audit_list(alloc, index, term, out, steps)?;
         tally = Tally {
             shown: tally.shown + more.shown,

@@ -46,7 +46,7 @@ impl OpenIndex {
     }
 
     /// The index, with a number in memory for each list of a packed file: where the list begins. By two of them a list is found, and not by
-    /// the directory. A file that states more than eight lists for each of its words gets none.
+    /// the directory. A file that has fewer than two words for each of these numbers gets none.
     pub fn with_starts(self, alloc: Global) -> Result<OpenIndex, NoMemory>
         ensures { IfOk result (λ index. index ≡ self) }
     {

@@ -1,7 +1,9 @@
 //! Runs of single steps of the commands over inputs, outputs and files in memory: texts that are answered, files that are loaded and
-//! written, what is printed of generated collections, and how often plans move their cursors.
+//! written, what is printed of generated collections, how often plans move their cursors, and what few words may claim.
 #![tactic(auto)]
 
+#[cfg(test)]
+mod claims;
 #[cfg(test)]
 mod files;
 #[cfg(test)]

@@ -97,6 +97,7 @@ fn opens_empty_lists(rt: HostRuntime) {
     let words = [PACKED_OPENING, 3, 0, 4_294_967_295, 0, PACKED_END];
     let index = Index::view(&words).expect(&rt, "an index");
     assert_eq!(rt; (index.documents(), index.terms()), (0, u32::MAX));
+    assert_eq!(rt; index.walked_terms(), 0);
     assert_eq!(rt; (index.postings(), index.size_total()), (0, 0));
     assert_eq!(rt;
         (index.payload_bits(), index.parts_of_kind(Kind::Ones)),
@@ -122,14 +123,26 @@ fn keeps_starts(rt: &impl Abort, alloc: Global, words: &[u64], starts: &[u64])
     }
 }
 
-// One list takes 25 bits, and of three the second none. Nothing is kept of a plain file, nor of six words that may be as many empty
-// lists as there may be.
+// One list takes 25 bits, and of three the second none. Nothing is kept of a plain file, nor of a packed one with fewer than two words
+// for a number: with one empty list more, and of six words that may be as many empty lists as there may be.
 #[test]
 fn keeps_where_lists_begin(rt: HostRuntime) {
     keeps_starts(&rt, rt.alloc(), ONE_PACKED_LIST, &[0, 25]);
     keeps_starts(&rt, rt.alloc(), THREE_PACKED_LISTS, &[0, 3, 3, 8]);
     keeps_starts(&rt, rt.alloc(), THREE_LISTS, &[]);
     keeps_starts(&rt, rt.alloc(), ONE_LIST_OF_TWO, &[]);
+    let four = [
+        PACKED_OPENING,
+        3,
+        235,
+        4_294_967_297,
+        6193,
+        2,
+        4,
+        8,
+        PACKED_END,
+    ];
+    keeps_starts(&rt, rt.alloc(), &four, &[]);
     let words = [PACKED_OPENING, 3, 0, 4_294_967_295, 0, PACKED_END];
     keeps_starts(&rt, rt.alloc(), &words, &[]);
 }

@@ -1,7 +1,9 @@
 // The parts of the documents of a list as its blocks.
 ghost use Rattle.std.specs.Prelude.{◌<◌, ◌^◌, length};
 
-use crate::words::{IN_TWO_PARTS, ONE_LIST, ONE_LIST_OF_TWO, ONE_PACKED_LIST};
+use crate::words::{
+    IN_TWO_PARTS, ONE_LIST, ONE_LIST_OF_TWO, ONE_PACKED_LIST, PACKED_END, PACKED_OPENING,
+};
 use block_max::BlockSource;
 use index_blocks::{IndexBlocks, block_starts, index_side_words};
 use index_file::Index;
@@ -72,4 +74,48 @@ fn the_blocks_of_one_list(rt: HostRuntime) {
         assert!(rt; words.len() <= 20);
         is_one_block(&rt, rt.alloc(), words);
     }
+}
+
+// How many blocks stand before the lists where it is told, before each list, and the words of the side file.
+fn has_starts(
+    rt: &impl Abort,
+    alloc: Global,
+    words: &[u64],
+    starts: &[u64],
+    ends: (u64, u64),
+    side: &[u64],
+)
+    requires { length words.now < 2 ^ 57 }
+{
+    let Ok(index) = Index::view(words) else {
+        return assert!(rt; false, "no index");
+    };
+    let told = block_starts(alloc, &index).expect(rt, "memory");
+    assert_eq!(rt; told.as_slice(), starts);
+    let blocks = IndexBlocks::new(&index, &told);
+    let terms = blocks.terms();
+    if terms > 0 {
+        assert_eq!(rt; blocks.blocks_before(terms - 1), ends.0);
+    }
+    assert_eq!(rt; blocks.blocks_before(terms), ends.1);
+    let made = index_side_words(alloc, &index).expect(rt, "memory");
+    assert_eq!(rt; made.as_slice(), side);
+}
+
+// Six words may be 4,294,967,295 empty lists: it is told for three of them. Of nine lists in nine words only the last has a posting, in
+// two bits, and it is told for every third.
+#[test]
+fn tells_blocks_of_many_lists(rt: HostRuntime) {
+    let six = [PACKED_OPENING, 3, 0, 4_294_967_295, 0, PACKED_END];
+    let none = [5_423_265_565_232_219_472, 1, 0, 5_784_106_546_989_318_987];
+    has_starts(&rt, rt.alloc(), &six, &[0, 0, 0], (0, 0), &none);
+    let nine = [PACKED_OPENING, 3, 3, 1, 2559, 1, 9, 2, PACKED_END];
+    let one = [
+        5_423_265_565_232_219_472,
+        1,
+        1,
+        1,
+        5_784_106_546_989_318_987,
+    ];
+    has_starts(&rt, rt.alloc(), &nine, &[0, 0, 0, 1], (0, 1), &one);
 }

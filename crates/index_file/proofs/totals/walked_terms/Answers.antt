@@ -1,4 +1,4 @@
-use Rattle.std.proofs.Common.{[], subst, arith}
+use Rattle.std.proofs.Common.{◌≡◌, [], subst, arith}
 use Rattle.std.proofs.lemmas.List.{get_or_past}
 use Rattle.part_cost.specs.declared.formats.Format.TheVariants.{Three}
 use Rattle.part_cost.specs.Formats.{numbers_of}
@@ -8,7 +8,8 @@ use Rattle.index_file.specs.IndexView.{index_stated}
 use Rattle.index_file.proofs.FileKinds.{framed, to-packed}
 use Rattle.index_file.proofs.PackedPieces.{packed-laid}
 use Rattle.index_file.proofs.PackedIndex.{packable}
-use Rattle.index_file.proofs.MeasuredFiles.{empty-lists}
+use Rattle.index_file.proofs.MeasuredFiles.{empty-lists, no-bits}
+use Rattle.index_file.proofs.totals.walked_terms.Goals.{in-Three+else-packed_frame_of-eq0, in_default}
 use Rattle.index_file.proofs.totals.walked_terms.Goals as goal
 
 pub packed_frame_of-requires : goal.packed_frame_of-requires
@@ -40,3 +41,16 @@ pub returns-clause-rest : goal.returns-clause-rest
 returns-clause-rest c =
     let i = index_stated c.args.words.now in
     λ t le. get_or_past i.collection.lists t [] (omega (arith, le, (framed c.file_laws.ensures.takes c.args.format c.args.words.now i.collection i.parts c.requires.index).terms, c.frame_of.ensures.terms))
+
+pub returns-clause-none : goal.returns-clause-none
+returns-clause-none c is none =
+    let words = c.args.words.now in
+    let i = index_stated c.args.words.now in
+    let s : Spells (numbers_of Three) c.args.words.now (index_stated c.args.words.now).collection (index_stated c.args.words.now).parts =
+    subst (λ v. Spells (numbers_of v) words i.collection i.parts) is c.requires.index in
+    let p = to-packed words i.collection i.parts s in
+    let laid = packed-laid c.file_laws.ensures.takes words i.collection.documents (with_parts i.collection.lists i.parts) i.collection.sizes (packable words i.collection i.parts p) p.spelled in
+    elim c.match-format.branch [
+      | in-Three+else-packed_frame_of-eq0 w ↦ absurd (omega (arith, w.if-packed_frame_of-eq0.false, w.packed_frame_of.ensures.bits, laid.bits, no-bits i.collection.documents 0 i.collection.lists i.parts none))
+      | in_default w ↦ absurd (w.in_default.not-Three is)
+    ]

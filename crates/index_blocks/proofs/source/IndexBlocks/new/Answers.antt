@@ -15,4 +15,5 @@ invariant_of-result c =
       cut = all-cut i.collection.lists i.parts c.stands_for_a_collection.ensures.partitions
           (λ k d within. c.cursors_stand_in_lists.ensures (numbers_of i.format) i.collection.documents _ few (well.lists k d within));
       counted = c.requires;
+      spaced = c.lists_a_start-every.ensures;
     }
