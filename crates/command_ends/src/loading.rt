@@ -6,7 +6,7 @@ ghost use Rattle.command_ends.specs.Steps.LoadedIndex.{IsLoaded, IsUnloaded};
 
 use index_file::{OpenFault, one_broken_check, words_and_bytes_undo_each_other};
 use io_traits::{Depot, Slot};
-use open_index::OpenIndex;
+use open_index::{CheckedWords, OpenIndex};
 use outcomes::{Stop, stop_of_loading};
 use std::alloc::Global;
 use two_level::Check;
@@ -39,7 +39,7 @@ pub fn load_index<D: Depot>(alloc: Global, name: &str, depot: &mut D) -> Result<
     one_broken_check();
     words_and_bytes_undo_each_other();
     let words = load_words(alloc, Slot::Index, OPENINGS, name, depot).map_err(stop_of_index)?;
-    let opened = OpenIndex::open(words)?;
+    let opened = CheckedWords::open(words)?;
     let kept = opened.with_starts(alloc)?;
     Ok(kept)
 }

@@ -7,8 +7,12 @@ use Rattle.io_traits.specs.declared.fail.Slot.{Slot}
 use Rattle.io_traits.specs.Calls.{Rose}
 use Rattle.io_traits.specs.DepotState.{DepotState, StartedOnce, NoneStartedTwice, OnlyReads}
 use Rattle.collection_reader.specs.declared.fault.Fault.{Fault}
+use Rattle.collection_reader.specs.declared.fault.CollError.{CollError}
+use Rattle.collection_reader.specs.declared.fault.CollError.TheVariants as reading
 use Rattle.collection_reader.specs.ReadCollection.{IsCollectionSlot}
 use Rattle.collection_reader.specs.Starting.{StartedInTurn, names_under}
+use Rattle.index_file.specs.declared.builder.FinishError.{FinishError}
+use Rattle.index_file.specs.declared.builder.FinishError.TheVariants as finishing
 use Rattle.index_file.specs.FileWords.{ListParts, file_words}
 use Rattle.index_file.specs.Builder.{most_words}
 use Rattle.index_building.specs.declared.build.BuildError.{BuildError}
@@ -20,6 +24,17 @@ use Rattle.command_model.specs.CollectionCut.{AreCut}
 abbrev pub words_built : Result (Vec ℕ Global) BuildError → Result (List ℕ) BuildError
 words_built (Ok words) = Ok words.items
 words_built (Err e) = Err e
+
+-- what a refusal of reading is to building: a fault, a failed call and want of memory each stay what they are
+abbrev pub build_error : CollError → BuildError
+build_error (reading.Broken fault) = Broken fault
+build_error (reading.Read slot) = Read slot
+build_error reading.NoMemory = NoMemory
+
+-- what a refusal of the last words is to building
+abbrev pub finish_error : FinishError → BuildError
+finish_error (finishing.TooLarge n) = TooLarge n
+finish_error finishing.NoMemory = NoMemory
 
 -- What building the words of a collection gives, with the counted costs before and after.
 pub record BuildsWords (format : Format) (base : List ℕ) (old new : DepotState) (before after : ℕ) (result : Result (List ℕ) BuildError) : Type 0 where

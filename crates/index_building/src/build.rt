@@ -27,7 +27,7 @@ pub enum BuildError {
 }
 
 impl From<CollError> for BuildError {
-    ghost use Rattle.index_building.specs.AddedFromFiles.{build_error};
+    ghost use Rattle.index_building.specs.WordsOfFiles.{build_error};
 
     ghost from_gives = { λ e answer. answer ≡ build_error e };
 
@@ -51,7 +51,7 @@ impl From<NoMemory> for BuildError {
 }
 
 impl From<FinishError> for BuildError {
-    ghost use Rattle.index_building.specs.AddedFromFiles.{finish_error};
+    ghost use Rattle.index_building.specs.WordsOfFiles.{finish_error};
 
     ghost from_gives = { λ e answer. answer ≡ finish_error e };
 

@@ -3,4 +3,4 @@
 
 mod open;
 
-pub use open::OpenIndex;
+pub use open::{CheckedWords, OpenIndex};

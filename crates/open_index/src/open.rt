@@ -10,16 +10,35 @@ use std::marker::Model;
 
 /// The words of a file that were found to be an index.
 #[derive(Drop)]
+pub struct CheckedWords {
+    words: Vec<u64>,
+}
+
+impl Model for CheckedWords {
+    ghost use Rattle.std.specs.Prelude.{◌<◌, ◌^◌, length};
+    ghost use Rattle.index_file.specs.FileWords.{IsIndex};
+    ghost use Rattle.index_file.specs.IndexView.{IndexView, index_stated};
+
+    ghost Value = { IndexView };
+
+    ghost view = { λ checked. index_stated checked.words.items };
+
+    ghost invariant = { λ checked. (length checked.words.items < 2 ^ 57)
+        × IsIndex checked.words.items };
+}
+
+/// An index with the words of its file, and where its lists begin, as far as it is kept.
+#[derive(Drop)]
 pub struct OpenIndex {
     words: Vec<u64>,
-    // Where the lists of a packed file begin, if it is kept.
+    // Where the lists of a packed file begin, all that is kept of it.
     starts: Vec<u64>,
 }
 
 impl Model for OpenIndex {
-    ghost use Rattle.std.specs.Prelude.{◌<◌, ◌^◌, length};
+    ghost use Rattle.std.specs.Prelude.{◌≡◌, ◌<◌, ◌^◌, length};
     ghost use Rattle.index_file.specs.FileWords.{IsIndex};
-    ghost use Rattle.index_file.specs.ListStarts.{AreNoneOr, kept_starts};
+    ghost use Rattle.index_file.specs.ListStarts.{kept_starts};
     ghost use Rattle.index_file.specs.IndexView.{IndexView, index_stated};
 
     ghost Value = { IndexView };
@@ -28,12 +47,12 @@ impl Model for OpenIndex {
 
     ghost invariant = { λ opened. (length opened.words.items < 2 ^ 57)
         × IsIndex opened.words.items
-        × AreNoneOr (kept_starts opened.words.items) opened.starts.items };
+        × (opened.starts.items ≡ kept_starts opened.words.items) };
 }
 
-impl OpenIndex {
+impl CheckedWords {
     /// The index that the words are, or their first broken check.
-    pub fn open(words: Vec<u64>) -> Result<OpenIndex, OpenFault>
+    pub fn open(words: Vec<u64>) -> Result<CheckedWords, OpenFault>
         requires { length words.items < 2 ^ 57 }
         ensures ok { IfOk result (λ index. Spells (numbers_of index.format) words.items
             index.collection index.parts) }
@@ -41,8 +60,7 @@ impl OpenIndex {
         ensures first { IfErr result (λ f. IsFirstBroken words.items f) }
     {
         Index::view(&words)?;
-        let starts = Vec::new(*words.allocator());
-        Ok(OpenIndex { words, starts })
+        Ok(CheckedWords { words })
     }
 
     /// The index, with a number in memory for each list of a packed file: where the list begins. By two of them a list is found, and not by
@@ -56,7 +74,9 @@ impl OpenIndex {
             starts,
         })
     }
+}
 
+impl OpenIndex {
     /// The index: nothing is checked.
     pub fn index(&self) -> Index<'_>
         ensures { result ≡ self.now }

@@ -1,4 +1,4 @@
-use Rattle.std.proofs.Common.{◌≡◌, ℕ, ◌≤◌, subst}
+use Rattle.std.proofs.Common.{◌≡◌, ◌≤◌, subst}
 use Rattle.two_level.specs.LongSteps.{count_reaching, steps_of_long_parts}
 use Rattle.two_level.specs.SequenceView.{SequenceView}
 use Rattle.packed_sequence.proofs.later.LaterView.common_step.Goals as goal

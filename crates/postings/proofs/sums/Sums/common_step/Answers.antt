@@ -1,4 +1,4 @@
-use Rattle.std.proofs.Common.{◌≡◌, ℕ, ◌≤◌, sym, ap, subst}
+use Rattle.std.proofs.Common.{◌≡◌, ◌≤◌, sym, ap, subst}
 use Rattle.two_level.specs.LongSteps.{count_reaching, steps_of_long_parts}
 use Rattle.two_level.specs.SequenceView.{SequenceView, SequencePlace}
 use Rattle.postings.proofs.sums.Sums.common_step.Goals as goal
