@@ -1,5 +1,5 @@
 -- Lemmas on the words that are built list by list: what is kept from list to list, and how the building ends.
-use Rattle.std.proofs.Common.{◌≡◌, ◌≢◌, refl, sym, ap, ◌∙◌, subst, ℕ, ◌+◌, ◌*◌, ◌^◌, ◌<◌, ◌≤◌, List, [], ◌∷◌, ◌++◌, map, length, Bool, true, false, inl, inr, IsTrue, Result, Ok, Err, Vec, arith, if◌then◌else◌}
+use Rattle.std.proofs.Common.{◌≡◌, ◌≢◌, refl, sym, ap, ◌∙◌, subst, append-nil, append_assoc, replicate, ℕ, zero, suc, ◌+◌, ◌*◌, ◌^◌, ◌<◌, ◌≤◌, List, [], ◌∷◌, ◌++◌, map, length, Bool, true, false, inl, inr, IsTrue, Result, Ok, Err, Vec, arith, if◌then◌else◌}
 use Rattle.std.specs.Prelude.{◌⊎◌, ◌==◌, IfOk}
 use Rattle.std.specs.declared.alloc.Global.{Global}
 use Rattle.std.specs.List.{All}
@@ -30,7 +30,7 @@ use Rattle.index_file.specs.declared.builder.FinishError.{FinishError}
 use Rattle.index_file.specs.declared.builder.FinishError.TheVariants as finishing
 use Rattle.index_file.specs.FileWords.{CutList, ListParts, with_parts, words_of_file, file_words, ArePartitions}
 use Rattle.index_file.proofs.CutLists.{with-parts-of}
-use Rattle.index_file.specs.Builder.{Built, StandsFor, AddsList, IsNearCut, lists_added, most_words}
+use Rattle.index_file.specs.Builder.{Built, StandsFor, AddsList, AddsEmptyLists, IsNearCut, lists_added, most_words, no_list}
 use Rattle.index_file.specs.Laws.{ListsAreCounted, FilesSpellCollections, collection_cut}
 use Rattle.index_building.specs.declared.build.BuildError.{BuildError}
 use Rattle.index_building.specs.declared.build.BuildError.TheVariants.{Broken, Read, TooLarge, NoMemory}
@@ -61,6 +61,36 @@ count-more format lists list before between after docs freqs n counted same some
       let sum = ap (λ s. w * s) more in
       let own = ap (λ l. w * (l + 1)) same in
       omega (arith, sum, own, counted.at_most, most);
+}
+
+-- lists without postings are counted with the others
+one-empty : (format : Format) (lists : List (List Posting)) (before after : ℕ) → AreCounted format lists before after → AreCounted format (lists ++ [] ∷ []) before after
+one-empty format lists before after counted =
+    count-more format lists [] before after after 0 0 0 counted refl (λ some. absurd (omega (arith, some))) (λ some. absurd (omega (arith, some))) (omega arith) (omega arith)
+
+pub count-empty : (format : Format) (k : ℕ) (lists : List (List Posting)) (before after : ℕ) → AreCounted format lists before after → AreCounted format (lists ++ replicate k []) before after
+count-empty format zero lists before after counted = subst (λ l. AreCounted format l before after) (sym (append-nil lists)) counted
+count-empty format (suc k) lists before after counted =
+    subst (λ l. AreCounted format l before after) (append_assoc lists ([] ∷ []) (replicate k [])) (count-empty format k (lists ++ [] ∷ []) before after (one-empty format lists before after counted))
+
+lists-none : (k : ℕ) → map (λ (c : CutList). c.list) (replicate k no_list) ≡ replicate k []
+lists-none zero = refl
+lists-none (suc k) = ap (λ l. [] ∷ l) (lists-none k)
+
+lists-rest : (cs : List CutList) (k : ℕ) → map (λ (c : CutList). c.list) (cs ++ replicate k no_list) ≡ map (λ (c : CutList). c.list) cs ++ replicate k []
+lists-rest [] k = lists-none k
+lists-rest (c ∷ cs) k = ap (λ l. c.list ∷ l) (lists-rest cs k)
+
+-- and are added behind them
+pub empty-added : (format : Format) (old new : Built) (n k : ℕ) (lists : List (List Posting)) (before after : ℕ) → AreAdded format old n lists before after → AddsEmptyLists old new k
+    → AreAdded format new n (lists ++ replicate k []) before after
+empty-added format old new n k lists before after added adds = record {
+  cuts = added.cuts ++ replicate k no_list;
+  format_is = adds.0 ∙ added.format_is;
+  documents = adds.1 ∙ added.documents;
+  stands = adds.2 added.cuts added.stands;
+  lists_are = lists-rest added.cuts k ∙ ap (λ l. l ++ replicate k []) added.lists_are;
+  counted = count-empty format k lists before after added.counted;
 }
 
 -- the last of some cut lists

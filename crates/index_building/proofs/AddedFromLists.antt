@@ -1,5 +1,5 @@
 -- Lemmas on the words of a collection that are made list by list: what is kept from list to list, and how it ends.
-use Rattle.std.proofs.Common.{◌≡◌, refl, sym, ap, ◌∙◌, subst, ℕ, ◌+◌, ◌*◌, ◌<◌, ◌≤◌, List, [], ◌∷◌, ◌++◌, length, length-append, append-nil, append_assoc, arith}
+use Rattle.std.proofs.Common.{◌≡◌, refl, sym, ap, ◌∙◌, subst, ℕ, ◌+◌, ◌*◌, ◌<◌, ◌≤◌, List, [], ◌∷◌, ◌++◌, length, length-append, append-nil, append_assoc, replicate, arith}
 use Rattle.std.specs.Prelude.{Result, Ok, Err, IfOk, Vec}
 use Rattle.std.specs.declared.alloc.Global.{Global}
 use Rattle.std.proofs.lemmas.List.{length-map}
@@ -10,13 +10,13 @@ use Rattle.part_cost.specs.Formats.{numbers_of}
 use Rattle.cost_windows.specs.WindowBounds.{window_bounds}
 use Rattle.index_file.specs.declared.builder.FinishError.{FinishError}
 use Rattle.index_file.specs.FileWords.{CutList, words_of_file}
-use Rattle.index_file.specs.Builder.{Built, StandsFor, AddsList, lists_added, most_words}
+use Rattle.index_file.specs.Builder.{Built, StandsFor, AddsList, AddsEmptyLists, lists_added, most_words}
 use Rattle.index_file.specs.Laws.{ListsAreCounted, FilesSpellCollections}
 use Rattle.index_file.proofs.FittingFiles.{fits-file}
 use Rattle.index_building.specs.AddedFromFiles.{AreAdded}
 use Rattle.index_building.specs.AddedFromLists.{IsMaking}
 use Rattle.index_building.specs.WordsOfCollection.{AreWordsOf, WouldBeTooMany}
-use Rattle.index_building.proofs.AddedFromFiles.{none-added, one-added, all-added}
+use Rattle.index_building.proofs.AddedFromFiles.{none-added, one-added, empty-added, all-added}
 
 -- no list is added yet, and one more is
 pub making-begins : (format : Format) (c : Collection) (lists : List (List Posting)) (b : Built) (steps : ℕ)
@@ -50,6 +50,21 @@ next-has_room count format c lists more b list before after h next few =
     let added : lists_added b ≡ length cuts = count b cuts h.added.stands in
     let as_lists : length cuts ≡ length h.first = sym (length-map cuts (λ c. c.list)) ∙ ap length h.added.lists_are in
     omega (arith, added, as_lists, ap length h.all, ap length next, length-append h.first lists, few)
+
+-- as many lists were added as there are before those that are to come
+pub making-counted : ListsAreCounted → (format : Format) (c : Collection) (lists : List (List Posting)) (b : Built) (before after : ℕ) → IsMaking format c lists b before after
+    → lists_added b + length lists ≡ length c.lists
+making-counted count format c lists b before after h =
+    let cuts = h.added.cuts in
+    let added : lists_added b ≡ length cuts = count b cuts h.added.stands in
+    let as_lists : length cuts ≡ length h.first = sym (length-map cuts (λ c. c.list)) ∙ ap length h.added.lists_are in
+    omega (arith, added, as_lists, ap length h.all, length-append h.first lists)
+
+-- those that are to come have no postings, and are added at once
+pub making-ends-empty : (format : Format) (c : Collection) (lists : List (List Posting)) (old new : Built) (before after k : ℕ) → IsMaking format c lists old before after → lists ≡ replicate k []
+    → AddsEmptyLists old new k → AreAdded format new c.documents c.lists before after
+making-ends-empty format c lists old new before after k h rest adds =
+    subst (λ l. AreAdded format new c.documents l before after) (ap (λ l. h.first ++ l) (sym rest) ∙ sym h.all) (empty-added format old new c.documents k h.first before after h.added adds)
 
 -- all were added
 pub making-ends : (format : Format) (c : Collection) (lists : List (List Posting)) (b : Built) (before after : ℕ)

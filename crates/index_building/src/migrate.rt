@@ -49,9 +49,11 @@ fn add_lists_of<L: Ledger>(
     let mut builder = Builder::new(alloc, index.documents(), format)?;
     let mut docs = Vec::new(alloc);
     let mut freqs = Vec::new(alloc);
-    for term in 0..index.terms() {
+    let walked = index.walked_terms();
+    for term in 0..walked {
         read_list(&mut index.cursor(term), &mut docs, &mut freqs)?;
         builder.add_list(&docs, &freqs, steps)?;
     }
+    builder.add_empty_lists(index.terms() - walked)?;
     Ok(builder)
 }

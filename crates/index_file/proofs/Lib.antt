@@ -41,3 +41,4 @@ mod PackedLists
 mod AddedBoth
 mod PackedBuilt
 mod ListStarts
+mod EmptyLists

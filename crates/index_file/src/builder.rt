@@ -7,9 +7,9 @@ ghost use Rattle.part_cost.specs.Span.{cost_of_part};
 ghost use Rattle.part_cost.specs.Partition.{partition_cost};
 ghost use Rattle.cost_windows.specs.WindowBounds.{window_bounds};
 ghost use Rattle.index_file.specs.FileWords.{CutList, words_of_file};
-ghost use Rattle.index_file.specs.Builder.{StandsFor, IsNearCut, AddsList, lists_added, most_words, cut_list, with_list};
+ghost use Rattle.index_file.specs.Builder.{StandsFor, IsNearCut, AddsList, AddsEmptyLists, lists_added, most_words, cut_list, with_list};
 
-use crate::packed_builder::PackedBuilder;
+use crate::packed_tail::PackedTail;
 use crate::partitions::cut;
 use crate::plain_builder::PlainBuilder;
 use no_memory::NoMemory;
@@ -40,7 +40,7 @@ pub struct Builder {
     format: Format,
     // The halves, of which that of the format's kind is filled.
     plain: PlainBuilder,
-    packed: PackedBuilder,
+    packed: PackedTail,
 }
 
 impl Model for Builder {
@@ -62,7 +62,7 @@ impl Builder {
         ensures no_list { IfOk result (λ b. StandsFor b []) }
     {
         let plain = PlainBuilder::new(alloc, documents, format)?;
-        let packed = PackedBuilder::new(alloc, documents)?;
+        let packed = PackedTail::new(alloc, documents)?;
         Ok(Builder {
             alloc,
             format,
@@ -96,6 +96,23 @@ impl Builder {
         let sums = freq_sums(self.alloc, freqs)?;
         let freq_cuts = cut(self.alloc, &sums, self.format, steps)?;
         self.append(&values, &sums, freqs, &doc_cuts, &freq_cuts)
+    }
+
+    /// Adds so many lists without postings. In a packed file they take no memory until a list with postings follows. A refusal leaves
+    /// the lists as they were.
+    pub fn add_empty_lists(&mut self, count: u32) -> Result<(), NoMemory>
+        requires room { lists_added self.old + count ≤ most_terms }
+        ensures ok { OnOk result (AddsEmptyLists self.old self.new count) }
+        ensures err { OnErr result (self.new ≡ self.old) }
+    {
+        match self.format {
+            Format::One => self.plain.append_empty(u64::from(count)),
+            Format::Two => self.plain.append_empty(u64::from(count)),
+            Format::Three => {
+                self.packed.append_empty(u64::from(count));
+                Ok(())
+            }
+        }
     }
 
     // Appends a list whose sequences are these, and are cut so.

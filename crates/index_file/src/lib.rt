@@ -15,6 +15,7 @@ mod packed_builder;
 mod packed_checking;
 mod packed_frame;
 mod packed_laws;
+mod packed_tail;
 mod packed_views;
 mod partitions;
 mod plain_builder;

@@ -1,12 +1,12 @@
-ghost use Rattle.std.specs.Prelude.{◌≡◌, ℕ, ◌≤◌, ◌<◌, ◌^◌, List, [], length, IfOk, OnOk, OnErr};
+ghost use Rattle.std.specs.Prelude.{◌≡◌, ℕ, ◌+◌, ◌≤◌, ◌<◌, ◌^◌, ◌↔◌, List, [], length, IsTrue, IfOk, OnOk, OnErr};
 ghost use Rattle.collection_model.specs.FormatNumbers.{format_three, most_terms};
 ghost use Rattle.collection_model.specs.Collection.{postings_of, IsPostingList};
 ghost use Rattle.collection_model.specs.Sequences.{freq_sequence};
 ghost use Rattle.index_file.specs.CutLists.{CutList};
 ghost use Rattle.index_file.specs.PackedWords.{packed_words};
-ghost use Rattle.index_file.specs.Builder.{StandsFor, IsNearCut, cut_list, with_list};
+ghost use Rattle.index_file.specs.Builder.{StandsFor, IsNearCut, cut_list, with_list, with_empty_lists};
 
-use crate::entries::{greatest_freq, push_sizes};
+use crate::entries::{greatest_freq, push_numbers, push_sizes};
 use crate::packed_checking::FIRST_LIST_BIT;
 use crate::packed_frame::{PACKED_END, PACKED_MAGIC, PackedFrame, count_of};
 use bit_words::BitWriter;
@@ -102,18 +102,51 @@ impl PackedBuilder {
         Ok(())
     }
 
-    // How many words the file has with so many sizes.
-    pub(crate) fn count_words(&self, sizes: u64) -> u64
+    // Appends so many lists without postings. A refusal leaves the lists as they were.
+    pub(crate) fn append_empty(&mut self, count: u64) -> Result<(), NoMemory>
+        requires room { length self.old.directory + count ≤ most_terms + 1 }
+        ensures ok { OnOk result (self.new ≡ with_empty_lists self.old count) }
+        ensures err { OnErr result (self.new ≡ self.old) }
+    {
+        let next = self.bits.len() - FIRST_LIST_BIT + self.starts.len() as u64;
+        push_numbers(&mut self.starts, next, count)
+    }
+
+    // How many words the file has with so many lists without postings more, and so many sizes.
+    pub(crate) fn count_words(&self, tail: u64, sizes: u64) -> u64
         requires few { sizes < 2 ^ 32 }
-        ensures { (cs : List CutList) (of : List ℕ) → StandsFor self.now cs → length of ≡ sizes
-            → result ≡ length (packed_words self.now.documents cs of) }
+        requires room { length self.now.directory + tail ≤ most_terms + 1 }
+        ensures { (cs : List CutList) (of : List ℕ) → StandsFor (with_empty_lists self.now tail) cs
+            → length of ≡ sizes → result ≡ length (packed_words self.now.documents cs of) }
     {
         part_takes_its_payload();
         count_of(PackedFrame {
             documents: sizes,
-            terms: self.starts.len() as u64 - 1,
+            terms: self.starts.len() as u64 - 1 + tail,
             bits: self.bits.len() - FIRST_LIST_BIT,
         })
+    }
+
+    // Whether no list has a posting.
+    pub(crate) fn has_no_bits(&self) -> bool
+        ensures { IsTrue result ↔ (self.now.words ≡ []) }
+    {
+        self.bits.len() == FIRST_LIST_BIT
+    }
+
+    // The words of the file of the lists and of so many more, none of which has a posting, with these sizes.
+    pub(crate) fn into_empty_words(self, tail: u64, sizes: &[u32]) -> Result<Vec<u64>, NoMemory>
+        requires empty { self.words ≡ [] }
+        requires room { length self.directory + tail ≤ most_terms + 1 }
+        ensures { (cs : List CutList) → StandsFor (with_empty_lists self tail) cs
+            → IfOk result (λ words. words.items ≡ packed_words self.documents cs sizes.now) }
+    {
+        part_takes_its_payload();
+        let lists = self.starts.len() as u64 - 1 + tail;
+        let mut words = self.bits.into_words();
+        push_sizes(&mut words, sizes)?;
+        words.extend_from_slice(&[self.documents as u64, lists, 0, PACKED_END])?;
+        Ok(words)
     }
 
     // The words of the file of the lists, with these sizes.

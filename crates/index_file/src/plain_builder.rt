@@ -6,9 +6,9 @@ ghost use Rattle.part_cost.specs.Formats.{numbers_of};
 ghost use Rattle.part_cost.specs.Span.{cost_of_part};
 ghost use Rattle.part_cost.specs.Partition.{partition_cost};
 ghost use Rattle.index_file.specs.FileWords.{CutList, plain_words};
-ghost use Rattle.index_file.specs.Builder.{StandsForPlain, IsNearCut, cut_list, with_plain_list};
+ghost use Rattle.index_file.specs.Builder.{StandsForPlain, IsNearCut, cut_list, with_empty_plain_lists, with_plain_list};
 
-use crate::entries::{push_sizes, spell_entry};
+use crate::entries::{push_entries, push_sizes, spell_entry};
 use crate::frame::{END_MAGIC, LIST_WORDS, OPENING_MAGIC, WORDS_BEHIND};
 use no_memory::NoMemory;
 use part_cost::{Format, formats_have_room};
@@ -109,6 +109,16 @@ impl PlainBuilder {
             return Err(NoMemory);
         }
         Ok(())
+    }
+
+    // Appends so many lists without postings. A refusal leaves the lists as they were.
+    pub(crate) fn append_empty(&mut self, count: u64) -> Result<(), NoMemory>
+        requires room { length self.old.directory / 4 + count ≤ most_terms }
+        ensures ok { OnOk result (self.new ≡ with_empty_plain_lists self.old count) }
+        ensures err { OnErr result (self.new ≡ self.old) }
+    {
+        let first = self.words.len() as u64;
+        push_entries(&mut self.directory, [first, first, 0, 0], count)
     }
 
     // How many words the file has with so many sizes.

@@ -1,12 +1,13 @@
 -- Each list keeps what is made.
-use Rattle.std.proofs.Common.{◌≡◌, refl, sym, ap, ◌∙◌, subst, ℕ, ◌+◌, ◌*◌, ◌≤◌, ◌<◌, List, [], ◌∷◌, length, drop, arith}
-use Rattle.std.proofs.lemmas.List.{drop_all}
+use Rattle.std.proofs.Common.{◌≡◌, refl, sym, ap, ◌∙◌, subst, ℕ, ◌+◌, ◌-◌, ◌*◌, ◌≤◌, ◌<◌, List, [], ◌∷◌, length, length-drop, drop, replicate, arith}
 use Rattle.collection_model.specs.Collection.{IsPostingList, postings_of}
 use Rattle.part_cost.specs.Formats.{numbers_of}
 use Rattle.cost_windows.specs.WindowBounds.{window_bounds}
 use Rattle.index_file.specs.Builder.{AddsList}
-use Rattle.index_building.proofs.AddedFromLists.{making-begins, making-more, making-ends, next-fits, next-has_room}
-use Rattle.index_building.proofs.Migrating.{list-at, next-list}
+use Rattle.index_building.proofs.AddedFromLists.{making-begins, making-more, making-counted, making-ends-empty, next-fits, next-has_room}
+use Rattle.index_building.proofs.Migrating.{list-at, next-list, rest-empty}
+use Rattle.index_building.proofs.migrate.add_lists_of.Given as given
+use Rattle.index_building.proofs.migrate.add_lists_of.Goals.{After-loop-term}
 use Rattle.index_building.proofs.migrate.add_lists_of.Goals as goal
 
 pub new-requires : goal.new-requires
@@ -20,7 +21,7 @@ loop-term-init g c =
 
 pub add_list-requires-clause-list : goal.add_list-requires-clause-list
 add_list-requires-clause-list g c =
-    let within : c.loop-term.term < length c.args.index.now.collection.lists = omega (arith, c.loop-term-test.true, c.terms-term-end.ensures) in
+    let within : c.loop-term.term < length c.args.index.now.collection.lists = omega (arith, c.loop-term-test.true, c.walked_terms-walked.ensures.within) in
     let P : List ℕ → List ℕ → Type 0 = λ d f. IsPostingList (numbers_of c.loop-term.builder.format) c.loop-term.builder.documents (postings_of d f) in
     let at = list-at (numbers_of c.args.index.now.format) (numbers_of c.args.format) c.requires c.args.index.now.collection c.loop-term.term c.stands_for_a_collection.ensures.well_formed within in
     let fits = next-fits c.args.format c.args.index.now.collection _ _ _ _ _ c.loop-term.invariant
@@ -29,7 +30,7 @@ add_list-requires-clause-list g c =
 
 pub add_list-requires-clause-room : goal.add_list-requires-clause-room
 add_list-requires-clause-room g c =
-    let within : c.loop-term.term < length c.args.index.now.collection.lists = omega (arith, c.loop-term-test.true, c.terms-term-end.ensures) in
+    let within : c.loop-term.term < length c.args.index.now.collection.lists = omega (arith, c.loop-term-test.true, c.walked_terms-walked.ensures.within) in
     next-has_room c.lists_are_counted.ensures c.args.format c.args.index.now.collection _ _ _ _ _ _ c.loop-term.invariant (next-list c.args.index.now.collection c.loop-term.term within)
     c.stands_for_a_collection.ensures.well_formed.terms
 
@@ -40,7 +41,7 @@ loop-term-preserved g c =
     let freqs : List ℕ = c.read_list.new.freqs.items in
     let old = c.loop-term.builder in
     let new = c.add_list.new.self in
-    let within : t < length c.args.index.now.collection.lists = omega (arith, c.loop-term-test.true, c.terms-term-end.ensures) in
+    let within : t < length c.args.index.now.collection.lists = omega (arith, c.loop-term-test.true, c.walked_terms-walked.ensures.within) in
     let next : drop t c.args.index.now.collection.lists ≡ postings_of docs freqs ∷ drop (t + 1) c.args.index.now.collection.lists =
     next-list c.args.index.now.collection t within ∙ ap (λ l. l ∷ drop (t + 1) c.args.index.now.collection.lists) (sym (c.in_ok-read_list.ensures.list ∙ c.cursor.ensures.list)) in
     let Adds : List ℕ → List ℕ → Type 0 = λ d f. AddsList old new (postings_of d f) c.loop-term.steps c.add_list.new.steps in
@@ -50,7 +51,32 @@ loop-term-preserved g c =
     subst (λ d. c.add_list.new.steps ≤ c.loop-term.steps + 6 * length (window_bounds old.format) * (length d + 1)) c.deref.ensures.value c.add_list.ensures.bounded in
     making-more c.args.format c.args.index.now.collection _ _ _ _ docs freqs _ _ _ c.loop-term.invariant next c.in_ok-read_list.ensures.same_length adds most
 
+-- the lists that are left, without postings
+rest : (g : given.Over) (c : After-loop-term g) → drop c.loop-term.term c.args.index.now.collection.lists ≡ replicate (length c.args.index.now.collection.lists - c.walked_terms-walked.result) []
+rest g c =
+    let w = c.walked_terms-walked in
+    let all : c.loop-term.term ≡ c.walked_terms-walked.result = omega (arith, c.loop-term-test.false, c.loop-term.auto.term-end) in
+    ap (λ t. drop t c.args.index.now.collection.lists) all
+    ∙ rest-empty c.args.index.now.collection.lists w.result (length c.args.index.now.collection.lists - w.result) (omega (arith, w.ensures.within)) w.ensures.rest
+
+pub add_empty_lists-requires : goal.add_empty_lists-requires
+add_empty_lists-requires g c =
+    let lists = c.args.index.now.collection.lists in
+    record {
+      room = omega (
+        arith,
+        making-counted c.lists_are_counted.ensures c.args.format c.args.index.now.collection _ _ _ _ c.loop-term.invariant,
+        length-drop c.loop-term.term lists,
+        c.loop-term-test.false,
+        c.terms.ensures,
+        c.stands_for_a_collection.ensures.well_formed.terms,
+        c.walked_terms-walked.ensures.within,
+        c.loop-term.auto.term-end,
+      );
+    }
+
 pub returns : goal.returns
 returns g c =
-    let last : drop c.loop-term.term c.args.index.now.collection.lists ≡ [] = drop_all c.loop-term.term c.args.index.now.collection.lists (omega (arith, c.loop-term-test.false, c.terms-term-end.ensures)) in
-    making-ends c.args.format c.args.index.now.collection _ _ _ _ c.loop-term.invariant last
+    let count : length c.args.index.now.collection.lists - c.walked_terms-walked.result ≡ c.terms.result - c.walked_terms-walked.result = omega (arith, c.terms.ensures) in
+    making-ends-empty c.args.format c.args.index.now.collection _ _ _ _ _ (c.terms.result - c.walked_terms-walked.result) c.loop-term.invariant
+    (rest g (goal.at.returns g c).After-loop-term ∙ ap (λ n. replicate n []) count) c.in_ok-add_empty_lists.ensures.ok
