@@ -1,7 +1,10 @@
 //! Runs of single steps of the commands over inputs, outputs and files in memory: texts that are answered, files that are loaded and
-//! written, what is printed of generated collections, how often plans move their cursors, and what few words may claim.
+//! written, the words of indexes, what is printed of generated collections, how often plans move their cursors, and what few words
+//! may claim; and whole runs in which memory may be refused.
 #![tactic(auto)]
 
+#[cfg(test)]
+mod built_words;
 #[cfg(test)]
 mod claims;
 #[cfg(test)]
@@ -10,5 +13,7 @@ mod files;
 mod generations;
 #[cfg(test)]
 mod plans;
+#[cfg(test)]
+mod refused_memory;
 #[cfg(test)]
 mod texts;

@@ -15,7 +15,7 @@ use text_replies::{Plan, RunFault, answer_text};
 const FAR: u64 = 1 << 40;
 
 // The bytes of these numbers.
-fn spelled(alloc: Global, numbers: &[u32]) -> Option<Vec<u8>> {
+pub(crate) fn spelled(alloc: Global, numbers: &[u32]) -> Option<Vec<u8>> {
     let mut bytes = Vec::new(alloc);
     for number in numbers {
         bytes.extend_from_slice(&number.to_le_bytes()).ok()?;
@@ -24,10 +24,10 @@ fn spelled(alloc: Global, numbers: &[u32]) -> Option<Vec<u8>> {
 }
 
 // The numbers of documents, of frequencies and of sizes.
-type Numbers<'a> = [&'a [u32]; 3];
+pub(crate) type Numbers<'a> = [&'a [u32]; 3];
 
 // Three documents of sizes 4, 0 and 7, and the list (0,1)(2,5).
-const ONE_LIST: Numbers<'static> = [&[1, 3, 2, 0, 2], &[2, 1, 5], &[3, 4, 0, 7]];
+pub(crate) const ONE_LIST: Numbers<'static> = [&[1, 3, 2, 0, 2], &[2, 1, 5], &[3, 4, 0, 7]];
 
 // Over these documents that list, the list (0,1), and a list of nothing.
 const THREE_LISTS: Numbers<'static> = [
@@ -44,7 +44,7 @@ const TWO_LISTS: Numbers<'static> = [
 ];
 
 // The words of the one list in the first format.
-const ONE_LIST_OF_ONE: &[u64] = &[
+pub(crate) const ONE_LIST_OF_ONE: &[u64] = &[
     6360565151758173520,
     1,
     137438953474,
@@ -90,7 +90,7 @@ const ONE_LIST_IN_TWO_PARTS: &[u64] = &[
 ];
 
 // The words of the one list in the second format.
-const ONE_LIST_OF_TWO: &[u64] = &[
+pub(crate) const ONE_LIST_OF_TWO: &[u64] = &[
     6360565151758173520,
     2,
     2,
