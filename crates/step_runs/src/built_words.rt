@@ -4,8 +4,9 @@ ghost use Rattle.std.specs.Prelude.{◌≡◌, ◌<◌};
 
 use collection_reader::{Fault, Rule};
 use index_building::{BuildError, build_words};
+use io_traits::Slot;
+use memory_io::SteadyDepot;
 use part_cost::Format;
-use pef_io::{Slot, SteadyDepot};
 use std::alloc::Global;
 use std::marker::Brand;
 use std::sync::ledger::{Blank, Ledger};

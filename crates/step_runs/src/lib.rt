@@ -4,6 +4,8 @@
 #![tactic(auto)]
 
 #[cfg(test)]
+mod broken_builds;
+#[cfg(test)]
 mod built_words;
 #[cfg(test)]
 mod claims;

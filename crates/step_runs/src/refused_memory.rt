@@ -1,6 +1,6 @@
 // Runs in which memory may be refused: that is the answer then, and nothing but a front of what is written stands.
 use crate::texts::{ONE_LIST, ONE_LIST_OF_ONE, ONE_LIST_OF_TWO, spelled};
-use pef_io::{SteadyDepot, SteadySink, SteadySource};
+use memory_io::{SteadyDepot, SteadySink, SteadySource};
 use pef_top::{Devices, Status, run_uncounted};
 use std::alloc::Global;
 
