@@ -1,12 +1,12 @@
 -- Lists without postings, of which some are added at once.
-use Rattle.std.proofs.Common.{◌≡◌, ℕ, zero, suc, ◌+◌, ◌-◌, ◌*◌, ◌/◌, ◌^◌, ◌<◌, ◌≤◌, Bool, true, false, List, [], ◌∷◌, ◌++◌, length, drop, replicate, inl, inr, refl, sym, ap, ◌∙◌, subst, arith, length-append, append_assoc, append-nil}
+use Rattle.std.proofs.Common.{◌≡◌, ℕ, zero, suc, ◌+◌, ◌-◌, ◌*◌, ◌/◌, ◌^◌, ◌<◌, ◌≤◌, true, List, [], ◌∷◌, ◌++◌, length, drop, replicate, inl, inr, refl, sym, ap, ◌∙◌, subst, arith, length-append, append_assoc, append-nil}
 use Rattle.std.proofs.lemmas.Bool.{eqb-true}
 use Rattle.std.specs.Prelude.{◌⊎◌, ◌==◌}
-use Rattle.std.specs.List.{All, range_with_len}
+use Rattle.std.specs.List.{range_with_len}
 use Rattle.std.proofs.lemmas.List.Elements.{All-nil}
-use Rattle.std.proofs.lemmas.List.FromFn.{map-range_with_len_more, length-range_with_len}
+use Rattle.std.proofs.lemmas.List.FromFn.{length-range_with_len}
 use Rattle.collection_model.specs.FormatNumbers.{FormatNumbers, Plain, format_three, most_terms}
-use Rattle.collection_model.specs.Collection.{postings_of, IsPostingList}
+use Rattle.collection_model.specs.Collection.{IsPostingList}
 use Rattle.part_cost.specs.declared.formats.Format.{Format}
 use Rattle.part_cost.specs.declared.formats.Format.TheVariants.{One, Two, Three}
 use Rattle.part_cost.specs.Formats.{numbers_of}
@@ -15,7 +15,7 @@ use Rattle.part_cost.proofs.Forms.{kind-ones}
 use Rattle.part_codec.specs.PartBits.{bits_of_kind, part_bits}
 use Rattle.index_file.specs.CutLists.{CutList}
 use Rattle.index_file.specs.PackedWords.{bits_of_list}
-use Rattle.index_file.specs.Builder.{Built, StandsFor, IsNearCut, AddsList, AddsEmptyLists, with_list, with_plain_list, with_empty_lists, with_empty_plain_lists, no_list, repeated, cut_list, IsKept, IsPackedKept, packed_built, entered_of, HasEmptyTail, built_of, IsBuilder}
+use Rattle.index_file.specs.Builder.{Built, StandsFor, IsNearCut, AddsEmptyLists, with_list, with_plain_list, with_empty_lists, with_empty_plain_lists, no_list, repeated, cut_list, IsKept, IsPackedKept, packed_built, entered_of, HasEmptyTail, built_of, IsBuilder}
 use Rattle.index_file.specs.PlainWords.{list_entry}
 use Rattle.index_file.proofs.Added.{keeps-more}
 use Rattle.index_file.proofs.AddedBoth.{stands-more, plain-takes, packed-takes}

@@ -1,4 +1,4 @@
-use Rattle.std.proofs.Common.{◌≡◌, [], subst, arith}
+use Rattle.std.proofs.Common.{[], subst, arith}
 use Rattle.std.proofs.lemmas.List.{get_or_past}
 use Rattle.part_cost.specs.declared.formats.Format.TheVariants.{Three}
 use Rattle.part_cost.specs.Formats.{numbers_of}

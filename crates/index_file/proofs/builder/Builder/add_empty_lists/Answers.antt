@@ -1,7 +1,6 @@
 use Rattle.std.proofs.Common.{◌≡◌, ◌∙◌, ◌+◌, ◌≤◌, sym, ap, subst, arith}
 use Rattle.std.proofs.lemmas.Result.{on_ok_weaker, on_err_weaker}
 use Rattle.collection_model.specs.FormatNumbers.{Plain, Packed, most_terms}
-use Rattle.part_cost.specs.declared.formats.Format.TheVariants.{Three}
 use Rattle.part_cost.specs.Formats.{numbers_of}
 use Rattle.index_file.specs.Builder.{IsBuilder, lists_added, lists_in, half_in, built_of, with_empty_lists}
 use Rattle.index_file.proofs.AddedBoth.{either-way}

@@ -1,7 +1,6 @@
-use Rattle.std.proofs.Common.{◌≡◌, ◌∙◌, ◌+◌, ◌-◌, ◌≤◌, ◌++◌, sym, ap, subst, length, length-drop, drop, inl, inr, arith}
+use Rattle.std.proofs.Common.{◌≡◌, ◌∙◌, ◌+◌, ◌-◌, ◌++◌, sym, ap, subst, length, length-drop, drop, inl, inr, arith}
 use Rattle.std.specs.List.{range_with_len}
 use Rattle.std.proofs.lemmas.Result.{on_ok_weaker}
-use Rattle.collection_model.specs.FormatNumbers.{most_terms}
 use Rattle.index_file.specs.Builder.{IsPackedKept, packed_built, with_empty_lists}
 use Rattle.index_file.proofs.AddedBoth.{either-way}
 use Rattle.index_file.proofs.PackedBuilt.{packed-holds}

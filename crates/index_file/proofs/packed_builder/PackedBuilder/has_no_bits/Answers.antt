@@ -1,4 +1,4 @@
-use Rattle.std.proofs.Common.{◌≡◌, ◌∙◌, sym, ap, length, length-drop, drop, arith}
+use Rattle.std.proofs.Common.{◌∙◌, sym, ap, length, length-drop, drop, arith}
 use Rattle.std.proofs.lemmas.Bool.{eqb-true, eq-eqb}
 use Rattle.index_file.proofs.PackedBuilt.{packed-holds}
 use Rattle.index_file.proofs.EmptyLists.{nothing}

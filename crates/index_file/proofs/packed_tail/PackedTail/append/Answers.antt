@@ -1,6 +1,4 @@
-use Rattle.std.proofs.Common.{◌≡◌, ◌∙◌, ◌≤◌, ◌+◌, suc, sym, ap, subst, length, arith}
-use Rattle.collection_model.specs.FormatNumbers.{most_terms}
-use Rattle.part_cost.specs.declared.formats.Format.TheVariants.{Three}
+use Rattle.std.proofs.Common.{◌≡◌, ◌∙◌, ◌+◌, suc, sym, ap, length, arith}
 use Rattle.index_file.specs.Builder.{cut_list, with_list, with_empty_lists}
 use Rattle.index_file.proofs.AddedBoth.{either-way}
 use Rattle.index_file.proofs.EmptyLists.{count-empty, empty-same, none-added, none-tested, tail-after}
