@@ -1,6 +1,6 @@
 //! Runs of single steps of the commands over inputs, outputs and files in memory: texts that are answered, files that are loaded and
 //! written, the words of indexes, what is printed of generated collections, how often plans move their cursors, and what few words
-//! may claim; and whole runs in which memory may be refused.
+//! may claim.
 #![tactic(auto)]
 
 #[cfg(test)]
@@ -15,7 +15,5 @@ mod files;
 mod generations;
 #[cfg(test)]
 mod plans;
-#[cfg(test)]
-mod refused_memory;
 #[cfg(test)]
 mod texts;
