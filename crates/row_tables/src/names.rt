@@ -1,0 +1,150 @@
+// Texts that have names.
+use crate::faults::Fault;
+use std::alloc::Global;
+
+// Texts by name. Of two of one name the later one counts.
+#[derive(Drop)]
+pub(crate) struct Names {
+    list: Vec<(String, String)>,
+}
+
+// Where in a text the next letter stands.
+#[derive(Clone, Copy)]
+enum Place {
+    /// Outside of a name.
+    Text,
+    /// Behind a dollar sign.
+    Dollar,
+    /// In a name.
+    Name,
+    /// In a name in braces.
+    Braces,
+}
+
+// A text in which names are being replaced.
+#[derive(Drop)]
+struct Expansion {
+    text: String,
+    name: String,
+    place: Place,
+}
+
+impl Names {
+    pub(crate) fn new(alloc: Global) -> Names {
+        Names {
+            list: Vec::new(alloc),
+        }
+    }
+
+    pub(crate) fn add(&mut self, alloc: Global, name: &str, value: &str) -> Result<(), Fault> {
+        let name = String::from_str(alloc, name)?;
+        let value = String::from_str(alloc, value)?;
+        self.list.push((name, value))?;
+        Ok(())
+    }
+
+    // Adds the name and the text of a line `let NAME TEXT`, in which earlier names are replaced.
+    pub(crate) fn define(&mut self, alloc: Global, line: &str) -> Result<(), Fault> {
+        let (name, value) = crate::lines::first_word(line);
+        if name.is_empty() || !name.chars().all(is_of_name) {
+            return Err(Fault::Unread);
+        }
+        let value = self.expand(alloc, value)?;
+        self.add(alloc, name, &value)
+    }
+
+    // All these names and texts once more.
+    pub(crate) fn copy(&self, alloc: Global) -> Result<Names, Fault> {
+        let mut names = Names::new(alloc);
+        for (name, value) in &self.list {
+            names.add(alloc, name, value)?;
+        }
+        Ok(names)
+    }
+
+    // The text of a name.
+    fn value(&self, name: &str) -> Option<&str> {
+        let (_, value) = self
+            .list
+            .iter()
+            .rev()
+            .find(|entry| entry.0.as_str() == name)?;
+        Some(value.as_str())
+    }
+
+    // A text in which each `$NAME` and `${NAME}` is replaced by the text of the name, and `$$` by a dollar sign.
+    pub(crate) fn expand(&self, alloc: Global, text: &str) -> Result<String, Fault> {
+        let mut expansion = Expansion {
+            text: String::new(alloc),
+            name: String::new(alloc),
+            place: Place::Text,
+        };
+        for letter in text.chars() {
+            expansion.take(self, letter)?;
+        }
+        expansion.end(self)
+    }
+}
+
+// Whether a letter may stand in a name.
+fn is_of_name(letter: char) -> bool {
+    letter.is_ascii_alphanumeric() || letter == '-' || letter == '_'
+}
+
+impl Expansion {
+    // Takes the next letter.
+    fn take(&mut self, names: &Names, letter: char) -> Result<(), Fault> {
+        match self.place {
+            Place::Text => self.take_text(letter)?,
+            Place::Dollar if letter == '$' => {
+                self.text.push('$')?;
+                self.place = Place::Text;
+            }
+            Place::Dollar if letter == '{' => self.place = Place::Braces,
+            Place::Dollar if is_of_name(letter) => {
+                self.name.push(letter)?;
+                self.place = Place::Name;
+            }
+            Place::Dollar => return Err(Fault::Unread),
+            Place::Name | Place::Braces if is_of_name(letter) => self.name.push(letter)?,
+            Place::Name => {
+                self.end_name(names)?;
+                self.take_text(letter)?;
+            }
+            Place::Braces if letter == '}' => self.end_name(names)?,
+            Place::Braces => return Err(Fault::Unread),
+        }
+        Ok(())
+    }
+
+    // Takes a letter outside of a name.
+    fn take_text(&mut self, letter: char) -> Result<(), Fault> {
+        if letter == '$' {
+            self.place = Place::Dollar;
+        } else {
+            self.text.push(letter)?;
+        }
+        Ok(())
+    }
+
+    // Puts the text of the name that ends here.
+    fn end_name(&mut self, names: &Names) -> Result<(), Fault> {
+        let value = names.value(&self.name).ok_or(Fault::Unread)?;
+        self.text.push_str(value)?;
+        self.name.clear();
+        self.place = Place::Text;
+        Ok(())
+    }
+
+    // The whole text.
+    fn end(mut self, names: &Names) -> Result<String, Fault> {
+        match self.place {
+            Place::Text => Ok(self.text),
+            Place::Name => {
+                self.end_name(names)?;
+                Ok(self.text)
+            }
+            Place::Dollar | Place::Braces => Err(Fault::Unread),
+        }
+    }
+}
