@@ -26,13 +26,15 @@ _pefidx() {
             return ;;
         segments:1:*) ;;
         segments:*)
+            # The option is the last: behind it and its value stands nothing.
+            [[ " ${COMP_WORDS[*]:0:COMP_CWORD} " == *" --plan "* ]] && return
             [[ $word == -* ]] && mapfile -t COMPREPLY < <(compgen -W '--plan' -- "$word")
-            [[ $word == -* || ${COMP_WORDS[COMP_CWORD - 2]} == --plan ]] && return ;;
+            [[ $word == -* ]] && return ;;
     esac
     case $verb:$place in
-        pack:1 | build:1 | answer:1 | remap:1) _pefidx_bases "$word" ;;
+        pack:1 | build:1 | answer:1 | export:2 | remap:[13]) _pefidx_bases "$word" ;;
         pack:2 | build:2 | query:1 | inspect:1 | audit:1 | repack:[12] | migrate:[12] | \
-            export:[12] | blocks:[12] | bquery:[12] | remap:[23] | segments:*)
+            export:1 | blocks:[12] | bquery:[12] | remap:2 | segments:*)
             compopt -o filenames 2> /dev/null
             mapfile -t COMPREPLY < <(compgen -f -- "$word") ;;
     esac
