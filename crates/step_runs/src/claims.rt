@@ -6,8 +6,6 @@ ghost use Rattle.index_building.specs.WordsOfCollection.{HoldsAllOf};
 
 use index_building::migrated_words;
 use index_file::Index;
-use index_printing::print_audit;
-use memory_io::MemSink;
 use part_cost::Format;
 use std::alloc::Global;
 use std::marker::Brand;
@@ -84,39 +82,6 @@ const FOUR_PLAIN: [u64; 22] = [
     2,
     5_784_106_577_086_924_120,
 ];
-
-// Whether this is the audit of the index that the words are.
-fn is_audit<L: Ledger>(alloc: Global, words: &[u64], audit: &str, blank: Blank) -> Option<bool>
-    requires name { blank.name ≡ L.name }
-    requires parts { blank.parts ≡ L.parts }
-    requires some { 0 < L.parts }
-{
-    if words.len() > 100 {
-        return None;
-    }
-    let mut steps = Steps::<L>::new(blank);
-    let mut out = MemSink::new(alloc, 100, Vec::new(alloc)).ok()?;
-    match Index::view(words) {
-        Ok(index) => print_audit(alloc, &index, &mut out, &mut steps).ok()?,
-        Err(_) => return None,
-    }
-    Some(out.bytes() == audit.as_bytes())
-}
-
-// No list of those without postings is looked at.
-#[test]
-fn audits_empty_lists(rt: HostRuntime) {
-    for (words, audit) in [
-        (SIX_WORDS.as_slice(), "sequences 0 longer 0\n"),
-        (
-            LAST_OF_THREE.as_slice(),
-            "2 docs 0 0 0\n2 freqs 0 0 0\nsequences 2 longer 0\n",
-        ),
-    ] {
-        let is = is_audit::<Brand>(rt.alloc(), words, audit, Blank::new(1));
-        assert_eq!(rt; is, Some(true), "{audit}");
-    }
-}
 
 // Whether these are the words of the index of the collection of an index, in a format that may hold all.
 fn is_migrated<L: Ledger>(
