@@ -4,3 +4,4 @@ pub mod PartView
 pub mod PartValues
 pub mod Laws
 pub mod Sought
+pub mod KeptWords

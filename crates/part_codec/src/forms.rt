@@ -1,5 +1,6 @@
-ghost use Rattle.std.specs.Prelude.{◌≡◌, ℕ, ◌≤◌, ◌-◌, ◌/◌, ◌^◌, min};
+ghost use Rattle.std.specs.Prelude.{◌≡◌, ℕ, ◌≤◌, ◌^◌};
 ghost use Rattle.part_cost.specs.Payload.{widest_low};
+ghost use Rattle.ranked_bitmap.specs.WholeWords.{whole_words};
 
 use elias_fano::EfView;
 use ranked_bitmap::MapView;
@@ -24,7 +25,7 @@ impl OnesView {
 
     // How many whole words of its places lie in the part from one on, `most` at most.
     pub(crate) fn whole_words(&self, from: u64, most: usize) -> usize
-        ensures { result ≡ min most ((self.now.u - from) / 64) }
+        ensures { result ≡ whole_words self.now.u from most }
     {
         most.min((self.u.saturating_sub(from) / 64) as usize)
     }

@@ -5,3 +5,4 @@ pub mod Begun
 mod Probes
 mod Blocks
 mod Kept
+mod KeptWords

@@ -23,6 +23,7 @@ pub record IsStatedPart (format : FormatNumbers) (words xs : List ℕ) (q : ℕ)
   pub last : part.last ≡ stated_last format words q
   pub u : part.u ≡ stated_universe format words q
   pub before : placed.u ≤ part.u
+  pub whole : 2 ≤ placed.m → placed.u ≡ part.u
   pub count : placed.m ≡ part.to - part.from
   pub held : HoldsPart part_bits (bits_of placed.bits.words.now) placed.place placed.u placed.m (counted_from (part.last + 1 - placed.u) xs part.from part.to)
   pub restored : Restores xs part.from part.to (part.last + 1 - placed.u)
@@ -34,6 +35,7 @@ pub record HoldsValues (held : HeldPart) (xs : List ℕ) : Type 0 where
   pub within : held.part.to ≤ length xs
   pub few : length xs < 2 ^ 32
   pub before : past xs held.part.from ≤ held.past
+  pub whole : 2 ≤ held.part.to - held.part.from → held.past ≡ past xs held.part.from
   pub start : past xs held.part.from + held.part.u ≡ held.part.last + 1
   pub small : held.part.last < 2 ^ widest_low
   pub above : held.past ≤ held.part.last

@@ -3,3 +3,4 @@ pub mod PartOf
 pub mod HeldParts
 pub mod DirectorySequence
 pub mod Search
+pub mod KeptWords

@@ -1,9 +1,11 @@
-ghost use Rattle.std.specs.Prelude.{◌≡◌, ◌≢◌, ℕ, ◌+◌, ◌≤◌, ◌<◌, nat_le, List, [], length, slice_index};
+ghost use Rattle.std.specs.Prelude.{◌≡◌, ◌≢◌, ℕ, ◌+◌, ◌*◌, ◌≤◌, ◌<◌, ◌&&◌, nat_le, List, [], length, slice_index};
 ghost use Rattle.std.specs.List.{count_by};
 ghost use Rattle.collection_model.specs.Collection.{freqs_of, greatest_freq};
+ghost use Rattle.collection_model.specs.Marks.{has_doc, is_marked};
 ghost use Rattle.collection_model.specs.NextBelow.{AreNextBelow};
 ghost use Rattle.collection_model.specs.Sequences.{steps_from, postings_in};
 ghost use Rattle.part_cost.specs.Span as span;
+ghost use Rattle.two_level.specs.KeptWords.{AreKeptAt};
 ghost use Rattle.two_level.specs.LongSteps.{count_reaching, steps_of_long_parts};
 ghost use Rattle.cursor_api.specs.NextGeq.{IsCursorList, IsCursorAt};
 ghost use Rattle.postings.specs.Blocks.{AreSumsFrom};
@@ -202,7 +204,18 @@ impl<'a> DocCursor for PostingCursor<'a> {
         self.sums.common_step(k) as u32
     }
 
-    fn keep_in_words(&self, first: u32, marks: &mut [u64]) -> usize {
+    // By the part of its documents in which it stands.
+    fn keep_in_words(&self, first: u32, marks: &mut [u64]) -> usize
+        ensures words { self.now.docs.place < length self.now.docs.sequence.values
+            → AreKeptAt self.now.docs first (length marks.old) result }
+        ensures within { result ≤ length marks.old }
+        ensures count { length marks.new ≡ length marks.old }
+        ensures kept { (k : ℕ) → k < 64 * result → is_marked marks.new k
+            ≡ (is_marked marks.old k && has_doc (first + k)
+            (postings_in self.now.docs.sequence.values self.now.sums.sequence.values)) }
+        ensures rest { (k : ℕ) → 64 * result ≤ k → k < 64 * length marks.old
+            → is_marked marks.new k ≡ is_marked marks.old k }
+    {
         self.docs.keep_in_words(u64::from(first), marks)
     }
 

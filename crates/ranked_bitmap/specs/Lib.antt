@@ -2,3 +2,4 @@ pub mod MapBits
 pub mod MapPlaces
 pub mod MapView
 pub mod Laws
+pub mod WholeWords

@@ -2,6 +2,7 @@ ghost use Rattle.std.specs.Prelude.{◌≡◌, ◌≤◌, ◌<◌, ◌+◌, leng
 ghost use Rattle.collection_model.specs.Marks.{AreKept};
 ghost use Rattle.collection_model.specs.NextBelow.{AreNextBelow};
 ghost use Rattle.sequence_words.specs.SequenceView.{place_at_least};
+ghost use Rattle.two_level.specs.KeptWords.{AreKeptAt};
 
 use part_directory::{Directory, HeldPart};
 use std::marker::Model;
@@ -223,7 +224,10 @@ impl<'a> SeqCursor<'a> {
     /// Takes back the marks of numbers that are no values, in as many whole words of marks as it tells: bit k of the words stands for
     /// `first` + k. The others are left.
     pub fn keep_in_words(&self, first: u64, marks: &mut [u64]) -> usize
-        ensures { AreKept self.now.sequence.values first marks.old marks.new result }
+        ensures words { self.now.place < length self.now.sequence.values
+            → AreKeptAt self.now first (length marks.old) result }
+        ensures end { self.now.place ≡ length self.now.sequence.values → result ≡ 0 }
+        ensures kept { AreKept self.now.sequence.values first marks.old marks.new result }
     {
         match &self.held {
             Some(held) => held.keep_in_words(first, marks),

@@ -42,6 +42,7 @@ returns-clause-held c =
         within = omega (arith, s.to, p.within);
         few = c.args.self.now.few;
         before = omega (arith, behind, s.before, s.u, s.last, p.above);
+        whole = λ many. (let same = s.whole (omega (arith, many, s.count)) in omega (arith, behind, same, s.u, s.last, p.above));
         start = omega (arith, behind, s.last, s.u, p.above);
         small = omega (arith, s.last, p.small, room);
         above = omega (arith, some);

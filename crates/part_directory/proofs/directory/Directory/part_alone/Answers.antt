@@ -44,7 +44,7 @@ returns c =
     let there : List ℕ = bits_of placed.bits.words.now in
     let first : ℕ = a.last + 1 - placed.u in
     let fit : d.m ≤ length xs = omega (arith, k.part.within, k.ends) in
-    let facts : (placed.u ≤ a.last + 1) × HoldsPart part_bits there placed.place placed.u placed.m (counted_from first xs 0 d.m) × Restores xs 0 d.m first =
+    let facts : (placed.u ≤ a.last + 1) × (2 ≤ placed.m → placed.u ≡ a.last + 1) × HoldsPart part_bits there placed.place placed.u placed.m (counted_from first xs 0 d.m) × Restores xs 0 d.m first =
     elim c.if-self-eq1.branch [
       | then-self-eq1 w ↦
           let one : 0 + 1 ≡ d.m = omega (arith, w.if-self-eq1.true) in
@@ -52,6 +52,7 @@ returns c =
           let m_is : 1 ≡ placed.m = omega (arith, c.at.ensures.m, one) in
           let own : a.last ≡ first = omega (arith, u_is) in (
             omega (arith, u_is),
+            (λ many. absurd (omega (arith, many, m_is))),
             subst (λ f. HoldsPart part_bits there placed.place placed.u placed.m (counted_from f xs 0 d.m)) own
                 (subst (λ m. HoldsPart part_bits there placed.place placed.u m (counted_from a.last xs 0 d.m)) m_is
                 (subst (λ u. HoldsPart part_bits there placed.place u 1 (counted_from a.last xs 0 d.m)) u_is (held-one there placed.place xs 0 d.m a.last one fit k.reach))),
@@ -62,6 +63,7 @@ returns c =
           let u_is : a.last + 1 ≡ placed.u = omega (arith, c.at.ensures.u, w.counted-is) in
           let none : 0 ≡ first = omega (arith, u_is) in (
             omega (arith, u_is),
+            (λ _. sym u_is),
             held-counted d.words.now placed.bits.words.now a.place placed.place (a.last + 1) placed.u d.m placed.m xs 0 d.m first
                 (sym c.at.ensures.bits) (sym c.at.ensures.place) u_is (sym c.at.ensures.m) none (held-alone format d.words.now d.m d.parts d.alone a c.requires.alone (d.stands a c.requires.alone) many),
             restored-here format words xs d.parts 0 0 first d.m k.part refl (sym none) (sym k.ends),
@@ -73,7 +75,8 @@ returns c =
       last = sym k.last;
       u = omega (arith, k.last);
       before = facts.0;
+      whole = facts.1;
       count = omega (arith, c.at.ensures.m);
-      held = facts.1;
-      restored = facts.2;
+      held = facts.2;
+      restored = facts.3;
     }

@@ -77,6 +77,7 @@ returns c =
       last = last;
       u = omega (arith, u_is, c.at.ensures.u);
       before = omega (arith, c.at.ensures.u);
+      whole = λ many. omega (arith, c.at.ensures.u);
       count = c.at.ensures.m;
       held =
           held-counted words placed.bits.words.now _ placed.place _ placed.u _ placed.m xs from to (entry.last + 1 - placed.u)
