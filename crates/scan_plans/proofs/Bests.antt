@@ -132,6 +132,14 @@ offered-below d e s held new lt of_them all =
       | inr inside ↦ (let h = All-contains (λ (x : Pair). x.0 < d) held x all inside in omega arith)
     ])
 
+-- documents before one are not it
+pub later-is_new : (d e : ℕ) (held : List Pair) → All (λ (x : Pair). x.0 < d) held → d ≤ e → ¬ Contains (map (λ (x : Pair). x.0) held) e
+later-is_new d e held below le c =
+    let r = contains-from_map (λ (x : Pair). x.0) held e c in
+    let lt = All-contains (λ (x : Pair). x.0 < d) held r.0 below r.1 in
+    let same = r.2 in
+    absurd (omega arith)
+
 -- what is held stands before a later document whose score is not above it
 pub held-before : (d s : ℕ) (held : List Pair) → All (λ (e : Pair). e.0 < d) held → All (λ (e : Pair). s ≤ e.1) held → All (λ (h : Pair). Before h (d, s)) held
 held-before d s held below least i z within =

@@ -38,7 +38,7 @@ from-there true x y ys c = contains-split x ys y c
 from-there false x y ys c = inr c
 
 -- one that is kept was there
-kept-from : (p : ℕ → Bool) (xs : List ℕ) (y : ℕ) → Contains (filter p xs) y → Contains xs y
+pub kept-from : (p : ℕ → Bool) (xs : List ℕ) (y : ℕ) → Contains (filter p xs) y → Contains xs y
 kept-from p [] y c = c
 kept-from p (x ∷ xs) y c = elim (from-there (p x) x y (filter p xs) c) as (λ _. Contains (x ∷ xs) y) [
   | inl same ↦ (0, omega arith, same)
@@ -54,7 +54,7 @@ to-there true x y ys c = contains-later x ys y c
 to-there false x y ys c = c
 
 -- one that passes is kept
-kept-to : (p : ℕ → Bool) (xs : List ℕ) (y : ℕ) → Contains xs y → p y ≡ true → Contains (filter p xs) y
+pub kept-to : (p : ℕ → Bool) (xs : List ℕ) (y : ℕ) → Contains xs y → p y ≡ true → Contains (filter p xs) y
 kept-to p [] y c is = c
 kept-to p (x ∷ xs) y c is = elim (contains-split x xs y c) as (λ _. Contains (filter p (x ∷ xs)) y) [
   | inl same ↦ subst (Contains (filter p (x ∷ xs))) same (to-here (p x) x (filter p xs) (ap p same ∙ is))

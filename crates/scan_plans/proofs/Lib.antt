@@ -19,3 +19,4 @@ mod Shared
 mod AtOnce
 mod Few
 mod Floors
+mod AnyOrder

@@ -7,3 +7,4 @@ pub mod Held
 pub mod Window
 pub mod Best
 pub mod Skips
+pub mod AnyOrder

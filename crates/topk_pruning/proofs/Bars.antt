@@ -1,8 +1,9 @@
 -- Lemmas on the bar that a score must beat to be held.
-use Rattle.std.proofs.Common.{◌≡◌, sym, inl, inr, ◌∙◌, subst, ℕ, ◌≤◌, true, false, List, ◌∷◌, get_or, Option, arith}
-use Rattle.std.specs.Prelude.{◌↔◌}
+use Rattle.std.proofs.Common.{◌≡◌, sym, ap, inl, inr, ◌∙◌, subst, ℕ, ◌<◌, ◌≤◌, true, false, List, ◌∷◌, length, map, get_or, Option, arith}
+use Rattle.std.specs.Prelude.{◌↔◌, Contains}
 use Rattle.std.specs.List.{All}
 use Rattle.std.proofs.lemmas.Bool.{cases_lt, false≢true}
+use Rattle.std.proofs.lemmas.List.{length-map, get_or-map}
 use Rattle.std.proofs.lemmas.List.Elements.{All-contains, All-cons}
 use Rattle.scan_plans.specs.Ranking.{IsFirstK}
 use Rattle.scan_plans.specs.Skips.{IsBarred}
@@ -37,3 +38,13 @@ barred-kept floor k doc score b o held new bars above first (inr full) =
 -- the same bar at equal numbers
 pub bars-at : (o : Option ℕ) (f g j k : ℕ) (held : List (ℕ × ℕ)) → f ≡ g → j ≡ k → ((s : ℕ) → (beats o s ≡ false) ↔ IsBarred f j held s) → (s : ℕ) → beats o s ≡ false → IsBarred g k held s
 bars-at o f g j k held floors ks bars s is = subst (λ (k : ℕ). IsBarred g k held s) ks (subst (λ (f : ℕ). IsBarred f j held s) floors ((bars s).0 is))
+
+-- documents before one are not it
+pub later-is_new : (d : ℕ) (held : List (ℕ × ℕ)) → All (λ (x : ℕ × ℕ). x.0 < d) held → ¬ Contains (map (λ (x : ℕ × ℕ). x.0) held) d
+later-is_new d held below c =
+    let l = length-map held (λ (x : ℕ × ℕ). x.0) in
+    let inside = c.1 in
+    let read = get_or-map (λ (x : ℕ × ℕ). x.0) held c.0 (d, 0) d (omega arith) in
+    let lt = below c.0 (d, 0) (omega arith) in
+    let same = c.2 in
+    absurd (omega arith)

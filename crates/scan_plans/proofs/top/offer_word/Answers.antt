@@ -3,7 +3,7 @@ use Rattle.std.specs.Int.{bit_at}
 use Rattle.std.proofs.lemmas.Nat.Bits.{bit_at-zero}
 use Rattle.scan_plans.specs.Best.{IsBar}
 use Rattle.scan_plans.specs.Ranking.{Ranking}
-use Rattle.scan_plans.proofs.Bests.{IsOffered, offered-none, offered-more, offered-passed, offered-skip}
+use Rattle.scan_plans.proofs.Bests.{IsOffered, later-is_new, offered-none, offered-more, offered-passed, offered-skip}
 use Rattle.scan_plans.proofs.Marks.{IsRest, rest-all, rest-more, rest-less, lowest, lowest-from, lowest-one, none-between}
 use Rattle.scan_plans.proofs.Windows.{cleared-none, cleared-more, cleared-skip, cleared-all}
 use Rattle.scan_plans.proofs.top.offer_word.Goals as goal
@@ -17,6 +17,16 @@ loop-rest-init c = record {
   bar = c.bar_of-bar.ensures;
   cleared = cleared-none 0 c.args.scores.now;
 }
+
+-- the document is later than all held
+pub offer-requires-clause-new : goal.offer-requires-clause-new
+offer-requires-clause-new c =
+    let so_far = c.loop-rest.invariant in
+    let rest : ℕ = c.loop-rest.rest in
+    let test = c.loop-rest-test.true in
+    let auto = c.loop-rest.auto.rest-fits in
+    let start = lowest-from c.args.word so_far.low rest (omega arith) (omega arith) so_far.rest in
+    later-is_new (c.args.base + so_far.low) (c.args.base + lowest c.args.word so_far.low rest (omega arith) (omega arith) so_far.rest) c.loop-rest.top.held so_far.offered.above (omega arith)
 
 pub loop-rest-preserved : goal.loop-rest-preserved
 loop-rest-preserved c =
