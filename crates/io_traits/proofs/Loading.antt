@@ -2,7 +2,7 @@ use Rattle.std.proofs.Common.{◌≡◌, ℕ, ◌+◌, ◌≤◌, ◌<◌, ◌�
 use Rattle.std.specs.Prelude.{is_ok, IsErrOf, OnErr}
 use Rattle.std.proofs.Math.Seq.{take-append-add}
 use Rattle.std.proofs.lemmas.Result.{IfOk-at_ok}
-use Rattle.std.proofs.lemmas.List.{append_assoc, append-nil, length-append, length-take-le, take-append-le, take-take, drop_at}
+use Rattle.std.proofs.lemmas.List.{append_assoc, append-nil, length-append, length-take, length-take-le, take-append-le, take-take, drop_at}
 use borrow.Rule.Slice.PartMut.{put_mid, post_of}
 use Rattle.io_traits.specs.declared.fail.IoFail.{IoFail}
 use Rattle.io_traits.specs.declared.fail.IoFail.TheVariants as call
@@ -71,6 +71,12 @@ taken before bytes after e = (
   sym (drop_at bytes after (length bytes) refl) ∙ sym (ap (λ xs. drop (length bytes) xs) e),
 )
 
+-- a read that was refused took nothing
+untaken : {mid new : DepotState} {slot : Slot} {before after : List ℕ} {result : Result ℕ IoFail} {fail : IoFail} → ReadsSlot mid new slot before after result → result ≡ Err fail → IsTrue mid.tells → new.left slot ≡ mid.left slot
+untaken {mid} {new} {slot} r e t =
+    let P : Result ℕ IoFail → Type 0 = λ r. OnErr r (SameButCounts mid new) in
+    ((subst P e r.unchanged).slots slot).1 t
+
 -- the end of the slot
 pub whole : (old mid new : DepotState) (slot : Slot) (limit : ℕ) (bytes before after items : List ℕ) (result : Result ℕ IoFail) → HasRead old mid slot bytes → ReadsSlot mid new slot before after result → result ≡ Ok 0 → 0 < length before → length bytes ≤ limit → items ≡ bytes → All (λ b. b < 256) bytes → Loads old new slot limit (Ok items)
 whole old mid new slot limit bytes before after items result h r e room few same small = record {
@@ -101,7 +107,7 @@ refused old mid new slot limit bytes before after result fail h r e few = record
   all_bytes = λ t. tt;
   none_left = λ t. tt;
   too_large = λ t was. absurd (not_large fail was);
-  other_refusals = λ t other. (length bytes, few, taken (old.left slot) bytes (new.left slot) (h.prefix t ∙ ap (λ xs. bytes ++ xs) (sym (nothing_more t))));
+  other_refusals = λ t other. (length bytes, few, taken (old.left slot) bytes (new.left slot) (h.prefix t ∙ ap (λ xs. bytes ++ xs) (sym (untaken r e (h.reads.tells ∙ t)))));
   read_only_where_it_rose = rose fail e;
   count_rises_only_there = count fail e;
   reads = OnlyReads-then h.reads refl r;
@@ -115,11 +121,6 @@ refused old mid new slot limit bytes before after result fail h r e few = record
 
     not_read : IsErrOf {T = List ℕ} (Err NoMemory) Read → ⊥
     not_read is = cc
-
-    nothing_more : IsTrue old.tells → new.left slot ≡ mid.left slot
-    nothing_more t =
-        let P : Result ℕ IoFail → Type 0 = λ r. OnErr r (SameButCounts mid new) in
-        ((subst P e r.unchanged).slots slot).1 (h.reads.tells ∙ t)
 
     rose : (f : IoFail) → result ≡ Err f → IsErrOf {T = List ℕ} (Err (load_error f)) Read → Rose (old.faults slot) (new.faults slot)
     rose call.Failed was is =
@@ -150,15 +151,20 @@ filled old new slot piece held h full = record {
   within = omega arith;
   next_bytes = h.prefix;
   at_end = λ t less. absurd (omega arith);
+  at_refusal = λ t. tt;
   failed_only_where_it_rose = λ was. absurd (no-fault was);
   count_rises_only_there = inr h.count;
   reads = h.reads;
   starts = h.starts;
+  no_memory_only_where_it_rose = λ was. absurd (no-refusal was);
   refusals_rise_only_there = inr h.refusals;
 }
   where
     no-fault : IsErrOf {T = ℕ} (Ok held) call.Failed → ⊥
     no-fault was = cc
+
+    no-refusal : IsErrOf {T = ℕ} (Ok held) call.NoMemory → ⊥
+    no-refusal was = cc
 
 -- the slot is at its end
 pub filled-to_end : (old mid new : DepotState) (slot : Slot) (piece now before after : List ℕ) (held : ℕ) (result : Result ℕ IoFail) → HasRead old mid slot (take held piece) → ReadsSlot mid new slot before after result → result ≡ Ok 0 → 0 < length before
@@ -167,10 +173,12 @@ filled-to_end old mid new slot piece now before after held result h r e room wit
   within = within;
   next_bytes = λ t. h.prefix t ∙ ap (λ xs. take held piece ++ xs) (stays t) ∙ ap (λ xs. xs ++ new.left slot) (sym same);
   at_end = λ t less. sym (stays t) ∙ none t;
+  at_refusal = λ t. tt;
   failed_only_where_it_rose = λ was. absurd (no-fault was);
   count_rises_only_there = inr (r.counts.this.same_at_ok (ap is_ok e) ∙ h.count);
   reads = OnlyReads-then h.reads refl r;
   starts = λ s. r.starts s ∙ h.starts s;
+  no_memory_only_where_it_rose = λ was. absurd (no-refusal was);
   refusals_rise_only_there = inr (no_more_at_ok result 0 e r.counts.refusals.rises_only_there ∙ h.refusals);
 }
   where
@@ -183,16 +191,26 @@ filled-to_end old mid new slot piece now before after held result h r e room wit
     no-fault : IsErrOf {T = ℕ} (Ok held) call.Failed → ⊥
     no-fault was = cc
 
+    no-refusal : IsErrOf {T = ℕ} (Ok held) call.NoMemory → ⊥
+    no-refusal was = cc
+
 -- a read was refused
-pub unfilled : (old mid new : DepotState) (slot : Slot) (bytes now before after : List ℕ) (result : Result ℕ IoFail) (fail : IoFail) → HasRead old mid slot bytes → ReadsSlot mid new slot before after result → result ≡ Err fail → FillsPiece old new slot now (Err fail)
-unfilled old mid new slot bytes now before after result fail h r e = record {
+pub unfilled : (old mid new : DepotState) (slot : Slot) (piece now before after : List ℕ) (held : ℕ) (result : Result ℕ IoFail) (fail : IoFail) → HasRead old mid slot (take held piece) → ReadsSlot mid new slot before after result → result ≡ Err fail
+    → held ≤ length now → FillsPiece old new slot now (Err fail)
+unfilled old mid new slot piece now before after held result fail h r e within = record {
   within = tt;
   next_bytes = λ t. tt;
   at_end = λ t. tt;
+  at_refusal = λ t. (
+    length (take held piece),
+    omega (arith, length-take held piece),
+    taken (old.left slot) (take held piece) (new.left slot) (h.prefix t ∙ ap (λ xs. take held piece ++ xs) (sym (untaken r e (h.reads.tells ∙ t)))),
+  );
   failed_only_where_it_rose = rose fail e;
   count_rises_only_there = count fail e;
   reads = OnlyReads-then h.reads refl r;
   starts = λ s. r.starts s ∙ h.starts s;
+  no_memory_only_where_it_rose = memory fail e;
   refusals_rise_only_there = refusals fail e r.counts.refusals.rises_only_there;
 }
   where
@@ -211,6 +229,12 @@ unfilled old mid new slot bytes now before after result fail h r e = record {
 
     failed_is_not : IsErrOf {T = ℕ} (Err call.Failed) call.NoMemory → ⊥
     failed_is_not is = cc
+
+    memory : (f : IoFail) → result ≡ Err f → IsErrOf {T = ℕ} (Err f) call.NoMemory → Rose old.refusals new.refusals
+    memory call.Failed was is = absurd (failed_is_not is)
+    memory call.NoMemory was is =
+        let P : ℕ → Type 0 = λ n. Rose n new.refusals in
+        subst P h.refusals (r.counts.refusals.no_memory_only_where_it_rose was)
 
     refusals : (f : IoFail) → result ≡ Err f → IsErrOf result call.NoMemory ⊎ (new.refusals ≡ mid.refusals) → IsErrOf {T = ℕ} (Err f) call.NoMemory ⊎ (new.refusals ≡ old.refusals)
     refusals call.Failed was (inl is) = absurd (failed_is_not (subst (λ r. IsErrOf r call.NoMemory) was is))

@@ -1,4 +1,4 @@
-use Rattle.std.specs.Prelude.{◌≡◌, ◌≢◌, ℕ, ◌+◌, ◌≤◌, ◌<◌, ◌⊎◌, ◌++◌, IsTrue, List, [], length, take, drop, All, Vec, Result, Ok, Err, IfOk, IfErr, OnOk, IsErrOf}
+use Rattle.std.specs.Prelude.{◌≡◌, ◌≢◌, ℕ, ◌+◌, ◌≤◌, ◌<◌, ◌⊎◌, ◌++◌, IsTrue, List, [], length, take, drop, All, Vec, Result, Ok, Err, IfOk, IfErr, OnOk, OnErr, IsErrOf}
 use Rattle.std.specs.declared.alloc.Global.{Global}
 use Rattle.io_traits.specs.declared.fail.IoFail.{IoFail}
 use Rattle.io_traits.specs.declared.fail.IoFail.TheVariants as call
@@ -36,13 +36,15 @@ pub record Loads (old new : DepotState) (slot : Slot) (limit : ℕ) (result : Re
   pub starts : SameStarts old new
   pub refusals_rise_only_there : IsErrOf result NoMemory ⊎ (new.refusals ≡ old.refusals)
 
--- A piece is filled with the next bytes of a started slot, or with all that it has left.
+-- A piece is filled with the next bytes of a started slot, or with all that it has left. A refusal takes no more than it has room for.
 pub record FillsPiece (old new : DepotState) (slot : Slot) (piece : List ℕ) (result : Result ℕ IoFail) : Type 0 where
   pub within : IfOk result (λ n. n ≤ length piece)
   pub next_bytes : IsTrue old.tells → IfOk result (λ n. old.left slot ≡ take n piece ++ new.left slot)
   pub at_end : IsTrue old.tells → IfOk result (λ n. n < length piece → new.left slot ≡ [])
+  pub at_refusal : IsTrue old.tells → OnErr result ((n : ℕ) × (n ≤ length piece) × TakesBytes n (old.left slot) (new.left slot))
   pub failed_only_where_it_rose : IsErrOf result call.Failed → Rose (old.faults slot) (new.faults slot)
   pub count_rises_only_there : IsErrOf result call.Failed ⊎ (new.faults slot ≡ old.faults slot)
   pub reads : OnlyReads (λ s. s ≡ slot) old new
   pub starts : SameStarts old new
+  pub no_memory_only_where_it_rose : IsErrOf result call.NoMemory → Rose old.refusals new.refusals
   pub refusals_rise_only_there : IsErrOf result call.NoMemory ⊎ (new.refusals ≡ old.refusals)

@@ -24,8 +24,10 @@ pub struct StdSource<R> {
 }
 
 impl<R: Read> StdSource<R> {
+    /// A source of what this reader gives from here on.
     pub fn new(reader: R) -> StdSource<R>
-        ensures { (⟦<StdSource<R> as Source>⟧.state result).faults ≡ 0 }
+        ensures none_failed { (⟦<StdSource<R> as Source>⟧.state result).faults ≡ 0 }
+        ensures unread { result.reader ≡ reader }
     {
         StdSource { reader, faults: 0 }
     }
@@ -58,8 +60,10 @@ pub struct StdSink<W> {
 }
 
 impl<W: Write> StdSink<W> {
+    /// A sink behind what this writer was given before.
     pub fn new(writer: W) -> StdSink<W>
-        ensures { (⟦<StdSink<W> as Sink>⟧.state result).faults ≡ 0 }
+        ensures none_failed { (⟦<StdSink<W> as Sink>⟧.state result).faults ≡ 0 }
+        ensures unwritten { result.writer ≡ writer }
     {
         StdSink { writer, faults: 0 }
     }
