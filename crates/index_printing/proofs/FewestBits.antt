@@ -1,20 +1,25 @@
 -- The fewest bits that a sequence may take in a file, by the least costs of its partitions.
-use Rattle.std.proofs.Common.{◌≡◌, ℕ, zero, suc, true, false, ◌≤◌, min, List, [], length, inl, refl, sym, ap, ◌∙◌, subst, arith}
-use Rattle.std.specs.Prelude.{◌==◌}
-use Rattle.std.proofs.lemmas.Bool.{eqb-true}
-use Rattle.std.proofs.lemmas.Bool.Decides.{nat_tests}
+use Rattle.std.proofs.Common.{◌≡◌, ℕ, zero, suc, false, ◌≤◌, min, List, [], length, inl, refl, sym, ap, ◌∙◌, subst, arith}
+use Rattle.std.specs.Prelude.{◌<◌, Option, None, Some, unwrap_or}
+use Rattle.std.proofs.lemmas.Bool.{ne_eqb}
 use Rattle.collection_model.specs.FormatNumbers.{FormatNumbers, FileKind, Plain, Packed, part_charge}
 use Rattle.part_cost.specs.Span.{payload_of_part, cost_of_part}
 use Rattle.part_cost.specs.Partition.{IsPartition, IsAllowed, IsCheapest, IsCheapestOfAll}
 use Rattle.part_cost.specs.StoredBits.{MayStandIn, stored_in, IsLeastStored, IsLeastStoredOfAll}
 use Rattle.part_cost.specs.StoredLaws.{LeastInPackedFiles}
+use Rattle.partition_path.specs.Rests.{whole_cost}
 
--- whether there are values
-pub none-tested : (n : ℕ) → true ≡ (n == 0) → n ≡ 0
-none-tested n h = eqb-true n 0 (sym h)
+-- what all numbers cost as one part: none of no number
+some-is : (limit : ℕ) (cost : ℕ → ℕ → ℕ) (n : ℕ) → 0 < n → whole_cost false limit cost n ≡ Some (cost 0 n)
+some-is limit cost n some = rw (ne_eqb n 0 (λ e. omega (arith, some, e))) refl
 
-pub some-tested : (n : ℕ) → false ≡ (n == 0) → 1 ≤ n
-some-tested n h = grind (arith, nat_tests)
+pub no-whole : (limit : ℕ) (cost : ℕ → ℕ → ℕ) (n : ℕ) → None ≡ whole_cost false limit cost n → n ≡ 0
+no-whole limit cost zero h = refl
+no-whole limit cost (suc n) h = absurd (let e : None ≡ Some (cost 0 (suc n)) = h ∙ some-is limit cost (suc n) (omega arith) in cc)
+
+pub some-whole : (limit : ℕ) (cost : ℕ → ℕ → ℕ) (n whole : ℕ) → Some whole ≡ whole_cost false limit cost n → (1 ≤ n) × (whole ≡ cost 0 n)
+some-whole limit cost zero whole h = absurd cc
+some-whole limit cost (suc n) whole h = (omega arith, ap (λ (o : Option ℕ). unwrap_or o 0) (h ∙ some-is limit cost (suc n) (omega arith)))
 
 -- These are the fewest bits that a sequence may take in a file of the format, and the fewest of any of its partitions.
 pub record AreFewest (format : FormatNumbers) (xs : List ℕ) (allowed any : ℕ) : Type 0 where

@@ -1,10 +1,11 @@
-ghost use Rattle.std.specs.Prelude.{◌≡◌, ◌+◌, ◌*◌, ◌<◌, ◌≤◌, [], ◌∷◌, length, string_bytes, ℕ, IfErr, IfOk};
+ghost use Rattle.std.specs.Prelude.{◌≡◌, ◌+◌, ◌*◌, ◌<◌, ◌≤◌, [], ◌∷◌, length, string_bytes, ℕ, false, IfErr, IfOk};
 ghost use Rattle.std.specs.List.{All};
 ghost use Rattle.std.specs.List.Sorted.{IsStrictlyIncreasing};
 ghost use Rattle.part_cost.specs.Formats.{numbers_of};
 ghost use Rattle.part_cost.specs.Span.{cost_of_part};
 ghost use Rattle.part_cost.specs.Partition.{IsCheapest, IsCheapestOfAll};
 ghost use Rattle.part_cost.specs.StoredBits.{IsLeastStored, IsLeastStoredOfAll};
+ghost use Rattle.partition_path.specs.Rests.{whole_cost};
 ghost use Rattle.collection_model.specs.FormatNumbers.{format_three, part_charge};
 ghost use Rattle.collection_model.specs.Collection.{list_of};
 ghost use Rattle.index_file.specs.IndexView.{cut_list_at};
@@ -17,10 +18,8 @@ use index_file::Index;
 use index_reading::read_list;
 use io_traits::{IoFail, Sink, write_all_own};
 use no_memory::NoMemory;
-use part_cost::{
-    Format, ListCost, Which, formats_have_room, least_stored, payload_bits, single_is_allowed,
-};
-use partition_path::exact_cost;
+use part_cost::{Format, ListCost, Which, formats_have_room, least_stored, single_is_allowed};
+use partition_path::{ExactCosts, exact_cost, exact_costs};
 use pef_report::{audit_end, audit_line};
 use postings::{doc_values, freq_sums, sequences_of_a_list_rise};
 use std::alloc::Global;
@@ -220,7 +219,7 @@ fn line_of<L: Ledger>(
     let format = index.format();
     let costs = ListCost::new(values, format);
     let allowed = exact_cost(alloc, &costs, true, steps)?;
-    let any = exact_cost(alloc, &costs, false, steps)?;
+    let any = exact_costs(alloc, &costs, false, steps)?;
     let (allowed, any) = fewest_bits(values, format, allowed, any);
     audit_line(
         alloc,
@@ -233,44 +232,43 @@ fn line_of<L: Ledger>(
 }
 
 // The fewest bits that a sequence may take in a file of a format, and the fewest of any of its
-// partitions, by the least costs of these.
-fn fewest_bits(values: &[u64], format: Format, allowed: u64, any: u64) -> (u64, u64)
-    requires rising { IsStrictlyIncreasing values.now }
-    requires below { All (λ x. x < (numbers_of format).most_sum) values.now }
+// partitions, by the least costs of these and what it costs as one part.
+fn fewest_bits(values: &[u64], format: Format, allowed: u64, any: ExactCosts) -> (u64, u64)
     requires least_allowed { IsCheapest (numbers_of format).limit
         (cost_of_part (part_charge (numbers_of format)) values.now) (length values.now) allowed }
     requires least_of_all { IsCheapestOfAll
-        (cost_of_part (part_charge (numbers_of format)) values.now) (length values.now) any }
+        (cost_of_part (part_charge (numbers_of format)) values.now) (length values.now) any.least }
+    requires whole { any.whole ≡ whole_cost false (numbers_of format).limit
+        (cost_of_part (part_charge (numbers_of format)) values.now) (length values.now) }
     ensures least_allowed { IsLeastStored (numbers_of format) values.now result.0 }
     ensures least_of_all { IsLeastStoredOfAll (numbers_of format) values.now result.1 }
 {
     match format {
-        Format::One => (allowed, any),
-        Format::Two => (allowed, any),
+        Format::One => (allowed, any.least),
+        Format::Two => (allowed, any.least),
         Format::Three => fewest_packed(values, allowed, any),
     }
 }
 
-// The fewest bits that a sequence takes in a packed file: of one value none, of more the payload of
-// the one part, where that is less.
-fn fewest_packed(values: &[u64], allowed: u64, any: u64) -> (u64, u64)
-    requires rising { IsStrictlyIncreasing values.now }
-    requires below { All (λ x. x < format_three.most_sum) values.now }
+// The fewest bits that a sequence takes in a packed file: of one value none, of more what the one
+// part costs without its charge, where that is less.
+fn fewest_packed(values: &[u64], allowed: u64, any: ExactCosts) -> (u64, u64)
     requires least_allowed { IsCheapest format_three.limit
         (cost_of_part (part_charge format_three) values.now) (length values.now) allowed }
     requires least_of_all { IsCheapestOfAll
-        (cost_of_part (part_charge format_three) values.now) (length values.now) any }
+        (cost_of_part (part_charge format_three) values.now) (length values.now) any.least }
+    requires whole { any.whole ≡ whole_cost false format_three.limit
+        (cost_of_part (part_charge format_three) values.now) (length values.now) }
     ensures least_allowed { IsLeastStored format_three values.now result.0 }
     ensures least_of_all { IsLeastStoredOfAll format_three values.now result.1 }
 {
     least_stored();
-    if values.is_empty() {
-        return (allowed, any);
-    }
+    let Some(cost) = any.whole else {
+        return (allowed, any.least);
+    };
     if values.len() == 1 {
         return (0, 0);
     }
-    let last = values[values.len() - 1];
-    let whole = payload_bits(last + 1, values.len() as u64);
-    (whole.min(allowed), whole.min(any))
+    let whole = cost - Format::Three.charge();
+    (whole.min(allowed), whole.min(any.least))
 }

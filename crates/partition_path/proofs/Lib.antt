@@ -10,3 +10,4 @@ mod Longer
 mod Below
 mod Along
 mod Pieces
+mod WholeCosts

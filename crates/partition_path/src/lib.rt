@@ -11,4 +11,4 @@ mod search;
 mod whole;
 
 pub use cuts::{Cuts, list_partition, list_partition_or_whole, partition};
-pub use exact::exact_cost;
+pub use exact::{ExactCosts, exact_cost, exact_costs};

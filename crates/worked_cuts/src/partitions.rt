@@ -7,7 +7,9 @@ ghost use Rattle.part_cost.specs.declared.formats.Format.TheVariants.{One};
 
 use no_memory::NoMemory;
 use part_cost::{Format, ListCost, SpanCost};
-use partition_path::{Cuts, exact_cost, list_partition, list_partition_or_whole, partition};
+use partition_path::{
+    Cuts, ExactCosts, exact_cost, exact_costs, list_partition, list_partition_or_whole, partition,
+};
 use std::alloc::{AllocError, Global};
 use std::marker::Brand;
 use std::sync::ledger::{Blank, Ledger};
@@ -146,14 +148,14 @@ fn level_cuts<L: Ledger>(
     partition(alloc, &Level { count, bits }, &mut steps)
 }
 
-// The cheapest cost of a sequence of values.
+// The cheapest cost of a sequence of values, and what it costs as one part; and the first of them alone.
 fn cheapest<L: Ledger>(
     alloc: Global,
     blank: Blank,
     values: &[u64],
     format: Format,
     limited: bool,
-) -> Result<u64, NoMemory>
+) -> Result<(ExactCosts, u64), NoMemory>
     requires name { blank.name ≡ L.name }
     requires parts { blank.parts ≡ L.parts }
     requires some { 0 < L.parts }
@@ -162,7 +164,9 @@ fn cheapest<L: Ledger>(
     requires few { length values.now < 2 ^ 32 }
 {
     let mut steps = Steps::<L>::new(blank);
-    exact_cost(alloc, &ListCost::new(values, format), limited, &mut steps)
+    let costs = ListCost::new(values, format);
+    let found = exact_costs(alloc, &costs, limited, &mut steps)?;
+    Ok((found, exact_cost(alloc, &costs, limited, &mut steps)?))
 }
 
 // The numbers before the first so many multiples of 2^20.
@@ -301,21 +305,30 @@ fn costs_that_do_not_add_up(rt: HostRuntime) -> Result<(), Fail> {
 
 #[test]
 fn the_cheapest_of_all_and_of_the_allowed(rt: HostRuntime) -> Result<(), Fail> {
-    // A format, how many numbers; the cheapest cost of an allowed partition, and of any.
+    // A format, how many numbers; the cheapest cost of an allowed partition, and of any; what all numbers cost as one part, where that
+    // is allowed, and where any is.
     let rows = [
-        (Format::One, 0, 0, 0),
-        (Format::One, 1, 149, 149),
+        (Format::One, 0, 0, 0, None, None),
+        (Format::One, 1, 149, 149, Some(149), Some(149)),
         // One part of them all is above the limit.
-        (Format::One, 256, 5_886, 5_769),
-        (Format::Two, 256, 5_833, 5_833),
-        (Format::Three, 256, 5_886, 5_769),
+        (Format::One, 256, 5_886, 5_769, None, Some(5_769)),
+        (Format::Two, 256, 5_833, 5_833, Some(5_833), Some(5_833)),
+        (Format::Three, 256, 5_886, 5_769, None, Some(5_769)),
     ];
-    for (format, count, allowed, any) in rows {
+    for (format, count, allowed, any, whole, one_part) in rows {
         let values = far_apart(rt.alloc(), count)?;
         assert!(rt; is_sequence(&values, format));
-        for (limited, least) in [(true, allowed), (false, any)] {
-            let found = cheapest::<Brand>(rt.alloc(), Blank::new(1), &values, format, limited)?;
-            assert_eq!(rt; found, least, "{count}");
+        for (limited, least, all) in [(true, allowed, whole), (false, any, one_part)] {
+            let (found, alone) = cheapest::<Brand>(
+                rt.alloc(),
+                Blank::new(1),
+                &values,
+                format,
+                limited,
+            )?;
+            assert_eq!(rt; found.least, least, "{count}");
+            assert_eq!(rt; found.whole, all, "{count}");
+            assert_eq!(rt; alone, least, "{count}");
         }
     }
     Ok(())
