@@ -8,7 +8,7 @@ use Rattle.io_traits.specs.DepotState.{DepotState, bytes_under}
 use Rattle.index_file.specs.declared.fault.OpenFault.{OpenFault}
 use Rattle.index_file.specs.FileWords.{IsIndex, Spells, file_words}
 use Rattle.index_file.specs.FirstBroken.{IsFirstBroken}
-use Rattle.index_file.specs.IndexView.{IndexView}
+use Rattle.index_file.specs.IndexView.{IndexView, with_starts}
 use Rattle.index_file.specs.Laws.{WordsAreRead, OneBrokenCheck}
 use Rattle.index_file.proofs.FittingFiles.{fits-file}
 use Rattle.command_model.specs.Found.{AreOfWords, most_bytes}
@@ -133,5 +133,5 @@ pub spelled_index : (words : List ℕ) (index : IndexView) → Spells (numbers_o
 spelled_index words index spells = (index.format, (index.collection, index.parts, spells))
 
 -- the index of one that was loaded
-pub loaded_as : (name : List ℕ) (d d' : DepotState) (opened index : IndexView) → IsLoaded name d d' opened → index ≡ opened → IsLoaded name d d' index
-loaded_as name d d' opened index w is = subst (IsLoaded name d d') (sym is) w
+pub loaded_as : (name : List ℕ) (d d' : DepotState) (opened index : IndexView) (starts : List ℕ) → IsLoaded name d d' opened → index ≡ with_starts opened starts → IsLoaded name d d' index
+loaded_as name d d' opened index starts w is = subst (IsLoaded name d d') (sym is) (record { found = w.found; read = w.read; starts = w.starts })

@@ -1,5 +1,6 @@
 ghost use Rattle.std.specs.Prelude.{◌≡◌, IfErr, IfOk};
 ghost use Rattle.io_traits.specs.DepotState.{StartedOnce};
+ghost use Rattle.index_file.specs.IndexView.{starts_of};
 ghost use Rattle.command_model.specs.Found.{IsIndexSlot};
 ghost use Rattle.outcomes.specs.Stops.{stop_of_index};
 ghost use Rattle.command_ends.specs.Steps.LoadedIndex.{IsLoaded, IsUnloaded};
@@ -27,10 +28,11 @@ fn stop_of_index(error: LoadWordsError) -> Stop
     stop_of_loading(Slot::Index, Stop::BrokenIndex(ragged), error)
 }
 
-/// The index that stands under the name, whose file is started once, whatever comes of it. Of a file that begins with another word only a piece is kept.
+/// The index that stands under the name, which keeps where its lists begin. Its file is started once, whatever comes of it. Of a file that begins with another word only a piece is kept.
 pub fn load_index<D: Depot>(alloc: Global, name: &str, depot: &mut D) -> Result<OpenIndex, Stop>
     ensures loaded { IfOk result (λ index.
         IsLoaded name.now (D.state depot.old) (D.state depot.new) index) }
+    ensures kept { IfOk result (λ index. index.starts ≡ starts_of index) }
     ensures refused { IfErr result (λ stop.
         IsUnloaded name.now (D.state depot.old) (D.state depot.new) stop) }
     ensures started { StartedOnce (λ slot. name.now) IsIndexSlot (D.state depot.old)

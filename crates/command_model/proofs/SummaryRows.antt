@@ -44,6 +44,7 @@ cut = record {
   format = One;
   collection = record { documents = 3; lists = (record { doc = 0; freq = 1 } ∷ record { doc = 2; freq = 5 } ∷ []) ∷ []; sizes = 4 ∷ 0 ∷ 7 ∷ [] };
   parts = record { doc_ends = 1 ∷ 2 ∷ []; freq_ends = 2 ∷ [] } ∷ [];
+  starts = [];
 }
 
 cut-bitmaps : parts_of_kind cut Bitmap ≡ 2

@@ -1,4 +1,5 @@
 -- The names that most proofs cite, passed on from one place.
+use Rattle.std.proofs.Common.{◌≡◌, sym, subst, ℕ, List}
 pub use Rattle.block_max.specs.Blocks.{BlockList}
 pub use Rattle.block_max.specs.SideFaults.{IsFirstSideFault}
 pub use Rattle.block_max.specs.SideWords.{side_opening, side_words}
@@ -7,7 +8,7 @@ pub use Rattle.collection_model.specs.Bytes.{word_bytes}
 pub use Rattle.collection_model.specs.Spelling.{spelled}
 pub use Rattle.collection_reader.specs.declared.fault.Fault.{Fault}
 pub use Rattle.command_ends.proofs.FileWritten.{Written, file_written, not_refusal, only_read, stands_written}
-pub use Rattle.command_ends.proofs.IndexRead.{index_laws, is_even, is_ragged, loaded_as}
+pub use Rattle.command_ends.proofs.IndexRead.{index_laws, is_even, is_ragged}
 pub use Rattle.command_ends.proofs.SourceRead.{Laws, comes_to, ended_there, nothing_read, nothing_starts, promised, read_no_memory, refuses_none, still_read, stops, too_many, unread}
 pub use Rattle.command_ends.proofs.TextMade.{Answer, Printed, answers_input, no_print_refuses, prints, source_answered, text_answered, text_printed, where_done}
 pub use Rattle.command_ends.proofs.WordsLoaded.{even, short}
@@ -64,3 +65,7 @@ pub use Rattle.text_replies.specs.AnswerText.{AnswersText}
 pub use Rattle.word_files.specs.LoadWords.{LoadsKept, LoadsWords}
 pub use Rattle.word_files.specs.WriteFile.{WritesWords}
 pub use Rattle.word_files.specs.declared.loading.LoadWordsError.{LoadWordsError}
+
+-- the index that one lends which was loaded
+pub loaded_as : (name : List ℕ) (d d' : DepotState) (opened index : IndexView) → IsLoaded name d d' opened → index ≡ opened → IsLoaded name d d' index
+loaded_as name d d' opened index w is = subst (IsLoaded name d d') (sym is) w

@@ -1,6 +1,6 @@
-ghost use Rattle.std.specs.Prelude.{◌≡◌, IsTrue};
+ghost use Rattle.std.specs.Prelude.{◌≡◌, ◌≤◌, ◌<◌, [], length, IsTrue};
 ghost use Rattle.collection_model.specs.Bytes.{number_sequence};
-ghost use Rattle.collection_model.specs.Collection.{docs_of, freqs_of};
+ghost use Rattle.collection_model.specs.Collection.{list_of, docs_of, freqs_of};
 ghost use Rattle.collection_model.specs.Spelling.{spelled};
 ghost use Rattle.exported_files.specs.Given.{Gives};
 
@@ -21,9 +21,9 @@ pub(crate) fn give_docs<D: Depot>(
 {
     writer.give(1, depot)?;
     writer.give(index.documents(), depot)?;
+    let walked = index.walked_terms();
     for term in 0..index.terms() {
-        let mut cursor = index.cursor(term);
-        give_docs_of(&mut cursor, writer, depot)?;
+        give_docs_at(index, term, walked, writer, depot)?;
     }
     Ok(())
 }
@@ -38,9 +38,9 @@ pub(crate) fn give_freqs<D: Depot>(
     ensures { Gives (spelled index.now.collection).freqs writer.old writer.new
         (D.state depot.old) (D.state depot.new) result }
 {
+    let walked = index.walked_terms();
     for term in 0..index.terms() {
-        let mut cursor = index.cursor(term);
-        give_freqs_of(&mut cursor, writer, depot)?;
+        give_freqs_at(index, term, walked, writer, depot)?;
     }
     Ok(())
 }
@@ -61,6 +61,48 @@ pub(crate) fn give_sizes<D: Depot>(
         writer.give(index.size_of(document), depot)?;
     }
     Ok(())
+}
+
+// Gives the documents of list t, which is read if it is walked; else it has none.
+fn give_docs_at<D: Depot>(
+    index: &Index<'_>,
+    t: u32,
+    walked: u32,
+    writer: &mut PieceWriter,
+    depot: &mut D,
+) -> Result<(), IoFail>
+    requires within { t < length index.now.collection.lists }
+    requires rest { walked ≤ t → list_of index.now.collection t ≡ [] }
+    requires created { IsTrue (D.state depot.old).created }
+    ensures { Gives (number_sequence (docs_of (list_of index.now.collection t))) writer.old
+        writer.new (D.state depot.old) (D.state depot.new) result }
+{
+    if t >= walked {
+        return writer.give(0, depot);
+    }
+    let mut cursor = index.cursor(t);
+    give_docs_of(&mut cursor, writer, depot)
+}
+
+// Gives its frequencies.
+fn give_freqs_at<D: Depot>(
+    index: &Index<'_>,
+    t: u32,
+    walked: u32,
+    writer: &mut PieceWriter,
+    depot: &mut D,
+) -> Result<(), IoFail>
+    requires within { t < length index.now.collection.lists }
+    requires rest { walked ≤ t → list_of index.now.collection t ≡ [] }
+    requires created { IsTrue (D.state depot.old).created }
+    ensures { Gives (number_sequence (freqs_of (list_of index.now.collection t))) writer.old
+        writer.new (D.state depot.old) (D.state depot.new) result }
+{
+    if t >= walked {
+        return writer.give(0, depot);
+    }
+    let mut cursor = index.cursor(t);
+    give_freqs_of(&mut cursor, writer, depot)
 }
 
 // Gives the documents of a cursor that stands at the start of its list: how many they are, and then each.

@@ -21,7 +21,7 @@ use Rattle.index_file.specs.CutLists.{CutList, ListParts, with_parts, ArePartiti
 use Rattle.index_file.specs.FileWords.{SpellsPlain, Spells, IsIndex, format_read}
 use Rattle.index_file.specs.FirstBroken.{stated_documents, stated_terms}
 use Rattle.index_file.specs.PackedView.{size_at, sizes_at, packed_list_stated}
-use Rattle.index_file.specs.IndexView.{IndexView, list_of_kind, sizes_of_kind, stated_in, index_stated, docs_view, freqs_view}
+use Rattle.index_file.specs.IndexView.{IndexView, list_of_kind, sizes_of_kind, stated_in, index_stated, with_starts, docs_view, freqs_view}
 use Rattle.index_file.specs.Laws.{FileLaws, IndexIsRead}
 use Rattle.index_file.proofs.StatedIndex.{collection-is, parts-are, sizes-are, lists-back}
 use Rattle.index_file.proofs.Reading.{has-frame, documents-are, terms-are, opened-cut, docs-read, freqs-read}
@@ -53,11 +53,11 @@ index-is-read Two words (c, parts, s) = ap format_read s.spelled
 index-is-read Three words (c, parts, s) = ap format_read s.spelled
 
 -- an index is the one that its words state
-same-view : (v : Format) (c d : Collection) (p q : List ListParts) → c ≡ d → p ≡ q → ◌≡◌ {A = IndexView} (record { format = v; collection = c; parts = p }) (record { format = v; collection = d; parts = q })
-same-view v c d p q e f = ap (λ (x : Collection). record { format = v; collection = x; parts = p }) e ∙ ap (λ (x : List ListParts). record { format = v; collection = d; parts = x }) f
+same-view : (v : Format) (c d : Collection) (p q : List ListParts) → c ≡ d → p ≡ q → ◌≡◌ {A = IndexView} (record { format = v; collection = c; parts = p; starts = [] }) (record { format = v; collection = d; parts = q; starts = [] })
+same-view v c d p q e f = ap (λ (x : Collection). record { format = v; collection = x; parts = p; starts = [] }) e ∙ ap (λ (x : List ListParts). record { format = v; collection = d; parts = x; starts = [] }) f
 
 stated-in-is : FileLaws → (v : Format) (words : List ℕ) → All (λ w. w < 2 ^ 64) words → (c : Collection) (parts : List ListParts) → Spells (numbers_of v) words c parts
-    → ◌≡◌ {A = IndexView} (stated_in v words) (record { format = v; collection = c; parts = parts })
+    → ◌≡◌ {A = IndexView} (stated_in v words) (record { format = v; collection = c; parts = parts; starts = [] })
 stated-in-is laws One words narrow c parts h =
     let l = laws.sequences One in
     let p = to-plain One words c parts refl h in
@@ -72,14 +72,19 @@ stated-in-is laws Three words narrow c parts h =
     same-view Three _ c _ parts s.0 s.1
 
 pub stated-is : FileLaws → (v : Format) (words : List ℕ) → All (λ w. w < 2 ^ 64) words → (c : Collection) (parts : List ListParts) → Spells (numbers_of v) words c parts
-    → ◌≡◌ {A = IndexView} (index_stated words) (record { format = v; collection = c; parts = parts })
+    → ◌≡◌ {A = IndexView} (index_stated words) (record { format = v; collection = c; parts = parts; starts = [] })
 unfolding index_stated
 stated-is laws v words narrow c parts h = ap (λ x. stated_in x words) (index-is-read v words (c, parts, h)) ∙ stated-in-is laws v words narrow c parts h
 
+-- the index that words state is given nothing of where its lists begin
+pub none-given : (words : List ℕ) → ◌≡◌ {A = IndexView} (with_starts (index_stated words) []) (index_stated words)
+unfolding index_stated
+none-given words = refl
+
 -- the words of an index spell what they state
-pub spells-view : (words : List ℕ) (i : IndexView) → Spells (numbers_of (index_stated words).format) words (index_stated words).collection (index_stated words).parts → index_stated words ≡ i
+pub spells-view : (words given : List ℕ) (i : IndexView) → Spells (numbers_of (index_stated words).format) words (index_stated words).collection (index_stated words).parts → with_starts (index_stated words) given ≡ i
     → Spells (numbers_of i.format) words i.collection i.parts
-spells-view words i h e = subst (λ x. Spells (numbers_of x.format) words x.collection x.parts) e h
+spells-view words given i h e = subst (λ x. Spells (numbers_of x.format) words x.collection x.parts) e h
 
 pub spells-stated : FileLaws → (words : List ℕ) → All (λ w. w < 2 ^ 64) words → IsIndex words
     → Spells (numbers_of (index_stated words).format) words (index_stated words).collection (index_stated words).parts

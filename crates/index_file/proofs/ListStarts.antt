@@ -1,6 +1,7 @@
 -- Where the lists of a packed file begin.
 use Rattle.std.proofs.Common.{◌≡◌, ℕ, zero, suc, ◌+◌, ◌-◌, ◌*◌, ◌<◌, ◌≤◌, Bool, true, false, List, [], ◌++◌, take, drop, length, inl, inr, sym, ap, ◌∙◌, subst, arith}
-use Rattle.std.specs.Prelude.{slice_index, if◌then◌else◌, ◌==◌}
+use Rattle.std.specs.Prelude.{slice_index, if◌then◌else◌, ◌==◌, ◌^◌}
+use Rattle.std.specs.List.{All}
 use Rattle.std.proofs.lemmas.Bool.{cases_lt, lt-ltb, le-ltb}
 use Rattle.std.proofs.lemmas.List.{ext_get_or}
 use Rattle.std.proofs.Math.Seq.{take-append_seam}
@@ -13,10 +14,10 @@ use Rattle.part_cost.specs.Formats.{numbers_of}
 use Rattle.index_file.specs.FileWords.{format_read, IsIndex, IsIndexIn}
 use Rattle.index_file.specs.PackedAt.{packed_terms, starts_stated, start_stated, PassesPacked}
 use Rattle.index_file.specs.ListStarts.{list_starts, words_a_start, starts_of_format, kept_starts, AreNoneOr}
-use Rattle.index_file.specs.IndexView.{IndexView, index_stated}
+use Rattle.index_file.specs.IndexView.{IndexView, index_stated, with_starts, starts_of}
 use Rattle.index_file.specs.Laws.{FileLaws}
 use Rattle.index_file.proofs.PackedStarts.{rises-by}
-use Rattle.index_file.proofs.FileKinds.{to-packed, index-is-read}
+use Rattle.index_file.proofs.FileKinds.{to-packed, index-is-read, spells-stated}
 use Rattle.index_file.proofs.Both.{file-passes}
 
 -- the numbers of a part are below its universe
@@ -66,9 +67,13 @@ none-or false xs given h = h
 of-format : (v : Format) (words given : List ℕ) → v ≡ Three → AreNoneOr (starts_of_format v words) given → AreNoneOr (list_starts words) given
 of-format v words given e h = none-or _ (list_starts words) given (subst (λ f. AreNoneOr (starts_of_format f words) given) e h)
 
-pub of-index : (words given : List ℕ) (i : IndexView) (v : Format) → AreNoneOr (kept_starts words) given → index_stated words ≡ i → v ≡ i.format → v ≡ Three → AreNoneOr (list_starts words) given
+pub of-index : (words given : List ℕ) (i : IndexView) (v : Format) → AreNoneOr (kept_starts words) given → with_starts (index_stated words) given ≡ i → v ≡ i.format → v ≡ Three → AreNoneOr (list_starts words) given
 unfolding index_stated
 of-index words given i v h is same e = of-format (format_read words) words given (ap (λ x. x.format) is ∙ sym same ∙ e) h
+
+-- what is kept is that of the index that the words state
+pub kept-of-index : FileLaws → (words : List ℕ) → All (λ w. w < 2 ^ 64) words → IsIndex words → kept_starts words ≡ starts_of (index_stated words)
+kept-of-index laws words narrow is = ap kept_starts (spells-stated laws words narrow is).spelled
 
 -- some are given
 pub some-given : (n : ℕ) → false ≡ (n == 0) → 0 < n

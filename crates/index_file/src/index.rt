@@ -37,11 +37,11 @@ impl<'a> Model for Index<'a> {
     ghost use Rattle.part_cost.specs.Formats.{numbers_of};
     ghost use Rattle.index_file.specs.FileWords.{Spells};
     ghost use Rattle.index_file.specs.ListStarts.{AreNoneOr, kept_starts};
-    ghost use Rattle.index_file.specs.IndexView.{IndexView, index_stated};
+    ghost use Rattle.index_file.specs.IndexView.{IndexView, index_stated, with_starts};
 
     ghost Value = { IndexView };
 
-    ghost view = { λ i. index_stated i.words.now };
+    ghost view = { λ i. with_starts (index_stated i.words.now) i.starts.now };
 
     ghost invariant = { λ i. Spells (numbers_of (index_stated i.words.now).format) i.words.now
         (index_stated i.words.now).collection (index_stated i.words.now).parts
@@ -82,15 +82,15 @@ impl<'a> Index<'a> {
         }
     }
 
-    /// The index of `known`, which finds a list of a packed file by where the lists begin, if that is given as `list_starts` tells it,
-    /// and not by the directory.
+    /// The index of `known`, which keeps where the lists of a packed file begin, if that is given as `list_starts` tells it, and finds
+    /// a list by it and not by the directory.
     pub fn with_starts(words: &'a [u64], starts: &'a [u64]) -> Index<'a>
         requires words { length words.now < 2 ^ 57 }
         requires index { IsIndex words.now }
         requires starts { AreNoneOr (kept_starts words.now) starts.now }
         ensures spells { Spells (numbers_of result.format) words.entry.now result.collection
             result.parts }
-        ensures stated { result ≡ of.index_stated words.entry.now }
+        ensures kept { result ≡ of.with_starts (of.index_stated words.entry.now) starts.entry.now }
     {
         file_laws();
         Index { words, starts }

@@ -3,6 +3,7 @@ ghost use Rattle.std.specs.Prelude.{◌≡◌, ℕ, ◌+◌, ◌-◌, ◌^◌, �
 ghost use Rattle.part_codec.specs.PartView.{Holds, universe_of, count_of};
 ghost use Rattle.index_file.specs.FileWords.{IsIndex};
 ghost use Rattle.index_file.specs.PackedAt.{PassesPacked, starts_stated, packed_terms};
+ghost use Rattle.index_file.specs.IndexView.{index_stated, starts_of};
 ghost use Rattle.index_file.specs.ListStarts.{kept_starts, starts_of_format};
 ghost use Rattle.part_cost.specs.declared.formats.Format.TheVariants.{Three};
 
@@ -25,7 +26,8 @@ const WORDS_A_START: u64 = 2;
 pub fn list_starts(alloc: Global, words: &[u64]) -> Result<Vec<u64>, NoMemory>
     requires words { length words.now < 2 ^ 57 }
     requires index { IsIndex words.now }
-    ensures { IfOk result (λ starts. starts.items ≡ kept_starts words.now) }
+    ensures starts { IfOk result (λ starts. starts.items ≡ kept_starts words.now) }
+    ensures of_index { kept_starts words.now ≡ starts_of (index_stated words.now) }
 {
     file_laws();
     match format_of(words) {

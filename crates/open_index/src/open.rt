@@ -2,6 +2,7 @@ ghost use Rattle.std.specs.Prelude.{◌≡◌, ◌<◌, ◌^◌, length, IfErr, 
 ghost use Rattle.part_cost.specs.Formats.{numbers_of};
 ghost use Rattle.index_file.specs.FileWords.{IsIndex, Spells};
 ghost use Rattle.index_file.specs.FirstBroken.{IsFirstBroken};
+ghost use Rattle.index_file.specs.IndexView as of;
 
 use index_file::{Index, OpenFault, list_starts};
 use no_memory::NoMemory;
@@ -39,11 +40,11 @@ impl Model for OpenIndex {
     ghost use Rattle.std.specs.Prelude.{◌≡◌, ◌<◌, ◌^◌, length};
     ghost use Rattle.index_file.specs.FileWords.{IsIndex};
     ghost use Rattle.index_file.specs.ListStarts.{kept_starts};
-    ghost use Rattle.index_file.specs.IndexView.{IndexView, index_stated};
+    ghost use Rattle.index_file.specs.IndexView.{IndexView, index_stated, with_starts};
 
     ghost Value = { IndexView };
 
-    ghost view = { λ opened. index_stated opened.words.items };
+    ghost view = { λ opened. with_starts (index_stated opened.words.items) opened.starts.items };
 
     ghost invariant = { λ opened. (length opened.words.items < 2 ^ 57)
         × IsIndex opened.words.items
@@ -66,7 +67,7 @@ impl CheckedWords {
     /// The index, with a number in memory for each list of a packed file: where the list begins. By two of them a list is found, and not by
     /// the directory. A file that has fewer than two words for each of these numbers gets none.
     pub fn with_starts(self, alloc: Global) -> Result<OpenIndex, NoMemory>
-        ensures { IfOk result (λ index. index ≡ self) }
+        ensures { IfOk result (λ index. index ≡ of.with_starts self (of.starts_of self)) }
     {
         let starts = list_starts(alloc, &self.words)?;
         Ok(OpenIndex {

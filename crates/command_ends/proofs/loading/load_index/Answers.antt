@@ -1,3 +1,5 @@
+use Rattle.std.proofs.Common.{◌∙◌, sym, ap}
+use Rattle.index_file.specs.IndexView.{starts_of}
 use Rattle.command_ends.proofs.IndexRead.{index_broken, index_loaded, index_unkept, index_unloaded, loaded_as, spelled_index}
 use Rattle.command_ends.proofs.OtherFile.{kept_is_loaded, kept_is_none}
 use Rattle.outcomes.proofs.Told.{handed_on, told_ok, told_err}
@@ -26,6 +28,9 @@ pub returns-clause-loaded : goal.returns-clause-loaded
 returns-clause-loaded g c =
     let was = told_ok c.load_words.result c.map_err.result _ c.in_ok-words.words c.map_err.ensures.cases c.in_ok-words.was in
     let is = spelled_index c.in_ok-words.words.items c.in_ok-opened.opened c.in_ok-opened.ensures.ok in
-    loaded_as c.args.name.now _ _ c.in_ok-opened.opened c.in_ok-kept.kept
+    loaded_as c.args.name.now _ _ c.in_ok-opened.opened c.in_ok-kept.kept (starts_of c.in_ok-opened.opened)
     (index_loaded c.words_and_bytes_undo_each_other.ensures.read c.one_broken_check.ensures c.args.name.now _ _ c.in_ok-words.words.items
     (kept_is_loaded c.args.name.now _ _ c.in_ok-words.words.items (rw was at c.load_words.ensures.loads) is) c.in_ok-opened.opened c.in_ok-opened.ensures.ok) c.in_ok-kept.ensures
+
+pub returns-clause-kept : goal.returns-clause-kept
+returns-clause-kept g c = ap (λ i. i.starts) c.in_ok-kept.ensures ∙ sym (ap starts_of c.in_ok-kept.ensures)

@@ -1,4 +1,4 @@
-use Rattle.std.proofs.Common.{ℕ, ◌<◌, ◌+◌, ◌++◌, List, [], refl, ap, length, arith}
+use Rattle.std.proofs.Common.{ℕ, ◌<◌, ◌+◌, ◌++◌, List, [], refl, length, arith}
 use Rattle.std.proofs.lemmas.Result.{err_from_is_err_and}
 use Rattle.collection_model.specs.Bytes.{le32, number_sequence}
 use Rattle.collection_model.specs.Collection.{Posting, docs_of}
@@ -27,15 +27,15 @@ loop-term-init g c =
     first-given of_list it.lists (head_bytes it.documents) c.args.writer.now _ 0 _ _ refl
     (head-given it.documents c.documents.result c.args.writer.now _ _ _ _ _ c.documents.ensures c.in_ok-give.ensures c.in_ok-give-2.ensures)
 
-pub returns-in_err-give_docs_of : goal.returns-in_err-give_docs_of
-returns-in_err-give_docs_of g c =
+pub returns-in_err-give_docs_at : goal.returns-in_err-give_docs_at
+returns-in_err-give_docs_at g c =
     let it = c.args.index.now.collection in
-    let p = err_from_is_err_and c.from_residual-in_err-give_docs_of.result c.from_residual-in_err-give_docs_of.ensures.1 in
+    let p = err_from_is_err_and c.from_residual-in_err-give_docs_at.result c.from_residual-in_err-give_docs_at.ensures.1 in
     let within : c.loop-term.term < length it.lists = omega (arith, c.loop-term-test.true, c.terms-term-end.ensures) in
-    rw (p.1, p.2) (place-refused of_list it.lists (head_bytes it.documents) _ c.args.writer.now _ [] [] c.loop-term.term [] _ _ _ _ within (ap of_list c.cursor-cursor.ensures.list) c.loop-term.invariant c.in_err-give_docs_of.ensures)
+    rw (p.1, p.2) (place-refused of_list it.lists (head_bytes it.documents) _ c.args.writer.now _ [] [] c.loop-term.term [] _ _ _ _ within refl c.loop-term.invariant c.in_err-give_docs_at.ensures)
 
 pub loop-term-preserved : goal.loop-term-preserved
 loop-term-preserved g c =
     let it = c.args.index.now.collection in
     let within : c.loop-term.term < length it.lists = omega (arith, c.loop-term-test.true, c.terms-term-end.ensures) in
-    more-given of_list it.lists (head_bytes it.documents) _ c.args.writer.now _ _ c.loop-term.term (c.loop-term.term + 1) [] _ _ _ within refl (ap of_list c.cursor-cursor.ensures.list) c.loop-term.invariant c.in_ok-give_docs_of.ensures
+    more-given of_list it.lists (head_bytes it.documents) _ c.args.writer.now _ _ c.loop-term.term (c.loop-term.term + 1) [] _ _ _ within refl refl c.loop-term.invariant c.in_ok-give_docs_at.ensures

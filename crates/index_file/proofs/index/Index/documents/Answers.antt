@@ -6,14 +6,14 @@ pub frame_of-requires : goal.frame_of-requires
 frame_of-requires c =
     let now = c.args.self.now in
     let words = c.self.inside.words.now in
-    let spells = spells-view words now c.self.invariant.0 c.self.view_is in
+    let spells = spells-view words c.self.inside.starts.now now c.self.invariant.0 c.self.view_is in
     omega (arith, (framed c.file_laws.ensures.takes now.format words now.collection now.parts spells).some)
 
 pub overflow_cast-result : goal.overflow_cast-result
 overflow_cast-result c =
     let now = c.args.self.now in
     let words = c.self.inside.words.now in
-    let spells = spells-view words now c.self.invariant.0 c.self.view_is in
+    let spells = spells-view words c.self.inside.starts.now now c.self.invariant.0 c.self.view_is in
     let f = framed c.file_laws.ensures.takes now.format words now.collection now.parts spells in
     omega (arith, f.documents, f.few, c.frame_of.ensures.documents)
 
@@ -21,5 +21,5 @@ pub returns : goal.returns
 returns c =
     let now = c.args.self.now in
     let words = c.self.inside.words.now in
-    let spells = spells-view words now c.self.invariant.0 c.self.view_is in
+    let spells = spells-view words c.self.inside.starts.now now c.self.invariant.0 c.self.view_is in
     c.frame_of.ensures.documents ∙ (framed c.file_laws.ensures.takes now.format words now.collection now.parts spells).documents

@@ -10,21 +10,21 @@ pub list_views-requires-clause-index : goal.list_views-requires-clause-index
 list_views-requires-clause-index c =
     let now = c.args.self.now in
     let words = c.self.inside.words.now in
-    let spells = spells-view words now c.self.invariant.0 c.self.view_is in
+    let spells = spells-view words c.self.inside.starts.now now c.self.invariant.0 c.self.view_is in
     (now.collection, now.parts, subst (λ v. Spells (numbers_of v) words now.collection now.parts) (sym c.format.ensures) spells)
 
 pub list_views-requires-clause-within : goal.list_views-requires-clause-within
 list_views-requires-clause-within c =
     let now = c.args.self.now in
     let words = c.self.inside.words.now in
-    let spells = spells-view words now c.self.invariant.0 c.self.view_is in
+    let spells = spells-view words c.self.inside.starts.now now c.self.invariant.0 c.self.view_is in
     omega (arith, c.requires.within, (framed c.file_laws.ensures.takes now.format words now.collection now.parts spells).terms)
 
 pub returns-clause-docs : goal.returns-clause-docs
 returns-clause-docs c =
     let now = c.args.self.now in
     let words = c.self.inside.words.now in
-    let spells = spells-view words now c.self.invariant.0 c.self.view_is in
+    let spells = spells-view words c.self.inside.starts.now now c.self.invariant.0 c.self.view_is in
     let none : ListParts = record { doc_ends = []; freq_ends = [] } in
     let read = list-read c.file_laws.ensures now.format words c.self.invariant.2 now.collection now.parts none spells c.args.t c.requires.within in
     c.list_views.ensures.docs ∙ ap (λ v. (list_of_kind (numbers_of v).kind (numbers_of v) words c.args.t).docs) c.format.ensures ∙ read.docs
@@ -33,7 +33,7 @@ pub returns-clause-freqs : goal.returns-clause-freqs
 returns-clause-freqs c =
     let now = c.args.self.now in
     let words = c.self.inside.words.now in
-    let spells = spells-view words now c.self.invariant.0 c.self.view_is in
+    let spells = spells-view words c.self.inside.starts.now now c.self.invariant.0 c.self.view_is in
     let none : ListParts = record { doc_ends = []; freq_ends = [] } in
     let read = list-read c.file_laws.ensures now.format words c.self.invariant.2 now.collection now.parts none spells c.args.t c.requires.within in
     c.list_views.ensures.freqs ∙ ap (λ v. (list_of_kind (numbers_of v).kind (numbers_of v) words c.args.t).freqs) c.format.ensures ∙ read.freqs

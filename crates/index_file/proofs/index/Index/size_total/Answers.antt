@@ -12,14 +12,14 @@ pub sizes_from-first-requires-clause-index : goal.sizes_from-first-requires-clau
 sizes_from-first-requires-clause-index c =
     let now = c.args.self.now in
     let words = c.self.inside.words.now in
-    let spells = spells-view words now c.self.invariant.0 c.self.view_is in
+    let spells = spells-view words c.self.inside.starts.now now c.self.invariant.0 c.self.view_is in
     (now.collection, now.parts, subst (λ v. Spells (numbers_of v) words now.collection now.parts) (sym c.format.ensures) spells)
 
 pub all_sizes-requires-clause-within : goal.all_sizes-requires-clause-within
 all_sizes-requires-clause-within c =
     let now = c.args.self.now in
     let words = c.self.inside.words.now in
-    let spells = spells-view words now c.self.invariant.0 c.self.view_is in
+    let spells = spells-view words c.self.inside.starts.now now c.self.invariant.0 c.self.view_is in
     let f = framed c.file_laws.ensures.takes now.format words now.collection now.parts spells in
     let s = sized c.file_laws.ensures now.format words c.self.invariant.2 now.collection now.parts spells in
     let first : c.sizes_from-first.result ≡ sizes_of_kind (numbers_of c.args.self.now.format).kind c.self.inside.words.now = c.sizes_from-first.ensures ∙ ap (λ v. sizes_of_kind (numbers_of v).kind words) c.format.ensures in
@@ -29,7 +29,7 @@ pub returns : goal.returns
 returns c =
     let now = c.args.self.now in
     let words = c.self.inside.words.now in
-    let spells = spells-view words now c.self.invariant.0 c.self.view_is in
+    let spells = spells-view words c.self.inside.starts.now now c.self.invariant.0 c.self.view_is in
     let f = framed c.file_laws.ensures.takes now.format words now.collection now.parts spells in
     let s = sized c.file_laws.ensures now.format words c.self.invariant.2 now.collection now.parts spells in
     let first : c.sizes_from-first.result ≡ sizes_of_kind (numbers_of c.args.self.now.format).kind c.self.inside.words.now = c.sizes_from-first.ensures ∙ ap (λ v. sizes_of_kind (numbers_of v).kind words) c.format.ensures in

@@ -2,7 +2,7 @@ use Rattle.std.proofs.Common.{rules, arith, inl, refl}
 use Rattle.std.proofs.lemmas.Result.{IfErr-weaker}
 use Rattle.index_file.specs.FileWords.{IsIndex}
 use Rattle.index_file.specs.FirstBroken.{IsFirstBroken}
-use Rattle.index_file.proofs.FileKinds.{spells-stated, narrow-words}
+use Rattle.index_file.proofs.FileKinds.{spells-stated, narrow-words, none-given}
 use Rattle.index_file.proofs.FirstFaults.{from-err}
 use Rattle.index_file.proofs.Both.{one-broken-check}
 use Rattle.index_file.proofs.index.Index.view.Goals as goal
@@ -29,3 +29,6 @@ pub returns-clause-ok : goal.returns-clause-ok
 returns-clause-ok c =
     let words = c.args.words.now in
     spells-stated c.file_laws.ensures words (narrow-words words (λ k. omega (arith, c.type_inv.words k))) c.in_ok-check_file.ensures.ok
+
+pub returns-clause-stated : goal.returns-clause-stated
+returns-clause-stated c = none-given c.args.words.now

@@ -8,7 +8,7 @@ pub returns-clause-within : goal.returns-clause-within
 returns-clause-within c =
     let now = c.args.self.now in
     let words = c.self.inside.words.now in
-    let spells = spells-view words now c.self.invariant.0 c.self.view_is in
+    let spells = spells-view words c.self.inside.starts.now now c.self.invariant.0 c.self.view_is in
     omega (arith, c.walked_terms.ensures.within, (framed c.file_laws.ensures.takes now.format words now.collection now.parts spells).terms)
 
 pub returns-clause-rest : goal.returns-clause-rest
