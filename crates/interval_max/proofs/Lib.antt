@@ -1,0 +1,5 @@
+mod Greatest
+mod Steps
+mod Pairs
+mod Rounded
+mod Whole

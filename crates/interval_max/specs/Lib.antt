@@ -1,0 +1,4 @@
+pub mod Intervals
+pub mod Peaks
+pub mod Bytes
+pub mod Maxima
