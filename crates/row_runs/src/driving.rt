@@ -1,8 +1,8 @@
 // Tables that are read from files and checked.
-use crate::faults::Fault;
-use crate::heads::Head;
+use crate::runs::Program;
 use crate::tables::{play_table, read_shared};
 use crate::tallies::Tally;
+use row_texts::Fault;
 use std::process::ExitCode;
 use std::rt::{Env, Files};
 use std::{env, fs, io};
@@ -16,7 +16,15 @@ struct Sums {
 
 impl Sums {
     // Adds the runs of a table, and prints a line for each that differs.
-    fn add<R: Print>(&mut self, rt: &R, tally: &Tally) -> io::Result<()> {
+    fn take<R: Print>(
+        &mut self,
+        rt: &R,
+        name: &str,
+        checked: Result<Tally, Fault>,
+    ) -> io::Result<()> {
+        let Ok(tally) = checked else {
+            return self.tell(rt, name, "memory was refused");
+        };
         self.runs = self.runs.saturating_add(tally.runs());
         self.differ = self.differ.saturating_add(tally.differ());
         let told = tally.told();
@@ -39,22 +47,22 @@ impl Sums {
 /// Checks the tables that the words of the command line name, behind a file of the lines that they share: prints a line for each run
 /// that differs, each line that cannot be read, each table without a run and each file that cannot be read, and last `N rows, M differ`.
 /// It is a success where there is a run and nothing else was told.
-pub fn check_tables<R: Env + Files + Print + AllocGlobal>(rt: &R) -> io::Result<ExitCode> {
+pub fn check_tables<P: Program, R: Env + Files + Print + AllocGlobal>(
+    rt: &R,
+) -> io::Result<ExitCode> {
     let mut sums = Sums { runs: 0, differ: 0 };
-    let mut head = Head::new(rt.alloc());
+    let mut shared = String::new(rt.alloc());
     for (at, name) in env::args(rt)?.skip(1).enumerate() {
         let Ok(text) = fs::read_to_string(rt, name.as_str()) else {
             sums.tell(rt, &name, "the file cannot be read")?;
             continue;
         };
-        let checked = if at == 0 {
-            read_shared(rt.alloc(), &name, &text, &mut head)
+        if at == 0 {
+            sums.take(rt, &name, read_shared(rt.alloc(), &name, &text))?;
+            shared = text;
         } else {
-            check_table(rt, &name, &text, &head)
-        };
-        match checked {
-            Ok(tally) => sums.add(rt, &tally)?,
-            Err(_) => sums.tell(rt, &name, "memory was refused")?,
+            let played = play_table::<P>(rt.alloc(), &shared, &name, &text);
+            sums.take(rt, &name, played)?;
         }
     }
     sums.print(rt)?;
@@ -63,14 +71,4 @@ pub fn check_tables<R: Env + Files + Print + AllocGlobal>(rt: &R) -> io::Result<
     } else {
         Ok(ExitCode::FAILURE)
     }
-}
-
-// Checks a table, before which a head stands.
-fn check_table<R: AllocGlobal>(
-    rt: &R,
-    name: &str,
-    text: &str,
-    head: &Head,
-) -> Result<Tally, Fault> {
-    play_table(rt.alloc(), name, text, head.copy(rt.alloc())?)
 }

@@ -1,54 +1,79 @@
 // The calls of a run.
 use crate::faults::Fault;
 use crate::lines::first_word;
-use io_traits::Slot;
-use memory_io::Op;
 
-// A kind of call, each counted for itself.
-#[derive(Clone, Copy, Debug, PartialEq, Eq)]
-pub(crate) enum Call {
+/// A place of a depot that is read.
+#[derive(Clone, Copy, PartialEq, Eq)]
+pub enum Slot {
+    Docs,
+    Freqs,
+    Sizes,
+    Index,
+    Side,
+    Map,
+}
+
+/// All places of a depot that are read.
+pub const SLOTS: [Slot; 6] = [
+    Slot::Docs,
+    Slot::Freqs,
+    Slot::Sizes,
+    Slot::Index,
+    Slot::Side,
+    Slot::Map,
+];
+
+/// A kind of call, each counted for itself.
+#[derive(Clone, Copy, PartialEq, Eq)]
+pub enum Call {
     /// A read of the input.
     In,
     /// A write on out.
     Out,
     /// A write on err.
     Err,
-    /// A call of the depot.
-    Of(Op),
+    Create,
+    Write,
+    Finish,
+    Start(Slot),
+    Read(Slot),
 }
 
-// Calls that go together.
-#[derive(Clone, Copy, Debug, PartialEq, Eq)]
-pub(crate) enum Group {
+/// Calls that go together.
+#[derive(Clone, Copy)]
+pub enum Group {
     /// Those that change files.
     Writing,
     /// Those of the input and of out.
     Streams,
+    /// Those of out.
+    Out,
     /// Those of err.
     Err,
 }
 
 impl Call {
-    // Whether it is of a group.
-    pub(crate) fn is_of(self, group: Group) -> bool {
+    /// Whether it is of a group.
+    pub fn is_of(self, group: Group) -> bool {
         match group {
-            Group::Writing => matches!(self, Call::Of(Op::Create | Op::Write | Op::Finish)),
+            Group::Writing => matches!(self, Call::Create | Call::Write | Call::Finish),
             Group::Streams => matches!(self, Call::In | Call::Out),
+            Group::Out => matches!(self, Call::Out),
             Group::Err => matches!(self, Call::Err),
         }
     }
 
-    // What tells of it.
-    pub(crate) fn name(self) -> &'static str {
+    /// What tells of it.
+    pub fn name(self) -> &'static str {
         match self {
             Call::In => "in",
             Call::Out => "out",
             Call::Err => "err",
-            Call::Of(Op::Create) => "create",
-            Call::Of(Op::Write) => "write",
-            Call::Of(Op::Finish) => "finish",
-            Call::Of(Op::Start(slot)) => start_name(slot),
-            Call::Of(Op::Read(slot)) => read_name(slot),
+            Call::Create => "create",
+            Call::Write => "write",
+            Call::Finish => "finish",
+            Call::Start(slot) => start_name(slot),
+            Call::Read(slot) => read_name(slot),
         }
     }
 }
@@ -75,41 +100,32 @@ fn read_name(slot: Slot) -> &'static str {
     }
 }
 
-// All places of a depot that are read.
-pub(crate) const SLOTS: [Slot; 6] = [
-    Slot::Docs,
-    Slot::Freqs,
-    Slot::Sizes,
-    Slot::Index,
-    Slot::Side,
-    Slot::Map,
-];
-
 // The call that a line begins with, and what is behind it.
 pub(crate) fn first_call(line: &str) -> Result<(Call, &str), Fault> {
     let (word, rest) = first_word(line);
-    let call = match word {
-        "in" => Call::In,
-        "out" => Call::Out,
-        "err" => Call::Err,
-        "create" => Call::Of(Op::Create),
-        "write" => Call::Of(Op::Write),
-        "finish" => Call::Of(Op::Finish),
-        "start" | "read" => return call_at_slot(word, rest),
-        _ => return Err(Fault::Unread),
-    };
-    Ok((call, rest))
+    match word {
+        "in" => Ok((Call::In, rest)),
+        "out" => Ok((Call::Out, rest)),
+        "err" => Ok((Call::Err, rest)),
+        "create" => Ok((Call::Create, rest)),
+        "write" => Ok((Call::Write, rest)),
+        "finish" => Ok((Call::Finish, rest)),
+        "start" => start_of(rest),
+        "read" => read_of(rest),
+        _ => Err(Fault::Unread),
+    }
 }
 
-// The call of a kind at the slot that a line begins with, and what is behind it.
-fn call_at_slot<'a>(kind: &str, line: &'a str) -> Result<(Call, &'a str), Fault> {
+// The start at the slot that a line begins with, and what is behind it.
+fn start_of(line: &str) -> Result<(Call, &str), Fault> {
     let (slot, rest) = first_slot(line)?;
-    let op = if kind == "start" {
-        Op::Start(slot)
-    } else {
-        Op::Read(slot)
-    };
-    Ok((Call::Of(op), rest))
+    Ok((Call::Start(slot), rest))
+}
+
+// The read at the slot that a line begins with, and what is behind it.
+fn read_of(line: &str) -> Result<(Call, &str), Fault> {
+    let (slot, rest) = first_slot(line)?;
+    Ok((Call::Read(slot), rest))
 }
 
 // The slot that a line begins with, and what is behind it.

@@ -1,10 +1,11 @@
 // Texts that have names.
 use crate::faults::Fault;
+use crate::lines::first_word;
 use std::alloc::Global;
 
-// Texts by name. Of two of one name the later one counts.
+/// Texts by name. Of two of one name the later one counts.
 #[derive(Drop)]
-pub(crate) struct Names {
+pub struct Names {
     list: Vec<(String, String)>,
 }
 
@@ -43,9 +44,9 @@ impl Names {
         Ok(())
     }
 
-    // Adds the name and the text of a line `let NAME TEXT`, in which earlier names are replaced.
-    pub(crate) fn define(&mut self, alloc: Global, line: &str) -> Result<(), Fault> {
-        let (name, value) = crate::lines::first_word(line);
+    /// Adds the name and the text of a line `let NAME TEXT`, in which earlier names are replaced.
+    pub fn define(&mut self, alloc: Global, line: &str) -> Result<(), Fault> {
+        let (name, value) = first_word(line);
         if name.is_empty() || !name.chars().all(is_of_name) {
             return Err(Fault::Unread);
         }
@@ -53,8 +54,8 @@ impl Names {
         self.add(alloc, name, &value)
     }
 
-    // All these names and texts once more.
-    pub(crate) fn copy(&self, alloc: Global) -> Result<Names, Fault> {
+    /// All these names and texts once more.
+    pub fn copy(&self, alloc: Global) -> Result<Names, Fault> {
         let mut names = Names::new(alloc);
         for (name, value) in &self.list {
             names.add(alloc, name, value)?;
@@ -64,16 +65,17 @@ impl Names {
 
     // The text of a name.
     fn value(&self, name: &str) -> Option<&str> {
-        let (_, value) = self
-            .list
-            .iter()
-            .rev()
-            .find(|entry| entry.0.as_str() == name)?;
-        Some(value.as_str())
+        let mut found = None;
+        for (other, value) in &self.list {
+            if other.as_str() == name {
+                found = Some(value.as_str());
+            }
+        }
+        found
     }
 
-    // A text in which each `$NAME` and `${NAME}` is replaced by the text of the name, and `$$` by a dollar sign.
-    pub(crate) fn expand(&self, alloc: Global, text: &str) -> Result<String, Fault> {
+    /// A text in which each `$NAME` and `${NAME}` is replaced by the text of the name, and `$$` by a dollar sign.
+    pub fn expand(&self, alloc: Global, text: &str) -> Result<String, Fault> {
         let mut expansion = Expansion {
             text: String::new(alloc),
             name: String::new(alloc),

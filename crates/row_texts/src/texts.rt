@@ -1,6 +1,7 @@
 // Texts as bytes.
 use crate::faults::Fault;
 use crate::items::Numbers;
+use std::alloc::Global;
 
 // Where in a line of texts the next letter stands.
 #[derive(Clone, Copy)]
@@ -10,17 +11,24 @@ enum Place {
     /// Inside of quotes.
     Inside,
     /// Behind a backslash.
-    Escape,
-    /// Behind `\x`.
-    High,
-    /// Behind `\x` and a digit.
-    Low(u32),
+    Escape(Digits),
     /// Behind the closing quotes.
     Behind,
     /// In the number of times that the text stands there.
     Count(usize),
     /// In braces.
     Braces,
+}
+
+// What stands behind a backslash.
+#[derive(Clone, Copy)]
+enum Digits {
+    /// Nothing yet.
+    Unknown,
+    /// An `x`.
+    None,
+    /// An `x` and a digit.
+    High(u32),
 }
 
 // A line of texts that is being read.
@@ -36,45 +44,46 @@ struct Reading {
 
 // Adds what a line says: `|` and a text, which a newline ends; or texts in quotes, one behind another.
 pub(crate) fn push_texts(bytes: &mut Vec<u8>, line: &str) -> Result<(), Fault> {
-    if let Some(text) = line.strip_prefix('|') {
-        bytes.extend_from_slice(text.as_bytes())?;
-        bytes.push(b'\n')?;
-        return Ok(());
+    match line.strip_prefix('|') {
+        Some(text) => push_line(bytes, text),
+        None => push_quoted(bytes, line),
     }
-    let mut reading = Reading {
-        bytes: Vec::new(*bytes.allocator()),
-        last: 0,
-        ranges: String::new(*bytes.allocator()),
-        place: Place::Between,
-    };
-    for letter in line.chars() {
-        reading.take(letter)?;
-    }
-    bytes.extend_from_slice(&reading.end()?)?;
+}
+
+fn push_line(bytes: &mut Vec<u8>, text: &str) -> Result<(), Fault> {
+    bytes.extend_from_slice(text.as_bytes())?;
+    bytes.push(b'\n')?;
+    Ok(())
+}
+
+fn push_quoted(bytes: &mut Vec<u8>, line: &str) -> Result<(), Fault> {
+    let texts = Reading::read(*bytes.allocator(), line)?;
+    bytes.extend_from_slice(&texts)?;
     Ok(())
 }
 
 impl Reading {
+    // The bytes of all texts of a line.
+    fn read(alloc: Global, line: &str) -> Result<Vec<u8>, Fault> {
+        let mut reading = Reading {
+            bytes: Vec::new(alloc),
+            last: 0,
+            ranges: String::new(alloc),
+            place: Place::Between,
+        };
+        for letter in line.chars() {
+            reading.take(letter)?;
+        }
+        reading.end()
+    }
+
     // Takes the next letter.
     fn take(&mut self, letter: char) -> Result<(), Fault> {
         match self.place {
             Place::Between => self.begin(letter),
             Place::Inside => self.take_inside(letter),
-            Place::Escape => self.take_escape(letter),
-            Place::High => {
-                self.place = Place::Low(letter.to_digit(16).ok_or(Fault::Unread)?);
-                Ok(())
-            }
-            Place::Low(high) => {
-                let low = letter.to_digit(16).ok_or(Fault::Unread)?;
-                let byte = high.saturating_mul(16).saturating_add(low);
-                self.push(u8::try_from(byte).ok().ok_or(Fault::Unread)?)
-            }
-            Place::Behind if letter == '^' => {
-                self.place = Place::Count(0);
-                Ok(())
-            }
-            Place::Behind => self.begin(letter),
+            Place::Escape(digits) => self.take_escaped(digits, letter),
+            Place::Behind => self.take_behind(letter),
             Place::Count(count) => self.take_count(count, letter),
             Place::Braces => self.take_range(letter),
         }
@@ -98,7 +107,7 @@ impl Reading {
     fn take_inside(&mut self, letter: char) -> Result<(), Fault> {
         match letter {
             '"' => self.place = Place::Behind,
-            '\\' => self.place = Place::Escape,
+            '\\' => self.place = Place::Escape(Digits::Unknown),
             _ => {
                 let mut room = [0; 4];
                 let text = letter.encode_utf8(&mut room);
@@ -108,7 +117,39 @@ impl Reading {
         Ok(())
     }
 
-    // Takes the letter behind a backslash.
+    // Takes a letter behind a backslash.
+    fn take_escaped(&mut self, digits: Digits, letter: char) -> Result<(), Fault> {
+        match digits {
+            Digits::Unknown => self.take_escape(letter),
+            Digits::None => self.take_high(letter),
+            Digits::High(high) => self.take_low(high, letter),
+        }
+    }
+
+    // Takes the first digit of a byte.
+    fn take_high(&mut self, letter: char) -> Result<(), Fault> {
+        let high = letter.to_digit(16).ok_or(Fault::Unread)?;
+        self.place = Place::Escape(Digits::High(high));
+        Ok(())
+    }
+
+    // Takes the second digit of a byte.
+    fn take_low(&mut self, high: u32, letter: char) -> Result<(), Fault> {
+        let low = letter.to_digit(16).ok_or(Fault::Unread)?;
+        let byte = high.saturating_mul(16).saturating_add(low);
+        self.push(u8::try_from(byte).ok().ok_or(Fault::Unread)?)
+    }
+
+    // Takes a letter behind the closing quotes.
+    fn take_behind(&mut self, letter: char) -> Result<(), Fault> {
+        if letter == '^' {
+            self.place = Place::Count(0);
+            return Ok(());
+        }
+        self.begin(letter)
+    }
+
+    // Takes the first letter behind a backslash.
     fn take_escape(&mut self, letter: char) -> Result<(), Fault> {
         match letter {
             'n' => self.push(b'\n'),
@@ -118,7 +159,7 @@ impl Reading {
             '\\' => self.push(b'\\'),
             '"' => self.push(b'"'),
             'x' => {
-                self.place = Place::High;
+                self.place = Place::Escape(Digits::None);
                 Ok(())
             }
             _ => Err(Fault::Unread),
@@ -161,46 +202,62 @@ impl Reading {
         let text = self.bytes.get(self.last..).ok_or(Fault::Unread)?;
         let text = Vec::from_slice(*self.bytes.allocator(), text)?;
         self.bytes.truncate(self.last);
-        for _ in 0..count {
-            self.bytes.extend_from_slice(&text)?;
-        }
-        Ok(())
+        push_times(&mut self.bytes, &text, count)
     }
 
     // The bytes of all texts.
     fn end(mut self) -> Result<Vec<u8>, Fault> {
         match self.place {
-            Place::Between | Place::Behind => {}
-            Place::Count(count) => self.repeat(count)?,
-            Place::Inside | Place::Escape | Place::High | Place::Low(_) | Place::Braces => {
-                return Err(Fault::Unread);
+            Place::Between | Place::Behind => Ok(self.bytes),
+            Place::Count(count) => {
+                self.repeat(count)?;
+                Ok(self.bytes)
             }
+            Place::Inside | Place::Escape(_) | Place::Braces => Err(Fault::Unread),
         }
-        Ok(self.bytes)
     }
+}
+
+// Adds a text so many times.
+fn push_times(bytes: &mut Vec<u8>, text: &[u8], count: usize) -> Result<(), Fault> {
+    for _ in 0..count {
+        bytes.extend_from_slice(text)?;
+    }
+    Ok(())
 }
 
 // Adds the numbers of some ranges in decimal, ascending, each once and with a space before it.
 fn push_ranges(bytes: &mut Vec<u8>, ranges: &str) -> Result<(), Fault> {
-    let alloc = *bytes.allocator();
-    let mut numbers = Vec::new(alloc);
+    let mut numbers = Vec::new(*bytes.allocator());
     for range in ranges.split_whitespace() {
-        let (first, rest) = range.split_once("..").ok_or(Fault::Unread)?;
-        let range = Numbers::read(first, rest)?;
-        let mut number = range.first;
-        for _ in 0..range.count {
-            numbers.push(number)?;
-            number = number.saturating_add(range.step);
-        }
+        add_range(&mut numbers, range)?;
     }
     numbers.sort_unstable();
     let mut last = None;
     for number in &numbers {
         if last != Some(*number) {
-            let text = format!(in alloc; " {number}")?;
-            bytes.extend_from_slice(text.as_bytes())?;
+            push_decimal(bytes, *number)?;
         }
         last = Some(*number);
     }
+    Ok(())
+}
+
+// Adds the numbers of a range to a list.
+fn add_range(numbers: &mut Vec<u64>, range: &str) -> Result<(), Fault> {
+    let (first, rest) = range.split_once("..").ok_or(Fault::Unread)?;
+    let range = Numbers::read(first, rest)?;
+    let mut number = range.first;
+    for _ in 0..range.count {
+        numbers.push(number)?;
+        number = number.saturating_add(range.step);
+    }
+    Ok(())
+}
+
+// Adds a space and a number in decimal.
+fn push_decimal(bytes: &mut Vec<u8>, number: u64) -> Result<(), Fault> {
+    let text = format!(in *bytes.allocator(); " {number}")?;
+    bytes.extend_from_slice(text.as_bytes())?;
     Ok(())
 }

@@ -2,8 +2,9 @@
 use no_memory::NoMemory;
 use std::alloc::{AllocError, AllocFailed};
 
-#[derive(Clone, Copy, Debug, PartialEq, Eq)]
-pub(crate) enum Fault {
+/// Why a line is not taken.
+#[derive(Clone, Copy)]
+pub enum Fault {
     /// Memory was refused.
     NoMemory,
     /// A line cannot be read.

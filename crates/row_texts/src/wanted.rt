@@ -1,16 +1,16 @@
 // What has to stand after a run.
-use crate::calls::{Call, first_call, first_slot};
+use crate::calls::{Call, Slot, first_call, first_slot};
 use crate::faults::Fault;
 use crate::files::{Place, collection_of};
 use crate::items::{number_of, push_bytes};
-use crate::lines::first_word;
+use crate::lines::{first_word, words_of};
+use crate::lists::{value_mut, value_under};
 use crate::texts::push_texts;
-use io_traits::Slot;
 use std::alloc::Global;
 
-// What has to stand on an output.
+/// What has to stand on an output.
 #[derive(Drop)]
-pub(crate) enum Told {
+pub enum Told {
     /// This text.
     Is(Vec<u8>),
     /// A text that begins so.
@@ -23,9 +23,9 @@ pub(crate) enum Told {
     Free,
 }
 
-// What has to stand under a name.
+/// What has to stand under a name.
 #[derive(Drop)]
-pub(crate) enum Left {
+pub enum Left {
     /// These bytes.
     Is(Vec<u8>),
     /// A front of these bytes, or no file.
@@ -42,32 +42,55 @@ pub(crate) enum Left {
     Free,
 }
 
-// What has to stand after a run.
+/// What has to stand after a run.
 #[derive(Drop)]
-pub(crate) struct Wanted {
-    pub(crate) status: u64,
+pub struct Wanted {
+    pub status: u64,
     /// On out; nothing where it is not said.
-    pub(crate) out: Option<Told>,
+    pub out: Option<Told>,
     /// On err; nothing where it is not said.
-    pub(crate) err: Option<Told>,
+    pub err: Option<Told>,
     /// Files by name; as before the run where nothing is said of one.
-    pub(crate) left: Vec<(String, Left)>,
+    pub left: Vec<(String, Left)>,
     /// The names of files that are written one behind another.
-    pub(crate) in_turn: Vec<String>,
+    pub in_turn: Vec<String>,
     /// How often kinds of call are made.
-    pub(crate) calls: Vec<(Call, u64)>,
+    pub calls: Vec<(Call, u64)>,
     /// The names under which slots are asked to start.
-    pub(crate) starts: Vec<(Slot, Vec<String>)>,
+    pub starts: Vec<(Slot, Vec<String>)>,
     /// Whether the input may be read though the run ends with another status than 0.
-    pub(crate) reads: bool,
+    pub reads: bool,
     /// Whether there is no call of the depot.
-    pub(crate) depot_untouched: bool,
+    pub depot_untouched: bool,
     /// Whether there is no call of the input or of out.
-    pub(crate) streams_untouched: bool,
+    pub streams_untouched: bool,
+}
+
+impl Told {
+    /// Whether a text is as it has to be; none has to stand where nothing is said.
+    pub fn allows(told: Option<&Told>, text: &[u8]) -> bool {
+        match told {
+            None => text.is_empty(),
+            Some(Told::Is(wanted)) => text == wanted.as_slice(),
+            Some(Told::Front(wanted)) => text.starts_with(wanted),
+            Some(Told::Part(wanted)) => wanted.starts_with(text) && text.len() < wanted.len(),
+            Some(Told::InTurn | Told::Free) => true,
+        }
+    }
+
+    /// How a text has to stand there, and the text.
+    pub fn text(told: Option<&Told>) -> (&'static str, &[u8]) {
+        match told {
+            None | Some(Told::InTurn | Told::Free) => ("", [].as_slice()),
+            Some(Told::Is(text)) => ("", text.as_slice()),
+            Some(Told::Front(text)) => ("at the front ", text.as_slice()),
+            Some(Told::Part(text)) => ("a proper front of ", text.as_slice()),
+        }
+    }
 }
 
 impl Wanted {
-    pub(crate) fn new(alloc: Global) -> Wanted {
+    pub fn new(alloc: Global) -> Wanted {
         Wanted {
             status: 0,
             out: None,
@@ -82,31 +105,41 @@ impl Wanted {
         }
     }
 
-    // Takes a line of what has to stand; no where it is none of these.
-    pub(crate) fn take(&mut self, alloc: Global, word: &str, line: &str) -> Result<bool, Fault> {
+    /// Takes a line of what has to stand; no where it is none of these.
+    pub fn take(&mut self, alloc: Global, word: &str, line: &str) -> Result<bool, Fault> {
         match word {
             "status" => self.status = number_of(line)?,
             "out" => append(alloc, &mut self.out, line)?,
             "err" => append(alloc, &mut self.err, line)?,
+            "in-read" => self.reads = true,
+            "untouched" => self.take_untouched(line)?,
+            _ => return self.take_listed(alloc, word, line),
+        }
+        Ok(true)
+    }
+
+    // Takes a line of files or calls.
+    fn take_listed(&mut self, alloc: Global, word: &str, line: &str) -> Result<bool, Fault> {
+        match word {
+            "left" => self.take_left(alloc, line)?,
+            "left-collection" => self.take_collection(alloc, line)?,
+            "left-in-turn" => self.in_turn = words_of(alloc, line)?,
+            "calls" => self.take_calls(line)?,
+            "starts" => self.take_starts(alloc, line)?,
+            _ => return self.take_told(alloc, word, line),
+        }
+        Ok(true)
+    }
+
+    // Takes a line of an output of which not a whole text is said.
+    fn take_told(&mut self, alloc: Global, word: &str, line: &str) -> Result<bool, Fault> {
+        match word {
             "out-front" => self.out = Some(Told::Front(text_of(alloc, line)?)),
             "err-front" => self.err = Some(Told::Front(text_of(alloc, line)?)),
             "err-part" => self.err = Some(Told::Part(text_of(alloc, line)?)),
             "out-in-turn" => self.out = Some(Told::InTurn),
             "out-free" => self.out = Some(Told::Free),
             "err-free" => self.err = Some(Told::Free),
-            "left" => self.take_left(alloc, line)?,
-            "left-collection" => self.take_collection(alloc, line)?,
-            "left-in-turn" => self.in_turn = words_of(alloc, line)?,
-            "calls" => {
-                let (call, number) = first_call(line)?;
-                self.calls.push((call, number_of(number)?))?;
-            }
-            "starts" => {
-                let (slot, names) = first_slot(line)?;
-                self.starts.push((slot, words_of(alloc, names)?))?;
-            }
-            "in-read" => self.reads = true,
-            "untouched" => self.take_untouched(line)?,
             _ => return Ok(false),
         }
         Ok(true)
@@ -115,14 +148,39 @@ impl Wanted {
     // Takes a line `NAME WHAT`. Bytes of a name that has some are added to them.
     fn take_left(&mut self, alloc: Global, line: &str) -> Result<(), Fault> {
         let (name, what) = first_word(line);
-        let left = left_of(alloc, what)?;
-        if let Left::Is(more) = &left
-            && let Some(bytes) = bytes_of(&mut self.left, name)
-        {
-            bytes.extend_from_slice(more)?;
+        match left_of(alloc, what)? {
+            Left::Is(bytes) => self.add_bytes(alloc, name, bytes),
+            left => self.add_left(alloc, name, left),
+        }
+    }
+
+    // Adds bytes to those that have to stand under a name.
+    fn add_bytes(&mut self, alloc: Global, name: &str, more: Vec<u8>) -> Result<(), Fault> {
+        if let Some(bytes) = bytes_of(&mut self.left, name) {
+            bytes.extend_from_slice(&more)?;
             return Ok(());
         }
-        self.left.push((String::from_str(alloc, name)?, left))?;
+        self.add_left(alloc, name, Left::Is(more))
+    }
+
+    // Adds what has to stand under a name.
+    fn add_left(&mut self, alloc: Global, name: &str, left: Left) -> Result<(), Fault> {
+        let name = String::from_str(alloc, name)?;
+        self.left.push((name, left))?;
+        Ok(())
+    }
+
+    // Takes a line `CALL NUMBER`.
+    fn take_calls(&mut self, line: &str) -> Result<(), Fault> {
+        let (call, number) = first_call(line)?;
+        self.calls.push((call, number_of(number)?))?;
+        Ok(())
+    }
+
+    // Takes a line `SLOT NAME..`.
+    fn take_starts(&mut self, alloc: Global, line: &str) -> Result<(), Fault> {
+        let (slot, names) = first_slot(line)?;
+        self.starts.push((slot, words_of(alloc, names)?))?;
         Ok(())
     }
 
@@ -145,21 +203,21 @@ impl Wanted {
         Ok(())
     }
 
-    // The bytes that have to stand under a name.
-    pub(crate) fn bytes_left(&self, name: &str) -> Option<&[u8]> {
+    /// The bytes that have to stand under a name.
+    pub fn bytes_left(&self, name: &str) -> Option<&[u8]> {
         match self.left_under(name)? {
             Left::Is(bytes) => Some(bytes),
             _ => None,
         }
     }
 
-    // What has to stand under a name.
-    pub(crate) fn left_under(&self, name: &str) -> Option<&Left> {
-        left_under(&self.left, name)
+    /// What has to stand under a name.
+    pub fn left_under(&self, name: &str) -> Option<&Left> {
+        value_under(&self.left, name)
     }
 
-    // The text that has to stand on out.
-    pub(crate) fn text_on_out(&self) -> Option<&[u8]> {
+    /// The text that has to stand on out.
+    pub fn text_on_out(&self) -> Option<&[u8]> {
         match &self.out {
             Some(Told::Is(text)) => Some(text),
             _ => None,
@@ -167,16 +225,9 @@ impl Wanted {
     }
 }
 
-// What has to stand under a name.
-pub(crate) fn left_under<'a>(left: &'a [(String, Left)], name: &str) -> Option<&'a Left> {
-    let entry = left.iter().find(|entry| entry.0.as_str() == name)?;
-    Some(&entry.1)
-}
-
 // The bytes that have to stand under a name, to be added to.
 fn bytes_of<'a>(left: &'a mut [(String, Left)], name: &str) -> Option<&'a mut Vec<u8>> {
-    let at = left.iter().position(|entry| entry.0.as_str() == name)?;
-    match &mut left.get_mut(at)?.1 {
+    match value_mut(left, name)? {
         Left::Is(bytes) => Some(bytes),
         _ => None,
     }
@@ -184,14 +235,21 @@ fn bytes_of<'a>(left: &'a mut [(String, Left)], name: &str) -> Option<&'a mut Ve
 
 // What a line says of a file.
 fn left_of(alloc: Global, line: &str) -> Result<Left, Fault> {
+    match line.trim_end() {
+        "absent" => Ok(Left::Absent),
+        "same" => Ok(Left::Same),
+        "free" => Ok(Left::Free),
+        _ => left_bytes(alloc, line),
+    }
+}
+
+// What a line says of the bytes of a file.
+fn left_bytes(alloc: Global, line: &str) -> Result<Left, Fault> {
     let (word, rest) = first_word(line);
-    match (word, rest) {
-        ("absent", "") => Ok(Left::Absent),
-        ("same", "") => Ok(Left::Same),
-        ("free", "") => Ok(Left::Free),
-        ("is", name) => Ok(Left::Other(String::from_str(alloc, name)?)),
-        ("front", bytes) => Ok(Left::Front(read_bytes(alloc, bytes)?)),
-        ("at", rest) => {
+    match word {
+        "is" => Ok(Left::Other(String::from_str(alloc, rest)?)),
+        "front" => Ok(Left::Front(read_bytes(alloc, rest)?)),
+        "at" => {
             let (place, bytes) = first_word(rest);
             Ok(Left::At(Place::read(place)?, read_bytes(alloc, bytes)?))
         }
@@ -209,14 +267,6 @@ fn text_of(alloc: Global, line: &str) -> Result<Vec<u8>, Fault> {
     let mut bytes = Vec::new(alloc);
     push_texts(&mut bytes, line)?;
     Ok(bytes)
-}
-
-fn words_of(alloc: Global, line: &str) -> Result<Vec<String>, Fault> {
-    let mut words = Vec::new(alloc);
-    for word in line.split_whitespace() {
-        words.push(String::from_str(alloc, word)?)?;
-    }
-    Ok(words)
 }
 
 // Adds the texts of a line to what has to stand on an output.

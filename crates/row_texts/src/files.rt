@@ -2,20 +2,44 @@
 use crate::faults::Fault;
 use crate::items::{length_of, push_bytes, push_numbers, push_words, value_of, word_of};
 use crate::lines::first_word;
+use crate::lists::{place_of, value_mut, value_under};
 use std::alloc::Global;
 
 /// Files by name, as a depot takes them.
-pub(crate) type FileList = Vec<(String, Vec<u8>)>;
+pub type FileList = Vec<(String, Vec<u8>)>;
 
-// Files by name.
+/// The first words of lines that change files.
+const CHANGES: [&str; 9] = [
+    "file",
+    "collection",
+    "put",
+    "up",
+    "down",
+    "cut",
+    "drop",
+    "insert",
+    "replace",
+];
+
+/// Whether a line of this first word changes files.
+pub fn is_change(word: &str) -> bool {
+    for change in CHANGES {
+        if change == word {
+            return true;
+        }
+    }
+    false
+}
+
+/// Files by name.
 #[derive(Drop)]
-pub(crate) struct Files {
+pub struct Files {
     list: FileList,
 }
 
-// A place among the words of a file.
+/// A place among the words of a file.
 #[derive(Clone, Copy)]
-pub(crate) enum Place {
+pub enum Place {
     /// So many words from the first.
     FromFirst(usize),
     /// So many words from the end.
@@ -31,8 +55,8 @@ impl Place {
         }
     }
 
-    // Where in so many bytes its word begins.
-    pub(crate) fn start(self, bytes: usize) -> Option<usize> {
+    /// Where in so many bytes its word begins.
+    pub fn start(self, bytes: usize) -> Option<usize> {
         match self {
             Place::FromFirst(words) => {
                 let at = words.checked_mul(8)?;
@@ -44,25 +68,24 @@ impl Place {
 }
 
 impl Files {
-    pub(crate) fn new(alloc: Global) -> Files {
+    pub fn new(alloc: Global) -> Files {
         Files {
             list: Vec::new(alloc),
         }
     }
 
-    // Their names and bytes.
-    pub(crate) fn entries(&self) -> &[(String, Vec<u8>)] {
+    /// Their names and bytes.
+    pub fn entries(&self) -> &[(String, Vec<u8>)] {
         &self.list
     }
 
-    // The bytes of a file.
-    pub(crate) fn bytes(&self, name: &str) -> Option<&[u8]> {
-        let entry = self.list.iter().find(|entry| entry.0.as_str() == name)?;
-        Some(entry.1.as_slice())
+    /// The bytes of a file.
+    pub fn bytes(&self, name: &str) -> Option<&[u8]> {
+        Some(value_under(&self.list, name)?)
     }
 
-    // All of them once more.
-    pub(crate) fn copy(&self, alloc: Global) -> Result<Files, Fault> {
+    /// All of them once more.
+    pub fn copy(&self, alloc: Global) -> Result<Files, Fault> {
         let mut list = Vec::new(alloc);
         for (name, bytes) in &self.list {
             let name = String::from_str(alloc, name)?;
@@ -71,32 +94,25 @@ impl Files {
         Ok(Files { list })
     }
 
-    // The list of them.
-    pub(crate) fn into_list(self) -> FileList {
+    /// The list of them.
+    pub fn into_list(self) -> FileList {
         self.list
     }
 
-    // Adds a file of these bytes.
-    pub(crate) fn add(&mut self, alloc: Global, name: &str, bytes: &[u8]) -> Result<(), Fault> {
+    /// Adds a file of these bytes.
+    pub fn add(&mut self, alloc: Global, name: &str, bytes: &[u8]) -> Result<(), Fault> {
         let name = String::from_str(alloc, name)?;
         self.list.push((name, Vec::from_slice(alloc, bytes)?))?;
         Ok(())
     }
 
-    // Where a file of this name stands in the list.
-    fn place(&self, name: &str) -> Option<usize> {
-        self.list.iter().position(|entry| entry.0.as_str() == name)
-    }
-
     // The bytes of a file, to be changed.
     fn bytes_mut(&mut self, name: &str) -> Result<&mut Vec<u8>, Fault> {
-        let at = self.place(name).ok_or(Fault::Unread)?;
-        let entry = self.list.get_mut(at).ok_or(Fault::Unread)?;
-        Ok(&mut entry.1)
+        value_mut(&mut self.list, name).ok_or(Fault::Unread)
     }
 
-    // Makes what a line of this first word says.
-    pub(crate) fn change(&mut self, alloc: Global, word: &str, line: &str) -> Result<(), Fault> {
+    /// Makes what a line of this first word says.
+    pub fn change(&mut self, alloc: Global, word: &str, line: &str) -> Result<(), Fault> {
         if word == "collection" {
             return self.add_collection(alloc, line);
         }
@@ -129,7 +145,7 @@ impl Files {
 
     // The bytes of a file, which is made where it is not there.
     fn opened(&mut self, alloc: Global, name: &str) -> Result<&mut Vec<u8>, Fault> {
-        if self.place(name).is_none() {
+        if place_of(&self.list, name).is_none() {
             self.add(alloc, name, &[])?;
         }
         self.bytes_mut(name)
@@ -178,7 +194,7 @@ impl Files {
 
     // Takes a file away.
     fn remove(&mut self, name: &str) -> Result<(), Fault> {
-        let at = self.place(name).ok_or(Fault::Unread)?;
+        let at = place_of(&self.list, name).ok_or(Fault::Unread)?;
         if at < self.list.len() {
             self.list.remove(at);
         }
@@ -188,29 +204,49 @@ impl Files {
     // Puts these words in place of those from one place to below another.
     fn replace(&mut self, name: &str, at: (&str, &str), words: &str) -> Result<(), Fault> {
         let bytes = self.bytes_mut(name)?;
-        let from = Place::read(at.0)?.start(bytes.len()).ok_or(Fault::Unread)?;
-        let to = Place::read(at.1)?.start(bytes.len()).ok_or(Fault::Unread)?;
-        let behind = bytes.get(to..).ok_or(Fault::Unread)?;
-        let behind = Vec::from_slice(*bytes.allocator(), behind)?;
-        bytes.truncate(from);
-        push_words(bytes, words)?;
-        bytes.extend_from_slice(&behind)?;
-        Ok(())
+        let from = start_of(at.0, bytes.len())?;
+        let to = start_of(at.1, bytes.len())?;
+        replace_bytes(bytes, from, to, words)
     }
 }
 
 // The three files of a collection: `BASE DOCS ; FREQS ; SIZES`.
 pub(crate) fn collection_of(alloc: Global, line: &str) -> Result<FileList, Fault> {
     let (base, numbers) = first_word(line);
-    let (docs, rest) = numbers.split_once(';').ok_or(Fault::Unread)?;
-    let (freqs, sizes) = rest.split_once(';').ok_or(Fault::Unread)?;
+    if numbers.split(';').count() != 3 {
+        return Err(Fault::Unread);
+    }
     let mut files = Vec::new(alloc);
-    for (ending, numbers) in [("docs", docs), ("freqs", freqs), ("sizes", sizes)] {
-        let mut bytes = Vec::new(alloc);
-        push_numbers(&mut bytes, numbers)?;
-        files.push((format!(in alloc; "{base}.{ending}")?, bytes))?;
+    for (ending, numbers) in ["docs", "freqs", "sizes"]
+        .into_iter()
+        .zip(numbers.split(';'))
+    {
+        let name = format!(in alloc; "{base}.{ending}")?;
+        files.push((name, bytes_of(alloc, numbers)?))?;
     }
     Ok(files)
+}
+
+// The bytes of numbers.
+fn bytes_of(alloc: Global, numbers: &str) -> Result<Vec<u8>, Fault> {
+    let mut bytes = Vec::new(alloc);
+    push_numbers(&mut bytes, numbers)?;
+    Ok(bytes)
+}
+
+// Where in so many bytes the word of a place begins.
+fn start_of(place: &str, bytes: usize) -> Result<usize, Fault> {
+    Place::read(place)?.start(bytes).ok_or(Fault::Unread)
+}
+
+// Puts words in place of the bytes from one on up to below another.
+fn replace_bytes(bytes: &mut Vec<u8>, from: usize, to: usize, words: &str) -> Result<(), Fault> {
+    let behind = bytes.get(to..).ok_or(Fault::Unread)?;
+    let behind = Vec::from_slice(*bytes.allocator(), behind)?;
+    bytes.truncate(from);
+    push_words(bytes, words)?;
+    bytes.extend_from_slice(&behind)?;
+    Ok(())
 }
 
 // The word at a place.

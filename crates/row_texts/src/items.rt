@@ -36,16 +36,18 @@ pub(crate) fn push_words(bytes: &mut Vec<u8>, list: &str) -> Result<(), Fault> {
 fn push_items(bytes: &mut Vec<u8>, width: Width, list: &str) -> Result<(), Fault> {
     for item in list.split_whitespace() {
         match item.split_once("..") {
-            Some((first, rest)) => {
-                let numbers = Numbers::read(first, rest)?;
-                let mut number = numbers.first;
-                for _ in 0..numbers.count {
-                    push_number(bytes, width, number)?;
-                    number = number.saturating_add(numbers.step);
-                }
-            }
+            Some((first, rest)) => push_range(bytes, width, Numbers::read(first, rest)?)?,
             None => push_repeated(bytes, width, item)?,
         }
+    }
+    Ok(())
+}
+
+fn push_range(bytes: &mut Vec<u8>, width: Width, numbers: Numbers) -> Result<(), Fault> {
+    let mut number = numbers.first;
+    for _ in 0..numbers.count {
+        push_number(bytes, width, number)?;
+        number = number.saturating_add(numbers.step);
     }
     Ok(())
 }
@@ -61,30 +63,26 @@ pub(crate) struct Numbers {
 impl Numbers {
     // Those from a first one up to below another, maybe with a step: `FIRST`, and `BELOW` or `BELOW+STEP`.
     pub(crate) fn read(first: &str, rest: &str) -> Result<Numbers, Fault> {
-        let (below, step) = match rest.split_once('+') {
-            Some((below, step)) => (number_of(below)?, number_of(step)?),
-            None => (number_of(rest)?, 1),
-        };
-        let first = number_of(first)?;
+        let (below, step) = rest.split_once('+').unwrap_or((rest, "1"));
+        let (below, step) = (number_of(below)?, number_of(step)?);
+        Numbers::new(number_of(first)?, below, step).ok_or(Fault::Unread)
+    }
+
+    fn new(first: u64, below: u64, step: u64) -> Option<Numbers> {
+        let span = below.checked_sub(first)?;
         if step == 0 {
-            return Err(Fault::Unread);
+            return None;
         }
-        let span = below.checked_sub(first).ok_or(Fault::Unread)?;
-        Ok(Numbers {
-            first,
-            step,
-            count: span.div_ceil(step),
-        })
+        let count = span.div_ceil(step);
+        Some(Numbers { first, step, count })
     }
 }
 
 // Adds a number, maybe several times.
 fn push_repeated(bytes: &mut Vec<u8>, width: Width, item: &str) -> Result<(), Fault> {
-    let (number, count) = match item.split_once('^') {
-        Some((number, count)) => (value_of(number)?, number_of(count)?),
-        None => (value_of(item)?, 1),
-    };
-    for _ in 0..count {
+    let (number, count) = item.split_once('^').unwrap_or((item, "1"));
+    let number = value_of(number)?;
+    for _ in 0..number_of(count)? {
         push_number(bytes, width, number)?;
     }
     Ok(())
@@ -109,12 +107,15 @@ pub(crate) fn value_of(item: &str) -> Result<u64, Fault> {
         let letters = letters.strip_suffix('\'').ok_or(Fault::Unread)?;
         return word_of(letters.as_bytes());
     }
-    let Some((high, low)) = item.split_once(':') else {
-        return number_of(item);
-    };
-    let high = u32::try_from(number_of(high)?).ok().ok_or(Fault::Unread)?;
-    let low = u32::try_from(number_of(low)?).ok().ok_or(Fault::Unread)?;
-    Ok((u64::from(high) << 32) | u64::from(low))
+    match item.split_once(':') {
+        Some((high, low)) => Ok((u64::from(half_of(high)?) << 32) | u64::from(half_of(low)?)),
+        None => number_of(item),
+    }
+}
+
+// The number of half a word.
+fn half_of(text: &str) -> Result<u32, Fault> {
+    u32::try_from(number_of(text)?).ok().ok_or(Fault::Unread)
 }
 
 // The word of eight bytes.
@@ -130,23 +131,37 @@ pub(crate) fn word_of(bytes: &[u8]) -> Result<u64, Fault> {
 // The number of decimal digits, or of hexadecimal ones behind `0x`; `_` may stand between them.
 pub(crate) fn number_of(text: &str) -> Result<u64, Fault> {
     let text = text.trim();
-    let (digits, radix) = match text.strip_prefix("0x") {
-        Some(digits) => (digits, 16),
-        None => (text, 10),
+    let number = match text.strip_prefix("0x") {
+        Some(digits) => digits_of(digits, 16),
+        None => digits_of(text, 10),
     };
-    if digits.is_empty() {
-        return Err(Fault::Unread);
-    }
-    let mut number: u64 = 0;
-    for digit in digits.chars().filter(|letter| *letter != '_') {
-        let digit = digit.to_digit(radix).ok_or(Fault::Unread)?;
-        let tens = number.checked_mul(u64::from(radix)).ok_or(Fault::Unread)?;
-        number = tens.checked_add(u64::from(digit)).ok_or(Fault::Unread)?;
-    }
-    Ok(number)
+    number.ok_or(Fault::Unread)
 }
 
-// The number of digits, as a length.
-pub(crate) fn length_of(text: &str) -> Result<usize, Fault> {
+// The number of digits of a base.
+fn digits_of(digits: &str, base: u64) -> Option<u64> {
+    let mut number: u64 = 0;
+    for letter in digits.chars() {
+        if letter != '_' {
+            number = number
+                .checked_mul(base)?
+                .checked_add(digit_of(letter, base)?)?;
+        }
+    }
+    if digits.is_empty() {
+        None
+    } else {
+        Some(number)
+    }
+}
+
+// The number of a digit of a base.
+fn digit_of(letter: char, base: u64) -> Option<u64> {
+    let digit = u64::from(letter.to_digit(16)?);
+    if digit < base { Some(digit) } else { None }
+}
+
+/// The number of digits, as a length.
+pub fn length_of(text: &str) -> Result<usize, Fault> {
     usize::try_from(number_of(text)?).ok().ok_or(Fault::Unread)
 }
