@@ -1,9 +1,10 @@
 #!/usr/bin/env python3
 """Tries the modules for formats of the neighbours: ciff, jsonl, order, and run where the library is there.
 
-    neighbours.py [NAME]
+    neighbours.py [NAME [PROGRAM]]
 
-NAME is a PISA collection, crates/pefidx/data/small where none is given. Expected bytes were worked out by hand.
+NAME is a PISA collection, crates/pefidx/data/small where none is given; with the built program `pefidx` `run` is tried by it too. Expected bytes
+were worked out by hand.
 """
 
 import io
@@ -12,6 +13,7 @@ import os
 import pathlib
 import random
 import struct
+import subprocess
 import sys
 import tempfile
 
@@ -107,19 +109,43 @@ def try_order():
     refused("a name that is not there", order.new_numbers, "bad", "documents")
 
 
-def try_run(name):
-    from pefidx import PACKED, Index, build, run
+def lines_of_run(*words):
+    from pefidx import run
 
-    collection = Collection(name)
-    build(collection.lists(), "i.pefindex", collection.sizes(), format=PACKED)
-    pathlib.Path("terms").write_text("".join(f"t{term}\n" for term in range(len(Index("i.pefindex")))))
-    pathlib.Path("queries").write_text("q1: t0 t0 none\nq2\tt0*1.6\n" '{"id": "q3", "vector": {"t0": 0.4}}\n')
     out = io.StringIO()
     with contextlib.redirect_stdout(out):
-        run.main(["i.pefindex", "queries", "-k", "2", "--terms", "terms"])
-    with Index("i.pefindex") as index:
-        wanted = [f"{query} Q0 {doc} {rank} {score} pefidx\n" for query in ("q1", "q2") for rank, (doc, score) in enumerate(index.top(2, {0: 2}), 1)]
-    check(out.getvalue() == "".join(wanted), "the run of three queries")
+        run.main(["i.pefindex", "queries", "-k", "2", "--terms", "terms", *words])
+    return out.getvalue().splitlines()
+
+
+def try_run(name, program):
+    """The best two documents of the first term, by the program where one is given, and by the library where it is there."""
+    collection = Collection(name)
+    docs, freqs = next(collection.lists())
+    best = sorted((-2 * freq, doc) for doc, freq in zip(docs, freqs))[:2]
+    if program:
+        subprocess.run([program, "pack", name, "i.pefindex"], check=True)
+    else:
+        from pefidx import PACKED, build
+
+        build(collection.lists(), "i.pefindex", collection.sizes(), format=PACKED)
+    pathlib.Path("terms").write_text("".join(f"t{term}\n" for term, _ in enumerate(collection.lists())))
+    pathlib.Path("queries").write_text("q1: t0 t0 none\nq2\tt0*1.6\n" '{"id": "q3", "vector": {"t0": 0.4}}\n')
+    wanted = [f"{query} Q0 {doc} {rank} {-score} pefidx" for query in ("q1", "q2") for rank, (score, doc) in enumerate(best, 1)]
+    for words in ([] if is_library_there() else None, ["--program", program] if program else None):
+        if words is not None:
+            check(lines_of_run(*words) == wanted, f"the run of three queries {words}")
+            check(lines_of_run("--lines", *words) == ["top 2 0*2", "top 2 0*2", "top 2"], f"the query lines {words}")
+            pathlib.Path("heavy").write_text("q: t0*70000000\n")
+            said = refused("a weight of more than 16 bits", run_main, ["i.pefindex", "heavy", "--terms", "terms", *words])
+            check("query q" in said, said)
+
+
+def run_main(words):
+    from pefidx import run
+
+    with contextlib.redirect_stdout(io.StringIO()):
+        run.main(words)
 
 
 def try_collections():
@@ -146,17 +172,18 @@ def is_library_there():
 
 
 def main():
-    name = os.path.abspath(sys.argv[1] if len(sys.argv) == 2 else SMALL)
+    name = os.path.abspath(sys.argv[1] if len(sys.argv) > 1 else SMALL)
+    program = os.path.abspath(sys.argv[2]) if len(sys.argv) > 2 else None
     with tempfile.TemporaryDirectory() as folder:
         os.chdir(folder)
         try_ciff(name)
         try_jsonl()
         try_order()
         try_collections()
-        if is_library_there():
-            try_run(name)
+        if program or is_library_there():
+            try_run(name, program)
         else:
-            print("not tried: run, without the library")
+            print("not tried: run, without the library and the program")
         os.chdir("/")
     print("formats of the neighbours: all held")
 

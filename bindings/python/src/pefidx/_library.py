@@ -49,11 +49,19 @@ def refuse(status: int) -> NoReturn:
     raise kind(cause)
 
 
+def _path() -> str:
+    return os.environ.get("PEFIDX_LIBRARY") or os.path.join(os.path.dirname(os.path.abspath(__file__)), "libpefidx.so")
+
+
+def is_there() -> bool:
+    """Whether the library is beside the package, or named by PEFIDX_LIBRARY."""
+    return "PEFIDX_LIBRARY" in os.environ or os.path.exists(_path())
+
+
 def _loaded() -> ctypes.CDLL:
     if sys.byteorder != "little" or array.array("I").itemsize != 4:
         raise ImportError("pefidx wants a little-endian machine with numbers of 32 bits")
-    path = os.environ.get("PEFIDX_LIBRARY") or os.path.join(os.path.dirname(os.path.abspath(__file__)), "libpefidx.so")
-    loaded = ctypes.CDLL(path)
+    loaded = ctypes.CDLL(_path())
     at, size, number = ctypes.c_void_p, ctypes.c_size_t, ctypes.c_uint32
     words: list[type] = [at, size]
     items = words

@@ -1,6 +1,6 @@
 """Queries with their names to a run file as `trec_eval` reads it.
 
-    python -m pefidx run INDEX QUERIES [-k 1000] [--terms BASE.terms | --numbers] [--documents BASE.documents] [--scale S] [--plan PLAN] [--tag TAG]
+    python -m pefidx run INDEX QUERIES [-k 1000] [--terms BASE.terms | --numbers] [--documents BASE.documents] [--scale S] [--plan PLAN] [--tag TAG] [--lines] [--program PEFIDX]
 
 QUERIES has a line for each query: its name, then a colon or a tab, then its terms with spaces between them, as PISA takes them; a term may carry
 a weight, `term*1.5` or, as sparse models write it, `term:1.5`. A query may also be a JSON object, `{"id": .., "vector": {term: weight, ..}}`.
@@ -8,6 +8,9 @@ Terms are looked up in the lexicon, a name a line; with `--numbers` they are lin
 are S times what is written (1 where nothing is said, 100 is usual for those of sparse models), rounded, and a term that is named twice has the
 sum; one whose weight is 0 is left out. A line of the run is `QUERY Q0 DOCUMENT RANK SCORE TAG`, ranks from 1; documents are named by their file,
 or else by their numbers. Equal scores stand by the document's number, and `trec_eval`, which breaks ties by name, may order them otherwise.
+
+It asks the shared library, or, where that is not there or `--program` names one, the program `pefidx`. With `--lines` it asks nothing and prints
+the query line of each query, for `pefidx query`.
 """
 
 from __future__ import annotations
@@ -16,10 +19,12 @@ import argparse
 import json
 import re
 import sys
+from contextlib import closing
 from typing import Callable, Iterator
 
+from ._asking import PLANS, Asked, opened, query_line
 from ._collection import BadFile, names
-from ._index import PLANS, Index
+from ._errors import Error
 
 _NAMED = re.compile(r"^\s*([^\s:]+)(?:\s*:\s?|\t)(.*)$", re.S)
 _WEIGHTED = re.compile(r"^(.+?)(?:[*:]([0-9]+(?:\.[0-9]*)?(?:[eE][-+]?[0-9]+)?|\.[0-9]+))?$", re.S)
@@ -72,15 +77,21 @@ def weights_of(terms: list[tuple[str, float]], number_of: Callable[[str], "int |
     return {number: weight for number, weight in rounded.items() if weight > 0}
 
 
-def lines(index: Index, asked: "argparse.Namespace") -> Iterator[str]:
-    """The lines of the run."""
+def lines(index: Asked, asked: "argparse.Namespace") -> Iterator[str]:
+    """The lines of the run, or the query lines."""
     number_of = _number if asked.numbers else lexicon(asked.terms)
     found = list(names(asked.documents)) if asked.documents else None
     if found is not None and len(found) != index.documents:
         raise BadFile(asked.documents, "its end", f"{len(found)} names for {index.documents} documents")
     for name, terms in queries(asked.queries):
         weights = weights_of(terms, number_of, asked.scale, index.terms)
-        best = index.top(asked.k, weights, asked.plan) if weights else []
+        if asked.lines:
+            yield query_line(asked.k, weights)
+            continue
+        try:
+            best = index.top(asked.k, weights, asked.plan) if weights else []
+        except (ValueError, IndexError) as error:
+            raise error if isinstance(error, Error) else BadFile(asked.queries, f"query {name}", str(error)) from None
         for rank, (doc, score) in enumerate(best, 1):
             yield f"{name} Q0 {found[doc] if found else doc} {rank} {score} {asked.tag}"
 
@@ -97,8 +108,10 @@ def main(arguments: list[str]) -> int:
     parser.add_argument("--scale", type=float, default=1.0, help="what weights are multiplied by before they are rounded")
     parser.add_argument("--plan", choices=list(PLANS), default="maxscore")
     parser.add_argument("--tag", default="pefidx")
+    parser.add_argument("--lines", action="store_true", help="print query lines for `pefidx query`, and ask nothing")
+    parser.add_argument("--program", metavar="PEFIDX", help="ask this program, and not the shared library")
     asked = parser.parse_args(arguments)
-    with Index(asked.index) as index:
+    with closing(opened(asked.index, asked.program)) as index:
         for line in lines(index, asked):
             print(line)
     return 0
