@@ -18,7 +18,18 @@ use Rattle.packed_list.proofs.Appending.{appends-some}
 pub lone-head : (old a b : List ℕ) (w v : ℕ) → a ≡ old ++ (0 ∷ []) → b ≡ a ++ field_bits w v → b ≡ old ++ (0 ∷ field_bits w v)
 lone-head old a b w v e f = appends-both old a b (0 ∷ []) (field_bits w v) e f
 
--- and then a prefix of the part
+-- and then the part
+pub lone-whole : (old a b new xs : List ℕ) (last : LastField) (end : ℕ) → past xs (length xs) ≡ end + 1 → a ≡ old ++ (0 ∷ []) → b ≡ a ++ field_bits last.width (end - last.less)
+    → new ≡ b ++ part_bits xs (end + 1) → new ≡ old ++ lone_part_bits last xs
+lone-whole old a b new xs last end is e f h =
+    let w : ℕ = last.width in
+    let some : new ≡ old ++ ((0 ∷ field_bits w (end - last.less)) ++ part_bits xs (end + 1)) =
+    appends-both old b new (0 ∷ field_bits w (end - last.less)) (part_bits xs (end + 1)) (lone-head old a b w (end - last.less) e f) h in
+    let value : end - last.less ≡ past xs (length xs) - 1 - last.less = omega (arith, is) in
+    subst (λ u. new ≡ old ++ ((0 ∷ field_bits w (past xs (length xs) - 1 - last.less)) ++ part_bits xs u)) (sym is)
+    (subst (λ v. new ≡ old ++ ((0 ∷ field_bits w v) ++ part_bits xs (end + 1))) value some)
+
+-- or a prefix of it
 pub lone-prefix : (old a b new xs : List ℕ) (last : LastField) (end : ℕ) → past xs (length xs) ≡ end + 1 → a ≡ old ++ (0 ∷ []) → b ≡ a ++ field_bits last.width (end - last.less)
     → AppendsBits b new (part_bits xs (end + 1)) → AppendsBits old new (lone_part_bits last xs)
 lone-prefix old a b new xs last end is e f h =

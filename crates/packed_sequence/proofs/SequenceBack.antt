@@ -101,8 +101,10 @@ module _ (payloads : TakesItsPayload) (one_part : OneListAtPlace) (stand : Value
       let at_word : (at + 1 + digits m + 63) / 64 ≡ p = ap (λ d. (at + 1 + d + 63) / 64) width in
       let make : ℕ → ℕ → SequenceAt = λ q k. record { view = sequence_stated format_three (drop q words) k; behind = 64 * (q + word_behind format_three (drop q words) k) } in
       let behind : 64 * (p + word_behind format_three rest n) ≡ at + length (parted_bits at xs ends) = omega (arith, used, word, long) in
-      ap (λ q. make q (field_at bits (at + 1) (digits m))) at_word ∙ ap (make p) count
-      ∙ ap (λ (v : SequenceView). record { view = v; behind = 64 * (p + word_behind format_three rest n) }) view ∙ ap (stated xs ends) behind
+      let end : ℕ = 64 * (p + word_behind format_three rest n) in
+      ◌∙◌ {b = stated xs ends end}
+      (ap (λ q. make q (field_at bits (at + 1) (digits m))) at_word ∙ ap (make p) count ∙ ap (λ (v : SequenceView). record { view = v; behind = end }) view)
+      (ap (stated xs ends) behind)
     where
       bits-behind : (p : ℕ) → p ≤ length words → drop (64 * p) (bits_of words) ≡ bits_of (drop p words)
       bits-behind p le =

@@ -1,8 +1,8 @@
-use Rattle.std.proofs.Common.{◌≡◌, ℕ, zero, suc, ◌+◌, ◌-◌, ◌*◌, ◌/◌, ◌<◌, ◌≤◌, cond, List, ◌++◌, length, take, get_or, sum, sym, ap, ◌∙◌, subst, arith, inl, inr}
+use Rattle.std.proofs.Common.{◌≡◌, ℕ, zero, suc, ◌+◌, ◌-◌, ◌*◌, ◌/◌, ◌<◌, ◌≤◌, cond, List, ◌++◌, length, take, drop, get_or, sum, sym, ap, ◌∙◌, subst, arith, inl, inr}
 use Rattle.std.specs.List.{flat_map}
 use Rattle.std.specs.List.Sorted.{IsStrictlyIncreasing}
 use Rattle.std.proofs.lemmas.Bool.{cases_lt, false_from_ne_true}
-use Rattle.std.proofs.lemmas.List.{length-append, length-take-le, take_all}
+use Rattle.std.proofs.lemmas.List.{length-append, length-drop, get_or-drop, length-take-le, take_all}
 use Rattle.std.proofs.Math.Nat.{mul-le-mul_left}
 use Rattle.bit_words.specs.Bits.{AppendsBits, field_bits}
 use Rattle.bit_words.proofs.Pieces.{length-fields}
@@ -16,7 +16,7 @@ use Rattle.part_cost.proofs.Parts.{past-number, relative-past, past-is}
 use Rattle.ranked_bitmap.specs.MapBits.{marks, map_samples, map_bits}
 use Rattle.ranked_bitmap.proofs.Ones.{AreBelow, one_count, count-below}
 use Rattle.ranked_bitmap.proofs.Marks.{has_number, has_number-at, found-number, length-marks, mark-at, bits-marks, marks-are-ones}
-use Rattle.ranked_bitmap.proofs.Reading.{below-universe, counts, length-counts, samples-are, part-is}
+use Rattle.ranked_bitmap.proofs.Reading.{below-universe, counts, length-counts, length-samples, samples-are, part-is}
 
 -- the marks before a place are as many as the numbers below it
 pub marks-below : (ys : List ℕ) (u p : ℕ) → AreRelative u (length ys) ys → AreBelow ys p (sum (take p (marks ys u)))
@@ -77,6 +77,18 @@ samples-prefix old to q ys u j e =
 pub room-more : (width j n : ℕ) → j < n → width * j + width ≤ width * n
 room-more width j n h = omega (arith, mul-le-mul_left {m = j + 1} {n = n} width (omega arith))
 
+pub sample-room : (q : ℕ) (ys : List ℕ) (u j width most : ℕ) (old to : List ℕ) → j < (u - 1) / q → to ≡ old ++ first_samples q ys u j
+    → width ≡ digits (length ys) → length old + length (map_samples q ys u) < most → length to + width < most
+sample-room q ys u j width most old to lt e wide room =
+    omega (
+      arith,
+      ap length e,
+      length-append old (first_samples q ys u j),
+      length-first_samples q ys u j (omega arith),
+      length-samples q ys u,
+      room-more (digits (length ys)) j ((u - 1) / q) lt,
+    )
+
 -- the numbers that were found to lie below a place are all that do
 pub found-below : (ys : List ℕ) (u end count : ℕ) → AreRelative u (length ys) ys → count ≤ length ys → ((i : ℕ) → i < count → get_or ys i 0 < end)
     → (count < length ys → end ≤ get_or ys count 0) → count ≡ sum (take end (marks ys u))
@@ -88,6 +100,23 @@ found-below ys u end count h fit below next =
       above = λ k more within. (let first = next (omega arith) in omega (arith, rises ys h.rising count k more within));
     }
     (marks-below ys u end h)
+
+-- behind the numbers that are known to lie below a place, those that were found to
+pub found-behind : (ys : List ℕ) (end count more : ℕ) → count ≤ length ys → ((i : ℕ) → i < count → get_or ys i 0 < end)
+    → more ≤ length (drop count ys) → ((i : ℕ) → i < more → get_or (drop count ys) i 0 < end)
+    → (more < length (drop count ys) → end ≤ get_or (drop count ys) more 0)
+    → (count + more ≤ length ys) × ((i : ℕ) → i < count + more → get_or ys i 0 < end) × (count + more < length ys → end ≤ get_or ys (count + more) 0)
+found-behind ys end count more fit known within below next = (
+  omega (arith, length-drop count ys),
+  λ i lt.
+      elim (cases_lt i count) [
+        | inl less ↦ known i less
+        | inr behind ↦
+            let place : count + (i - count) ≡ i = omega arith in
+            omega (arith, below (i - count) (omega arith), get_or-drop count ys (i - count) 0, ap (λ n. get_or ys n 0) place)
+      ],
+  λ lt. omega (arith, next (omega (arith, length-drop count ys)), get_or-drop count ys more 0),
+)
 
 -- the marks of a part are those of its numbers up to the last
 pub marks-of : (u : ℕ) (old new ys : List ℕ) → AreRelative u (length ys) ys → new ≡ old ++ marks ys (past ys (length ys)) → new ≡ old ++ marks ys u

@@ -218,7 +218,7 @@ fn write_parts(
     let mut from = 0;
     for end in ends {
         fill_part(values, from, *end, &mut part)?;
-        write_part(&part, universe_of_part(values, from, *end), bits)?;
+        write_part(part.as_slice(), universe_of_part(values, from, *end), bits)?;
         from = *end;
     }
     Ok(())

@@ -1,6 +1,9 @@
-use Rattle.std.proofs.Common.{◌≡◌, ◌++◌, take}
+use Rattle.std.proofs.Common.{◌≡◌, ℕ, List, ◌++◌, take, drop}
 use Rattle.elias_fano.specs.EfBits.{low_fields}
 use Rattle.elias_fano.proofs.writer.write_low_fields.Given as goal
 
-abbrev pub invariant-loop-value : goal.invariant-loop-value
-invariant-loop-value l = l.to ≡ l.initial.to ++ low_fields l.low (take l.value-index l.values)
+abbrev pub invariant-loop : goal.invariant-loop
+invariant-loop g l = (ys : List ℕ) → g.N.NumberSource.gives l.fn.values ys → record {
+  left : g.N.NumberSource.gives l.values (drop l.counter ys);
+  written : l.to ≡ l.initial.to ++ low_fields l.low (take l.counter ys);
+}
