@@ -1,5 +1,5 @@
 -- Lemmas on what a builder of a packed file keeps.
-use Rattle.std.proofs.Common.{◌≡◌, ℕ, ◌+◌, ◌-◌, ◌^◌, ◌<◌, ◌≤◌, List, [], ◌∷◌, ◌++◌, length, take, drop, sym, ap, ◌∙◌, subst, arith, length-append, append_assoc, append-nil}
+use Rattle.std.proofs.Common.{◌≡◌, ℕ, ◌+◌, ◌-◌, ◌^◌, ◌<◌, ◌≤◌, List, [], ◌∷◌, ◌++◌, length, take, drop, sym, ap, ◌∙◌, subst, slice_index, arith, length-append, length-drop, append_assoc, append-nil}
 use Rattle.std.specs.List.{All}
 use Rattle.std.proofs.lemmas.List.{drop-append-le}
 use Rattle.std.proofs.Math.Seq.{take-append_seam}
@@ -36,7 +36,7 @@ kept-none n bits starts few is first =
       documents = few;
       opening = is ∙ ap (λ x. bits_of opening ++ x) (sym none);
       few = omega (arith, ap length first);
-      small = omega (arith, ap length is, length-bits_of opening);
+      small = omega (arith, ap length none);
       stands = (
         [],
         record {
@@ -53,10 +53,10 @@ pub record PackedKeeps (n : ℕ) (bits starts more places : List ℕ) (c : CutLi
   pub kept : IsPackedKept n more places
   pub is : ◌≡◌ {A = Built} (packed_built n more places) (with_list (packed_built n bits starts) c)
 
-pub packed-keeps : (n next : ℕ) (bits starts more places : List ℕ) (c : CutList) → IsPackedKept n bits starts → IsPostingList format_three n c.list → IsNearCut format_three c → length starts ≤ most_terms → length bits ≤ 2 ^ 46
-    → length (list_bits n (length bits) c.list c.parts.doc_ends c.parts.freq_ends) < 2 ^ 44 → more ≡ bits ++ list_bits n (length bits) c.list c.parts.doc_ends c.parts.freq_ends
+pub packed-keeps : (n next : ℕ) (bits starts more places : List ℕ) (c : CutList) → IsPackedKept n bits starts → IsPostingList format_three n c.list → IsNearCut format_three c → length starts ≤ most_terms
+    → length more - 128 + most_terms + 1 ≤ 2 ^ widest_low → more ≡ bits ++ list_bits n (length bits) c.list c.parts.doc_ends c.parts.freq_ends
     → next ≡ length more - 128 + length starts → places ≡ starts ++ next ∷ [] → PackedKeeps n bits starts more places c
-packed-keeps n next bits starts more places c kept list near room small short written place entered =
+packed-keeps n next bits starts more places c kept list near room stated written place entered =
     let old : List ℕ = drop 128 bits in
     let whole : length bits ≡ 128 + length (drop 128 bits) = omega (arith, ap length kept.opening, length-append (bits_of opening) old, length-bits_of opening) in
     let here : more ≡ bits ++ bits_of_list n (length (drop 128 bits)) c = written ∙ ap (λ i. bits ++ list_bits n i c.list c.parts.doc_ends c.parts.freq_ends) whole in
@@ -67,13 +67,12 @@ packed-keeps n next bits starts more places c kept list near room small short wr
     let directory : places ≡ starts ++ (length (drop 128 bits) + length (bits_of_list n (length (drop 128 bits)) c) + length starts) ∷ [] = entered ∙ ap (λ x. starts ++ x ∷ []) number in
     let before : Built = packed_built n bits starts in
     let is : packed_built n more places ≡ with_list (packed_built n bits starts) c = (λ t. record { format = Three; documents = n; words = behind t; directory = directory t }) in
-    let at : length (list_bits n (length bits) c.list c.parts.doc_ends c.parts.freq_ends) ≡ length (bits_of_list n (length (drop 128 bits)) c) = ap (λ i. length (list_bits n i c.list c.parts.doc_ends c.parts.freq_ends)) whole in
     record {
       kept = record {
         documents = kept.documents;
         opening = here ∙ ap (λ x. x ++ added) kept.opening ∙ append_assoc (bits_of opening) old added ∙ ap (λ x. bits_of opening ++ x) (sym behind);
         few = omega (arith, ap length entered, length-append starts (next ∷ []), room);
-        small = omega (arith, long, whole, small, short, at);
+        small = omega (arith, long, stated, length-drop 128 more);
         stands = (kept.stands.0 ++ c ∷ [], subst (λ b. StandsFor b (kept.stands.0 ++ c ∷ [])) (sym is) (stands-more before kept.stands.0 c kept.stands.1 list near));
       };
       is = is;
@@ -135,6 +134,7 @@ cut-back len bits more whole e f = ap (λ k. take k whole) e ∙ ap (take (lengt
 pub record PackedHolds (bits starts : List ℕ) : Type 0 where
   pub long : 128 ≤ length bits
   pub some : 1 ≤ length starts
+  pub last : slice_index starts (length starts - 1) + 1 ≡ length (drop 128 bits) + length starts
   pub relative : AreRelative (length bits - 128 + (length starts - 1) + 1) (length starts) starts
   pub within : length bits - 128 + (length starts - 1) + 1 ≤ 2 ^ widest_low
 
@@ -145,12 +145,14 @@ packed-holds n bits starts kept =
     let whole : length bits ≡ 128 + length (drop 128 bits) = omega (arith, ap length kept.opening, length-append (bits_of opening) (drop 128 bits), length-bits_of opening) in
     let count : length starts ≡ length kept.stands.0 + 1 = omega (arith, ap length at.directory, count-starts n 0 0 cs) in
     let u : length (bits_of_lists n 0 kept.stands.0) + length kept.stands.0 + 1 ≡ length bits - 128 + (length starts - 1) + 1 = omega (arith, whole, count, ap length at.words) in
+    let relative : AreRelative (length bits - 128 + (length starts - 1) + 1) (length starts) starts = subst (λ x. AreRelative x (length starts) starts) u (subst (λ m. AreRelative (length (bits_of_lists n 0 cs) + length cs + 1) m starts) (sym count)
+    (subst (λ ys. AreRelative (length (bits_of_lists n 0 cs) + length cs + 1) (length cs + 1) ys) (sym at.directory) (starts-relative n cs))) in
     record {
       long = omega (arith, whole);
       some = omega (arith, count);
-      relative = subst (λ x. AreRelative x (length starts) starts) u (subst (λ m. AreRelative (length (bits_of_lists n 0 cs) + length cs + 1) m starts) (sym count)
-          (subst (λ ys. AreRelative (length (bits_of_lists n 0 cs) + length cs + 1) (length cs + 1) ys) (sym at.directory) (starts-relative n cs)));
-      within = omega (arith, kept.few, kept.small);
+      last = omega (arith, relative.last, whole, count);
+      relative = relative;
+      within = omega (arith, whole, kept.few, kept.small);
     }
 
 pub packed-counted : TakesItsPayload → (n : ℕ) (bits starts : List ℕ) (cs : List CutList) (sizes : List ℕ) (documents terms at : ℕ) → IsPackedKept n bits starts → StandsFor (packed_built n bits starts) cs
@@ -159,5 +161,5 @@ packed-counted takes n bits starts cs sizes documents terms at kept stands many 
     let whole : length bits ≡ 128 + length (drop 128 bits) = omega (arith, ap length kept.opening, length-append (bits_of opening) (drop 128 bits), length-bits_of opening) in
     let count : terms ≡ length cs = omega (arith, lists, ap length stands.directory, count-starts n 0 0 cs) in
     let from : at ≡ length (bits_of_lists n 0 cs) = omega (arith, place, whole, ap length stands.words) in
-    let fit : length (bits_of_lists n 0 cs) + length cs + 1 ≤ 2 ^ widest_low = omega (arith, kept.few, kept.small, place, from, lists, count) in
+    let fit : length (bits_of_lists n 0 cs) + length cs + 1 ≤ 2 ^ widest_low = omega (arith, kept.few, kept.small, whole, place, from, lists, count) in
     ap (λ k. packed_count k terms at) (sym many) ∙ ap (λ k. packed_count (length sizes) k at) count ∙ ap (packed_count (length sizes) (length cs)) from ∙ sym (packed-length takes n cs sizes fit)

@@ -1,5 +1,4 @@
 ghost use Rattle.std.specs.Prelude.{◌≡◌, ◌<◌, ◌+◌, ◌*◌, ◌/◌, ◌^◌, [], ◌∷◌, ◌++◌, length, OnOk, OnErr};
-ghost use Rattle.std.specs.List.{range_with_len};
 ghost use Rattle.collection_model.specs.Collection.{greatest};
 ghost use Rattle.index_file.specs.FileWords.{sizes_words};
 ghost use Rattle.index_file.specs.Builder.{repeated};
@@ -62,23 +61,6 @@ pub(crate) fn push_sizes(words: &mut Vec<u64>, sizes: &[u32]) -> Result<(), NoMe
     }
     if let Some(size) = last.first() {
         words.push(u64::from(*size))?;
-    }
-    Ok(())
-}
-
-// Appends so many numbers, each one more than the one before, from this one on. A refusal leaves the numbers as they were.
-pub(crate) fn push_numbers(to: &mut Vec<u64>, first: u64, count: u64) -> Result<(), NoMemory>
-    requires fit { first + count < 2 ^ 63 }
-    ensures ok { OnOk result (to.new.items ≡ to.old.items ++ range_with_len first count) }
-    ensures err { OnErr result (to.new.items ≡ to.old.items) }
-{
-    let len = to.len();
-    to.reserve_exact(count as usize)?;
-    for number in first..first + count {
-        if to.push(number).is_err() {
-            to.truncate(len);
-            return Err(NoMemory);
-        }
     }
     Ok(())
 }

@@ -90,7 +90,8 @@ impl<'a> Index<'a> {
         requires starts { AreNoneOr (kept_starts words.now) starts.now }
         ensures spells { Spells (numbers_of result.format) words.entry.now result.collection
             result.parts }
-        ensures kept { result ≡ of.with_starts (of.index_stated words.entry.now) starts.entry.now }
+        ensures kept { result
+            ≡ of.with_starts (of.index_stated words.entry.now) starts.entry.now }
     {
         file_laws();
         Index { words, starts }

@@ -1,15 +1,18 @@
-ghost use Rattle.std.specs.Prelude.{◌≡◌, ℕ, ◌+◌, ◌≤◌, ◌<◌, ◌^◌, ◌↔◌, List, [], length, IsTrue, IfOk, OnOk, OnErr};
+ghost use Rattle.std.specs.Prelude.{◌≡◌, ℕ, ◌+◌, ◌≤◌, ◌<◌, ◌^◌, ◌↔◌, ◌++◌, ◌∷◌, List, [], length, IsTrue, IfOk, OnOk, OnErr};
 ghost use Rattle.collection_model.specs.FormatNumbers.{format_three, most_terms};
 ghost use Rattle.collection_model.specs.Collection.{postings_of, IsPostingList};
 ghost use Rattle.collection_model.specs.Sequences.{freq_sequence};
+ghost use Rattle.part_cost.specs.Payload.{widest_low};
 ghost use Rattle.index_file.specs.CutLists.{CutList};
 ghost use Rattle.index_file.specs.PackedWords.{packed_words};
 ghost use Rattle.index_file.specs.Builder.{StandsFor, IsNearCut, cut_list, with_list, with_empty_lists};
 
-use crate::entries::{greatest_freq, push_numbers, push_sizes};
+use crate::entries::{greatest_freq, push_sizes};
+use crate::frame::MOST_TERMS;
 use crate::packed_checking::FIRST_LIST_BIT;
 use crate::packed_frame::{PACKED_END, PACKED_MAGIC, PackedFrame, count_of};
 use bit_words::BitWriter;
+use directory_places::Places;
 use no_memory::NoMemory;
 use packed_list::{ListParts, lists_are_short, write_list};
 use part_codec::{part_takes_its_payload, write_part};
@@ -18,8 +21,8 @@ use postings::sequences_of_a_list_rise;
 use std::alloc::Global;
 use std::marker::Model;
 
-// The most bits behind which one list more is taken, many more than a file has.
-const MOST_HELD_BITS: u64 = 1 << 46;
+// The most bits of lists: behind them the places of the most lists lie in a part's widest universe.
+const MOST_STATED_BITS: u64 = (1 << 48) - MOST_TERMS - 1;
 
 // The bits of a packed file, list by list, and the places where the lists begin.
 #[derive(Drop)]
@@ -27,7 +30,7 @@ pub(crate) struct PackedBuilder {
     alloc: Global,
     documents: u32,
     bits: BitWriter,
-    starts: Vec<u64>,
+    starts: Places,
 }
 
 impl Model for PackedBuilder {
@@ -35,9 +38,9 @@ impl Model for PackedBuilder {
 
     ghost Value = { Built };
 
-    ghost view = { λ b. packed_built b.documents b.bits b.starts.items };
+    ghost view = { λ b. packed_built b.documents b.bits b.starts };
 
-    ghost invariant = { λ b. IsPackedKept b.documents b.bits b.starts.items };
+    ghost invariant = { λ b. IsPackedKept b.documents b.bits b.starts };
 }
 
 impl PackedBuilder {
@@ -50,8 +53,7 @@ impl PackedBuilder {
         let mut bits = BitWriter::new(alloc)?;
         bits.put(PACKED_MAGIC, 64)?;
         bits.put(Format::Three.version(), 64)?;
-        let mut starts = Vec::new(alloc);
-        starts.push(0)?;
+        let starts = Places::new(alloc)?;
         Ok(PackedBuilder {
             alloc,
             documents,
@@ -83,9 +85,6 @@ impl PackedBuilder {
         lists_are_short();
         sequences_of_a_list_rise();
         let first = self.bits.len();
-        if first > MOST_HELD_BITS {
-            return Err(NoMemory);
-        }
         let list = ListParts {
             docs,
             doc_ends,
@@ -94,22 +93,22 @@ impl PackedBuilder {
             greatest: greatest_freq(freqs),
         };
         write_list(self.alloc, &list, self.documents, &mut self.bits)?;
-        let next = self.bits.len() - FIRST_LIST_BIT + self.starts.len() as u64;
-        if self.starts.push(next).is_err() {
+        let end = self.bits.len() - FIRST_LIST_BIT;
+        if push_end(&mut self.starts, end).is_err() {
             self.bits.truncate(first);
             return Err(NoMemory);
         }
         Ok(())
     }
 
-    // Appends so many lists without postings. A refusal leaves the lists as they were.
+    // Appends so many lists without postings, of which each takes a bit. A refusal leaves the lists
+    // as they were.
     pub(crate) fn append_empty(&mut self, count: u64) -> Result<(), NoMemory>
         requires room { length self.old.directory + count ≤ most_terms + 1 }
         ensures ok { OnOk result (self.new ≡ with_empty_lists self.old count) }
         ensures err { OnErr result (self.new ≡ self.old) }
     {
-        let next = self.bits.len() - FIRST_LIST_BIT + self.starts.len() as u64;
-        push_numbers(&mut self.starts, next, count)
+        self.starts.push_run(count)
     }
 
     // How many words the file has with so many lists without postings more, and so many sizes.
@@ -122,7 +121,7 @@ impl PackedBuilder {
         part_takes_its_payload();
         count_of(PackedFrame {
             documents: sizes,
-            terms: self.starts.len() as u64 - 1 + tail,
+            terms: self.starts.len() - 1 + tail,
             bits: self.bits.len() - FIRST_LIST_BIT,
         })
     }
@@ -142,7 +141,7 @@ impl PackedBuilder {
             → IfOk result (λ words. words.items ≡ packed_words self.documents cs sizes.now) }
     {
         part_takes_its_payload();
-        let lists = self.starts.len() as u64 - 1 + tail;
+        let lists = self.starts.len() - 1 + tail;
         let mut words = self.bits.into_words();
         push_sizes(&mut words, sizes)?;
         words.extend_from_slice(&[self.documents as u64, lists, 0, PACKED_END])?;
@@ -161,14 +160,28 @@ impl PackedBuilder {
             bits,
             starts,
         } = self;
-        let lists = starts.len() as u64 - 1;
+        let lists = starts.len() - 1;
         let list_bits = bits.len() - FIRST_LIST_BIT;
         let mut words = bits.into_words();
         push_sizes(&mut words, sizes)?;
+        let places = starts.into_all();
         let mut directory = BitWriter::new(alloc)?;
-        write_part(&starts, list_bits + lists + 1, &mut directory)?;
+        write_part(places.source(), list_bits + lists + 1, &mut directory)?;
         words.extend_from_slice(&directory.into_words())?;
         words.extend_from_slice(&[documents as u64, lists, list_bits, PACKED_END])?;
         Ok(words)
     }
+}
+
+// Appends the place behind a list with this end. A refusal leaves the places as they were.
+fn push_end(starts: &mut Places, end: u64) -> Result<(), NoMemory>
+    requires room { length starts.old ≤ most_terms }
+    ensures ok { OnOk result (starts.new ≡ starts.old ++ (end + length starts.old) ∷ []) }
+    ensures stated { OnOk result (end + most_terms + 1 ≤ 2 ^ widest_low) }
+    ensures err { OnErr result (starts.new ≡ starts.old) }
+{
+    if end > MOST_STATED_BITS {
+        return Err(NoMemory);
+    }
+    starts.push(end)
 }

@@ -1,5 +1,6 @@
 ghost use Rattle.std.specs.Prelude.{◌≡◌, ◌≤◌, ◌<◌, ◌+◌, ◌/◌, ◌^◌, length};
 ghost use Rattle.collection_model.specs.FormatNumbers.{format_three, most_terms};
+ghost use Rattle.part_cost.specs.Payload.{widest_low};
 ghost use Rattle.index_file.specs.PackedWords.{most_list_bits};
 ghost use Rattle.index_file.specs.PackedAt.{packed_count};
 ghost use Rattle.index_file.specs.PackedFaults.{packed_numbers_break, packed_frame_broken, StatesPackedFrame};
@@ -43,7 +44,7 @@ pub(crate) fn packed_frame_of(words: &[u64]) -> PackedFrame
 
 // The first word of the sizes.
 pub(crate) fn packed_sizes_of(frame: PackedFrame) -> u64
-    requires bits { frame.bits < 2 ^ 47 }
+    requires bits { frame.bits ≤ 2 ^ widest_low }
     ensures { result ≡ 2 + (frame.bits + 63) / 64 }
 {
     WORDS_BEFORE + frame.bits.div_ceil(WORD_BITS)
@@ -52,7 +53,7 @@ pub(crate) fn packed_sizes_of(frame: PackedFrame) -> u64
 // The first word of the directory.
 pub(crate) fn packed_directory_of(frame: PackedFrame) -> u64
     requires documents { frame.documents ≤ format_three.most_documents }
-    requires bits { frame.bits < 2 ^ 47 }
+    requires bits { frame.bits ≤ 2 ^ widest_low }
     ensures { result ≡ 2 + (frame.bits + 63) / 64 + (frame.documents + 1) / 2 }
 {
     packed_sizes_of(frame) + frame.documents.div_ceil(2)
@@ -62,7 +63,7 @@ pub(crate) fn packed_directory_of(frame: PackedFrame) -> u64
 pub(crate) fn count_of(frame: PackedFrame) -> u64
     requires documents { frame.documents ≤ format_three.most_documents }
     requires terms { frame.terms ≤ most_terms }
-    requires bits { frame.bits < 2 ^ 47 }
+    requires bits { frame.bits + frame.terms + 1 ≤ 2 ^ widest_low }
     ensures { result ≡ packed_count frame.documents frame.terms frame.bits }
 {
     let directory = payload_bits(frame.bits + frame.terms + 1, frame.terms + 1);
