@@ -1,6 +1,6 @@
 ghost use Rattle.std.specs.Prelude.{◌≡◌, IfOk};
 ghost use Rattle.std.specs.Vec.Iter.{into_iter_items};
-ghost use Rattle.pefidx.specs.Words.{TakesWords};
+ghost use Rattle.host_process.specs.Words.{TakesWords};
 
 use no_memory::NoMemory;
 use std::alloc::{AllocError, Global};
@@ -8,8 +8,8 @@ use std::env::Args;
 use std::io;
 use std::io::ErrorKind;
 
-// The words of the command line, the program's name first, from what the system gave of them. There are none where
-// one is no UTF-8, which is refused as usage.
+// The words of the command line, the program's name first, from what the system gave of them. There
+// are none where one is no UTF-8, which is refused as usage.
 pub(crate) fn words_of(alloc: Global, given: io::Result<Args>) -> Result<Vec<String>, NoMemory>
     ensures { TakesWords given result }
 {

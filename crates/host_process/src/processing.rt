@@ -3,8 +3,8 @@ ghost use Rattle.std.specs.Process.{exit_status};
 ghost use Rattle.outcomes.specs.declared.status.Status as ended;
 ghost use Rattle.outcomes.specs.Outside.{outside};
 ghost use Rattle.outcomes.specs.StatusNumber.{status_number};
-ghost use Rattle.pefidx.specs.Process.{Processes};
-ghost use Rattle.pefidx.specs.Words.{TakenWords, TakesWords};
+ghost use Rattle.host_process.specs.Process.{Processes};
+ghost use Rattle.host_process.specs.Words.{TakenWords, TakesWords};
 
 use crate::words::words_of;
 use io_traits::{Depot, Sink, Source};
@@ -16,9 +16,10 @@ use std::env::Args;
 use std::io;
 use std::process::ExitCode;
 
-// What the process does: it runs the command of the words that it was given, the program's name first, and ends
-// with the number of the status. Where memory was refused for the words, it says so on err and calls nothing else.
-pub(crate) fn process<D: Depot, I: Source, O: Sink, E: Sink>(
+/// What a process does: it runs the command of the words that it was given, the program's name
+/// first, and ends with the number of the status. Where memory was refused for the words, it says
+/// so on err and calls nothing else.
+pub fn process<D: Depot, I: Source, O: Sink, E: Sink>(
     alloc: Global,
     given: io::Result<Args>,
     on: &mut Devices<D, I, O>,

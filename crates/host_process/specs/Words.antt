@@ -15,9 +15,11 @@ GivenWords = Result (IntoIter (String Global) Global) Error
 abbrev pub TakenWords : Type 0
 TakenWords = Result (Vec (String Global) Global) NoMemory
 
--- The words of the command line: all that were given, in their order. Where the system was refused memory for them
--- this is said, and where it gave none for another reason, as for one that is no UTF-8, there are none.
+-- The words of the command line: all that were given, in their order. Where the system was refused
+-- memory for them this is said, and where it gave none for another reason, as for one that is no
+-- UTF-8, there are none.
 pub record TakesWords (given : GivenWords) (result : TakenWords) : Type 0 where
   pub all : IfOk given (λ words. IfOk result (λ taken. taken.items ≡ into_iter_items words))
   pub no_memory : IfErr given (λ e. error_kind e ≡ OutOfMemory → IsErr result)
-  pub none : IfErr given (λ e. error_kind e ≢ OutOfMemory → IsOk result × IfOk result (λ taken. taken.items ≡ []))
+  pub none : IfErr given (λ e. error_kind e ≢ OutOfMemory
+      → IsOk result × IfOk result (λ taken. taken.items ≡ []))

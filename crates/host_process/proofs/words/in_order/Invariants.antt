@@ -1,6 +1,6 @@
 use Rattle.std.proofs.Common.{◌≡◌, ◌++◌}
 use Rattle.std.specs.Vec.Iter.{into_iter_items}
-use Rattle.pefidx.proofs.words.in_order.Given as goal
+use Rattle.host_process.proofs.words.in_order.Given as goal
 
 abbrev pub invariant-loop-word : goal.invariant-loop-word
 invariant-loop-word l = l.taken.items ++ into_iter_items l.word-iterator ≡ into_iter_items l.fn.words
