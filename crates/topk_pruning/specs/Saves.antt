@@ -1,8 +1,8 @@
 -- When pruning can cost less than scoring every document.
-use Rattle.std.specs.Prelude.{ℕ, ◌-◌, ◌*◌, ◌&&◌, ◌||◌, nat_eq, nat_le, nat_lt, Bool, List, length, map, min}
+use Rattle.std.specs.Prelude.{ℕ, ◌-◌, ◌*◌, ◌&&◌, ◌||◌, if◌then◌else◌, not, nat_eq, nat_le, nat_lt, Bool, List, length, map, min}
 use Rattle.std.specs.List.{sum_by}
 use Rattle.collection_model.specs.Collection.{Posting, greatest}
-use Rattle.topk_pruning.specs.Terms.{bounds, terms_of}
+use Rattle.topk_pruning.specs.Terms.{highest, terms_of}
 
 -- all the postings, counted in 64 bits
 abbrev pub count_of : List (List Posting) → ℕ
@@ -12,9 +12,19 @@ count_of lists = min (sum_by length lists) 18446744073709551615
 abbrev pub longest_of : List (List Posting) → ℕ
 longest_of lists = greatest (map length lists)
 
--- k times the postings are at most so many times the highest score that there can be
+-- so many lists, more than a few, have fewer postings in the mean than it pays to search
+abbrev pub are_read : ℕ → ℕ → Bool
+are_read count postings = nat_lt 4 count && nat_lt postings (1024 * count)
+
+-- how often k times the postings may share each frequency of the heaviest term, up to the highest
+abbrev pub most_alike : ℕ → ℕ
+most_alike count = if nat_le count 2 then 6144 else if nat_lt count 17 then 3072 else 768
+
+-- they share it no more often, whatever the scale of weights
 abbrev pub are_apart : List (List Posting) → List ℕ → ℕ → Bool
-are_apart lists weights k = nat_le (count_of lists * k) (2048 * bounds (terms_of lists weights))
+are_apart lists weights k =
+    nat_le (count_of lists * (k * greatest weights))
+    (most_alike (length lists) * highest (terms_of lists weights))
 
 -- the longest of some lists has sixteen times the postings of all the others, and these are k or more
 abbrev pub is_long : ℕ → ℕ → ℕ → Bool
@@ -28,11 +38,11 @@ one_is_long lists k = is_long (count_of lists) (longest_of lists) k
 abbrev pub are_many : List (List Posting) → ℕ → Bool
 are_many lists k = nat_le (k * k) (count_of lists)
 
--- of many postings, one long list beside short ones, or more than one window of n documents, and one list or a few
--- whose scores lie apart
+-- of many postings, in few lists or long ones, one long list beside short ones, or more than one
+-- window of n documents, and one list or some whose scores lie apart
 abbrev pub pruning_saves : ℕ → List (List Posting) → List ℕ → ℕ → Bool
 pruning_saves n lists weights k =
-    nat_le (length lists) 16
+    not (are_read (length lists) (count_of lists))
     && are_many lists k
     && (one_is_long lists k
     || (nat_lt 8192 n && (nat_eq (length lists) 1 || are_apart lists weights k)))

@@ -2,7 +2,7 @@
 use Rattle.std.specs.Prelude.{◌≡◌, ℕ, ◌*◌, ◌<◌, ◌≤◌, ◌^◌, ◌⊎◌, ◌≢◌, nat_lt, List, [], ◌∷◌, map, length, drop, Option, Some, None, Bool, true, false, slice_index, slice_index_or, IfSome, AllPairs}
 use Rattle.std.specs.List.{All, sum_by, list_any, range_with_len}
 use Rattle.std.specs.List.Sorted.{IsPermutation}
-use Rattle.collection_model.specs.Collection.{Posting, greatest_freq}
+use Rattle.collection_model.specs.Collection.{Posting, greatest, greatest_freq}
 use Rattle.scan_plans.specs.Matches.{has_doc, freq_of_doc, score}
 use Rattle.scan_plans.specs.IsTop.{IsTopFrom}
 use Rattle.scan_plans.specs.Ranking.{IsFirstK}
@@ -45,6 +45,10 @@ AreAlike terms others = IsPermutation (keys terms) (keys others)
 -- the bounds of some terms together
 abbrev pub bounds : List Term → ℕ
 bounds terms = sum_by (λ t. t.bound) terms
+
+-- the highest bound of some terms, 0 where there is none
+abbrev pub highest : List Term → ℕ
+highest terms = greatest (map (λ t. t.bound) terms)
 
 -- whether a score beats the bar; any does while there is none
 abbrev pub beats : Option ℕ → ℕ → Bool

@@ -1,19 +1,35 @@
 ghost use Rattle.std.specs.Prelude.{◌≡◌, ◌<◌, ◌^◌, IsTrue, IfSome, IfNone, map, length, sum};
-ghost use Rattle.topk_pruning.specs.Saves.{are_apart, count_of, is_long, longest_of, one_is_long, pruning_saves};
+ghost use Rattle.collection_model.specs.Collection.{greatest};
+ghost use Rattle.topk_pruning.specs.Saves.{are_apart, are_read, count_of, is_long, longest_of};
+ghost use Rattle.topk_pruning.specs.Saves.{most_alike, one_is_long, pruning_saves};
 
-use crate::term::highest_score;
+use crate::term::highest_bound;
 use cursor_api::DocCursor;
 
 // The documents of one window of `top_exhaustive`. Where there are no more, most is read before there is a bar: pruning cost 0.99 to 1.34
 // times as much as scoring every document.
 const ONE_WINDOW: u32 = 8_192;
 
-// With more lists each pivot moves, and each candidate asks, too many of them: of 1,024 lists MaxScore cost 1.08 times as much.
-const MOST_LISTS: usize = 16;
+// Of more lists than these, with fewer postings in the mean than MEAN_LENGTH, moving from pivot to
+// pivot costs more than reading: 8 and 16 lists of 128 postings cost 1.05 and 1.17 times as much,
+// and 16 of some 400 about 1.1 times.
+const FEW_LISTS: usize = 4;
 
-// The most postings, times k, for each score up to the highest one. Of more, the k documents held leave so many just below the bar that
-// to ask for these costs more than to read them: pruning cost 0.55 to 0.93 times as much with up to 1,250, and 0.97 to 1.76 from 3,120 on.
-const MOST_ALIKE: u128 = 2_048;
+const MEAN_LENGTH: u128 = 1_024;
+
+// The most postings, times k, for each frequency of the heaviest term up to the highest bound. Of
+// more, the k documents held leave so many just below the bar that to ask for these costs more than
+// to read them. Two lists with 5,770 of them cost 0.09 to 1.02 times as much, six with 2,680 cost
+// 0.22 to 0.70, eight with 3,750 cost 1.06 to 1.08, and four with 11,330 cost 0.17 to 1.07; 24 and
+// 32 with up to 710 cost 0.02 to 0.73, and with 840 and more, k being 100, mostly more than 1.
+const MOST_ALIKE_OF_TWO: u128 = 6_144;
+
+const MOST_ALIKE: u128 = 3_072;
+
+const MOST_ALIKE_OF_MANY: u128 = 768;
+
+// So many lists are many.
+const MANY_LISTS: usize = 17;
 
 // A list that has so many times the postings of all the others is asked for theirs rather than read, however few documents there are.
 // With half, twice and four times as many a dictionary of 4,877 documents takes 1.00 times the instructions.
@@ -26,10 +42,10 @@ pub fn pruning_can_save<C: DocCursor>(cursors: &[C], weights: &[u32], k: u32, n:
     requires light { sum weights.now < 2 ^ 26 }
     ensures { result ≡ pruning_saves n (map C.list cursors.now) weights.now k }
 {
-    if cursors.len() > MOST_LISTS {
+    let postings = count_lists(cursors);
+    if are_soon_read(cursors.len(), postings.all) {
         return false;
     }
-    let postings = count_lists(cursors);
     // Of fewer than k postings for each of the k documents, nearly all are read: with 1,000 wanted pruning cost 1.02 to 1.23 times as much
     // with up to 150 for each, and with 500 mostly as much with up to 300.
     u64::from(k) * u64::from(k) <= postings.all
@@ -86,12 +102,46 @@ impl Postings {
     }
 }
 
-// Whether few of the postings, of which there are so many, have to share a score.
+// Whether so many lists with so many postings are read sooner than searched: they are more than a
+// few, and short in the mean.
+fn are_soon_read(lists: usize, postings: u64) -> bool
+    ensures { result ≡ are_read lists postings }
+{
+    lists > FEW_LISTS && u128::from(postings) < MEAN_LENGTH * lists as u128
+}
+
+// Whether few of the postings, of which there are so many, have to share a score. The scale of
+// weights does not count.
 fn scores_lie_apart<C: DocCursor>(cursors: &[C], weights: &[u32], postings: u64, k: u32) -> bool
     requires each { length weights.now ≡ length cursors.now }
-    requires light { sum weights.now < 2 ^ 26 }
     requires count { postings ≡ count_of (map C.list cursors.now) }
     ensures { result ≡ are_apart (map C.list cursors.now) weights.now k }
 {
-    u128::from(postings) * u128::from(k) <= MOST_ALIKE * u128::from(highest_score(cursors, weights))
+    let each = u64::from(k) * u64::from(heaviest(weights));
+    let highest = highest_bound(cursors, weights);
+    u128::from(postings) * u128::from(each) <= most_alike(cursors.len()) * u128::from(highest)
+}
+
+// How many postings of so many lists, times k, may share a frequency of the heaviest term.
+fn most_alike(lists: usize) -> u128
+    ensures { result ≡ most_alike lists }
+{
+    if lists <= 2 {
+        MOST_ALIKE_OF_TWO
+    } else if lists < MANY_LISTS {
+        MOST_ALIKE
+    } else {
+        MOST_ALIKE_OF_MANY
+    }
+}
+
+// The greatest weight, 0 where there is none.
+fn heaviest(weights: &[u32]) -> u32
+    ensures { result ≡ greatest weights.now }
+{
+    let mut most = 0;
+    for weight in weights {
+        most = (*weight).max(most);
+    }
+    most
 }

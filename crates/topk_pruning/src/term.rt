@@ -1,7 +1,7 @@
 ghost use Rattle.std.specs.Prelude.{◌≡◌, ◌≤◌, ◌<◌, ◌*◌, ◌^◌, map, length, sum, IfOk, AllPairs};
 ghost use Rattle.std.specs.List.Sorted.{IsPermutation};
 ghost use Rattle.collection_model.specs.Collection.{greatest_freq};
-ghost use Rattle.topk_pruning.specs.Terms.{terms_of, bounds};
+ghost use Rattle.topk_pruning.specs.Terms.{terms_of, bounds, highest};
 
 use cursor_api::DocCursor;
 use no_memory::NoMemory;
@@ -69,18 +69,17 @@ fn bound_of<C: DocCursor>(cursor: &C, weight: u32) -> u64
     u64::from(weight) * u64::from(cursor.max_freq())
 }
 
-// The highest score that a document can have: what the bounds of all the lists add up to.
-pub(crate) fn highest_score<C: DocCursor>(cursors: &[C], weights: &[u32]) -> u64
+// The highest bound of a list, 0 where there is none.
+pub(crate) fn highest_bound<C: DocCursor>(cursors: &[C], weights: &[u32]) -> u64
     requires each { length weights.now ≡ length cursors.now }
-    requires light { sum weights.now < 2 ^ 26 }
-    ensures { result ≡ bounds (terms_of (map C.list cursors.now) weights.now) }
+    ensures { result ≡ highest (terms_of (map C.list cursors.now) weights.now) }
 {
-    let mut total = 0;
+    let mut most = 0;
     for list in 0..cursors.len() {
         let bound = bound_of(&cursors[list], weights[list]);
-        total += bound;
+        most = bound.max(most);
     }
-    total
+    most
 }
 
 // The bounds of some terms together.
