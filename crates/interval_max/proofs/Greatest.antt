@@ -1,5 +1,5 @@
 -- Lemmas on the greatest value of those that pass a test.
-use Rattle.std.proofs.Common.{◌≡◌, refl, ap, ℕ, zero, suc, ◌+◌, ◌<◌, ◌≤◌, max, Bool, true, false, cond, List, [], ◌∷◌, ◌++◌, map, length, get_or, set, arith}
+use Rattle.std.proofs.Common.{◌≡◌, refl, ap, ℕ, zero, suc, ◌<◌, ◌≤◌, max, Bool, true, false, cond, List, [], ◌∷◌, ◌++◌, map, length, get_or, set, arith}
 use Rattle.std.specs.List.{filter}
 use Rattle.collection_model.specs.Collection.{greatest}
 

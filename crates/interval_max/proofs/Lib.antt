@@ -3,3 +3,9 @@ mod Steps
 mod Pairs
 mod Rounded
 mod Whole
+mod Cursors
+mod Scores
+mod Seen
+mod Settled
+mod Raised
+mod Begun

@@ -2,3 +2,5 @@ pub mod Intervals
 pub mod Peaks
 pub mod Bytes
 pub mod Maxima
+pub mod Search
+pub mod Bounded

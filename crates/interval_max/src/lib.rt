@@ -1,10 +1,14 @@
-//! Bounds of the frequencies of posting lists in short runs of neighbouring documents.
+//! Bounds of the frequencies of posting lists in short runs of neighbouring documents, and the plan
+//! of `top` that adds them up.
 #![tactic(auto)]
 
+mod bounds;
 mod bytes;
 mod maxima;
+mod pass;
 mod peaks;
-#[cfg(test)]
-mod worked;
+mod run;
+mod top;
 
 pub use maxima::{Bounds, ListMaxima};
+pub use top::{intervals_can_save, top_intervals};

@@ -58,7 +58,8 @@ impl ListMaxima {
 
     /// The bounds, lent.
     pub fn bounds(&self) -> Bounds<'_>
-        ensures { (v : ℕ) → bound_of result v ≡ bound_in self.now v }
+        ensures bound { (v : ℕ) → bound_of result v ≡ bound_in self.now v }
+        ensures step { result.step ≡ self.now.step }
     {
         Bounds {
             each: self.each.as_slice(),

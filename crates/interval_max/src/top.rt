@@ -1,0 +1,184 @@
+ghost use Rattle.std.specs.Prelude.{◌≡◌, ◌<◌, ◌≤◌, ◌^◌, map, length, IfOk};
+ghost use Rattle.std.specs.List.{All};
+ghost use Rattle.scan_plans.specs.IsTop.{IsTop};
+ghost use Rattle.scan_plans.specs.TopQuery.{IsTopQuery};
+ghost use Rattle.interval_max.specs.Bounded.{AreAgain, AreBoundsOf};
+
+use crate::bounds::score_bounds;
+use crate::maxima::Bounds;
+use crate::pass::{Pass, score_intervals};
+use crate::peaks::INTERVAL;
+use crate::run::new_room;
+use cursor_api::DocCursor;
+use no_memory::NoMemory;
+use scan_plans::{
+    TopK, count_postings, most_found, top_exhaustive, top_list_grows, top_list_grows_in_any_order,
+    top_list_is_short,
+};
+use std::alloc::Global;
+
+// How many neighbouring intervals are a group, of which the greatest bound is looked at.
+const GROUP: usize = 16;
+
+// Over how many intervals in between a run goes on, at most.
+const MOST_GAP: u64 = 8;
+
+/// The first k of the documents that are in any of the lists, by score falling and then document
+/// rising, each with its score, as `top_exhaustive` gives them. `n` is the number of documents. The
+/// weights are those of the cursors' lists, in the same order; a score stays below 2^58. `maxima`
+/// are the bounds of these lists, or of none for lists of which nothing is known.
+///
+/// The bounds of all lists are added up for each interval of 32 documents. The intervals with the
+/// greatest sums are scored first, and then all others, in the order of documents, whose sums can
+/// still give a document that enters. A list is read by three cursors: for its bounds where none
+/// are known, and in the two passes. Where that cannot save anything every document is scored.
+pub fn top_intervals<C: DocCursor>(
+    alloc: Global,
+    maxima: &[Bounds<'_>],
+    bounding: &mut [C],
+    first: &mut [C],
+    rest: &mut [C],
+    weights: &[u32],
+    k: u32,
+    n: u32,
+) -> Result<Vec<(u32, u64)>, NoMemory>
+    requires query { IsTopQuery C.list C.place n rest.old weights.now }
+    requires bounding { AreAgain C.list C.place rest.old bounding.old }
+    requires first { AreAgain C.list C.place rest.old first.old }
+    requires maxima { AreBoundsOf (map C.list rest.old) maxima.now }
+    ensures first { IfOk result (λ r. IsTop n (map C.list rest.old) weights.now k r.items) }
+    ensures bound { IfOk result (λ r. All (λ e. e.1 < 2 ^ 58) r.items) }
+{
+    if !intervals_can_save(maxima, rest, k, n) {
+        return top_exhaustive(alloc, rest, weights, k, n);
+    }
+    top_list_is_short();
+    let most = most_found(rest, k);
+    top_by_bounds(alloc, maxima, bounding, first, rest, weights, most, n)
+}
+
+/// Whether bounds can save anything: there are far more intervals than documents are wanted, enough
+/// postings to pay for adding up bounds, and most of these are in lists of which bounds are known.
+pub fn intervals_can_save<C: DocCursor>(
+    maxima: &[Bounds<'_>],
+    cursors: &[C],
+    k: u32,
+    n: u32,
+) -> bool
+    requires { length maxima.now ≡ length cursors.now }
+{
+    let intervals = intervals_of(n);
+    let postings = count_postings(cursors);
+    8 * u64::from(k) <= intervals
+        && postings >= intervals / 4
+        && count_unknown(maxima, cursors) <= postings / 4
+}
+
+// How many intervals n documents have, and one more where the last is full.
+fn intervals_of(n: u32) -> u64
+    ensures { result ≤ 134217728 }
+{
+    u64::from(n / INTERVAL) + 1
+}
+
+// How many postings there are in lists of which no bounds are known, as far as a u64 counts.
+fn count_unknown<C: DocCursor>(maxima: &[Bounds<'_>], cursors: &[C]) -> u64
+    requires { length maxima.now ≡ length cursors.now }
+{
+    let mut postings: u64 = 0;
+    for i in 0..cursors.len() {
+        if !maxima[i].are_known() {
+            postings = postings.saturating_add(u64::from(cursors[i].len()));
+        }
+    }
+    postings
+}
+
+// The first k documents, with room for as many: k is no more than can be found.
+fn top_by_bounds<C: DocCursor>(
+    alloc: Global,
+    maxima: &[Bounds<'_>],
+    bounding: &mut [C],
+    first: &mut [C],
+    rest: &mut [C],
+    weights: &[u32],
+    k: u32,
+    n: u32,
+) -> Result<Vec<(u32, u64)>, NoMemory>
+    requires query { IsTopQuery C.list C.place n rest.old weights.now }
+    requires bounding { AreAgain C.list C.place rest.old bounding.old }
+    requires first { AreAgain C.list C.place rest.old first.old }
+    requires maxima { AreBoundsOf (map C.list rest.old) maxima.now }
+    ensures first { IfOk result (λ r. IsTop n (map C.list rest.old) weights.now k r.items) }
+    ensures bound { IfOk result (λ r. All (λ e. e.1 < 2 ^ 58) r.items) }
+{
+    if k == 0 {
+        return Ok(Vec::new(alloc));
+    }
+    top_list_grows();
+    top_list_grows_in_any_order();
+    let mut sums = score_bounds(alloc, maxima, bounding, weights, n)?;
+    let floor = first_floor(alloc, &sums, k)?;
+    let gap = worthwhile_gap(rest, n);
+    let mut room = new_room(alloc)?;
+    let mut top = TopK::new(alloc, k, n)?;
+    let bounds = sums.as_mut_slice();
+    let best = Pass { floor, gap };
+    score_intervals(first, weights, bounds, best, &mut room, &mut top);
+    let others = Pass { floor: 0, gap };
+    score_intervals(rest, weights, bounds, others, &mut room, &mut top);
+    top.into_list()
+}
+
+// Over how many intervals in between a run goes on: their postings, as many as the mean has, cost no
+// more to read than to seek in each list, which takes about four times as long as a posting.
+fn worthwhile_gap<C: DocCursor>(cursors: &[C], n: u32) -> usize
+    requires { length cursors.now ≤ 1024 }
+{
+    let postings = count_postings(cursors).max(1);
+    let seeks = 4 * cursors.len() as u64 * intervals_of(n);
+    (seeks / postings).min(MOST_GAP) as usize
+}
+
+// A floor for the bounds of the intervals that are scored first: so many groups of intervals reach
+// it as hold about a quarter of the documents that are wanted, at one in each.
+fn first_floor(alloc: Global, bounds: &[u64], k: u32) -> Result<u64, NoMemory> {
+    let wanted = 2 + k as usize / 4;
+    let mut groups = greatest_of_groups(alloc, bounds)?;
+    if 4 * wanted < groups.len() {
+        return Ok(nth_greatest(groups.as_mut_slice(), wanted));
+    }
+    let mut all = Vec::new(alloc);
+    all.extend_from_slice(bounds)?;
+    Ok(nth_greatest(all.as_mut_slice(), 2 * wanted))
+}
+
+// The greatest bound of each group of intervals.
+fn greatest_of_groups(alloc: Global, bounds: &[u64]) -> Result<Vec<u64>, NoMemory> {
+    let mut groups = Vec::with_capacity(alloc, bounds.len() / GROUP + 1)?;
+    for group in bounds.chunks(GROUP) {
+        groups.push(greatest(group))?;
+    }
+    Ok(groups)
+}
+
+// The greatest of some numbers, 0 where there are none.
+fn greatest(numbers: &[u64]) -> u64 {
+    let mut most = 0;
+    for number in numbers {
+        most = most.max(*number);
+    }
+    most
+}
+
+// The nth greatest of some numbers, from the first on, 0 where there are fewer.
+fn nth_greatest(numbers: &mut [u64], nth: usize) -> u64
+    requires { 1 ≤ nth }
+{
+    if numbers.len() < nth {
+        return 0;
+    }
+    let at = numbers.len() - nth;
+    let (_, found, _) = numbers.select_nth_unstable(at);
+    *found
+}
