@@ -1,6 +1,6 @@
 use Rattle.command_line.specs.declared.words.Command as words
 use Rattle.command_line.specs.declared.words.Command.TheVariants as word
-use Rattle.command_line.specs.Command.{Command, Build, Query, Answer, Inspect, Generate, Migrate, Audit, Blocks, BlockQuery, Remap, Segments, Export, texts}
+use Rattle.command_line.specs.Command.{Command, Build, Query, Answer, Inspect, Generate, Migrate, Audit, Blocks, BlockQuery, Remap, Segments, Export, IntervalQuery, texts}
 
 -- what a command of the words asks for, with its texts as their bytes
 abbrev pub asked : words.Command → Command
@@ -16,3 +16,4 @@ asked (word.BlockQuery index side) = BlockQuery index.now side.now
 asked (word.Remap base map to) = Remap base.now map.now to.now
 asked (word.Segments indexes plan) = Segments (texts indexes.now) plan
 asked (word.Export index base) = Export index.now base.now
+asked (word.IntervalQuery index) = IntervalQuery index.now

@@ -27,6 +27,7 @@ pub data Command : Type 0 where
   Remap : (base map to : List ℕ) → Command
   Segments : (indexes : List (List ℕ)) (plan : Plan) → Command
   Export : (index base : List ℕ) → Command
+  IntervalQuery : (index : List ℕ) → Command
 
 -- words as their bytes
 abbrev pub texts : List (String Global) → List (List ℕ)
@@ -111,6 +112,7 @@ command_with verbs.Segments texts value = option_map (Segments texts) (plan_of v
 command_with verbs.Pack texts value = built_in texts Three
 command_with verbs.Repack texts value = migrated_to Packed texts
 command_with verbs.Export texts value = option_and_then (λ names. unless (is_file_of names.1 names.0) (Export names.0 names.1)) (two_of texts)
+command_with verbs.IntervalQuery texts value = option_map IntervalQuery (one_of texts)
 
 -- how many words stand before the first that can be no text of a command
 abbrev pub texts_before : List (List ℕ) → ℕ

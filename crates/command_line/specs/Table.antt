@@ -41,7 +41,8 @@ table =
     record (texts (codes "segments") verbs.Segments 1 (Some choices.Plan)) { most = most_segments } ∷
     texts (codes "pack") verbs.Pack 2 None ∷
     texts (codes "repack") verbs.Repack 2 None ∷
-    texts (codes "export") verbs.Export 2 None ∷ []
+    texts (codes "export") verbs.Export 2 None ∷
+    texts (codes "iquery") verbs.IntervalQuery 1 None ∷ []
 
 -- the words of the command with this verb
 abbrev pub row_of : List ℕ → Option Row

@@ -22,6 +22,7 @@ pub(crate) enum Verb {
     Pack,
     Repack,
     Export,
+    IntervalQuery,
 }
 
 // An option that may stand behind the texts of a command.
@@ -64,7 +65,7 @@ pub(crate) struct Row {
 }
 
 // The words of each command.
-fn rows() -> [Row; 14]
+fn rows() -> [Row; 15]
     ensures { map seen result ≡ table }
 {
     [
@@ -85,6 +86,7 @@ fn rows() -> [Row; 14]
         texts("pack", Verb::Pack, 2, None),
         texts("repack", Verb::Repack, 2, None),
         texts("export", Verb::Export, 2, None),
+        texts("iquery", Verb::IntervalQuery, 1, None),
     ]
 }
 

@@ -70,6 +70,9 @@ pub enum Command<'a> {
         index: &'a str,
         base: &'a str,
     },
+    IntervalQuery {
+        index: &'a str,
+    },
 }
 
 // The command of a row, with as many texts as it may have, and then its option or nothing.
@@ -166,6 +169,7 @@ pub(crate) fn command_with<'a>(verb: Verb, words: &'a [String], value: &str) -> 
             let (index, base) = two(words)?;
             (!is_file_of(base, index)).then_some(Command::Export { index, base })
         }
+        Verb::IntervalQuery => Some(Command::IntervalQuery { index: one(words)? }),
     }
 }
 

@@ -32,7 +32,7 @@ pub record AnswersFrom (source : Source) (old new : Outside) (outcome : Outcome)
   pub does : Does source Replies (AnswersInput (Finds source old.depot)) old new outcome
   pub costs : new.costs ≡ old.costs
 
--- `query INDEX` reads an index of any format, and answers from it.
+-- `query INDEX` reads an index of any format, and answers from it; `iquery INDEX` does so by another plan.
 abbrev pub Queries : List ℕ → Outside → Outside → Outcome → Type 0
 Queries index = AnswersFrom (IndexAt index)
 

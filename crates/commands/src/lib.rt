@@ -9,6 +9,7 @@ pub mod build;
 pub mod export;
 pub mod generate;
 pub mod inspect;
+pub mod iquery;
 pub mod joining;
 pub mod migrate;
 pub mod query;

@@ -1,5 +1,5 @@
 use Rattle.std.specs.Prelude.{◌≡◌, Option, Some, None, Err}
-use Rattle.pef_top.specs.Names.{SinkState, Status, Command, Build, Query, Answer, Inspect, Generate, Migrate, Audit, Blocks, BlockQuery, Remap, Segments, Export, Outside, GotText, Outcome, Builds, Migrates, Exports, Queries, migrate_format, WritesBlocks, Remaps, Answers, QueriesBlocks, AnswersSegments, Usage}
+use Rattle.pef_top.specs.Names.{SinkState, Status, Command, Build, Query, Answer, Inspect, Generate, Migrate, Audit, Blocks, BlockQuery, Remap, Segments, Export, IntervalQuery, Outside, GotText, Outcome, Builds, Migrates, Exports, Queries, migrate_format, WritesBlocks, Remaps, Answers, QueriesBlocks, AnswersSegments, Usage}
 use Rattle.outcomes.specs.declared.status.Status.TheVariants as status
 use Rattle.outcomes.specs.ErrLines.{usage_line}
 use Rattle.commands.specs.Texts.{Inspects, Generates, Audits}
@@ -29,3 +29,4 @@ Performs (Some (BlockQuery index side)) = QueriesBlocks index side
 Performs (Some (Remap base map to)) = Remaps base map to
 Performs (Some (Segments indexes plan)) = AnswersSegments indexes
 Performs (Some (Export index base)) = Exports index base
+Performs (Some (IntervalQuery index)) = Queries index

@@ -2,7 +2,7 @@
 pub use Rattle.command_ends.specs.Products.{File, Files, Product, Replies, Text, WritesTo, builds_words, prints, reads_input}
 pub use Rattle.command_ends.specs.Sources.{CollectionAt, IndexAt, IndexesAt, MapAt, Nothing, ReadsFrom, SideAt, Source}
 pub use Rattle.command_ends.specs.declared.devices.Devices.{Devices}
-pub use Rattle.command_line.specs.Command.{Answer, Audit, BlockQuery, Blocks, Build, Command, Export, Generate, Inspect, Migrate, Query, Remap, Segments, command_of, texts}
+pub use Rattle.command_line.specs.Command.{Answer, Audit, BlockQuery, Blocks, Build, Command, Export, Generate, Inspect, IntervalQuery, Migrate, Query, Remap, Segments, command_of, texts}
 pub use Rattle.command_model.specs.Found.{FindsCollection, IsIndexSlot}
 pub use Rattle.commands.specs.Files.{Builds, Exports, Migrates, Remaps, WritesBlocks, migrate_format}
 pub use Rattle.commands.specs.Replies.{Answers, AnswersSegments, Queries, QueriesBlocks, answer_format}

@@ -19,6 +19,7 @@ use commands::build::{NewIndex, build};
 use commands::export::export;
 use commands::generate::{GeneratedCollection, generate};
 use commands::inspect::inspect;
+use commands::iquery::iquery;
 use commands::joining::segments;
 use commands::migrate::{Rewrite, migrate};
 use commands::query::query;
@@ -46,7 +47,8 @@ use step_count::Steps;
 /// documents, and writes the files NEW.docs, NEW.freqs and NEW.sizes of its image. `segments INDEX.. [--plan PLAN]` checks each of 1 to
 /// 64 files whole, and answers the lines from the collection to which their indexes are joined. `pack BASE NEW` is `build` with a packed
 /// file in place of a plain one, and `repack OLD NEW` is `migrate` so. `export INDEX BASE` checks the file INDEX whole and writes the files
-/// BASE.docs, BASE.freqs and BASE.sizes of its collection. Every status but `Done` has its line on err, which takes no memory; an err that
+/// BASE.docs, BASE.freqs and BASE.sizes of its collection. `iquery INDEX` answers as `query` does, `top` by the greatest frequencies of
+/// short runs of documents, which it makes behind the check of the file. Every status but `Done` has its line on err, which takes no memory; an err that
 /// fails changes no status.
 pub fn run<D: Depot, I: Source, O: Sink, E: Sink, L: Ledger>(
     alloc: Global,
@@ -214,6 +216,7 @@ fn carry_out<D: Depot, I: Source, O: Sink, L: Ledger>(
         Command::Remap { base, map, to } => remap(alloc, base, map, to, on.depot),
         Command::Segments { indexes, plan } => segments(alloc, indexes, plan, on),
         Command::Export { index, base } => export(alloc, index, base, on.depot),
+        Command::IntervalQuery { index } => iquery(alloc, index, on),
     }
 }
 

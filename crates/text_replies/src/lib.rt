@@ -4,6 +4,6 @@
 mod lines;
 mod text;
 
-pub use line_replies::SideLists;
-pub use text::{RunFault, answer_by_blocks, answer_joined, answer_text};
+pub use line_replies::{IntervalLists, SideLists};
+pub use text::{RunFault, answer_by_blocks, answer_by_intervals, answer_joined, answer_text};
 pub use topk_pruning::Plan;

@@ -9,7 +9,7 @@ ghost use Rattle.text_replies.specs.Faults.{input_fault, out_fault};
 use crate::lines::{Held, answer_line, answer_piece};
 use index_file::Index;
 use io_traits::{IoFail, Sink, Source};
-use line_replies::{IndexLists, JoinedLists, SideLists, TermLists};
+use line_replies::{IndexLists, IntervalLists, JoinedLists, SideLists, TermLists};
 use no_memory::NoMemory;
 use open_index::OpenIndex;
 use std::alloc::Global;
@@ -65,6 +65,21 @@ pub fn answer_by_blocks<I: Source, O: Sink>(
     out: &mut O,
 ) -> Result<(), RunFault>
     ensures { AnswersText (index_seen lists.now.blocks.now).collection limit (I.state input.old)
+        (I.state input.new) (O.state out.old) (O.state out.new) result }
+{
+    answer_from(lists, &mut Held::new(alloc), input, limit, out)
+}
+
+/// Answers the lines of the input from an opened index and the maxima of its lists, as `answer_text`
+/// does; `top` is answered by intervals.
+pub fn answer_by_intervals<I: Source, O: Sink>(
+    alloc: Global,
+    lists: &IntervalLists<'_, '_>,
+    input: &mut I,
+    limit: u64,
+    out: &mut O,
+) -> Result<(), RunFault>
+    ensures { AnswersText lists.now.lists.index.now.collection limit (I.state input.old)
         (I.state input.new) (O.state out.old) (O.state out.new) result }
 {
     answer_from(lists, &mut Held::new(alloc), input, limit, out)

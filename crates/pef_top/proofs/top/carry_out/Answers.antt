@@ -35,3 +35,6 @@ returns-in-Segments-clause-leaves g c = λ e e'. rw c.in-Segments.is (c.segments
 
 pub returns-in-Export-clause-leaves : goal.returns-in-Export-clause-leaves
 returns-in-Export-clause-leaves g c = λ e e'. rw c.in-Export.is (c.export.ensures _ _ e e' _)
+
+pub returns-in-IntervalQuery-clause-leaves : goal.returns-in-IntervalQuery-clause-leaves
+returns-in-IntervalQuery-clause-leaves g c = λ e e'. rw c.in-IntervalQuery.is (c.iquery.ensures.leaves e e' _)

@@ -1,0 +1,18 @@
+use Rattle.commands.proofs.Names.{IndexAt, loaded_as, NoMemory}
+use Rattle.commands.proofs.FilesRead.{wanted}
+use Rattle.commands.proofs.RepliesMade.{replies_made, replies_stopped}
+use Rattle.commands.proofs.iquery.iquery.Goals as goal
+
+pub returns-in_err-opened-clause-leaves : goal.returns-in_err-opened-clause-leaves
+returns-in_err-opened-clause-leaves g c = λ e e' n. replies_stopped (IndexAt c.args.index.now) e e' n c.in_err-opened.field-0.0 c.from_residual.result c.from_residual.ensures.1 c.in_err-opened.ensures.refused
+
+pub returns-in_err-maxima-clause-leaves : goal.returns-in_err-maxima-clause-leaves
+returns-in_err-maxima-clause-leaves g c = λ e e' n.
+    replies_stopped (IndexAt c.args.index.now) e e' n NoMemory c.from_residual-in_err-maxima.result c.from_residual-in_err-maxima.ensures.1 (wanted (IndexAt c.args.index.now) c.in_ok-opened.ensures.loaded.read)
+
+pub returns-clause-leaves : goal.returns-clause-leaves
+returns-clause-leaves g c = λ e e' n.
+    let index = c.index-index.result in
+    let w = loaded_as c.args.index.now _ _ c.in_ok-opened.opened index c.in_ok-opened.ensures.loaded c.index-index.ensures in
+    replies_made (IndexAt c.args.index.now) e e' n w.read index.collection (index.format, index.parts, w.found) c.answer_by_intervals-answered.result (rw c.new-lists.ensures at c.answer_by_intervals-answered.ensures)
+    c.after_answering.result c.after_answering.ensures

@@ -1,0 +1,2 @@
+pub mod LongLists
+pub mod IndexMaxima
