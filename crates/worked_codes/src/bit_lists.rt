@@ -103,8 +103,7 @@ fn padded(alloc: Global) -> Result<(u64, u64, Vec<u64>), NoMemory> {
 #[test]
 fn pads_to_a_word(rt: HostRuntime) -> Result<(), Fail> {
     let (none, word, words) = padded(rt.alloc())?;
-    assert_eq!(rt; (none, word), (0, 64));
-    assert_eq!(rt; words.as_slice(), [5].as_slice());
+    assert_eq!(rt; (none, word, words.as_slice()), (0, 64, [5].as_slice()));
     Ok(())
 }
 
@@ -118,21 +117,24 @@ fn cut(alloc: Global, kept: u64) -> Result<(u64, Vec<u64>), NoMemory> {
     Ok((len, writer.into_words()))
 }
 
+// Of 130 bits: how many are kept, how many there are then, and the words with a field behind them.
+const CUTS: [(u64, u64, &[u64]); 10] = [
+    (0, 0, &[0b10]),
+    (1, 1, &[0b101]),
+    (63, 63, &[0x7fff_ffff_ffff_ffff, 1]),
+    (64, 64, &[u64::MAX, 0b10]),
+    (65, 65, &[u64::MAX, 0b101]),
+    (127, 127, &[u64::MAX, 0x7fff_ffff_ffff_ffff, 1]),
+    (128, 128, &[u64::MAX, u64::MAX, 0b10]),
+    (130, 130, &[u64::MAX, u64::MAX, 0b1011]),
+    (131, 130, &[u64::MAX, u64::MAX, 0b1011]),
+    (u64::MAX, 130, &[u64::MAX, u64::MAX, 0b1011]),
+];
+
 // The first of 130 ones, and a field behind them: how many are kept, how many there are then, and the words.
 #[test]
 fn keeps_the_first_bits(rt: HostRuntime) -> Result<(), Fail> {
-    for (kept, len, want) in [
-        (0, 0, &[0b10][..]),
-        (1, 1, &[0b101]),
-        (63, 63, &[0x7fff_ffff_ffff_ffff, 1]),
-        (64, 64, &[u64::MAX, 0b10]),
-        (65, 65, &[u64::MAX, 0b101]),
-        (127, 127, &[u64::MAX, 0x7fff_ffff_ffff_ffff, 1]),
-        (128, 128, &[u64::MAX, u64::MAX, 0b10]),
-        (130, 130, &[u64::MAX, u64::MAX, 0b1011]),
-        (131, 130, &[u64::MAX, u64::MAX, 0b1011]),
-        (u64::MAX, 130, &[u64::MAX, u64::MAX, 0b1011]),
-    ] {
+    for &(kept, len, want) in &CUTS {
         let (bits, words) = cut(rt.alloc(), kept)?;
         assert_eq!(rt; (bits, words.as_slice()), (len, want), "{kept} kept");
     }
@@ -152,7 +154,7 @@ fn found(bits: &Bits<'_>, from: u64, to: u64) -> Option<(u64, Option<u64>)> {
 fn counts_and_finds_ones(rt: HostRuntime) {
     let words = [0x8000_0000_0000_0009_u64, 0, 0x6];
     let bits = Bits { words: &words };
-    for (from, to, ones, first) in [
+    for &(from, to, ones, first) in &[
         // Inside one word, and empty.
         (0, 0, 0, None),
         (0, 1, 1, Some(0)),
@@ -246,13 +248,13 @@ fn gives_ones(bits: &Bits<'_>, from: u64, to: u64) -> bool {
 // The places of the ones of each range of three words, one after the other and then none.
 #[test]
 fn gives_the_ones_of_each_range(rt: HostRuntime) {
-    for words in [
+    for words in &[
         [u64::MAX; 3],
         [0; 3],
         [0x5555_5555_5555_5555; 3],
         [0x8000_0000_0000_0009, 0, 0x8000_0000_0000_0006],
     ] {
-        let bits = Bits { words: &words };
+        let bits = Bits { words };
         for to in 0..193_u64 {
             for from in 0..to + 1 {
                 assert!(rt; gives_ones(&bits, from, to), "from {from} to {to}");
@@ -275,21 +277,24 @@ fn one_after(alloc: Global, begun: u32, zeros: u64) -> Result<Option<(u64, Vec<u
     Ok(Some((writer.len(), writer.into_words())))
 }
 
+// Bits of a word that is begun and zeros behind them: how many bits with the one, and the words.
+const ONES_AFTER: [(u32, u64, u64, &[u64]); 10] = [
+    (0, 0, 65, &[7, 1]),
+    (0, 63, 128, &[7, 0x8000_0000_0000_0000]),
+    (0, 64, 129, &[7, 0, 1]),
+    (3, 0, 68, &[7, 8]),
+    (3, 60, 128, &[7, 0x8000_0000_0000_0000]),
+    (3, 61, 129, &[7, 0, 1]),
+    (3, 125, 193, &[7, 0, 0, 1]),
+    (63, 0, 128, &[7, 0x8000_0000_0000_0000]),
+    (63, 1, 129, &[7, 0, 1]),
+    (63, 130, 258, &[7, 0, 0, 0, 2]),
+];
+
 // Zeros and then a one, behind the bits of a word: how many zeros, the place of the one, and the words.
 #[test]
 fn puts_a_one_after_zeros(rt: HostRuntime) -> Result<(), Fail> {
-    for (begun, zeros, len, want) in [
-        (0, 0, 65, &[7_u64, 1][..]),
-        (0, 63, 128, &[7, 0x8000_0000_0000_0000]),
-        (0, 64, 129, &[7, 0, 1]),
-        (3, 0, 68, &[7, 8]),
-        (3, 60, 128, &[7, 0x8000_0000_0000_0000]),
-        (3, 61, 129, &[7, 0, 1]),
-        (3, 125, 193, &[7, 0, 0, 1]),
-        (63, 0, 128, &[7, 0x8000_0000_0000_0000]),
-        (63, 1, 129, &[7, 0, 1]),
-        (63, 130, 258, &[7, 0, 0, 0, 2]),
-    ] {
+    for &(begun, zeros, len, want) in &ONES_AFTER {
         assert!(rt; begun < 64 && zeros < 192);
         let (bits, words) = one_after(rt.alloc(), begun, zeros)?.expect(&rt, "64 bits");
         assert_eq!(rt;
@@ -323,7 +328,7 @@ fn numbered(
 fn finds_by_number(rt: HostRuntime) {
     let words = [0x8000_0000_0000_0009_u64, 0, 0x6];
     let bits = Bits { words: &words };
-    for (from, to, n, one, back, zero) in [
+    for &(from, to, n, one, back, zero) in &[
         (0, 192, 0, Some(0), Some(130), Some(1)),
         (0, 192, 2, Some(63), Some(63), Some(4)),
         (0, 192, 4, Some(130), Some(0), Some(6)),

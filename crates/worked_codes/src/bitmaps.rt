@@ -11,8 +11,9 @@ use std::test::Fail;
 
 // 0, 5 with a sample every four places: how many bits, and the words.
 fn two_numbers(alloc: Global) -> Result<(u64, Vec<u64>), NoMemory> {
+    let values: &[u64] = &[0, 5];
     let mut writer = BitWriter::new(alloc)?;
-    map_write::<4>(&[0, 5], 6, &mut writer)?;
+    map_write::<4, _>(values, 6, &mut writer)?;
     Ok((writer.len(), writer.into_words()))
 }
 
@@ -20,8 +21,7 @@ fn two_numbers(alloc: Global) -> Result<(u64, Vec<u64>), NoMemory> {
 #[test]
 fn writes_two_numbers(rt: HostRuntime) -> Result<(), Fail> {
     let (bits, words) = two_numbers(rt.alloc())?;
-    assert_eq!(rt; bits, 8);
-    assert_eq!(rt; words.as_slice(), [97].as_slice());
+    assert_eq!(rt; (bits, words.as_slice()), (8, [97].as_slice()));
     Ok(())
 }
 
@@ -76,10 +76,10 @@ fn next_of_599(words: &[u64], x: u64, from: u64) -> Option<(u64, u64)> {
 #[test]
 fn reads_many_numbers(rt: HostRuntime) {
     let words = words_of_600(511);
-    for (k, number) in [(0, 0), (299, 299), (300, 301), (598, 599)] {
+    for &(k, number) in &[(0, 0), (299, 299), (300, 301), (598, 599)] {
         assert_eq!(rt; number_of_599(&words, 0, k), Some(number), "{k}");
     }
-    for (x, from, place, number) in [
+    for &(x, from, place, number) in &[
         (300, 0, 300, 301),
         (300, 400, 400, 401),
         (299, 0, 299, 299),
@@ -104,21 +104,23 @@ fn kept(view: &MapView<'_, 512>, from: u64) -> (usize, [u64; 2]) {
     (words, marks)
 }
 
+// A place, how many words of marks are told from there on, and what is left of them.
+const MARKS: [(u64, usize, [u64; 2]); 7] = [
+    (0, 2, [u64::MAX, u64::MAX]),
+    (250, 2, [!(1 << 50), u64::MAX]),
+    (200, 2, [u64::MAX, !(1 << 36)]),
+    (472, 2, [u64::MAX, u64::MAX]),
+    (473, 1, [u64::MAX, u64::MAX]),
+    (537, 0, [u64::MAX, u64::MAX]),
+    (u64::MAX, 0, [u64::MAX, u64::MAX]),
+];
+
 // 599 of 600 places: the marks of whole words of places.
 #[test]
 fn keeps_marks_in_whole_words(rt: HostRuntime) {
-    let all = u64::MAX;
     let words = words_of_600(511);
     let view = MapView::<512>::at(PlacedPart::at(Bits { words: &words }, 0, 600, 599));
-    for (from, count, marks) in [
-        (0, 2, [all, all]),
-        (250, 2, [!(1 << 50), all]),
-        (200, 2, [all, !(1 << 36)]),
-        (472, 2, [all, all]),
-        (473, 1, [all, all]),
-        (537, 0, [all, all]),
-        (u64::MAX, 0, [all, all]),
-    ] {
+    for &(from, count, marks) in &MARKS {
         assert_eq!(rt; kept(&view, from), (count, marks), "from {from}");
     }
 }
@@ -126,14 +128,14 @@ fn keeps_marks_in_whole_words(rt: HostRuntime) {
 // 599 of 600 places with another sample, with fewer words, and at a later place.
 #[test]
 fn refuses_other_bits(rt: HostRuntime) {
-    assert_eq!(rt; number_of_599(&words_of_600(510), 0, 0), None);
     let words = words_of_600(511);
-    assert_eq!(rt; number_of_599(&words[..9], 0, 0), None);
-    assert_eq!(rt; number_of_599(&words, 31, 0), None);
+    let other = number_of_599(&words_of_600(510), 0, 0);
+    let fewer = number_of_599(&words[..9], 0, 0);
+    let later = number_of_599(&words, 31, 0);
     // The widest universe takes far more words.
-    assert!(rt;
-        !MapView::<512>::at(PlacedPart::at(Bits { words: &words }, 0, 1 << 48, 1 << 47)).check()
-    );
+    let widest = PlacedPart::at(Bits { words: &words }, 0, 1 << 48, 1 << 47);
+    let widest = MapView::<512>::at(widest).check();
+    assert_eq!(rt; (other, fewer, later, widest), (None, None, None, false));
 }
 
 // The words of a list, None where it is none of a part of so many places.
@@ -143,7 +145,7 @@ fn written(alloc: Global, values: &[u64], u: u64) -> Result<Option<Vec<u64>>, No
         return Ok(None);
     }
     let mut writer = BitWriter::new(alloc)?;
-    map_write::<512>(values, u, &mut writer)?;
+    map_write::<512, _>(values, u, &mut writer)?;
     Ok(Some(writer.into_words()))
 }
 
@@ -288,31 +290,34 @@ fn last_word(alloc: Global, u: u64, step: u64, gap: (u64, u64)) -> Result<Option
     Ok(words.last().copied())
 }
 
+// Universes, steps and gaps, and the last word of the part of these multiples.
+const PARTS: [(u64, u64, (u64, u64), u64); 15] = [
+    (512, 1, (300, 301), u64::MAX),
+    (513, 1, (300, 301), 1 | 511 << 1),
+    (600, 1, (300, 301), (511 << 24) | ((1 << 24) - 1)),
+    (1025, 1, (300, 301), 1 | 511 << 1 | 1023 << 12),
+    (512, 2, (0, 0), 0xd555_5555_5555_5555),
+    (513, 2, (0, 0), 1 | 256 << 1),
+    (1025, 2, (0, 0), 1 | 256 << 1 | 512 << 11),
+    (512, 3, (64, 448), 0xc924_9249_2492_4924),
+    (513, 3, (64, 448), 1 | 43 << 1),
+    (1025, 3, (64, 448), 1 | 43 << 1 | 214 << 9),
+    (512, 512, (0, 0), 1 << 63),
+    (513, 512, (0, 0), 1 | 1 << 1),
+    (1025, 512, (0, 0), 1 | 1 << 1 | 2 << 3),
+    (1025, 1, (0, 1024), 1),
+    (
+        1900,
+        1,
+        (10, 1890),
+        0x3ff << 34 | 10 << 44 | 10 << 49 | 10 << 54,
+    ),
+];
+
 // Parts without a sample, with one and with two, and the last word of each: marks, and then samples.
 #[test]
 fn reads_what_was_written(rt: HostRuntime) -> Result<(), Fail> {
-    for (u, step, gap, last) in [
-        (512, 1, (300, 301), u64::MAX),
-        (513, 1, (300, 301), 1 | 511 << 1),
-        (600, 1, (300, 301), (511 << 24) | ((1 << 24) - 1)),
-        (1025, 1, (300, 301), 1 | 511 << 1 | 1023 << 12),
-        (512, 2, (0, 0), 0xd555_5555_5555_5555),
-        (513, 2, (0, 0), 1 | 256 << 1),
-        (1025, 2, (0, 0), 1 | 256 << 1 | 512 << 11),
-        (512, 3, (64, 448), 0xc924_9249_2492_4924),
-        (513, 3, (64, 448), 1 | 43 << 1),
-        (1025, 3, (64, 448), 1 | 43 << 1 | 214 << 9),
-        (512, 512, (0, 0), 1 << 63),
-        (513, 512, (0, 0), 1 | 1 << 1),
-        (1025, 512, (0, 0), 1 | 1 << 1 | 2 << 3),
-        (1025, 1, (0, 1024), 1),
-        (
-            1900,
-            1,
-            (10, 1890),
-            0x3ff << 34 | 10 << 44 | 10 << 49 | 10 << 54,
-        ),
-    ] {
+    for &(u, step, gap, last) in &PARTS {
         let word = last_word(rt.alloc(), u, step, gap)?;
         assert_eq!(rt; word, Some(last), "{u} by {step}");
     }

@@ -28,16 +28,19 @@ fn written(alloc: Global, values: &[u64], u: u64) -> Result<Option<(u64, Vec<u64
     Ok(Some((writer.len(), writer.into_words())))
 }
 
+// Values and their universe, how many bits their part takes, and its words.
+const FORMS: [(&[u64], u64, u64, &[u64]); 4] = [
+    (&[3, 700], 701, 20, &[770_105]),
+    (&[0, 5], 6, 6, &[33]),
+    (&[0, 1, 2], 3, 0, &[]),
+    (&[281_474_976_710_655], 1 << 48, 49, &[562_949_953_421_310]),
+];
+
 // Values far apart, in Elias-Fano form; near ones, as a bitmap; all of a universe, which take no bits; and the greatest number below
 // 2^48, alone. How many bits they take, and the words.
 #[test]
 fn writes_each_form(rt: HostRuntime) -> Result<(), Fail> {
-    for (values, u, len, want) in [
-        (&[3, 700][..], 701, 20, &[770_105][..]),
-        (&[0, 5], 6, 6, &[33]),
-        (&[0, 1, 2], 3, 0, &[]),
-        (&[281_474_976_710_655], 1 << 48, 49, &[562_949_953_421_310]),
-    ] {
+    for &(values, u, len, want) in &FORMS {
         assert!(rt; u <= 1 << 48);
         let (bits, words) = written(rt.alloc(), values, u)?.expect(&rt, "a part");
         assert_eq!(rt; (bits, words.as_slice()), (len, want), "in {u}");
@@ -125,23 +128,42 @@ fn sought(view: &PartView, k: u64, number: u64, x: u64) -> (u64, u64, u64)
     (sought.place, sought.there, sought.number)
 }
 
+// Whether values far apart are found in Elias-Fano form, by the form itself and by its kind.
+fn finds_far() -> bool {
+    let part = PlacedPart::at(Bits { words: &[770_105] }, 0, 701, 2);
+    let (ef, view) = (EfView::<128>::at(part), PartView::at(part));
+    finds(&ef, 4, 0, 1, 700)
+        && follows(&ef, 0, 700)
+        && finds(&view, 3, 0, 0, 3)
+        && follows(&view, 0, 700)
+        && sought(&view, 0, 3, 4) == (1, 700, 700)
+}
+
+// Whether near ones are found in a bitmap.
+fn finds_near() -> bool {
+    let part = PlacedPart::at(Bits { words: &[33] }, 0, 6, 2);
+    let (map, view) = (MapView::<512>::at(part), PartView::at(part));
+    finds(&map, 1, 0, 1, 5)
+        && follows(&map, 0, 5)
+        && finds(&view, 0, 1, 1, 5)
+        && follows(&view, 0, 5)
+        && sought(&view, 0, 0, 1) == (0, 0, 5)
+}
+
+// Whether all of a universe are found.
+fn finds_all() -> bool {
+    let part = PlacedPart::at(Bits { words: &[33] }, 0, 3, 3);
+    let (ones, view) = (OnesView::at(3), PartView::at(part));
+    finds(&ones, 1, 0, 1, 1)
+        && follows(&ones, 0, 1)
+        && finds(&view, 1, 2, 2, 2)
+        && follows(&view, 1, 2)
+}
+
 // Each form of a view, by itself and by its kind.
 #[test]
 fn finds_numbers(rt: HostRuntime) {
-    let part = PlacedPart::at(Bits { words: &[770_105] }, 0, 701, 2);
-    let (ef, view) = (EfView::<128>::at(part), PartView::at(part));
-    assert!(rt; finds(&ef, 4, 0, 1, 700) && follows(&ef, 0, 700));
-    assert!(rt; finds(&view, 3, 0, 0, 3) && follows(&view, 0, 700));
-    assert_eq!(rt; sought(&view, 0, 3, 4), (1, 700, 700));
-    let part = PlacedPart::at(Bits { words: &[33] }, 0, 6, 2);
-    let (map, view) = (MapView::<512>::at(part), PartView::at(part));
-    assert!(rt; finds(&map, 1, 0, 1, 5) && follows(&map, 0, 5));
-    assert!(rt; finds(&view, 0, 1, 1, 5) && follows(&view, 0, 5));
-    assert_eq!(rt; sought(&view, 0, 0, 1), (0, 0, 5));
-    let part = PlacedPart::at(Bits { words: &[33] }, 0, 3, 3);
-    let (ones, view) = (OnesView::at(3), PartView::at(part));
-    assert!(rt; finds(&ones, 1, 0, 1, 1) && follows(&ones, 0, 1));
-    assert!(rt; finds(&view, 1, 2, 2, 2) && follows(&view, 1, 2));
+    assert_eq!(rt; [finds_far(), finds_near(), finds_all()], [true; 3]);
 }
 
 // How many patterns of so many bits are those of a part.
@@ -231,11 +253,19 @@ fn small_lists_and_nothing_else(rt: HostRuntime) {
     }
 }
 
+// Whether two numbers below 7 are accepted at a place of a word, and by how many steps.
+fn checked(words: &[u64; 1], place: u64) -> (bool, Option<u64>)
+    requires { place ≤ 1 }
+{
+    let part = PlacedPart::at(Bits { words }, place, 7, 2);
+    (check_part(part), check_part_steps(part))
+}
+
 // As many patterns are accepted as there are places below u - 1 to choose the other numbers from; of parts that take as many
 // bits in both forms, those of bitmaps.
 #[test]
 fn accepts_each_part_and_nothing_else(rt: HostRuntime) {
-    for (u, m, bits, count) in [
+    for &(u, m, bits, count) in &[
         (3, 3, 0, 1),
         (5, 1, 4, 1),
         (3, 2, 3, 2),
@@ -247,17 +277,9 @@ fn accepts_each_part_and_nothing_else(rt: HostRuntime) {
         assert!(rt; 1 <= m && m <= u && u <= 1 << 48 && bits < 64);
         assert_eq!(rt; patterns(u, m, bits), count, "{m} in {u}");
     }
-    assert!(rt; check_part(PlacedPart::at(Bits { words: &[65] }, 0, 7, 2)));
-    assert!(rt; check_part(PlacedPart::at(Bits { words: &[130] }, 1, 7, 2)));
-    assert!(rt; !check_part(PlacedPart::at(Bits { words: &[130] }, 0, 7, 2)));
-    assert_eq!(rt;
-        check_part_steps(PlacedPart::at(Bits { words: &[65] }, 0, 7, 2)),
-        Some(6)
-    );
-    assert_eq!(rt;
-        check_part_steps(PlacedPart::at(Bits { words: &[130] }, 0, 7, 2)),
-        None
-    );
+    assert_eq!(rt; checked(&[65], 0), (true, Some(6)));
+    assert_eq!(rt; checked(&[130], 0), (false, None));
+    assert!(rt; checked(&[130], 1).0);
 }
 
 // The first row of a table that a view of so many values does not give: a place, an end, how much room, and the values.
@@ -277,59 +299,74 @@ fn misgiven<'a, C: PartCodec<'a>>(
     None
 }
 
+// Rows of values far apart, in Elias-Fano form: a place, an end, how much room, and the values.
+const BELOW_FAR: [(u64, u64, usize, &[u64]); 9] = [
+    (0, 701, 4, &[3, 700]),
+    (0, 700, 4, &[3]),
+    (0, 4, 4, &[3]),
+    (0, 3, 4, &[]),
+    (0, 701, 1, &[3]),
+    (0, 701, 0, &[]),
+    (1, 701, 4, &[700]),
+    (1, u64::MAX, 4, &[700]),
+    (1, 0, 4, &[]),
+];
+
 // The first such row of each form of a view, by its kind and by itself: values far apart, in Elias-Fano form.
 fn misgiven_far() -> Option<(u64, u64, usize)> {
-    let rows: [(u64, u64, usize, &[u64]); 9] = [
-        (0, 701, 4, &[3, 700]),
-        (0, 700, 4, &[3]),
-        (0, 4, 4, &[3]),
-        (0, 3, 4, &[]),
-        (0, 701, 1, &[3]),
-        (0, 701, 0, &[]),
-        (1, 701, 4, &[700]),
-        (1, u64::MAX, 4, &[700]),
-        (1, 0, 4, &[]),
-    ];
     let part = PlacedPart::at(Bits { words: &[770_105] }, 0, 701, 2);
-    misgiven(&PartView::at(part), 2, &rows).or(misgiven(&EfView::<128>::at(part), 2, &rows))
+    misgiven(&PartView::at(part), 2, &BELOW_FAR).or(misgiven(
+        &EfView::<128>::at(part),
+        2,
+        &BELOW_FAR,
+    ))
 }
+
+// Of near ones, as a bitmap.
+const BELOW_NEAR: [(u64, u64, usize, &[u64]); 7] = [
+    (0, 6, 4, &[0, 5]),
+    (0, 5, 4, &[0]),
+    (0, 0, 4, &[]),
+    (0, 6, 1, &[0]),
+    (0, 6, 0, &[]),
+    (1, 6, 4, &[5]),
+    (1, u64::MAX, 4, &[5]),
+];
 
 // Near ones, as a bitmap.
 fn misgiven_near() -> Option<(u64, u64, usize)> {
-    let rows: [(u64, u64, usize, &[u64]); 7] = [
-        (0, 6, 4, &[0, 5]),
-        (0, 5, 4, &[0]),
-        (0, 0, 4, &[]),
-        (0, 6, 1, &[0]),
-        (0, 6, 0, &[]),
-        (1, 6, 4, &[5]),
-        (1, u64::MAX, 4, &[5]),
-    ];
     let part = PlacedPart::at(Bits { words: &[33] }, 0, 6, 2);
-    misgiven(&PartView::at(part), 2, &rows).or(misgiven(&MapView::<512>::at(part), 2, &rows))
+    misgiven(&PartView::at(part), 2, &BELOW_NEAR).or(misgiven(
+        &MapView::<512>::at(part),
+        2,
+        &BELOW_NEAR,
+    ))
 }
+
+// Of all of a universe.
+const BELOW_ALL: [(u64, u64, usize, &[u64]); 7] = [
+    (0, 3, 4, &[0, 1, 2]),
+    (0, 2, 4, &[0, 1]),
+    (0, 0, 4, &[]),
+    (0, 3, 1, &[0]),
+    (0, 3, 0, &[]),
+    (1, 3, 4, &[1, 2]),
+    (2, u64::MAX, 4, &[2]),
+];
 
 // All of a universe.
 fn misgiven_all() -> Option<(u64, u64, usize)> {
-    let rows: [(u64, u64, usize, &[u64]); 7] = [
-        (0, 3, 4, &[0, 1, 2]),
-        (0, 2, 4, &[0, 1]),
-        (0, 0, 4, &[]),
-        (0, 3, 1, &[0]),
-        (0, 3, 0, &[]),
-        (1, 3, 4, &[1, 2]),
-        (2, u64::MAX, 4, &[2]),
-    ];
     let part = PlacedPart::at(Bits { words: &[33] }, 0, 3, 3);
-    misgiven(&PartView::at(part), 3, &rows).or(misgiven(&OnesView::at(3), 3, &rows))
+    misgiven(&PartView::at(part), 3, &BELOW_ALL).or(misgiven(&OnesView::at(3), 3, &BELOW_ALL))
 }
 
 // From the first place and from the last, below a value and one more, with room for none, for one and for more than there are.
 #[test]
 fn gives_numbers_below(rt: HostRuntime) {
-    assert_eq!(rt; misgiven_far(), None);
-    assert_eq!(rt; misgiven_near(), None);
-    assert_eq!(rt; misgiven_all(), None);
+    assert_eq!(rt;
+        [misgiven_far(), misgiven_near(), misgiven_all()],
+        [None; 3]
+    );
 }
 
 // How many words a view tells of two words of marks, and what is left of them.
@@ -342,22 +379,40 @@ fn kept(view: &PartView, from: u64) -> (usize, [u64; 2]) {
     (words, marks)
 }
 
+// The marks of a word: all, and three of every four.
+const ALL_MARKS: u64 = u64::MAX;
+
+const MOST_MARKS: u64 = 0xeeee_eeee_eeee_eeee;
+
+// A place, and of either view how many words of marks it tells from there on, and what is left.
+const MARKS: [(u64, (usize, [u64; 2]), (usize, [u64; 2])); 5] = [
+    (
+        0,
+        (2, [ALL_MARKS, ALL_MARKS]),
+        (2, [MOST_MARKS, MOST_MARKS]),
+    ),
+    (
+        2,
+        (2, [ALL_MARKS, ALL_MARKS]),
+        (1, [0xbbbb_bbbb_bbbb_bbbb, ALL_MARKS]),
+    ),
+    (66, (1, [ALL_MARKS, ALL_MARKS]), (0, [ALL_MARKS, ALL_MARKS])),
+    (67, (0, [ALL_MARKS, ALL_MARKS]), (0, [ALL_MARKS, ALL_MARKS])),
+    (
+        u64::MAX,
+        (0, [ALL_MARKS, ALL_MARKS]),
+        (0, [ALL_MARKS, ALL_MARKS]),
+    ),
+];
+
 // All of 130 places, three of every four of 128, and two numbers in Elias-Fano form.
 #[test]
 fn keeps_marks_in_whole_words(rt: HostRuntime) {
-    let all = u64::MAX;
-    let some = 0xeeee_eeee_eeee_eeee;
-    let words = [some, some];
+    let words = [MOST_MARKS, MOST_MARKS];
     let bits = Bits { words: &words };
     let full = PartView::at(PlacedPart::at(bits, 0, 130, 130));
     let most = PartView::at(PlacedPart::at(bits, 0, 128, 96));
-    for (from, of_full, of_most) in [
-        (0, (2, [all, all]), (2, [some, some])),
-        (2, (2, [all, all]), (1, [0xbbbb_bbbb_bbbb_bbbb, all])),
-        (66, (1, [all, all]), (0, [all, all])),
-        (67, (0, [all, all]), (0, [all, all])),
-        (u64::MAX, (0, [all, all]), (0, [all, all])),
-    ] {
+    for &(from, of_full, of_most) in &MARKS {
         assert_eq!(rt;
             (kept(&full, from), kept(&most, from)),
             (of_full, of_most),
@@ -365,5 +420,5 @@ fn keeps_marks_in_whole_words(rt: HostRuntime) {
         );
     }
     let far = PartView::at(PlacedPart::at(Bits { words: &[770_105] }, 0, 701, 2));
-    assert_eq!(rt; kept(&far, 0), (0, [all, all]));
+    assert_eq!(rt; kept(&far, 0), (0, [ALL_MARKS, ALL_MARKS]));
 }

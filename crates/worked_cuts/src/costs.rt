@@ -5,6 +5,7 @@ ghost use Rattle.collection_model.specs.FormatNumbers.{part_charge};
 ghost use Rattle.part_cost.specs.Formats.{numbers_of};
 ghost use Rattle.part_cost.specs.Span.{cost_of_part};
 
+use crate::partitions::is_sequence;
 use part_cost::{Format, Kind, ListCost, SpanCost, digits, kind, low_width, payload_bits};
 use std::marker::Brand;
 use std::sync::ledger::{Blank, Ledger};
@@ -12,7 +13,7 @@ use step_count::Steps;
 
 #[test]
 fn digits_of_numbers(rt: HostRuntime) {
-    for (n, count) in [
+    for &(n, count) in &[
         (0, 0),
         (1, 1),
         (2, 2),
@@ -27,24 +28,25 @@ fn digits_of_numbers(rt: HostRuntime) {
 
 #[test]
 fn numbers_of_formats(rt: HostRuntime) {
-    let rows = [
+    let rows = &[
         (Format::One, 268_435_455, 1 << 36, 2, 128, 4096, 1),
         (Format::Two, 4_294_967_295, 1 << 48, 3, 192, 6144, 2),
         (Format::Three, 4_294_967_295, 1 << 48, 2, 128, 4096, 3),
     ];
-    for (format, documents, sum, words, charge, limit, version) in rows {
-        assert_eq!(rt; format.most_documents(), documents, "{format:?}");
-        assert_eq!(rt; format.most_sum(), sum, "{format:?}");
-        assert_eq!(rt; format.entry_words(), words, "{format:?}");
-        assert_eq!(rt; format.charge(), charge, "{format:?}");
-        assert_eq!(rt; format.limit(), limit, "{format:?}");
-        assert_eq!(rt; format.version(), version, "{format:?}");
+    for &(format, documents, sum, words, charge, limit, version) in rows {
+        let most = (format.most_documents(), format.most_sum(), format.limit());
+        let told = (format.entry_words(), format.charge(), format.version());
+        assert_eq!(rt;
+            (most, told),
+            ((documents, sum, limit), (words, charge, version)),
+            "{format:?}"
+        );
     }
 }
 
 #[test]
 fn parts_by_universe_and_count(rt: HostRuntime) {
-    let rows = [
+    let rows = &[
         (3, 2, Kind::Bitmap, 3),
         (6, 2, Kind::Bitmap, 6),
         (7, 7, Kind::Ones, 0),
@@ -59,16 +61,19 @@ fn parts_by_universe_and_count(rt: HostRuntime) {
         (1 << 48, (1 << 48) - 1, Kind::Bitmap, 307_863_255_777_232),
         (1 << 48, 1 << 48, Kind::Ones, 0),
     ];
-    for (u, m, form, bits) in rows {
+    for &(u, m, form, bits) in rows {
         assert!(rt; 1 <= m && m <= u && u <= 1 << 48);
-        assert_eq!(rt; kind(u, m), form, "{m} in {u}");
-        assert_eq!(rt; payload_bits(u, m), bits, "{m} in {u}");
+        assert_eq!(rt;
+            (kind(u, m), payload_bits(u, m)),
+            (form, bits),
+            "{m} in {u}"
+        );
     }
 }
 
 #[test]
 fn low_widths(rt: HostRuntime) {
-    for (u, m, low) in [
+    for &(u, m, low) in &[
         (1, 1, 0),
         (6, 2, 1),
         (701, 2, 8),
@@ -110,43 +115,26 @@ fn cost_of<L: Ledger>(blank: Blank, values: &[u64], format: Format, i: u64, j: u
     cost_by(&ListCost::new(values, format), i, j, &mut steps)
 }
 
+// A list and a format, from which place to which a part of it is, and what the part costs.
+const COSTS: [(&[u64], Format, u64, u64, u64); 8] = [
+    (&[0, 2], Format::One, 0, 2, 131),
+    (&[0, 5], Format::One, 0, 2, 134),
+    (&[68_719_476_735], Format::One, 0, 1, 165),
+    (&[0, 2], Format::Two, 0, 2, 195),
+    (&[281_474_976_710_655], Format::Two, 0, 1, 241),
+    (&[0, 2], Format::Three, 0, 2, 131),
+    (&[281_474_976_710_655], Format::Three, 0, 1, 177),
+    (&[0, 4, 9], Format::One, 1, 3, 136),
+];
+
 #[test]
 fn costs_of_lists(rt: HostRuntime) {
-    assert_eq!(rt;
-        cost_of::<Brand>(Blank::new(1), &[0, 2], Format::One, 0, 2),
-        131
-    );
-    assert_eq!(rt;
-        cost_of::<Brand>(Blank::new(1), &[0, 5], Format::One, 0, 2),
-        134
-    );
-    assert_eq!(rt;
-        cost_of::<Brand>(Blank::new(1), &[68_719_476_735], Format::One, 0, 1),
-        165
-    );
-    assert_eq!(rt;
-        cost_of::<Brand>(Blank::new(1), &[0, 2], Format::Two, 0, 2),
-        195
-    );
-    assert_eq!(rt;
-        cost_of::<Brand>(Blank::new(1), &[281_474_976_710_655], Format::Two, 0, 1),
-        241
-    );
-    assert_eq!(rt;
-        cost_of::<Brand>(Blank::new(1), &[0, 2], Format::Three, 0, 2),
-        131
-    );
-    assert_eq!(rt;
-        cost_of::<Brand>(Blank::new(1), &[281_474_976_710_655], Format::Three, 0, 1),
-        177
-    );
-    assert_eq!(rt;
-        cost_of::<Brand>(Blank::new(1), &[0, 4, 9], Format::One, 1, 3),
-        136
-    );
-    assert_eq!(rt; ListCost::new(&[0, 4, 9], Format::One).len(), 3);
-    assert_eq!(rt;
-        ListCost::new(&[0, 4, 9], Format::Two).format(),
-        Format::Two
-    );
+    for &(values, format, i, j, cost) in &COSTS {
+        assert!(rt; is_sequence(values, format) && i < j && j <= values.len() as u64);
+        let found = cost_of::<Brand>(Blank::new(1), values, format, i, j);
+        assert_eq!(rt; found, cost, "{values:?}, {format:?}");
+    }
+    let len = ListCost::new(&[0, 4, 9], Format::One).len();
+    let format = ListCost::new(&[0, 4, 9], Format::Two).format();
+    assert_eq!(rt; (len, format), (3, Format::Two));
 }

@@ -36,7 +36,7 @@ fn numbers(
 }
 
 // Whether the values are a sequence of this format: they rise, and lie below its greatest sum.
-fn is_sequence(values: &[u64], format: Format) -> bool
+pub(crate) fn is_sequence(values: &[u64], format: Format) -> bool
     ensures rising { IsTrue result → IsStrictlyIncreasing values.now }
     ensures below { IsTrue result → All (λ x. x < (numbers_of format).most_sum) values.now }
     ensures few { IsTrue result → length values.now < 2 ^ 32 }
@@ -183,7 +183,7 @@ fn far_apart(alloc: Global, count: u64) -> Result<Vec<u64>, AllocError>
 #[test]
 fn near_the_cheapest(rt: HostRuntime) -> Result<(), Fail> {
     // A format, a count, a number below it that is left out, a last number; the cheapest total, and 103/100 of it.
-    let rows = [
+    let rows = &[
         (Format::One, 0, 0, None, 0, 0),
         (Format::One, 1_000, 1_000, None, 128, 131),
         (Format::One, 0, 0, Some(68_719_476_735), 165, 165),
@@ -202,7 +202,7 @@ fn near_the_cheapest(rt: HostRuntime) -> Result<(), Fail> {
         (Format::Three, 600, 300, None, 386, 397),
         (Format::Three, 100_000, 100_000, Some(1_000_000), 277, 285),
     ];
-    for (format, count, without, last, least, most) in rows {
+    for &(format, count, without, last, least, most) in rows {
         let values = numbers(rt.alloc(), count, without, last)?;
         assert!(rt; is_sequence(&values, format));
         let found = cuts::<Brand>(rt.alloc(), Blank::new(1), &values, format)?;
@@ -217,48 +217,49 @@ fn all_numbers_are_one_part(rt: HostRuntime) -> Result<(), Fail> {
         let values = numbers(rt.alloc(), 1_000, 1_000, None)?;
         assert!(rt; is_sequence(&values, format));
         let found = cuts::<Brand>(rt.alloc(), Blank::new(1), &values, format)?;
-        assert_eq!(rt; found.ends(), [1_000].as_slice());
-        assert_eq!(rt; found.total(), cost);
+        assert_eq!(rt; (found.ends(), found.total()), ([1_000].as_slice(), cost));
     }
     Ok(())
 }
 
+// A format, a count, a number below it that is left out, a last number; the ends of the parts, and
+// what they cost.
+const IN_PARTS: [(Format, u64, u64, Option<u64>, &[u64], u64); 8] = [
+    (Format::One, 0, 0, None, &[], 0),
+    (Format::One, 1_000, 1_000, None, &[1_000], 128),
+    // The numbers on both sides of the one that is left out take no bits, and the first behind it
+    // takes 2.
+    (Format::One, 600, 300, None, &[300, 301, 599], 386),
+    (
+        Format::One,
+        100_000,
+        100_000,
+        Some(1_000_000),
+        &[100_000, 100_001],
+        277,
+    ),
+    (Format::Two, 0, 0, None, &[], 0),
+    (Format::Two, 1_000, 1_000, None, &[1_000], 192),
+    (Format::Two, 600, 300, None, &[300, 301, 599], 578),
+    (
+        Format::Two,
+        100_000,
+        100_000,
+        Some(1_000_000),
+        &[100_000, 100_001],
+        405,
+    ),
+];
+
 #[test]
 fn lists_in_parts(rt: HostRuntime) -> Result<(), Fail> {
-    // A format, a count, a number below it that is left out, a last number; the ends of the parts, and what they cost.
-    let rows = [
-        (Format::One, 0, 0, None, [].as_slice(), 0),
-        (Format::One, 1_000, 1_000, None, &[1_000], 128),
-        // The numbers on both sides of the one that is left out take no bits, and the first behind it takes 2.
-        (Format::One, 600, 300, None, &[300, 301, 599], 386),
-        (
-            Format::One,
-            100_000,
-            100_000,
-            Some(1_000_000),
-            &[100_000, 100_001],
-            277,
-        ),
-        (Format::Two, 0, 0, None, &[], 0),
-        (Format::Two, 1_000, 1_000, None, &[1_000], 192),
-        (Format::Two, 600, 300, None, &[300, 301, 599], 578),
-        (
-            Format::Two,
-            100_000,
-            100_000,
-            Some(1_000_000),
-            &[100_000, 100_001],
-            405,
-        ),
-    ];
-    for (format, count, without, last, ends, total) in rows {
+    for &(format, count, without, last, ends, total) in &IN_PARTS {
         let values = numbers(rt.alloc(), count, without, last)?;
         assert!(rt; is_sequence(&values, format));
         for whole in [false, true] {
             // Whole, these lists take nothing, or more than their parts.
             let found = list_cuts::<Brand>(rt.alloc(), Blank::new(1), &values, format, whole)?;
-            assert_eq!(rt; found.ends(), ends, "{count}");
-            assert_eq!(rt; found.total(), total, "{count}");
+            assert_eq!(rt; (found.ends(), found.total()), (ends, total), "{count}");
         }
     }
     Ok(())
@@ -274,8 +275,7 @@ fn lists_stored_whole(rt: HostRuntime) -> Result<(), Fail> {
         let values = far_apart(rt.alloc(), 256)?;
         assert!(rt; is_sequence(&values, format));
         let whole = list_cuts::<Brand>(rt.alloc(), Blank::new(1), &values, format, true)?;
-        assert_eq!(rt; whole.ends(), [256].as_slice());
-        assert_eq!(rt; whole.total(), total);
+        assert_eq!(rt; (whole.ends(), whole.total()), ([256].as_slice(), total));
         let parts = list_cuts::<Brand>(rt.alloc(), Blank::new(1), &values, format, false)?;
         assert!(rt; least <= parts.total() && parts.total() <= most);
     }
@@ -285,7 +285,7 @@ fn lists_stored_whole(rt: HostRuntime) -> Result<(), Fail> {
 #[test]
 fn costs_that_do_not_add_up(rt: HostRuntime) -> Result<(), Fail> {
     // How many numbers, and what each part takes; how many parts are the fewest, which cost the least by more than 3/100.
-    for (count, bits, parts) in [
+    for &(count, bits, parts) in &[
         (0, 200, 0),
         (1, 200, 1),
         (10, 200, 1),
@@ -296,9 +296,12 @@ fn costs_that_do_not_add_up(rt: HostRuntime) -> Result<(), Fail> {
         (200, 4_096, 20),
     ] {
         let found = level_cuts::<Brand>(rt.alloc(), Blank::new(1), count, bits)?;
-        assert_eq!(rt; found.ends().len(), parts, "{count}");
-        assert_eq!(rt; found.ends().last().copied().unwrap_or(0), count);
-        assert_eq!(rt; found.total(), parts as u64 * bits, "{count}");
+        let last = found.ends().last().copied().unwrap_or(0);
+        assert_eq!(rt;
+            (found.ends().len(), last, found.total()),
+            (parts, count, parts as u64 * bits),
+            "{count}"
+        );
     }
     Ok(())
 }
@@ -307,7 +310,7 @@ fn costs_that_do_not_add_up(rt: HostRuntime) -> Result<(), Fail> {
 fn the_cheapest_of_all_and_of_the_allowed(rt: HostRuntime) -> Result<(), Fail> {
     // A format, how many numbers; the cheapest cost of an allowed partition, and of any; what all numbers cost as one part, where that
     // is allowed, and where any is.
-    let rows = [
+    let rows = &[
         (Format::One, 0, 0, 0, None, None),
         (Format::One, 1, 149, 149, Some(149), Some(149)),
         // One part of them all is above the limit.
@@ -315,7 +318,7 @@ fn the_cheapest_of_all_and_of_the_allowed(rt: HostRuntime) -> Result<(), Fail> {
         (Format::Two, 256, 5_833, 5_833, Some(5_833), Some(5_833)),
         (Format::Three, 256, 5_886, 5_769, None, Some(5_769)),
     ];
-    for (format, count, allowed, any, whole, one_part) in rows {
+    for &(format, count, allowed, any, whole, one_part) in rows {
         let values = far_apart(rt.alloc(), count)?;
         assert!(rt; is_sequence(&values, format));
         for (limited, least, all) in [(true, allowed, whole), (false, any, one_part)] {
@@ -326,9 +329,11 @@ fn the_cheapest_of_all_and_of_the_allowed(rt: HostRuntime) -> Result<(), Fail> {
                 format,
                 limited,
             )?;
-            assert_eq!(rt; found.least, least, "{count}");
-            assert_eq!(rt; found.whole, all, "{count}");
-            assert_eq!(rt; alone, least, "{count}");
+            assert_eq!(rt;
+                (found.least, found.whole, alone),
+                (least, all, least),
+                "{count}"
+            );
         }
     }
     Ok(())

@@ -97,42 +97,44 @@ fn moved<L: Ledger>(
     Ok([first, second])
 }
 
-#[test]
-fn longest_ends(rt: HostRuntime) -> Result<(), Fail> {
-    let edges = moved::<Brand>(rt.alloc(), Blank::new(1), Format::One)?;
-    assert_eq!(rt;
-        edges[0],
+// In each format the edges of the first three windows and of the last, at each of the two places.
+// The third format has the bounds of the first.
+const ENDS_OF_WINDOWS: [[[Option<(u64, u64)>; 4]; 2]; 3] = [
+    [
         [
             Some((1, 128)),
             Some((1, 128)),
             Some((2, 134)),
-            Some((2, 134))
-        ]
-    );
-    assert_eq!(rt; edges[1], [Some((2, 128)); 4]);
-    let edges = moved::<Brand>(rt.alloc(), Blank::new(1), Format::Two)?;
-    assert_eq!(rt;
-        edges[0],
+            Some((2, 134)),
+        ],
+        [Some((2, 128)); 4],
+    ],
+    [
         [
             Some((1, 192)),
             Some((2, 198)),
             Some((2, 198)),
-            Some((2, 198))
-        ]
-    );
-    assert_eq!(rt; edges[1], [Some((2, 192)); 4]);
-    // The third format has the bounds of the first.
-    let edges = moved::<Brand>(rt.alloc(), Blank::new(1), Format::Three)?;
-    assert_eq!(rt;
-        edges[0],
+            Some((2, 198)),
+        ],
+        [Some((2, 192)); 4],
+    ],
+    [
         [
             Some((1, 128)),
             Some((1, 128)),
             Some((2, 134)),
-            Some((2, 134))
-        ]
-    );
-    assert_eq!(rt; edges[1], [Some((2, 128)); 4]);
+            Some((2, 134)),
+        ],
+        [Some((2, 128)); 4],
+    ],
+];
+
+#[test]
+fn longest_ends(rt: HostRuntime) -> Result<(), Fail> {
+    let one = moved::<Brand>(rt.alloc(), Blank::new(1), Format::One)?;
+    let two = moved::<Brand>(rt.alloc(), Blank::new(1), Format::Two)?;
+    let three = moved::<Brand>(rt.alloc(), Blank::new(1), Format::Three)?;
+    assert_eq!(rt; &[one, two, three], &ENDS_OF_WINDOWS);
     Ok(())
 }
 
@@ -159,7 +161,7 @@ fn bounds_by_the_rule(rt: HostRuntime) {
 
 #[test]
 fn least_bounds(rt: HostRuntime) {
-    for (format, cost, want) in [
+    for &(format, cost, want) in &[
         (Format::One, 128, 128),
         (Format::One, 129, 132),
         (Format::One, 133, 136),

@@ -46,7 +46,7 @@ fn a_list_in_blocks(rt: HostRuntime) {
     let freqs = [1, 3, 1, 9];
     let start = PlainCursor::new(&docs, &freqs);
     let mut cursor = start;
-    for (end, count, docs, freqs) in [
+    for &(end, count, docs, freqs) in &[
         (1, 0, [0, 0], [0, 0]),
         (2, 1, [1, 0], [1, 0]),
         (7, 2, [2, 4], [3, 1]),
@@ -61,7 +61,7 @@ fn a_list_in_blocks(rt: HostRuntime) {
         );
     }
     let mut cursor = start;
-    for (end, count, docs) in [
+    for &(end, count, docs) in &[
         (0, 0, [0, 0]),
         (8, 2, [1, 2]),
         (5, 1, [4, 0]),
@@ -82,12 +82,10 @@ fn a_list_of_three(rt: HostRuntime) {
     let docs = [1, 2, 4];
     let freqs = [1, 3, 1];
     let mut cursor = PlainCursor::new(&docs, &freqs);
-    assert_eq!(rt; cursor.len(), 3);
-    assert_eq!(rt; cursor.max_freq(), 3);
-    assert_eq!(rt; cursor.doc(), Some(1));
+    let told = (cursor.len(), cursor.max_freq(), cursor.doc());
     cursor.advance();
-    assert_eq!(rt; cursor.freq(), 3);
-    for (d, doc) in [
+    assert_eq!(rt; (told, cursor.freq()), ((3, 3, Some(1)), 3));
+    for &(d, doc) in &[
         (0, Some(2)),
         (3, Some(4)),
         (1, Some(4)),
@@ -97,14 +95,13 @@ fn a_list_of_three(rt: HostRuntime) {
         assert_eq!(rt; next_of(&mut cursor, d), doc, "from {d}");
     }
     let empty = PlainCursor::new(&[], &[]);
-    assert_eq!(rt; empty.max_freq(), 0);
-    assert_eq!(rt; empty.doc(), None);
+    assert_eq!(rt; (empty.max_freq(), empty.doc()), (0, None));
 }
 
 #[test]
 fn postings_by_their_frequencies(rt: HostRuntime) {
     let mut cursor = PlainCursor::new(&[1, 2, 4, 7, 9], &[2, 3, 1, 9, 3]);
-    for (f, found) in [
+    for &(f, found) in &[
         (0, Some((2, 1))),
         (3, Some((3, 2))),
         (3, Some((3, 2))),
@@ -115,8 +112,11 @@ fn postings_by_their_frequencies(rt: HostRuntime) {
     ] {
         assert_eq!(rt; frequent_of(&mut cursor, f), found, "at least {f}");
     }
-    assert_eq!(rt; common_to(&cursor, 1), 2);
-    assert_eq!(rt; common_to(&cursor, 5), 1);
-    assert_eq!(rt; common_to(&cursor, 6), 0);
-    assert_eq!(rt; common_to(&PlainCursor::new(&[], &[]), 1), 0);
+    let common = [
+        common_to(&cursor, 1),
+        common_to(&cursor, 5),
+        common_to(&cursor, 6),
+        common_to(&PlainCursor::new(&[], &[]), 1),
+    ];
+    assert_eq!(rt; common, [2, 1, 0, 0]);
 }

@@ -9,7 +9,7 @@ use std::test::Fail;
 fn pushes_up_to_the_most_documents(rt: HostRuntime) {
     let mut segments = Segments::new();
     assert_eq!(rt; (segments.documents(), segments.terms()), (0, 0));
-    for (documents, terms, answer) in [
+    for &(documents, terms, answer) in &[
         (u32::MAX, 1, Ok(0)),
         (1, 1, Err(SegRule::G2)),
         (1, 2, Err(SegRule::G1)),
@@ -67,7 +67,7 @@ fn three_docs_below<C: DocCursor>(cursor: &mut C, end: u64) -> (usize, [u64; 3])
 fn passes_from_part_to_part(rt: HostRuntime) -> Result<(), Fail> {
     let mut cursor = joined(rt.alloc())?;
     assert_eq!(rt; (cursor.len(), cursor.max_freq()), (4, 5));
-    for posting in [Some((0, 1)), Some((2, 5)), Some((4, 1)), Some((6, 5)), None] {
+    for &posting in &[Some((0, 1)), Some((2, 5)), Some((4, 1)), Some((6, 5)), None] {
         assert_eq!(rt; next_posting(&mut cursor), posting);
     }
     Ok(())
@@ -76,7 +76,7 @@ fn passes_from_part_to_part(rt: HostRuntime) -> Result<(), Fail> {
 #[test]
 fn goes_to_a_frequency_across_a_border(rt: HostRuntime) -> Result<(), Fail> {
     let mut cursor = joined(rt.alloc())?;
-    for (f, found) in [
+    for &(f, found) in &[
         (1, Some((0, 1))),
         (2, Some((2, 5))),
         (1, Some((2, 5))),
@@ -84,9 +84,10 @@ fn goes_to_a_frequency_across_a_border(rt: HostRuntime) -> Result<(), Fail> {
     ] {
         assert_eq!(rt; frequent_of(&mut cursor, f), found, "at least {f}");
     }
-    assert_eq!(rt; next_posting(&mut cursor), Some((2, 5)));
-    assert_eq!(rt; frequent_of(&mut cursor, 5), Some((6, 5)));
-    assert_eq!(rt; frequent_of(&mut cursor, 6), None);
+    let next = next_posting(&mut cursor);
+    let five = frequent_of(&mut cursor, 5);
+    let six = frequent_of(&mut cursor, 6);
+    assert_eq!(rt; (next, five, six), (Some((2, 5)), Some((6, 5)), None));
     assert_eq!(rt; (cursor.common_freq(2), cursor.common_freq(3)), (1, 0));
     Ok(())
 }
@@ -94,7 +95,7 @@ fn goes_to_a_frequency_across_a_border(rt: HostRuntime) -> Result<(), Fail> {
 #[test]
 fn goes_to_a_document_across_a_border(rt: HostRuntime) -> Result<(), Fail> {
     let mut cursor = joined(rt.alloc())?;
-    for (d, doc) in [
+    for &(d, doc) in &[
         (1, Some(2)),
         (0, Some(2)),
         (3, Some(4)),
@@ -110,7 +111,7 @@ fn goes_to_a_document_across_a_border(rt: HostRuntime) -> Result<(), Fail> {
 #[test]
 fn reads_blocks_across_a_border(rt: HostRuntime) -> Result<(), Fail> {
     let mut cursor = joined(rt.alloc())?;
-    for (end, count, docs, freqs) in [
+    for &(end, count, docs, freqs) in &[
         (2, 1, [0, 0, 0], [1, 0, 0]),
         (6, 2, [2, 4, 0], [5, 1, 0]),
         (u64::MAX, 1, [6, 0, 0], [5, 0, 0]),
@@ -123,7 +124,7 @@ fn reads_blocks_across_a_border(rt: HostRuntime) -> Result<(), Fail> {
         );
     }
     let mut cursor = joined(rt.alloc())?;
-    for (end, count, docs) in [
+    for &(end, count, docs) in &[
         (0, 0, [0, 0, 0]),
         (100, 3, [0, 2, 4]),
         (6, 0, [0, 0, 0]),

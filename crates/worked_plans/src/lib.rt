@@ -1,5 +1,5 @@
 //! Cursors over small lists, and the plans over them, against results that were worked out by hand: plain lists, scans of them, WAND and
-//! MaxScore, lists in blocks with their side files, and lists of several segments.
+//! MaxScore, lists in blocks with their side files, lists with bounds by interval, and lists of several segments.
 #![tactic(auto)]
 
 #[cfg(test)]
@@ -8,6 +8,8 @@ mod blocks;
 mod counting;
 #[cfg(test)]
 mod cursors;
+#[cfg(test)]
+mod intervals;
 #[cfg(test)]
 mod joined;
 #[cfg(test)]

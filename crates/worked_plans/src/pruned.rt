@@ -6,7 +6,17 @@ use crate::counting::Counting;
 use cursor_api::PlainCursor;
 use no_memory::NoMemory;
 use std::alloc::Global;
-use topk_pruning::{Plan, plan_top, top_maxscore};
+use topk_pruning::{Plan, plan_top, pruning_can_save, top_maxscore};
+
+// Weights of two lists, how many are wanted, and the best of them.
+const WEIGHED: [([u32; 2], u32, &[(u32, u64)]); 6] = [
+    ([1, 1], 2, &[(4, 4), (1, 3)]),
+    ([2, 1], 3, &[(4, 7), (1, 5), (2, 3)]),
+    ([1, 2], 2, &[(2, 6), (4, 5)]),
+    ([65_535, 1], 1, &[(4, 196_606)]),
+    ([1, 1], 9, &[(4, 4), (1, 3), (2, 3)]),
+    ([1, 1], 0, &[]),
+];
 
 // A list has the documents 1 and 4, another 1, 2 and 4.
 #[test]
@@ -16,14 +26,7 @@ fn two_lists(rt: HostRuntime) {
         PlainCursor::new(&[1, 2, 4], &[1, 3, 1]),
     ];
     for plan in [Plan::Wand, Plan::MaxScore] {
-        for (weights, k, wanted) in [
-            ([1, 1], 2, [(4, 4), (1, 3)].as_slice()),
-            ([2, 1], 3, [(4, 7), (1, 5), (2, 3)].as_slice()),
-            ([1, 2], 2, [(2, 6), (4, 5)].as_slice()),
-            ([65_535, 1], 1, [(4, 196_606)].as_slice()),
-            ([1, 1], 9, [(4, 4), (1, 3), (2, 3)].as_slice()),
-            ([1, 1], 0, [].as_slice()),
-        ] {
+        for &(weights, k, wanted) in &WEIGHED {
             let mut cursors = starts;
             let top = plan_top(rt.alloc(), plan, &mut cursors, &weights, k, 9_000).expect(
                 &rt, "memory",
@@ -34,7 +37,7 @@ fn two_lists(rt: HostRuntime) {
 }
 
 // A plain cursor that has counted nothing.
-fn counting(cursor: PlainCursor<'_>) -> Counting<PlainCursor<'_>>
+pub(crate) fn counting(cursor: PlainCursor<'_>) -> Counting<PlainCursor<'_>>
     ensures { result.cursor ≡ cursor.entry }
 {
     Counting {
@@ -44,6 +47,16 @@ fn counting(cursor: PlainCursor<'_>) -> Counting<PlainCursor<'_>>
     }
 }
 
+// A plan, how many are wanted, the best of them, and how many postings are read at most.
+const APART: [(Plan, u32, &[(u32, u64)], u64); 6] = [
+    (Plan::Wand, 1, &[(0, 1)], 4),
+    (Plan::Wand, 2, &[(0, 1), (3, 1)], 4),
+    (Plan::Wand, 3, &[(0, 1), (3, 1), (5, 1)], 5),
+    (Plan::MaxScore, 1, &[(0, 1)], 5),
+    (Plan::MaxScore, 2, &[(0, 1), (3, 1)], 5),
+    (Plan::MaxScore, 3, &[(0, 1), (3, 1), (5, 1)], 5),
+];
+
 // The candidates of one list lie between those of the other. WAND passes over document 40: it has 1 there at most.
 #[test]
 fn documents_of_one_list_each(rt: HostRuntime) {
@@ -51,14 +64,7 @@ fn documents_of_one_list_each(rt: HostRuntime) {
         PlainCursor::new(&[0, 5, 40], &[1, 1, 1]),
         PlainCursor::new(&[3, 50], &[1, 1]),
     ];
-    for (plan, k, wanted, read) in [
-        (Plan::Wand, 1, [(0, 1)].as_slice(), 4),
-        (Plan::Wand, 2, [(0, 1), (3, 1)].as_slice(), 4),
-        (Plan::Wand, 3, [(0, 1), (3, 1), (5, 1)].as_slice(), 5),
-        (Plan::MaxScore, 1, [(0, 1)].as_slice(), 5),
-        (Plan::MaxScore, 2, [(0, 1), (3, 1)].as_slice(), 5),
-        (Plan::MaxScore, 3, [(0, 1), (3, 1), (5, 1)].as_slice(), 5),
-    ] {
+    for &(plan, k, wanted, read) in &APART {
         let mut cursors = [counting(starts[0]), counting(starts[1])];
         let top = plan_top(rt.alloc(), plan, &mut cursors, &[1, 1], k, 9_000).expect(&rt, "memory");
         assert_eq!(rt; top.as_slice(), wanted);
@@ -117,7 +123,7 @@ fn best_of_a_long_list(
 #[test]
 fn scores_at_a_floor(rt: HostRuntime) {
     for plan in [Plan::Exhaustive, Plan::Wand, Plan::MaxScore] {
-        for (k, last, most) in [
+        for &(k, last, most) in &[
             (1, (8_192, 9), 100),
             (2, (0, 1), 100),
             (90, (88, 1), 200),
@@ -134,6 +140,13 @@ fn scores_at_a_floor(rt: HostRuntime) {
     }
 }
 
+// How many are wanted, the best of them, and how many postings are read at most.
+const FAR_APART: [(u32, &[(u32, u64)], u64); 3] = [
+    (1, &[(30, 7)], 7),
+    (2, &[(30, 7), (0, 6)], 7),
+    (3, &[(30, 7), (0, 6), (40, 6)], 9),
+];
+
 // One list alone can lift a document above the bar after the first ones, and only where it has it often enough; at equal scores the
 // earlier document stays. What lies between is passed over.
 #[test]
@@ -142,15 +155,38 @@ fn candidates_far_apart(rt: HostRuntime) {
         PlainCursor::new(&[0, 2, 4, 10, 20, 30, 40], &[5, 5, 4, 1, 4, 6, 6]),
         PlainCursor::new(&[0, 20, 30], &[1, 1, 1]),
     ];
-    for (k, wanted, read) in [
-        (1, [(30, 7)].as_slice(), 7),
-        (2, [(30, 7), (0, 6)].as_slice(), 7),
-        (3, [(30, 7), (0, 6), (40, 6)].as_slice(), 9),
-    ] {
+    for &(k, wanted, read) in &FAR_APART {
         let mut cursors = [counting(starts[0]), counting(starts[1])];
         let top = top_maxscore(rt.alloc(), &mut cursors, &[1, 1], k, 9_000).expect(&rt, "memory");
         assert_eq!(rt; top.as_slice(), wanted);
         let all = cursors[0].read.saturating_add(cursors[1].read);
         assert!(rt; all <= read, "of {k}: {all}");
     }
+}
+
+// Of two lists one has a posting, once: its bound is its weight, to which the heaviest weight is
+// compared, whatever the scale of both. Of three the heaviest may be half as heavy, and of more
+// than four that are short nothing is saved.
+#[test]
+fn where_pruning_begins(rt: HostRuntime) {
+    let none = PlainCursor::new(&[], &[]);
+    let one = PlainCursor::new(&[7], &[1]);
+    for (weights, n, saves) in [
+        ([1, 1], 8_192, false),
+        ([1, 1], 8_193, true),
+        ([6_144, 1], 8_193, true),
+        ([6_145, 1], 8_193, false),
+        ([12_288, 2], 8_193, true),
+        ([12_289, 2], 8_193, false),
+    ] {
+        assert_eq!(rt; pruning_can_save(&[none, one], &weights, 1, n), saves);
+    }
+    for (weights, saves) in [([3_072, 1, 1], true), ([3_073, 1, 1], false)] {
+        assert_eq!(rt;
+            pruning_can_save(&[none, one, none], &weights, 1, 8_193),
+            saves
+        );
+    }
+    assert!(rt; pruning_can_save(&[none, one, none, none], &[1, 1, 1, 1], 1, 8_193));
+    assert!(rt; !pruning_can_save(&[none, one, none, none, none], &[1, 1, 1, 1, 1], 1, 8_193));
 }

@@ -16,11 +16,18 @@ struct Numbers<'a> {
     sizes: &'a [u32],
 }
 
+// The numbers of the files of one list.
+const ONE_LIST_DOCS: &[u32] = &[1, 3, 2, 0, 2];
+
+const ONE_LIST_FREQS: &[u32] = &[2, 1, 5];
+
+const ONE_LIST_SIZES: &[u32] = &[3, 4, 0, 7];
+
 // Three documents of sizes 4, 0 and 7, and one list: document 0 once, document 2 five times.
 const ONE_LIST: Numbers<'static> = Numbers {
-    docs: &[1, 3, 2, 0, 2],
-    freqs: &[2, 1, 5],
-    sizes: &[3, 4, 0, 7],
+    docs: ONE_LIST_DOCS,
+    freqs: ONE_LIST_FREQS,
+    sizes: ONE_LIST_SIZES,
 };
 
 // The numbers of three files.
@@ -204,104 +211,117 @@ fn broken(rule: Rule, file: Slot, term: u32, place: u32) -> Result<u32, CollErro
     }))
 }
 
+// The numbers of three files and where one of them is cut, and the rule that they break and where.
+const BROKEN_FILES: [(
+    &[u32],
+    &[u32],
+    &[u32],
+    (Slot, usize),
+    (Rule, Slot, u32, u32),
+); 14] = [
+    (
+        &[1, 268_435_455],
+        &[],
+        &[],
+        (Slot::Index, 0),
+        (Rule::C1, Slot::Sizes, 0, 0),
+    ),
+    (
+        &[1, 3, 4_294_967_295],
+        ONE_LIST_FREQS,
+        ONE_LIST_SIZES,
+        (Slot::Index, 0),
+        (Rule::C1, Slot::Docs, 0, 0),
+    ),
+    (
+        &[1, 5, 2, 4, 4],
+        &[2, 1, 1],
+        &[5, 0, 0, 0, 0, 0],
+        (Slot::Index, 0),
+        (Rule::C5, Slot::Docs, 0, 1),
+    ),
+    (
+        &[1, 5, 2, 4, 3],
+        &[2, 1, 1],
+        &[5, 0, 0, 0, 0, 0],
+        (Slot::Index, 0),
+        (Rule::C5, Slot::Docs, 0, 1),
+    ),
+    (
+        &[1, 3, 1, 3],
+        &[1, 1],
+        &[3, 0, 0, 0],
+        (Slot::Index, 0),
+        (Rule::C4, Slot::Docs, 0, 0),
+    ),
+    (
+        ONE_LIST_DOCS,
+        &[2, 1, 0],
+        ONE_LIST_SIZES,
+        (Slot::Index, 0),
+        (Rule::C7, Slot::Freqs, 0, 1),
+    ),
+    (
+        &[1, 3],
+        ONE_LIST_FREQS,
+        ONE_LIST_SIZES,
+        (Slot::Docs, 6),
+        (Rule::C1, Slot::Docs, 0, 0),
+    ),
+    (
+        &[2, 3, 2, 0, 2],
+        ONE_LIST_FREQS,
+        ONE_LIST_SIZES,
+        (Slot::Index, 0),
+        (Rule::C2, Slot::Docs, 0, 0),
+    ),
+    (
+        &[2],
+        &[],
+        &[],
+        (Slot::Index, 0),
+        (Rule::C2, Slot::Docs, 0, 0),
+    ),
+    (
+        ONE_LIST_DOCS,
+        &[],
+        ONE_LIST_SIZES,
+        (Slot::Index, 0),
+        (Rule::C1, Slot::Freqs, 0, 0),
+    ),
+    (
+        ONE_LIST_DOCS,
+        &[2, 1, 5, 0],
+        ONE_LIST_SIZES,
+        (Slot::Index, 0),
+        (Rule::C10, Slot::Freqs, 1, 0),
+    ),
+    (
+        ONE_LIST_DOCS,
+        &[3, 1, 5, 1],
+        ONE_LIST_SIZES,
+        (Slot::Index, 0),
+        (Rule::C6, Slot::Freqs, 0, 0),
+    ),
+    (
+        ONE_LIST_DOCS,
+        ONE_LIST_FREQS,
+        &[2, 4, 0],
+        (Slot::Index, 0),
+        (Rule::C11, Slot::Sizes, 1, 0),
+    ),
+    (
+        ONE_LIST_DOCS,
+        ONE_LIST_FREQS,
+        &[3, 4, 0, 7, 0],
+        (Slot::Sizes, 17),
+        (Rule::C12, Slot::Sizes, 1, 3),
+    ),
+];
+
 #[test]
 fn collections_are_broken_in_both_formats(rt: HostRuntime) -> Result<(), Fail> {
-    let one = ONE_LIST;
-    let whole = (Slot::Index, 0);
-    for (docs, freqs, sizes, cut, (rule, file, term, place)) in [
-        (
-            [1, 268_435_455].as_slice(),
-            [].as_slice(),
-            [].as_slice(),
-            whole,
-            (Rule::C1, Slot::Sizes, 0, 0),
-        ),
-        (
-            &[1, 3, 4_294_967_295],
-            one.freqs,
-            one.sizes,
-            whole,
-            (Rule::C1, Slot::Docs, 0, 0),
-        ),
-        (
-            &[1, 5, 2, 4, 4],
-            &[2, 1, 1],
-            &[5, 0, 0, 0, 0, 0],
-            whole,
-            (Rule::C5, Slot::Docs, 0, 1),
-        ),
-        (
-            &[1, 5, 2, 4, 3],
-            &[2, 1, 1],
-            &[5, 0, 0, 0, 0, 0],
-            whole,
-            (Rule::C5, Slot::Docs, 0, 1),
-        ),
-        (
-            &[1, 3, 1, 3],
-            &[1, 1],
-            &[3, 0, 0, 0],
-            whole,
-            (Rule::C4, Slot::Docs, 0, 0),
-        ),
-        (
-            one.docs,
-            &[2, 1, 0],
-            one.sizes,
-            whole,
-            (Rule::C7, Slot::Freqs, 0, 1),
-        ),
-        (
-            &[1, 3],
-            one.freqs,
-            one.sizes,
-            (Slot::Docs, 6),
-            (Rule::C1, Slot::Docs, 0, 0),
-        ),
-        (
-            &[2, 3, 2, 0, 2],
-            one.freqs,
-            one.sizes,
-            whole,
-            (Rule::C2, Slot::Docs, 0, 0),
-        ),
-        (&[2], &[], &[], whole, (Rule::C2, Slot::Docs, 0, 0)),
-        (
-            one.docs,
-            &[],
-            one.sizes,
-            whole,
-            (Rule::C1, Slot::Freqs, 0, 0),
-        ),
-        (
-            one.docs,
-            &[2, 1, 5, 0],
-            one.sizes,
-            whole,
-            (Rule::C10, Slot::Freqs, 1, 0),
-        ),
-        (
-            one.docs,
-            &[3, 1, 5, 1],
-            one.sizes,
-            whole,
-            (Rule::C6, Slot::Freqs, 0, 0),
-        ),
-        (
-            one.docs,
-            one.freqs,
-            &[2, 4, 0],
-            whole,
-            (Rule::C11, Slot::Sizes, 1, 0),
-        ),
-        (
-            one.docs,
-            one.freqs,
-            &[3, 4, 0, 7, 0],
-            (Slot::Sizes, 17),
-            (Rule::C12, Slot::Sizes, 1, 3),
-        ),
-    ] {
+    for &(docs, freqs, sizes, cut, (rule, file, term, place)) in &BROKEN_FILES {
         let alloc = rt.alloc();
         for format in [Format::One, Format::Two] {
             let files = cut_files(alloc, &in_files(docs, freqs, sizes), cut.0, cut.1)?;
@@ -316,7 +336,7 @@ fn collections_are_broken_in_both_formats(rt: HostRuntime) -> Result<(), Fail> {
 #[test]
 fn the_first_format_has_fewer_documents(rt: HostRuntime) -> Result<(), Fail> {
     let alloc = rt.alloc();
-    for (documents, format, rule, file) in [
+    for &(documents, format, rule, file) in &[
         (268_435_456, Format::One, Rule::C3, Slot::Docs),
         (268_435_456, Format::Two, Rule::C1, Slot::Sizes),
         (4_294_967_295, Format::One, Rule::C3, Slot::Docs),

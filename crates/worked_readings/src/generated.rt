@@ -29,7 +29,7 @@ fn are_drawn(
 // document takes its frequency from that number.
 #[test]
 fn draws_of_seed_1(rt: HostRuntime) {
-    for (state, number) in [
+    for &(state, number) in &[
         (924485352, 1),
         (1, 20267),
         (81414, 49068),
@@ -66,7 +66,7 @@ fn lists_of_seed_1(rt: HostRuntime) {
 fn sizes_of_a_thousand_and_one(rt: HostRuntime) {
     let sizes = document_sizes(rt.alloc(), 1001).expect(&rt, "memory");
     assert_eq!(rt; sizes.len(), 1001);
-    for (d, size) in [(0, 1), (1, 2), (999, 1000), (1000, 1)] {
+    for &(d, size) in &[(0, 1), (1, 2), (999, 1000), (1000, 1)] {
         assert_eq!(rt; sizes.get(d).copied(), Some(size));
     }
     assert!(rt;

@@ -122,7 +122,7 @@ fn orders_are_read(rt: HostRuntime) -> Result<(), Fail> {
 #[test]
 fn broken_maps_are_refused(rt: HostRuntime) -> Result<(), Fail> {
     let alloc = rt.alloc();
-    for (numbers, length, rule, place) in [
+    for &(numbers, length, rule, place) in &[
         ([3, 0, 0, 1, 0], 16, MapRule::M4, 1),
         ([2, 2, 0, 1, 0], 16, MapRule::M2, 0),
         ([3, 0, 1, 3, 0], 16, MapRule::M3, 2),
