@@ -1,307 +1,472 @@
 /* SPDX-License-Identifier: Apache-2.0 */
-/* Answers query lines over a socket. The index is mapped and checked once, and all connections share the map.
+/* pefidx-serve: answers query lines over a socket (pefidx-serve.1).
  *
- *     pefidx-serve [-c CONNECTIONS] [-i SECONDS] [-p PLAN] INDEX ADDRESS
- *
- * ADDRESS is HOST:PORT, or the path of a Unix socket, which has a slash. PLAN is a number of pefidx.h, else 0.
- *
- * Each line of a connection gets its reply, in order, as `pefidx query` writes it; so does a last line without a newline. At most CONNECTIONS
- * (256) are answered at once, and others wait for one to end. One that for SECONDS (60) sends nothing, or takes nothing of what is sent to it,
- * is ended. Of a line at most 65,536 bytes are held, which tells that it is too long.
- *
- * At SIGHUP the file is mapped anew. Connections that are open finish on the map they began with, and where the new file is no index, the old
- * map stays. The file must be replaced whole, never changed or cut in place.
+ * The first thread takes signals. One opens the file, at the start and at each SIGHUP, one takes
+ * connections, one tells the status, and each connection has its own; all share the map of now, and
+ * a map goes with its last user. A pipe whose end is closed tells them that the server ends.
  *
  * This program is not proved. What it calls is: each reply is that of a scan of the lists. */
-#define _POSIX_C_SOURCE 200809L
+#define _DEFAULT_SOURCE
 #include <errno.h>
-#include <fcntl.h>
-#include <netdb.h>
+#include <malloc.h>
 #include <netinet/in.h>
-#include <netinet/tcp.h>
-#include <pthread.h>
-#include <semaphore.h>
 #include <signal.h>
+#include <stddef.h>
 #include <stdio.h>
 #include <stdlib.h>
 #include <string.h>
-#include <sys/mman.h>
-#include <sys/socket.h>
-#include <sys/stat.h>
-#include <sys/time.h>
 #include <sys/un.h>
+#include <time.h>
 #include <unistd.h>
 
-#include "pefidx.h"
+#include "connections.h"
 
-enum { HELD = 65536, PIECE = 16384, ROOM = 65536, FULL = ROOM / 2, KEPT = 1 << 20 };
-
-/* A map of the file. It goes with its last user: a connection, or the server itself. */
-typedef struct map {
-    const uint64_t *words;
-    size_t count;
-    unsigned users;
-} map;
-
-typedef struct connection {
-    int socket;
-    map *of;
-    size_t held, used, room;
-    char *replies;    /* not sent yet: `used` bytes, of `room` */
-    char line[HELD];  /* what was read of a line that has not ended: `held` bytes */
-    char piece[PIECE];
-} connection;
-
-static const char *path;
-static uint32_t plan;
-static struct timeval idle = {60, 0};
-static sem_t places; /* for connections */
-static pthread_mutex_t lock = PTHREAD_MUTEX_INITIALIZER;
-static map *current; /* under the lock, as are the users of each map */
-
-static void say(const char *what, const char *why)
+/* Tells systemd a state. */
+static void notify(const char *state)
 {
-    fprintf(stderr, "pefidx-serve: %s: %s\n", what, why);
+    const char *name = getenv("NOTIFY_SOCKET");
+    struct sockaddr_un to = {.sun_family = AF_UNIX};
+    size_t length = name ? strlen(name) : 0;
+    int at;
+    if (!length || length >= sizeof to.sun_path || (at = socket(AF_UNIX, SOCK_DGRAM, 0)) < 0) {
+        return;
+    }
+    memcpy(to.sun_path, name, length);
+    if (name[0] == '@') {
+        to.sun_path[0] = '\0';
+    }
+    length += offsetof(struct sockaddr_un, sun_path);
+    sendto(at, state, strlen(state), MSG_NOSIGNAL, (struct sockaddr *)&to, (socklen_t)length);
+    close(at);
 }
 
-/* Maps the file and checks it; NULL where it is no index, which is said. */
-static map *mapped(void)
+/* Maps the file, which all lines are answered from then on; 0 where it is refused. */
+static int opened(server *s)
 {
-    struct stat of;
-    pefidx_fault fault;
-    int file = open(path, O_RDONLY | O_CLOEXEC);
-    size_t size = file >= 0 && !fstat(file, &of) && of.st_size % 8 == 0 ? (size_t)of.st_size : 0;
-    void *at = size ? mmap(NULL, size, PROT_READ, MAP_SHARED, file, 0) : MAP_FAILED;
-    map *made = malloc(sizeof *made);
-    close(file);
-    if (made && at != MAP_FAILED && pefidx_check(at, size / 8, &fault) == PEFIDX_DONE) {
-        *made = (map){at, size / 8, 1};
-        return made;
+    map *made = malloc(sizeof *made), *old;
+    char cause[CAUSE] = "memory was refused";
+    if (!made || !map_index(s->given.path, &made->index, cause)) {
+        free(made);
+        pthread_mutex_lock(&s->lock);
+        memcpy(s->refusal, cause, sizeof cause);
+        s->refused = time(NULL);
+        pthread_mutex_unlock(&s->lock);
+        say(s->given.path, cause);
+        return 0;
     }
-    say(path, "is no index, or cannot be read");
-    if (at != MAP_FAILED) {
-        munmap(at, size);
-    }
-    free(made);
-    return NULL;
-}
-
-/* The map of now, with one user more. */
-static map *held_map(void)
-{
-    map *of;
-    pthread_mutex_lock(&lock);
-    of = current;
-    of->users++;
-    pthread_mutex_unlock(&lock);
-    return of;
-}
-
-static void let_go(map *of)
-{
-    unsigned users;
-    pthread_mutex_lock(&lock);
-    users = --of->users;
-    pthread_mutex_unlock(&lock);
-    if (!users) {
-        munmap((void *)of->words, of->count * 8);
-        free(of);
-    }
-}
-
-/* Sends all replies. Each call that follows gives 0 where the connection is to end. */
-static int sent(connection *c)
-{
-    size_t at = 0;
-    while (at < c->used) {
-        ssize_t n = send(c->socket, c->replies + at, c->used - at, MSG_NOSIGNAL);
-        if (n < 0 && errno != EINTR) {
-            return 0;
-        }
-        at += n > 0 ? (size_t)n : 0;
-    }
-    c->used = 0;
+    made->users = 1;
+    pthread_mutex_lock(&s->lock);
+    old = s->current;
+    s->current = made;
+    s->reloads += old != NULL;
+    pthread_mutex_unlock(&s->lock);
+    let_go(s, old);
     return 1;
 }
 
-/* Room for so many bytes, where none are to be sent. */
-static int has_room(connection *c, size_t room)
+/* A number for the machine at the other end: an address of IPv4, 64 bits of one of IPv6, or 0 for
+ * a Unix socket. */
+static uint64_t machine_of(const struct sockaddr_storage *from)
 {
-    if (c->room < room || c->room > KEPT) {
-        free(c->replies);
-        c->room = room;
-        c->replies = malloc(room);
+    const struct sockaddr_in *four = (const struct sockaddr_in *)from;
+    const struct sockaddr_in6 *six = (const struct sockaddr_in6 *)from;
+    uint64_t number = 0;
+    uint32_t low;
+    if (from->ss_family == AF_INET) {
+        return four->sin_addr.s_addr;
     }
-    return c->replies != NULL;
-}
-
-/* Answers a line. Its reply is sent once these are many bytes, or no whole line is left. */
-static int answered(connection *c, const char *line, size_t length)
-{
-    for (;;) {
-        size_t count = 0;
-        uint32_t ended = pefidx_reply(c->of->words, c->of->count, plan, line, length, c->replies + c->used, c->room - c->used, &count);
-        if (ended == PEFIDX_DONE) {
-            c->used += count;
-            return c->used < FULL || (sent(c) && has_room(c, ROOM));
-        }
-        if (ended != PEFIDX_ROOM || !sent(c) || !has_room(c, count)) {
-            return 0;
-        }
+    if (from->ss_family == AF_INET6 && IN6_IS_ADDR_V4MAPPED(&six->sin6_addr)) {
+        memcpy(&low, six->sin6_addr.s6_addr + 12, sizeof low);
+        return low;
     }
-}
-
-static void hold(connection *c, const char *bytes, size_t count)
-{
-    size_t more = count < HELD - c->held ? count : HELD - c->held;
-    memcpy(c->line + c->held, bytes, more);
-    c->held += more;
-}
-
-/* Answers the lines that end in the next bytes, and holds the rest. */
-static int taken(connection *c, size_t count)
-{
-    const char *at = c->piece, *newline;
-    while ((newline = memchr(at, '\n', count))) {
-        size_t length = (size_t)(newline - at), held = c->held;
-        if (held) {
-            hold(c, at, length);
-        }
-        if (!(held ? answered(c, c->line, c->held) : answered(c, at, length))) {
-            return 0;
-        }
-        c->held = 0;
-        count -= length + 1;
-        at = newline + 1;
+    if (from->ss_family == AF_INET6) {
+        memcpy(&number, six->sin6_addr.s6_addr, sizeof number);
+        number = number ? number : 1; /* ::1 */
     }
-    hold(c, at, count);
-    return sent(c);
+    return number;
 }
 
-static void ended(connection *c)
+/* Takes a free place for a machine that has not all that one may have: which it is, or -1. Machine
+ * 0 may have all. */
+static long place_for(server *s, uint64_t machine)
 {
-    close(c->socket);
-    let_go(c->of);
-    free(c->replies);
-    free(c);
-    sem_post(&places);
-}
-
-static void *answer_lines(void *given)
-{
-    connection *c = given;
-    int at_once = 1;
-    ssize_t n;
-    setsockopt(c->socket, SOL_SOCKET, SO_RCVTIMEO, &idle, sizeof idle);
-    setsockopt(c->socket, SOL_SOCKET, SO_SNDTIMEO, &idle, sizeof idle);
-    setsockopt(c->socket, IPPROTO_TCP, TCP_NODELAY, &at_once, sizeof at_once); /* no matter where it is none of TCP */
-    while ((n = recv(c->socket, c->piece, PIECE, 0)) > 0 && taken(c, (size_t)n)) {
+    unsigned long at, of_machine = 0;
+    long place = -1;
+    pthread_mutex_lock(&s->lock);
+    for (at = 0; at < s->given.connections; at++) {
+        of_machine += machine && s->places[at] == machine;
+        place = s->places[at] == FREE ? (long)at : place;
     }
-    if (n == 0 && c->held && answered(c, c->line, c->held)) {
-        sent(c);
+    if (of_machine >= s->given.of_machine) {
+        place = -1;
     }
-    ended(c);
-    return NULL;
+    if (place >= 0) {
+        s->places[place] = machine;
+        s->connections++;
+    }
+    pthread_mutex_unlock(&s->lock);
+    return place;
 }
 
-static void *take_connections(void *listener)
+static void wait_for_place(server *s)
 {
-    for (;;) {
-        pthread_t thread;
-        connection *c = calloc(1, sizeof *c);
-        sem_wait(&places);
-        if (!c || !has_room(c, ROOM) || (c->socket = accept(*(int *)listener, NULL, NULL)) < 0) {
+    pthread_mutex_lock(&s->lock);
+    while (s->connections >= s->given.connections) {
+        pthread_cond_wait(&s->changed, &s->lock);
+    }
+    pthread_mutex_unlock(&s->lock);
+}
+
+static void *take_connections(void *given)
+{
+    server *s = given;
+    while (!s->ending) {
+        struct sockaddr_storage from;
+        socklen_t size = sizeof from;
+        long place;
+        int socket;
+        wait_for_place(s);
+        socket = accept(s->lines.socket, (struct sockaddr *)&from, &size);
+        if (socket < 0 && !s->ending) {
             say("no connection was taken", strerror(errno));
-            sem_post(&places);
-            free(c ? c->replies : NULL);
-            free(c);
             sleep(1);
+        }
+        if (socket < 0) {
             continue;
         }
-        c->of = held_map();
-        if (pthread_create(&thread, NULL, answer_lines, c)) {
-            say("no connection was taken", "no thread");
-            ended(c);
-        } else {
-            pthread_detach(thread);
+        place = place_for(s, machine_of(&from));
+        if (place < 0) {
+            close(socket);
+        } else if (!begin_connection(s, socket, place)) {
+            say("no connection was taken", "memory or a thread was refused");
+            close(socket);
+            free_place(s, place);
         }
     }
     return NULL;
 }
 
-/* A socket that listens at this address; -1 where it cannot. */
-static int listening_at(int family, const struct sockaddr *at, socklen_t size)
+/* The time in which so many of a thousand lines were answered. */
+static uint64_t time_of(const uint64_t *lines, uint64_t all, unsigned of_thousand)
 {
-    int listener = socket(family, SOCK_STREAM, 0), one = 1;
-    setsockopt(listener, SOL_SOCKET, SO_REUSEADDR, &one, sizeof one);
-    return bind(listener, at, size) || listen(listener, SOMAXCONN) ? -1 : listener;
+    uint64_t seen = 0;
+    unsigned at;
+    for (at = 0; at < BUCKETS && all; at++) {
+        seen += lines[at];
+        if (seen * 1000 >= all * of_thousand) {
+            return bucket_end(at);
+        }
+    }
+    return 0;
 }
 
-static int listening(const char *address)
+static void put_time(FILE *to, const char *name, time_t time)
 {
-    struct sockaddr_un file = {.sun_family = AF_UNIX};
-    struct addrinfo wanted = {.ai_socktype = SOCK_STREAM, .ai_flags = AI_NUMERICSERV}, *found;
-    const char *colon = strrchr(address, ':');
-    char host[256];
-    int listener;
-    if (strchr(address, '/')) {
-        return snprintf(file.sun_path, sizeof file.sun_path, "%s", address) >= (int)sizeof file.sun_path
-            ? -1 : listening_at(AF_UNIX, (struct sockaddr *)&file, sizeof file);
+    char text[32];
+    struct tm at;
+    gmtime_r(&time, &at);
+    strftime(text, sizeof text, "%Y-%m-%dT%H:%M:%SZ", &at);
+    put_text(to, name, text);
+}
+
+/* Writes the times of lines: of the last minute, and what went before it by less than another. */
+static void put_times(server *s, FILE *to)
+{
+    uint64_t lines[BUCKETS], all = 0, late = 0;
+    unsigned at;
+    for (at = 0; at < BUCKETS; at++) {
+        uint64_t took = s->took[at];
+        lines[at] = took - s->before[1][at];
+        late += lines[at];
+        all += took;
     }
-    if (!colon || snprintf(host, sizeof host, "%.*s", (int)(colon - address), address) >= (int)sizeof host || getaddrinfo(host, colon + 1, &wanted, &found)) {
-        return -1;
+    fprintf(to, ",\"lines\":%llu,\"late_lines\":%llu", (unsigned long long)all,
+        (unsigned long long)late);
+    fprintf(to, ",\"p50_us\":%llu,\"p99_us\":%llu,\"p999_us\":%llu",
+        (unsigned long long)time_of(lines, late, 500),
+        (unsigned long long)time_of(lines, late, 990),
+        (unsigned long long)time_of(lines, late, 999));
+}
+
+/* Writes the status as a line of JSON. */
+static void put_status(server *s, FILE *to)
+{
+    const map *of;
+    pthread_mutex_lock(&s->lock);
+    of = s->current;
+    fprintf(to, "{\"state\":\"%s\"", s->ending ? "ending" : of ? "serving" : "checking");
+    put_text(to, "index", s->given.path);
+    if (of) {
+        fprintf(to, ",\"bytes\":%zu,\"documents\":%u,\"terms\":%u", 8 * of->index.count,
+            (unsigned)of->index.documents, (unsigned)of->index.terms);
+        put_time(to, "written", of->index.written);
     }
-    listener = listening_at(found->ai_family, found->ai_addr, found->ai_addrlen);
-    freeaddrinfo(found);
-    return listener;
+    fprintf(to, ",\"connections\":%lu,\"reloads\":%lu", s->connections, s->reloads);
+    if (s->refused) {
+        put_time(to, "refused", s->refused);
+        put_text(to, "refusal", s->refusal);
+    }
+    put_times(s, to);
+    pthread_mutex_unlock(&s->lock);
+    fputs("}\n", to);
+}
+
+/* Gives whoever connects the status. A line of it fits into what a new connection sends at once. */
+static void *tell_status(void *given)
+{
+    server *s = given;
+    char asked[4096];
+    for (;;) {
+        int to = accept(s->status.socket, NULL, NULL);
+        char *text = NULL;
+        size_t size = 0;
+        FILE *made = to >= 0 ? open_memstream(&text, &size) : NULL;
+        if (!made) {
+            say("no status was told", strerror(errno));
+            sleep(1);
+        } else {
+            put_status(s, made);
+            fclose(made);
+            send(to, text, size, MSG_NOSIGNAL | MSG_DONTWAIT);
+            recv(to, asked, sizeof asked, MSG_DONTWAIT);
+        }
+        free(text);
+        if (to >= 0) {
+            close(to);
+        }
+    }
+    return NULL;
+}
+
+/* Ends at once. */
+static void end(server *s, int status)
+{
+    pthread_mutex_lock(&s->lock);
+    forget_name(&s->lines);
+    forget_name(&s->status);
+    _exit(status);
+}
+
+/* Listens at an address, for connections that this thread takes; ends where it cannot. */
+static void listen_with(server *s, const char *address, listening *made, void *(*takes)(void *))
+{
+    pthread_t thread;
+    char cause[CAUSE] = "a thread was refused";
+    int listens;
+    pthread_mutex_lock(&s->lock);
+    listens = listen_at(address, made, cause);
+    pthread_mutex_unlock(&s->lock);
+    if (!listens || pthread_create(&thread, NULL, takes, s)) {
+        say(address, cause);
+        end(s, 1);
+    }
+    pthread_detach(thread);
+}
+
+/* Opens the file, serves it, and opens it anew whenever that is wanted. */
+static void *open_files(void *given)
+{
+    server *s = given;
+    char state[64];
+    if (!opened(s)) {
+        end(s, 1);
+    }
+    listen_with(s, s->given.address, &s->lines, take_connections);
+    fprintf(stderr, "pefidx-serve: %s: is served at %s\n", s->given.path, s->lines.name);
+    for (;;) {
+        notify("READY=1");
+        pthread_mutex_lock(&s->lock);
+        while (!s->wanted) {
+            pthread_cond_wait(&s->changed, &s->lock);
+        }
+        s->wanted = 0;
+        pthread_mutex_unlock(&s->lock);
+        snprintf(state, sizeof state, "RELOADING=1\nMONOTONIC_USEC=%lld",
+            (long long)time_now() / 1000);
+        notify(state);
+        if (opened(s)) {
+            say(s->given.path, "is served anew");
+        }
+    }
+    return NULL;
+}
+
+static void want_file(server *s)
+{
+    pthread_mutex_lock(&s->lock);
+    s->wanted = 1;
+    pthread_cond_broadcast(&s->changed);
+    pthread_mutex_unlock(&s->lock);
+}
+
+/* Keeps what was counted until now for a minute and for two. */
+static void keep_counts(server *s)
+{
+    unsigned at;
+    pthread_mutex_lock(&s->lock);
+    for (at = 0; at < BUCKETS; at++) {
+        s->before[1][at] = s->before[0][at];
+        s->before[0][at] = s->took[at];
+    }
+    pthread_mutex_unlock(&s->lock);
+}
+
+/* Waits for a signal, at most until a time; 0 then. */
+static int signal_until(const sigset_t *signals, int64_t until)
+{
+    int64_t left = until - time_now();
+    struct timespec span = {(time_t)(left / SECOND), (long)(left % SECOND)};
+    int signal = left > 0 ? sigtimedwait(signals, NULL, &span) : 0;
+    return signal > 0 ? signal : 0;
+}
+
+/* Lets connections end with the replies to what has come, as long as that may take, or until
+ * another signal to end comes. */
+static void drain(server *s, const sigset_t *signals)
+{
+    int64_t until = time_now() + (int64_t)s->given.drain * SECOND;
+    int signal = 0;
+    unsigned long left = 1;
+    notify("STOPPING=1");
+    s->ending = 1;
+    pthread_mutex_lock(&s->lock);
+    shutdown(s->lines.socket, SHUT_RDWR);
+    pthread_mutex_unlock(&s->lock);
+    close(s->ends[1]);
+    while (left && time_now() < until && (!signal || signal == SIGHUP)) {
+        signal = signal_until(signals, time_now() + SECOND / 100);
+        pthread_mutex_lock(&s->lock);
+        left = s->connections;
+        pthread_mutex_unlock(&s->lock);
+    }
+}
+
+/* Does what signals ask for, until one ends the server. */
+static void follow_signals(server *s, const sigset_t *signals)
+{
+    int64_t minute = time_now() + 60 * SECOND;
+    int signal = 0;
+    while (signal != SIGTERM && signal != SIGINT) {
+        signal = signal_until(signals, minute);
+        if (signal == SIGHUP) {
+            want_file(s);
+        } else if (!signal && time_now() >= minute) {
+            keep_counts(s);
+            minute += 60 * SECOND;
+        }
+    }
+    if (s->current) {
+        drain(s, signals);
+    }
+}
+
+static const char usage[] =
+    "usage: pefidx-serve [-c CONNECTIONS] [-a CONNECTIONS] [-i SECONDS] [-d SECONDS]\n"
+    "                    [-r MEGABYTES] [-m MEGABYTES] [-p PLAN] [-s ADDRESS] INDEX ADDRESS\n";
+
+/* Takes one option; 0 with its cause where it is none. */
+static int taken_option(int letter, const char *text, options *given)
+{
+    const struct {
+        int letter;
+        unsigned long least, most, *number;
+    } numbers[] = {
+        {'c', 1, 65536, &given->connections},
+        {'a', 1, 65536, &given->of_machine},
+        {'i', 1, 1000000, &given->idle},
+        {'d', 0, 1000000, &given->drain},
+        {'r', 1, 1 << 20, &given->reply},
+        {'m', 1, 1 << 20, &given->held},
+    };
+    size_t at;
+    if (letter == 'p' && !plan_named(text, &given->plan)) {
+        fprintf(stderr, "pefidx-serve: -p %s: no plan has this name\n", text);
+        return 0;
+    }
+    given->status = letter == 's' ? text : given->status;
+    for (at = 0; at < sizeof numbers / sizeof *numbers; at++) {
+        if (letter == numbers[at].letter
+            && !whole_number(text, numbers[at].least, numbers[at].most, numbers[at].number)) {
+            fprintf(stderr, "pefidx-serve: -%c %s: no number from %lu to %lu\n", letter, text,
+                numbers[at].least, numbers[at].most);
+            return 0;
+        }
+    }
+    return 1;
+}
+
+/* Takes the words of the command line; 0 where they are none of it. */
+static int taken_words(int argc, char **argv, options *given)
+{
+    int letter;
+    while ((letter = getopt(argc, argv, "c:a:i:d:r:m:p:s:")) != -1) {
+        if (letter == '?' || !taken_option(letter, optarg, given)) {
+            fputs(usage, stderr);
+            return 0;
+        }
+    }
+    if (argc - optind != 2) {
+        fputs(usage, stderr);
+        return 0;
+    }
+    given->path = argv[optind];
+    given->address = argv[optind + 1];
+    given->of_machine = given->of_machine ? given->of_machine : (given->connections + 1) / 2;
+    given->reply *= MEGABYTE;
+    given->held *= MEGABYTE;
+    return 1;
+}
+
+/* A server with nothing to serve yet; NULL where memory or a pipe was refused. */
+static server *new_server(const options *given)
+{
+    server *s = calloc(1, sizeof *s);
+    pthread_condattr_t monotonic;
+    unsigned long at;
+    if (!s || !(s->places = malloc(given->connections * sizeof *s->places)) || pipe(s->ends)) {
+        return NULL;
+    }
+    for (at = 0; at < given->connections; at++) {
+        s->places[at] = FREE;
+    }
+    s->given = *given;
+    s->lines.socket = s->status.socket = -1;
+    pthread_condattr_init(&monotonic);
+    pthread_condattr_setclock(&monotonic, CLOCK_MONOTONIC);
+    pthread_mutex_init(&s->lock, NULL);
+    pthread_cond_init(&s->changed, &monotonic);
+    return s;
 }
 
 int main(int argc, char **argv)
 {
-    unsigned connections = 256;
-    int option, listener, signal;
-    pthread_t taker;
+    options given = {256, 0, 60, 5, 64, 256, best_plan, NULL, NULL, NULL};
+    server *s;
+    pthread_t opener;
     sigset_t signals;
-    while ((option = getopt(argc, argv, "c:i:p:")) != -1) {
-        unsigned long number = option == '?' ? 0 : strtoul(optarg, NULL, 10);
-        switch (option) {
-        case 'c': connections = (unsigned)number; break;
-        case 'i': idle.tv_sec = (time_t)number; break;
-        case 'p': plan = (uint32_t)number; break;
-        default: connections = 0;
-        }
-    }
-    if (argc - optind != 2 || !connections || idle.tv_sec < 1 || plan > PEFIDX_MAXSCORE) {
-        fputs("usage: pefidx-serve [-c CONNECTIONS] [-i SECONDS] [-p PLAN] INDEX HOST:PORT|SOCKET\n", stderr);
-        return 2;
-    }
-    path = argv[optind];
-    if (!(current = mapped())) {
-        return 1;
-    }
-    /* Signals are taken by this thread, one after the other. */
     sigemptyset(&signals);
     sigaddset(&signals, SIGHUP);
     sigaddset(&signals, SIGTERM);
     sigaddset(&signals, SIGINT);
     pthread_sigmask(SIG_BLOCK, &signals, NULL);
-    if (sem_init(&places, 0, connections) || (listener = listening(argv[optind + 1])) < 0 || pthread_create(&taker, NULL, take_connections, &listener)) {
-        say(argv[optind + 1], "cannot listen there");
+    signal(SIGPIPE, SIG_IGN); /* of the log, too */
+    mallopt(M_MMAP_THRESHOLD, 65536); /* so that what long replies held goes back to the system */
+    if (!taken_words(argc, argv, &given)) {
+        return 2;
+    }
+    s = new_server(&given);
+    if (!s) {
+        say(given.path, strerror(errno));
         return 1;
     }
-    say(path, "is served");
-    while (!sigwait(&signals, &signal) && signal == SIGHUP) {
-        map *made = mapped(), *old = current;
-        if (made) {
-            pthread_mutex_lock(&lock);
-            current = made;
-            pthread_mutex_unlock(&lock);
-            let_go(old);
-            say(path, "is served anew");
-        }
+    if (given.status) {
+        listen_with(s, given.status, &s->status, tell_status);
     }
-    if (strchr(argv[optind + 1], '/')) {
-        unlink(argv[optind + 1]);
+    if (pthread_create(&opener, NULL, open_files, s)) {
+        say(given.path, "a thread was refused");
+        end(s, 1);
     }
-    return 0;
+    pthread_detach(opener);
+    follow_signals(s, &signals);
+    end(s, 0);
 }

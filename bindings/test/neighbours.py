@@ -126,9 +126,9 @@ def try_run(name, program):
     if program:
         subprocess.run([program, "pack", name, "i.pefindex"], check=True)
     else:
-        from pefidx import PACKED, build
+        from pefidx import build
 
-        build(collection.lists(), "i.pefindex", collection.sizes(), format=PACKED)
+        build(collection.lists(), "i.pefindex", collection.sizes())
     pathlib.Path("terms").write_text("".join(f"t{term}\n" for term, _ in enumerate(collection.lists())))
     pathlib.Path("queries").write_text("q1: t0 t0 none\nq2\tt0*1.6\n" '{"id": "q3", "vector": {"t0": 0.4}}\n')
     wanted = [f"{query} Q0 {doc} {rank} {-score} pefidx" for query in ("q1", "q2") for rank, (score, doc) in enumerate(best, 1)]

@@ -2,7 +2,8 @@
 """Tries the server: serving.py PROGRAM INDEX SERVER [LINES], where SERVER is the built c/serve.c. What it replies is held against `PROGRAM query`.
 
 Clients send many lines at once, close their half early, send slowly, send lines that are too long, take no replies, and vanish; more come than
-there are places; and the file is replaced while it is served. PROGRAM may have arguments of its own, in one word.
+there are places; and the file is replaced while it is served. How it is run is tried by operating.py. PROGRAM may have arguments of its own,
+in one word.
 """
 import json
 import os
@@ -11,12 +12,13 @@ import shlex
 import shutil
 import signal
 import socket
-import struct
 import subprocess
 import sys
 import tempfile
 import threading
 import time
+
+from server import Server, line_of, rest, vanish
 
 CLIENTS = 8
 
@@ -31,67 +33,6 @@ def drawn(documents, terms, count, seed):
         words = {"next": [asked[0], draw.randrange(documents + 2)], "top": [draw.choice([0, 1, 10, 1000]), *(f"{term}*{draw.choice([1, 7])}" for term in asked)]}
         made.append(" ".join(map(str, [verb, *words.get(verb, asked)])).encode() + b"\n")
     return b"".join(made)
-
-
-class Server:
-    """A running server, which is ended by `with`."""
-
-    def __init__(self, words, index, address):
-        self.address = address
-        self.process = subprocess.Popen([*words, index, address], stderr=subprocess.PIPE, text=True)
-        self.said("is served\n")
-
-    def said(self, end):
-        line = self.process.stderr.readline()
-        assert line.endswith(end), line
-
-    def __enter__(self):
-        return self
-
-    def __exit__(self, *_how):
-        self.process.terminate()
-        assert self.process.wait(10) == 0 and not ("/" in self.address and os.path.exists(self.address))
-
-    def client(self, seconds=60):
-        if "/" in self.address:
-            made = socket.socket(socket.AF_UNIX)
-            made.settimeout(seconds)
-            made.connect(self.address)
-            return made
-        host, port = self.address.split(":")
-        return socket.create_connection((host, int(port)), seconds)
-
-    def ask(self, text):
-        """All replies to a text, of which a client closes its half once it is sent."""
-        with self.client() as to:
-            sender = threading.Thread(target=lambda: (to.sendall(text), to.shutdown(socket.SHUT_WR)))
-            sender.start()
-            got = rest(to)
-            sender.join()
-            return got
-
-
-def rest(client):
-    """What comes until the other side has closed."""
-    got = []
-    while piece := client.recv(65536):
-        got.append(piece)
-    return b"".join(got)
-
-
-def line_of(client):
-    got = b""
-    while not got.endswith(b"\n"):
-        piece = client.recv(1)
-        assert piece, got
-        got += piece
-    return got
-
-
-def vanish(client):
-    """Closes a connection at once: what was not read is lost, and the other side is told of a reset."""
-    client.setsockopt(socket.SOL_SOCKET, socket.SO_LINGER, struct.pack("ii", 1, 0))
-    client.close()
 
 
 def many_lines(server, replies, text):
@@ -127,7 +68,7 @@ def odd_clients(server, replies):
 
 def bounds(words, path, replies, folder):
     """Two places, and one second."""
-    with Server([*words, "-c", "2", "-i", "1"], path, os.path.join(folder, "few")) as server:
+    with Server([*words, "-c", "2", "-a", "2", "-i", "1"], path, os.path.join(folder, "few")) as server:
         begun = time.monotonic()
         with server.client() as silent, server.client() as other:
             other.sendall(b"or 0\n")
@@ -156,10 +97,10 @@ def replaced(words, program, path, folder):
     of = {name: subprocess.run([*program, "query", name], input=b"next 0 0\nor 0\n", stdout=subprocess.PIPE, check=True).stdout for name in (one, other)}
     assert of[one] != of[other]
     shutil.copy(one, served)
-    with Server(words, served, "127.0.0.1:" + free_port()) as server, server.client() as early:
+    with Server(words, served, "127.0.0.1:0") as server, server.client() as early:
         early.sendall(b"next 0 0\n")
         assert line_of(early) == of[one].splitlines(keepends=True)[0]
-        for name, end in (other, "is served anew\n"), (__file__, "\n"):
+        for name, end in (other, "is served anew\n"), (__file__, "index K"):
             shutil.copy(name, served + "-new")
             os.replace(served + "-new", served)
             server.process.send_signal(signal.SIGHUP)
@@ -167,18 +108,8 @@ def replaced(words, program, path, folder):
             assert server.ask(b"next 0 0\nor 0\n") == of[other]
         early.sendall(b"next 0 0\nor 0\n")
         early.shutdown(socket.SHUT_WR)
-        assert rest(early) == of[one]
-    for wrong in [__file__, "127.0.0.1:0"], [served + "-none", "127.0.0.1:0"], [other, "nowhere"], [other, folder + "/none/socket"]:
-        assert subprocess.run([*words, *wrong], stderr=subprocess.DEVNULL).returncode == 1
-    for wrong in [], [other], ["-p", "3", other, "127.0.0.1:0"], ["-i", "0", other, "127.0.0.1:0"], ["-c", "x", other, "127.0.0.1:0"]:
-        assert subprocess.run([*words, *wrong], stderr=subprocess.DEVNULL).returncode == 2
-    print("new connections get the new index, open ones finish on theirs, and what is no index is not served")
-
-
-def free_port():
-    with socket.socket() as some:
-        some.bind(("127.0.0.1", 0))
-        return str(some.getsockname()[1])
+        assert rest(early) == of[other]
+    print("each connection gets the new index for its next line, and what is no index is not served")
 
 
 def main():
@@ -191,8 +122,8 @@ def main():
     counts = json.loads(subprocess.run([*program, "inspect", path], stdout=subprocess.PIPE, check=True).stdout)
     text = drawn(counts["documents"], counts["terms"], count, 1)
     with tempfile.TemporaryDirectory() as folder:
-        for address in os.path.join(folder, "socket"), "127.0.0.1:" + free_port():
-            for plan in ("0", "2"):
+        for address in os.path.join(folder, "socket"), "127.0.0.1:0":
+            for plan in ("exhaustive", "maxscore"):
                 with Server([*words, "-p", plan], path, address) as server:
                     many_lines(server, replies, text)
                     odd_clients(server, replies)

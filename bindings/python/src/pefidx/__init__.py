@@ -2,7 +2,7 @@
 
     import pefidx
 
-    pefidx.build([([0, 2], [2, 1]), ([2], [4])], "NAME.pefindex", format=pefidx.PACKED)
+    pefidx.build([([0, 2], [2, 1]), ([2], [4])], "NAME.pefindex")
     with pefidx.Index("NAME.pefindex") as index:
         index.documents, index.terms              # 3, 2
         index.next(0, 1)                          # (2, 1): a document and its frequency, or None
@@ -14,13 +14,14 @@
         list(index.search("or 0 1\\nnext 0 1\\n")) # ["2 0 2", "2 1"]
 
 Terms and documents are numbered from 0. Every number may be of any type that is a whole number (`operator.index`); one out of range is an
-IndexError. The module calls a shared library by ctypes: the one beside it, or the one that the environment names as PEFIDX_LIBRARY.
+IndexError. The module calls a shared library by ctypes: the one that the environment names as PEFIDX_LIBRARY, else the one beside it, else the
+installed one.
 """
 
-from ._building import PACKED, build
+from ._building import FORMATS, PACKED, build
 from ._errors import BadPosting, BrokenIndex, Error
 from ._index import PLANS, Index, Postings
 
-__all__ = ["BadPosting", "BrokenIndex", "Error", "Index", "PACKED", "PLANS", "Postings", "build"]
+__all__ = ["BadPosting", "BrokenIndex", "Error", "FORMATS", "Index", "PACKED", "PLANS", "Postings", "build"]
 #: the version of the package, and of the library that c/Makefile installs
 __version__ = "0.1.0"

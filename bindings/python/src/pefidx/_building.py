@@ -11,12 +11,12 @@ from typing import IO, Any, Iterable, NamedTuple, Sized, SupportsIndex
 
 from . import _files
 from ._errors import BadPosting
-from ._library import BAD_POSTING, DONE, MOST, NO_FORMAT, NOT_WHOLE, ROOM, TOO_MANY, BadPlace, library, refuse
+from ._library import BAD_POSTING, DONE, MOST, ROOM, TOO_MANY, BadPlace, library, refuse
 from ._numbers import Lent, NotOfRange, Numbers, held, numbers
 
-#: the format of the packed file
-PACKED = 3
-
+#: the formats of files by name: the packed file, and the plain ones as `pefidx build --format` names them
+FORMATS = {"packed": 3, "1": 1, "2": 2}
+PACKED = "packed"
 
 
 class _Limits(NamedTuple):
@@ -26,13 +26,16 @@ class _Limits(NamedTuple):
     sum: int
 
 
-_FORMATS = {1: _Limits(2**28 - 1, 2**36), 2: _Limits(MOST, 2**48), PACKED: _Limits(MOST, 2**48)}
+def _limits_of(format: str) -> _Limits:
+    if format not in FORMATS:
+        raise ValueError(f"there is no format {format!r}: {', '.join(map(repr, FORMATS))}")
+    return _Limits(2**28 - 1, 2**36) if format == "1" else _Limits(MOST, 2**48)
 
 
-def build(lists: Iterable[tuple[Lent, Lent]], path: str | os.PathLike[str], sizes: Lent | None = None, format: int = 2) -> None:
-    """Writes the index of some lists as the file `path`, in a format: 1, 2, or 3 (PACKED), which is that of the packed file, the smallest.
+def build(lists: Iterable[tuple[Lent, Lent]], path: str | os.PathLike[str], sizes: Lent | None = None, format: str = PACKED) -> None:
+    """Writes the index of some lists as the file `path`: as a packed file, the smallest, or in the plain format "1" or "2".
 
-    Each list is (documents, frequencies): documents rise, and there are as many frequencies, each at least 1, that add up to at most 2^48, in
+    Lists are taken one by one. Each is (documents, frequencies): documents rise, and there are as many frequencies, each at least 1, that add up to at most 2^48, in
     format 1 to at most 2^36. Term t is list t. There is a document for each of `sizes`; where no sizes are given, the greatest document of the
     lists is the last, and the size of a document is the sum of its frequencies. An Index may stand for the lists.
 
@@ -43,8 +46,7 @@ def build(lists: Iterable[tuple[Lent, Lent]], path: str | os.PathLike[str], size
     TypeError: what is to be a whole number is none. OverflowError: a size is none of 32 bits, there are 2^32 documents or more, in format 1
     2^28 or more, or the index would be longer than 2^40 bytes. MemoryError: memory was refused. OSError: the file cannot be written.
     """
-    format = operator.index(format)
-    limits = _FORMATS[format] if format in _FORMATS else refuse(NO_FORMAT)
+    limits = _limits_of(format)
     lengths, docs, freqs = array.array("I"), array.array("I"), array.array("I")
     for term, (each, counts) in enumerate(lists):
         each, counts = _list(limits, term, each, counts)
@@ -56,16 +58,18 @@ def build(lists: Iterable[tuple[Lent, Lent]], path: str | os.PathLike[str], size
     except NotOfRange as wrong:
         raise OverflowError(f"size {wrong.value} of document {wrong.place} is no number of 32 bits") from None
     with _files.written(os.fsdecode(path)) as file:
-        file.truncate(8 * _built(file, format, lengths, docs, freqs, all_sizes))
+        _build_into(file, FORMATS[format], lengths, docs, freqs, all_sizes)
 
 
 def _list(limits: _Limits, term: int, docs: Lent, freqs: Lent) -> tuple[Numbers, Numbers]:
     """One list as arrays."""
     both: list[Any] = [each if isinstance(each, Sized) else list(each) for each in (docs, freqs)]
     if len(both[0]) != len(both[1]):
-        refuse(NOT_WHOLE)
+        raise ValueError(f"list {term} has {len(both[0])} documents and {len(both[1])} frequencies")
     try:
         return numbers(both[0]), numbers(both[1])
+    except TypeError as error:
+        raise TypeError(f"list {term}: {error}") from None
     except NotOfRange:
         place = _first_bad(limits, *both)
         assert place is not None
@@ -102,20 +106,28 @@ def _sizes_of(limits: _Limits, lengths: array.array[int], docs: array.array[int]
     return sizes
 
 
-def _built(file: IO[bytes], format: int, lengths: Numbers, docs: Numbers, freqs: Numbers, sizes: Numbers) -> int:
-    """Builds the words into a map of the file, and tells how many they are."""
+def _build_into(file: IO[bytes], format: int, lengths: Numbers, docs: Numbers, freqs: Numbers, sizes: Numbers) -> None:
+    """Builds the words in memory, and writes them: what is written into a map of a file on a full disk ends the process."""
     given = [held(each) for each in (lengths, docs, freqs, sizes)]
     room = 6 + len(docs) + 16 * len(lengths) + len(sizes)
     while True:
-        file.truncate(8 * room)
-        with mmap.mmap(file.fileno(), 8 * room) as whole:
-            words, count, bad = (ctypes.c_uint64 * room).from_buffer(whole), ctypes.c_size_t(), BadPlace()
+        with _memory(8 * room) as whole:
+            words, count, bad = ctypes.c_char.from_buffer(whole), ctypes.c_size_t(), BadPlace()
             status = library.pefidx_build(format, *(word for each in given for word in each[:2]), ctypes.addressof(words), room, count, bad)
             del words
-        if status == DONE:
-            return count.value
+            if status == DONE:
+                with memoryview(whole) as view, view[: 8 * count.value] as part:
+                    file.write(part)
+                return
         if status == BAD_POSTING:
             raise BadPosting(bad.term, bad.place)
         if status != ROOM:
             refuse(status)
         room = count.value
+
+
+def _memory(size: int) -> mmap.mmap:
+    try:
+        return mmap.mmap(-1, size, flags=mmap.MAP_PRIVATE | mmap.MAP_ANONYMOUS)
+    except OSError:
+        raise MemoryError("memory was refused") from None

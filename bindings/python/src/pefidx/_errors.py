@@ -1,4 +1,4 @@
-"""What is refused with more than a cause."""
+"""What is refused with more than a cause. Each can be pickled, as what ends a task of a process pool."""
 
 from __future__ import annotations
 
@@ -11,13 +11,19 @@ class BrokenIndex(Error):
     """A file that is no index: `path`, and the first check that breaks, as `K9`, with its term and part (docs/FORMAT.md)."""
 
     def __init__(self, path: str, check: int, term: int, part: int) -> None:
-        super().__init__(f"{path}: index K{check} term {term} part {part}")
+        super().__init__(path, check, term, part)
         self.path, self.check, self.term, self.part = path, f"K{check}", term, part
+
+    def __str__(self) -> str:
+        return f"{self.path}: index {self.check} term {self.term} part {self.part}"
 
 
 class BadPosting(Error):
     """A list that is no posting list: its term, and the place of its first posting that cannot stand there. Both count from 0."""
 
     def __init__(self, term: int, place: int) -> None:
-        super().__init__(f"list {term}: posting {place} does not rise, is not below the number of documents, or has a frequency that cannot be stored")
+        super().__init__(term, place)
         self.term, self.place = term, place
+
+    def __str__(self) -> str:
+        return f"list {self.term}: posting {self.place} does not rise, is not below the number of documents, or has a frequency that cannot be stored"

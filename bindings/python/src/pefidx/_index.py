@@ -3,17 +3,23 @@
 from __future__ import annotations
 
 import ctypes
-import mmap
+import operator
 import os
-from typing import Any, Iterable, Iterator, Mapping, NamedTuple, SupportsIndex
+from collections import abc
+from typing import Any, Iterable, Iterator, Mapping, NamedTuple, NoReturn, SupportsIndex
 
 from . import _lines, _numbers
 from ._errors import BrokenIndex
-from ._library import DONE, END, MOST, NO_INDEX, NO_PLAN, ROOM, Fault, Posting, Scored, library, refuse
+from ._library import BAD_WEIGHTS, DONE, END, MOST, NO_INDEX, NO_TERM, ROOM, TOO_MANY_TERMS, Fault, Posting, Scored, library, refuse
 from ._numbers import Lent, Numbers, held, one_of
+from ._words import Words
 
 #: the plans of `top`, by name; no answer depends on the plan
 PLANS = {"exhaustive": 0, "wand": 1, "maxscore": 2}
+_BEST_PLAN = "maxscore"
+_MOST_TERMS, _MOST_WEIGHT = 1024, 2**26 - 1
+#: room for every reply that is no list
+_SHORT = 4096
 
 
 class Postings(NamedTuple):
@@ -44,24 +50,25 @@ class Index:
     terms: int
 
     def __init__(self, path: str | os.PathLike[str]) -> None:
-        self._words: ctypes.Array[ctypes.c_uint64] | None = None
+        self._words: Words | None = None
         self.path = os.fspath(path)
         with open(self.path, "rb") as file:
             size = os.fstat(file.fileno()).st_size
             if size % 8 or size < 48:
                 raise BrokenIndex(self.path, 1, 0, 0)
-            # A private map: nothing is written to it, and ctypes takes no address of one that is read-only.
-            whole = mmap.mmap(file.fileno(), size, access=mmap.ACCESS_COPY)
-        words = (ctypes.c_uint64 * (size // 8)).from_buffer(whole)
+            words = Words(file.fileno(), size, self.path)
         fault = Fault()
-        status = library.pefidx_check(ctypes.addressof(words), len(words), fault)
+        status = library.pefidx_check(words.address, words.count, fault)
         if status == NO_INDEX:
             raise BrokenIndex(self.path, fault.check, fault.term, fault.part)
         if status != DONE:
             refuse(status)
-        self.documents = library.pefidx_documents(ctypes.addressof(words), len(words))
-        self.terms = library.pefidx_terms(ctypes.addressof(words), len(words))
+        self.documents = library.pefidx_documents(words.address, words.count)
+        self.terms = library.pefidx_terms(words.address, words.count)
         self._words = words
+
+    def __reduce__(self) -> NoReturn:
+        raise TypeError("an Index is a map in one process, and cannot be pickled: open its file in the other one, by Index(path)")
 
     def close(self) -> None:
         """Lets the map go, once no call that runs holds it. Every later call raises ValueError."""
@@ -94,19 +101,23 @@ class Index:
         """The postings of each term, in the order of terms."""
         return map(self.postings, range(self.terms))
 
-    def _open(self) -> ctypes.Array[ctypes.c_uint64]:
+    def _open(self) -> Words:
         words = self._words
         if words is None:
             raise ValueError("the index is closed")
         return words
 
     def _term(self, term: SupportsIndex) -> int:
-        return one_of(term, 0, self.terms - 1, "term")
+        number = operator.index(term)
+        return number if 0 <= number < self.terms else self._no_term(number)
+
+    def _no_term(self, term: int) -> NoReturn:
+        raise IndexError(f"there is no term {term}: the index has {self.terms}, counted from 0")
 
     def size_of(self, doc: SupportsIndex) -> int:
         """The size of a document, as the collection states it. IndexError: there is no such document."""
         words, size = self._open(), ctypes.c_uint32()
-        status = library.pefidx_size_of(ctypes.addressof(words), len(words), one_of(doc, 0, self.documents - 1, "document"), size)
+        status = library.pefidx_size_of(words.address, words.count, one_of(doc, 0, self.documents - 1, "document"), size)
         return size.value if status == DONE else refuse(status)
 
     def next(self, term: SupportsIndex, doc: SupportsIndex) -> tuple[int, int] | None:
@@ -115,7 +126,7 @@ class Index:
         IndexError: there is no such term, or `doc` is below 0 or above 2^32 - 1. It may be above the last document.
         """
         words, found = self._open(), Posting()
-        status = library.pefidx_next(ctypes.addressof(words), len(words), self._term(term), one_of(doc, 0, MOST, "document"), found)
+        status = library.pefidx_next(words.address, words.count, self._term(term), one_of(doc, 0, MOST, "document"), found)
         if status == END:
             return None
         return (found.doc, found.freq) if status == DONE else refuse(status)
@@ -123,7 +134,7 @@ class Index:
     def count(self, term: SupportsIndex) -> int:
         """How many postings a term has, without its list. IndexError: there is no such term."""
         words, postings = self._open(), ctypes.c_uint32()
-        status = library.pefidx_count(ctypes.addressof(words), len(words), self._term(term), postings)
+        status = library.pefidx_count(words.address, words.count, self._term(term), postings)
         return postings.value if status == DONE else refuse(status)
 
     def postings_into(self, into: Any, term: SupportsIndex, place: SupportsIndex = 0) -> int:
@@ -143,7 +154,7 @@ class Index:
         if not view.nbytes:
             return 0
         memory = (ctypes.c_char * view.nbytes).from_buffer(view)
-        status = library.pefidx_postings(ctypes.addressof(words), len(words), term, place, ctypes.addressof(memory), view.nbytes // 8, given)
+        status = library.pefidx_postings(words.address, words.count, term, place, ctypes.addressof(memory), view.nbytes // 8, given)
         return given.value if status == DONE else refuse(status)
 
     def blocks(self, term: SupportsIndex, place: SupportsIndex = 0, room: SupportsIndex = 4096) -> Iterator[Postings]:
@@ -184,17 +195,34 @@ class Index:
         try:
             return _numbers.numbers(terms)
         except _numbers.NotOfRange as wrong:
-            raise IndexError(f"term {wrong.value} is not in the range from 0 to {self.terms - 1}") from None
+            self._no_term(wrong.value)
 
-    def _matches(self, call: Any, terms: Lent) -> Numbers:
-        words, asked, found, room = self._open(), held(self._terms(terms)), ctypes.c_size_t(), 4096
+    def _counts(self, terms: Iterable[SupportsIndex]) -> list[int]:
+        """How many postings each of these terms has, as far as they are there."""
+        words, count = self._open(), ctypes.c_uint32()
+        asked = (library.pefidx_count(words.address, words.count, int(term), count) == DONE for term in terms)
+        return [count.value for is_there in asked if is_there]
+
+    def _refuse(self, status: int, terms: Numbers) -> NoReturn:
+        """Raises what a call refused, by these terms."""
+        if status == NO_TERM:
+            self._no_term(next(int(term) for term in terms if term >= self.terms))
+        if status == TOO_MANY_TERMS:
+            raise ValueError(f"{len(terms)} terms are asked together, and at most {_MOST_TERMS:,} may be")
+        refuse(status)
+
+    def _matches(self, call: Any, terms: Lent, most: Any) -> Numbers:
+        """What a call finds, with room for `most` of the lengths of the lists."""
+        words, numbers, found = self._open(), self._terms(terms), ctypes.c_size_t()
+        asked = held(numbers)
+        room = min(most(self._counts(numbers[:_MOST_TERMS]) or [0]), self.documents)
         while True:
             docs = _numbers.empty(room)
-            status = call(ctypes.addressof(words), len(words), asked.address, asked.length, held(docs).address, room, found)
+            status = call(words.address, words.count, asked.address, asked.length, held(docs).address, room, found)
             if status == DONE:
                 return _numbers.first(docs, found.value)
             if status != ROOM:
-                refuse(status)
+                self._refuse(status, numbers)
             room = found.value
 
     def and_(self, terms: Lent) -> Numbers:
@@ -202,16 +230,16 @@ class Index:
 
         IndexError: there is no such term. ValueError: there are more than 1,024 terms.
         """
-        return self._matches(library.pefidx_and, terms)
+        return self._matches(library.pefidx_and, terms, min)
 
     def or_(self, terms: Lent) -> Numbers:
         """The documents that have at least one of the terms, rising, each once.
 
         IndexError: there is no such term. ValueError: there are more than 1,024 terms.
         """
-        return self._matches(library.pefidx_or, terms)
+        return self._matches(library.pefidx_or, terms, sum)
 
-    def top(self, k: SupportsIndex, weights: Mapping[int, int], plan: str = "maxscore") -> list[tuple[int, int]]:
+    def top(self, k: SupportsIndex, weights: Mapping[int, int], plan: str = _BEST_PLAN) -> list[tuple[int, int]]:
         """The best k of the documents that have at least one of the terms, as (document, score), by score falling and then by document rising.
 
         `weights` has the terms, each with a weight of at least 1; the score of a document is the sum of weight times frequency over its terms.
@@ -219,19 +247,24 @@ class Index:
         IndexError: there is no such term, or k is below 0 or above 2^32 - 1. ValueError: there is no such plan, there are more than 1,024
         terms, a weight is below 1, or the weights sum to 2^26 or more.
         """
+        if not isinstance(weights, abc.Mapping):
+            raise TypeError(f"each term has its weight in a mapping, as {{0: 1}}, not in a {type(weights).__name__}")
         number = _plan(plan)
         words, k, found = self._open(), one_of(k, 0, MOST, "k"), ctypes.c_size_t()
-        terms, values = held(self._terms(list(weights.keys()))), held(_weights(weights.values()))
-        room = max(1, min(k, self.documents))
-        best = (Scored * room)()
+        asked = self._terms(list(weights))
+        terms, values = held(asked), held(_weights(weights))
+        room = min(k, self.documents, sum(self._counts(asked[:_MOST_TERMS])))
+        best = (Scored * max(1, room))()
         status = library.pefidx_top(
-            ctypes.addressof(words), len(words), number, terms.address, terms.length, values.address, values.length, k, ctypes.addressof(best), room, found
+            words.address, words.count, number, terms.address, terms.length, values.address, values.length, k, ctypes.addressof(best), room, found
         )
+        if status == BAD_WEIGHTS:
+            _refuse_weights(weights)
         if status != DONE:
-            refuse(status)
+            self._refuse(status, asked)
         return [(best[at].doc, best[at].score) for at in range(found.value)]
 
-    def search(self, lines: str | bytes | Iterable[str | bytes], plan: str = "maxscore") -> Iterator[str]:
+    def search(self, lines: str | bytes | Iterable[str | bytes], plan: str = _BEST_PLAN) -> Iterator[str]:
         """The replies to query lines, as `pefidx query` writes them (docs/QUERIES.md): one for each line, in order, as it is asked for.
 
         `lines` is a text, which is cut at its newlines, or lines one by one, as of an open file, each with its newline or without. A line that
@@ -243,7 +276,7 @@ class Index:
         self._open()
         return (self._reply(line, number) for line in _lines.cut(lines))
 
-    def reply(self, line: str | bytes, plan: str = "maxscore") -> str:
+    def reply(self, line: str | bytes, plan: str = _BEST_PLAN) -> str:
         """The reply to one query line, with its newline or without, as `pefidx query` writes it, without its newline.
 
         A line that breaks a rule gets its reply, `bad ..`, and raises nothing.
@@ -253,23 +286,47 @@ class Index:
         return self._reply(_lines.one(line), _plan(plan))
 
     def _reply(self, line: bytes, plan: int) -> str:
-        words, written, room = self._open(), ctypes.c_size_t(), 4096
+        words, written, room = self._open(), ctypes.c_size_t(), self._most_bytes(line)
         while True:
             text = ctypes.create_string_buffer(room)
-            status = library.pefidx_reply(ctypes.addressof(words), len(words), plan, line, len(line), text, room, written)
+            status = library.pefidx_reply(words.address, words.count, plan, line, len(line), text, room, written)
             if status == DONE:
-                return text.raw[: written.value - 1].decode()
+                return ctypes.string_at(text, written.value - 1).decode()
             if status != ROOM:
                 refuse(status)
             room = written.value
 
+    def _most_bytes(self, line: bytes) -> int:
+        """How many bytes the reply to a line takes at most, by the lengths of its lists."""
+        verb, *words = line.split(None, _MOST_TERMS + 2) or [b""]
+        try:
+            numbers = [int(word.partition(b"*")[0]) for word in words]
+        except ValueError:
+            return _SHORT
+        most = self.documents if verb != b"top" else min([self.documents, *numbers[:1]])
+        if verb not in (b"and", b"or", b"top") or 40 * most < _SHORT:
+            return _SHORT
+        counts = self._counts(term for term in numbers[verb == b"top" :] if 0 <= term < self.terms)
+        most = min(most, min(counts, default=0) if verb == b"and" else sum(counts))
+        return _SHORT + (len(str(self.documents)) + (20 if verb == b"top" else 1)) * most
+
 
 def _plan(name: str) -> int:
-    return PLANS[name] if name in PLANS else refuse(NO_PLAN)
+    if name in PLANS:
+        return PLANS[name]
+    raise ValueError(f"there is no plan {name!r}: {', '.join(map(repr, PLANS))}")
 
 
-def _weights(values: Iterable[int]) -> Numbers:
+def _weights(weights: Mapping[int, int]) -> Numbers:
     try:
-        return _numbers.numbers(values)
-    except _numbers.NotOfRange as wrong:
-        raise ValueError(f"weight {wrong.value} is not in the range from 1 to 67108863") from None
+        return _numbers.numbers(weights.values())
+    except _numbers.NotOfRange:
+        _refuse_weights(weights)
+
+
+def _refuse_weights(weights: Mapping[int, int]) -> NoReturn:
+    """Raises what is wrong with weights."""
+    for term, weight in weights.items():
+        if not 1 <= weight <= _MOST_WEIGHT:
+            raise ValueError(f"weight {weight} of term {term} is not in the range from 1 to {_MOST_WEIGHT}")
+    raise ValueError(f"the weights sum to {sum(weights.values())}, and may to {_MOST_WEIGHT}")

@@ -18,12 +18,9 @@ _CAUSES: dict[int, tuple[type[Exception], str]] = {
     NO_DOCUMENT: (IndexError, "the index has no such document"),
     TOO_MANY_TERMS: (ValueError, "more than 1,024 terms"),
     BAD_WEIGHTS: (ValueError, "a weight below 1, or weights that sum to 2^26 or more"),
-    NO_PLAN: (ValueError, "no such plan"),
     NO_MEMORY: (MemoryError, "memory was refused"),
     TOO_LARGE: (OverflowError, "the index would be too large"),
     TOO_MANY: (OverflowError, "more lists or documents than the format takes"),
-    NOT_WHOLE: (ValueError, "not one frequency for each document"),
-    NO_FORMAT: (ValueError, "no such format"),
 }
 
 
@@ -49,13 +46,22 @@ def refuse(status: int) -> NoReturn:
     raise kind(cause)
 
 
+#: the shared library of `make install`, which the loader of the system finds
+_INSTALLED = "libpefidx.so.0"
+
+
 def _path() -> str:
-    return os.environ.get("PEFIDX_LIBRARY") or os.path.join(os.path.dirname(os.path.abspath(__file__)), "libpefidx.so")
+    """The shared library: the one that PEFIDX_LIBRARY names, else the one beside the package, else the installed one."""
+    beside = os.path.join(os.path.dirname(os.path.abspath(__file__)), "libpefidx.so")
+    return os.environ.get("PEFIDX_LIBRARY") or (beside if os.path.exists(beside) else _INSTALLED)
 
 
 def is_there() -> bool:
-    """Whether the library is beside the package, or named by PEFIDX_LIBRARY."""
-    return "PEFIDX_LIBRARY" in os.environ or os.path.exists(_path())
+    """Whether there is a shared library."""
+    try:
+        return library.pefidx_check is not None
+    except OSError:
+        return "PEFIDX_LIBRARY" in os.environ
 
 
 def _loaded() -> ctypes.CDLL:

@@ -25,4 +25,8 @@ def one(line: str | bytes) -> bytes:
 
 
 def _bytes(text: str | bytes) -> bytes:
-    return text.encode("utf-8", "surrogatepass") if isinstance(text, str) else text
+    if isinstance(text, bytes):
+        return text
+    if not isinstance(text, str):
+        raise TypeError(f"a line is str or bytes, not {type(text).__name__}")
+    return text.encode("utf-8", "surrogatepass")

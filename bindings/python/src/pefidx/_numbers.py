@@ -70,11 +70,11 @@ def empty(count: int) -> Numbers:
 
 
 def first(made: Numbers, count: int) -> Numbers:
-    """The first numbers of an array, without a copy where it is one of numpy."""
+    """The first numbers of an array; without a copy where they are most of one of numpy."""
     if isinstance(made, array.array):
         del made[count:]
         return made
-    return made[:count]
+    return made[:count] if 2 * count >= len(made) else made[:count].copy()
 
 
 class Held(NamedTuple):

@@ -1,0 +1,35 @@
+"""The words of a file, mapped by the C library: `mmap` of Python lends no address of a map that is read-only."""
+
+from __future__ import annotations
+
+import ctypes
+import os
+import weakref
+from typing import Any
+
+_PROT_READ, _MAP_SHARED, _FAILED = 1, 1, ctypes.c_void_p(-1).value
+
+
+def _of_libc() -> Any:
+    libc = ctypes.CDLL(None, use_errno=True)
+    libc.mmap.argtypes = [ctypes.c_void_p, ctypes.c_size_t, ctypes.c_int, ctypes.c_int, ctypes.c_int, ctypes.c_long]
+    libc.mmap.restype = ctypes.c_void_p
+    libc.munmap.argtypes = [ctypes.c_void_p, ctypes.c_size_t]
+    return libc
+
+
+_libc = _of_libc()
+
+
+class Words:
+    """A map of the words of an open file, which goes once nothing holds it. A call holds it while it runs."""
+
+    def __init__(self, file: int, size: int, path: str | os.PathLike[str]) -> None:
+        address = _libc.mmap(None, size, _PROT_READ, _MAP_SHARED, file, 0)
+        if address == _FAILED:
+            number = ctypes.get_errno()
+            raise OSError(number, os.strerror(number), path)
+        self.address: int = address
+        self.count = size // 8
+        # At the end of the process another thread may still read it.
+        weakref.finalize(self, _libc.munmap, address, size).atexit = False
