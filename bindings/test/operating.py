@@ -181,7 +181,7 @@ def addresses():
     for port in "99999", "65536", "70x", "-1", "", " 1":
         assert "0 to 65535" in refused(small(), "127.0.0.1:" + port), port
     assert "HOST:PORT" in refused(small(), "nowhere")
-    assert "No such file" in refused(small(), "./none/socket") and "too long" in refused(small(), "/tmp/" + 200 * "x")
+    assert "No such file" in refused(small(), "./none/socket") and "too long" in refused(small(), "/srv/" + 200 * "x")
     assert "\n" not in refused(small(), "none.invalid:1").strip()
 
 
