@@ -4,15 +4,15 @@ use Rattle.std.specs.Prelude.{Contains, AllPairs, ◌↔◌}
 use Rattle.std.specs.List.{All, list_any}
 use Rattle.std.proofs.lemmas.Bool.{cases_lt, false_from_ne_true}
 use Rattle.std.proofs.lemmas.List.{get_or_default, length-map, length-reverse, reverse-append}
-use Rattle.std.proofs.lemmas.List.Elements.{All-contains, All-nil}
+use Rattle.std.proofs.lemmas.List.Elements.{All-contains, All-nil, All-take}
 use Rattle.std.proofs.lemmas.List.Sorted.{IsPermutation-reverse, IsPermutation-sym, Contains-permutation}
 use Rattle.collection_model.specs.Collection.{Posting}
 use Rattle.scan_plans.specs.Matches.{has_doc, in_any, score}
 use Rattle.scan_plans.specs.IsTop.{Before, IsTop, IsTopOf}
-use Rattle.scan_plans.specs.Ranking.{Ranking, in_order, IsFirstK}
+use Rattle.scan_plans.specs.Ranking.{Gathering, held_of, in_order, IsFirstK}
 use Rattle.scan_plans.specs.Best.{scored, pairs_of, IsBest, IsBar}
 use Rattle.scan_plans.specs.Window.{AreScored}
-use Rattle.scan_plans.proofs.Order.{Pair, same-pair, contains-there, all-contained, in_order-more, first-k, first-k-more, IsFirstOf, first-one}
+use Rattle.scan_plans.proofs.Order.{Pair, same-pair, contains-there, all-contained, in_order-from, in_order-more, first-k, first-k-more, IsFirstOf, first-one}
 use Rattle.scan_plans.proofs.Scans.{contains-split, contains-map, contains-from_map, filter-below, filter-skip, any-next, any-same}
 
 pairs-more : (lists : List (List Posting)) (weights : List ℕ) (docs : List ℕ) (d : ℕ) → pairs_of lists weights (docs ++ d ∷ []) ≡ scored lists weights d ∷ pairs_of lists weights docs
@@ -29,7 +29,7 @@ pairs-from lists weights docs x c =
 pairs-to : (lists : List (List Posting)) (weights : List ℕ) (docs : List ℕ) (d : ℕ) → Contains docs d → Contains (pairs_of lists weights docs) (scored lists weights d)
 pairs-to lists weights docs d c = contains-map (scored lists weights) (reverse docs) d (Contains-permutation docs (reverse docs) d (IsPermutation-reverse docs) c)
 
-take-nil : (k : ℕ) → [] ≡ take k (in_order [])
+pub take-nil : (k : ℕ) → [] ≡ take k (in_order [])
 take-nil zero = refl
 take-nil (suc k) = refl
 
@@ -70,6 +70,10 @@ best-of docs lists weights k held best =
 
 pub best-top : (n : ℕ) (lists : List (List Posting)) (weights : List ℕ) (k : ℕ) (held : List Pair) → IsBest k lists weights (in_any n lists) held → IsTop n lists weights k held
 best-top n lists weights k held best = best-of (in_any n lists) lists weights k held best
+
+-- what is so of all gathered is so of the first k
+pub held-all : (P : Pair → Type 0) (g : Gathering) → All P g.found → All P (held_of g)
+held-all P g all = All-take P g.k (in_order g.found) (all-contained P (in_order g.found) (λ x c. All-contains P g.found x all (in_order-from g.found x c)))
 
 pub top-of-none : (n : ℕ) (lists : List (List Posting)) (weights : List ℕ) → IsTop n lists weights 0 []
 top-of-none n lists weights = record {
@@ -160,76 +164,70 @@ full-stays k d s held ordered full below least = record {
 }
 
 -- ---- the documents of a window that have a score, offered one after another
-pub record IsOffered (first at : ℕ) (scores : List ℕ) (old now : Ranking) : Type 0 where
+pub record IsOffered (first at : ℕ) (scores : List ℕ) (old now : Gathering) : Type 0 where
   pub k : now.k ≡ old.k
-  pub n : now.n ≡ old.n
-  pub above : All (λ (e : Pair). e.0 < first + at) now.held
-  pub best : (lists : List (List Posting)) (weights : List ℕ) → AreScored lists weights first scores → IsBest old.k lists weights (in_any first lists) old.held → IsBest old.k lists weights (in_any (first + at) lists) now.held
-  pub bound : All (λ s. s < 2 ^ 58) scores → All (λ (e : Pair). e.1 < 2 ^ 58) old.held → All (λ (e : Pair). e.1 < 2 ^ 58) now.held
+  pub above : All (λ (e : Pair). e.0 < first + at) now.found
+  pub best : (lists : List (List Posting)) (weights : List ℕ) → AreScored lists weights first scores → IsBest old.k lists weights (in_any first lists) (held_of old) → IsBest old.k lists weights (in_any (first + at) lists) (held_of now)
+  pub bound : All (λ s. s < 2 ^ 58) scores → All (λ (e : Pair). e.1 < 2 ^ 58) old.found → All (λ (e : Pair). e.1 < 2 ^ 58) now.found
 
-pub offered-none : (first : ℕ) (scores : List ℕ) (old : Ranking) → All (λ (e : Pair). e.0 < first) old.held → IsOffered first 0 scores old old
+pub offered-none : (first : ℕ) (scores : List ℕ) (old : Gathering) → All (λ (e : Pair). e.0 < first) old.found → IsOffered first 0 scores old old
 offered-none first scores old below =
     let start : first ≡ first + 0 = omega arith in
     record {
       k = refl;
-      n = refl;
       above = λ i x within. let h = below i x within in omega arith;
-      best = λ lists weights scores best. subst (λ (n : ℕ). IsBest old.k lists weights (in_any n lists) old.held) start best;
+      best = λ lists weights scores best. subst (λ (n : ℕ). IsBest old.k lists weights (in_any n lists) (held_of old)) start best;
       bound = λ small held. held;
     }
 
-pub offered-more : (first at s : ℕ) (scores : List ℕ) (old now new : Ranking) → at < length scores → s ≡ get_or scores at 0 → 0 < s → new.k ≡ now.k → new.n ≡ now.n → IsFirstK now.k ((first + at, s) ∷ now.held) new.held → IsOffered first at scores old now → IsOffered first (at + 1) scores old new
-offered-more first at s scores old now new within is some k n firsts so_far =
+pub offered-more : (first at s : ℕ) (scores : List ℕ) (old now new : Gathering) → at < length scores → s ≡ get_or scores at 0 → 0 < s → new.k ≡ now.k → IsFirstK now.k ((first + at, s) ∷ held_of now) (held_of new) → All (Contains ((first + at, s) ∷ now.found)) new.found → IsOffered first at scores old now → IsOffered first (at + 1) scores old new
+offered-more first at s scores old now new within is some k firsts among so_far =
     let next : first + at + 1 ≡ first + (at + 1) = omega arith in
     record {
       k = k ∙ so_far.k;
-      n = n ∙ so_far.n;
-      above = offered-below (first + at) (first + (at + 1)) s now.held new.held (omega arith) firsts.of_them so_far.above;
+      above = offered-below (first + at) (first + (at + 1)) s now.found new.found (omega arith) among so_far.above;
       best = λ lists weights are best.
-          best-next old.k lists weights (first + at) (first + (at + 1)) s now.held new.held next ((are.found at within).0 (subst (λ (x : ℕ). 0 < x) is some)) (is ∙ are.scored at within) (so_far.best lists weights are best)
-          (subst (λ (x : ℕ). IsFirstK x ((first + at, s) ∷ now.held) new.held) so_far.k firsts);
-      bound = λ small held. still-below (first + at) s now.held new.held firsts.of_them (subst (λ (x : ℕ). x < 2 ^ 58) (sym is) (small at 0 within)) (so_far.bound small held);
+          best-next old.k lists weights (first + at) (first + (at + 1)) s (held_of now) (held_of new) next ((are.found at within).0 (subst (λ (x : ℕ). 0 < x) is some)) (is ∙ are.scored at within) (so_far.best lists weights are best)
+          (subst (λ (x : ℕ). IsFirstK x ((first + at, s) ∷ (held_of now)) (held_of new)) so_far.k firsts);
+      bound = λ small held. still-below (first + at) s now.found new.found among (subst (λ (x : ℕ). x < 2 ^ 58) (sym is) (small at 0 within)) (so_far.bound small held);
     }
 
-pub offered-same : (first at s : ℕ) (scores : List ℕ) (old now : Ranking) → at < length scores → s ≡ get_or scores at 0 → s ≤ 0 → IsOffered first at scores old now → IsOffered first (at + 1) scores old now
+pub offered-same : (first at s : ℕ) (scores : List ℕ) (old now : Gathering) → at < length scores → s ≡ get_or scores at 0 → s ≤ 0 → IsOffered first at scores old now → IsOffered first (at + 1) scores old now
 offered-same first at s scores old now within is none so_far =
     let next : first + at + 1 ≡ first + (at + 1) = omega arith in
     record {
       k = so_far.k;
-      n = so_far.n;
       above = λ i x inside. let h = so_far.above i x inside in omega arith;
       best = λ lists weights are best.
-          best-same old.k lists weights (first + at) (first + (at + 1)) now.held next (false_from_ne_true (list_any (has_doc (first + at)) lists) (λ has. let above = (are.found at within).1 has in absurd (omega arith))) (so_far.best lists weights are best);
+          best-same old.k lists weights (first + at) (first + (at + 1)) (held_of now) next (false_from_ne_true (list_any (has_doc (first + at)) lists) (λ has. let above = (are.found at within).1 has in absurd (omega arith))) (so_far.best lists weights are best);
       bound = so_far.bound;
     }
 
 -- one whose score does not pass the bar
-pub offered-passed : (first at s bar : ℕ) (scores : List ℕ) (old now : Ranking) → at < length scores → s ≡ get_or scores at 0 → s ≤ bar → IsBar now bar → IsOffered first at scores old now → IsOffered first (at + 1) scores old now
+pub offered-passed : (first at s bar : ℕ) (scores : List ℕ) (old now : Gathering) → at < length scores → s ≡ get_or scores at 0 → s ≤ bar → IsBar now.k (held_of now) bar → IsOffered first at scores old now → IsOffered first (at + 1) scores old now
 offered-passed first at s bar scores old now within is low (inl none) so_far = offered-same first at s scores old now within is (omega arith) so_far
 offered-passed first at s bar scores old now within is low (inr full) so_far =
     let next : first + at + 1 ≡ first + (at + 1) = omega arith in
     let doc : ℕ = first + at in
-    let least : All (λ (e : Pair). s ≤ e.1) now.held = λ i x inside. let h = full.1 i x inside in omega arith in
+    let least : All (λ (e : Pair). s ≤ e.1) (held_of now) = λ i x inside. let h = full.1 i x inside in omega arith in
     elim (cases_lt 0 s) as (λ _. IsOffered first (at + 1) scores old now) [
       | inr none ↦ offered-same first at s scores old now within is none so_far
       | inl some ↦ record {
         k = so_far.k;
-        n = so_far.n;
         above = λ i x inside. let h = so_far.above i x inside in omega arith;
         best = λ lists weights are best.
             let before = so_far.best lists weights are best in
-            let count : length now.held ≡ old.k = full.0 ∙ so_far.k in
-            best-next old.k lists weights doc (first + (at + 1)) s now.held now.held next ((are.found at within).0 (subst (λ (x : ℕ). 0 < x) is some)) (is ∙ are.scored at within) before
-            (full-stays old.k doc s now.held (held-first old.k lists weights (in_any doc lists) now.held before).ordered count so_far.above least);
+            let count : length (held_of now) ≡ old.k = full.0 ∙ so_far.k in
+            best-next old.k lists weights doc (first + (at + 1)) s (held_of now) (held_of now) next ((are.found at within).0 (subst (λ (x : ℕ). 0 < x) is some)) (is ∙ are.scored at within) before
+            (full-stays old.k doc s (held_of now) (held-first old.k lists weights (in_any doc lists) (held_of now) before).ordered count (best-below old.k lists weights (in_any doc lists) (held_of now) doc before (any-below doc doc lists (omega arith))) least);
         bound = so_far.bound;
       }
     ]
 
 -- no list has a document whose score is 0
-pub offered-skip : (first at to : ℕ) (scores : List ℕ) (old now : Ranking) → at ≤ to → to ≤ length scores → ((k : ℕ) → at ≤ k → k < to → get_or scores k 0 ≡ 0) → IsOffered first at scores old now → IsOffered first to scores old now
+pub offered-skip : (first at to : ℕ) (scores : List ℕ) (old now : Gathering) → at ≤ to → to ≤ length scores → ((k : ℕ) → at ≤ k → k < to → get_or scores k 0 ≡ 0) → IsOffered first at scores old now → IsOffered first to scores old now
 offered-skip first at to scores old now le within none_there so_far = record {
   k = so_far.k;
-  n = so_far.n;
   above = λ i x inside. let h = so_far.above i x inside in omega arith;
   best = λ lists weights are best.
       let none : (e : ℕ) → first + at ≤ e → e < first + to → list_any (has_doc e) lists ≡ false = λ e from lt.
@@ -238,7 +236,7 @@ offered-skip first at to scores old now le within none_there so_far = record {
       let nothing = none_there k (omega arith) (omega arith) in
       subst (λ (d : ℕ). list_any (has_doc d) lists ≡ false) is
       (false_from_ne_true (list_any (has_doc (first + k)) lists) (λ has. let above = (are.found k (omega arith)).1 has in absurd (omega arith))) in
-      subst (λ (docs : List ℕ). IsBest old.k lists weights docs now.held) (sym (filter-skip (λ d. list_any (has_doc d) lists) (first + at) (first + to) (omega arith) none)) (so_far.best lists weights are best);
+      subst (λ (docs : List ℕ). IsBest old.k lists weights docs (held_of now)) (sym (filter-skip (λ d. list_any (has_doc d) lists) (first + at) (first + to) (omega arith) none)) (so_far.best lists weights are best);
   bound = so_far.bound;
 }
 
@@ -261,19 +259,18 @@ scored-piece lists weights first base from n scores piece start is are =
     }
 
 -- those of a word were offered
-pub offered-word : (first base at to : ℕ) (scores piece : List ℕ) (old now new : Ranking) → base ≡ first + at → at + 64 ≡ to → IsPiece at 64 scores piece → new.k ≡ now.k → new.n ≡ now.n → All (λ (e : Pair). e.0 < base + 64) new.held
-    → ((lists : List (List Posting)) (weights : List ℕ) → AreScored lists weights base piece → IsBest now.k lists weights (in_any base lists) now.held → IsBest now.k lists weights (in_any (base + 64) lists) new.held)
-    → (All (λ s. s < 2 ^ 58) piece → All (λ (e : Pair). e.1 < 2 ^ 58) now.held → All (λ (e : Pair). e.1 < 2 ^ 58) new.held) → IsOffered first at scores old now → IsOffered first to scores old new
-offered-word first base at to scores piece old now new start end is k n above best bound so_far =
+pub offered-word : (first base at to : ℕ) (scores piece : List ℕ) (old now new : Gathering) → base ≡ first + at → at + 64 ≡ to → IsPiece at 64 scores piece → new.k ≡ now.k → All (λ (e : Pair). e.0 < base + 64) new.found
+    → ((lists : List (List Posting)) (weights : List ℕ) → AreScored lists weights base piece → IsBest now.k lists weights (in_any base lists) (held_of now) → IsBest now.k lists weights (in_any (base + 64) lists) (held_of new))
+    → (All (λ s. s < 2 ^ 58) piece → All (λ (e : Pair). e.1 < 2 ^ 58) now.found → All (λ (e : Pair). e.1 < 2 ^ 58) new.found) → IsOffered first at scores old now → IsOffered first to scores old new
+offered-word first base at to scores piece old now new start end is k above best bound so_far =
     let next : base + 64 ≡ first + to = omega arith in
     record {
       k = k ∙ so_far.k;
-      n = n ∙ so_far.n;
-      above = subst (λ (d : ℕ). All (λ (e : Pair). e.0 < d) new.held) next above;
+      above = subst (λ (d : ℕ). All (λ (e : Pair). e.0 < d) new.found) next above;
       best = λ lists weights are held.
           let before = so_far.best lists weights are held in
-          let here : IsBest now.k lists weights (in_any base lists) now.held = subst (λ (d : ℕ). IsBest now.k lists weights (in_any d lists) now.held) (sym start) (subst (λ (m : ℕ). IsBest m lists weights (in_any (first + at) lists) now.held) (sym so_far.k) before) in
+          let here : IsBest now.k lists weights (in_any base lists) (held_of now) = subst (λ (d : ℕ). IsBest now.k lists weights (in_any d lists) (held_of now)) (sym start) (subst (λ (m : ℕ). IsBest m lists weights (in_any (first + at) lists) (held_of now)) (sym so_far.k) before) in
           let after = best lists weights (scored-piece lists weights first base at 64 scores piece start is are) here in
-          subst (λ (d : ℕ). IsBest old.k lists weights (in_any d lists) new.held) next (subst (λ (m : ℕ). IsBest m lists weights (in_any (base + 64) lists) new.held) so_far.k after);
+          subst (λ (d : ℕ). IsBest old.k lists weights (in_any d lists) (held_of new)) next (subst (λ (m : ℕ). IsBest m lists weights (in_any (base + 64) lists) (held_of new)) so_far.k after);
       bound = λ small held. bound (λ i d inside. subst (λ (s : ℕ). s < 2 ^ 58) (sym (get_or_default piece i d 0 inside ∙ is.same i (omega arith))) (small (at + i) 0 (omega arith))) (so_far.bound small held);
     }

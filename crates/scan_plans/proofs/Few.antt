@@ -1,12 +1,14 @@
 -- Lemmas on how many documents some lists have.
 use Rattle.std.proofs.Common.{◌≡◌, refl, ap, ◌∙◌, ℕ, zero, suc, ◌+◌, ◌<◌, ◌≤◌, Bool, true, false, cond, eqb, List, [], ◌∷◌, length, arith}
-use Rattle.std.specs.Prelude.{◌||◌}
+use Rattle.std.specs.Prelude.{◌||◌, min, not}
 use Rattle.std.specs.List.{filter, list_any, range_with_len, sum_by}
 use Rattle.std.proofs.lemmas.Bool.{eqb-true, ne_eqb}
+use Rattle.std.proofs.lemmas.List.Filters.{length-filter_both}
+use Rattle.std.proofs.lemmas.List.FromFn.{length-range_with_len}
 use Rattle.std.proofs.lemmas.List.Sums.{sum_by-cons}
 use Rattle.collection_model.specs.Collection.{Posting}
 use Rattle.scan_plans.specs.Matches.{has_doc, in_any}
-use Rattle.scan_plans.specs.IsTop.{TopOfPostings}
+use Rattle.scan_plans.specs.IsTop.{IsTop, TopOfPostings}
 
 -- ---- what two tests keep
 either-step : {X : Type 0} (a b : Bool) (x : X) (all some others : List X) → length all ≤ length some + length others
@@ -65,5 +67,20 @@ any-few n (l ∷ lists) =
 pub top-of_few : TopOfPostings
 top-of_few n lists weights k r top =
     let few = any-few n lists in
+    let count = top.count in
+    record { ordered = top.ordered; found = top.found; scored = top.scored; count = omega arith; others_after = top.others_after }
+
+-- nor more than n
+any-below_n : (n : ℕ) (lists : List (List Posting)) → length (in_any n lists) ≤ n
+any-below_n n lists =
+    let p : ℕ → Bool = λ d. list_any (has_doc d) lists in
+    let both = length-filter_both p (λ d. not (p d)) (λ d. refl) (range_with_len 0 n) in
+    let all = length-range_with_len 0 n in
+    omega arith
+
+-- one of n is that of more
+pub top-of_all : (n : ℕ) (lists : List (List Posting)) (weights : List ℕ) (k : ℕ) (r : List (ℕ × ℕ)) → IsTop n lists weights (min k n) r → IsTop n lists weights k r
+top-of_all n lists weights k r top =
+    let few = any-below_n n lists in
     let count = top.count in
     record { ordered = top.ordered; found = top.found; scored = top.scored; count = omega arith; others_after = top.others_after }

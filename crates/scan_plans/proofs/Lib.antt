@@ -5,6 +5,7 @@ mod Order
 mod Scans
 mod Steps
 mod Heap
+mod Firsts
 mod Bests
 mod Reordered
 mod Windows

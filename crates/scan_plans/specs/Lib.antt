@@ -6,5 +6,6 @@ pub mod Scan
 pub mod Held
 pub mod Window
 pub mod Best
+pub mod Gathered
 pub mod Skips
 pub mod AnyOrder

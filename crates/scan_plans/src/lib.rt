@@ -2,6 +2,7 @@
 #![tactic(auto)]
 
 mod docs;
+mod gathered;
 mod laws;
 mod scan;
 mod skips;

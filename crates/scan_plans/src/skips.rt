@@ -16,8 +16,9 @@ pub fn top_list_grows()
     ensures in_range { HasOnlyBelow }
 {}
 
-/// The top list of a set grows in any order: that of the pairs offered so far and one more is made of what is held and this one. So does
-/// that of the documents seen so far, of which those are passed over that come after all k held.
+/// The top list of a set grows in any order: that of the pairs offered so far and one more is made of
+/// what is held and this one. So does that of the documents seen so far, of which those are passed
+/// over that come after all k held.
 pub fn top_list_grows_in_any_order()
     ensures first_none { FirstOfNone }
     ensures first_offered { FirstAfterOffer }

@@ -42,7 +42,7 @@ loop-i-preserved c =
     let word : n ≡ 64 = omega arith in
     record {
       offered = offered-word first (c.from.result + 64 * i) (64 * i) (64 * (i + 1)) scores (take n (drop (64 * i) c.loop-i.scores)) c.args.top.now c.loop-i.top c.offer_word.new.top base (omega arith)
-          (word-piece (64 * i) n scores c.loop-i.scores word (omega arith) so_far.cleared) is.k is.n is.above is.best is.bound so_far.offered;
+          (word-piece (64 * i) n scores c.loop-i.scores word (omega arith) so_far.cleared) is.k is.above is.best is.bound so_far.offered;
       cleared = cleared-piece 0 scores (64 * i) n (64 * (i + 1)) c.loop-i.scores c.offer_word.new.scores (omega arith) (omega arith) (is.count ∙ sym word) (λ k lt. is.clear k 0 (let count = is.count in omega arith)) so_far.cleared;
       unmarked = cleared-more 0 c.args.marks.now i c.loop-i.marks inside so_far.unmarked;
       fits = so_far.fits;
@@ -60,10 +60,11 @@ returns c =
     let past : c.args.reached ≤ 64 * c.loop-i.i = omega (arith, c.div_ceil-i-end.ensures) in
     let fit : 64 * c.loop-i.i ≤ length c.args.scores.now = omega (arith, c.requires.reached.within, c.requires.same, c.div_ceil-i-end.ensures) in
     let none = none-behind c.args.reached (64 * c.loop-i.i) c.args.marks.now c.args.scores.now past c.requires.reached in
+    let whole = offered-skip c.args.first (64 * c.loop-i.i) (length c.args.scores.now) c.args.scores.now c.args.top.now c.loop-i.top fit (omega arith) none offered in
     record {
       k = offered.k;
-      n = offered.n;
-      best = (offered-skip c.args.first (64 * c.loop-i.i) (length c.args.scores.now) c.args.scores.now c.args.top.now c.loop-i.top fit (omega arith) none offered).best;
+      above = whole.above;
+      best = whole.best;
       bound = offered.bound;
       left = record {
         count = cleared.count;

@@ -2,7 +2,7 @@ use Rattle.std.proofs.Common.{◌≡◌, sym, subst, ℕ, ◌+◌, ◌^◌, ◌<
 use Rattle.std.specs.Int.{bit_at}
 use Rattle.std.proofs.lemmas.Nat.Bits.{bit_at-zero}
 use Rattle.scan_plans.specs.Best.{IsBar}
-use Rattle.scan_plans.specs.Ranking.{Ranking}
+use Rattle.scan_plans.specs.Ranking.{Gathering, held_of}
 use Rattle.scan_plans.proofs.Bests.{IsOffered, later-is_new, offered-none, offered-more, offered-passed, offered-skip}
 use Rattle.scan_plans.proofs.Marks.{IsRest, rest-all, rest-more, rest-less, lowest, lowest-from, lowest-one, none-between}
 use Rattle.scan_plans.proofs.Windows.{cleared-none, cleared-more, cleared-skip, cleared-all}
@@ -14,7 +14,8 @@ loop-rest-init c = record {
   low = 0;
   rest = rest-all c.args.word;
   offered = offered-none c.args.base c.args.scores.now c.args.top.now c.requires.offers.above;
-  bar = c.bar_of-bar.ensures;
+  same_bar = c.bar-bar.ensures.value;
+  bar = c.bar-bar.ensures.bar;
   cleared = cleared-none 0 c.args.scores.now;
 }
 
@@ -26,7 +27,7 @@ offer-requires-clause-new c =
     let test = c.loop-rest-test.true in
     let auto = c.loop-rest.auto.rest-fits in
     let start = lowest-from c.args.word so_far.low rest (omega arith) (omega arith) so_far.rest in
-    later-is_new (c.args.base + so_far.low) (c.args.base + lowest c.args.word so_far.low rest (omega arith) (omega arith) so_far.rest) c.loop-rest.top.held so_far.offered.above (omega arith)
+    later-is_new (c.args.base + so_far.low) (c.args.base + lowest c.args.word so_far.low rest (omega arith) (omega arith) so_far.rest) c.loop-rest.top.found so_far.offered.above (omega arith)
 
 pub loop-rest-preserved : goal.loop-rest-preserved
 loop-rest-preserved c =
@@ -45,8 +46,8 @@ loop-rest-preserved c =
     let scores : List ℕ = c.args.scores.now in
     let whole = c.requires.whole in
     let score : ℕ = get_or c.loop-rest.scores one 0 in
-    let old : Ranking = c.args.top.now in
-    let now : Ranking = c.loop-rest.top in
+    let old : Gathering = c.args.top.now in
+    let now : Gathering = c.loop-rest.top in
     let short = is.0 in
     let within : one < length scores = omega arith in
     let nothing : (k : ℕ) → low ≤ k → k < one → get_or scores k 0 ≡ 0 = λ k from before. c.requires.marked k (omega arith) (none-between word low rest some fits so_far.rest k from before) in
@@ -57,14 +58,18 @@ loop-rest-preserved c =
       rest = rest-more word low rest some fits so_far.rest;
       offered = elim c.if-score-bar.branch as (λ _. IsOffered base (one + 1) scores old c.if-score-bar.top) [
         | then-score-bar w ↦ (let above = w.if-score-bar.true in
-            subst (λ (t : Ranking). IsOffered base (one + 1) scores old t) (sym w.top-is)
-            (offered-more base one score scores old now w.offer.new.self within read (omega arith) w.offer.ensures.k w.offer.ensures.n w.offer.ensures.first here))
-        | else-score-bar w ↦ subst (λ (t : Ranking). IsOffered base (one + 1) scores old t) (sym w.top-is)
+            subst (λ (t : Gathering). IsOffered base (one + 1) scores old t) (sym w.top-is)
+            (offered-more base one score scores old now w.offer.new.self within read (omega arith) w.offer.ensures.k w.offer.ensures.first w.offer.ensures.among here))
+        | else-score-bar w ↦ subst (λ (t : Gathering). IsOffered base (one + 1) scores old t) (sym w.top-is)
             (offered-passed base one score c.loop-rest.bar scores old now within read w.if-score-bar.false so_far.bar here)
       ];
-      bar = elim c.if-score-bar.branch as (λ _. IsBar c.if-score-bar.top c.if-score-bar.bar) [
-        | then-score-bar w ↦ subst (λ (t : Ranking). IsBar t c.if-score-bar.bar) (sym w.top-is) (subst (IsBar w.offer.new.self) (sym w.bar-is) w.bar_of-bar-then-score-bar.ensures)
-        | else-score-bar w ↦ subst (λ (t : Ranking). IsBar t c.if-score-bar.bar) (sym w.top-is) (subst (IsBar now) (sym w.bar-is) so_far.bar)
+      same_bar = elim c.if-score-bar.branch as (λ _. c.if-score-bar.bar ≡ c.if-score-bar.top.bar) [
+        | then-score-bar w ↦ w.bar-is ∙ w.bar-bar-then-score-bar.ensures.value ∙ ap (λ (t : Gathering). t.bar) (sym w.top-is)
+        | else-score-bar w ↦ w.bar-is ∙ so_far.same_bar ∙ ap (λ (t : Gathering). t.bar) (sym w.top-is)
+      ];
+      bar = elim c.if-score-bar.branch as (λ _. IsBar c.if-score-bar.top.k (held_of c.if-score-bar.top) c.if-score-bar.bar) [
+        | then-score-bar w ↦ subst (λ (t : Gathering). IsBar t.k (held_of t) c.if-score-bar.bar) (sym w.top-is) (subst (IsBar w.offer.new.self.k (held_of w.offer.new.self)) (sym w.bar-is) w.bar-bar-then-score-bar.ensures.bar)
+        | else-score-bar w ↦ subst (λ (t : Gathering). IsBar t.k (held_of t) c.if-score-bar.bar) (sym w.top-is) (subst (IsBar now.k (held_of now)) (sym w.bar-is) so_far.bar)
       ];
       cleared = cleared-more 0 scores one c.loop-rest.scores within (cleared-skip 0 scores low one c.loop-rest.scores nothing start so_far.cleared);
     }
@@ -81,7 +86,7 @@ rest-none : (word low rest : ℕ) (scores : List ℕ) → rest ≡ 0 → IsRest 
 rest-none word low rest scores none is marked k from lt = marked k lt (sym (is.same k from lt) ∙ ap (λ (r : ℕ). bit_at r k) none ∙ bit_at-zero k)
 
 -- all were offered
-offered-whole : (base word low rest : ℕ) (scores : List ℕ) (old now : Ranking) → rest ≡ 0 → length scores ≡ 64 → IsRest word low rest → ((k : ℕ) → k < 64 → bit_at word k ≡ 0 → get_or scores k 0 ≡ 0) → IsOffered base low scores old now → IsOffered base 64 scores old now
+offered-whole : (base word low rest : ℕ) (scores : List ℕ) (old now : Gathering) → rest ≡ 0 → length scores ≡ 64 → IsRest word low rest → ((k : ℕ) → k < 64 → bit_at word k ≡ 0 → get_or scores k 0 ≡ 0) → IsOffered base low scores old now → IsOffered base 64 scores old now
 offered-whole base word low rest scores old now none whole is marked so_far = offered-skip base low 64 scores old now is.within (omega arith) (rest-none word low rest scores none is marked) so_far
 
 pub returns-clause-above : goal.returns-clause-above

@@ -1,4 +1,4 @@
-use Rattle.std.proofs.Common.{◌≡◌, refl, sym, ap, inl, inr, ◌∙◌, subst, ℕ, ◌+◌, ◌*◌, ◌^◌, ◌<◌, true, false, List, [], length, map, slice_index, arith}
+use Rattle.std.proofs.Common.{◌≡◌, refl, sym, ap, inl, inr, ◌∙◌, subst, ℕ, ◌+◌, ◌*◌, ◌^◌, ◌<◌, true, false, List, [], length, map, take, slice_index, arith}
 use Rattle.std.proofs.lemmas.Bool.{cases_lt, false≢true}
 use Rattle.std.specs.List.{All, list_any}
 use Rattle.std.proofs.lemmas.List.Elements.{All-nil}
@@ -7,10 +7,10 @@ use Rattle.collection_model.specs.Collection.{Posting}
 use Rattle.scan_plans.specs.Best.{IsBest}
 use Rattle.scan_plans.specs.IsTop.{IsTop}
 use Rattle.scan_plans.specs.Matches.{AreBelow, has_doc, in_any}
-use Rattle.scan_plans.specs.Ranking.{Ranking}
+use Rattle.scan_plans.specs.Ranking.{Gathering, held_of, in_order}
 use Rattle.scan_plans.specs.Scan.{StandsFrom}
 use Rattle.scan_plans.specs.Window.{AreScored, is_marked}
-use Rattle.scan_plans.proofs.Bests.{best-none, best-below, best-top, any-below}
+use Rattle.scan_plans.proofs.Bests.{best-none, best-top, held-all, take-nil}
 use Rattle.scan_plans.proofs.Scans.{IsNextDoc, next-doc, no-next-doc, any-bound}
 use Rattle.scan_plans.proofs.Steps.{as-many, passing-leaves-less, starts-stand}
 use Rattle.scan_plans.proofs.top.score_all.Given as given
@@ -28,7 +28,8 @@ zero-unless n not = elim (cases_lt 0 n) as (λ _. n ≡ 0) [ inl some ↦ absurd
 pub loop-first-init : goal.loop-first-init
 loop-first-init g c =
     let lists : List (List Posting) = map g.C.DocCursor.list c.args.cursors.now in
-    let held : c.in_ok-top.top.held ≡ [] = ap (λ (r : Ranking). r.held) c.in_ok-top.ensures in
+    let found : c.in_ok-top.top.found ≡ [] = ap (λ (r : Gathering). r.found) c.in_ok-top.ensures in
+    let held : held_of c.in_ok-top.top ≡ [] = ap (λ (ps : List (ℕ × ℕ)). take c.in_ok-top.top.k (in_order ps)) found ∙ sym (take-nil c.in_ok-top.top.k) in
     record {
       low = 0;
       lists = refl;
@@ -40,10 +41,10 @@ loop-first-init g c =
         clear = subst (All (λ s. s ≡ 0)) (sym c.as_mut_slice-scores.ensures.value) c.in_ok-score_buffer.ensures.clear;
         none = subst (λ (ms : List ℕ). (k : ℕ) → k < 64 * length ms → is_marked ms k ≡ false) (sym c.as_mut_slice-marks.ensures.value) (λ k lt. c.in_ok-mark_buffer.ensures.none k (omega arith));
       });
-      k = ap (λ (r : Ranking). r.k) c.in_ok-top.ensures;
-      n = ap (λ (r : Ranking). r.n) c.in_ok-top.ensures;
+      k = ap (λ (r : Gathering). r.k) c.in_ok-top.ensures;
+      above = subst (All (λ (e : ℕ × ℕ). e.0 < 0)) (sym found) (All-nil (λ (e : ℕ × ℕ). e.0 < 0));
       best = subst (IsBest c.args.k lists c.args.weights.now []) (sym held) (best-none c.args.k lists c.args.weights.now);
-      bound = subst (All (λ (e : ℕ × ℕ). e.1 < 2 ^ 58)) (sym held) (All-nil (λ (e : ℕ × ℕ). e.1 < 2 ^ 58));
+      bound = subst (All (λ (e : ℕ × ℕ). e.1 < 2 ^ 58)) (sym found) (All-nil (λ (e : ℕ × ℕ). e.1 < 2 ^ 58));
     }
 
 pub add_lists-reached-requires-clause-stand : goal.add_lists-reached-requires-clause-stand
@@ -78,12 +79,11 @@ offer_marked-requires-clause-offers g c =
     let so_far = c.loop-first.invariant in
     let next = next-known g (goal.at.offer_marked-requires-clause-offers g c).In-Some in
     record {
-      narrow = omega (arith, so_far.n, c.ranges.n.fits);
-      in_range = λ k within above.
+      narrow = λ k within above.
           let doc : ℕ = c.in-Some.first + k in
           let has : list_any (has_doc doc) lists ≡ true = ap (list_any (has_doc doc)) (sym so_far.lists) ∙ (c.add_lists-reached.ensures.filled.scored.found k within).0 above in
-          subst (λ (n : ℕ). doc < n) (sym so_far.n) (any-bound c.args.n lists doc c.requires.in_range has);
-      above = best-below c.args.k lists c.args.weights.now (in_any so_far.low lists) c.loop-first.top.held c.in-Some.first so_far.best (any-below so_far.low c.in-Some.first lists next.low_first);
+          omega (arith, c.ranges.n.fits, any-bound c.args.n lists doc c.requires.in_range has);
+      above = λ i x within. let low_first = next.low_first in let below = so_far.above i x within in omega arith;
     }
 
 pub loop-first-smaller : goal.loop-first-smaller
@@ -98,7 +98,7 @@ loop-first-preserved g c =
     let same = c.loop-first.invariant.lists in
     let lists : List (List Posting) = map g.C.DocCursor.list c.args.cursors.now in
     let weights : List ℕ = c.args.weights.now in
-    let held : List (ℕ × ℕ) = c.loop-first.top.held in
+    let held : List (ℕ × ℕ) = held_of c.loop-first.top in
     let next = next-known g (goal.at.loop-first-preserved g c).In-Some in
     let skipped : in_any low lists ≡ in_any first lists = subst (λ (ls : List (List Posting)). in_any low ls ≡ in_any first ls) same next.skipped in
     let scored : AreScored lists weights first c.add_lists-reached.new.window.0 = subst (λ (ls : List (List Posting)). AreScored ls weights first c.add_lists-reached.new.window.0) same c.add_lists-reached.ensures.filled.scored in
@@ -119,14 +119,14 @@ loop-first-preserved g c =
       same = omega arith;
       blank = c.offer_marked.ensures.left.blank;
       k = c.offer_marked.ensures.k ∙ k;
-      n = c.offer_marked.ensures.n ∙ c.loop-first.invariant.n;
-      best = subst (λ (n : ℕ). IsBest n lists weights (in_any (first + length c.add_lists-reached.new.window.0) lists) c.offer_marked.new.top.held) k more;
+      above = c.offer_marked.ensures.above;
+      best = subst (λ (n : ℕ). IsBest n lists weights (in_any (first + length c.add_lists-reached.new.window.0) lists) (held_of c.offer_marked.new.top)) k more;
       bound = c.offer_marked.ensures.bound c.add_lists-reached.ensures.filled.bound c.loop-first.invariant.bound;
     }
 
 pub returns-clause-bound : goal.returns-clause-bound
 returns-clause-bound g c =
-    IfOk-weaker c.into_list.result (λ r. r.items ≡ c.loop-first.top.held) (λ r. All (λ e. e.1 < 2 ^ 58) r.items) (λ r is. subst (All (λ (e : ℕ × ℕ). e.1 < 2 ^ 58)) (sym is) c.loop-first.invariant.bound) c.into_list.ensures
+    IfOk-weaker c.into_list.result (λ r. r.items ≡ held_of c.loop-first.top) (λ r. All (λ e. e.1 < 2 ^ 58) r.items) (λ r is. subst (All (λ (e : ℕ × ℕ). e.1 < 2 ^ 58)) (sym is) (held-all (λ (e : ℕ × ℕ). e.1 < 2 ^ 58) c.loop-first.top c.loop-first.invariant.bound)) c.into_list.ensures
 
 pub returns-clause-first : goal.returns-clause-first
 returns-clause-first g c =
@@ -136,5 +136,5 @@ returns-clause-first g c =
     let all : in_any low lists ≡ in_any c.args.n lists = ap (in_any low) (sym same)
     ∙ no-next-doc g.C.DocCursor.list g.C.DocCursor.place g.met.C.DocCursor.well_formed c.loop-first.cursors low c.args.n c.loop-first.invariant.stand (sym c.least_doc.ensures ∙ c.in_default.is) (subst (AreBelow c.args.n) (sym same) c.requires.in_range)
     ∙ ap (in_any c.args.n) same in
-    let best = subst (λ (docs : List ℕ). IsBest c.args.k lists c.args.weights.now docs c.loop-first.top.held) all c.loop-first.invariant.best in
-    IfOk-weaker c.into_list.result (λ r. r.items ≡ c.loop-first.top.held) (λ r. IsTop c.args.n lists c.args.weights.now c.args.k r.items) (λ r is. subst (IsTop c.args.n lists c.args.weights.now c.args.k) (sym is) (best-top c.args.n lists c.args.weights.now c.args.k c.loop-first.top.held best)) c.into_list.ensures
+    let best = subst (λ (docs : List ℕ). IsBest c.args.k lists c.args.weights.now docs (held_of c.loop-first.top)) all c.loop-first.invariant.best in
+    IfOk-weaker c.into_list.result (λ r. r.items ≡ held_of c.loop-first.top) (λ r. IsTop c.args.n lists c.args.weights.now c.args.k r.items) (λ r is. subst (IsTop c.args.n lists c.args.weights.now c.args.k) (sym is) (best-top c.args.n lists c.args.weights.now c.args.k (held_of c.loop-first.top) best)) c.into_list.ensures

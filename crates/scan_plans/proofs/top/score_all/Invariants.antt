@@ -1,6 +1,7 @@
 use Rattle.std.proofs.Common.{◌≡◌, ℕ, ◌-◌, ◌*◌, ◌<◌, ◌^◌, map, length}
 use Rattle.std.specs.List.{All, sum_by}
 use Rattle.scan_plans.specs.Best.{IsBest}
+use Rattle.scan_plans.specs.Ranking.{held_of}
 use Rattle.scan_plans.specs.Matches.{in_any}
 use Rattle.scan_plans.specs.Scan.{StandsFrom}
 use Rattle.scan_plans.specs.Window.{IsBlank}
@@ -15,9 +16,9 @@ invariant-loop-first g l = record {
   same : length l.scores ≡ 64 * length l.marks;
   blank : IsBlank l.scores l.marks;
   k : l.top.k ≡ l.fn.k;
-  n : l.top.n ≡ l.fn.n;
-  best : IsBest l.fn.k (map g.C.DocCursor.list l.initial.cursors) l.weights (in_any low (map g.C.DocCursor.list l.initial.cursors)) l.top.held;
-  bound : All (λ e. e.1 < 2 ^ 58) l.top.held;
+  above : All (λ e. e.0 < low) l.top.found;
+  best : IsBest l.fn.k (map g.C.DocCursor.list l.initial.cursors) l.weights (in_any low (map g.C.DocCursor.list l.initial.cursors)) (held_of l.top);
+  bound : All (λ e. e.1 < 2 ^ 58) l.top.found;
 }
 
 abbrev pub decreases-loop-first : goal.decreases-loop-first
